@@ -1,0 +1,96 @@
+//! The arithmetic and logical instructions.
+ghost use Rattle.std.specs.Prelude.{◌≡◌, ◌+◌, ◌*◌, ◌/◌, ◌%◌};
+ghost use Rattle.i8080_words.specs.Arithmetic.{bit, has_bit, incremented, decremented};
+ghost use Rattle.i8080_words.specs.Effects.{after_accesses, operand, operated, counted, turned as turned_of, accumulated, with_carry, pair_added, decimal_adjusted};
+
+use crate::bus::Bus;
+use crate::operands::{pair_value, read_operand, set_pair, write_operand};
+use i8080_words::{
+    AccumulatorOperation, AluOperation, Register, RegisterPair, Regs, add8, and8, daa, dad, dcr,
+    inr, or8, rotate_left, rotate_right, sub8, xor8,
+};
+
+/// An operation of the accumulator with a byte (ADD to CMP, ADI to CPI).
+// Always inlined: a call would lend all registers and keep them in memory.
+#[inline(always)]
+pub fn operate(operation: AluOperation, byte: u8, regs: &mut Regs)
+    ensures { regs.new ≡ operated operation byte regs.old }
+{
+    let (value, flags) = match operation {
+        AluOperation::Add => add8(regs.a, byte, false),
+        AluOperation::Adc => add8(regs.a, byte, regs.flags.cy),
+        AluOperation::Sub | AluOperation::Cmp => sub8(regs.a, byte, false),
+        AluOperation::Sbb => sub8(regs.a, byte, regs.flags.cy),
+        AluOperation::Ana => and8(regs.a, byte),
+        AluOperation::Xra => xor8(regs.a, byte),
+        AluOperation::Ora => or8(regs.a, byte),
+    };
+    regs.flags = flags;
+    if operation != AluOperation::Cmp {
+        regs.a = value;
+    }
+}
+
+/// INR.
+pub fn increment<B: Bus>(bus: &mut B, register: Register, regs: &mut Regs)
+    ensures regs { regs.new ≡ (counted register (incremented (operand (B.byte_at (B.state bus.old)) register regs.old) regs.old.flags.cy) regs.old).regs }
+    ensures bus { B.state bus.new ≡ after_accesses B.after (counted register (incremented (operand (B.byte_at (B.state bus.old)) register regs.old) regs.old.flags.cy) regs.old).accesses (B.state bus.old) }
+{
+    let (value, flags) = inr(read_operand(bus, register, regs), regs.flags.cy);
+    regs.flags = flags;
+    write_operand(bus, register, value, regs);
+}
+
+/// DCR.
+pub fn decrement<B: Bus>(bus: &mut B, register: Register, regs: &mut Regs)
+    ensures regs { regs.new ≡ (counted register (decremented (operand (B.byte_at (B.state bus.old)) register regs.old) regs.old.flags.cy) regs.old).regs }
+    ensures bus { B.state bus.new ≡ after_accesses B.after (counted register (decremented (operand (B.byte_at (B.state bus.old)) register regs.old) regs.old.flags.cy) regs.old).accesses (B.state bus.old) }
+{
+    let (value, flags) = dcr(read_operand(bus, register, regs), regs.flags.cy);
+    regs.flags = flags;
+    write_operand(bus, register, value, regs);
+}
+
+/// DAD.
+pub fn add_pair(pair: RegisterPair, regs: &mut Regs)
+    ensures { regs.new ≡ pair_added pair regs.old }
+{
+    let (sum, carry) = dad(pair_value(RegisterPair::HL, regs), pair_value(pair, regs));
+    regs.flags.cy = carry;
+    set_pair(RegisterPair::HL, sum, regs);
+}
+
+fn set_turned(turned: (u8, bool), regs: &mut Regs)
+    ensures { regs.new ≡ turned_of turned regs.old }
+{
+    let (value, carry) = turned;
+    regs.a = value;
+    regs.flags.cy = carry;
+}
+
+// DAA.
+fn adjust(regs: &mut Regs)
+    ensures { regs.new ≡ decimal_adjusted regs.old }
+{
+    let (value, flags) = daa(regs.a, regs.flags.ac, regs.flags.cy);
+    regs.a = value;
+    regs.flags = flags;
+}
+
+/// The rotations, DAA, CMA, STC and CMC.
+pub fn accumulate(operation: AccumulatorOperation, regs: &mut Regs)
+    ensures { regs.new ≡ accumulated operation regs.old }
+{
+    let a = regs.a;
+    let carry = regs.flags.cy;
+    match operation {
+        AccumulatorOperation::Rlc => set_turned(rotate_left(a, a & 0x80 != 0), regs),
+        AccumulatorOperation::Rrc => set_turned(rotate_right(a, a & 0x01 != 0), regs),
+        AccumulatorOperation::Ral => set_turned(rotate_left(a, carry), regs),
+        AccumulatorOperation::Rar => set_turned(rotate_right(a, carry), regs),
+        AccumulatorOperation::Daa => adjust(regs),
+        AccumulatorOperation::Cma => regs.a = !a,
+        AccumulatorOperation::Stc => regs.flags.cy = true,
+        AccumulatorOperation::Cmc => regs.flags.cy = !carry,
+    }
+}

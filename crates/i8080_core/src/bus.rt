@@ -1,0 +1,40 @@
+//! What the processor is wired to.
+ghost use Rattle.std.specs.Prelude.{◌≡◌, ℕ};
+ghost use Rattle.i8080_words.specs.Effects.{Access};
+ghost use Rattle.i8080_words.specs.Effects.Access.{Write, Input, Output};
+
+/// The memory and the devices that a processor is wired to. A read of memory changes nothing; a write, an input and an
+/// output change what the implementation says by `after`.
+pub trait Bus {
+    /// What a `State` is: as much of the memory and the devices as counts.
+    ghost State: { Type 0 };
+
+    /// The state of a bus.
+    ghost state: { Self → State };
+
+    /// The byte at an address.
+    ghost byte_at: { State → ℕ → ℕ };
+
+    /// The byte that a port gives next.
+    ghost input_byte: { State → ℕ → ℕ };
+
+    /// The state that an access leaves.
+    ghost after: { Access → State → State };
+
+    /// The byte at an address of memory.
+    fn read(&self, address: u16) -> u8
+        ensures { result ≡ byte_at (state self.now) address };
+
+    /// Writes a byte at an address of memory.
+    fn write(&mut self, address: u16, byte: u8)
+        ensures { state self.new ≡ after (Write address byte) (state self.old) };
+
+    /// Reads a byte from a port (IN).
+    fn input(&mut self, port: u8) -> u8
+        ensures byte { result ≡ input_byte (state self.old) port }
+        ensures state { state self.new ≡ after (Input port) (state self.old) };
+
+    /// Sends a byte to a port (OUT).
+    fn output(&mut self, port: u8, byte: u8)
+        ensures { state self.new ≡ after (Output port byte) (state self.old) };
+}

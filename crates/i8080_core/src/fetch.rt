@@ -1,0 +1,36 @@
+//! The bytes of an instruction: its code, and the data behind it.
+ghost use Rattle.std.specs.Prelude.{◌≡◌, ◌+◌, ◌*◌, ◌%◌};
+ghost use Rattle.i8080_words.specs.Arithmetic.{wrapped, word_of};
+ghost use Rattle.i8080_words.specs.Effects.{with_pc};
+
+use crate::bus::Bus;
+use crate::operands::{offset, word};
+use i8080_words::Regs;
+
+/// Moves PC behind a code, and gives the address of that code.
+pub fn pass_code(regs: &mut Regs) -> u16
+    ensures start { result ≡ regs.old.pc }
+    ensures pc { regs.new ≡ with_pc (wrapped (regs.old.pc + 1)) regs.old }
+{
+    let start = regs.pc;
+    regs.pc = offset(start, 1);
+    start
+}
+
+/// The byte behind the code at an address; PC moves behind the byte.
+pub fn fetch_byte<B: Bus>(bus: &B, start: u16, regs: &mut Regs) -> u8
+    ensures byte { result ≡ B.byte_at (B.state bus.now) (wrapped (start + 1)) }
+    ensures pc { regs.new ≡ with_pc (wrapped (start + 2)) regs.old }
+{
+    regs.pc = offset(start, 2);
+    bus.read(offset(start, 1))
+}
+
+/// The word behind the code at an address; PC moves behind the word.
+pub fn fetch_word<B: Bus>(bus: &B, start: u16, regs: &mut Regs) -> u16
+    ensures word { result ≡ word_of (B.byte_at (B.state bus.now) (wrapped (start + 1))) (B.byte_at (B.state bus.now) (wrapped (start + 2))) }
+    ensures pc { regs.new ≡ with_pc (wrapped (start + 3)) regs.old }
+{
+    regs.pc = offset(start, 3);
+    word(bus.read(offset(start, 1)), bus.read(offset(start, 2)))
+}

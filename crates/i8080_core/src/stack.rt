@@ -1,0 +1,72 @@
+//! The stack, and the jumps: words pushed and popped, calls and returns, with a condition or without.
+ghost use Rattle.std.specs.Prelude.{◌≡◌, if◌then◌else◌, [], ◌+◌, ◌*◌, ◌/◌, ◌%◌};
+ghost use Rattle.i8080_words.specs.Effects.{after_accesses, word_at, with_pushed, pushed_word, popped, called, returned, holds, with_pc};
+
+use crate::bus::Bus;
+use crate::operands::{high_byte, is_met, low_byte, offset, read_word, set_stack_pair};
+use i8080_words::{Condition, Regs, StackPair};
+
+/// Pushes a word: its high byte at SP - 1, its low byte at SP - 2.
+pub fn push<B: Bus>(bus: &mut B, word: u16, regs: &mut Regs)
+    ensures regs { regs.new ≡ (pushed_word word regs.old).regs }
+    ensures bus { B.state bus.new ≡ after_accesses B.after (pushed_word word regs.old).accesses (B.state bus.old) }
+{
+    let top = offset(regs.sp, 0xfffe);
+    bus.write(offset(regs.sp, 0xffff), high_byte(word));
+    bus.write(top, low_byte(word));
+    regs.sp = top;
+}
+
+/// Pops a word into a pair.
+pub fn pop<B: Bus>(bus: &B, pair: StackPair, regs: &mut Regs)
+    ensures { regs.new ≡ with_pushed pair (word_at (B.byte_at (B.state bus.now)) regs.old.sp) (popped regs.old) }
+{
+    let word = read_word(bus, regs.sp);
+    regs.sp = offset(regs.sp, 2);
+    set_stack_pair(pair, word, regs);
+}
+
+/// Pushes PC and goes to an address (CALL, RST, and an accepted interrupt).
+pub fn call<B: Bus>(bus: &mut B, address: u16, regs: &mut Regs)
+    ensures regs { regs.new ≡ (called address regs.old).regs }
+    ensures bus { B.state bus.new ≡ after_accesses B.after (called address regs.old).accesses (B.state bus.old) }
+{
+    push(bus, regs.pc, regs);
+    regs.pc = address;
+}
+
+/// Pops PC (RET).
+pub fn go_back<B: Bus>(bus: &B, regs: &mut Regs)
+    ensures { regs.new ≡ returned (B.byte_at (B.state bus.now)) regs.old }
+{
+    regs.pc = read_word(bus, regs.sp);
+    regs.sp = offset(regs.sp, 2);
+}
+
+/// Goes to an address where a condition is met (JZ and its like).
+pub fn jump_if(condition: Condition, address: u16, regs: &mut Regs)
+    ensures { regs.new ≡ (if holds condition regs.old.flags then with_pc address regs.old else regs.old) }
+{
+    if is_met(condition, regs.flags) {
+        regs.pc = address;
+    }
+}
+
+/// Calls where a condition is met (CZ and its like).
+pub fn call_if<B: Bus>(bus: &mut B, condition: Condition, address: u16, regs: &mut Regs)
+    ensures regs { regs.new ≡ (if holds condition regs.old.flags then (called address regs.old).regs else regs.old) }
+    ensures bus { B.state bus.new ≡ after_accesses B.after (if holds condition regs.old.flags then (called address regs.old).accesses else []) (B.state bus.old) }
+{
+    if is_met(condition, regs.flags) {
+        call(bus, address, regs);
+    }
+}
+
+/// Returns where a condition is met (RZ and its like).
+pub fn return_if<B: Bus>(bus: &B, condition: Condition, regs: &mut Regs)
+    ensures { regs.new ≡ (if holds condition regs.old.flags then returned (B.byte_at (B.state bus.now)) regs.old else regs.old) }
+{
+    if is_met(condition, regs.flags) {
+        go_back(bus, regs);
+    }
+}

@@ -1,0 +1,24 @@
+//! The words of the Intel 8080: its registers, its arithmetic, its instructions, and the refusals of every crate.
+#![tactic(auto)]
+
+mod arithmetic;
+mod decoder;
+mod instruction;
+mod laws;
+mod opcodes;
+mod refusal;
+mod registers;
+#[cfg(test)]
+mod tests;
+
+pub use arithmetic::{
+    Flags, add8, and8, daa, dad, dcr, inr, of_psw, or8, psw, rotate_left, rotate_right, sub8, xor8,
+};
+pub use decoder::{decode, length};
+pub use instruction::{
+    AccumulatorOperation, AluOperation, Condition, Op, Register, RegisterPair, StackPair,
+};
+pub use laws::{few_accesses, idles_where_halted};
+pub use opcodes::opcode;
+pub use refusal::{Fault, R};
+pub use registers::{Interrupts, Processor, Regs, Stepped};
