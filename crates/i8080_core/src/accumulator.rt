@@ -1,18 +1,18 @@
 //! The arithmetic and logical instructions.
 ghost use Rattle.std.specs.Prelude.{◌≡◌, ◌+◌, ◌*◌, ◌/◌, ◌%◌};
-ghost use Rattle.i8080_words.specs.Arithmetic.{bit, has_bit, incremented, decremented};
-ghost use Rattle.i8080_words.specs.Effects.{after_accesses, operand, operated, counted, turned as turned_of, accumulated, with_carry, pair_added, decimal_adjusted};
+ghost use Rattle.i8080_words.specs.Arithmetic.{bit, has_bit, incremented, decremented, wrapped, word_of, low_byte as low_byte_of, high_byte as high_byte_of};
+ghost use Rattle.i8080_words.specs.Effects.{after_accesses, operand, operated, counted, with_pair, pair_value as pair_value_of, turned as turned_of, accumulated, with_carry, pair_added, decimal_adjusted};
 
 use crate::bus::Bus;
-use crate::operands::{pair_value, read_operand, set_pair, write_operand};
+use crate::operands::{
+    high_byte, low_byte, offset, pair_value, read_operand, set_pair, word, write_operand,
+};
 use i8080_words::{
-    AccumulatorOperation, AluOperation, Register, RegisterPair, Regs, add8, and8, daa, dad, dcr,
-    inr, or8, rotate_left, rotate_right, sub8, xor8,
+    AccumulatorOperation, AddressRegister, AluOperation, Register, RegisterPair, Regs, add8, and8,
+    daa, dad, dcr, inr, or8, rotate_left, rotate_right, sub8, xor8,
 };
 
 /// An operation of the accumulator with a byte (ADD to CMP, ADI to CPI).
-// Always inlined: a call would lend all registers and keep them in memory.
-#[inline(always)]
 pub fn operate(operation: AluOperation, byte: u8, regs: &mut Regs)
     ensures { regs.new ≡ operated operation byte regs.old }
 {
@@ -49,6 +49,27 @@ pub fn decrement<B: Bus>(bus: &mut B, register: Register, regs: &mut Regs)
     let (value, flags) = dcr(read_operand(bus, register, regs), regs.flags.cy);
     regs.flags = flags;
     write_operand(bus, register, value, regs);
+}
+
+fn add_to_halves(high: &mut u8, low: &mut u8, by: u16)
+    ensures high { high.new ≡ high_byte_of (wrapped (word_of low.old high.old + by)) }
+    ensures low { low.new ≡ low_byte_of (wrapped (word_of low.old high.old + by)) }
+{
+    let sum = offset(word(*low, *high), by);
+    *high = high_byte(sum);
+    *low = low_byte(sum);
+}
+
+/// INX, by 1, and DCX, by FFFF.
+pub fn add_to_pair(pair: RegisterPair, by: u16, regs: &mut Regs)
+    ensures { regs.new ≡ with_pair pair (wrapped (pair_value_of pair regs.old + by)) regs.old }
+{
+    match pair {
+        RegisterPair::BC => add_to_halves(&mut regs.b, &mut regs.c, by),
+        RegisterPair::DE => add_to_halves(&mut regs.d, &mut regs.e, by),
+        RegisterPair::HL => add_to_halves(&mut regs.h, &mut regs.l, by),
+        RegisterPair::SP => regs.sp = AddressRegister::new(offset(regs.sp.get(), by)),
+    }
 }
 
 /// DAD.

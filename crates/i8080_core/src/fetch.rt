@@ -5,15 +5,15 @@ ghost use Rattle.i8080_words.specs.Effects.{with_pc};
 
 use crate::bus::Bus;
 use crate::operands::{offset, word};
-use i8080_words::Regs;
+use i8080_words::{AddressRegister, Regs};
 
 /// Moves PC behind a code, and gives the address of that code.
 pub fn pass_code(regs: &mut Regs) -> u16
     ensures start { result ≡ regs.old.pc }
     ensures pc { regs.new ≡ with_pc (wrapped (regs.old.pc + 1)) regs.old }
 {
-    let start = regs.pc;
-    regs.pc = offset(start, 1);
+    let start = regs.pc.get();
+    regs.pc = AddressRegister::new(offset(start, 1));
     start
 }
 
@@ -22,7 +22,7 @@ pub fn fetch_byte<B: Bus>(bus: &B, start: u16, regs: &mut Regs) -> u8
     ensures byte { result ≡ B.byte_at (B.state bus.now) (wrapped (start + 1)) }
     ensures pc { regs.new ≡ with_pc (wrapped (start + 2)) regs.old }
 {
-    regs.pc = offset(start, 2);
+    regs.pc = AddressRegister::new(offset(start, 2));
     bus.read(offset(start, 1))
 }
 
@@ -31,6 +31,6 @@ pub fn fetch_word<B: Bus>(bus: &B, start: u16, regs: &mut Regs) -> u16
     ensures word { result ≡ word_of (B.byte_at (B.state bus.now) (wrapped (start + 1))) (B.byte_at (B.state bus.now) (wrapped (start + 2))) }
     ensures pc { regs.new ≡ with_pc (wrapped (start + 3)) regs.old }
 {
-    regs.pc = offset(start, 3);
+    regs.pc = AddressRegister::new(offset(start, 3));
     word(bus.read(offset(start, 1)), bus.read(offset(start, 2)))
 }

@@ -4,7 +4,9 @@ ghost use Rattle.i8080_words.specs.Arithmetic.{wrapped, low_byte as low_byte_of,
 ghost use Rattle.i8080_words.specs.Effects.{after_accesses, word_at, pair_value as value_of_pair, with_pair, operand, put, holds, pushed_value, with_pushed};
 
 use crate::bus::Bus;
-use i8080_words::{Condition, Flags, Register, RegisterPair, Regs, StackPair, of_psw, psw};
+use i8080_words::{
+    AddressRegister, Condition, Flags, Register, RegisterPair, Regs, StackPair, of_psw, psw,
+};
 
 /// The word of a low and a high byte.
 pub fn word(low: u8, high: u8) -> u16
@@ -42,7 +44,7 @@ pub fn pair_value(pair: RegisterPair, regs: &Regs) -> u16
         RegisterPair::BC => word(regs.c, regs.b),
         RegisterPair::DE => word(regs.e, regs.d),
         RegisterPair::HL => word(regs.l, regs.h),
-        RegisterPair::SP => regs.sp,
+        RegisterPair::SP => regs.sp.get(),
     }
 }
 
@@ -63,7 +65,7 @@ pub fn set_pair(pair: RegisterPair, word: u16, regs: &mut Regs)
             regs.h = high_byte(word);
             regs.l = low_byte(word);
         }
-        RegisterPair::SP => regs.sp = word,
+        RegisterPair::SP => regs.sp = AddressRegister::new(word),
     }
 }
 

@@ -4,25 +4,34 @@ ghost use Rattle.i8080_words.specs.Effects.{after_accesses, word_at, with_pushed
 
 use crate::bus::Bus;
 use crate::operands::{high_byte, is_met, low_byte, offset, read_word, set_stack_pair};
-use i8080_words::{Condition, Regs, StackPair};
+use i8080_words::{AddressRegister, Condition, Regs, StackPair};
 
 /// Pushes a word: its high byte at SP - 1, its low byte at SP - 2.
 pub fn push<B: Bus>(bus: &mut B, word: u16, regs: &mut Regs)
     ensures regs { regs.new ≡ (pushed_word word regs.old).regs }
     ensures bus { B.state bus.new ≡ after_accesses B.after (pushed_word word regs.old).accesses (B.state bus.old) }
 {
-    let top = offset(regs.sp, 0xfffe);
-    bus.write(offset(regs.sp, 0xffff), high_byte(word));
-    bus.write(top, low_byte(word));
-    regs.sp = top;
+    let top = regs.sp.get();
+    bus.write(offset(top, 0xffff), high_byte(word));
+    bus.write(offset(top, 0xfffe), low_byte(word));
+    regs.sp = AddressRegister::new(offset(top, 0xfffe));
+}
+
+// The word at the stack pointer, which moves behind it.
+fn pop_word<B: Bus>(bus: &B, regs: &mut Regs) -> u16
+    ensures word { result ≡ word_at (B.byte_at (B.state bus.now)) regs.old.sp }
+    ensures regs { regs.new ≡ popped regs.old }
+{
+    let top = regs.sp.get();
+    regs.sp = AddressRegister::new(offset(top, 2));
+    read_word(bus, top)
 }
 
 /// Pops a word into a pair.
 pub fn pop<B: Bus>(bus: &B, pair: StackPair, regs: &mut Regs)
     ensures { regs.new ≡ with_pushed pair (word_at (B.byte_at (B.state bus.now)) regs.old.sp) (popped regs.old) }
 {
-    let word = read_word(bus, regs.sp);
-    regs.sp = offset(regs.sp, 2);
+    let word = pop_word(bus, regs);
     set_stack_pair(pair, word, regs);
 }
 
@@ -31,16 +40,22 @@ pub fn call<B: Bus>(bus: &mut B, address: u16, regs: &mut Regs)
     ensures regs { regs.new ≡ (called address regs.old).regs }
     ensures bus { B.state bus.new ≡ after_accesses B.after (called address regs.old).accesses (B.state bus.old) }
 {
-    push(bus, regs.pc, regs);
-    regs.pc = address;
+    push(bus, regs.pc.get(), regs);
+    regs.pc = AddressRegister::new(address);
 }
 
 /// Pops PC (RET).
 pub fn go_back<B: Bus>(bus: &B, regs: &mut Regs)
     ensures { regs.new ≡ returned (B.byte_at (B.state bus.now)) regs.old }
 {
-    regs.pc = read_word(bus, regs.sp);
-    regs.sp = offset(regs.sp, 2);
+    regs.pc = AddressRegister::new(pop_word(bus, regs));
+}
+
+/// Goes to an address (JMP, PCHL).
+pub fn jump(address: u16, regs: &mut Regs)
+    ensures { regs.new ≡ with_pc address regs.old }
+{
+    regs.pc = AddressRegister::new(address);
 }
 
 /// Goes to an address where a condition is met (JZ and its like).
@@ -48,7 +63,7 @@ pub fn jump_if(condition: Condition, address: u16, regs: &mut Regs)
     ensures { regs.new ≡ (if holds condition regs.old.flags then with_pc address regs.old else regs.old) }
 {
     if is_met(condition, regs.flags) {
-        regs.pc = address;
+        regs.pc = AddressRegister::new(address);
     }
 }
 

@@ -3,7 +3,7 @@ ghost use Rattle.std.specs.Prelude.{◌≡◌};
 ghost use Rattle.i8080_core.specs.Examples.{Wires, byte_at as byte_of_wires, input_byte as input_of_wires, access};
 
 use crate::{Bus, Cpu};
-use i8080_words::{Processor, Regs, Stepped};
+use i8080_words::{AddressRegister, Processor, Regs, Stepped};
 use std::process::Abort;
 
 #[derive(Drop)]
@@ -48,7 +48,7 @@ fn load(program: &[u8]) -> (Cpu, Board) {
     }
     let reset = *Cpu::reset().processor();
     let regs = Regs {
-        sp: 0x0100,
+        sp: AddressRegister::new(0x0100),
         ..reset.regs
     };
     (
@@ -74,7 +74,7 @@ fn an_interrupt_waits_one_instruction_after_ei(rt: HostRuntime) {
     expect(&rt, &mut cpu, &mut board, true, &[Ran, Ran, Accepted]);
     assert_eq!(rt; (board.read(0x00ff), board.read(0x00fe)), (0x00, 0x02));
     let regs = cpu.processor().regs;
-    assert_eq!(rt; (regs.sp, regs.pc), (0x00fe, 0x0038));
+    assert_eq!(rt; (regs.sp.get(), regs.pc.get()), (0x00fe, 0x0038));
 }
 
 #[test]
@@ -92,7 +92,7 @@ fn a_halted_processor_waits_for_a_line(rt: HostRuntime) {
     expect(&rt, &mut cpu, &mut board, false, &[Ran, Ran, Idle, Idle]);
     expect(&rt, &mut cpu, &mut board, true, &[Accepted]);
     assert_eq!(rt; (board.read(0x00ff), board.read(0x00fe)), (0x00, 0x02));
-    assert_eq!(rt; cpu.processor().regs.pc, 0x0038);
+    assert_eq!(rt; cpu.processor().regs.pc.get(), 0x0038);
 }
 
 // LXI SP,0100; MVI B,5; XRA A; then ADD B, DCR B, JNZ until B is 0; PUSH PSW; OUT 10; XRA A; IN 10; HLT.
@@ -109,7 +109,7 @@ fn a_program_sums_five_to_one(rt: HostRuntime) {
     assert_eq!(rt; (board.read(0x00ff), board.read(0x00fe)), (0x0f, 0x56));
     let regs = cpu.processor().regs;
     assert_eq!(rt;
-        (regs.a, regs.b, regs.sp, regs.pc),
+        (regs.a, regs.b, regs.sp.get(), regs.pc.get()),
         (0x0f, 0x00, 0x00fe, 0x0012)
     );
 }

@@ -28,9 +28,10 @@ pub fn exchange_top<B: Bus>(bus: &mut B, regs: &mut Regs)
     ensures regs { regs.new ≡ record regs.old { l = B.byte_at (B.state bus.old) regs.old.sp; h = B.byte_at (B.state bus.old) (wrapped (regs.old.sp + 1)) } }
     ensures bus { B.state bus.new ≡ after_accesses B.after (writing_word regs.old.sp regs.old.l regs.old.h regs.old).accesses (B.state bus.old) }
 {
-    let low = bus.read(regs.sp);
-    let high = bus.read(offset(regs.sp, 1));
-    store_pair(bus, regs.sp, regs);
+    let top = regs.sp.get();
+    let low = bus.read(top);
+    let high = bus.read(offset(top, 1));
+    store_pair(bus, top, regs);
     regs.l = low;
     regs.h = high;
 }

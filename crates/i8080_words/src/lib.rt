@@ -21,4 +21,4 @@ pub use instruction::{
 pub use laws::{few_accesses, idles_where_halted};
 pub use opcodes::opcode;
 pub use refusal::{Fault, R};
-pub use registers::{Interrupts, Processor, Regs, Stepped};
+pub use registers::{AddressRegister, Interrupts, Processor, Regs, Stepped};

@@ -1,13 +1,50 @@
 //! The registers of the processor, and its whole state.
+ghost use Rattle.std.specs.Prelude.{◌≡◌, ℕ, ◌<◌, ◌^◌};
 
 use crate::arithmetic::Flags;
+use std::marker::Model;
+
+/// A register of 16 bits that holds an address. It is kept in 32: hosts pass a store of 32 bits on to the next load at
+/// once and one of 16 bits only after several cycles, and PC is stored and loaded at every step.
+#[derive(Clone, Copy, Debug, PartialEq, Eq)]
+pub struct AddressRegister {
+    address: u32,
+}
+
+impl Model for AddressRegister {
+    ghost Value = { ℕ };
+
+    ghost view = { λ r. r.address };
+
+    ghost invariant = { λ r. r.address < 2 ^ 16 };
+
+    ghost inverse = { λ n. record { address = n } };
+}
+
+impl AddressRegister {
+    /// A register that holds this address.
+    pub fn new(address: u16) -> Self
+        ensures { result ≡ address }
+    {
+        AddressRegister {
+            address: u32::from(address),
+        }
+    }
+
+    /// The address.
+    pub fn get(self) -> u16
+        ensures { result ≡ self }
+    {
+        self.address as u16
+    }
+}
 
 /// The registers: the accumulator A, the six that form the pairs BC, DE and HL, the condition flags, the stack pointer
-/// and the program counter. Both are addresses, and wrap modulo 65,536.
-#[derive(Clone, Copy, Debug, PartialEq, Eq, Default)]
+/// and the program counter. Addresses wrap modulo 65,536.
+#[derive(Clone, Copy, Debug, PartialEq, Eq)]
 pub struct Regs {
-    pub pc: u16,
-    pub sp: u16,
+    pub pc: AddressRegister,
+    pub sp: AddressRegister,
     pub b: u8,
     pub c: u8,
     pub d: u8,

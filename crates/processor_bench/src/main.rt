@@ -55,7 +55,10 @@ fn main(rt: HostRuntime) -> Result<()> {
     let regs = cpu.processor().regs;
     println!(rt;
         "{steps} steps: A {:02X}, BC {:02X}{:02X}, PC {:04X}",
-        regs.a, regs.b, regs.c, regs.pc
+        regs.a,
+        regs.b,
+        regs.c,
+        regs.pc.get()
     )?;
     Ok(())
 }

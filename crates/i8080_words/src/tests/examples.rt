@@ -1,7 +1,7 @@
 //! Examples of the arithmetic and the refusals, one for each call.
 use crate::{
-    Fault, Flags, add8, and8, daa, dad, dcr, inr, of_psw, or8, psw, rotate_left, rotate_right,
-    sub8, xor8,
+    AddressRegister, Fault, Flags, add8, and8, daa, dad, dcr, inr, of_psw, or8, psw, rotate_left,
+    rotate_right, sub8, xor8,
 };
 
 #[test]
@@ -54,6 +54,11 @@ fn computes_the_other_operations(rt: HostRuntime) {
     assert_eq!(rt; rotate_right(0xf2, false), (0x79, false));
     assert_eq!(rt; psw(of_psw(0xff)), 0xd7);
     assert_eq!(rt; psw(of_psw(0x00)), 0x02);
+}
+
+#[test]
+fn keeps_an_address(rt: HostRuntime) {
+    assert_eq!(rt; AddressRegister::new(0xffff).get(), 0xffff);
 }
 
 #[test]

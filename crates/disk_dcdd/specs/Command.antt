@@ -1,0 +1,69 @@
+-- The bits of OUT 08h and OUT 09h, and what they do to a drive, the sector under its head and the interrupt enable.
+use Rattle.std.specs.Prelude.{ℕ, ◌+◌, ◌-◌, ◌/◌, ◌%◌, ◌^◌, Bool, true, false, not, ◌==◌, nat_lt, min, if◌then◌else◌, ◌&&◌, ◌||◌, Option, Some, None}
+use Rattle.disk_dcdd.specs.declared.commands.TheConstants.{DESELECT, STEP_IN, STEP_OUT, HEAD_LOAD, HEAD_UNLOAD, INTERRUPT_ENABLE, INTERRUPT_DISABLE, WRITE_ENABLE}
+use Rattle.disk_dcdd.specs.declared.drive.TheConstants.{TRACKS}
+use Rattle.disk_dcdd.specs.declared.drive.Drive.{Drive}
+use Rattle.disk_dcdd.specs.declared.sector.CurrentSector.{CurrentSector}
+use Rattle.disk_dcdd.specs.Sector.{is_written}
+
+-- at boot a drive stands at track 0 with its head unloaded
+abbrev pub drive_at_boot : Drive
+drive_at_boot = record { track = 0; loaded = false }
+
+-- a bit of a byte
+abbrev pub has_bit : ℕ → ℕ → Bool
+has_bit byte bit = byte / 2 ^ bit % 2 == 1
+
+-- OUT 08h: bit 7 set selects none; else bits 3-0 name a drive, which is selected if it is attached
+abbrev pub selected_by : ℕ → ℕ → Option ℕ
+selected_by byte attached =
+    let drive = byte % 16 in
+    if not (has_bit byte DESELECT) && nat_lt drive attached then Some drive else None
+
+-- the head one track inwards, at most to the last track
+abbrev pub stepped_in : Drive → Drive
+stepped_in drive = record drive { track = min (drive.track + 1) (TRACKS - 1) }
+
+-- the head one track outwards, at least to track 0
+abbrev pub stepped_out : Drive → Drive
+stepped_out drive = record drive { track = drive.track - 1 }
+
+-- the head on the disk
+abbrev pub loaded : Drive → Drive
+loaded drive = record drive { loaded = true }
+
+-- the head off the disk
+abbrev pub unloaded : Drive → Drive
+unloaded drive = record drive { loaded = false }
+
+-- a change of a drive that a bit of the command asks for
+abbrev pub where_set : ℕ → ℕ → (Drive → Drive) → Drive → Drive
+where_set command bit change drive = if has_bit command bit then change drive else drive
+
+-- OUT 09h on the selected drive, bits 0 upwards
+abbrev pub commanded_drive : ℕ → Drive → Drive
+commanded_drive command drive =
+    let after_in = where_set command STEP_IN stepped_in drive in
+    let after_out = where_set command STEP_OUT stepped_out after_in in
+    let after_load = where_set command HEAD_LOAD loaded after_out in
+    where_set command HEAD_UNLOAD unloaded after_load
+
+-- OUT 09h on the interrupt enable: bit 4 sets it, and then bit 5 clears it
+abbrev pub commanded_interrupts : ℕ → Bool → Bool
+commanded_interrupts command enabled =
+    (enabled || has_bit command INTERRUPT_ENABLE) && not (has_bit command INTERRUPT_DISABLE)
+
+-- a step or an unload takes the head off the sector
+abbrev pub moves_head : ℕ → Bool
+moves_head command = has_bit command STEP_IN || has_bit command STEP_OUT || has_bit command HEAD_UNLOAD
+
+-- a write of the sector starts, with no byte filled in
+abbrev pub started : CurrentSector → CurrentSector
+started s = record s { filled = Some 0 }
+
+-- OUT 09h on the sector under the head: it leaves where it is being written or the head moves off it, and bit 7 starts
+-- a write of one that stays
+abbrev pub commanded_sector : ℕ → Option CurrentSector → Option CurrentSector
+commanded_sector command None = None
+commanded_sector command (Some s) =
+    if is_written s || moves_head command then None else Some (if has_bit command WRITE_ENABLE then started s else s)

@@ -1,0 +1,6 @@
+pub mod Sector
+pub mod Command
+pub mod Drive
+pub mod Completion
+pub mod Controller
+pub mod Image

@@ -1,0 +1,186 @@
+//! A controller in an image of the machine: a reader for each field, and the controller that stands as an image says.
+ghost use Rattle.std.specs.Prelude.{◌≡◌, ◌<◌, ◌≤◌, ◌↔◌, IsTrue, IsOk, IfSome, IfOk, IsOkUnless, length};
+ghost use Rattle.std.specs.Option.{option_copied};
+ghost use Rattle.disk_dcdd.specs.Drive.{drive_of};
+ghost use Rattle.disk_dcdd.specs.Controller.{IsDrives, AreDrives, AreOutstanding, Follows, MayFollow};
+ghost use Rattle.disk_dcdd.specs.Image.{imaged};
+ghost use Rattle.disk_dcdd.specs.declared.controller.TheConstants.{DRIVES, OUTSTANDING};
+ghost use Rattle.i8080_words.specs.declared.refusal.Fault.TheVariants.{Malformed};
+
+use super::{Controller, DRIVES, GREATEST_NUMBER, OUTSTANDING};
+use crate::drive::{Drive, TRACKS};
+use crate::sector::{CurrentSector, Place, SECTORS};
+use arrayvec::ArrayVec;
+use i8080_words::{Fault, R};
+
+/// What an image says of a controller, as a controller's readers give it. `rebuild` decides whether one can stand so.
+#[derive(Clone, Copy, Debug, PartialEq, Eq)]
+pub struct ControllerImage<'a> {
+    pub attached: u8,
+    pub selected: Option<u8>,
+    pub drives: [Drive; DRIVES],
+    pub interrupts: bool,
+    pub current: Option<CurrentSector>,
+    pub outstanding: &'a [Place],
+    pub issued: u64,
+}
+
+impl Controller {
+    /// How many drives are attached, from 1 to `DRIVES`.
+    pub fn attached(&self) -> u8
+        ensures { result ≡ self.now.attached }
+    {
+        self.attached
+    }
+
+    /// A drive. One that is not attached stands as at boot.
+    pub fn drive(&self, index: u8) -> Drive
+        requires { index < DRIVES }
+        ensures { result ≡ drive_of self.now index }
+    {
+        self.drives[index as usize]
+    }
+
+    /// Whether interrupts are enabled.
+    pub fn interrupts_enabled(&self) -> bool
+        ensures { result ≡ self.now.interrupts }
+    {
+        self.interrupts
+    }
+
+    /// The sector under the head.
+    pub fn current(&self) -> Option<&CurrentSector>
+        ensures { option_copied result ≡ self.now.current }
+    {
+        self.current.as_ref()
+    }
+
+    /// Where the outstanding writes go, by rising number; at most `OUTSTANDING`.
+    pub fn outstanding(&self) -> &[Place]
+        ensures { result.now ≡ self.now.outstanding }
+    {
+        self.outstanding.as_slice()
+    }
+
+    /// Whatever a controller has been through, it stands as an image may say, and `rebuild` accepts that image.
+    pub fn stands(&self)
+        ensures { IsDrives self.now }
+    {
+        let _ = &self.attached;
+    }
+
+    /// The controller that stands as an image says. It takes no memory.
+    ///
+    /// `Malformed` where no controller can stand so.
+    pub fn rebuild(image: &ControllerImage<'_>) -> R<Controller>
+        ensures stands { IsOk result ↔ IsDrives (imaged image.now) }
+        ensures as_imaged { IfOk result (λ controller. controller ≡ imaged image.now) }
+        ensures malformed { IsOkUnless result Malformed }
+    {
+        if image.attached < 1
+            || image.attached as usize > DRIVES
+            || !selects_attached(image.attached, image.selected)
+            || image.issued > GREATEST_NUMBER
+            || !are_drives(image.attached, &image.drives)
+            || !are_outstanding(image.attached, image.issued, image.outstanding)
+        {
+            return Err(Fault::Malformed);
+        }
+        let mut controller = Controller {
+            attached: image.attached,
+            selected: image.selected,
+            drives: image.drives,
+            interrupts: image.interrupts,
+            current: None,
+            outstanding: copied(image.outstanding),
+            issued: image.issued,
+        };
+        if let Some(current) = &image.current {
+            if !controller.is_sector_due(current.sector)
+                || controller.is_sector_busy(current.sector)
+                || !current.is_unfinished()
+            {
+                return Err(Fault::Malformed);
+            }
+            controller.current = Some(*current);
+        }
+        Ok(controller)
+    }
+
+    /// The same controller again. It takes no memory.
+    pub fn copy(&self) -> Controller
+        ensures { result ≡ self.now }
+    {
+        Controller {
+            attached: self.attached,
+            selected: self.selected,
+            drives: self.drives,
+            interrupts: self.interrupts,
+            current: self.current,
+            outstanding: copied(self.outstanding.as_slice()),
+            issued: self.issued,
+        }
+    }
+}
+
+// The same places again.
+fn copied(places: &[Place]) -> ArrayVec<Place, OUTSTANDING>
+    requires { length places.now ≤ OUTSTANDING }
+    ensures { result.items ≡ places.now }
+{
+    let mut copy = ArrayVec::new();
+    let _ = copy.try_extend_from_slice(places);
+    copy
+}
+
+// Whether no drive is selected, or one of this many.
+fn selects_attached(attached: u8, selected: Option<u8>) -> bool
+    ensures { IsTrue result ↔ IfSome selected (λ drive. drive < attached) }
+{
+    selected.is_none_or(|drive| drive < attached)
+}
+
+// Whether a controller can have these drives, of which this many are attached.
+fn are_drives(attached: u8, drives: &[Drive; DRIVES]) -> bool
+    requires { attached ≤ DRIVES }
+    ensures { IsTrue result ↔ AreDrives attached drives.now }
+{
+    drives.iter().all(|drive| drive.track < TRACKS)
+        && drives[attached as usize..]
+            .iter()
+            .all(|drive| drive.is_at_boot())
+}
+
+// Whether these writes may be outstanding together.
+fn are_outstanding(attached: u8, issued: u64, places: &[Place]) -> bool
+    ensures { IsTrue result ↔ AreOutstanding attached issued places.now }
+{
+    if places.len() > OUTSTANDING {
+        return false;
+    }
+    for (index, place) in places.iter().enumerate() {
+        if !may_follow(attached, issued, &places[..index], place) {
+            return false;
+        }
+    }
+    true
+}
+
+// Whether a write may be outstanding beside these earlier ones.
+fn may_follow(attached: u8, issued: u64, earlier: &[Place], place: &Place) -> bool
+    ensures { IsTrue result ↔ MayFollow attached issued earlier.now place.now }
+{
+    1 <= place.number
+        && place.number <= issued
+        && place.drive < attached
+        && place.track < TRACKS
+        && place.sector < SECTORS
+        && earlier.iter().all(|one| follows(one, place))
+}
+
+// Whether the later of two outstanding writes has the greater number and goes to another sector.
+fn follows(earlier: &Place, later: &Place) -> bool
+    ensures { IsTrue result ↔ Follows earlier.now later.now }
+{
+    earlier.number < later.number && !earlier.is_at(later.drive, later.track, later.sector)
+}

@@ -1,0 +1,51 @@
+//! One drive: at which track its head stands, and whether the head is loaded.
+ghost use Rattle.std.specs.Prelude.{◌≡◌, ◌<◌, ◌↔◌, IsTrue};
+ghost use Rattle.disk_dcdd.specs.Command as table;
+
+/// How many tracks a disk has; they are numbered from 0.
+pub const TRACKS: u8 = 77;
+
+/// One drive: the track of its head, below `TRACKS`, and whether the head is loaded.
+#[derive(Clone, Copy, Debug, PartialEq, Eq)]
+pub struct Drive {
+    pub track: u8,
+    pub loaded: bool,
+}
+
+impl Drive {
+    // A drive as it is switched on.
+    pub(crate) fn at_boot() -> Self
+        ensures { result ≡ table.drive_at_boot }
+    {
+        Drive {
+            track: 0,
+            loaded: false,
+        }
+    }
+
+    // Whether the drive stands as it does when it is switched on.
+    pub(crate) fn is_at_boot(&self) -> bool
+        ensures { IsTrue result ↔ (self.now ≡ table.drive_at_boot) }
+    {
+        self.track == 0 && !self.loaded
+    }
+
+    // The head goes one track inwards, as far as the last track.
+    pub(crate) fn step_in(&mut self)
+        requires { self.old.track < TRACKS }
+        ensures { self.new ≡ table.stepped_in self.old }
+    {
+        if self.track < TRACKS - 1 {
+            self.track += 1;
+        }
+    }
+
+    // The head goes one track outwards, as far as track 0.
+    pub(crate) fn step_out(&mut self)
+        ensures { self.new ≡ table.stepped_out self.old }
+    {
+        if self.track > 0 {
+            self.track -= 1;
+        }
+    }
+}

@@ -1,0 +1,14 @@
+//! The controller of one to four MITS 88-DCDD floppy disk drives: its three ports, its interrupt line, and the sectors
+//! and writes that its drives complete.
+#![tactic(auto)]
+
+mod commands;
+mod controller;
+mod drive;
+mod sector;
+#[cfg(test)]
+mod tests;
+
+pub use controller::{Controller, ControllerImage, DRIVES, GREATEST_NUMBER, OUTSTANDING};
+pub use drive::{Drive, TRACKS};
+pub use sector::{CurrentSector, Place, SECTOR_BYTES, SECTORS, SectorWrite};

@@ -1,0 +1,4 @@
+pub mod Names
+pub mod OperationMap
+pub mod Slots
+pub mod SlotChanges

@@ -1,0 +1,6 @@
+pub mod Completions
+pub mod Keeping
+pub mod Callbacks
+pub mod Operations
+pub mod Slots
+pub mod Pending

@@ -1,0 +1,153 @@
+//! Stored closures that complete what a device has done, each kept beside what is proved of it.
+//!
+//! A type that stores an `F: Fn(..)` cannot cite what is known of `F`'s calls. So the trait `Completes` names what may be
+//! called and what is answered, every closure of the right shape has that trait, and what stores one is bound by it.
+//! In return no function may name `Kept` or `Callbacks`, or a type that holds them, at the type of a closure that it
+//! knows. Whoever has closures passes them, as they are, to a function that is generic over them. That one requires what
+//! `Kept::new` does, and makes all that holds them:
+//!
+//!     fn run<T: Completes + Drop, S: Completes + Drop, W: Completes + Drop>(sent: T, sector: S, written: W)
+//!         requires sent { Keeps (T.may sent) (T.gives sent) SENT }
+//!         requires sector { Keeps (S.may sector) (S.gives sector) SECTOR }
+//!         requires written { Keeps (W.may written) (W.gives written) WRITTEN }
+//!     {
+//!         let sent = Kept::<T, SENT>::new(sent);
+//!         let sector = Kept::<S, SECTOR>::new(sector);
+//!         let written = Kept::<W, WRITTEN>::new(written);
+//!         let callbacks = Callbacks::new(sent, sector, written);
+//!         ..
+//!     }
+//!
+//!     run(plain_completions::sent, plain_completions::sector, plain_completions::written);
+//!
+//! A closure that is stored more than once has the bound `Completes + Copy`. A closure of the caller's own states its
+//! clauses in the source, as the functions of `plain_completions` do.
+ghost use Rattle.std.specs.Prelude.{◌≡◌, IsTrue};
+ghost use Rattle.event_callbacks.specs.Keeping.{Keeps};
+ghost use Rattle.event_callbacks.specs.Completions.{is_due, done_of};
+ghost use Rattle.event_callbacks.specs.declared.devices.Devices.{Devices};
+ghost use Rattle.event_callbacks.specs.declared.devices.Done.{Done};
+
+use crate::devices::{Devices, Done, SECTOR, SENT, WRITTEN};
+use std::marker::Model;
+
+/// What may be stored as a completion: every closure that takes the devices and what one of them has done, and gives
+/// the devices after it.
+pub trait Completes {
+    ghost may: { Self → Devices → Done → Type 0 };
+
+    ghost gives: { Self → Devices → Done → Devices → Type 0 };
+
+    fn complete(&self, devices: Devices, done: Done) -> Devices
+        requires { may self.now devices done }
+        ensures { gives self.now devices done result };
+}
+
+impl<F: Fn(Devices, Done) -> Devices> Completes for F {
+    ghost may = { λ f devices done. F.pre f devices done };
+
+    ghost gives = { λ f devices done after. F.post f devices done after };
+
+    fn complete(&self, devices: Devices, done: Done) -> Devices {
+        self(devices, done)
+    }
+}
+
+/// A closure that completes one kind of `Done`: `SENT`, `SECTOR` or `WRITTEN`.
+#[derive(Drop)]
+pub struct Kept<F: Completes, const KIND: u8> {
+    closure: F,
+}
+
+impl<F: Completes, const KIND: u8> Model for Kept<F, KIND> {
+    ghost use Rattle.event_callbacks.specs.Keeping.{Keeps};
+
+    ghost Value = { F };
+
+    ghost view = { λ kept. kept.closure };
+
+    ghost invariant = { λ kept. Keeps (F.may kept.closure) (F.gives kept.closure) KIND };
+}
+
+// A `new` for each kind: one over all kinds would ask its generic callers how much memory a closure takes.
+impl<F: Completes> Kept<F, SENT> {
+    /// Stores a closure that keeps the completion table for `Done::Sent`.
+    pub fn new(closure: F) -> Self
+        requires { Keeps (F.may closure) (F.gives closure) SENT }
+        ensures { result ≡ closure }
+    {
+        Kept { closure }
+    }
+}
+
+impl<F: Completes> Kept<F, SECTOR> {
+    /// Stores a closure that keeps the completion table for `Done::Sector`.
+    pub fn new(closure: F) -> Self
+        requires { Keeps (F.may closure) (F.gives closure) SECTOR }
+        ensures { result ≡ closure }
+    {
+        Kept { closure }
+    }
+}
+
+impl<F: Completes> Kept<F, WRITTEN> {
+    /// Stores a closure that keeps the completion table for `Done::Written`.
+    pub fn new(closure: F) -> Self
+        requires { Keeps (F.may closure) (F.gives closure) WRITTEN }
+        ensures { result ≡ closure }
+    {
+        Kept { closure }
+    }
+}
+
+/// The closures of one holder, one of each kind.
+#[derive(Drop)]
+pub struct Callbacks<T: Completes, S: Completes, W: Completes> {
+    sent: Kept<T, SENT>,
+    sector: Kept<S, SECTOR>,
+    written: Kept<W, WRITTEN>,
+}
+
+impl<T: Completes, S: Completes, W: Completes> Model for Callbacks<T, S, W> {
+    ghost use Rattle.event_callbacks.specs.Callbacks.{Closures, closures_code};
+
+    ghost Value = { Closures T S W };
+
+    ghost coded = { closures_code T.code S.code W.code };
+
+    ghost view = { λ c. record { sent = c.sent; sector = c.sector; written = c.written } };
+}
+
+impl<T: Completes, S: Completes, W: Completes> Callbacks<T, S, W> {
+    /// The closures of one holder.
+    pub fn new(sent: Kept<T, SENT>, sector: Kept<S, SECTOR>, written: Kept<W, WRITTEN>) -> Self
+        ensures { result ≡ record { sent = sent; sector = sector; written = written } }
+    {
+        Callbacks {
+            sent,
+            sector,
+            written,
+        }
+    }
+
+    /// The devices after what is due: the stored closure of its kind completes it.
+    pub fn fire(&self, devices: Devices, done: Done) -> Devices
+        requires { IsTrue (is_due devices done) }
+        ensures { result ≡ done_of devices done }
+    {
+        match done {
+            Done::Sent(_) => {
+                let kept = &self.sent;
+                kept.closure.complete(devices, done)
+            }
+            Done::Sector(_, _) => {
+                let kept = &self.sector;
+                kept.closure.complete(devices, done)
+            }
+            Done::Written(_) => {
+                let kept = &self.written;
+                kept.closure.complete(devices, done)
+            }
+        }
+    }
+}

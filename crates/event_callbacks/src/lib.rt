@@ -1,0 +1,17 @@
+//! The devices of the board together, what they complete by stored closures, and the operations that wait for it.
+#![tactic(auto)]
+
+mod callbacks;
+mod devices;
+mod laws;
+mod operations;
+mod pending;
+pub mod plain_completions;
+#[cfg(test)]
+mod tests;
+
+pub use callbacks::{Callbacks, Completes, Kept};
+pub use devices::{Devices, Done, PORTS, SECTOR, SENT, WRITTEN};
+pub use laws::operations_come_and_go;
+pub use operations::{OpId, Operation};
+pub use pending::Pending;

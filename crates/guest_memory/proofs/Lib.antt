@@ -1,0 +1,2 @@
+pub mod JoinedPages
+pub mod NewMemory

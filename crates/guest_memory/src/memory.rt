@@ -1,0 +1,144 @@
+//! Memory by address and by page.
+
+ghost use Rattle.std.specs.Prelude.{◌≡◌, ◌-◌, ◌^◌, ◌<◌, length, IfOk, IfErr};
+ghost use Rattle.i8080_words.specs.declared.refusal.Fault.TheVariants.{OutOfMemory};
+ghost use Rattle.guest_memory.specs.Pages.{IsWhole, byte_at, cleared, page_bytes, page_of, unwritten, version_at, written, zeros};
+
+use i8080_words::R;
+use std::alloc::Global;
+use std::marker::Model;
+
+/// How many bytes the guest addresses.
+pub const BYTES: usize = 65_536;
+
+/// How many pages memory has.
+pub const PAGES: usize = 256;
+
+/// How many bytes a page has: an address's high byte is its page.
+pub const PAGE_BYTES: usize = 256;
+
+/// The guest's bytes, and with each page the number of writes to it.
+#[derive(Drop)]
+pub struct Memory {
+    bytes: Vec<u8>,
+    versions: Vec<u64>,
+}
+
+impl Model for Memory {
+    ghost use Rattle.guest_memory.specs.Pages.{IsWhole, Pages};
+
+    ghost Value = { Pages };
+
+    ghost use Rattle.guest_memory.specs.Storage.{pages_of};
+
+    ghost view = { pages_of };
+
+    ghost invariant = { λ m. IsWhole (pages_of m) };
+}
+
+impl Memory {
+    /// Memory of zeros, each page at version 0. `OutOfMemory` is the allocator's refusal of its 66 KiB.
+    #[tactic(auto, using(crate::proofs::NewMemory::cleared_is_whole))]
+    pub fn new(alloc: Global) -> R<Memory>
+        ensures ok { IfOk result (λ memory. memory ≡ cleared) }
+        ensures only_memory { IfErr result (λ fault. fault ≡ OutOfMemory) }
+    {
+        let bytes = zero_bytes(alloc, BYTES)?;
+        Memory::of_block(alloc, bytes)
+    }
+
+    /// Memory that holds these bytes, each page at version 0. `OutOfMemory` as in `new`.
+    #[tactic(auto, using(crate::proofs::NewMemory::unwritten_is_whole))]
+    pub fn of_bytes(alloc: Global, bytes: &[u8]) -> R<Memory>
+        requires { length bytes.now ≡ BYTES }
+        ensures ok { IfOk result (λ memory. memory ≡ unwritten bytes.now) }
+        ensures only_memory { IfErr result (λ fault. fault ≡ OutOfMemory) }
+    {
+        let block = Vec::from_slice(alloc, bytes)?;
+        Memory::of_block(alloc, block)
+    }
+
+    // Memory that keeps this block of bytes, each page at version 0.
+    fn of_block(alloc: Global, bytes: Vec<u8>) -> R<Memory>
+        requires { IsWhole (unwritten bytes.items) }
+        ensures ok { IfOk result (λ memory. memory ≡ unwritten bytes.items) }
+        ensures only_memory { IfErr result (λ fault. fault ≡ OutOfMemory) }
+    {
+        let versions = zero_versions(alloc, PAGES)?;
+        Ok(Memory { bytes, versions })
+    }
+
+    /// The same bytes at the same versions, in memory of their own. `OutOfMemory` as in `new`.
+    pub fn copy(&self) -> R<Memory>
+        ensures ok { IfOk result (λ memory. memory ≡ self.now) }
+        ensures only_memory { IfErr result (λ fault. fault ≡ OutOfMemory) }
+    {
+        let bytes = self.bytes.clone()?;
+        let versions = self.versions.clone()?;
+        Ok(Memory { bytes, versions })
+    }
+
+    /// The byte at an address.
+    #[inline]
+    pub fn read(&self, address: u16) -> u8
+        ensures { result ≡ byte_at self.now address }
+    {
+        self.bytes[address as usize]
+    }
+
+    /// Puts a byte at an address. Its page's version rises also where that byte stood there before.
+    #[inline]
+    pub fn write(&mut self, address: u16, byte: u8)
+        requires { version_at self.old (page_of address) < 2 ^ 64 - 1 }
+        ensures { self.new ≡ written self.old address byte }
+    {
+        let place = address as usize;
+        self.bytes[place] = byte;
+        self.versions[place / PAGE_BYTES] += 1;
+    }
+
+    /// The 256 bytes of a page, lowest address first.
+    #[inline]
+    pub fn page(&self, page: u8) -> &[u8]
+        ensures bytes { result.now ≡ page_bytes self.now page }
+        ensures length { length result.now ≡ PAGE_BYTES }
+    {
+        let start = page as usize * PAGE_BYTES;
+        &self.bytes[start..start + PAGE_BYTES]
+    }
+
+    /// How often a page was written.
+    #[inline]
+    pub fn version(&self, page: u8) -> u64
+        ensures { result ≡ version_at self.now page }
+    {
+        self.versions[page as usize]
+    }
+
+    /// Whatever was written, there is a byte at every address and a version for every page.
+    pub fn always_whole(&self)
+        ensures { IsWhole self.now }
+    {
+        let _ = &self.bytes;
+    }
+}
+
+// This many bytes 00.
+#[tactic(auto, unfolding(crate::specs::Pages::zeros))]
+fn zero_bytes(alloc: Global, count: usize) -> R<Vec<u8>>
+    ensures ok { IfOk result (λ bytes. bytes.items ≡ zeros count) }
+    ensures only_memory { IfErr result (λ fault. fault ≡ OutOfMemory) }
+{
+    let bytes = vec![in alloc; 0; count]?;
+    Ok(bytes)
+}
+
+// This many versions 0.
+#[tactic(auto, unfolding(crate::specs::Pages::zeros))]
+fn zero_versions(alloc: Global, count: usize) -> R<Vec<u64>>
+    ensures ok { IfOk result (λ versions. versions.items ≡ zeros count) }
+    ensures only_memory { IfErr result (λ fault. fault ≡ OutOfMemory) }
+{
+    let versions = vec![in alloc; 0; count]?;
+    Ok(versions)
+}
