@@ -34,10 +34,13 @@ use std::marker::Model;
 /// What may be stored as a completion: every closure that takes the devices and what one of them has done, and gives
 /// the devices after it.
 pub trait Completes {
+    // On what it may be called.
     ghost may: { Self → Devices → Done → Type 0 };
 
+    // What it may answer then.
     ghost gives: { Self → Devices → Done → Devices → Type 0 };
 
+    /// The devices after what has been done.
     fn complete(&self, devices: Devices, done: Done) -> Devices
         requires { may self.now devices done }
         ensures { gives self.now devices done result };
@@ -109,11 +112,9 @@ pub struct Callbacks<T: Completes, S: Completes, W: Completes> {
 }
 
 impl<T: Completes, S: Completes, W: Completes> Model for Callbacks<T, S, W> {
-    ghost use Rattle.event_callbacks.specs.Callbacks.{Closures, closures_code};
+    ghost use Rattle.event_callbacks.specs.Callbacks.{Closures};
 
     ghost Value = { Closures T S W };
-
-    ghost coded = { closures_code T.code S.code W.code };
 
     ghost view = { λ c. record { sent = c.sent; sector = c.sector; written = c.written } };
 }

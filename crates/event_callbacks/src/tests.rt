@@ -165,15 +165,13 @@ fn an_operation_completes_once(rt: HostRuntime) -> R<()> {
 #[test]
 fn forty_operations_wait(rt: HostRuntime) -> R<()> {
     let mut pending = Pending::new(rt.alloc());
-    for number in 1..17 {
-        for port in 0..2 {
-            let byte = Operation::Byte {
-                port,
-                number,
-                byte: 0x48,
-            };
-            issue_new(&rt, &mut pending, byte)?;
-        }
+    for place in 0..32u64 {
+        let byte = Operation::Byte {
+            port: (place % 2) as u8,
+            number: place / 2 + 1,
+            byte: 0x48,
+        };
+        issue_new(&rt, &mut pending, byte)?;
     }
     for number in 1..9 {
         let write = SectorWrite {
