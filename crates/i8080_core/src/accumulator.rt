@@ -1,7 +1,7 @@
 //! The arithmetic and logical instructions.
 ghost use Rattle.std.specs.Prelude.{◌≡◌, ◌+◌, ◌*◌, ◌/◌, ◌%◌};
-ghost use Rattle.i8080_words.specs.Arithmetic.{bit, has_bit, incremented, decremented, wrapped, word_of, low_byte as low_byte_of, high_byte as high_byte_of};
-ghost use Rattle.i8080_words.specs.Effects.{after_accesses, operand, operated, counted, with_pair, pair_value as pair_value_of, turned as turned_of, accumulated, with_carry, pair_added, decimal_adjusted};
+ghost use Rattle.i8080_words.specs.Arithmetic.{bit, has_bit, wrapped, word_of, low_byte as low_byte_of, high_byte as high_byte_of};
+ghost use Rattle.i8080_words.specs.Effects.{after_accesses, operated, counted_up, counted_down, with_pair, pair_value as pair_value_of, turned as turned_of, accumulated, with_carry, pair_added, decimal_adjusted};
 
 use crate::bus::Bus;
 use crate::operands::{
@@ -33,8 +33,9 @@ pub fn operate(operation: AluOperation, byte: u8, regs: &mut Regs)
 
 /// INR.
 pub fn increment<B: Bus>(bus: &mut B, register: Register, regs: &mut Regs)
-    ensures regs { regs.new ≡ (counted register (incremented (operand (B.byte_at (B.state bus.old)) register regs.old) regs.old.flags.cy) regs.old).regs }
-    ensures bus { B.state bus.new ≡ after_accesses B.after (counted register (incremented (operand (B.byte_at (B.state bus.old)) register regs.old) regs.old.flags.cy) regs.old).accesses (B.state bus.old) }
+    ensures regs { regs.new ≡ (counted_up register (B.byte_at (B.state bus.old)) regs.old).regs }
+    ensures bus { B.state bus.new
+        ≡ after_accesses B.after (counted_up register (B.byte_at (B.state bus.old)) regs.old).accesses (B.state bus.old) }
 {
     let (value, flags) = inr(read_operand(bus, register, regs), regs.flags.cy);
     regs.flags = flags;
@@ -43,8 +44,9 @@ pub fn increment<B: Bus>(bus: &mut B, register: Register, regs: &mut Regs)
 
 /// DCR.
 pub fn decrement<B: Bus>(bus: &mut B, register: Register, regs: &mut Regs)
-    ensures regs { regs.new ≡ (counted register (decremented (operand (B.byte_at (B.state bus.old)) register regs.old) regs.old.flags.cy) regs.old).regs }
-    ensures bus { B.state bus.new ≡ after_accesses B.after (counted register (decremented (operand (B.byte_at (B.state bus.old)) register regs.old) regs.old.flags.cy) regs.old).accesses (B.state bus.old) }
+    ensures regs { regs.new ≡ (counted_down register (B.byte_at (B.state bus.old)) regs.old).regs }
+    ensures bus { B.state bus.new
+        ≡ after_accesses B.after (counted_down register (B.byte_at (B.state bus.old)) regs.old).accesses (B.state bus.old) }
 {
     let (value, flags) = dcr(read_operand(bus, register, regs), regs.flags.cy);
     regs.flags = flags;

@@ -28,7 +28,9 @@ pub fn fetch_byte<B: Bus>(bus: &B, start: u16, regs: &mut Regs) -> u8
 
 /// The word behind the code at an address; PC moves behind the word.
 pub fn fetch_word<B: Bus>(bus: &B, start: u16, regs: &mut Regs) -> u16
-    ensures word { result ≡ word_of (B.byte_at (B.state bus.now) (wrapped (start + 1))) (B.byte_at (B.state bus.now) (wrapped (start + 2))) }
+    ensures word { result ≡ word_of
+        (B.byte_at (B.state bus.now) (wrapped (start + 1)))
+        (B.byte_at (B.state bus.now) (wrapped (start + 2))) }
     ensures pc { regs.new ≡ with_pc (wrapped (start + 3)) regs.old }
 {
     regs.pc = AddressRegister::new(offset(start, 3));

@@ -123,9 +123,6 @@ pub fn read_word<B: Bus>(bus: &B, address: u16) -> u16
 pub fn read_operand<B: Bus>(bus: &B, register: Register, regs: &Regs) -> u8
     ensures { result ≡ operand (B.byte_at (B.state bus.now)) register regs.now }
 {
-    if register == Register::M {
-        return bus.read(pair_value(RegisterPair::HL, regs));
-    }
     match register {
         Register::B => regs.b,
         Register::C => regs.c,
@@ -133,7 +130,7 @@ pub fn read_operand<B: Bus>(bus: &B, register: Register, regs: &Regs) -> u8
         Register::E => regs.e,
         Register::H => regs.h,
         Register::L => regs.l,
-        Register::M => unreachable!(),
+        Register::M => bus.read(pair_value(RegisterPair::HL, regs)),
         Register::A => regs.a,
     }
 }
@@ -143,10 +140,6 @@ pub fn write_operand<B: Bus>(bus: &mut B, register: Register, byte: u8, regs: &m
     ensures regs { regs.new ≡ (put register byte regs.old).regs }
     ensures bus { B.state bus.new ≡ after_accesses B.after (put register byte regs.old).accesses (B.state bus.old) }
 {
-    if register == Register::M {
-        bus.write(pair_value(RegisterPair::HL, regs), byte);
-        return;
-    }
     match register {
         Register::B => regs.b = byte,
         Register::C => regs.c = byte,
@@ -154,7 +147,7 @@ pub fn write_operand<B: Bus>(bus: &mut B, register: Register, byte: u8, regs: &m
         Register::E => regs.e = byte,
         Register::H => regs.h = byte,
         Register::L => regs.l = byte,
-        Register::M => unreachable!(),
+        Register::M => bus.write(pair_value(RegisterPair::HL, regs), byte),
         Register::A => regs.a = byte,
     }
 }

@@ -70,7 +70,9 @@ pub fn jump_if(condition: Condition, address: u16, regs: &mut Regs)
 /// Calls where a condition is met (CZ and its like).
 pub fn call_if<B: Bus>(bus: &mut B, condition: Condition, address: u16, regs: &mut Regs)
     ensures regs { regs.new ≡ (if holds condition regs.old.flags then (called address regs.old).regs else regs.old) }
-    ensures bus { B.state bus.new ≡ after_accesses B.after (if holds condition regs.old.flags then (called address regs.old).accesses else []) (B.state bus.old) }
+    ensures bus { B.state bus.new ≡ after_accesses B.after
+        (if holds condition regs.old.flags then (called address regs.old).accesses else [])
+        (B.state bus.old) }
 {
     if is_met(condition, regs.flags) {
         call(bus, address, regs);
@@ -79,7 +81,9 @@ pub fn call_if<B: Bus>(bus: &mut B, condition: Condition, address: u16, regs: &m
 
 /// Returns where a condition is met (RZ and its like).
 pub fn return_if<B: Bus>(bus: &B, condition: Condition, regs: &mut Regs)
-    ensures { regs.new ≡ (if holds condition regs.old.flags then returned (B.byte_at (B.state bus.now)) regs.old else regs.old) }
+    ensures { regs.new ≡ (if holds condition regs.old.flags
+        then returned (B.byte_at (B.state bus.now)) regs.old
+        else regs.old) }
 {
     if is_met(condition, regs.flags) {
         go_back(bus, regs);

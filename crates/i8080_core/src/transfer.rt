@@ -9,7 +9,9 @@ use i8080_words::Regs;
 
 /// SHLD: L to an address and H to the next.
 pub fn store_pair<B: Bus>(bus: &mut B, address: u16, regs: &Regs)
-    ensures { B.state bus.new ≡ after_accesses B.after (writing_word address regs.now.l regs.now.h regs.now).accesses (B.state bus.old) }
+    ensures { B.state bus.new ≡ after_accesses B.after
+        (writing_word address regs.now.l regs.now.h regs.now).accesses
+        (B.state bus.old) }
 {
     bus.write(address, regs.l);
     bus.write(offset(address, 1), regs.h);
@@ -17,7 +19,10 @@ pub fn store_pair<B: Bus>(bus: &mut B, address: u16, regs: &Regs)
 
 /// LHLD: L from an address and H from the next.
 pub fn load_pair<B: Bus>(bus: &B, address: u16, regs: &mut Regs)
-    ensures { regs.new ≡ record regs.old { l = B.byte_at (B.state bus.now) address; h = B.byte_at (B.state bus.now) (wrapped (address + 1)) } }
+    ensures { regs.new ≡ record regs.old {
+      l = B.byte_at (B.state bus.now) address;
+      h = B.byte_at (B.state bus.now) (wrapped (address + 1));
+    } }
 {
     regs.l = bus.read(address);
     regs.h = bus.read(offset(address, 1));
@@ -25,8 +30,13 @@ pub fn load_pair<B: Bus>(bus: &B, address: u16, regs: &mut Regs)
 
 /// XTHL: L with the byte at SP, and H with the next.
 pub fn exchange_top<B: Bus>(bus: &mut B, regs: &mut Regs)
-    ensures regs { regs.new ≡ record regs.old { l = B.byte_at (B.state bus.old) regs.old.sp; h = B.byte_at (B.state bus.old) (wrapped (regs.old.sp + 1)) } }
-    ensures bus { B.state bus.new ≡ after_accesses B.after (writing_word regs.old.sp regs.old.l regs.old.h regs.old).accesses (B.state bus.old) }
+    ensures regs { regs.new ≡ record regs.old {
+      l = B.byte_at (B.state bus.old) regs.old.sp;
+      h = B.byte_at (B.state bus.old) (wrapped (regs.old.sp + 1));
+    } }
+    ensures bus { B.state bus.new ≡ after_accesses B.after
+        (writing_word regs.old.sp regs.old.l regs.old.h regs.old).accesses
+        (B.state bus.old) }
 {
     let top = regs.sp.get();
     let low = bus.read(top);

@@ -6,10 +6,12 @@ ghost use Rattle.i8080_words.specs.Steps.{step, idles};
 
 /// No step makes more than two accesses to memory and ports, the reads of memory apart.
 pub fn few_accesses()
-    ensures { (p : Processor) (memory : ℕ → ℕ) (ports : ℕ → ℕ) (line : Option ℕ) → length (step p memory ports line).accesses ≤ 2 }
+    ensures { (p : Processor) (memory : ℕ → ℕ) (ports : ℕ → ℕ) (line : Option ℕ)
+        → length (step p memory ports line).accesses ≤ 2 }
 {}
 
 /// A step does nothing exactly where the processor is halted and hears no line.
 pub fn idles_where_halted()
-    ensures { (p : Processor) (memory : ℕ → ℕ) (ports : ℕ → ℕ) (line : Option ℕ) → IsTrue (idles p line) ↔ ((step p memory ports line).kind ≡ stepped.Idle) }
+    ensures { (p : Processor) (memory : ℕ → ℕ) (ports : ℕ → ℕ) (line : Option ℕ)
+        → IsTrue (idles p line) ↔ ((step p memory ports line).kind ≡ stepped.Idle) }
 {}

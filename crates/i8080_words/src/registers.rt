@@ -6,7 +6,7 @@ use std::marker::Model;
 
 /// A register of 16 bits that holds an address. It is kept in 32: hosts pass a store of 32 bits on to the next load at
 /// once and one of 16 bits only after several cycles, and PC is stored and loaded at every step.
-#[derive(Clone, Copy, Debug, PartialEq, Eq)]
+#[derive(Clone, Copy, Debug, PartialEq, Eq, Default)]
 pub struct AddressRegister {
     address: u32,
 }
@@ -41,7 +41,7 @@ impl AddressRegister {
 
 /// The registers: the accumulator A, the six that form the pairs BC, DE and HL, the condition flags, the stack pointer
 /// and the program counter. Addresses wrap modulo 65,536.
-#[derive(Clone, Copy, Debug, PartialEq, Eq)]
+#[derive(Clone, Copy, Debug, PartialEq, Eq, Default)]
 pub struct Regs {
     pub pc: AddressRegister,
     pub sp: AddressRegister,
