@@ -4,9 +4,7 @@ ghost use Rattle.i8080_words.specs.Arithmetic.{bit, has_bit, wrapped, word_of, l
 ghost use Rattle.i8080_words.specs.Effects.{after_accesses, operated, counted_up, counted_down, with_pair, pair_value as pair_value_of, turned as turned_of, accumulated, with_carry, pair_added, decimal_adjusted};
 
 use crate::bus::Bus;
-use crate::operands::{
-    high_byte, low_byte, offset, pair_value, read_operand, set_pair, word, write_operand,
-};
+use crate::operands::{offset, pair_value, read_operand, set_pair, write_operand};
 use i8080_words::{
     AccumulatorOperation, AddressRegister, AluOperation, Register, RegisterPair, Regs, add8, and8,
     daa, dad, dcr, inr, or8, rotate_left, rotate_right, sub8, xor8,
@@ -57,9 +55,8 @@ fn add_to_halves(high: &mut u8, low: &mut u8, by: u16)
     ensures high { high.new ≡ high_byte_of (wrapped (word_of low.old high.old + by)) }
     ensures low { low.new ≡ low_byte_of (wrapped (word_of low.old high.old + by)) }
 {
-    let sum = offset(word(*low, *high), by);
-    *high = high_byte(sum);
-    *low = low_byte(sum);
+    let sum = offset(u16::from_le_bytes([*low, *high]), by);
+    [*low, *high] = sum.to_le_bytes();
 }
 
 /// INX, by 1, and DCX, by FFFF.

@@ -4,7 +4,7 @@ ghost use Rattle.i8080_words.specs.Arithmetic.{wrapped, word_of};
 ghost use Rattle.i8080_words.specs.Effects.{with_pc};
 
 use crate::bus::Bus;
-use crate::operands::{offset, word};
+use crate::operands::offset;
 use i8080_words::{AddressRegister, Regs};
 
 /// Moves PC behind a code, and gives the address of that code.
@@ -34,5 +34,5 @@ pub fn fetch_word<B: Bus>(bus: &B, start: u16, regs: &mut Regs) -> u16
     ensures pc { regs.new ≡ with_pc (wrapped (start + 3)) regs.old }
 {
     regs.pc = AddressRegister::new(offset(start, 3));
-    word(bus.read(offset(start, 1)), bus.read(offset(start, 2)))
+    u16::from_le_bytes([bus.read(offset(start, 1)), bus.read(offset(start, 2))])
 }

@@ -1,33 +1,12 @@
 //! Operands of instructions: registers, pairs and the bytes in memory that they name, and the conditions of jumps.
 ghost use Rattle.std.specs.Prelude.{◌≡◌, ◌+◌, ◌*◌, ◌/◌, ◌%◌};
-ghost use Rattle.i8080_words.specs.Arithmetic.{wrapped, low_byte as low_byte_of, high_byte as high_byte_of, word_of};
+ghost use Rattle.i8080_words.specs.Arithmetic.{wrapped};
 ghost use Rattle.i8080_words.specs.Effects.{after_accesses, word_at, pair_value as value_of_pair, with_pair, operand, put, holds, pushed_value, with_pushed};
 
 use crate::bus::Bus;
 use i8080_words::{
     AddressRegister, Condition, Flags, Register, RegisterPair, Regs, StackPair, of_psw, psw,
 };
-
-/// The word of a low and a high byte.
-pub fn word(low: u8, high: u8) -> u16
-    ensures { result ≡ word_of low high }
-{
-    (low as u16) | ((high as u16) << 8)
-}
-
-/// The low byte of a word.
-pub fn low_byte(word: u16) -> u8
-    ensures { result ≡ low_byte_of word }
-{
-    (word & 0xff) as u8
-}
-
-/// The high byte of a word.
-pub fn high_byte(word: u16) -> u8
-    ensures { result ≡ high_byte_of word }
-{
-    (word >> 8) as u8
-}
 
 /// An address moved on, modulo 65,536.
 pub fn offset(address: u16, by: u16) -> u16
@@ -41,9 +20,9 @@ pub fn pair_value(pair: RegisterPair, regs: &Regs) -> u16
     ensures { result ≡ value_of_pair pair regs.now }
 {
     match pair {
-        RegisterPair::BC => word(regs.c, regs.b),
-        RegisterPair::DE => word(regs.e, regs.d),
-        RegisterPair::HL => word(regs.l, regs.h),
+        RegisterPair::BC => u16::from_le_bytes([regs.c, regs.b]),
+        RegisterPair::DE => u16::from_le_bytes([regs.e, regs.d]),
+        RegisterPair::HL => u16::from_le_bytes([regs.l, regs.h]),
         RegisterPair::SP => regs.sp.get(),
     }
 }
@@ -54,16 +33,13 @@ pub fn set_pair(pair: RegisterPair, word: u16, regs: &mut Regs)
 {
     match pair {
         RegisterPair::BC => {
-            regs.b = high_byte(word);
-            regs.c = low_byte(word);
+            [regs.c, regs.b] = word.to_le_bytes();
         }
         RegisterPair::DE => {
-            regs.d = high_byte(word);
-            regs.e = low_byte(word);
+            [regs.e, regs.d] = word.to_le_bytes();
         }
         RegisterPair::HL => {
-            regs.h = high_byte(word);
-            regs.l = low_byte(word);
+            [regs.l, regs.h] = word.to_le_bytes();
         }
         RegisterPair::SP => regs.sp = AddressRegister::new(word),
     }
@@ -74,10 +50,10 @@ pub fn stack_pair_value(pair: StackPair, regs: &Regs) -> u16
     ensures { result ≡ pushed_value pair regs.now }
 {
     match pair {
-        StackPair::BC => word(regs.c, regs.b),
-        StackPair::DE => word(regs.e, regs.d),
-        StackPair::HL => word(regs.l, regs.h),
-        StackPair::PSW => word(psw(regs.flags), regs.a),
+        StackPair::BC => u16::from_le_bytes([regs.c, regs.b]),
+        StackPair::DE => u16::from_le_bytes([regs.e, regs.d]),
+        StackPair::HL => u16::from_le_bytes([regs.l, regs.h]),
+        StackPair::PSW => u16::from_le_bytes([psw(regs.flags), regs.a]),
     }
 }
 
@@ -90,8 +66,9 @@ pub fn set_stack_pair(pair: StackPair, word: u16, regs: &mut Regs)
         StackPair::DE => set_pair(RegisterPair::DE, word, regs),
         StackPair::HL => set_pair(RegisterPair::HL, word, regs),
         StackPair::PSW => {
-            regs.a = high_byte(word);
-            regs.flags = of_psw(low_byte(word));
+            let [low, high] = word.to_le_bytes();
+            regs.a = high;
+            regs.flags = of_psw(low);
         }
     }
 }
@@ -116,7 +93,7 @@ pub fn is_met(condition: Condition, flags: Flags) -> bool
 pub fn read_word<B: Bus>(bus: &B, address: u16) -> u16
     ensures { result ≡ word_at (B.byte_at (B.state bus.now)) address }
 {
-    word(bus.read(address), bus.read(offset(address, 1)))
+    u16::from_le_bytes([bus.read(address), bus.read(offset(address, 1))])
 }
 
 /// The byte in a register, or in memory for `M`.

@@ -3,7 +3,7 @@ ghost use Rattle.std.specs.Prelude.{◌≡◌, if◌then◌else◌, [], ◌+◌,
 ghost use Rattle.i8080_words.specs.Effects.{after_accesses, word_at, with_pushed, pushed_word, popped, called, returned, holds, with_pc};
 
 use crate::bus::Bus;
-use crate::operands::{high_byte, is_met, low_byte, offset, read_word, set_stack_pair};
+use crate::operands::{is_met, offset, read_word, set_stack_pair};
 use i8080_words::{AddressRegister, Condition, Regs, StackPair};
 
 /// Pushes a word: its high byte at SP - 1, its low byte at SP - 2.
@@ -12,8 +12,9 @@ pub fn push<B: Bus>(bus: &mut B, word: u16, regs: &mut Regs)
     ensures bus { B.state bus.new ≡ after_accesses B.after (pushed_word word regs.old).accesses (B.state bus.old) }
 {
     let top = regs.sp.get();
-    bus.write(offset(top, 0xffff), high_byte(word));
-    bus.write(offset(top, 0xfffe), low_byte(word));
+    let [low, high] = word.to_le_bytes();
+    bus.write(offset(top, 0xffff), high);
+    bus.write(offset(top, 0xfffe), low);
     regs.sp = AddressRegister::new(offset(top, 0xfffe));
 }
 

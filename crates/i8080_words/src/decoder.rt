@@ -28,7 +28,7 @@ fn size(op: Op) -> u8
 fn with_data(op: Op, low: u8, high: u8) -> Op
     ensures { result ≡ with_data_of op low high }
 {
-    let word = low as u16 + ((high as u16) << 8);
+    let word = u16::from_le_bytes([low, high]);
     match op {
         Op::Lxi(pair, _) => Op::Lxi(pair, word),
         Op::Shld(_) => Op::Shld(word),

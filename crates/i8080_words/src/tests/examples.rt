@@ -70,7 +70,30 @@ fn numbers_its_refusals(rt: HostRuntime) {
 
 #[test]
 fn tells_its_refusals(rt: HostRuntime) -> Result<(), std::test::Fail> {
-    let text = format!(in rt.alloc(); "{}, {}", Fault::BadScript(7), Fault::NotWhole)?;
-    assert_eq!(rt; text.as_str(), "bad script at line 7, not whole");
+    let texts = [
+        (Fault::OutOfMemory, "out of memory"),
+        (Fault::Spent, "the range of numbers is spent"),
+        (Fault::LogFull, "the log is full"),
+        (Fault::NotDue, "not due"),
+        (Fault::WrongNumber, "wrong number"),
+        (Fault::StaleRead, "stale read"),
+        (Fault::SectorBusy, "the sector is busy"),
+        (Fault::WrongRole, "wrong role"),
+        (Fault::WrongGeneration, "wrong generation"),
+        (Fault::Malformed, "malformed"),
+        (Fault::NotWhole, "not whole"),
+        (Fault::NotCovered, "not covered"),
+        (Fault::DeviceFault, "device fault"),
+        (Fault::Lost, "lost"),
+        (Fault::Unknown, "unknown"),
+        (Fault::BadAck, "bad acknowledgement"),
+        (Fault::Stalled, "stalled"),
+        (Fault::Idle, "idle"),
+        (Fault::BadScript(7), "bad script at line 7"),
+    ];
+    for (fault, expected) in texts {
+        let text = format!(in rt.alloc(); "{fault}")?;
+        assert_eq!(rt; text.as_str(), expected);
+    }
     Ok(())
 }
