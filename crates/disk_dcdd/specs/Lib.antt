@@ -1,3 +1,4 @@
+pub mod Address
 pub mod Sector
 pub mod Command
 pub mod Drive

@@ -2,6 +2,7 @@
 //! and writes that its drives complete.
 #![tactic(auto)]
 
+mod address;
 mod commands;
 mod controller;
 mod drive;
@@ -9,6 +10,7 @@ mod sector;
 #[cfg(test)]
 mod tests;
 
+pub use address::{DRIVE_SECTORS, SectorAddress, sectors_stand_apart};
 pub use controller::{Controller, ControllerImage, DRIVES, GREATEST_NUMBER, OUTSTANDING};
 pub use drive::{Drive, TRACKS};
 pub use sector::{CurrentSector, Place, SECTOR_BYTES, SECTORS, SectorWrite};

@@ -1,6 +1,9 @@
 //! A sector: as a numbered write, as the place where such a write goes, and as it passes under the head.
 ghost use Rattle.std.specs.Prelude.{◌≡◌, ◌<◌, ◌↔◌, IfSome, IsTrue};
+ghost use Rattle.disk_dcdd.specs.Address as address;
 ghost use Rattle.disk_dcdd.specs.Sector as table;
+
+use crate::address::SectorAddress;
 
 /// How many bytes a sector has.
 pub const SECTOR_BYTES: usize = 137;
@@ -28,6 +31,17 @@ pub struct SectorWrite {
 }
 
 impl SectorWrite {
+    /// The sector that the write goes to.
+    pub fn address(&self) -> SectorAddress
+        ensures { result ≡ address.address_of self.now }
+    {
+        SectorAddress {
+            drive: self.drive,
+            track: self.track,
+            sector: self.sector,
+        }
+    }
+
     // Where the write goes.
     pub(crate) fn place(&self) -> Place
         ensures { result ≡ table.place_of self.now }

@@ -1,5 +1,5 @@
 -- What whoever uses memory may count on.
-use Rattle.std.specs.Prelude.{◌≡◌, ◌≢◌, ℕ, ◌+◌, ◌*◌, ◌<◌, List, ◌++◌, take}
+use Rattle.std.specs.Prelude.{◌≡◌, ◌≢◌, ℕ, ◌+◌, ◌-◌, ◌*◌, ◌^◌, ◌<◌, List, ◌++◌, take}
 use Rattle.guest_memory.specs.declared.memory.TheConstants.{BYTES, PAGES, PAGE_BYTES}
 use Rattle.guest_memory.specs.Pages.{Pages, byte_at, page_of, page_bytes, version_at, written}
 
@@ -9,9 +9,9 @@ pub record ReadsBack (memory : Pages) : Type 0 where
   pub elsewhere : (address byte other : ℕ) → other ≢ address
       → byte_at (written memory address byte) other ≡ byte_at memory other
 
--- a write raises its page's version by one, and every other version stands as it stood
+-- a write raises its page's version by one where there is room, and every other version stands as it stood
 pub record CountsWrites (memory : Pages) : Type 0 where
-  pub its_page : (address byte : ℕ) → address < BYTES
+  pub its_page : (address byte : ℕ) → address < BYTES → version_at memory (page_of address) < 2 ^ 64 - 1
       → version_at (written memory address byte) (page_of address) ≡ version_at memory (page_of address) + 1
   pub other_pages : (address byte page : ℕ) → page ≢ page_of address
       → version_at (written memory address byte) page ≡ version_at memory page

@@ -1,5 +1,5 @@
 -- The guest's memory: 65,536 bytes in 256 pages, and with each page how often it was written.
-use Rattle.std.specs.Prelude.{◌≡◌, ℕ, ◌+◌, ◌*◌, ◌/◌, ◌^◌, ◌<◌, List, length, replicate, slice_index, slice_range, slice_set}
+use Rattle.std.specs.Prelude.{◌≡◌, ℕ, ◌+◌, ◌*◌, ◌/◌, ◌%◌, ◌^◌, ◌<◌, List, length, replicate, slice_index, slice_range, slice_set}
 use Rattle.guest_memory.specs.declared.memory.TheConstants.{BYTES, PAGES, PAGE_BYTES}
 
 -- the bytes by address, and the versions by page
@@ -42,9 +42,13 @@ unwritten bytes = record { bytes = bytes; versions = zeros PAGES }
 abbrev pub cleared : Pages
 cleared = unwritten (zeros BYTES)
 
+-- the versions after a write to a page, each kept modulo 2^64
+abbrev pub raised : List ℕ → ℕ → List ℕ
+raised versions page = slice_set versions page ((slice_index versions page + 1) % 2 ^ 64)
+
 -- after a write: the byte stands at its address, and its page was written once more
 abbrev pub written : Pages → ℕ → ℕ → Pages
 written memory address byte = record {
   bytes = slice_set memory.bytes address byte;
-  versions = slice_set memory.versions (page_of address) (version_at memory (page_of address) + 1);
+  versions = raised memory.versions (page_of address);
 }

@@ -1,8 +1,8 @@
 //! Memory by address and by page.
 
-ghost use Rattle.std.specs.Prelude.{◌≡◌, ◌-◌, ◌^◌, ◌<◌, length, IfOk, IfErr};
+ghost use Rattle.std.specs.Prelude.{◌≡◌, length, IfOk, IfErr};
 ghost use Rattle.i8080_words.specs.declared.refusal.Fault.TheVariants.{OutOfMemory};
-ghost use Rattle.guest_memory.specs.Pages.{IsWhole, byte_at, cleared, page_bytes, page_of, unwritten, version_at, written, zeros};
+ghost use Rattle.guest_memory.specs.Pages.{IsWhole, byte_at, cleared, page_bytes, unwritten, version_at, written, zeros};
 
 use i8080_words::R;
 use std::alloc::Global;
@@ -86,15 +86,17 @@ impl Memory {
         self.bytes[address as usize]
     }
 
-    /// Puts a byte at an address. Its page's version rises also where that byte stood there before.
+    /// Puts a byte at an address. Its page's version rises also where that byte stood there before; it is kept modulo
+    /// 2^64, which a board's count of instructions does not come near.
     #[inline]
     pub fn write(&mut self, address: u16, byte: u8)
-        requires { version_at self.old (page_of address) < 2 ^ 64 - 1 }
         ensures { self.new ≡ written self.old address byte }
     {
         let place = address as usize;
         self.bytes[place] = byte;
-        self.versions[place / PAGE_BYTES] += 1;
+        let page = place / PAGE_BYTES;
+        let version = self.versions[page];
+        self.versions[page] = version.wrapping_add(1);
     }
 
     /// The 256 bytes of a page, lowest address first.

@@ -18,13 +18,6 @@ fn edge_byte(address: u16) -> u8 {
     }
 }
 
-// Writes where the version of the address's page is not spent.
-fn put(rt: &impl Abort, memory: &mut Memory, address: u16, byte: u8) {
-    let spent = memory.version((address / 256) as u8) == u64::MAX;
-    assert!(rt; !spent);
-    memory.write(address, byte);
-}
-
 #[test]
 fn new_memory_reads_zero_at_version_zero(rt: HostRuntime) -> Result<(), Fail> {
     let memory = Memory::new(rt.alloc())?;
@@ -41,7 +34,7 @@ fn new_memory_reads_zero_at_version_zero(rt: HostRuntime) -> Result<(), Fail> {
 fn a_write_changes_one_byte_and_one_version(rt: HostRuntime) -> Result<(), Fail> {
     let mut memory = Memory::new(rt.alloc())?;
     for address in EDGES {
-        put(&rt, &mut memory, address, edge_byte(address));
+        memory.write(address, edge_byte(address));
     }
     for address in 0..=u16::MAX {
         assert_eq!(rt;
@@ -64,8 +57,8 @@ fn a_write_changes_one_byte_and_one_version(rt: HostRuntime) -> Result<(), Fail>
 #[test]
 fn an_equal_byte_raises_the_version_too(rt: HostRuntime) -> Result<(), Fail> {
     let mut memory = Memory::new(rt.alloc())?;
-    put(&rt, &mut memory, 0x2000, 0x00);
-    put(&rt, &mut memory, 0x2000, 0x00);
+    memory.write(0x2000, 0x00);
+    memory.write(0x2000, 0x00);
     assert_eq!(rt; memory.read(0x2000), 0x00);
     assert_eq!(rt; memory.version(0x20), 2);
     Ok(())
@@ -94,7 +87,7 @@ fn pages_show_the_bytes_that_memory_is_made_of(rt: HostRuntime) -> Result<(), Fa
 fn a_copy_is_equal_and_apart(rt: HostRuntime) -> Result<(), Fail> {
     let mut memory = Memory::new(rt.alloc())?;
     for address in EDGES {
-        put(&rt, &mut memory, address, edge_byte(address));
+        memory.write(address, edge_byte(address));
     }
     let copied = memory.copy()?;
     for page in 0..=u8::MAX {
@@ -105,7 +98,7 @@ fn a_copy_is_equal_and_apart(rt: HostRuntime) -> Result<(), Fail> {
             "of page {page:02x}"
         );
     }
-    put(&rt, &mut memory, 0x0100, 0x77);
+    memory.write(0x0100, 0x77);
     assert_eq!(rt; copied.read(0x0100), 0x76);
     assert_eq!(rt; copied.version(0x01), 1);
     Ok(())

@@ -1,0 +1,10 @@
+//! The arbiter: the first node that asks for a generation has won it, for good.
+#![tactic(auto)]
+
+mod arbiter;
+mod laws;
+#[cfg(test)]
+mod tests;
+
+pub use arbiter::{Arbiter, Asking, Won};
+pub use laws::first_askers_win;

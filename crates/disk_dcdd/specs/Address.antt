@@ -1,0 +1,23 @@
+-- The sectors of all drives: by address, and by place in a table of them all.
+use Rattle.std.specs.Prelude.{ℕ, ◌+◌, ◌*◌, Bool, ◌==◌, ◌&&◌, nat_lt, if◌then◌else◌, Option, Some, None}
+use Rattle.disk_dcdd.specs.declared.address.TheConstants.{DRIVE_SECTORS}
+use Rattle.disk_dcdd.specs.declared.address.SectorAddress.{SectorAddress}
+use Rattle.disk_dcdd.specs.declared.drive.TheConstants.{TRACKS}
+use Rattle.disk_dcdd.specs.declared.sector.TheConstants.{SECTORS}
+use Rattle.disk_dcdd.specs.declared.sector.SectorWrite.{SectorWrite}
+
+-- the sector that a write goes to
+abbrev pub address_of : SectorWrite → SectorAddress
+address_of w = record { drive = w.drive; track = w.track; sector = w.sector }
+
+-- both are one sector
+abbrev pub same_address : SectorAddress → SectorAddress → Bool
+same_address a b = a.drive == b.drive && a.track == b.track && a.sector == b.sector
+
+-- a drive has a sector there
+abbrev pub is_on_disk : SectorAddress → Bool
+is_on_disk a = nat_lt a.track TRACKS && nat_lt a.sector SECTORS
+
+-- the place in a table by drive, track and number
+abbrev pub index_of : SectorAddress → Option ℕ
+index_of a = if is_on_disk a then Some (a.drive * DRIVE_SECTORS + a.track * SECTORS + a.sector) else None

@@ -1,0 +1,78 @@
+-- A small machine: it reads the key that came last and sends it at the next step, one byte at a time, and it idles
+-- where it waits for an acceptance and has no key to read.
+use Rattle.std.specs.Prelude.{ℕ, suc, Bool, true, false, ◌==◌, nat_le, ◌&&◌, ◌||◌, if◌then◌else◌, Option, Some, None, is_none, []}
+use Rattle.disk_dcdd.specs.declared.address.SectorAddress.{SectorAddress}
+use Rattle.disk_dcdd.specs.declared.controller.TheConstants.{GREATEST_NUMBER}
+use Rattle.event_callbacks.specs.declared.operations.Operation.{Operation}
+use Rattle.event_callbacks.specs.declared.operations.Operation.TheVariants.{Byte}
+use Rattle.guest_board.specs.Machine.{Machine}
+use Rattle.guest_board.specs.declared.input.Input.{Input}
+use Rattle.guest_board.specs.declared.input.Input.TheVariants.{Rx, Sent, Sector, Written}
+
+-- how many steps it made and how many keys it took, the key that is not read, the byte that was read and not sent, how
+-- many bytes it has sent, and whether the last of them is not accepted
+pub record Echo : Type 0 where
+  pub count : ℕ
+  pub keys : ℕ
+  pub key : Option ℕ
+  pub byte : Option ℕ
+  pub sent : ℕ
+  pub waits : Bool
+
+abbrev pub at_boot : Echo
+at_boot = record { count = 0; keys = 0; key = None; byte = None; sent = 0; waits = false }
+
+-- a byte that was read is sent, while none waits; else the key is read
+abbrev pub sends : Echo → ℕ → Echo × Option Operation
+sends e byte =
+    (record e { count = suc e.count; byte = None; sent = suc e.sent; waits = true }, Some (Byte 0 (suc e.sent) byte))
+
+abbrev pub reads : Echo → Echo × Option Operation
+reads e = (record e { count = suc e.count; key = None; byte = e.key }, None)
+
+abbrev pub moved : Echo → Option ℕ → Echo × Option Operation
+moved e None = reads e
+moved e (Some byte) = sends e byte
+
+abbrev pub is_spent : Echo → Bool
+is_spent e = nat_le GREATEST_NUMBER e.count
+
+abbrev pub is_idle : Echo → Bool
+is_idle e = e.waits && is_none e.key
+
+abbrev pub step_of : Echo → Option (Echo × Option Operation)
+step_of e =
+    if is_spent e || is_idle e then None else Some (moved e (if e.waits then None else e.byte))
+
+abbrev pub due_byte : Echo → ℕ → Option ℕ
+due_byte e port = if e.waits && port == 0 then Some e.sent else None
+
+-- keys come at either port; the byte that was sent is accepted
+abbrev pub after : Echo → Input → Option Echo
+after e (Rx port byte) = Some (record e { keys = suc e.keys; key = Some byte })
+after e (Sent port) = if e.waits && port == 0 then Some (record e { waits = false }) else None
+after e (Sector drive sector number bytes) = None
+after e (Written number) = None
+
+abbrev pub nowhere : SectorAddress
+nowhere = record { drive = 0; track = 0; sector = 0 }
+
+-- as a pair sees it: a machine without drives, of which no operation is kept
+abbrev pub echo : Machine Echo
+echo = record {
+  boot = at_boot;
+  boot_sector = λ address. [];
+  window_size = 1;
+  step = step_of;
+  take = after;
+  count = λ e. e.count;
+  is_spent = is_spent;
+  keys = λ e port. e.keys;
+  find = λ e name. None;
+  due_byte = due_byte;
+  selected = λ e. None;
+  address = λ e drive sector. nowhere;
+  ready = λ e address. false;
+  busy = λ e address. false;
+  done = λ e address. 0;
+}

@@ -1,0 +1,131 @@
+//! A guest of a few numbers.
+ghost use Rattle.std.specs.Prelude.{◌≡◌, false};
+
+use disk_dcdd::GREATEST_NUMBER;
+use event_callbacks::Operation;
+use guest_board::{Executed, Input, Lockstep};
+use i8080_words::{Fault, R};
+use std::marker::Model;
+
+/// A guest that reads the key that came last and sends it at the next step. It sends no byte while one is not accepted,
+/// and idles then where it has no key to read. It keeps as many operations as it has room for; the step that would give
+/// one more wants memory.
+#[derive(Drop)]
+pub struct Echo {
+    count: u64,
+    keys: u64,
+    key: Option<u8>,
+    byte: Option<u8>,
+    sent: u64,
+    waits: bool,
+    room: u64,
+}
+
+impl Model for Echo {
+    ghost use Rattle.std.specs.Prelude.{◌≤◌};
+    ghost use Rattle.disk_dcdd.specs.declared.controller.TheConstants.{GREATEST_NUMBER};
+    ghost use Rattle.echo_guest.specs.Echo as echo;
+
+    ghost Value = { echo.Echo };
+
+    ghost view = { λ e. record {
+      count = e.count;
+      keys = e.keys;
+      key = e.key;
+      byte = e.byte;
+      sent = e.sent;
+      waits = e.waits;
+    } };
+
+    ghost invariant = { λ e. (e.count ≤ GREATEST_NUMBER) × (e.keys ≤ GREATEST_NUMBER) × (e.sent ≤ e.count) };
+}
+
+impl Echo {
+    /// A guest at boot, with room for so many operations.
+    pub fn new(room: u64) -> Echo
+        ensures { result ≡ at_boot }
+    {
+        Echo {
+            count: 0,
+            keys: 0,
+            key: None,
+            byte: None,
+            sent: 0,
+            waits: false,
+            room,
+        }
+    }
+}
+
+ghost use Rattle.echo_guest.specs.Echo.{Echo, at_boot, echo};
+
+impl Lockstep for Echo {
+    ghost State = { Echo };
+
+    ghost state = { λ e. e };
+
+    ghost machine = { echo };
+
+    fn exec(&mut self) -> R<Executed> {
+        if self.count >= GREATEST_NUMBER {
+            return Err(Fault::Spent);
+        }
+        if self.waits && self.key.is_none() {
+            return Err(Fault::Idle);
+        }
+        let Some(byte) = self.byte.filter(|_| !self.waits) else {
+            self.count += 1;
+            self.byte = self.key.take();
+            return Ok(Executed::Ran(None));
+        };
+        if self.room == 0 {
+            return Err(Fault::OutOfMemory);
+        }
+        self.room -= 1;
+        self.count += 1;
+        self.byte = None;
+        self.sent += 1;
+        self.waits = true;
+        let number = self.sent;
+        Ok(Executed::Ran(Some(Operation::Byte {
+            port: 0,
+            number,
+            byte,
+        })))
+    }
+
+    fn check(&self, input: &Input) -> R<()> {
+        match input {
+            Input::Rx(_, _) => Ok(()),
+            Input::Sent(0) if self.waits => Ok(()),
+            _ => Err(Fault::NotDue),
+        }
+    }
+
+    fn take(&mut self, input: Input) -> R<()> {
+        self.check(&input)?;
+        match input {
+            Input::Rx(_, byte) => {
+                self.keys += 1;
+                self.key = Some(byte);
+            }
+            _ => self.waits = false,
+        }
+        Ok(())
+    }
+
+    fn count(&self) -> u64 {
+        self.count
+    }
+
+    fn keys(&self, _port: u8) -> u64 {
+        self.keys
+    }
+
+    fn due_byte(&self, port: u8) -> Option<u64> {
+        if self.waits && port == 0 {
+            return Some(self.sent);
+        }
+        None
+    }
+}

@@ -1,0 +1,6 @@
+//! A small guest that sends each key that it reads, for the tests of what runs a guest.
+#![tactic(auto)]
+
+mod guest;
+
+pub use guest::Echo;

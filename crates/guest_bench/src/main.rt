@@ -1,0 +1,88 @@
+//! Runs one of two guest programs for a number of steps on one of three executors, and prints where it stands: the bare
+//! processor over a flat memory, the whole board, or the single machine.
+#![tactic(auto)]
+
+mod board;
+mod flat_memory;
+mod guests;
+
+use anyhow::{Result, bail};
+use event_callbacks::plain_completions;
+use flat_memory::FlatMemory;
+use guest_board::Setup;
+use i8080_core::Cpu;
+use i8080_words::Regs;
+use std::alloc::Global;
+use std::env;
+
+// A memory that begins with these bytes.
+fn loaded(alloc: Global, program: &[u8]) -> Result<Vec<u8>> {
+    let mut bytes = vec![in alloc; 0u8; 65536]?;
+    for (place, byte) in bytes.iter_mut().zip(program) {
+        *place = *byte;
+    }
+    Ok(bytes)
+}
+
+// Runs the processor by itself.
+fn run_processor(bytes: Vec<u8>, steps: u64) -> Result<Regs> {
+    if bytes.len() != 65536 {
+        bail!("no memory of 65,536 bytes");
+    }
+    let mut memory = FlatMemory { bytes };
+    let mut cpu = Cpu::reset();
+    for _ in 0..steps {
+        let _ = cpu.step(&mut memory, None);
+    }
+    Ok(cpu.processor().regs)
+}
+
+// Runs the whole board.
+fn run_board(alloc: Global, bytes: Vec<u8>, steps: u64) -> Result<Regs> {
+    if bytes.len() != 65536 {
+        bail!("no memory of 65,536 bytes");
+    }
+    let setup = Setup {
+        memory: bytes,
+        drives: 1,
+        levels: [7; 3],
+        sense: 0,
+    };
+    let regs = board::run(
+        alloc,
+        &setup,
+        steps,
+        plain_completions::sent,
+        plain_completions::sector,
+        plain_completions::written,
+    )?;
+    Ok(regs)
+}
+
+// Arguments: the executor, the name of the guest program, `count` or `copy`, and the number of steps.
+fn main(rt: HostRuntime) -> Result<()> {
+    let mut arguments = env::args(&rt)?.skip(1);
+    let (Some(executor), Some(name), Some(number)) =
+        (arguments.next(), arguments.next(), arguments.next())
+    else {
+        bail!("usage: guest_bench processor|board|single count|copy STEPS");
+    };
+    let Some(program) = guests::program(name.as_str()) else {
+        bail!("no guest program {name:?}");
+    };
+    let steps = number.as_str().parse::<u64>()?;
+    let bytes = loaded(rt.alloc(), program)?;
+    let regs = match executor.as_str() {
+        "processor" => run_processor(bytes, steps)?,
+        "board" => run_board(rt.alloc(), bytes, steps)?,
+        other => bail!("no executor {other:?}"),
+    };
+    println!(rt;
+        "{steps} steps: A {:02X}, BC {:02X}{:02X}, PC {:04X}",
+        regs.a,
+        regs.b,
+        regs.c,
+        regs.pc.get()
+    )?;
+    Ok(())
+}

@@ -1,0 +1,214 @@
+-- An input that is taken leaves a board that stands as every board does.
+use Rattle.std.proofs.Common.{◌≡◌, ℕ, zero, suc, ◌+◌, ◌-◌, ◌<◌, ◌≤◌, Bool, true, false, cond, ◌==◌, ◌&&◌, List, [], ◌∷◌, ⊎_elim, Option, Some, None, Ok, ok_or, refl, sym, ap, ◌∙◌, arith}
+use Rattle.std.specs.Prelude.{nat_lt, slice_index, slice_set, is_some}
+use Rattle.std.specs.Option.{option_map_or}
+use Rattle.std.proofs.lemmas.Bool.Decides.{eqb_tells, nat_tests}
+use Rattle.std.proofs.lemmas.List.{length-set}
+use Rattle.serial_2sio.specs.Port as serial
+use Rattle.i8080_words.specs.declared.refusal.Fault.TheVariants.{NotDue}
+use Rattle.disk_dcdd.specs.Drive as drives
+use Rattle.disk_dcdd.specs.Completion as completion
+use Rattle.disk_dcdd.specs.Address.{address_of, index_of}
+use Rattle.disk_dcdd.specs.declared.controller.TheConstants.{GREATEST_NUMBER}
+use Rattle.disk_dcdd.specs.declared.sector.SectorWrite.{SectorWrite}
+use Rattle.event_callbacks.specs.declared.devices.TheConstants.{PORTS}
+use Rattle.event_callbacks.specs.declared.devices.Devices.{Devices}
+use Rattle.event_callbacks.specs.declared.devices.Done.TheVariants as done
+use Rattle.event_callbacks.specs.declared.operations.OpId.TheVariants as id
+use Rattle.event_callbacks.specs.declared.operations.Operation.{Operation}
+use Rattle.event_callbacks.specs.declared.operations.Operation.TheVariants as operation
+use Rattle.event_callbacks.specs.Completions.{port_of, is_due, done_of}
+use Rattle.event_callbacks.specs.Operations.{Operations, Outstanding, after_complete, operation_at, without_operation, id_of}
+use Rattle.guest_board.specs.Guest.{Guest, after_rx, due_byte, oldest_byte, with_completed}
+use Rattle.guest_board.specs.Board.{AreAwaited, AreInRange, AreCompleted, IsBoard, is_on_its_way}
+use Rattle.guest_board.proofs.OnTheirWay.{oldest}
+use Rattle.guest_board.proofs.Awaited.{awaited-port, awaited-disk, awaited-accepted, awaited-written, none_past}
+use Rattle.guest_board.proofs.Accesses.{in_range-set}
+
+in_range_with : (g : Guest) (versions : List ℕ) (d : Devices) (operations : Operations) (completed : List ℕ) → AreInRange g versions
+    → AreInRange (record g { devices = d; operations = operations; completed = completed }) versions
+in_range_with g versions d operations completed h = record {
+  count = h.count;
+  issued = h.issued;
+  keys = h.keys;
+  ports = h.ports;
+  levels = h.levels;
+  sense = h.sense;
+  writes = h.writes;
+}
+
+-- ---- a key
+
+pub board_received : (g : Guest) (versions : List ℕ) (p byte : ℕ) → slice_index g.keys p < GREATEST_NUMBER → IsBoard g versions
+    → IsBoard (after_rx g p byte) versions
+board_received g versions p byte room board = record {
+  awaited = awaited-port g.devices g.operations g.issued p (serial.after_receive (port_of g.devices p) byte) board.awaited refl;
+  in_range = record {
+    count = board.in_range.count;
+    issued = board.in_range.issued;
+    keys = in_range-set g.keys p (slice_index g.keys p + 1) board.in_range.keys (omega (arith, room));
+    ports = length-set g.keys p _ ∙ board.in_range.ports;
+    levels = board.in_range.levels;
+    sense = board.in_range.sense;
+    writes = board.in_range.writes;
+  };
+  completed = board.completed;
+}
+
+-- ---- a byte
+
+sent-less : (due : Bool) (p : serial.Port) → due ≡ true
+    → (cond due (record p { unaccepted = p.unaccepted - 1 }) p).unaccepted ≡ p.unaccepted - 1
+sent-less true p e = refl
+sent-less false p e = cc
+
+both_hold : (a b : Bool) → (a && b) ≡ true → (a ≡ true) × (b ≡ true)
+both_hold true b e = (refl, e)
+both_hold false b e = cc
+
+positive : (n : ℕ) → nat_lt 0 n ≡ true → 1 ≤ n
+positive n e = grind (arith, nat_tests)
+
+pub board_sent : (g : Guest) (versions : List ℕ) (p : ℕ) (d : Devices) (operations : Operations) → p < PORTS
+    → is_due g.devices (done.Sent p) ≡ true → d ≡ done_of g.devices (done.Sent p)
+    → operations ≡ without_operation g.operations (id.Byte p (oldest_byte g p)) → IsBoard g versions
+    → IsBoard (record g { devices = d; operations = operations }) versions
+board_sent g versions p d operations l due after gone board =
+    let x : serial.Port = port_of g.devices p in
+    let waits : serial.is_sent_due x ≡ true = (both_hold (nat_lt p PORTS) (serial.is_sent_due x) due).1 in
+    rw (after, gone) (record {
+      awaited = awaited-accepted g.devices g.operations g.issued p (serial.after_sent x) l board.awaited
+          (positive x.unaccepted waits) (sent-less (serial.is_sent_due x) x waits);
+      in_range = in_range_with g versions (done_of g.devices (done.Sent p)) (without_operation g.operations (id.Byte p (oldest_byte g p))) g.completed board.in_range;
+      completed = board.completed;
+    })
+
+-- the byte that is due is outstanding
+pub oldest_is_there : (g : Guest) (versions : List ℕ) (p : ℕ) → IsBoard g versions → is_due g.devices (done.Sent p) ≡ true
+    → is_some (operation_at g.operations (id.Byte p (oldest_byte g p))) ≡ true
+oldest_is_there g versions p board due =
+    let x : serial.Port = port_of g.devices p in
+    let both = both_hold (nat_lt p PORTS) (serial.is_sent_due x) due in
+    board.awaited.bytes p (oldest_byte g p)
+    ∙ ap (λ b. b && is_on_its_way (slice_index g.issued p) x.unaccepted (oldest_byte g p)) both.0
+    ∙ oldest (slice_index g.issued p) x.unaccepted (positive x.unaccepted both.1) (board.awaited.sent p)
+
+pub is_due_byte : (g : Guest) (p n : ℕ) → due_byte g p ≡ Some n → (is_due g.devices (done.Sent p) ≡ true) × (oldest_byte g p ≡ n)
+is_due_byte g p n =
+    elim (is_due g.devices (done.Sent p)) as (λ b. cond b (Some (oldest_byte g p)) None ≡ Some n → (b ≡ true) × (oldest_byte g p ≡ n)) [
+      | true ↦ λ e. (refl, (cc))
+      | false ↦ λ e. cc
+    ]
+
+-- what is outstanding after the byte that is due is completed
+pub completed_there : (g : Guest) (versions : List ℕ) (pending later : Outstanding) (p n : ℕ) → pending.operations ≡ g.operations
+    → IsBoard g versions → is_due g.devices (done.Sent p) ≡ true → oldest_byte g p ≡ n → later ≡ after_complete pending (id.Byte p n)
+    → later.operations ≡ without_operation g.operations (id.Byte p (oldest_byte g p))
+completed_there g versions pending later p n same board due e after =
+    let there : is_some (operation_at pending.operations (id.Byte p n)) ≡ true =
+    ap (λ m. is_some (operation_at m (id.Byte p n))) same
+    ∙ ap (λ k. is_some (operation_at g.operations (id.Byte p k))) (sym e) ∙ oldest_is_there g versions p board due in
+    ap (λ (o : Outstanding). o.operations) after
+    ∙ ap (λ b. (cond b (record { operations = without_operation pending.operations (id.Byte p n); spare = pending.spare + 1 }) pending).operations) there
+    ∙ ap (λ m. without_operation m (id.Byte p n)) same
+    ∙ ap (λ k. without_operation g.operations (id.Byte p k)) (sym e)
+
+-- ---- a sector
+
+pub board_sector : (g : Guest) (versions : List ℕ) (sector : ℕ) (bytes : List ℕ) (d : Devices)
+    → d ≡ done_of g.devices (done.Sector sector bytes) → IsBoard g versions → IsBoard (record g { devices = d }) versions
+board_sector g versions sector bytes d after board =
+    rw after (record {
+      awaited = awaited-disk g.devices g.operations g.issued (completion.after_sector g.devices.disk sector bytes) board.awaited
+          (record { outstanding = refl; issued = refl; attached = refl });
+      in_range = in_range_with g versions (done_of g.devices (done.Sector sector bytes)) g.operations g.completed board.in_range;
+      completed = board.completed;
+    })
+
+-- of the selected drive it is one question whether a write of a sector is outstanding
+pub selected_busy : (disk : drives.Drives) (drive sector : ℕ) → completion.is_selected disk drive ≡ true
+    → completion.is_sector_busy disk sector ≡ completion.is_busy_on disk sector drive
+selected_busy disk drive sector =
+    elim disk.selected as (λ o. option_map_or (λ selected. selected == drive) o false ≡ true
+    → option_map_or (completion.is_busy_on disk sector) o false ≡ completion.is_busy_on disk sector drive) [
+      | None ↦ λ e. cc
+      | Some selected ↦ λ e. ⊎_elim
+          (λ t. let same : selected ≡ drive = t.1 in ap (completion.is_busy_on disk sector) same)
+          (λ t. let differs : (selected == drive) ≡ false = t.0 in cc)
+          (eqb_tells selected drive)
+    ]
+
+-- ---- a write
+
+pub found_there : (operations : Operations) (n : ℕ) (op : Operation) → Ok op ≡ ok_or (operation_at operations (id.Write n)) NotDue
+    → operation_at operations (id.Write n) ≡ Some op
+found_there operations n op = found (operation_at operations (id.Write n))
+  where
+    found : (o : Option Operation) → Ok op ≡ ok_or o NotDue → o ≡ Some op
+    found None e = cc
+    found (Some x) e = cc
+
+pub gone_there : (pending later : Outstanding) (n : ℕ) (op : Operation) → operation_at pending.operations (id.Write n) ≡ Some op
+    → later ≡ after_complete pending (id.Write n) → later.operations ≡ without_operation pending.operations (id.Write n)
+gone_there pending later n op there after =
+    ap (λ (o : Outstanding). o.operations) after
+    ∙ ap (λ o. (cond (is_some o) (record { operations = without_operation pending.operations (id.Write n); spare = pending.spare + 1 }) pending).operations) there
+
+completed-low : (xs : List ℕ) (index n bound : ℕ) → ((k : ℕ) → slice_index xs k ≤ bound) → n ≤ bound
+    → (k : ℕ) → slice_index (slice_set xs index n) k ≤ bound
+completed-low [] index n bound all few k = all k
+completed-low (x ∷ xs) zero n bound all few zero = few
+completed-low (x ∷ xs) zero n bound all few (suc k) = all (suc k)
+completed-low (x ∷ xs) (suc index) n bound all few zero = all zero
+completed-low (x ∷ xs) (suc index) n bound all few (suc k) = completed-low xs index n bound (λ q. all (suc q)) few k
+
+completed-write : (completed : List ℕ) (attached issued : ℕ) (write : SectorWrite) → write.number ≤ issued
+    → AreCompleted completed attached issued → AreCompleted (with_completed completed (Some (operation.Write write))) attached issued
+completed-write completed attached issued write few h =
+    elim (index_of (address_of write)) as (λ o. AreCompleted (option_map_or (λ index. slice_set completed index write.number) o completed) attached issued) [
+      | None ↦ h
+      | Some index ↦ record {
+        sectors = length-set completed index write.number ∙ h.sectors;
+        last = completed-low completed index write.number issued h.last few;
+      }
+    ]
+
+completed-with : (completed : List ℕ) (attached issued number : ℕ) (op : Operation) → id_of op ≡ id.Write number → number ≤ issued
+    → AreCompleted completed attached issued → AreCompleted (with_completed completed (Some op)) attached issued
+completed-with completed attached issued number (operation.Byte port n byte) e few h = h
+completed-with completed attached issued number (operation.Write write) e few h =
+    let same : write.number ≡ number = cc in
+    completed-write completed attached issued write (omega (arith, same, few)) h
+
+outstanding_is_low : (d : Devices) (operations : Operations) (issued : List ℕ) (n : ℕ) → AreAwaited d operations issued
+    → completion.is_outstanding d.disk n ≡ true → n ≤ d.disk.issued
+outstanding_is_low d operations issued n h there =
+    elim (nat_lt d.disk.issued n) as (λ b. nat_lt d.disk.issued n ≡ b → n ≤ d.disk.issued) [
+      | true ↦ λ e. let none : completion.is_outstanding d.disk n ≡ false =
+          none_past d.disk.outstanding n d.disk.issued h.last (past e) in cc
+      | false ↦ λ e. few e
+    ] refl
+  where
+    past : nat_lt d.disk.issued n ≡ true → d.disk.issued < n
+    past e = grind (arith, nat_tests)
+
+    few : nat_lt d.disk.issued n ≡ false → n ≤ d.disk.issued
+    few e = grind (arith, nat_tests)
+
+pub write_is_due : (g : Guest) (versions : List ℕ) (n : ℕ) (op : Operation) → IsBoard g versions
+    → operation_at g.operations (id.Write n) ≡ Some op → is_due g.devices (done.Written n) ≡ true
+write_is_due g versions n op board there = sym (board.awaited.writes n) ∙ ap is_some there
+
+pub board_written : (g : Guest) (versions : List ℕ) (n : ℕ) (op : Operation) (d : Devices) (operations : Operations) (completed : List ℕ)
+    → operation_at g.operations (id.Write n) ≡ Some op → id_of op ≡ id.Write n
+    → d ≡ done_of g.devices (done.Written n) → operations ≡ without_operation g.operations (id.Write n)
+    → completed ≡ with_completed g.completed (Some op) → IsBoard g versions
+    → IsBoard (record g { devices = d; operations = operations; completed = completed }) versions
+board_written g versions n op d operations completed there named after gone last board =
+    rw (after, gone, last) (record {
+      awaited = awaited-written g.devices g.operations g.issued n board.awaited;
+      in_range = in_range_with g versions (done_of g.devices (done.Written n)) (without_operation g.operations (id.Write n)) (with_completed g.completed (Some op)) board.in_range;
+      completed = completed-with g.completed g.devices.disk.attached g.devices.disk.issued n op named
+          (outstanding_is_low g.devices g.operations g.issued n board.awaited (write_is_due g versions n op board there))
+          board.completed;
+    })

@@ -1,0 +1,9 @@
+pub mod OnTheirWay
+pub mod Names
+pub mod Awaited
+pub mod Boot
+pub mod Commands
+pub mod Accesses
+pub mod Steps
+pub mod Inputs
+pub mod InLockstep

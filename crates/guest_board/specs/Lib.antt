@@ -1,0 +1,9 @@
+pub mod Machine
+pub mod Ports
+pub mod Guest
+pub mod Lockstep
+pub mod Wiring
+pub mod Board
+pub mod Stepping
+pub mod Inputs
+pub mod Fields

@@ -1,0 +1,55 @@
+-- What a call does to a machine that is run in lockstep.
+use Rattle.std.specs.Prelude.{◌≡◌, ◌<◌, Option, Some, None, Result, Ok, Err, is_none, if◌then◌else◌}
+use Rattle.i8080_words.specs.declared.refusal.Fault.{Fault}
+use Rattle.i8080_words.specs.declared.refusal.Fault.TheVariants.{OutOfMemory, Spent, Idle}
+use Rattle.disk_dcdd.specs.declared.controller.TheConstants.{DRIVES, GREATEST_NUMBER}
+use Rattle.disk_dcdd.specs.declared.sector.TheConstants.{SECTORS}
+use Rattle.event_callbacks.specs.declared.devices.TheConstants.{PORTS}
+use Rattle.event_callbacks.specs.declared.operations.Operation.{Operation}
+use Rattle.guest_board.specs.Machine.{Machine, refusal_of}
+use Rattle.guest_board.specs.declared.executed.Executed.{Executed}
+use Rattle.guest_board.specs.declared.executed.Executed.TheVariants.{Ran, Accepted}
+use Rattle.guest_board.specs.declared.input.Input.{Input}
+use Rattle.guest_board.specs.declared.input.Input.TheVariants.{Rx, Sent, Sector, Written}
+
+-- the operation that a step gave
+abbrev pub given_by : Executed → Option Operation
+given_by (Ran given) = given
+given_by Accepted = None
+
+-- why no step is made, want of memory apart
+abbrev pub step_refusal : {S : Type 0} → Machine S → S → Option Fault
+step_refusal M s = if M.is_spent s then Some Spent else if is_none (M.step s) then Some Idle else None
+
+-- a step that nothing refuses is made, or wants memory
+abbrev pub Steps : {S : Type 0} → Machine S → S → Result Executed Fault → S → Type 0
+Steps M old (Ok executed) new = M.step old ≡ Some (new, given_by executed)
+Steps M old (Err fault) new = (fault ≡ OutOfMemory) × (new ≡ old)
+
+-- a step that something refuses leaves the machine as it was
+abbrev pub StepsUnless : {S : Type 0} → Machine S → S → Option Fault → Result Executed Fault → S → Type 0
+StepsUnless M old (Some fault) answer new = (answer ≡ Err fault) × (new ≡ old)
+StepsUnless M old None answer new = Steps M old answer new
+
+-- what a step answers and leaves
+abbrev pub Executes : {S : Type 0} → Machine S → S → Result Executed Fault → S → Type 0
+Executes M old answer new = StepsUnless M old (step_refusal M old) answer new
+
+-- an input of a port and of a sector that are there
+abbrev pub IsInput : Input → Type 0
+IsInput (Rx port byte) = port < PORTS
+IsInput (Sent port) = port < PORTS
+IsInput (Sector drive sector number bytes) = (drive < DRIVES) × (sector < SECTORS)
+IsInput (Written number) = Unit {0}
+
+-- the number of keys has room for one more
+abbrev pub HasRoom : {S : Type 0} → Machine S → S → Input → Type 0
+HasRoom M s (Rx port byte) = M.keys s port < GREATEST_NUMBER
+HasRoom M s (Sent port) = Unit {0}
+HasRoom M s (Sector drive sector number bytes) = Unit {0}
+HasRoom M s (Written number) = Unit {0}
+
+-- what an input is answered, and what it leaves: the open move, or nothing
+abbrev pub Takes : {S : Type 0} → Machine S → S → Input → Result (Unit {0}) Fault → S → Type 0
+Takes M old input (Ok done) new = (refusal_of M old input ≡ None) × (M.take old input ≡ Some new)
+Takes M old input (Err fault) new = (refusal_of M old input ≡ Some fault) × (new ≡ old)

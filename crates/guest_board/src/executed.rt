@@ -1,0 +1,26 @@
+//! What a step of the guest was.
+ghost use Rattle.std.specs.Prelude.{◌≡◌};
+ghost use Rattle.guest_board.specs.Lockstep.{given_by};
+
+use event_callbacks::Operation;
+
+/// What a step was.
+#[derive(Clone, Copy, Debug, PartialEq, Eq)]
+pub enum Executed {
+    /// One instruction, with the operation that it gave.
+    Ran(Option<Operation>),
+    /// An accepted interrupt.
+    Accepted,
+}
+
+impl Executed {
+    /// The operation that the step gave.
+    pub fn given(self) -> Option<Operation>
+        ensures { result ≡ given_by self }
+    {
+        match self {
+            Executed::Ran(operation) => operation,
+            Executed::Accepted => None,
+        }
+    }
+}

@@ -1,0 +1,20 @@
+//! The guest: a processor, memory, two serial ports, one to four drives and the operations that wait, on one board.
+#![tactic(auto)]
+
+mod board;
+mod executed;
+mod input;
+mod laws;
+mod lockstep;
+mod ports;
+mod setup;
+#[cfg(test)]
+mod tests;
+mod wiring;
+
+pub use board::Board;
+pub use executed::Executed;
+pub use input::Input;
+pub use laws::the_machine_refuses_alike;
+pub use lockstep::Lockstep;
+pub use setup::Setup;

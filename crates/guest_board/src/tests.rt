@@ -1,0 +1,269 @@
+//! Guests that run: an interrupt that a key brings, a byte on its way and a copy of its board, writes and late reads.
+ghost use Rattle.std.specs.Prelude.{◌≡◌, ◌<◌, ◌≤◌, IsTrue};
+ghost use Rattle.disk_dcdd.specs.declared.controller.TheConstants.{DRIVES};
+ghost use Rattle.event_callbacks.specs.declared.devices.TheConstants.{SENT, SECTOR, WRITTEN};
+ghost use Rattle.event_callbacks.specs.Completions.{is_due, done_of};
+ghost use Rattle.event_callbacks.specs.Keeping.{Keeps, kind_of};
+
+use crate::{Board, Executed, Input, Setup};
+use disk_dcdd::{SECTOR_BYTES, SectorAddress};
+use event_callbacks::{
+    Callbacks, Completes, Devices, Done, Kept, OpId, Operation, SECTOR, SENT, WRITTEN,
+    plain_completions,
+};
+use guest_memory::BYTES;
+use i8080_words::{Fault, R};
+use std::alloc::Global;
+use std::process::Abort;
+
+// A guest with one drive, this program at address 0, and level 7 for each device.
+fn setup(alloc: Global, program: &[u8]) -> R<Setup> {
+    let mut memory = Vec::from_slice(alloc, program)?;
+    memory.resize(BYTES, 0x00)?;
+    if memory.len() != BYTES {
+        return Err(Fault::Malformed);
+    }
+    Ok(Setup {
+        memory,
+        drives: 1,
+        levels: [7; 3],
+        sense: 0xff,
+    })
+}
+
+// Stores the three closures of a holder.
+fn store<T: Completes, S: Completes, W: Completes>(
+    sent: T,
+    sector: S,
+    written: W,
+) -> Callbacks<T, S, W>
+    requires sent { Keeps (T.may sent) (T.gives sent) SENT }
+    requires sector { Keeps (S.may sector) (S.gives sector) SECTOR }
+    requires written { Keeps (W.may written) (W.gives written) WRITTEN }
+{
+    let sent = Kept::<T, SENT>::new(sent);
+    let sector = Kept::<S, SECTOR>::new(sector);
+    let written = Kept::<W, WRITTEN>::new(written);
+    Callbacks::new(sent, sector, written)
+}
+
+// Makes this many steps, none of which gives an operation.
+fn step<T: Completes, S: Completes, W: Completes>(
+    rt: &impl Abort,
+    board: &mut Board<T, S, W>,
+    steps: u64,
+) {
+    for _ in 0..steps {
+        assert_eq!(rt; board.exec(), Ok(Executed::Ran(None)));
+    }
+}
+
+// LXI SP,0100; control 95 of port 0 enables its receive interrupt; EI; HLT.
+const WAITS_FOR_A_KEY: [u8; 9] = [0x31, 0x00, 0x01, 0x3e, 0x95, 0xd3, 0x10, 0xfb, 0x76];
+
+fn wake<T: Completes + Drop, S: Completes + Drop, W: Completes + Drop>(
+    rt: &(impl Abort + AllocGlobal),
+    sent: T,
+    sector: S,
+    written: W,
+) -> R<()>
+    requires sent { Keeps (T.may sent) (T.gives sent) SENT }
+    requires sector { Keeps (S.may sector) (S.gives sector) SECTOR }
+    requires written { Keeps (W.may written) (W.gives written) WRITTEN }
+{
+    let setup = setup(rt.alloc(), &WAITS_FOR_A_KEY)?;
+    let mut board = match Board::boot(rt.alloc(), &setup, store(sent, sector, written)) {
+        Ok(board) => board,
+        Err((_, fault)) => return Err(fault),
+    };
+    step(rt, &mut board, 5);
+    for _ in 0..2 {
+        assert!(rt; board.idle());
+        assert_eq!(rt; board.exec(), Err(Fault::Idle));
+        assert_eq!(rt; board.count(), 5);
+    }
+    assert_eq!(rt; board.keys(0), 0);
+    assert_eq!(rt; board.check(&Input::Rx(0, 0x41)), Ok(()));
+    if board.keys(0) < 1 {
+        assert_eq!(rt; board.take(Input::Rx(0, 0x41)), Ok(()));
+    }
+    assert_eq!(rt; board.keys(0), 1);
+    assert_eq!(rt; board.exec(), Ok(Executed::Accepted));
+    assert_eq!(rt; board.count(), 6);
+    assert_eq!(rt; board.byte(0x00fe), 0x09);
+    assert_eq!(rt; board.byte(0x00ff), 0x00);
+    assert_eq!(rt; board.version(0x00), 2);
+    assert_eq!(rt; board.page(0x00).get(0xfe).copied(), Some(0x09));
+    Ok(())
+}
+
+#[test]
+fn a_key_wakes_a_halted_guest(rt: HostRuntime) -> R<()> {
+    wake(
+        &rt,
+        plain_completions::sent,
+        plain_completions::sector,
+        plain_completions::written,
+    )
+}
+
+// Master reset and format 8N1 of port 0; byte 48; HLT.
+const SENDS_A_BYTE: [u8; 13] = [
+    0x3e, 0x03, 0xd3, 0x10, 0x3e, 0x15, 0xd3, 0x10, 0x3e, 0x48, 0xd3, 0x11, 0x76,
+];
+
+const FIRST: Operation = Operation::Byte {
+    port: 0,
+    number: 1,
+    byte: 0x48,
+};
+
+fn copy<T: Completes + Drop, S: Completes + Drop, W: Completes + Drop, T2: Completes + Drop>(
+    rt: &(impl Abort + AllocGlobal),
+    first: Callbacks<T, S, W>,
+    second: Callbacks<T2, S, W>,
+) -> R<()> {
+    let setup = setup(rt.alloc(), &SENDS_A_BYTE)?;
+    let mut board = match Board::boot(rt.alloc(), &setup, first) {
+        Ok(board) => board,
+        Err((_, fault)) => return Err(fault),
+    };
+    step(rt, &mut board, 5);
+    match board.exec() {
+        Err(fault) => return Err(fault),
+        Ok(executed) => assert_eq!(rt; executed.given(), Some(FIRST)),
+    }
+    let mut copied = match board.copy(rt.alloc(), second) {
+        Ok(copied) => copied,
+        Err((_, fault)) => return Err(fault),
+    };
+    assert_eq!(rt; copied.count(), 6);
+    assert_eq!(rt; copied.due_byte(0), Some(1));
+    assert_eq!(rt; copied.outstanding(OpId::Byte(0, 1)).copied(), Some(FIRST));
+    assert_eq!(rt; copied.take(Input::Sent(0)), Ok(()));
+    assert_eq!(rt; copied.take(Input::Sent(0)), Err(Fault::NotDue));
+    assert_eq!(rt; copied.outstanding(OpId::Byte(0, 1)).copied(), None);
+    assert_eq!(rt; board.outstanding(OpId::Byte(0, 1)).copied(), Some(FIRST));
+    Ok(())
+}
+
+fn copy_with<
+    T: Completes + Drop,
+    S: Completes + Drop + Copy,
+    W: Completes + Drop + Copy,
+    T2: Completes + Drop,
+>(rt: &(impl Abort + AllocGlobal), sent: T, other_sent: T2, sector: S, written: W) -> R<()>
+    requires sent { Keeps (T.may sent) (T.gives sent) SENT }
+    requires other_sent { Keeps (T2.may other_sent) (T2.gives other_sent) SENT }
+    requires sector { Keeps (S.may sector) (S.gives sector) SECTOR }
+    requires written { Keeps (W.may written) (W.gives written) WRITTEN }
+{
+    let first = store(sent, sector, written);
+    let second = store(other_sent, sector, written);
+    copy(rt, first, second)
+}
+
+#[test]
+fn a_copy_keeps_a_byte_on_its_way(rt: HostRuntime) -> R<()> {
+    let holder = 3u8;
+    copy_with(
+        &rt,
+        plain_completions::sent,
+        move |devices: Devices, done: Done| -> Devices
+            requires kind { kind_of done ≡ SENT }
+            requires due { IsTrue (is_due devices done) }
+            ensures { result ≡ done_of devices done }
+        {
+            let _name = holder;
+            plain_completions::sent(devices, done)
+        },
+        plain_completions::sector,
+        plain_completions::written,
+    )
+}
+
+// Selects drive 0 and loads its head; waits for a sector; writes it whole; waits for the next.
+const WRITES_EACH_SECTOR: [u8; 30] = [
+    0x3e, 0x00, 0xd3, 0x08, 0x3e, 0x04, 0xd3, 0x09, 0xdb, 0x08, 0xe6, 0x80, 0xc2, 0x08, 0x00, 0x3e,
+    0x80, 0xd3, 0x09, 0x06, 0x89, 0xd3, 0x0a, 0x05, 0xc2, 0x15, 0x00, 0xc3, 0x08, 0x00,
+];
+
+// Offers sector 5 of a drive, as it comes from the disk with the write of this number.
+fn offer<T: Completes, S: Completes, W: Completes>(
+    board: &mut Board<T, S, W>,
+    drive: u8,
+    number: u64,
+) -> R<()>
+    requires { drive < DRIVES }
+{
+    board.take(Input::Sector {
+        drive,
+        sector: 5,
+        number,
+        bytes: [0xe5; SECTOR_BYTES],
+    })
+}
+
+// Takes sector 5 with this number, and makes steps until its write is issued.
+fn rewrite<T: Completes, S: Completes, W: Completes>(
+    rt: &impl Abort,
+    board: &mut Board<T, S, W>,
+    number: u64,
+) -> R<()>
+    requires { number ≤ 2 }
+{
+    assert_eq!(rt; offer(board, 0, number), Ok(()));
+    for _ in 0..600 {
+        if let Some(Operation::Write(write)) = board.exec()?.given() {
+            assert_eq!(rt; write.number, number + 1);
+            return Ok(());
+        }
+    }
+    Err(Fault::Stalled)
+}
+
+fn read_late<T: Completes + Drop, S: Completes + Drop, W: Completes + Drop>(
+    rt: &(impl Abort + AllocGlobal),
+    sent: T,
+    sector: S,
+    written: W,
+) -> R<()>
+    requires sent { Keeps (T.may sent) (T.gives sent) SENT }
+    requires sector { Keeps (S.may sector) (S.gives sector) SECTOR }
+    requires written { Keeps (W.may written) (W.gives written) WRITTEN }
+{
+    let setup = setup(rt.alloc(), &WRITES_EACH_SECTOR)?;
+    let mut board = match Board::boot(rt.alloc(), &setup, store(sent, sector, written)) {
+        Ok(board) => board,
+        Err((_, fault)) => return Err(fault),
+    };
+    step(rt, &mut board, 4);
+    assert_eq!(rt; board.place(), Some((0, 0)));
+    assert_eq!(rt; offer(&mut board, 1, 0), Err(Fault::NotDue));
+    for number in 0..2 {
+        rewrite(rt, &mut board, number)?;
+        assert_eq!(rt; board.take(Input::Written(number + 1)), Ok(()));
+        assert_eq!(rt; board.take(Input::Written(number + 1)), Err(Fault::NotDue));
+        assert_eq!(rt; offer(&mut board, 0, number), Err(Fault::StaleRead));
+    }
+    let five = SectorAddress {
+        drive: 0,
+        track: 0,
+        sector: 5,
+    };
+    assert_eq!(rt; board.done(five), 2);
+    rewrite(rt, &mut board, 2)?;
+    assert_eq!(rt; offer(&mut board, 0, 1), Err(Fault::SectorBusy));
+    assert_eq!(rt; offer(&mut board, 0, 2), Err(Fault::SectorBusy));
+    Ok(())
+}
+
+#[test]
+fn a_read_before_the_last_write_is_stale(rt: HostRuntime) -> R<()> {
+    read_late(
+        &rt,
+        plain_completions::sent,
+        plain_completions::sector,
+        plain_completions::written,
+    )
+}

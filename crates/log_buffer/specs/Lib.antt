@@ -1,0 +1,3 @@
+pub mod Log
+pub mod Buffer
+pub mod Laws

@@ -1,0 +1,10 @@
+//! The log of a generation: the entries that are not acknowledged yet, by index.
+#![tactic(auto)]
+
+mod buffer;
+mod laws;
+#[cfg(test)]
+mod tests;
+
+pub use buffer::{CAPACITY, GREATEST_NEXT, LogBuffer};
+pub use laws::entries_keep_their_indexes;

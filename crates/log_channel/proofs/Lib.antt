@@ -1,0 +1,4 @@
+pub mod PacketLaws
+pub mod BlockEntries
+pub mod HeldEntries
+pub mod SentEntries

@@ -1,0 +1,14 @@
+use Rattle.std.proofs.Common.{rules, arith, refl}
+use Rattle.log_channel.proofs.HeldEntries.{holds_nothing}
+use Rattle.log_channel.proofs.receiver.Receiver.new.Goals as goal
+
+pub invariant_of-result : goal.invariant_of-result
+invariant_of-result c = record {
+  first_generation = search rules;
+  generation = omega arith;
+  held = omega arith;
+  block = (holds_nothing c.new.result.items c.new.ensures.items).0;
+}
+
+pub returns : goal.returns
+returns c = let none = (holds_nothing c.new.result.items c.new.ensures.items).1 in rw none refl

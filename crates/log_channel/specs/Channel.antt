@@ -1,0 +1,82 @@
+-- The two ends of a log's channel: what each knows, and what it answers.
+use Rattle.std.specs.Prelude.{◌≡◌, ◌≢◌, ℕ, ◌+◌, List, [], ◌∷◌, ◌++◌, max, Bool, true, false, not, Option, Some, None, Result, Ok, Err, MatchResult, nat_lt, ◌==◌, if◌then◌else◌}
+use Rattle.std.specs.Global.{Vec}
+use Rattle.i8080_words.specs.declared.refusal.Fault.{Fault}
+use Rattle.i8080_words.specs.declared.refusal.Fault.TheVariants.{OutOfMemory, WrongGeneration, Malformed, Unknown, BadAck}
+use Rattle.log_entry.specs.declared.entry.Entry.{Entry}
+use Rattle.log_channel.specs.declared.packet.Packet.{Packet}
+use Rattle.log_channel.specs.declared.packet.Packet.TheVariants.{Log, Ack}
+use Rattle.log_channel.specs.Packet.{packet_bytes}
+
+-- the primary's end: its generation, and how many entries the backup has said at most that it holds
+pub record Sending : Type 0 where
+  pub generation : ℕ
+  pub held : ℕ
+
+-- the backup's end: how many entries it has ever held, and those of them that were not popped yet
+pub record Receiving : Type 0 where
+  pub generation : ℕ
+  pub held : ℕ
+  pub entries : List Entry
+
+-- ---- packets that are made
+
+-- the bytes of the packet, where there is one
+abbrev pub Spells : Option Packet → Result (Vec ℕ) Fault → Type 0
+Spells None result = result ≡ Err Unknown
+Spells (Some packet) result =
+    MatchResult result (λ bytes. bytes.items ≡ packet_bytes packet) (λ fault. fault ≡ OutOfMemory)
+
+-- the packet of an entry that is kept
+abbrev pub packet_of : ℕ → ℕ → Option Entry → Option Packet
+packet_of generation index None = None
+packet_of generation index (Some entry) = Some (Log generation index entry)
+
+-- the packet that acknowledges what is held
+abbrev pub ack_of : Receiving → Packet
+ack_of r = Ack r.generation r.held
+
+-- ---- packets that come to the primary
+
+-- an acknowledgement of at most so many entries as the log has is answered by the greatest number so far
+abbrev pub ack_answer : Sending → ℕ → Option Packet → Result ℕ Fault
+ack_answer s next None = Err Malformed
+ack_answer s next (Some (Log generation index entry)) = Err Malformed
+ack_answer s next (Some (Ack generation held)) =
+    if not (generation == s.generation) then Err WrongGeneration
+    else if nat_lt next held then Err BadAck
+    else Ok (max s.held held)
+
+-- what is known then; a refusal changes nothing
+abbrev pub acknowledged : Sending → Result ℕ Fault → Sending
+acknowledged s (Ok held) = record s { held = held }
+acknowledged s (Err fault) = s
+
+-- ---- packets that come to the backup
+
+-- what a packet is to the backup: refused, a repeat or one past a gap, or the entry that comes next
+pub data Heard : Type 0 where
+  Refused : (fault : Fault) → Heard
+  OutOfTurn : Heard
+  Next : (entry : Entry) → Heard
+
+abbrev pub heard : Receiving → Option Packet → Heard
+heard r None = Refused Malformed
+heard r (Some (Ack generation held)) = Refused Malformed
+heard r (Some (Log generation index entry)) =
+    if not (generation == r.generation) then Refused WrongGeneration
+    else if not (index == r.held) then OutOfTurn
+    else Next entry
+
+-- one more entry is held, behind the others
+abbrev pub holding : Receiving → Entry → Receiving
+holding r entry = record r { held = r.held + 1; entries = r.entries ++ entry ∷ [] }
+
+-- only the entry that comes next changes anything; it may want memory where others are held before it
+abbrev pub Answers : Heard → Receiving → Result Bool Fault → Receiving → Type 0
+Answers (Refused fault) old result new = (result ≡ Err fault) × (new ≡ old)
+Answers OutOfTurn old result new = (result ≡ Ok false) × (new ≡ old)
+Answers (Next entry) old result new =
+    MatchResult result
+    (λ answer. (answer ≡ true) × (new ≡ holding old entry))
+    (λ fault. (fault ≡ OutOfMemory) × (new ≡ old) × (old.entries ≢ []))

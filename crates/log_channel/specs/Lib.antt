@@ -1,0 +1,5 @@
+pub mod Packet
+pub mod Block
+pub mod Channel
+pub mod Receiver
+pub mod Laws

@@ -1,0 +1,47 @@
+-- A packet of the log or of its acknowledgement: its one spelling, the values that it may have, and what bytes are read
+-- as.
+use Rattle.std.specs.Prelude.{ℕ, ◌-◌, ◌^◌, ◌<◌, List, [], ◌∷◌, ◌++◌, length, take, drop, Option, Some, None, nat_lt, ◌==◌, if◌then◌else◌}
+use Rattle.std.specs.Int.{w32, from_be_bytes}
+use Rattle.byteorder.specs.Endian.{big_bytes}
+use Rattle.log_entry.specs.Numbers.{◌>>=◌, number_from}
+use Rattle.log_entry.specs.Spelling.{spelling, IsEntry, entry_at}
+use Rattle.log_channel.specs.declared.packet.Packet.{Packet}
+use Rattle.log_channel.specs.declared.packet.Packet.TheVariants.{Log, Ack}
+
+-- tag, generation in four bytes, and an index with its entry or how many entries are held
+abbrev pub packet_bytes : Packet → List ℕ
+packet_bytes (Log generation index entry) = 0x4C ∷ big_bytes 4 generation ++ (big_bytes 8 index ++ spelling entry)
+packet_bytes (Ack generation held) = 0x41 ∷ big_bytes 4 generation ++ big_bytes 8 held
+
+-- the values that a packet may have
+abbrev pub IsPacket : Packet → Type 0
+IsPacket (Log generation index entry) =
+    (0 < generation) × (generation < 2 ^ 32) × (index < 2 ^ 62 - 1) × IsEntry entry
+IsPacket (Ack generation held) = (0 < generation) × (generation < 2 ^ 32) × (held < 2 ^ 62)
+
+-- ---- reading, from left to right
+
+-- a generation and the bytes behind it; none is 0
+abbrev pub nonzero : ℕ → List ℕ → Option (ℕ × List ℕ)
+nonzero generation rest = if generation == 0 then None else Some (generation, rest)
+
+unfoldable pub generation_from : List ℕ → Option (ℕ × List ℕ)
+generation_from bytes =
+    if nat_lt (length bytes) 4 then None else nonzero (from_be_bytes w32 (take 4 bytes)) (drop 4 bytes)
+
+-- each kind by what stands behind its tag and its generation; the greatest number is no index
+unfoldable pub log_at : ℕ → List ℕ → Option Packet
+log_at generation bytes = number_from bytes >>= λ index.
+    if index.0 == 2 ^ 62 - 1 then None else entry_at index.1 >>= λ entry. Some (Log generation index.0 entry)
+
+unfoldable pub ack_at : ℕ → List ℕ → Option Packet
+ack_at generation bytes = number_from bytes >>= λ held.
+    if length held.1 == 0 then Some (Ack generation held.0) else None
+
+-- the packet that bytes spell, all of the bytes
+unfoldable pub packet_at : List ℕ → Option Packet
+packet_at [] = None
+packet_at (tag ∷ bytes) = generation_from bytes >>= λ generation.
+    if tag == 0x4C then log_at generation.0 generation.1
+    else if tag == 0x41 then ack_at generation.0 generation.1
+    else None

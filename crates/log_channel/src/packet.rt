@@ -1,0 +1,139 @@
+//! A packet and its bytes.
+
+ghost use Rattle.std.specs.Prelude.{◌≡◌, ◌+◌, ◌<◌, ◌∷◌, ◌++◌, length, vec_len, vec_capacity, OnOk, OnErr, IfOk, IfErr, Ok, ok_or, option_map};
+ghost use Rattle.byteorder.specs.Endian.{big_bytes};
+ghost use Rattle.i8080_words.specs.declared.refusal.Fault.TheVariants.{Malformed, OutOfMemory};
+
+use byteorder::{BigEndian, ByteOrder};
+use i8080_words::{Fault, R};
+use log_entry::{Entry, NUMBER_LIMIT, number_at, spelled_number};
+
+/// The byte that a packet of the log begins with, the letter `L`.
+const LOG_TAG: u8 = 0x4c;
+
+/// The byte that an acknowledgement begins with, the letter `A`.
+const ACK_TAG: u8 = 0x41;
+
+/// What travels between the two ends of a log's channel. Generations count from 1.
+#[derive(Clone, Copy, Debug, PartialEq, Eq)]
+pub enum Packet {
+    /// An entry of the log with its index, from the primary.
+    Log {
+        generation: u32,
+        index: u64,
+        entry: Entry,
+    },
+    /// How many entries the backup has held, from the first one on.
+    Ack {
+        generation: u32,
+        held: u64,
+    },
+}
+
+impl Packet {
+    ghost use Rattle.log_channel.specs.Packet.{IsPacket, packet_at, packet_bytes};
+
+    /// Appends the packet's spelling. Where the bytes fit, no memory is taken, and otherwise it is taken once.
+    pub fn write(&self, out: &mut Vec<u8>) -> R<()>
+        ensures ok { OnOk result (out.new.items ≡ out.old.items ++ packet_bytes self.now) }
+        ensures err { OnErr result (out.new.items ≡ out.old.items) }
+        ensures only_memory { IfErr result (λ fault. fault ≡ OutOfMemory) }
+        ensures full { OnErr result (vec_capacity out.old < vec_len out.old + length (packet_bytes self.now)) }
+    {
+        match self {
+            Packet::Log {
+                generation,
+                index,
+                entry,
+            } => {
+                out.try_reserve(13 + entry.spelled_length())?;
+                let front = head(LOG_TAG, *generation, *index);
+                out.extend_from_slice(&front)?;
+                entry.write(out)
+            }
+            Packet::Ack { generation, held } => {
+                let front = head(ACK_TAG, *generation, *held);
+                out.extend_from_slice(&front)?;
+                Ok(())
+            }
+        }
+    }
+
+    /// The packet that the bytes spell. They are malformed where they spell none, and where bytes stand behind one.
+    pub fn read(bytes: &[u8]) -> R<Packet>
+        ensures found { IfOk result (λ p. IsPacket p × (bytes.now ≡ packet_bytes p)) }
+        ensures only { (p : Packet) → IsPacket p → bytes.now ≡ packet_bytes p → result ≡ Ok p }
+        ensures malformed { IfErr result (λ fault. fault ≡ Malformed) }
+        ensures exact { result ≡ ok_or (packet_at bytes.now) Malformed }
+    {
+        packet_of(bytes).ok_or(Fault::Malformed)
+    }
+}
+
+ghost use Rattle.log_channel.specs.Packet.{ack_at, generation_from, log_at, packet_at};
+
+// A tag, a generation and a number.
+fn head(tag: u8, generation: u32, number: u64) -> [u8; 13]
+    ensures { result ≡ tag ∷ big_bytes 4 generation ++ big_bytes 8 number }
+{
+    let mut bytes = [0; 13];
+    bytes[0] = tag;
+    BigEndian::write_u32(&mut bytes[1..5], generation);
+    bytes[5..].copy_from_slice(&spelled_number(number));
+    bytes
+}
+
+// The packet that bytes spell, all of the bytes.
+#[tactic(auto, unfolding(crate::specs::Packet::packet_at))]
+fn packet_of(bytes: &[u8]) -> Option<Packet>
+    ensures { result ≡ packet_at bytes.now }
+{
+    let [tag, rest @ ..] = bytes else {
+        return None;
+    };
+    let (generation, rest) = generation_of(rest)?;
+    match *tag {
+        LOG_TAG => log_of(generation, rest),
+        ACK_TAG => ack_of(generation, rest),
+        _ => None,
+    }
+}
+
+#[tactic(auto, unfolding(crate::specs::Packet::generation_from))]
+fn generation_of(bytes: &[u8]) -> Option<(u32, &[u8])>
+    ensures { option_map (λ found. (found.0, found.1.now)) result ≡ generation_from bytes.now }
+{
+    let (word, rest) = bytes.split_first_chunk::<4>()?;
+    let generation = u32::from_be_bytes(*word);
+    if generation == 0 {
+        return None;
+    }
+    Some((generation, rest))
+}
+
+#[tactic(auto, unfolding(crate::specs::Packet::log_at))]
+fn log_of(generation: u32, bytes: &[u8]) -> Option<Packet>
+    ensures { result ≡ log_at generation bytes.now }
+{
+    let (index, rest) = number_at(bytes)?;
+    if index == NUMBER_LIMIT - 1 {
+        return None;
+    }
+    let entry = Entry::read(rest).ok()?;
+    Some(Packet::Log {
+        generation,
+        index,
+        entry,
+    })
+}
+
+#[tactic(auto, unfolding(crate::specs::Packet::ack_at))]
+fn ack_of(generation: u32, bytes: &[u8]) -> Option<Packet>
+    ensures { result ≡ ack_at generation bytes.now }
+{
+    let (held, rest) = number_at(bytes)?;
+    if !rest.is_empty() {
+        return None;
+    }
+    Some(Packet::Ack { generation, held })
+}

@@ -1,0 +1,121 @@
+//! The backup's end.
+
+ghost use Rattle.std.specs.Prelude.{◌≡◌, ◌<◌, ◌^◌, [], drop, slice_get, option_copied, IfSome, Some};
+
+use crate::block::{hold, unhold};
+use crate::packet::Packet;
+use i8080_words::{Fault, R};
+use log_entry::Entry;
+use std::alloc::Global;
+use std::marker::Model;
+
+/// Holds the entries that came in the order of their indexes, without gaps, until they are popped: the first of them,
+/// and the spellings of those behind it.
+#[derive(Drop)]
+pub struct Receiver {
+    generation: u32,
+    held: u64,
+    front: Option<Entry>,
+    block: Vec<u8>,
+}
+
+impl Model for Receiver {
+    ghost use Rattle.log_channel.specs.Channel.{Receiving};
+    ghost use Rattle.log_channel.specs.Receiver.{IsReceiver, receiving_of};
+
+    ghost Value = { Receiving };
+
+    ghost view = { receiving_of };
+
+    ghost invariant = { IsReceiver };
+}
+
+impl Receiver {
+    ghost use Rattle.std.specs.List.{flat_map};
+    ghost use Rattle.log_entry.specs.Spelling.{IsEntry, spelling};
+    ghost use Rattle.log_channel.specs.Packet.{packet_at};
+    ghost use Rattle.log_channel.specs.Channel.{Answers, Receiving, Spells, ack_of, heard};
+
+    /// The end of this generation, which holds nothing yet.
+    pub fn new(alloc: Global, generation: u32) -> Receiver
+        requires { 0 < generation }
+        ensures { result ≡ record { generation = generation; held = 0; entries = [] } }
+    {
+        Receiver {
+            generation,
+            held: 0,
+            front: None,
+            block: Vec::new(alloc),
+        }
+    }
+
+    /// Takes a packet of the log. Where its index is the number held, its entry is held and the answer is true; a
+    /// repeat and a packet past a gap are answered false and change nothing. Where nothing is held, no memory is taken.
+    /// Bytes that are no packet of the log are `Malformed`, and a packet of another generation is `WrongGeneration`.
+    pub fn on_log(&mut self, bytes: &[u8]) -> R<bool>
+        ensures { Answers (heard self.old (packet_at bytes.now)) self.old result self.new }
+    {
+        let Packet::Log {
+            generation,
+            index,
+            entry,
+        } = Packet::read(bytes)?
+        else {
+            return Err(Fault::Malformed);
+        };
+        if generation != self.generation {
+            return Err(Fault::WrongGeneration);
+        }
+        if index != self.held {
+            return Ok(false);
+        }
+        hold(&mut self.front, &mut self.block, entry)?;
+        self.held += 1;
+        Ok(true)
+    }
+
+    /// The packet that acknowledges all that was held.
+    pub fn ack(&self, alloc: Global) -> R<Vec<u8>>
+        ensures { Spells (Some (ack_of self.now)) result }
+    {
+        let packet = Packet::Ack {
+            generation: self.generation,
+            held: self.held,
+        };
+        let mut out = Vec::new(alloc);
+        packet.write(&mut out)?;
+        Ok(out)
+    }
+
+    /// How many entries were ever held, popped ones included.
+    pub fn held(&self) -> u64
+        ensures held { result ≡ self.now.held }
+        ensures within { result < 2 ^ 62 }
+    {
+        self.held
+    }
+
+    /// The first entry that is held.
+    pub fn front(&self) -> Option<&Entry>
+        ensures entry { option_copied result ≡ slice_get self.now.entries 0 }
+        ensures valid { IfSome (slice_get self.now.entries 0) IsEntry }
+    {
+        self.front.as_ref()
+    }
+
+    /// The spellings of the entries behind the first, one after another.
+    pub fn block(&self) -> &[u8]
+        ensures { result.now ≡ flat_map spelling (drop 1 self.now.entries) }
+    {
+        &self.block
+    }
+
+    /// Takes the first entry that is held. It takes no memory.
+    pub fn pop(&mut self) -> Option<Entry>
+        ensures entry { result ≡ slice_get self.old.entries 0 }
+        ensures valid { IfSome result IsEntry }
+        ensures after { self.new ≡ record self.old { entries = drop 1 self.old.entries } }
+    {
+        unhold(&mut self.front, &mut self.block)
+    }
+}

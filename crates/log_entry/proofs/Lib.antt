@@ -1,0 +1,4 @@
+pub mod ReadingLaws
+pub mod NumberLaws
+pub mod EntryLaws
+pub mod TraceEntries

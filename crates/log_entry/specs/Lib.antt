@@ -1,0 +1,4 @@
+pub mod Entries
+pub mod Numbers
+pub mod Spelling
+pub mod Laws

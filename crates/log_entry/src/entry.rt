@@ -1,0 +1,122 @@
+//! An entry of the log.
+
+ghost use Rattle.std.specs.Prelude.{◌≡◌};
+
+use disk_dcdd::SECTOR_BYTES;
+use guest_board::Input;
+use plain_single::{Bare, Timed};
+
+/// What one input or one operation appends to the log, with the count at which it stands (VMware FT, section 2.1, "log
+/// entries").
+#[derive(Clone, Copy, Debug, PartialEq, Eq)]
+pub enum Entry {
+    /// The step that ends at this count gave an operation.
+    Mark {
+        count: u64,
+    },
+    /// A key was taken at a port.
+    Rx {
+        count: u64,
+        port: u8,
+        byte: u8,
+    },
+    /// The oldest byte of a port that was not accepted yet is accepted.
+    Sent {
+        count: u64,
+        port: u8,
+    },
+    /// A sector came under the head, with the bytes of the write of this number.
+    Sector {
+        count: u64,
+        drive: u8,
+        sector: u8,
+        number: u64,
+        bytes: [u8; SECTOR_BYTES],
+    },
+    /// The write of this number is done.
+    Written {
+        count: u64,
+        number: u64,
+    },
+}
+
+impl Entry {
+    ghost use Rattle.log_entry.specs.Entries.{count_of, entry_of, input_of, timed_of};
+
+    /// The entry of an input that is taken at this count.
+    pub fn of_input(count: u64, input: Input) -> Entry
+        ensures { result ≡ entry_of count input }
+    {
+        match input {
+            Input::Rx(port, byte) => Entry::Rx { count, port, byte },
+            Input::Sent(port) => Entry::Sent { count, port },
+            Input::Sector {
+                drive,
+                sector,
+                number,
+                bytes,
+            } => Entry::Sector {
+                count,
+                drive,
+                sector,
+                number,
+                bytes,
+            },
+            Input::Written(number) => Entry::Written { count, number },
+        }
+    }
+
+    /// How many steps the machine has made where the entry stands.
+    pub fn count(&self) -> u64
+        ensures { result ≡ count_of self.now }
+    {
+        match self {
+            Entry::Mark { count }
+            | Entry::Rx { count, .. }
+            | Entry::Sent { count, .. }
+            | Entry::Sector { count, .. }
+            | Entry::Written { count, .. } => *count,
+        }
+    }
+
+    /// The input that was taken; a mark has none.
+    pub fn input(&self) -> Option<Input>
+        ensures { result ≡ input_of self.now }
+    {
+        match *self {
+            Entry::Mark { .. } => None,
+            Entry::Rx { port, byte, .. } => Some(Input::Rx(port, byte)),
+            Entry::Sent { port, .. } => Some(Input::Sent(port)),
+            Entry::Sector {
+                drive,
+                sector,
+                number,
+                bytes,
+                ..
+            } => Some(Input::Sector {
+                drive,
+                sector,
+                number,
+                bytes,
+            }),
+            Entry::Written { number, .. } => Some(Input::Written(number)),
+        }
+    }
+
+    /// The input with its count, without what only the log carries; a mark has none.
+    pub fn timed(&self) -> Option<Timed>
+        ensures { result ≡ timed_of self.now }
+    {
+        let input = match *self {
+            Entry::Mark { .. } => return None,
+            Entry::Rx { port, byte, .. } => Bare::Rx(port, byte),
+            Entry::Sent { port, .. } => Bare::Sent(port),
+            Entry::Sector { drive, sector, .. } => Bare::Sector(drive, sector),
+            Entry::Written { number, .. } => Bare::Written(number),
+        };
+        Some(Timed {
+            count: self.count(),
+            input,
+        })
+    }
+}

@@ -1,0 +1,15 @@
+//! One entry of the log: its input and its count, and its one spelling in bytes.
+#![tactic(auto)]
+
+mod entry;
+mod fields;
+mod laws;
+mod numbers;
+mod spelling;
+#[cfg(test)]
+mod tests;
+
+pub use entry::Entry;
+pub use laws::{entries_keep_the_inputs, entries_spell_one_way, entries_stand_in_order};
+pub use numbers::{NUMBER_LIMIT, number_at, spelled_number};
+pub use spelling::size;

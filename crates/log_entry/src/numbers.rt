@@ -1,0 +1,32 @@
+//! The numbers of a packet.
+
+ghost use Rattle.std.specs.Prelude.{◌≡◌, option_map};
+ghost use Rattle.byteorder.specs.Endian.{big_bytes};
+ghost use Rattle.log_entry.specs.Numbers.{number_from};
+
+use byteorder::{BigEndian, ByteOrder};
+
+/// Counts, indexes and numbers of writes are below this.
+pub const NUMBER_LIMIT: u64 = 1 << 62;
+
+/// The eight bytes of a number, the highest first.
+pub fn spelled_number(number: u64) -> [u8; 8]
+    ensures { result ≡ big_bytes 8 number }
+{
+    let mut bytes = [0; 8];
+    BigEndian::write_u64(&mut bytes, number);
+    bytes
+}
+
+/// The number that the first eight bytes spell, where it is below the limit, and the bytes behind it.
+#[tactic(auto, unfolding(crate::specs::Numbers::number_from))]
+pub fn number_at(bytes: &[u8]) -> Option<(u64, &[u8])>
+    ensures { option_map (λ found. (found.0, found.1.now)) result ≡ number_from bytes.now }
+{
+    let (word, rest) = bytes.split_first_chunk::<8>()?;
+    let number = u64::from_be_bytes(*word);
+    if number >= NUMBER_LIMIT {
+        return None;
+    }
+    Some((number, rest))
+}

@@ -1,0 +1,7 @@
+pub mod KeysBetween
+pub mod Names
+pub mod NoteLists
+pub mod Standing
+pub mod Covered
+pub mod Told
+pub mod FewNotes

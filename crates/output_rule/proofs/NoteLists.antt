@@ -1,0 +1,76 @@
+-- The notes as they come and go. Where a name has no note, every note is of another name, so a new note for it is apart
+-- from all others and is found behind them. A filter leaves no note of the name, and all others in their order.
+use Rattle.std.proofs.Common.{◌≡◌, ◌≢◌, ℕ, true, false, not, cond, List, [], ◌∷◌, Some, None, refl, sym, ap}
+use Rattle.std.specs.Prelude.{All, AllPairs}
+use Rattle.std.proofs.lemmas.List.Elements.{All-cons, All-nil}
+use Rattle.std.proofs.lemmas.List.Quantifiers.{all_pairs_push}
+use Rattle.event_callbacks.specs.declared.operations.OpId.{OpId}
+use Rattle.output_rule.specs.Laws.{Comes, Goes}
+use Rattle.output_rule.specs.Notes.{same_name, index_of, with_note, without_note, AreApart}
+use Rattle.output_rule.specs.declared.notes.Note.{Note}
+use Rattle.output_rule.proofs.Names.{same_name-itself, same_name-different, same_name-other}
+
+-- where a name has no note, every note is of another name
+unnoted : (notes : List Note) (id : OpId) → index_of notes id ≡ None → All (λ note. same_name note.id id ≡ false) notes
+unnoted [] id none = All-nil (λ note. same_name note.id id ≡ false)
+unnoted (note ∷ notes) id none =
+    elim (same_name note.id id)
+    as (λ b. same_name note.id id ≡ b → cond b (Some note.index) (index_of notes id) ≡ None
+    → All (λ one. same_name one.id id ≡ false) (note ∷ notes)) [
+      | true ↦ λ e some. absurd (cc)
+      | false ↦ λ e rest. All-cons (λ one. same_name one.id id ≡ false) note notes e (unnoted notes id rest)
+    ] refl none
+
+-- a new note is apart from the others
+pub apart-with_note : (notes : List Note) (id : OpId) (index : ℕ) → index_of notes id ≡ None
+    → AllPairs AreApart notes → AllPairs AreApart (with_note notes id index)
+apart-with_note notes id index none apart =
+    all_pairs_push AreApart notes (record { id = id; index = index }) apart (unnoted notes id none)
+
+-- it is found behind them
+found_behind : (notes : List Note) (id : OpId) (index : ℕ) → index_of notes id ≡ None
+    → index_of (with_note notes id index) id ≡ Some index
+found_behind [] id index none = rw (same_name-itself id) refl
+found_behind (note ∷ notes) id index none =
+    elim (same_name note.id id)
+    as (λ b. cond b (Some note.index) (index_of notes id) ≡ None
+    → cond b (Some note.index) (index_of (with_note notes id index) id) ≡ Some index) [
+      | true ↦ λ some. absurd (cc)
+      | false ↦ λ rest. found_behind notes id index rest
+    ] none
+
+others_behind : (notes : List Note) (id : OpId) (index : ℕ) (other : OpId) → other ≢ id
+    → index_of (with_note notes id index) other ≡ index_of notes other
+others_behind [] id index other differs =
+    let differ = same_name-different id other (λ e. differs (sym e)) in rw differ refl
+others_behind (note ∷ notes) id index other differs =
+    ap (λ rest. cond (same_name note.id other) (Some note.index) rest) (others_behind notes id index other differs)
+
+pub note_comes : (notes : List Note) (id : OpId) (index : ℕ) → Comes notes id index
+note_comes notes id index = record { itself = found_behind notes id index; others = others_behind notes id index }
+
+none_left : (notes : List Note) (id : OpId) → index_of (without_note notes id) id ≡ None
+none_left [] id = refl
+none_left (note ∷ notes) id =
+    elim (same_name note.id id)
+    as (λ b. same_name note.id id ≡ b
+    → index_of (cond (not b) (note ∷ without_note notes id) (without_note notes id)) id ≡ None) [
+      | true ↦ λ e. none_left notes id
+      | false ↦ λ e. rw e (none_left notes id)
+    ] refl
+
+others_left : (notes : List Note) (id other : OpId) → other ≢ id
+    → index_of (without_note notes id) other ≡ index_of notes other
+others_left [] id other differs = refl
+others_left (note ∷ notes) id other differs =
+    elim (same_name note.id id)
+    as (λ b. same_name note.id id ≡ b
+    → index_of (cond (not b) (note ∷ without_note notes id) (without_note notes id)) other
+    ≡ index_of (note ∷ notes) other) [
+      | true ↦ λ e. rw (same_name-other note.id id other e differs) (others_left notes id other differs)
+      | false ↦ λ e.
+          ap (λ rest. cond (same_name note.id other) (Some note.index) rest) (others_left notes id other differs)
+    ] refl
+
+pub note_goes : (notes : List Note) (id : OpId) → Goes notes id
+note_goes notes id = record { itself = none_left notes id; others = others_left notes id }

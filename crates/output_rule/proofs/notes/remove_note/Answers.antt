@@ -1,0 +1,7 @@
+-- `retain` keeps what passes the test, since no call of the closure changes it or the note.
+use Rattle.std.proofs.Common.{rules}
+use Rattle.arrayvec.proofs.ArrayVecLemmas.{filter-from_retain}
+use Rattle.output_rule.proofs.notes.remove_note.Goals as goal
+
+pub returns : goal.returns
+returns c = filter-from_retain _ _ _ (λ x b f' y called. search rules) _ _ c.retain.ensures.filtered

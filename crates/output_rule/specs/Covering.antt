@@ -1,0 +1,60 @@
+-- What is covered: how far the log is acknowledged, where the outstanding operations stand in it, and how many keys.
+use Rattle.std.specs.Prelude.{◌≡◌, ℕ, ◌+◌, ◌≤◌, max, nat_lt, Bool, true, false, ◌||◌, if◌then◌else◌, List, [], length, slice_index, AllPairs, Option, Some, None, Result, Ok, Err}
+use Rattle.disk_dcdd.specs.declared.controller.TheConstants.{GREATEST_NUMBER}
+use Rattle.event_callbacks.specs.declared.devices.TheConstants.{PORTS}
+use Rattle.event_callbacks.specs.declared.operations.OpId.{OpId}
+use Rattle.i8080_words.specs.declared.refusal.Fault.{Fault}
+use Rattle.i8080_words.specs.declared.refusal.Fault.TheVariants.{NotCovered}
+use Rattle.log_buffer.specs.Log.{Log}
+use Rattle.log_buffer.specs.declared.buffer.TheConstants.{GREATEST_NEXT}
+use Rattle.output_rule.specs.Keys.{between, with_keys}
+use Rattle.output_rule.specs.Notes.{index_of, with_note, without_note, AreApart}
+use Rattle.output_rule.specs.declared.notes.TheConstants.{PLACES}
+use Rattle.output_rule.specs.declared.notes.Note.{Note}
+
+-- the entries below this index are acknowledged, or all is covered; so many keys of each port are covered; and the
+-- operations that are outstanding and no part of the image have these notes
+pub record Covering : Type 0 where
+  pub acknowledged : ℕ
+  pub all : Bool
+  pub keys : List ℕ
+  pub notes : List Note
+
+-- at first the keys of the image are covered
+abbrev pub nothing_acknowledged : List ℕ → Covering
+nothing_acknowledged keys = record { acknowledged = 0; all = false; keys = keys; notes = [] }
+
+-- what stands at an index is covered where that is acknowledged; what has none was part of the image
+abbrev pub is_covered : Covering → Option ℕ → Bool
+is_covered c None = true
+is_covered c (Some index) = c.all || nat_lt index c.acknowledged
+
+-- an operation is released only when it is covered
+abbrev pub release_answer : Covering → OpId → Result (Unit {0}) Fault
+release_answer c id = if is_covered c (index_of c.notes id) then Ok tt else Err NotCovered
+
+-- an operation's note comes, and goes
+abbrev pub after_note : Covering → OpId → ℕ → Covering
+after_note c id index = record c { notes = with_note c.notes id index }
+
+abbrev pub after_forget : Covering → OpId → Covering
+after_forget c id = record c { notes = without_note c.notes id }
+
+-- an acknowledgement covers the entries up to it, and their keys, where not all was covered before
+abbrev pub after_acknowledge : Covering → Log → ℕ → Covering
+after_acknowledge c log held = record c {
+  acknowledged = max c.acknowledged held;
+  keys = if c.all then c.keys else with_keys c.keys (between log c.acknowledged held);
+}
+
+-- all is covered from now on
+abbrev pub after_all : Covering → List ℕ → Covering
+after_all c keys = record c { all = true; keys = keys }
+
+-- how every coverage stands: an operation has one note at most, and the keys rise with the acknowledged number alone
+pub record IsCovering (c : Covering) : Type 0 where
+  pub few : length c.notes ≤ PLACES
+  pub apart : AllPairs AreApart c.notes
+  pub acknowledged : c.acknowledged ≤ GREATEST_NEXT
+  pub ports : length c.keys ≡ PORTS
+  pub keys : (port : ℕ) → slice_index c.keys port ≤ GREATEST_NUMBER + c.acknowledged

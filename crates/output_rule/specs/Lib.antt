@@ -1,0 +1,5 @@
+pub mod Notes
+pub mod Keys
+pub mod Covering
+pub mod Coverage
+pub mod Laws

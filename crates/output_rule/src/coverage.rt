@@ -1,0 +1,131 @@
+//! Which operations may be released, and how many keys the backup is known to have.
+ghost use Rattle.std.specs.Prelude.{◌≡◌, ◌<◌, ◌≤◌, ℕ, length, slice_index, None};
+ghost use Rattle.disk_dcdd.specs.declared.controller.TheConstants.{GREATEST_NUMBER};
+ghost use Rattle.event_callbacks.specs.Operations.{id_of};
+ghost use Rattle.event_callbacks.specs.declared.devices.TheConstants.{PORTS};
+ghost use Rattle.log_buffer.specs.Log.{next_of};
+ghost use Rattle.output_rule.specs.Covering as table;
+ghost use Rattle.output_rule.specs.Notes.{index_of};
+
+use crate::keys::with_keys;
+use crate::notes::{self, Note, PLACES};
+use arrayvec::ArrayVec;
+use event_callbacks::{OpId, Operation, PORTS};
+use i8080_words::{Fault, R};
+use log_buffer::LogBuffer;
+use std::marker::Model;
+
+/// Knows at which indexes the outstanding operations stand in the log, how far the log is acknowledged, and how many
+/// keys of each port are covered. None of its calls takes memory.
+#[derive(Drop)]
+pub struct Coverage {
+    acknowledged: u64,
+    all: bool,
+    keys: [u64; PORTS],
+    notes: ArrayVec<Note, PLACES>,
+}
+
+impl Model for Coverage {
+    ghost use Rattle.output_rule.specs.Covering.{Covering};
+
+    ghost Value = { Covering };
+
+    ghost use Rattle.output_rule.specs.Coverage.{covering_of, IsCoverage};
+
+    ghost view = { covering_of };
+
+    ghost invariant = { IsCoverage };
+}
+
+impl Coverage {
+    /// No entry is acknowledged yet, no operation has a note, and the image has so many keys of each port.
+    pub fn new(keys: [u64; PORTS]) -> Coverage
+        requires { (port : ℕ) → slice_index keys port ≤ GREATEST_NUMBER }
+        ensures { result ≡ table.nothing_acknowledged keys }
+    {
+        Coverage {
+            acknowledged: 0,
+            all: false,
+            keys,
+            notes: ArrayVec::new(),
+        }
+    }
+
+    /// The mark of an operation that is outstanding from now on stands at this index.
+    pub fn note(&mut self, id: OpId, index: u64)
+        requires room { length self.old.notes < PLACES }
+        requires new { index_of self.old.notes id ≡ None }
+        ensures { self.new ≡ table.after_note self.old id index }
+    {
+        self.notes.push(Note { id, index });
+    }
+
+    /// An operation is outstanding no more. Nothing changes where it had no note.
+    pub fn forget(&mut self, id: OpId)
+        ensures { self.new ≡ table.after_forget self.old id }
+    {
+        notes::remove_note(&mut self.notes, id);
+    }
+
+    /// The backup holds the entries below this index, or was known to hold more. Called before the log drops them.
+    /// After `all` the numbers of keys stand.
+    pub fn acknowledge(&mut self, log: &LogBuffer, held: u64)
+        requires first { log.now.first ≤ self.old.acknowledged }
+        requires next { held ≤ next_of log.now }
+        ensures { self.new ≡ table.after_acknowledge self.old log.now held }
+    {
+        log.stands();
+        if held <= self.acknowledged {
+            return;
+        }
+        if !self.all {
+            self.keys = with_keys(self.keys, log, self.acknowledged, held);
+        }
+        self.acknowledged = held;
+    }
+
+    /// Nothing waits for a backup any more: whatever was done and is done is covered, so many keys of each port.
+    pub fn all(&mut self, keys: [u64; PORTS])
+        requires { (port : ℕ) → slice_index keys port ≤ GREATEST_NUMBER }
+        ensures { self.new ≡ table.after_all self.old keys }
+    {
+        self.all = true;
+        self.keys = keys;
+    }
+
+    /// Whether what stands at an index of the log is covered. What has no index was part of the image, and is.
+    pub fn covered(&self, index: Option<u64>) -> bool
+        ensures { result ≡ table.is_covered self.now index }
+    {
+        match index {
+            None => true,
+            Some(index) => self.all || index < self.acknowledged,
+        }
+    }
+
+    /// Whether an outstanding operation may be released: `NotCovered` where it may not yet.
+    pub fn release(&self, operation: &Operation) -> R<()>
+        ensures { result ≡ table.release_answer self.now (id_of operation.now) }
+    {
+        if !self.covered(notes::index_of(&self.notes, operation.id())) {
+            return Err(Fault::NotCovered);
+        }
+        Ok(())
+    }
+
+    /// How many keys of a port are covered: those of the image and of the acknowledged entries, or those
+    /// given to `all`.
+    pub fn told(&self, port: u8) -> u64
+        requires { port < PORTS }
+        ensures { result ≡ slice_index self.now.keys port }
+    {
+        self.keys[port as usize]
+    }
+
+    /// Whatever a coverage has been through, it keeps within its limits, and has one note of an operation at most.
+    pub fn stands(&self)
+        ensures { table.IsCovering self.now }
+    {
+        let _ = &self.acknowledged;
+    }
+}

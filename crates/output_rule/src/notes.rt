@@ -1,0 +1,60 @@
+//! At which indexes of the log the marks of outstanding operations stand.
+ghost use Rattle.std.specs.Prelude.{◌≡◌};
+ghost use Rattle.output_rule.specs.Notes as table;
+
+use arrayvec::ArrayVec;
+use event_callbacks::OpId;
+
+/// How many operations have notes at most: sixteen bytes of each port, and eight writes.
+pub const PLACES: usize = 40;
+
+/// The name of an operation, and the index of its mark in the log.
+#[derive(Clone, Copy)]
+pub struct Note {
+    pub id: OpId,
+    pub index: u64,
+}
+
+// What stands in the places that hold no note.
+impl Default for Note {
+    ghost is_default = { λ note. note ≡ table.blank };
+
+    fn default() -> Note {
+        Note {
+            id: OpId::Write(0),
+            index: 0,
+        }
+    }
+}
+
+// The index of the mark of this operation, where it has a note.
+pub(crate) fn index_of(notes: &[Note], id: OpId) -> Option<u64>
+    ensures { result ≡ table.index_of notes.now id }
+{
+    for note in notes {
+        if is_same_name(note.id, id) {
+            return Some(note.index);
+        }
+    }
+    None
+}
+
+// Without the note of this operation.
+pub(crate) fn remove_note(notes: &mut ArrayVec<Note, PLACES>, id: OpId)
+    ensures { notes.new.items ≡ table.without_note notes.old.items id }
+{
+    notes.retain(|note| !is_same_name(note.id, id));
+}
+
+// Whether two names are one.
+fn is_same_name(one: OpId, other: OpId) -> bool
+    ensures { result ≡ table.same_name one other }
+{
+    match (one, other) {
+        (OpId::Byte(port, number), OpId::Byte(other_port, other_number)) => {
+            port == other_port && number == other_number
+        }
+        (OpId::Write(number), OpId::Write(other_number)) => number == other_number,
+        _ => false,
+    }
+}

@@ -1,0 +1,305 @@
+-- Every action keeps what holds, and the settled moves only go on.
+use Rattle.std.proofs.Common.{◌≡◌, ◌≤◌, [], ◌∷◌, ◌++◌, ◌⊎◌, ◌∙◌, List, None, Option, Some, ap, arith, inl, inr, length, max, refl, subst, suc, sym, zero, ℕ}
+use Rattle.std.specs.Prelude.{slice_get}
+use Rattle.event_callbacks.specs.declared.operations.Operation.{Operation}
+use Rattle.event_callbacks.specs.declared.operations.Operation.TheVariants.{Byte, Write}
+use Rattle.guest_board.specs.Machine.{Machine, Move, Runs}
+use Rattle.guest_board.specs.declared.input.Input.{Input}
+use Rattle.log_entry.specs.Entries.{entries}
+use Rattle.plain_single.specs.Reach.{operations, steps}
+use Rattle.pair_protocol.specs.Change.{Acknowledges, Acts, AloneReleases, AloneSteps, AloneTakes, Arrives, Begins, Change, GetsPart, GoesLive, Hears, Holds, HostComes, Joins, MayTake, PrimaryReleases, PrimarySteps, PrimaryTakes, Puts, Reads, ReplaysInput, ReplaysMark, ReplaysStep, Sends, SendsPart, Stops, Tells, Types, Wins}
+use Rattle.pair_protocol.specs.Copying.{Copying, IsCopying}
+use Rattle.pair_protocol.specs.Faithful.{IsPrefix}
+use Rattle.pair_protocol.specs.Lawful.{Among, Lawful}
+use Rattle.pair_protocol.specs.Node.{Alone, Backup, Draining, Joining, Node, Primary, Role, Spare, alone_takes, gets_part, goes_live, halts, hears, joins, keys_covered, passes_input, passes_mark, plainly_steps, primary_steps, primary_takes}
+use Rattle.pair_protocol.specs.World.{Acknowledgement, Arrival, ImagePart, LogEntry, Released, World, sector_record, terminal, winner_in, with_node}
+use Rattle.pair_protocol.proofs.Moves.{among-split, count-does, count-takes, prefix-append, prefix-length, prefix-refl, runs-append}
+use Rattle.pair_protocol.proofs.Generations.{AsAlone, AsBackup, AsDraining, AsJoining, BackState, Follows, Stage}
+use Rattle.pair_protocol.proofs.LeadInputs.{leads-steps, leads-steps_alone, leads-takes, leads-takes_alone}
+use Rattle.pair_protocol.proofs.Replay.{follow-mark, follow-steps, follow-takes}
+use Rattle.pair_protocol.proofs.Lines.{Inv, Line, Next}
+use Rattle.pair_protocol.proofs.Frames.{Acting, IsBack, IsLead, acting}
+use Rattle.pair_protocol.proofs.Leading.{lead-stays}
+use Rattle.pair_protocol.proofs.Serving.{lead-accepts, lead-does, lead-runs}
+use Rattle.pair_protocol.proofs.Backing.{back-accepts, back-does, back-stays}
+use Rattle.pair_protocol.proofs.Holding.{back-holds}
+use Rattle.pair_protocol.proofs.NodeChanges.{follower, gets-part, leads-halts, leads-hears, refollow, state-finishes, state-halts, state-joins}
+use Rattle.pair_protocol.proofs.Contests.{back-wins, lead-wins, won_by}
+use Rattle.pair_protocol.proofs.Messages.{keep-message, keep-puts, keep-reads}
+use Rattle.pair_protocol.proofs.Disk.{record_is}
+use Rattle.pair_protocol.proofs.Terminals.{accepted-longer, keep-hosts, keep-terminal}
+use Rattle.pair_protocol.proofs.Beginnings.{keep-begins}
+use Rattle.pair_protocol.proofs.Actors.{IsBackRole, alone, backing, leading, not_spare, released, told_any}
+
+only_spare : (r q : Role) → r ≡ q → (q ≡ Spare → ⊥) → r ≡ Spare → ⊥
+only_spare r q e h k = h (sym e ∙ k)
+
+primary_steps_keep : {S : Type 0} (M : Machine S) (C : Copying S) (laws : Lawful M) (w : World S) (i : Inv M C w)
+    (n : ℕ) (x : Node S) (s : S) (o : Option Operation) → Acts w n x Primary → M.step x.machine ≡ Some (s, o) →
+    Next M C i.trace (with_node w n (primary_steps M x s o))
+primary_steps_keep M C laws w i n x s o acts h =
+    let q = leading M C w i n x acts in
+    let l = (i.each x.generation).line in
+    let ns = not_spare w n x Primary acts (λ k. (cc)) in
+    lead-does M C w i n x (primary_steps M x s o) o acts.there ns ns refl q.spot q.place q.leads
+    (leads-steps M l.stage l.base l.own l.mid (length l.held) x s o acts.role_is h
+    (count-does M laws _ x.machine s o (lead-runs M C w i x q.leads) h) q.leads)
+
+primary_takes_keep : {S : Type 0} (M : Machine S) (C : Copying S) (laws : Lawful M) (w : World S) (i : Inv M C w)
+    (n : ℕ) (x : Node S) (s : S) (v : Input) → Acts w n x Primary → MayTake M w x v → M.take x.machine v ≡ Some s →
+    Next M C i.trace (with_node w n (primary_takes M x s v))
+primary_takes_keep M C laws w i n x s v acts may h =
+    let q = leading M C w i n x acts in
+    let l = (i.each x.generation).line in
+    let ns = not_spare w n x Primary acts (λ k. (cc)) in
+    lead-accepts M C laws w i n x (primary_takes M x s v) v may acts.there ns ns refl q.spot q.place q.leads
+    (leads-takes M l.stage l.base l.own l.mid (length l.held) x s v acts.role_is h
+    (count-takes M laws _ x.machine s v (lead-runs M C w i x q.leads) h) q.leads)
+
+alone_steps_keep : {S : Type 0} (M : Machine S) (C : Copying S) (laws : Lawful M) (w : World S) (i : Inv M C w)
+    (n : ℕ) (x : Node S) (s : S) (o : Option Operation) → Acts w n x Alone → M.step x.machine ≡ Some (s, o) →
+    Next M C i.trace (with_node w n (plainly_steps x s))
+alone_steps_keep {S} M C laws w i n x s o acts h =
+    go (acting M C w i.top i.trace n x (i.each x.generation) acts.there ns)
+  where
+    ns : x.role ≡ Spare → ⊥
+    ns = not_spare w n x Alone acts (λ k. (cc))
+
+    l : Line S
+    l = (i.each x.generation).line
+
+    go : Acting M C w i.top i.trace n x (i.each x.generation) → Next M C i.trace (with_node w n (plainly_steps x s))
+    go (IsLead e leads p) = lead-does M C w i n x (plainly_steps x s) o acts.there ns ns refl e p leads
+        (leads-steps_alone M l.stage l.base l.own l.mid (length l.held) x s o acts.role_is h
+        (count-does M laws _ x.machine s o (lead-runs M C w i x leads) h) leads)
+    go (IsBack e held b p) = back-does M C w i n x s o acts.there acts.role_is e p held b h
+        (count-does M laws i.trace x.machine s o (alone M C w i n x acts).runs h)
+
+alone_takes_keep : {S : Type 0} (M : Machine S) (C : Copying S) (laws : Lawful M) (w : World S) (i : Inv M C w)
+    (n : ℕ) (x : Node S) (s : S) (v : Input) → Acts w n x Alone → MayTake M w x v → M.take x.machine v ≡ Some s →
+    Next M C i.trace (with_node w n (alone_takes M x s v))
+alone_takes_keep {S} M C laws w i n x s v acts may h =
+    go (acting M C w i.top i.trace n x (i.each x.generation) acts.there ns)
+  where
+    ns : x.role ≡ Spare → ⊥
+    ns = not_spare w n x Alone acts (λ k. (cc))
+
+    l : Line S
+    l = (i.each x.generation).line
+
+    go : Acting M C w i.top i.trace n x (i.each x.generation) → Next M C i.trace (with_node w n (alone_takes M x s v))
+    go (IsLead e leads p) = lead-accepts M C laws w i n x (alone_takes M x s v) v may acts.there ns ns refl e p leads
+        (leads-takes_alone M l.stage l.base l.own l.mid (length l.held) x s v acts.role_is h
+        (count-takes M laws _ x.machine s v (lead-runs M C w i x leads) h) leads)
+    go (IsBack e held b p) = back-accepts M C laws w i n x s v acts.there acts.role_is e p held b may h
+        (count-takes M laws i.trace x.machine s v (alone M C w i n x acts).runs h)
+
+stops_keep : {S : Type 0} (M : Machine S) (C : Copying S) (w : World S) (i : Inv M C w) (n : ℕ) (x : Node S) →
+    slice_get w.nodes n ≡ Some x → (x.role ≡ Spare → ⊥) → Next M C i.trace (with_node w n (halts x))
+stops_keep {S} M C w i n x h ns = go (acting M C w i.top i.trace n x (i.each x.generation) h ns)
+  where
+    l : Line S
+    l = (i.each x.generation).line
+
+    go : Acting M C w i.top i.trace n x (i.each x.generation) → Next M C i.trace (with_node w n (halts x))
+    go (IsLead e leads p) = lead-stays M C w i n x (halts x) h ns ns refl e p
+        (leads-halts M l.stage l.base l.own l.mid (length l.held) x leads)
+    go (IsBack e held b p) = back-stays M C w i n x (halts x) h ns ns refl e p held
+        (record {
+          state = state-halts M C l.stage l.base l.own l.more l.mid x b.state;
+          copy = b.copy;
+          start = b.start;
+          held = b.held;
+        })
+
+wins_keep : {S : Type 0} (M : Machine S) (C : Copying S) (w : World S) (i : Inv M C w) (n : ℕ) (x : Node S)
+    (r : Role) → Acts w n x r → (r ≡ Joining → ⊥) → (r ≡ Spare → ⊥) → winner_in w.winners x.generation ≡ None →
+    Next M C i.trace (won_by w n x)
+wins_keep {S} M C w i n x r acts nj ns none =
+    go (acting M C w i.top i.trace n x (i.each x.generation) acts.there (not_spare w n x r acts ns))
+  where
+    go : Acting M C w i.top i.trace n x (i.each x.generation) → Next M C i.trace (won_by w n x)
+    go (IsLead e leads p) = lead-wins M C w i n x acts.there none e p leads
+    go (IsBack e held b p) = back-wins M C w i n x acts.there (λ k. nj (sym acts.role_is ∙ k)) none e p held b
+
+hears_keep : {S : Type 0} (M : Machine S) (C : Copying S) (w : World S) (i : Inv M C w) (n : ℕ) (x : Node S) (h : ℕ) →
+    Acts w n x Primary → h ≤ length (i.each x.generation).line.held → Next M C i.trace (with_node w n (hears x h))
+hears_keep M C w i n x h acts k =
+    let q = leading M C w i n x acts in
+    let l = (i.each x.generation).line in
+    let ns = not_spare w n x Primary acts (λ k. (cc)) in
+    lead-stays M C w i n x (hears x h) acts.there ns ns refl q.spot q.place
+    (leads-hears M l.stage l.base l.own l.mid (length l.held) x h k q.leads)
+
+-- the back, otherwise as before, in another state
+back_keep : {S : Type 0} (M : Machine S) (C : Copying S) (w : World S) (i : Inv M C w) (n : ℕ) (x y : Node S)
+    (r : Role) → Acts w n x r → IsBackRole r → (y.role ≡ Spare → ⊥) → y.generation ≡ x.generation → y.held ≡ x.held →
+    y.copy ≡ x.copy → y.start ≡ x.start →
+    (BackState M C (i.each x.generation).line.stage (i.each x.generation).line.base (i.each x.generation).line.own
+    (i.each x.generation).line.more (i.each x.generation).line.mid x →
+    BackState M C (i.each x.generation).line.stage (i.each x.generation).line.base (i.each x.generation).line.own
+    (i.each x.generation).line.more (i.each x.generation).line.mid y) →
+    Next M C i.trace (with_node w n y)
+back_keep M C w i n x y r acts role ny gy hy cy sy state =
+    let q = backing M C w i n x r acts role in
+    let l = (i.each x.generation).line in
+    back-stays M C w i n x y acts.there (not_spare w n x r acts (λ k. subst IsBackRole k role)) ny gy q.spot q.place
+    (hy ∙ q.held)
+    (record {
+      state = state q.backs.state;
+      copy = cy ∙ q.backs.copy;
+      start = sy ∙ q.backs.start;
+      held = subst (λ es. IsPrefix es (entries (steps l.base) l.own)) (sym hy) q.backs.held;
+    })
+
+-- replay
+back_role : (r : Role) → (r ≡ Backup) ⊎ (r ≡ Draining) → IsBackRole r
+back_role r (inl h) = subst IsBackRole (sym h) tt
+back_role r (inr h) = subst IsBackRole (sym h) tt
+
+replays : {S : Type 0} (M : Machine S) (C : Copying S) (w : World S) (i : Inv M C w) (n : ℕ) (x y : Node S)
+    (r : Role) → Acts w n x r → (r ≡ Backup) ⊎ (r ≡ Draining) → y.role ≡ x.role → y.generation ≡ x.generation →
+    y.held ≡ x.held → y.copy ≡ x.copy → y.start ≡ x.start →
+    ((last : S) → IsPrefix x.held (entries (steps (i.each x.generation).line.base) (i.each x.generation).line.own) →
+    Runs M (i.each x.generation).line.mid (i.each x.generation).line.own last →
+    Follows M (i.each x.generation).line.base (i.each x.generation).line.own (i.each x.generation).line.mid x →
+    Follows M (i.each x.generation).line.base (i.each x.generation).line.own (i.each x.generation).line.mid y) →
+    Next M C i.trace (with_node w n y)
+replays M C w i n x y r acts which ry gy hy cy sy follows =
+    let o = i.each x.generation in
+    let l = o.line in
+    let q = backing M C w i n x r acts (back_role r which) in
+    back_keep M C w i n x y r acts (back_role r which)
+    (λ k. not_spare w n x r acts (λ z. subst IsBackRole z (back_role r which)) (sym ry ∙ k)) gy hy cy sy
+    (λ s. refollow M C l.stage l.base l.own l.more l.mid x y r acts.role_is which ry
+    (follows o.led.0 q.backs.held o.led.1
+    (follower M C l.stage l.base l.own l.more l.mid x r acts.role_is which s)) s)
+
+among_get : {A : Type 0} (xs : List A) (k : ℕ) (x : A) → slice_get xs k ≡ Some x → Among x xs
+among_get [] k x h = (cc)
+among_get (y ∷ xs) zero x h = inl (cc)
+among_get (y ∷ xs) (suc k) x h = inr (among_get xs k x h)
+
+same_send : (o v : Operation) → Released o ≡ Released v → o ≡ v
+same_send o v h = (cc)
+
+receives_state : {S : Type 0} (M : Machine S) (C : Copying S) (stage : Stage) (base own more : List Move) (mid : S)
+    (x : Node S) (k : ℕ) (p : List ℕ) → x.role ≡ Joining → slice_get (C.parts mid) k ≡ Some p →
+    BackState M C stage base own more mid x → BackState M C stage base own more mid (gets_part x k p)
+receives_state M C stage base own more mid x k p role h (AsJoining r s g) = AsJoining r s (gets-part M C mid x k p h g)
+receives_state M C stage base own more mid x k p role h (AsBackup r s f) = (cc)
+receives_state M C stage base own more mid x k p role h (AsDraining r s m f) = (cc)
+receives_state M C stage base own more mid x k p role h (AsAlone r s u c l) = (cc)
+
+pub keep : {S : Type 0} (M : Machine S) (C : Copying S) → Lawful M → IsCopying M C →
+    (w new : World S) (i : Inv M C w) → Change M C w new → Next M C i.trace new
+keep M C laws copies w new i (PrimarySteps n x s o acts h) = primary_steps_keep M C laws w i n x s o acts h
+keep M C laws copies w new i (AloneSteps n x s o acts h) = alone_steps_keep M C laws w i n x s o acts h
+keep M C laws copies w new i (PrimaryTakes n x s v acts may h) = primary_takes_keep M C laws w i n x s v acts may h
+keep M C laws copies w new i (AloneTakes n x s v acts may h) = alone_takes_keep M C laws w i n x s v acts may h
+keep M C laws copies w new i (Types p b) =
+    keep-terminal M C w i p (record (terminal w p) { typed = (terminal w p).typed ++ b ∷ [] })
+    (record { accepts = omega arith; types = prefix-append (terminal w p).typed (b ∷ []) }) (i.global.arrived p)
+    (i.global.told p)
+keep M C laws copies w new i (Sends n x k e acts h) =
+    let q = leading M C w i n x acts in
+    keep-message M C w i n x (LogEntry x.generation k e) acts.there (not_spare w n x Primary acts (λ k. (cc)))
+    (λ j d. d) (λ j. subst (λ es. slice_get es k ≡ Some e) (q.leads.log acts.role_is) h) (λ o z. (cc))
+    (λ j z. (cc)) (λ q j b z. (cc))
+keep M C laws copies w new i (Holds n x m e acts h) =
+    let q = backing M C w i n x Backup acts tt in
+    back-holds M C w i n x e acts.there acts.role_is q.spot q.place q.held q.backs
+    ((i.each x.generation).logs (length x.held) e
+    (among_get w.messages m (LogEntry x.generation (length x.held) e) h))
+keep M C laws copies w new i (Acknowledges n x acts) =
+    let q = backing M C w i n x Backup acts tt in
+    let e = ap length q.held in
+    keep-message M C w i n x (Acknowledgement x.generation (length x.held)) acts.there
+    (not_spare w n x Backup acts (λ k. (cc))) (λ j d. d) (λ j. (omega arith)) (λ o z. (cc)) (λ j z. (cc))
+    (λ q j b z. (cc))
+keep M C laws copies w new i (Hears n x m h acts k) =
+    hears_keep M C w i n x h acts ((i.each x.generation).acks h
+    (among_get w.messages m (Acknowledgement x.generation h) k))
+keep M C laws copies w new i (ReplaysStep n x r e s o acts which g c h) =
+    let l = (i.each x.generation).line in
+    replays M C w i n x (plainly_steps x s) r acts which refl refl refl refl refl
+    (λ last p run f. follow-steps M l.base l.own l.mid last x e s o p run g c h
+    (count-does M laws (l.base ++ f.ms) x.machine s o
+    (runs-append M M.boot l.mid x.machine l.base f.ms (i.each x.generation).based f.runs) h) f)
+keep M C laws copies w new i (ReplaysMark n x r e acts which g c h) =
+    let l = (i.each x.generation).line in
+    replays M C w i n x (passes_mark x) r acts which refl refl refl refl refl
+    (λ last p run f. follow-mark M l.base l.own l.mid last x e p run g c h f)
+keep M C laws copies w new i (ReplaysInput n x r e v s acts which g c h k) =
+    let l = (i.each x.generation).line in
+    replays M C w i n x (passes_input x s) r acts which refl refl refl refl refl
+    (λ last p run f. follow-takes M l.base l.own l.mid last x e v s p run g c h k
+    (count-takes M laws (l.base ++ f.ms) x.machine s v
+    (runs-append M M.boot l.mid x.machine l.base f.ms (i.each x.generation).based f.runs) k) f)
+keep M C laws copies w new i (PrimaryReleases n x name o acts h c) =
+    let r = released M C laws w i n x name o acts h c in
+    keep-message M C w i n x (Released o) acts.there (not_spare w n x Primary acts (λ k. (cc))) (λ j d. tt) tt
+    (λ v z. subst (λ u. Among u (operations i.trace)) (same_send o v z) r) (λ j z. (cc)) (λ q j b z. (cc))
+keep M C laws copies w new i (AloneReleases n x name o acts h) =
+    let a = alone M C w i n x acts in
+    let r = laws.given i.trace x.machine name o a.runs h in
+    keep-message M C w i n x (Released o) acts.there (not_spare w n x Alone acts (λ k. (cc))) (λ j d. tt) tt
+    (λ v z. subst (λ u. Among u (operations i.trace)) (same_send o v z) r) (λ j z. (cc)) (λ q j b z. (cc))
+keep M C laws copies w new i (Arrives m p k b h) =
+    let v = i.global.sends (Byte p k b) (among_get w.messages m (Released (Byte p k b)) h) in
+    keep-terminal M C w i p (record (terminal w p) {
+      arrivals =
+          (terminal w p).arrivals ++ record { number = k; byte = b } ∷ [];
+    })
+    (record {
+      accepts = prefix-length _ _
+          (accepted-longer 0 (terminal w p).arrivals (record { number = k; byte = b } ∷ []));
+      types = prefix-refl (terminal w p).typed;
+    })
+    (λ a z. elim (among-split a (terminal w p).arrivals (record { number = k; byte = b } ∷ []) z) [
+      | inl y ↦ i.global.arrived p a y
+      | inr y ↦ elim y [
+        | inl y ↦ subst (λ (u : Arrival). Among (Byte p u.number u.byte) (operations i.trace))
+            (sym y) v
+        | inr y ↦ absurd y
+      ]
+    ])
+    (i.global.told p)
+keep M C laws copies w new i (Tells n x p r acts which) =
+    let d = i.global.told p in
+    let c = told_any M C laws w i n x p r acts which in
+    keep-terminal M C w i p (record (terminal w p) { told = max (terminal w p).told (keys_covered M x p x.role) })
+    (record { accepts = omega arith; types = prefix-refl (terminal w p).typed }) (i.global.arrived p) (omega arith)
+keep M C laws copies w new i (Stops n x h ns) = stops_keep M C w i n x h ns
+keep M C laws copies w new i (Wins n x r acts nj ns none) = wins_keep M C w i n x r acts nj ns none
+keep M C laws copies w new i (GoesLive n x acts h) =
+    let q = backing M C w i n x Draining acts tt in
+    let l = (i.each x.generation).line in
+    back_keep M C w i n x (goes_live x) Draining acts tt (λ k. (cc)) refl refl refl refl
+    (λ s. state-finishes M C l.stage l.base l.own l.more l.mid x acts.role_is h q.backs.copy q.backs.held s)
+keep M C laws copies w new i (Begins n h x y acts there spare_is) =
+    keep-begins M C copies w i n h x y acts there spare_is
+keep M C laws copies w new i (SendsPart n x s k p acts im h) =
+    let q = leading M C w i n x acts in
+    keep-message M C w i n x (ImagePart x.generation k p) acts.there (not_spare w n x Primary acts (λ k. (cc)))
+    (λ j d. d) (λ j. subst (λ z. slice_get (C.parts z) k ≡ Some p) (q.leads.image s im) h) (λ o z. (cc))
+    (λ j z. (cc)) (λ q j b z. (cc))
+keep M C laws copies w new i (GetsPart n x m k p acts h) =
+    let q = backing M C w i n x Joining acts tt in
+    let o = i.each x.generation in
+    let l = o.line in
+    back_keep M C w i n x (gets_part x k p) Joining acts tt
+    (not_spare w n x Joining acts (λ z. (cc))) refl refl refl refl
+    (λ s. receives_state M C l.stage l.base l.own l.more l.mid x k p acts.role_is
+    (o.parts k p (among_get w.messages m (ImagePart x.generation k p) h)) s)
+keep M C laws copies w new i (Joins n x ps s acts got made) =
+    let q = backing M C w i n x Joining acts tt in
+    let l = (i.each x.generation).line in
+    back_keep M C w i n x (joins x s) Joining acts tt (λ k. (cc)) refl refl refl refl
+    (λ z. state-joins M C laws copies l.stage l.base l.own l.more l.mid s x ps acts.role_is got made q.backs.copy
+    q.backs.start (i.each x.generation).based z)
+keep M C laws copies w new i HostComes = keep-hosts M C w i
+keep M C laws copies w new i (Puts m v h) =
+    keep-puts M C w i v (i.global.sends (Write v) (among_get w.messages m (Released (Write v)) h))
+keep M C laws copies w new i (Reads q) =
+    keep-reads M C w i q (sector_record M w.puts q).number (sector_record M w.puts q).bytes (record_is M C w i q)

@@ -1,0 +1,313 @@
+-- The backup of a generation: it changes otherwise and its moves stay; or it is alone and makes a move.
+use Rattle.std.proofs.Common.{◌≡◌, ◌+◌, ◌≤◌, [], ◌∷◌, ◌++◌, ◌∙◌, List, Option, Some, ap, append_assoc, arith, inl, inr, length, refl, subst, suc, sym, take, ℕ}
+use Rattle.std.specs.Prelude.{slice_get, slice_set}
+use Rattle.event_callbacks.specs.declared.operations.Operation.{Operation}
+use Rattle.guest_board.specs.Machine.{Do, Machine, Move, Runs, Take}
+use Rattle.guest_board.specs.declared.input.Input.{Input}
+use Rattle.log_entry.specs.Entries.{entries}
+use Rattle.log_entry.specs.declared.entry.Entry.{Entry}
+use Rattle.plain_single.specs.Reach.{Owns, acceptances, inputs, keys, steps, timed}
+use Rattle.plain_single.specs.declared.timed.Timed.{Timed}
+use Rattle.pair_protocol.specs.Change.{MayTake}
+use Rattle.pair_protocol.specs.Copying.{Copying}
+use Rattle.pair_protocol.specs.Faithful.{IsPrefix}
+use Rattle.pair_protocol.specs.Lawful.{Lawful}
+use Rattle.pair_protocol.specs.Node.{Alone, Node, Spare, alone_takes, plainly_steps}
+use Rattle.pair_protocol.specs.Traces.{cut}
+use Rattle.pair_protocol.specs.World.{Winner, World, accepted, terminal, winner_in, with_node}
+use Rattle.pair_protocol.proofs.Moves.{ArePut, owns-append, prefix-append, prefix-refl, prefix-under, runs-append}
+use Rattle.pair_protocol.proofs.Generations.{AsAlone, AsBackup, AsDraining, AsJoining, BackState, BackWon, Backs, LeadWon, Stage, Undecided, same_prefix, settled_moves, winner_at}
+use Rattle.pair_protocol.proofs.LeadMoves.{steps-do, steps-take, whole-do, whole-take}
+use Rattle.pair_protocol.proofs.LeadInputs.{done-take, put-take, typed-take}
+use Rattle.pair_protocol.proofs.Lines.{AtTop, BackHere, Gone, Inv, LeadLeft, Line, LineOf, Next, Presence, get_set_cases, get_set_other, settled}
+use Rattle.pair_protocol.proofs.Frames.{BackOld, BackPlace, BackTop, relined}
+use Rattle.pair_protocol.proofs.Leading.{global-grows, lead_there}
+use Rattle.pair_protocol.proofs.Serving.{own-take}
+
+abbrev pub backed : {S : Type 0} → Line S → List Move → Stage → List Entry → Line S
+backed l more stage held = record {
+  base = l.base;
+  own = l.own;
+  more = more;
+  mid = l.mid;
+  stage = stage;
+  lead = l.lead;
+  back = l.back;
+  held = held;
+}
+
+pub back-line : {S : Type 0} (M : Machine S) (C : Copying S) (w : World S) (high n : ℕ) (T new : List Move)
+    (x y : Node S) (o : LineOf M C w high T x.generation) (more : List Move) (stage : Stage) (held : List Entry)
+    (ws : List Winner) →
+    n ≡ o.line.back →
+    Presence M C (slice_set w.nodes n y) w.messages ws high new x.generation (backed o.line more stage held) →
+    winner_in ws x.generation ≡ winner_at stage o.line.lead o.line.back →
+    length o.line.held ≤ length held → IsPrefix held (entries (steps o.line.base) o.line.own) →
+    ((stage ≡ BackWon → ⊥) → o.line.stage ≡ BackWon → ⊥) →
+    IsPrefix (settled (backed o.line more stage held)) new →
+    LineOf M C (record {
+      nodes = slice_set w.nodes n y;
+      messages = w.messages;
+      terminals = w.terminals;
+      winners = ws;
+      puts = w.puts;
+    }) high new x.generation
+back-line M C w high n T new x y o more stage held ws e presence tied few prefix stays below = record {
+  line = backed o.line more stage held;
+  presence = presence;
+  based = o.based;
+  led = o.led;
+  tied = tied;
+  apart = o.apart;
+  held = prefix;
+  members = λ m z t s g. elim (get_set_cases w.nodes n m y z t) [ inl q ↦ inr (q.0 ∙ e) | inr q ↦ o.members m z q s g ];
+  logs = o.logs;
+  acks = λ h k. (let a = o.acks h k in omega arith);
+  parts = o.parts;
+  done = o.done;
+  typed = o.typed;
+  put = o.put;
+  owns = λ h. o.owns (stays h);
+  below = below;
+}
+
+pub front_there : {S : Type 0} (M : Machine S) (C : Copying S) (w : World S) (high n : ℕ) (T : List Move)
+    (x y : Node S) (o : LineOf M C w high T x.generation) → n ≡ o.line.back →
+    slice_get (slice_set w.nodes n y) o.line.lead ≡ slice_get w.nodes o.line.lead
+front_there M C w high n T x y o e = get_set_other w.nodes n o.line.lead y (λ k. o.apart (k ∙ e))
+
+pub front_gone : {S : Type 0} (M : Machine S) (C : Copying S) (w : World S) (high n : ℕ) (T : List Move)
+    (x y : Node S) (o : LineOf M C w high T x.generation) → n ≡ o.line.back → Gone w.nodes x.generation o.line.lead →
+    Gone (slice_set w.nodes n y) x.generation o.line.lead
+front_gone M C w high n T x y o e gone z t s g = gone z (sym (front_there M C w high n T x y o e) ∙ t) s g
+
+-- The back changes, what it holds and the stage stay.
+pub back-stays : {S : Type 0} (M : Machine S) (C : Copying S) (w : World S) (i : Inv M C w) (n : ℕ) (x y : Node S) →
+    slice_get w.nodes n ≡ Some x → (x.role ≡ Spare → ⊥) → (y.role ≡ Spare → ⊥) → y.generation ≡ x.generation →
+    n ≡ (i.each x.generation).line.back → BackPlace M w.nodes i.top i.trace x.generation (i.each x.generation).line →
+    y.held ≡ (i.each x.generation).line.held →
+    Backs M C (i.each x.generation).line.stage (i.each x.generation).line.base (i.each x.generation).line.own
+    (i.each x.generation).line.more (i.each x.generation).line.mid y →
+    Next M C i.trace (with_node w n y)
+back-stays {S} M C w i n x y h nx ny gy e place held backs =
+    relined M C w i x.generation n x y w.winners i.trace h nx ny refl gy (λ k d. refl) (prefix-refl i.trace)
+    (inl refl)
+    (back-line M C w i.top n i.trace i.trace x y o l.more l.stage l.held w.winners e (presence place) o.tied
+    (omega arith) o.held (λ z. z) o.below)
+    i.global
+  where
+    o : LineOf M C w i.top i.trace x.generation
+    o = i.each x.generation
+
+    l : Line S
+    l = o.line
+
+    back_here : BackHere M C (slice_set w.nodes n y) x.generation (backed l l.more l.stage l.held)
+    back_here = record { b = y; there = lead_there w n l.back x y h e; generation = gy; held = held; backs = backs }
+
+    presence : BackPlace M w.nodes i.top i.trace x.generation l →
+        Presence M C (slice_set w.nodes n y) w.messages w.winners i.top i.trace x.generation
+        (backed l l.more l.stage l.held)
+    presence (BackTop g s a) = AtTop g s
+        (record {
+          a = a.a;
+          there = front_there M C w i.top n i.trace x y o e ∙ a.there;
+          generation = a.generation;
+          leads = a.leads;
+        }) back_here
+    presence (BackOld g s a) = LeadLeft g s (front_gone M C w i.top n i.trace x y o e a) back_here
+
+pub settled-more : (stage : Stage) (base own more xs : List Move) (n : ℕ) →
+    IsPrefix (settled_moves stage base own more n) (settled_moves stage base own (more ++ xs) n)
+settled-more Undecided base own more xs n = prefix-refl (base ++ cut n own)
+settled-more LeadWon base own more xs n = prefix-refl (base ++ own)
+settled-more BackWon base own more xs n =
+    prefix-under base (cut n own ++ more) (cut n own ++ (more ++ xs))
+    (prefix-under (cut n own) more (more ++ xs) (prefix-append more xs))
+
+abbrev pub moved : {S : Type 0} → Node S → S → List Timed → Node S
+moved b s l = record b { machine = s; list = l }
+
+-- The back, alone, makes a move.
+pub back-moves : {S : Type 0} (M : Machine S) (C : Copying S) (w : World S) (i : Inv M C w) (n : ℕ) (x : Node S)
+    (m : Move) (s : S) (ts : List Timed) →
+    slice_get w.nodes n ≡ Some x → x.role ≡ Alone →
+    n ≡ (i.each x.generation).line.back → BackPlace M w.nodes i.top i.trace x.generation (i.each x.generation).line →
+    x.held ≡ (i.each x.generation).line.held → (i.each x.generation).line.stage ≡ BackWon →
+    x.copy ≡ inputs 0 (i.each x.generation).line.base → x.start ≡ steps (i.each x.generation).line.base →
+    Runs M (i.each x.generation).line.mid
+    (cut (length x.held) (i.each x.generation).line.own ++ ((i.each x.generation).line.more ++ m ∷ [])) s →
+    M.count s ≡ steps (i.each x.generation).line.base + steps
+    (cut (length x.held) (i.each x.generation).line.own ++ ((i.each x.generation).line.more ++ m ∷ [])) →
+    ts ≡ inputs 0 ((i.each x.generation).line.base ++
+    (cut (length x.held) (i.each x.generation).line.own ++ ((i.each x.generation).line.more ++ m ∷ []))) →
+    ((p : ℕ) → acceptances p ts ≤ length (accepted w p)) →
+    ((p : ℕ) → IsPrefix (keys p ts) (terminal w p).typed) →
+    ArePut w.puts ts → Owns M [] M.boot
+    ((i.each x.generation).line.base ++
+    (cut (length x.held) (i.each x.generation).line.own ++ ((i.each x.generation).line.more ++ m ∷ []))) →
+    Next M C i.trace (with_node w n (moved x s ts))
+back-moves {S} M C w i n x m s ts h role e place held won copy start runs count list done typed put owns = go place
+  where
+    o : LineOf M C w i.top i.trace x.generation
+    o = i.each x.generation
+
+    l : Line S
+    l = o.line
+
+    y : Node S
+    y = moved x s ts
+
+    nx : x.role ≡ Spare → ⊥
+    nx k = (cc)
+
+    new : List Move
+    new = settled_moves l.stage l.base l.own (l.more ++ m ∷ []) (length l.held)
+
+    back_here : BackHere M C (slice_set w.nodes n y) x.generation (backed l (l.more ++ m ∷ []) l.stage l.held)
+    back_here = record {
+      b = y;
+      there = lead_there w n l.back x y h e;
+      generation = refl;
+      held = held;
+      backs = record {
+        state = AsAlone role won runs count list;
+        copy = copy;
+        start = start;
+        held = subst (λ es. IsPrefix es (entries (steps l.base) l.own)) (sym held) o.held;
+      };
+    }
+
+    moves_are : l.base ++ (cut (length x.held) l.own ++ (l.more ++ m ∷ [])) ≡ new
+    moves_are = ap (λ es. l.base ++ (cut (length es) l.own ++ (l.more ++ m ∷ []))) held
+        ∙ ap (λ z. settled_moves z l.base l.own (l.more ++ m ∷ []) (length l.held)) (sym won)
+
+    whole : ts ≡ inputs 0 new
+    whole = list ∙ ap (λ es. inputs 0 (l.base ++ (cut (length es) l.own ++ (l.more ++ m ∷ [])))) held
+        ∙ ap (λ z. inputs 0 (settled_moves z l.base l.own (l.more ++ m ∷ []) (length l.held))) (sym won)
+
+    go : BackPlace M w.nodes i.top i.trace x.generation l → Next M C i.trace (with_node w n y)
+    go (BackOld g q a) = (cc)
+    go (BackTop g q a) =
+        let grows : IsPrefix i.trace new =
+        subst (λ z. IsPrefix z new) q (settled-more l.stage l.base l.own l.more (m ∷ []) (length l.held)) in
+        relined M C w i x.generation n x y w.winners new h nx nx refl refl (λ k d. refl) grows (inr g)
+        (back-line M C w i.top n i.trace new x y o (l.more ++ m ∷ []) l.stage l.held w.winners e
+        (AtTop g refl (record {
+          a = a.a;
+          there = front_there M C w i.top n i.trace x y o e ∙ a.there;
+          generation = a.generation;
+          leads = a.leads;
+        }) back_here) o.tied (omega arith) o.held (λ z. z)
+        (prefix-refl new))
+        (global-grows M w.messages w.terminals w.puts i.trace new grows
+        (λ p. subst (λ us. acceptances p us ≤ length (accepted w p)) whole (done p))
+        (λ p. subst (λ us. IsPrefix (keys p us) (terminal w p).typed) whole (typed p))
+        (subst (λ us. ArePut w.puts us) whole put)
+        (subst (λ zs. Owns M [] M.boot zs) moves_are owns)
+        i.global)
+
+-- what an alone back is
+pub record BackAlone {S : Type 0} (M : Machine S) (l : Line S) (x : Node S) : Type 0 where
+  pub won : l.stage ≡ BackWon
+  pub runs : Runs M l.mid (cut (length x.held) l.own ++ l.more) x.machine
+  pub count : M.count x.machine ≡ steps l.base + steps (cut (length x.held) l.own ++ l.more)
+  pub list : x.list ≡ inputs 0 (l.base ++ (cut (length x.held) l.own ++ l.more))
+
+pub back-alone : {S : Type 0} (M : Machine S) (C : Copying S) (l : Line S) (x : Node S) →
+    Backs M C l.stage l.base l.own l.more l.mid x → x.role ≡ Alone → BackAlone M l x
+back-alone {S} M C l x b h = go b.state
+  where
+    go : BackState M C l.stage l.base l.own l.more l.mid x → BackAlone M l x
+    go (AsJoining r s f) = (cc)
+    go (AsBackup r s f) = (cc)
+    go (AsDraining r s m f) = (cc)
+    go (AsAlone r s u c k) = record { won = s; runs = u; count = c; list = k }
+
+-- its moves are the settled ones
+pub alone-trace : {S : Type 0} (M : Machine S) (C : Copying S) (w : World S) (i : Inv M C w) (x : Node S) →
+    BackPlace M w.nodes i.top i.trace x.generation (i.each x.generation).line →
+    x.held ≡ (i.each x.generation).line.held → BackAlone M (i.each x.generation).line x →
+    i.trace ≡ (i.each x.generation).line.base ++
+    (cut (length x.held) (i.each x.generation).line.own ++ (i.each x.generation).line.more)
+alone-trace {S} M C w i x place held k = go place
+  where
+    l : Line S
+    l = (i.each x.generation).line
+
+    go : BackPlace M w.nodes i.top i.trace x.generation l → i.trace ≡ l.base ++ (cut (length x.held) l.own ++ l.more)
+    go (BackOld g q a) = let won = k.won in (cc)
+    go (BackTop g q a) = sym q ∙ ap (λ z. settled_moves z l.base l.own l.more (length l.held)) k.won
+        ∙ ap (λ es. l.base ++ (cut (length es) l.own ++ l.more)) (sym held)
+
+pub back-does : {S : Type 0} (M : Machine S) (C : Copying S) (w : World S) (i : Inv M C w) (n : ℕ) (x : Node S)
+    (s : S) (v : Option Operation) →
+    slice_get w.nodes n ≡ Some x → x.role ≡ Alone → n ≡ (i.each x.generation).line.back →
+    BackPlace M w.nodes i.top i.trace x.generation (i.each x.generation).line →
+    x.held ≡ (i.each x.generation).line.held →
+    Backs M C (i.each x.generation).line.stage (i.each x.generation).line.base (i.each x.generation).line.own
+    (i.each x.generation).line.more (i.each x.generation).line.mid x →
+    M.step x.machine ≡ Some (s, v) → M.count s ≡ suc (M.count x.machine) →
+    Next M C i.trace (with_node w n (plainly_steps x s))
+back-does {S} M C w i n x s v h role e place held b step counted =
+    let l = (i.each x.generation).line in
+    let k = back-alone M C l x b role in
+    let z = cut (length x.held) l.own ++ l.more in
+    let y : (z ++ Do v ∷ []) ≡ cut (length x.held) l.own ++ (l.more ++ Do v ∷ []) =
+    append_assoc (cut (length x.held) l.own) l.more (Do v ∷ []) in
+    let t : x.list ≡ inputs 0 i.trace = k.list ∙ ap (inputs 0) (sym (alone-trace M C w i x place held k)) in
+    back-moves M C w i n x (Do v) s x.list h role e place held k.won b.copy b.start
+    (subst (λ zs. Runs M l.mid zs s) y (runs-append M l.mid x.machine s z (Do v ∷ []) k.runs (s, step, refl)))
+    (counted ∙ steps-do l.base z v (M.count x.machine) k.count ∙ ap (λ zs. steps l.base + steps zs) y)
+    (k.list ∙ sym (whole-do l.base z v) ∙ ap (λ zs. inputs 0 (l.base ++ zs)) y)
+    (λ p. subst (λ ts. acceptances p ts ≤ length (accepted w p)) (sym t) (i.global.done p))
+    (λ p. subst (λ ts. IsPrefix (keys p ts) (terminal w p).typed) (sym t) (i.global.typed p))
+    (subst (λ ts. ArePut w.puts ts) (sym t) i.global.put)
+    (subst (λ zs. Owns M [] M.boot (l.base ++ zs)) y
+    (subst (λ zs. Owns M [] M.boot zs) (append_assoc l.base z (Do v ∷ []))
+    (owns-append M [] M.boot x.machine (l.base ++ z) (Do v ∷ [])
+    (runs-append M M.boot l.mid x.machine l.base z (i.each x.generation).based k.runs)
+    (subst (λ zs. Owns M [] M.boot zs) (alone-trace M C w i x place held k) i.global.owns) (λ u q. tt))))
+
+pub back-accepts : {S : Type 0} (M : Machine S) (C : Copying S) (laws : Lawful M) (w : World S) (i : Inv M C w)
+    (n : ℕ) (x : Node S) (s : S) (inp : Input) →
+    slice_get w.nodes n ≡ Some x → x.role ≡ Alone → n ≡ (i.each x.generation).line.back →
+    BackPlace M w.nodes i.top i.trace x.generation (i.each x.generation).line →
+    x.held ≡ (i.each x.generation).line.held →
+    Backs M C (i.each x.generation).line.stage (i.each x.generation).line.base (i.each x.generation).line.own
+    (i.each x.generation).line.more (i.each x.generation).line.mid x →
+    MayTake M w x inp → M.take x.machine inp ≡ Some s → M.count s ≡ M.count x.machine →
+    Next M C i.trace (with_node w n (alone_takes M x s inp))
+back-accepts {S} M C laws w i n x s inp h role e place held b may take counted =
+    let o = i.each x.generation in
+    let l = o.line in
+    let k = back-alone M C l x b role in
+    let z = cut (length x.held) l.own ++ l.more in
+    let y : (z ++ Take inp ∷ []) ≡ cut (length x.held) l.own ++ (l.more ++ Take inp ∷ []) =
+    append_assoc (cut (length x.held) l.own) l.more (Take inp ∷ []) in
+    let t : x.list ≡ inputs 0 i.trace = k.list ∙ ap (inputs 0) (sym (alone-trace M C w i x place held k)) in
+    let from_boot = runs-append M M.boot l.mid x.machine l.base z o.based k.runs in
+    let taken : (p : ℕ) → M.keys x.machine p ≡ length (keys p x.list) =
+    λ p. laws.takes_keys (l.base ++ z) x.machine p from_boot ∙ ap (λ ts. length (keys p ts)) (sym k.list) in
+    let due : (p j : ℕ) → M.due_byte x.machine p ≡ Some j →
+    j ≡ acceptances p x.list + 1 = λ p j d. laws.due (l.base ++ z) x.machine p j from_boot d
+    ∙ ap (λ ts. acceptances p ts + 1) (sym k.list) in
+    back-moves M C w i n x (Take inp) s
+    (x.list ++ timed ((M.count x.machine)) inp ∷ []) h role e place held k.won b.copy b.start
+    (subst (λ zs. Runs M l.mid zs s) y (runs-append M l.mid x.machine s z (Take inp ∷ []) k.runs (s, take, refl)))
+    (counted ∙ steps-take l.base z inp (M.count x.machine) k.count ∙ ap (λ zs. steps l.base + steps zs) y)
+    (ap (λ ts. ts ++ timed ((M.count x.machine)) inp ∷ []) k.list
+    ∙ sym (whole-take l.base z inp (M.count x.machine) k.count) ∙ ap (λ zs. inputs 0 (l.base ++ zs)) y)
+    (done-take M w x inp (M.count x.machine) may due
+    (λ p. subst (λ ts. acceptances p ts ≤ length (accepted w p)) (sym t) (i.global.done p)))
+    (typed-take M w x inp (M.count x.machine) may taken
+    (λ p. subst (λ ts. IsPrefix (keys p ts) (terminal w p).typed) (sym t) (i.global.typed p)))
+    (put-take M w x inp (M.count x.machine) may i.global.written (subst (λ ts. ArePut w.puts ts) (sym t) i.global.put))
+    (subst (λ zs. Owns M [] M.boot (l.base ++ zs)) y
+    (subst (λ zs. Owns M [] M.boot zs) (append_assoc l.base z (Take inp ∷ []))
+    (owns-append M [] M.boot x.machine (l.base ++ z) (Take inp ∷ []) from_boot
+    (subst (λ zs. Owns M [] M.boot zs) (alone-trace M C w i x place held k) i.global.owns) (
+      own-take M laws w x inp (l.base ++ z) i.trace from_boot may
+          (same_prefix i.trace (l.base ++ z) (alone-trace M C w i x place held k)) i.global.reads,
+      λ u q. tt,
+    ))))

@@ -1,0 +1,101 @@
+-- What the disk has of a sector is its record at boot, or the write of greatest number that arrived there.
+use Rattle.std.proofs.Common.{◌≡◌, ◌≤◌, ◌<◌, [], ◌∷◌, ◌∙◌, Bool, List, ap, arith, cond, eq-eqb, eqb-true, false, inl, inr, ltb-false, ltb-true, refl, sym, true}
+use Rattle.std.specs.Prelude.{nat_lt, ◌==◌, ◌&&◌}
+use Rattle.disk_dcdd.specs.Address.{address_of, same_address}
+use Rattle.disk_dcdd.specs.declared.address.SectorAddress.{SectorAddress}
+use Rattle.disk_dcdd.specs.declared.sector.SectorWrite.{SectorWrite}
+use Rattle.guest_board.specs.Machine.{Machine}
+use Rattle.pair_protocol.specs.Copying.{Copying}
+use Rattle.pair_protocol.specs.Lawful.{Among}
+use Rattle.pair_protocol.specs.World.{SectorRecord, World, latest, record_after, sector_record}
+use Rattle.pair_protocol.proofs.Lines.{AtStart, Inv, IsRecord, OfWrite}
+
+-- the record of a sector is that at boot or a settled write's
+
+pub and_parts : (b c : Bool) → (b && c) ≡ true → (b ≡ true) × (c ≡ true)
+and_parts true c h = (refl, h)
+and_parts false c h = (cc)
+
+pub same_address-is : (a b : SectorAddress) → same_address a b ≡ true → a ≡ b
+same_address-is a b h =
+    let s = and_parts ((a.drive == b.drive) && (a.track == b.track)) (a.sector == b.sector) h in
+    let t = and_parts (a.drive == b.drive) (a.track == b.track) s.0 in
+    let d : a.drive ≡ b.drive = eqb-true a.drive b.drive t.0 in
+    let e : a.track ≡ b.track = eqb-true a.track b.track t.1 in
+    let f : a.sector ≡ b.sector = eqb-true a.sector b.sector s.1 in
+    λ i. record { drive = d i; track = e i; sector = f i }
+
+pub same_address-refl : (a b : SectorAddress) → a ≡ b → same_address a b ≡ true
+same_address-refl a b h =
+    let d = eq-eqb a.drive b.drive (ap (λ z. z.drive) h) in
+    let e = eq-eqb a.track b.track (ap (λ z. z.track) h) in
+    let f = eq-eqb a.sector b.sector (ap (λ z. z.sector) h) in
+    ap (λ v. (v && (a.track == b.track)) && (a.sector == b.sector)) d ∙ ap (λ v. v && (a.sector == b.sector)) e ∙ f
+
+abbrev pub record_of : SectorWrite → SectorRecord
+record_of v = record { number = v.number; bytes = v.bytes }
+
+-- a write that arrives leaves the record of a sector, or replaces one of a lower number
+pub data Replaced (r : SectorRecord) (v : SectorWrite) (q : SectorAddress) (new : SectorRecord) : Type 0 where
+  Kept : new ≡ r → (address_of v ≡ q → v.number ≤ r.number) → Replaced r v q new
+  Came : address_of v ≡ q → r.number < v.number → new ≡ record_of v → Replaced r v q new
+
+pub replaced : (r : SectorRecord) (v : SectorWrite) (q : SectorAddress) → Replaced r v q (record_after r v q)
+replaced r v q = go (same_address (address_of v) q) (nat_lt r.number v.number) refl refl
+  where
+    go : (a l : Bool) → same_address (address_of v) q ≡ a → nat_lt r.number v.number ≡ l →
+        Replaced r v q (cond a (cond l (record_of v) r) r)
+    go false l e f = Kept refl (λ k. (let t = same_address-refl (address_of v) q k in (cc)))
+    go true false e f = Kept refl (λ k. ltb-false r.number v.number f)
+    go true true e f = Came (same_address-is (address_of v) q e) (ltb-true r.number v.number f) refl
+
+pub data LatestIs (r : SectorRecord) (ws : List SectorWrite) (q : SectorAddress) (new : SectorRecord) : Type 0 where
+  AsBefore : new ≡ r → LatestIs r ws q new
+  OfPut : (v : SectorWrite) → Among v ws → address_of v ≡ q → new ≡ record_of v → LatestIs r ws q new
+
+pub latest_is : (r : SectorRecord) (ws : List SectorWrite) (q : SectorAddress) → LatestIs r ws q (latest r ws q)
+latest_is r [] q = AsBefore refl
+latest_is r (v ∷ ws) q = go (replaced r v q) (latest_is (record_after r v q) ws q)
+  where
+    go : Replaced r v q (record_after r v q) → LatestIs (record_after r v q) ws q (latest (record_after r v q) ws q) →
+        LatestIs r (v ∷ ws) q (latest (record_after r v q) ws q)
+    go x (OfPut u m a e) = OfPut u (inr m) a e
+    go (Kept k l) (AsBefore e) = AsBefore (e ∙ k)
+    go (Came a l k) (AsBefore e) = OfPut v (inl refl) a (e ∙ k)
+
+-- and no write of the sector that arrived has a greater number
+pub latest_ge : (r : SectorRecord) (ws : List SectorWrite) (q : SectorAddress) → r.number ≤ (latest r ws q).number
+latest_ge r [] q = omega arith
+latest_ge r (v ∷ ws) q = go (replaced r v q) (latest_ge (record_after r v q) ws q)
+  where
+    go : Replaced r v q (record_after r v q) →
+        (record_after r v q).number ≤ (latest (record_after r v q) ws q).number →
+        r.number ≤ (latest (record_after r v q) ws q).number
+    go (Kept k l) h = (let e = ap (λ (z : SectorRecord). z.number) k in omega arith)
+    go (Came a l k) h = (let e = ap (λ (z : SectorRecord). z.number) k in omega arith)
+
+pub latest_all : (r : SectorRecord) (ws : List SectorWrite) (q : SectorAddress) (u : SectorWrite) → Among u ws →
+    address_of u ≡ q → u.number ≤ (latest r ws q).number
+latest_all r [] q u h k = absurd h
+latest_all r (v ∷ ws) q u (inr h) k = latest_all (record_after r v q) ws q u h k
+latest_all r (v ∷ ws) q u (inl h) k = go (replaced r v q) (latest_ge (record_after r v q) ws q)
+  where
+    number : u.number ≡ v.number
+    number = ap (λ (z : SectorWrite). z.number) h
+
+    go : Replaced r v q (record_after r v q) →
+        (record_after r v q).number ≤ (latest (record_after r v q) ws q).number →
+        u.number ≤ (latest (record_after r v q) ws q).number
+    go (Kept e l) g = (let a = ap (λ (z : SectorRecord). z.number) e in let b = l (ap address_of (sym h) ∙ k) in
+        let n = number in omega arith)
+    go (Came a l e) g = (let b = ap (λ (z : SectorRecord). z.number) e in let n = number in omega arith)
+
+pub record_is : {S : Type 0} (M : Machine S) (C : Copying S) (w : World S) (i : Inv M C w) (q : SectorAddress) →
+    IsRecord M q (sector_record M w.puts q).number (sector_record M w.puts q).bytes i.trace
+record_is {S} M C w i q = go (latest_is (record { number = 0; bytes = M.boot_sector q }) w.puts q)
+  where
+    go : LatestIs (record { number = 0; bytes = M.boot_sector q }) w.puts q (sector_record M w.puts q) →
+        IsRecord M q (sector_record M w.puts q).number (sector_record M w.puts q).bytes i.trace
+    go (AsBefore e) = AtStart (ap (λ (z : SectorRecord). z.number) e) (ap (λ (z : SectorRecord). z.bytes) e)
+    go (OfPut v m a e) = OfWrite v (i.global.puts v m) a (ap (λ (z : SectorRecord). z.number) (sym e))
+        (ap (λ (z : SectorRecord). z.bytes) (sym e))

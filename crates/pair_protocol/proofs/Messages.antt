@@ -1,0 +1,242 @@
+-- A message more, from a node or from the disk, keeps the invariant.
+use Rattle.std.proofs.Common.{◌≡◌, ◌≤◌, [], ◌∷◌, ◌++◌, ◌⊎◌, List, Some, inl, inr, length, refl, subst, sym, ℕ}
+use Rattle.std.specs.Prelude.{slice_get}
+use Rattle.disk_dcdd.specs.declared.address.SectorAddress.{SectorAddress}
+use Rattle.disk_dcdd.specs.declared.sector.SectorWrite.{SectorWrite}
+use Rattle.event_callbacks.specs.declared.operations.Operation.{Operation}
+use Rattle.event_callbacks.specs.declared.operations.Operation.TheVariants.{Write}
+use Rattle.guest_board.specs.Machine.{Machine, Move}
+use Rattle.log_entry.specs.Entries.{entries}
+use Rattle.plain_single.specs.Reach.{operations, steps}
+use Rattle.pair_protocol.specs.Copying.{Copying}
+use Rattle.pair_protocol.specs.Lawful.{Among}
+use Rattle.pair_protocol.specs.Node.{Node, Spare}
+use Rattle.pair_protocol.specs.Refusals.{no_sector}
+use Rattle.pair_protocol.specs.World.{Acknowledgement, ImagePart, LogEntry, Message, Released, SectorRead, World, WriteDone, with_message}
+use Rattle.pair_protocol.proofs.Moves.{HasPut, among-left, among-right, among-split, prefix-refl}
+use Rattle.pair_protocol.proofs.Lines.{AtTop, BackLeft, Inv, IsRecord, LeadLeft, Line, LineOf, Next, Presence, Unseen, Unused, same_or_not}
+
+-- A message more.
+
+abbrev pub NotOf : ℕ → Message → Type 0
+NotOf k (LogEntry g i e) = k ≡ g → ⊥
+NotOf k (Acknowledgement g h) = k ≡ g → ⊥
+NotOf k (Released o) = Unit {0}
+NotOf k (ImagePart g i p) = k ≡ g → ⊥
+NotOf k (WriteDone n) = Unit {0}
+NotOf k (SectorRead q n bytes) = Unit {0}
+
+abbrev pub IsTrueAt : {S : Type 0} → Machine S → Copying S → Line S → ℕ → Message → Type 0
+IsTrueAt M C l k (LogEntry g i e) = k ≡ g → slice_get (entries (steps l.base) l.own) i ≡ Some e
+IsTrueAt M C l k (Acknowledgement g h) = k ≡ g → h ≤ length l.held
+IsTrueAt M C l k (Released o) = Unit {0}
+IsTrueAt M C l k (ImagePart g i p) = k ≡ g → slice_get (C.parts l.mid) i ≡ Some p
+IsTrueAt M C l k (WriteDone n) = Unit {0}
+IsTrueAt M C l k (SectorRead q n bytes) = Unit {0}
+
+pub not_of : {S : Type 0} (M : Machine S) (C : Copying S) (l : Line S) (k : ℕ) (m : Message) → NotOf k m →
+    IsTrueAt M C l k m
+not_of M C l k (LogEntry g i e) h = λ q. absurd (h q)
+not_of M C l k (Acknowledgement g j) h = λ q. absurd (h q)
+not_of M C l k (Released o) h = tt
+not_of M C l k (ImagePart g i p) h = λ q. absurd (h q)
+not_of M C l k (WriteDone n) h = tt
+not_of M C l k (SectorRead q n bytes) h = tt
+
+pub message-split : (x m : Message) (ms : List Message) → Among x (ms ++ m ∷ []) → Among x ms ⊎ (x ≡ m)
+message-split x m ms h = go (among-split x ms (m ∷ []) h)
+  where
+    go : Among x ms ⊎ Among x (m ∷ []) → Among x ms ⊎ (x ≡ m)
+    go (inl k) = inl k
+    go (inr (inl k)) = inr k
+    go (inr (inr k)) = absurd k
+
+pub line-message : {S : Type 0} (M : Machine S) (C : Copying S) (w : World S) (top k : ℕ) (T : List Move) (m : Message)
+    (o : LineOf M C w top T k) → IsTrueAt M C o.line k m → (Unseen w.nodes w.messages w.winners k → NotOf k m) →
+    LineOf M C (with_message w m) top T k
+line-message {S} M C w top k T m o true_at unused = record {
+  line = o.line;
+  presence = presence o.presence;
+  based = o.based;
+  led = o.led;
+  tied = o.tied;
+  apart = o.apart;
+  held = o.held;
+  members = o.members;
+  logs = λ i e h. elim (message-split (LogEntry k i e) m w.messages h) [
+    | inl q ↦ o.logs i e q
+    | inr q ↦ subst (IsTrueAt M C o.line k) (sym q) true_at refl
+  ];
+  acks = λ j h. elim (message-split (Acknowledgement k j) m w.messages h) [
+    | inl q ↦ o.acks j q
+    | inr q ↦ subst (IsTrueAt M C o.line k) (sym q) true_at refl
+  ];
+  parts = λ i p h. elim (message-split (ImagePart k i p) m w.messages h) [
+    | inl q ↦ o.parts i p q
+    | inr q ↦ subst (IsTrueAt M C o.line k) (sym q) true_at refl
+  ];
+  done = o.done;
+  typed = o.typed;
+  put = o.put;
+  owns = o.owns;
+  below = o.below;
+}
+  where
+    presence : Presence M C w.nodes w.messages w.winners top T k o.line →
+        Presence M C w.nodes (w.messages ++ m ∷ []) w.winners top T k o.line
+    presence (AtTop g s l b) = AtTop g s l b
+    presence (LeadLeft g s l b) = LeadLeft g s l b
+    presence (BackLeft g s b l) = BackLeft g s b l
+    presence (Unused g u) = Unused g (record {
+      nobody = u.nobody;
+      no_log = λ i e h. elim (message-split (LogEntry k i e) m w.messages h) [
+        | inl q ↦ u.no_log i e q
+        | inr q ↦ subst (NotOf k) (sym q) (unused u) refl
+      ];
+      no_ack = λ j h. elim (message-split (Acknowledgement k j) m w.messages h) [
+        | inl q ↦ u.no_ack j q
+        | inr q ↦ subst (NotOf k) (sym q) (unused u) refl
+      ];
+      no_part = λ i p h. elim (message-split (ImagePart k i p) m w.messages h) [
+        | inl q ↦ u.no_part i p q
+        | inr q ↦ subst (NotOf k) (sym q) (unused u) refl
+      ];
+      no_winner = u.no_winner;
+    })
+
+-- of a message of a node's generation, it is true there
+pub keep-message : {S : Type 0} (M : Machine S) (C : Copying S) (w : World S) (i : Inv M C w) (n : ℕ) (x : Node S)
+    (m : Message) → slice_get w.nodes n ≡ Some x → (x.role ≡ Spare → ⊥) →
+    ((k : ℕ) → (k ≡ x.generation → ⊥) → NotOf k m) → IsTrueAt M C (i.each x.generation).line x.generation m →
+    ((o : Operation) → m ≡ Released o → Among o (operations i.trace)) → ((n : ℕ) → m ≡ WriteDone n → ⊥) →
+    ((q : SectorAddress) (n : ℕ) (bytes : List ℕ) → m ≡ SectorRead q n bytes → ⊥) →
+    Next M C i.trace (with_message w m)
+keep-message {S} M C w i n x m h nx others here sends no_written no_sector = record {
+  inv = record {
+    top = i.top;
+    trace = i.trace;
+    each = λ k. line-message M C w i.top k i.trace m (i.each k)
+        (elim (same_or_not k x.generation) [
+          | inl e ↦ subst (λ j. IsTrueAt M C (i.each j).line j m) (sym e) here
+          | inr d ↦ not_of M C (i.each k).line k m (others k d)
+        ])
+        (λ u. elim (same_or_not k x.generation) [ inl e ↦ absurd (u.nobody n x h nx (sym e)) | inr d ↦ others k d ]);
+    global = record {
+      sends = λ o k. elim (message-split (Released o) m w.messages k) [
+        | inl q ↦ i.global.sends o q
+        | inr q ↦ sends o (sym q)
+      ];
+      arrived = i.global.arrived;
+      done = i.global.done;
+      typed = i.global.typed;
+      told = i.global.told;
+      puts = i.global.puts;
+      put = i.global.put;
+      owns = i.global.owns;
+      reads = λ q j bytes k. elim (message-split (SectorRead q j bytes) m w.messages k)
+          [ inl e ↦ i.global.reads q j bytes e | inr e ↦ absurd (no_sector q j bytes (sym e)) ];
+      written = λ j k. elim (message-split (WriteDone j) m w.messages k) [
+        | inl e ↦ i.global.written j e
+        | inr e ↦ absurd (no_written j (sym e))
+      ];
+    };
+    spares = i.spares;
+  };
+  grows = prefix-refl i.trace;
+}
+
+-- The disk: a write arrives, a sector is read.
+
+pub put-more : (ws : List SectorWrite) (v : SectorWrite) (n : ℕ) → HasPut ws n → HasPut (ws ++ v ∷ []) n
+put-more ws v n h = (h.0, among-left h.0 ws (v ∷ []) h.1, h.2)
+
+pub keep-puts : {S : Type 0} (M : Machine S) (C : Copying S) (w : World S) (i : Inv M C w) (v : SectorWrite) →
+    Among (Write v) (operations i.trace) →
+    Next M C i.trace (record w { messages = w.messages ++ WriteDone v.number ∷ []; puts = w.puts ++ v ∷ [] })
+keep-puts {S} M C w i v h = record {
+  inv = record {
+    top = i.top;
+    trace = i.trace;
+    each = λ k. (let o = line-message M C w i.top k i.trace (WriteDone v.number) (i.each k) tt (λ u. tt) in record {
+      line = o.line;
+      presence = o.presence;
+      based = o.based;
+      led = o.led;
+      tied = o.tied;
+      apart = o.apart;
+      held = o.held;
+      members = o.members;
+      logs = o.logs;
+      acks = o.acks;
+      parts = o.parts;
+      done = o.done;
+      typed = o.typed;
+      put = λ n q. put-more w.puts v n (o.put n q);
+      owns = o.owns;
+      below = o.below;
+    });
+    global = record {
+      sends = λ o k. elim (message-split (Released o) (WriteDone v.number) w.messages k) [
+        | inl q ↦ i.global.sends o q
+        | inr q ↦ absurd (cc)
+      ];
+      arrived = i.global.arrived;
+      done = i.global.done;
+      typed = i.global.typed;
+      told = i.global.told;
+      puts = λ u k. elim (among-split u w.puts (v ∷ []) k) [
+        | inl q ↦ i.global.puts u q
+        | inr q ↦ elim q [
+          | inl e ↦ subst (λ z. Among (Write z) (operations i.trace)) (sym e) h
+          | inr e ↦ absurd e
+        ]
+      ];
+      put = λ n q. put-more w.puts v n (i.global.put n q);
+      owns = i.global.owns;
+      reads = λ q j bytes k. elim (message-split (SectorRead q j bytes) (WriteDone v.number) w.messages k)
+          [ inl e ↦ i.global.reads q j bytes e | inr e ↦ absurd (cc) ];
+      written = λ j k. elim (message-split (WriteDone j) (WriteDone v.number) w.messages k) [
+        | inl e ↦ put-more w.puts v j (i.global.written j e)
+        | inr e ↦ (v, among-right v w.puts (v ∷ []) (inl refl), (let f : j ≡ v.number = (cc) in sym f))
+      ];
+    };
+    spares = i.spares;
+  };
+  grows = prefix-refl i.trace;
+}
+
+pub keep-reads : {S : Type 0} (M : Machine S) (C : Copying S) (w : World S) (i : Inv M C w) (q : SectorAddress)
+    (n : ℕ) (bytes : List ℕ) → IsRecord M q n bytes i.trace → Next M C i.trace (with_message w (SectorRead q n bytes))
+keep-reads {S} M C w i q n bytes h = record {
+  inv = record {
+    top = i.top;
+    trace = i.trace;
+    each = λ k. line-message M C w i.top k i.trace (SectorRead q n bytes) (i.each k) tt (λ u. tt);
+    global = record {
+      sends = λ o k. elim (message-split (Released o) (SectorRead q n bytes) w.messages k)
+          [ inl e ↦ i.global.sends o e | inr e ↦ absurd (cc) ];
+      arrived = i.global.arrived;
+      done = i.global.done;
+      typed = i.global.typed;
+      told = i.global.told;
+      puts = i.global.puts;
+      put = i.global.put;
+      owns = i.global.owns;
+      reads = λ r j bs k. elim (message-split (SectorRead r j bs) (SectorRead q n bytes) w.messages k)
+          [ inl e ↦ i.global.reads r j bs e | inr e ↦ same_read r j bs e ];
+      written = λ j k. elim (message-split (WriteDone j) (SectorRead q n bytes) w.messages k)
+          [ inl e ↦ i.global.written j e | inr e ↦ absurd (cc) ];
+    };
+    spares = i.spares;
+  };
+  grows = prefix-refl i.trace;
+}
+  where
+    same_read : (r : SectorAddress) (j : ℕ) (bs : List ℕ) → SectorRead r j bs ≡ SectorRead q n bytes →
+        IsRecord M r j bs i.trace
+    same_read r j bs e =
+        let a : r ≡ q = (cc) in
+        let b : j ≡ n = (cc) in
+        let c : bs ≡ bytes = (cc) in
+        subst (λ z. IsRecord M z j bs i.trace) (sym a)
+        (subst (λ z. IsRecord M q z bs i.trace) (sym b) (subst (λ z. IsRecord M q n z i.trace) (sym c) h))

@@ -1,0 +1,154 @@
+-- What is known of a node and of a message where a refusal passes.
+use Rattle.std.proofs.Common.{◌≡◌, [], ◌∷◌, ◌⊎◌, ◌∙◌, Bool, List, None, Option, Some, ap, cond, false, inl, inr, not, refl, subst, sym, true, ℕ}
+use Rattle.std.specs.Prelude.{slice_get, ◌&&◌, ◌||◌}
+use Rattle.guest_board.specs.Machine.{Machine}
+use Rattle.i8080_words.specs.declared.refusal.Fault.{Fault}
+use Rattle.i8080_words.specs.declared.refusal.Fault.TheVariants.{Lost, Unknown, WrongRole}
+use Rattle.pair_protocol.specs.Change.{Acts, Change, Changes, Serving, Stays, Then}
+use Rattle.pair_protocol.specs.Copying.{Copying}
+use Rattle.pair_protocol.specs.Lawful.{Among}
+use Rattle.pair_protocol.specs.Node.{Alone, Backup, Draining, Joining, Node, Primary, Role, Spare, acts_as, is_role}
+use Rattle.pair_protocol.specs.Refusals.{at_node, fault_if, first_of, role_refusal, serves}
+use Rattle.pair_protocol.specs.World.{World}
+
+pub one : {S : Type 0} (M : Machine S) (C : Copying S) (w new : World S) → Change M C w new → Changes M C w new
+one M C w new c = Then c Stays
+
+pub unchanged : {S : Type 0} (M : Machine S) (C : Copying S) (w new : World S) → new ≡ w → Changes M C w new
+unchanged M C w new e = subst (λ v. Changes M C w v) (sym e) Stays
+
+pub changed : {S : Type 0} (M : Machine S) (C : Copying S) (w new v : World S) → new ≡ v → Change M C w v →
+    Changes M C w new
+changed M C w new v e c = subst (λ u. Changes M C w u) (sym e) (one M C w v c)
+
+pub changes-append : {S : Type 0} (M : Machine S) (C : Copying S) (w v new : World S) → Changes M C w v →
+    Changes M C v new → Changes M C w new
+changes-append M C w v new Stays d = d
+changes-append M C w v new (Then {mid = u} c cs) d = Then c (changes-append M C u v new cs d)
+
+-- ---- what is known where a refusal passes
+
+pub first-passed : (o : Option Fault) (rest : List (Option Fault)) → first_of (o ∷ rest) ≡ None →
+    (o ≡ None) × (first_of rest ≡ None)
+first-passed None rest h = (refl, h)
+first-passed (Some fault) rest h = (cc)
+
+pub only-passed : (o : Option Fault) → first_of (o ∷ []) ≡ None → o ≡ None
+only-passed o h = (first-passed o [] h).0
+
+pub not-stands : (b : Bool) (fault : Fault) → fault_if b fault ≡ None → b ≡ false
+not-stands true fault h = (cc)
+not-stands false fault h = refl
+
+pub not-false : (b : Bool) → not b ≡ false → b ≡ true
+not-false true h = refl
+not-false false h = (cc)
+
+pub passes-if : (b : Bool) (fault : Fault) → fault_if (not b) fault ≡ None → b ≡ true
+passes-if b fault h = not-false b (not-stands (not b) fault h)
+
+pub or-false : (a b : Bool) → (a || b) ≡ false → (a ≡ false) × (b ≡ false)
+or-false true b h = (cc)
+or-false false b h = (refl, h)
+
+pub and-false : (a b : Bool) → a ≡ true → (a && b) ≡ false → b ≡ false
+and-false true b e h = h
+and-false false b e h = (cc)
+
+pub role_of : (a b : Role) → is_role a b ≡ true → a ≡ b
+role_of Primary Primary h = refl
+role_of Primary Backup h = (cc)
+role_of Primary Joining h = (cc)
+role_of Primary Draining h = (cc)
+role_of Primary Alone h = (cc)
+role_of Primary Spare h = (cc)
+role_of Backup Primary h = (cc)
+role_of Backup Backup h = refl
+role_of Backup Joining h = (cc)
+role_of Backup Draining h = (cc)
+role_of Backup Alone h = (cc)
+role_of Backup Spare h = (cc)
+role_of Joining Primary h = (cc)
+role_of Joining Backup h = (cc)
+role_of Joining Joining h = refl
+role_of Joining Draining h = (cc)
+role_of Joining Alone h = (cc)
+role_of Joining Spare h = (cc)
+role_of Draining Primary h = (cc)
+role_of Draining Backup h = (cc)
+role_of Draining Joining h = (cc)
+role_of Draining Draining h = refl
+role_of Draining Alone h = (cc)
+role_of Draining Spare h = (cc)
+role_of Alone Primary h = (cc)
+role_of Alone Backup h = (cc)
+role_of Alone Joining h = (cc)
+role_of Alone Draining h = (cc)
+role_of Alone Alone h = refl
+role_of Alone Spare h = (cc)
+role_of Spare Primary h = (cc)
+role_of Spare Backup h = (cc)
+role_of Spare Joining h = (cc)
+role_of Spare Draining h = (cc)
+role_of Spare Alone h = (cc)
+role_of Spare Spare h = refl
+
+pub is_role-refl : (a : Role) → is_role a a ≡ true
+is_role-refl Primary = refl
+is_role-refl Backup = refl
+is_role-refl Joining = refl
+is_role-refl Draining = refl
+is_role-refl Alone = refl
+is_role-refl Spare = refl
+
+-- the role that it acts in
+pub acts-role : {S : Type 0} (w : World S) (n : ℕ) (x : Node S) (rs : List Role) → slice_get w.nodes n ≡ Some x →
+    acts_as x rs ≡ true → (r : Role) × Acts w n x r × Among r rs
+acts-role w n x [] t h = (cc)
+acts-role {S} w n x (r ∷ rs) t h = go (x.running) (is_role x.role r) refl refl (λ k. acts-role w n x rs t k) h
+  where
+    go : (u v : Bool) → x.running ≡ u → is_role x.role r ≡ v →
+        (acts_as x rs ≡ true → (q : Role) × Acts w n x q × Among q rs) → ((u && v) || acts_as x rs) ≡ true →
+        (q : Role) × Acts w n x q × Among q (r ∷ rs)
+    go true true eu ev rest k = (r, record { there = t; up = eu; role_is = role_of x.role r ev }, inl refl)
+    go true false eu ev rest k = let a = rest k in (a.0, a.1, inr a.2)
+    go false v eu ev rest k = let a = rest k in (a.0, a.1, inr a.2)
+
+pub one_role : (r q : Role) → Among r (q ∷ []) → r ≡ q
+one_role r q (inl h) = h
+one_role r q (inr h) = absurd h
+
+pub two_roles : (r p q : Role) → Among r (p ∷ q ∷ []) → (r ≡ p) ⊎ (r ≡ q)
+two_roles r p q (inl h) = inl h
+two_roles r p q (inr (inl h)) = inr h
+two_roles r p q (inr (inr h)) = absurd h
+
+pub acts-in : {S : Type 0} (w : World S) (n : ℕ) (x : Node S) (q : Role) → slice_get w.nodes n ≡ Some x →
+    role_refusal (q ∷ []) x ≡ None → Acts w n x q
+acts-in w n x q t h = let a = acts-role w n x (q ∷ []) t (passes-if (acts_as x (q ∷ [])) WrongRole h) in
+    record { there = t; up = a.1.up; role_is = a.1.role_is ∙ one_role a.0 q a.2 }
+
+pub serving : {S : Type 0} (w : World S) (n : ℕ) (x : Node S) → slice_get w.nodes n ≡ Some x → serves x ≡ None →
+    (r : Role) × Acts w n x r × Serving r
+serving w n x t h = let a = acts-role w n x (Primary ∷ Alone ∷ []) t
+    (passes-if (acts_as x (Primary ∷ Alone ∷ [])) WrongRole h) in (a.0, a.1, two_roles a.0 Primary Alone a.2)
+
+-- the node's part passes, and the node is no spare host
+pub node-passed : {S : Type 0} (o : Option (Node S)) (x : Node S) (part : Node S → Option Fault) → o ≡ Some x →
+    at_node o part ≡ None → (x.role ≡ Spare → ⊥) × (part x ≡ None)
+node-passed o x part e h = go (is_role x.role Spare) refl (subst (λ z. at_node z part ≡ None) e h)
+  where
+    go : (b : Bool) → is_role x.role Spare ≡ b → cond b (Some Unknown) (part x) ≡ None →
+        (x.role ≡ Spare → ⊥) × (part x ≡ None)
+    go true t k = (cc)
+    go false t k = (λ s. (let u : is_role x.role Spare ≡ true = ap (λ r. is_role r Spare) s in (cc)), k)
+
+-- a node that lost is no spare host
+pub lost-no_spare : {S : Type 0} (o : Option (Node S)) (x : Node S) (part : Node S → Option Fault) → o ≡ Some x →
+    at_node o part ≡ Some Lost → x.role ≡ Spare → ⊥
+lost-no_spare o x part e h s =
+    let u : is_role x.role Spare ≡ true = ap (λ r. is_role r Spare) s in
+    let k : cond (is_role x.role Spare) (Some Unknown) (part x) ≡ Some Lost =
+    subst (λ z. at_node z part ≡ Some Lost) e h in
+    let j : Some Unknown ≡ Some Lost = subst (λ b. cond b (Some Unknown) (part x) ≡ Some Lost) u k in
+    (cc)

@@ -1,0 +1,195 @@
+-- The invariant gives every promise of a faithful world, and that what is settled grows.
+use Rattle.std.proofs.Common.{◌≡◌, ◌+◌, ◌≤◌, [], ◌∷◌, ◌++◌, ◌⊎◌, ◌∙◌, Bool, List, None, Some, ap, arith, cond, false, inl, inr, not, refl, subst, suc, sym, true, ℕ}
+use Rattle.std.specs.Prelude.{slice_get}
+use Rattle.disk_dcdd.specs.Address.{address_of}
+use Rattle.disk_dcdd.specs.declared.address.SectorAddress.{SectorAddress}
+use Rattle.disk_dcdd.specs.declared.sector.SectorWrite.{SectorWrite}
+use Rattle.event_callbacks.specs.declared.operations.Operation.TheVariants.{Write}
+use Rattle.guest_board.specs.Machine.{Do, Machine, Move, Runs, Take}
+use Rattle.i8080_words.specs.declared.refusal.Fault.TheVariants.{Lost, NotWhole, OutOfMemory, Unknown, WrongRole}
+use Rattle.plain_single.specs.Reach.{image, inputs, operations, steps}
+use Rattle.plain_single.specs.declared.timed.Timed.{Timed}
+use Rattle.pair_protocol.specs.Change.{After, AtBoot, Reached}
+use Rattle.pair_protocol.specs.Copying.{Copying, IsCopying}
+use Rattle.pair_protocol.specs.Event.{Refused, Reply, Suspect, Won}
+use Rattle.pair_protocol.specs.Faithful.{Faithful, IsImage, IsOutstanding, IsPrefix, MayAsk, MayHave}
+use Rattle.pair_protocol.specs.Grows.{AllFrom, Extends}
+use Rattle.pair_protocol.specs.Lawful.{Among, IsUnwritten, IsWritten, Lawful}
+use Rattle.pair_protocol.specs.Node.{Alone, Joining, Node, Spare, is_role}
+use Rattle.pair_protocol.specs.Refusals.{ask_refusal, at_node, fault_if, first_of, is_other, refusal}
+use Rattle.pair_protocol.specs.Row.{Accepts, DeviceFails, Refuses, Row, WantsMemory}
+use Rattle.pair_protocol.specs.Settled.{Settled}
+use Rattle.pair_protocol.specs.World.{SectorRecord, World, sector_record, winner_in}
+use Rattle.pair_protocol.proofs.Moves.{inputs-append, steps-append}
+use Rattle.pair_protocol.proofs.Generations.{BackWon, LeadWon}
+use Rattle.pair_protocol.proofs.Lines.{Inv}
+use Rattle.pair_protocol.proofs.Frames.{Acting, BackOld, BackTop, IsBack, IsLead, LeadOld, LeadTop, acting}
+use Rattle.pair_protocol.proofs.Backing.{back-alone}
+use Rattle.pair_protocol.proofs.Disk.{AsBefore, LatestIs, OfPut, latest_all, latest_is}
+use Rattle.pair_protocol.proofs.Actors.{at_boot}
+use Rattle.pair_protocol.proofs.Actions.{keep}
+use Rattle.pair_protocol.proofs.Passed.{role_of}
+use Rattle.pair_protocol.proofs.Outputs.{output_is, trace_runs}
+use Rattle.pair_protocol.proofs.Settling.{settled_is, settles_trace}
+
+-- At most one node is alone.
+
+pub data HasWon {S : Type 0} (M : Machine S) (C : Copying S) (w : World S) (i : Inv M C w) (n : ℕ) : Type 0 where
+  AsLead : n ≡ (i.each i.top).line.lead → (i.each i.top).line.stage ≡ LeadWon → HasWon M C w i n
+  AsBack : n ≡ (i.each i.top).line.back → (i.each i.top).line.stage ≡ BackWon → HasWon M C w i n
+
+pub won_at : {S : Type 0} (M : Machine S) (C : Copying S) (w : World S) (i : Inv M C w) (n g : ℕ) → g ≡ i.top →
+    ((n ≡ (i.each g).line.lead) × ((i.each g).line.stage ≡ LeadWon))
+    ⊎ ((n ≡ (i.each g).line.back) × ((i.each g).line.stage ≡ BackWon)) → HasWon M C w i n
+won_at M C w i n g e h = elim (subst (λ k. ((n ≡ (i.each k).line.lead) × ((i.each k).line.stage ≡ LeadWon))
+    ⊎ ((n ≡ (i.each k).line.back) × ((i.each k).line.stage ≡ BackWon))) e h) [
+      | inl q ↦ AsLead q.0 q.1
+      | inr q ↦ AsBack q.0 q.1
+    ]
+
+pub alone_won : {S : Type 0} (M : Machine S) (C : Copying S) (w : World S) (i : Inv M C w) (n : ℕ) (x : Node S) →
+    slice_get w.nodes n ≡ Some x → x.role ≡ Alone → HasWon M C w i n
+alone_won {S} M C w i n x h role = go (acting M C w i.top i.trace n x (i.each x.generation) h (λ k. (cc)))
+  where
+    go : Acting M C w i.top i.trace n x (i.each x.generation) → HasWon M C w i n
+    go (IsLead e l (LeadTop g s b)) =
+        won_at M C w i n x.generation g (inl (e, elim l.role [ inl r ↦ absurd (cc) | inr r ↦ r.1 ]))
+    go (IsLead e l (LeadOld g s b)) = absurd (elim l.role [ inl r ↦ (cc) | inr r ↦ (let k = r.1 in (cc)) ])
+    go (IsBack e held b (BackTop g s q)) =
+        won_at M C w i n x.generation g (inr (e, (back-alone M C (i.each x.generation).line x b role).won))
+    go (IsBack e held b (BackOld g s q)) =
+        (let k = (back-alone M C (i.each x.generation).line x b role).won in absurd (cc))
+
+pub live_once : {S : Type 0} (M : Machine S) (C : Copying S) (w : World S) (i : Inv M C w) (n m : ℕ) (x y : Node S) →
+    slice_get w.nodes n ≡ Some x → slice_get w.nodes m ≡ Some y → x.role ≡ Alone → y.role ≡ Alone → n ≡ m
+live_once {S} M C w i n m x y h k a b = go (alone_won M C w i n x h a) (alone_won M C w i m y k b)
+  where
+    go : HasWon M C w i n → HasWon M C w i m → n ≡ m
+    go (AsLead e s) (AsLead f t) = e ∙ sym f
+    go (AsLead e s) (AsBack f t) = (cc)
+    go (AsBack e s) (AsLead f t) = (cc)
+    go (AsBack e s) (AsBack f t) = e ∙ sym f
+
+-- every sector has the machine's own bytes, or those of an outstanding write
+pub disk_is : {S : Type 0} (M : Machine S) (C : Copying S) (laws : Lawful M) (w : World S) (i : Inv M C w) (t : S) →
+    Runs M M.boot i.trace t → (q : SectorAddress) → MayHave M i.trace t q (sector_record M w.puts q).bytes
+disk_is {S} M C laws w i t runs q = go (latest_is start w.puts q) (laws.own_disk i.trace t q runs)
+  where
+    start : SectorRecord
+    start = record { number = 0; bytes = M.boot_sector q }
+
+    here : SectorRecord
+    here = sector_record M w.puts q
+
+    -- a write that arrived, no earlier than the last completed one
+    late : (v : SectorWrite) → Among (Write v) (operations i.trace) → address_of v ≡ q → here.bytes ≡ v.bytes →
+        ((v.number ≤ M.done t q) → v.bytes ≡ image M i.trace q) → MayHave M i.trace t q here.bytes
+    late v a k e exact = elim (laws.write_is i.trace t v runs a) [
+      | inl l ↦ IsImage (e ∙ exact (subst (λ z. v.number ≤ M.done t z) k l))
+      | inr p ↦ IsOutstanding v p k e
+    ]
+
+    go : LatestIs start w.puts q here → IsUnwritten M i.trace t q ⊎ IsWritten M i.trace t q →
+        MayHave M i.trace t q here.bytes
+    go (AsBefore h) (inl o) = IsImage (ap (λ (z : SectorRecord). z.bytes) h ∙ sym o.bytes)
+    go (OfPut v put k h) (inl o) = late v (i.global.puts v put) k (ap (λ (z : SectorRecord). z.bytes) h) (λ l.
+        (let m = laws.write_some i.trace t v runs (i.global.puts v put) in let e = o.none in absurd (omega arith)))
+    go (AsBefore h) (inr o) =
+        let p = i.global.put o.write.number o.completed in
+        let same : p.0 ≡ o.write = laws.write_once i.trace t p.0 o.write runs (i.global.puts p.0 p.1) o.issued p.2 in
+        let g = latest_all start w.puts q p.0 p.1 (ap address_of same ∙ o.there) in
+        let m = laws.write_some i.trace t o.write runs o.issued in
+        let e = ap (λ (z : SectorRecord). z.number) h in
+        let n = p.2 in
+        absurd (omega arith)
+    go (OfPut v put k h) (inr o) = late v (i.global.puts v put) k (ap (λ (z : SectorRecord). z.bytes) h) (λ l.
+        (let p = i.global.put o.write.number o.completed in
+        let same : p.0 ≡ o.write = laws.write_once i.trace t p.0 o.write runs (i.global.puts p.0 p.1) o.issued p.2 in
+        let g = latest_all start w.puts q p.0 p.1 (ap address_of same ∙ o.there) in
+        let e = ap (λ (z : SectorRecord). z.number) h in
+        let f = o.last in
+        let n = p.2 in
+        let eq : o.write.number ≡ v.number = omega arith in
+        let u : o.write ≡ v = laws.write_once i.trace t o.write v runs o.issued (i.global.puts v put) eq in
+        ap (λ (z : SectorWrite). z.bytes) (sym u) ∙ o.bytes))
+
+-- ---- who asks first wins
+
+pub is_false : (b : Bool) → (b ≡ true → ⊥) → b ≡ false
+is_false true h = absurd (h refl)
+is_false false h = refl
+
+pub may_ask : {S : Type 0} (M : Machine S) (C : Copying S) (w : World S) (n : ℕ) (x : Node S) → MayAsk w n x →
+    refusal M C w (Suspect n) ≡ None
+may_ask M C w n x m =
+    ap (λ z. at_node z (ask_refusal w n)) m.there
+    ∙ ap (λ b. cond b (Some Unknown) (ask_refusal w n x))
+    (is_false (is_role x.role Spare) (λ t. m.a_node (role_of x.role Spare t)))
+    ∙ ap (λ b. first_of (first_of (fault_if (not b) WrongRole ∷ fault_if (is_role x.role Joining) NotWhole ∷ []) ∷
+    fault_if (is_other (winner_in w.winners x.generation) n) Lost ∷ [])) m.up
+    ∙ ap (λ b. first_of (first_of (fault_if b NotWhole ∷ []) ∷ fault_if
+    (is_other (winner_in w.winners x.generation) n) Lost ∷ []))
+    (is_false (is_role x.role Joining) (λ t. m.whole (role_of x.role Joining t)))
+    ∙ ap (λ o. first_of (fault_if (is_other o n) Lost ∷ [])) m.undecided
+
+pub asks : {S : Type 0} (M : Machine S) (C : Copying S) (w : World S) (n : ℕ) (x : Node S) (r : Reply) (new : World S) →
+    MayAsk w n x → Row M C w (Suspect n) r new → (r ≡ Won) ⊎ (r ≡ Refused OutOfMemory)
+asks M C w n x r new m (Accepts p d) = inl d.reply
+asks M C w n x r new m (Refuses {fault = fault} p d) = let e = sym (may_ask M C w n x m) ∙ p in (cc)
+asks M C w n x r new m (DeviceFails p d) = (cc)
+asks M C w n x r new m (WantsMemory p d) = inr refl
+
+pub faithful : {S : Type 0} (M : Machine S) (C : Copying S) → Lawful M → (w : World S) → Inv M C w → Faithful M C w
+faithful M C laws w i =
+    let r = trace_runs M C w i in
+    record {
+      list = inputs 0 i.trace;
+      count = steps i.trace;
+      settled = settled_is M C w i;
+      trace = i.trace;
+      reach = record { last = r.0; runs = r.1; owns = i.global.owns; list_is = refl; count_is = refl };
+      disk = λ q. disk_is M C laws w i r.0 r.1 q;
+      output = output_is M C laws w i;
+      typed = i.global.typed;
+      told = i.global.told;
+      wins = asks M C w;
+      one_live = live_once M C w i;
+    }
+
+-- What is settled only grows.
+
+pub inputs_later : (d c : ℕ) (ms : List Move) → d ≤ c → AllFrom d (inputs c ms)
+inputs_later d c [] h = tt
+inputs_later d c (Do o ∷ ms) h = inputs_later d (suc c) ms (omega arith)
+inputs_later d c (Take i ∷ ms) h = (h, inputs_later d c ms h)
+
+pub extends : (old new : List Move) → IsPrefix old new → Extends (inputs 0 old) (steps old) (inputs 0 new) (steps new)
+extends old new p = record {
+  added = inputs (0 + steps old) p.0;
+  goes_on = sym (inputs-append 0 old p.0) ∙ ap (inputs 0) p.1;
+  count_grows = (let e = steps-append old p.0 in let f = ap steps p.1 in omega arith);
+  added_later = inputs_later (steps old) (0 + steps old) p.0 (omega arith);
+}
+
+pub extends_at : (l l' k k' : List Timed) (n n' m m' : ℕ) → l ≡ k → n ≡ m → l' ≡ k' → n' ≡ m' → Extends k m k' m' →
+    Extends l n l' n'
+extends_at l l' k k' n n' m m' a b c d e = record {
+  added = e.added;
+  goes_on = ap (λ ts. ts ++ e.added) a ∙ e.goes_on ∙ sym c;
+  count_grows = (let f = e.count_grows in omega arith);
+  added_later = subst (λ z. AllFrom z e.added) (sym b) e.added_later;
+}
+
+pub grows_by : {S : Type 0} (M : Machine S) (C : Copying S) (w new : World S) (i : Inv M C w) (j : Inv M C new) →
+    IsPrefix i.trace j.trace → (l : List Timed) (n : ℕ) (l' : List Timed) (n' : ℕ) → Settled M w l n →
+    Settled M new l' n' → Extends l n l' n'
+grows_by M C w new i j p l n l' n' h k =
+    let a = settles_trace M C w i h.n h.x h.settles in
+    let b = settles_trace M C new j k.n k.x k.settles in
+    extends_at l l' (inputs 0 i.trace) (inputs 0 j.trace) n n' (steps i.trace) (steps j.trace) (sym h.list_is
+    ∙ a.0) (sym h.count_is ∙ a.1) (sym k.list_is ∙ b.0) (sym k.count_is ∙ b.1) (extends i.trace j.trace p)
+
+pub reached : {S : Type 0} (M : Machine S) (C : Copying S) → Lawful M → IsCopying M C → (w : World S) →
+    Reached M C w → Inv M C w
+reached M C laws copies w AtBoot = at_boot M C laws
+reached M C laws copies w (After {w = v} r c) = (keep M C laws copies v w (reached M C laws copies v r) c).inv

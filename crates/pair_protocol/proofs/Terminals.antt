@@ -1,0 +1,197 @@
+-- A terminal that accepts more, and a host that comes, keep the invariant.
+use Rattle.std.proofs.Common.{◌≡◌, ◌+◌, ◌≤◌, [], ◌∷◌, ◌++◌, ◌⊎◌, Bool, List, Some, ap, arith, cond, false, inl, inr, length, refl, subst, suc, sym, true, zero, ℕ}
+use Rattle.std.specs.Prelude.{slice_get, slice_set, ◌==◌}
+use Rattle.event_callbacks.specs.declared.operations.Operation.TheVariants.{Byte}
+use Rattle.guest_board.specs.Machine.{Machine}
+use Rattle.plain_single.specs.Reach.{inputs, keys, operations}
+use Rattle.pair_protocol.specs.Copying.{Copying}
+use Rattle.pair_protocol.specs.Faithful.{IsPrefix}
+use Rattle.pair_protocol.specs.Lawful.{Among}
+use Rattle.pair_protocol.specs.Node.{Node, spare}
+use Rattle.pair_protocol.specs.World.{Arrival, Terminal, World, accepted_after, terminal, terminal_in, with_host, with_terminal}
+use Rattle.pair_protocol.proofs.Moves.{prefix-refl, prefix-trans}
+use Rattle.pair_protocol.proofs.LeadMoves.{slice_get_longer}
+use Rattle.pair_protocol.proofs.Lines.{AtTop, BackHere, BackLeft, Gone, Inv, LeadHere, LeadLeft, Line, Next, Presence, Unused}
+
+-- A terminal changes.
+
+pub at_set : (ts : List Terminal) (p : ℕ) (t : Terminal) (q : ℕ) →
+    (terminal_in (slice_set ts p t) q ≡ terminal_in ts q) ⊎ ((q ≡ p) × (terminal_in (slice_set ts p t) q ≡ t))
+at_set [] p t q = inl refl
+at_set (x ∷ ts) zero t zero = inr (refl, refl)
+at_set (x ∷ ts) zero t (suc q) = inl refl
+at_set (x ∷ ts) (suc p) t zero = inl refl
+at_set (x ∷ ts) (suc p) t (suc q) = go (at_set ts p t q)
+  where
+    go : (terminal_in (slice_set ts p t) q ≡ terminal_in ts q) ⊎ ((q ≡ p) × (terminal_in (slice_set ts p t) q ≡ t)) →
+        (terminal_in (slice_set ts p t) q ≡ terminal_in ts q)
+        ⊎ ((suc q ≡ suc p) × (terminal_in (slice_set ts p t) q ≡ t))
+    go (inl h) = inl h
+    go (inr h) = inr (ap suc h.0, h.1)
+
+-- it has accepted no less, and the keys typed begin as before
+pub record Serves (old new : Terminal) : Type 0 where
+  pub accepts : length (accepted_after 0 old.arrivals) ≤ length (accepted_after 0 new.arrivals)
+  pub types : IsPrefix old.typed new.typed
+
+pub serves-same : (t : Terminal) → Serves t t
+serves-same t = record { accepts = omega arith; types = prefix-refl t.typed }
+
+pub keep-terminal : {S : Type 0} (M : Machine S) (C : Copying S) (w : World S) (i : Inv M C w) (p : ℕ)
+    (t : Terminal) → Serves (terminal w p) t →
+    ((a : Arrival) → Among a t.arrivals → Among (Byte p a.number a.byte) (operations i.trace)) →
+    t.told ≤ length (keys p (inputs 0 i.trace)) → Next M C i.trace (with_terminal w p t)
+keep-terminal {S} M C w i p t better arrived told = record {
+  inv = record {
+    top = i.top;
+    trace = i.trace;
+    each = λ k. (let o = i.each k in record {
+      line = o.line;
+      presence = presence k o.presence;
+      based = o.based;
+      led = o.led;
+      tied = o.tied;
+      apart = o.apart;
+      held = o.held;
+      members = o.members;
+      logs = o.logs;
+      acks = o.acks;
+      parts = o.parts;
+      done = λ q. (let a = o.done q in let b = (all q).accepts in omega arith);
+      typed = λ q. prefix-trans _ _ _ (o.typed q) (all q).types;
+      put = o.put;
+      owns = o.owns;
+      below = o.below;
+    });
+    global = record {
+      sends = i.global.sends;
+      puts = i.global.puts;
+      reads = i.global.reads;
+      written = i.global.written;
+      put = i.global.put;
+      owns = i.global.owns;
+      arrived = λ q a. elim (at_set w.terminals p t q) [
+        | inl e ↦ subst (λ z. Among a z.arrivals →
+            Among (Byte q a.number a.byte) (operations i.trace)) (sym e) (i.global.arrived q a)
+        | inr e ↦ subst (λ z. Among a z.arrivals →
+            Among (Byte q a.number a.byte) (operations i.trace)) (sym e.1)
+            (subst (λ j. Among a t.arrivals →
+            Among (Byte j a.number a.byte) (operations i.trace)) (sym e.0) (arrived a))
+      ];
+      done = λ q. (let a = i.global.done q in let b = (all q).accepts in omega arith);
+      typed = λ q. prefix-trans _ _ _ (i.global.typed q) (all q).types;
+      told = λ q. elim (at_set w.terminals p t q) [
+        | inl e ↦ subst (λ z. z.told ≤ length (keys q (inputs 0 i.trace))) (sym e) (i.global.told q)
+        | inr e ↦ subst (λ z. z.told ≤ length (keys q (inputs 0 i.trace))) (sym e.1)
+            (subst (λ j. t.told ≤ length (keys j (inputs 0 i.trace))) (sym e.0) told)
+      ];
+    };
+    spares = i.spares;
+  };
+  grows = prefix-refl i.trace;
+}
+  where
+    all : (q : ℕ) → Serves (terminal w q) (terminal_in (slice_set w.terminals p t) q)
+    all q = elim (at_set w.terminals p t q) [
+      | inl e ↦ subst (λ z. Serves (terminal w q) z) (sym e) (serves-same (terminal w q))
+      | inr e ↦ subst (λ z. Serves (terminal w q) z) (sym e.1) (subst (λ j. Serves (terminal w j) t) (sym e.0) better)
+    ]
+
+    presence : (k : ℕ) → Presence M C w.nodes w.messages w.winners i.top i.trace k (i.each k).line →
+        Presence M C w.nodes w.messages w.winners i.top i.trace k (i.each k).line
+    presence k h = h
+
+pub accepted-longer : (n : ℕ) (xs ys : List Arrival) → IsPrefix (accepted_after n xs) (accepted_after n (xs ++ ys))
+accepted-longer n [] ys = (accepted_after n ys, refl)
+accepted-longer n (a ∷ xs) ys = go (a.number == n + 1) (accepted-longer (n + 1) xs ys) (accepted-longer n xs ys)
+  where
+    go : (t : Bool) → IsPrefix (accepted_after (n + 1) xs) (accepted_after (n + 1) (xs ++ ys)) →
+        IsPrefix (accepted_after n xs) (accepted_after n (xs ++ ys)) →
+        IsPrefix (cond t (a.byte ∷ accepted_after (n + 1) xs) (accepted_after n xs))
+        (cond t (a.byte ∷ accepted_after (n + 1) (xs ++ ys)) (accepted_after n (xs ++ ys)))
+    go true h k = (h.0, ap (λ zs. a.byte ∷ zs) h.1)
+    go false h k = k
+
+-- A new host.
+
+pub last-get : {A : Type 0} (xs : List A) (s z : A) (m : ℕ) → slice_get (xs ++ s ∷ []) m ≡ Some z →
+    (slice_get xs m ≡ Some z) ⊎ (z ≡ s)
+last-get [] s z zero h = inr (cc)
+last-get [] s z (suc m) h = (cc)
+last-get (x ∷ xs) s z zero h = inl h
+last-get (x ∷ xs) s z (suc m) h = last-get xs s z m h
+
+pub keep-hosts : {S : Type 0} (M : Machine S) (C : Copying S) (w : World S) (i : Inv M C w) →
+    Next M C i.trace (with_host M w)
+keep-hosts {S} M C w i = record {
+  inv = record {
+    top = i.top;
+    trace = i.trace;
+    each = λ k. (let o = i.each k in record {
+      line = o.line;
+      presence = presence k o.line o.presence;
+      based = o.based;
+      led = o.led;
+      tied = o.tied;
+      apart = o.apart;
+      held = o.held;
+      members = λ m z t ns e. elim (last-get w.nodes (spare M) z m t) [
+        | inl q ↦ o.members m z q ns e
+        | inr q ↦ absurd (ns (ap (λ (v : Node S). v.role) q))
+      ];
+      logs = o.logs;
+      acks = o.acks;
+      parts = o.parts;
+      done = o.done;
+      typed = o.typed;
+      put = o.put;
+      owns = o.owns;
+      below = o.below;
+    });
+    global = i.global;
+    spares = λ m z t r. elim (last-get w.nodes (spare M) z m t) [
+      | inl q ↦ i.spares m z q r
+      | inr q ↦ ap (λ (v : Node S). v.generation) q
+    ];
+  };
+  grows = prefix-refl i.trace;
+}
+  where
+    lead_here : (k : ℕ) (l : Line S) → LeadHere M w.nodes k l → LeadHere M (w.nodes ++ spare M ∷ []) k l
+    lead_here k l a = record {
+      a = a.a;
+      there = slice_get_longer w.nodes (spare M ∷ []) l.lead a.a a.there;
+      generation = a.generation;
+      leads = a.leads;
+    }
+
+    back_here : (k : ℕ) (l : Line S) → BackHere M C w.nodes k l → BackHere M C (w.nodes ++ spare M ∷ []) k l
+    back_here k l a = record {
+      b = a.b;
+      there = slice_get_longer w.nodes (spare M ∷ []) l.back a.b a.there;
+      generation = a.generation;
+      held = a.held;
+      backs = a.backs;
+    }
+
+    gone : (k m : ℕ) → Gone w.nodes k m → Gone (w.nodes ++ spare M ∷ []) k m
+    gone k m g z t ns e = elim (last-get w.nodes (spare M) z m t) [
+      | inl q ↦ g z q ns e
+      | inr q ↦ ns (ap (λ (v : Node S). v.role) q)
+    ]
+
+    presence : (k : ℕ) (l : Line S) → Presence M C w.nodes w.messages w.winners i.top i.trace k l →
+        Presence M C (w.nodes ++ spare M ∷ []) w.messages w.winners i.top i.trace k l
+    presence k l (AtTop g q a b) = AtTop g q (lead_here k l a) (back_here k l b)
+    presence k l (LeadLeft g q a b) = LeadLeft g q (gone k l.lead a) (back_here k l b)
+    presence k l (BackLeft g q b a) = BackLeft g q (gone k l.back b) (lead_here k l a)
+    presence k l (Unused g u) = Unused g (record {
+      nobody = λ m z t ns e. elim (last-get w.nodes (spare M) z m t) [
+        | inl q ↦ u.nobody m z q ns e
+        | inr q ↦ ns (ap (λ (v : Node S). v.role) q)
+      ];
+      no_log = u.no_log;
+      no_ack = u.no_ack;
+      no_part = u.no_part;
+      no_winner = u.no_winner;
+    })

@@ -1,0 +1,6 @@
+-- The law is that of the invariant.
+use Rattle.pair_protocol.proofs.Runs.{always_faithful}
+use Rattle.pair_protocol.proofs.laws.actions_are_faithful.Goals as goal
+
+pub returns : goal.returns
+returns g c = record { faithful = always_faithful }

@@ -1,0 +1,9 @@
+-- A run reaches its world by actions.
+use Rattle.pair_protocol.proofs.Runs.{always_faithful, run_reaches}
+use Rattle.pair_protocol.proofs.laws.events_are_faithful.Goals as goal
+
+pub returns : goal.returns
+returns g c = record {
+  faithful = λ M C laws copies events replies w run.
+      always_faithful M C laws copies w (run_reaches M C events replies w run);
+}

@@ -1,0 +1,11 @@
+-- Both laws are one of a single event.
+use Rattle.pair_protocol.proofs.Growth.{row_grows}
+use Rattle.pair_protocol.proofs.Runs.{run_reaches}
+use Rattle.pair_protocol.proofs.laws.events_grow.Goals as goal
+
+pub returns-clause-reached : goal.returns-clause-reached
+returns-clause-reached g c M C laws copies w new e r reached row = row_grows M C laws copies w new e r reached row
+
+pub returns-clause-grows : goal.returns-clause-grows
+returns-clause-grows g c M C laws copies events replies w new e r run row =
+    row_grows M C laws copies w new e r (run_reaches M C events replies w run) row

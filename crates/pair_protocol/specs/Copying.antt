@@ -1,0 +1,18 @@
+-- The copy of a machine: the parts that an image of it has, and the machine that parts make.
+use Rattle.std.specs.Prelude.{◌≡◌, ℕ, Option, Some, List, length}
+use Rattle.guest_board.specs.Machine.{Machine, Move}
+use Rattle.pair_protocol.specs.Lawful.{Reaches}
+
+pub record Copying (S : Type 0) : Type 0 where
+  -- the parts of an image, and how many an image has
+  pub parts : S → List (List ℕ)
+  pub part_count : ℕ
+  -- the machine that all parts of an image make
+  pub assemble : List (List ℕ) → Option S
+
+-- what a pair asks of the copy of a machine that it runs
+pub record IsCopying {S : Type 0} (M : Machine S) (C : Copying S) : Type 0 where
+  -- each image has that many parts
+  pub counted : (moves : List Move) (s : S) → Reaches M moves s → length (C.parts s) ≡ C.part_count
+  -- the parts of a machine make it again
+  pub again : (moves : List Move) (s : S) → Reaches M moves s → C.assemble (C.parts s) ≡ Some s

@@ -1,0 +1,69 @@
+-- The events of a world, one for each row of a script, and their replies.
+use Rattle.std.specs.Prelude.{ℕ, Bool, true, false}
+use Rattle.event_callbacks.specs.declared.operations.OpId.{OpId}
+use Rattle.i8080_words.specs.declared.refusal.Fault.{Fault}
+
+-- n is a node, m a message
+pub data Event : Type 0 where
+  -- the machine of a primary or alone node makes at most so many steps
+  Step : (n turns : ℕ) → Event
+  -- a byte is typed at a terminal, and a node takes the key of an index
+  TypeByte : (port byte : ℕ) → Event
+  TakeKey : (n port index : ℕ) → Event
+  -- the log: an entry is sent, and comes; an acknowledgement is sent, and comes
+  Send : (n index : ℕ) → Event
+  DeliverLog : (m n : ℕ) → Event
+  Ack : (n : ℕ) → Event
+  DeliverAck : (m n : ℕ) → Event
+  -- a backup makes at most so many moves of what it holds
+  Replay : (n turns : ℕ) → Event
+  -- an operation is released, a byte comes to its terminal, a node hears that the terminal has accepted it
+  Release : (n : ℕ) (name : OpId) → Event
+  Arrive : (m : ℕ) → Event
+  TellSent : (n port number : ℕ) → Event
+  -- a terminal is told how many keys are covered
+  Told : (n port : ℕ) → Event
+  -- a node halts; it suspects its peer, and asks the arbiter; it makes at most so many moves of what it still holds
+  Stop : (n : ℕ) → Event
+  Suspect : (n : ℕ) → Event
+  Drain : (n turns : ℕ) → Event
+  -- the disk: a write comes, its answer comes; a sector is read, its bytes come
+  Put : (m : ℕ) → Event
+  PutReply : (m n : ℕ) → Event
+  Get : (n sector : ℕ) → Event
+  GetReply : (m n : ℕ) → Event
+  -- an alone node begins a generation with a host; a part of its image is sent, and comes
+  BeginPair : (n host : ℕ) → Event
+  SendPart : (n index : ℕ) → Event
+  PartComes : (m n : ℕ) → Event
+
+-- why steps ended: as many as were asked for are made, an operation was given, the machine idles, a number has reached
+-- its limit, or no memory was left
+pub data Why : Type 0 where
+  Turns Idles IsSpent Memory : Why
+  Gave : (name : OpId) → Why
+
+pub data Reply : Type 0 where
+  Ran : (made count : ℕ) (why : Why) → Reply
+  TypedAt : (index : ℕ) → Reply
+  Taken New Old Whole Accepted Dropped Won Stopped : Reply
+  MessageIs : (m : ℕ) → Reply
+  HeldIs : (held : ℕ) → Reply
+  Moved : (made : ℕ) (at_end : Bool) → Reply
+  MovedAlone : (made : ℕ) → Reply
+  ToldIs : (keys : ℕ) → Reply
+  GenerationIs : (generation : ℕ) → Reply
+  Refused : (fault : Fault) → Reply
+
+-- the events whose calls, or the lists of the world that they lengthen, take memory
+abbrev pub takes_memory : Event → Bool
+takes_memory (DeliverAck m n) = false
+takes_memory (Told n port) = false
+takes_memory (Stop n) = false
+takes_memory _ = true
+
+-- the events that use the disk
+abbrev pub is_disk : Event → Bool
+is_disk (Put m) = true
+is_disk (Get n sector) = true
+is_disk _ = false

@@ -1,0 +1,57 @@
+-- The laws of a pair, for any machine that is lawful and any copy of it.
+use Rattle.std.specs.Prelude.{◌≡◌, List, length}
+use Rattle.guest_board.specs.Machine.{Machine}
+use Rattle.pair_protocol.specs.Lawful.{Lawful}
+use Rattle.pair_protocol.specs.Copying.{Copying, IsCopying}
+use Rattle.pair_protocol.specs.World.{World, opening}
+use Rattle.pair_protocol.specs.Change.{Changes, Reached}
+use Rattle.pair_protocol.specs.Event.{Event, Reply}
+use Rattle.pair_protocol.specs.Row.{Row, Run}
+use Rattle.pair_protocol.specs.Faithful.{Faithful}
+use Rattle.pair_protocol.specs.Grows.{Grows}
+
+-- every world that actions reach is faithful
+abbrev pub ReachedIsFaithful : (S : Type 0) → Type 0
+ReachedIsFaithful S =
+    (M : Machine S) (C : Copying S) → Lawful M → IsCopying M C → (w : World S) → Reached M C w → Faithful M C w
+
+-- and a further event lets what is settled grow
+abbrev pub ReachedGrows : (S : Type 0) → Type 0
+ReachedGrows S =
+    (M : Machine S) (C : Copying S) → Lawful M → IsCopying M C → (w new : World S) (e : Event) (r : Reply) →
+    Reached M C w → Row M C w e r new → Grows M w new
+
+-- an event is some actions
+abbrev pub RowIsChanges : (S : Type 0) → Type 0
+RowIsChanges S =
+    (M : Machine S) (C : Copying S) (w new : World S) (e : Event) (r : Reply) → Row M C w e r new → Changes M C w new
+
+-- after some actions a world is still one that actions reach
+abbrev pub ChangesReach : (S : Type 0) → Type 0
+ChangesReach S =
+    (M : Machine S) (C : Copying S) (w new : World S) → Reached M C w → Changes M C w new → Reached M C new
+
+-- every world of a run is reached by actions
+abbrev pub RunReaches : (S : Type 0) → Type 0
+RunReaches S =
+    (M : Machine S) (C : Copying S) (events : List Event) (replies : List Reply) (w : World S) →
+    Run M C (opening M) events replies w → Reached M C w
+
+-- every world of a run is faithful
+abbrev pub RunIsFaithful : (S : Type 0) → Type 0
+RunIsFaithful S =
+    (M : Machine S) (C : Copying S) → Lawful M → IsCopying M C →
+    (events : List Event) (replies : List Reply) (w : World S) → Run M C (opening M) events replies w → Faithful M C w
+
+-- and each further event lets what is settled grow
+abbrev pub RunGrows : (S : Type 0) → Type 0
+RunGrows S =
+    (M : Machine S) (C : Copying S) → Lawful M → IsCopying M C →
+    (events : List Event) (replies : List Reply) (w new : World S) (e : Event) (r : Reply) →
+    Run M C (opening M) events replies w → Row M C w e r new → Grows M w new
+
+-- a run gives one reply for each event
+abbrev pub RunReplies : (S : Type 0) → Type 0
+RunReplies S =
+    (M : Machine S) (C : Copying S) (old new : World S) (events : List Event) (replies : List Reply) →
+    Run M C old events replies new → length replies ≡ length events

@@ -1,0 +1,17 @@
+pub mod Lawful
+pub mod AltairStands
+pub mod Copying
+pub mod Node
+pub mod World
+pub mod Change
+pub mod Event
+pub mod Refusals
+pub mod Rows
+pub mod Row
+pub mod Settled
+pub mod Faithful
+pub mod Grows
+pub mod Traces
+pub mod Laws
+pub mod AltairPairs
+pub mod Examples

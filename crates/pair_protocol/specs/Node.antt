@@ -1,0 +1,259 @@
+-- A node of a pair: its role, its machine, and what it keeps of its generation.
+use Rattle.std.specs.Prelude.{ℕ, suc, max, nat_lt, Bool, true, false, ◌==◌, ◌&&◌, ◌||◌, if◌then◌else◌, Option, Some, None, List, [], ◌∷◌, ◌++◌, length, take, replicate, slice_set}
+use Rattle.event_callbacks.specs.Operations.{id_of}
+use Rattle.event_callbacks.specs.declared.operations.OpId.{OpId}
+use Rattle.event_callbacks.specs.declared.operations.OpId.TheVariants as id
+use Rattle.event_callbacks.specs.declared.operations.Operation.{Operation}
+use Rattle.guest_board.specs.Machine.{Machine}
+use Rattle.guest_board.specs.declared.input.Input.{Input}
+use Rattle.log_entry.specs.Entries.{marks, entry_of, inputs_of}
+use Rattle.log_entry.specs.declared.entry.Entry.{Entry}
+use Rattle.plain_single.specs.Reach.{timed, keys}
+use Rattle.plain_single.specs.declared.timed.Timed.{Timed}
+use Rattle.pair_protocol.specs.Copying.{Copying}
+
+-- what a node is in its generation
+pub data Role : Type 0 where
+  -- it takes input, logs it for its backup, and releases what the backup has acknowledged
+  Primary : Role
+  -- it holds and replays the log
+  Backup : Role
+  -- it is given a copy of the primary's machine, and will be the backup
+  Joining : Role
+  -- a backup that won: it replays all that it holds
+  Draining : Role
+  -- live: it runs with no backup, and may release everything
+  Alone : Role
+  -- a host that has no role yet
+  Spare : Role
+
+-- the entry at whose acknowledgement an operation is covered
+pub record Note : Type 0 where
+  pub name : OpId
+  pub index : ℕ
+
+-- A halted node keeps its role and all that it had.
+pub record Node (S : Type 0) : Type 0 where
+  pub role : Role
+  pub running : Bool
+  pub generation : ℕ
+  -- the machine, and all its inputs
+  pub machine : S
+  pub list : List Timed
+  -- the inputs and the count that the generation began with
+  pub copy : List Timed
+  pub start : ℕ
+  -- of a backup: the entries that it holds, and how many of them it has replayed
+  pub held : List Entry
+  pub replayed : ℕ
+  -- of a primary: its log, how many entries of it are acknowledged, and the entry that each operation waits for
+  pub log : List Entry
+  pub covered : ℕ
+  pub notes : List Note
+  -- of a primary: the machine that it gives copies of; of a joining node: the parts that came
+  pub image : Option S
+  pub parts : List (Option (List ℕ))
+
+-- ---- roles
+
+abbrev pub is_role : Role → Role → Bool
+is_role Primary Primary = true
+is_role Backup Backup = true
+is_role Joining Joining = true
+is_role Draining Draining = true
+is_role Alone Alone = true
+is_role Spare Spare = true
+is_role _ _ = false
+
+-- it runs, in one of the roles
+abbrev pub acts_as : {S : Type 0} → Node S → List Role → Bool
+acts_as x [] = false
+acts_as x (role ∷ roles) = x.running && (is_role x.role role) || acts_as x roles
+
+-- what the winner of the test-and-set goes on as
+abbrev pub won_role : Role → Role
+won_role Primary = Alone
+won_role Backup = Draining
+won_role Joining = Joining
+won_role Draining = Draining
+won_role Alone = Alone
+won_role Spare = Spare
+
+-- ---- nodes at their beginning
+
+-- a node at boot, in generation 1
+abbrev pub first_node : {S : Type 0} → Machine S → Role → Node S
+first_node M role = record {
+  role = role;
+  running = true;
+  generation = 1;
+  machine = M.boot;
+  list = [];
+  copy = [];
+  start = 0;
+  held = [];
+  replayed = 0;
+  log = [];
+  covered = 0;
+  notes = [];
+  image = None;
+  parts = [];
+}
+
+-- a host that came
+abbrev pub spare : {S : Type 0} → Machine S → Node S
+spare M = record {
+  role = Spare;
+  running = true;
+  generation = 0;
+  machine = M.boot;
+  list = [];
+  copy = [];
+  start = 0;
+  held = [];
+  replayed = 0;
+  log = [];
+  covered = 0;
+  notes = [];
+  image = None;
+  parts = [];
+}
+
+-- an alone node begins the next generation as its primary, with an empty log and an image of itself
+abbrev pub begun : {S : Type 0} → Machine S → Node S → Node S
+begun M x = record {
+  role = Primary;
+  running = true;
+  generation = suc x.generation;
+  machine = x.machine;
+  list = x.list;
+  copy = x.list;
+  start = M.count x.machine;
+  held = [];
+  replayed = 0;
+  log = [];
+  covered = 0;
+  notes = [];
+  image = Some x.machine;
+  parts = [];
+}
+
+-- and a host joins it, with no part of the image yet
+abbrev pub joiner : {S : Type 0} → Machine S → Copying S → Node S → Node S
+joiner M C x = record {
+  role = Joining;
+  running = true;
+  generation = suc x.generation;
+  machine = M.boot;
+  list = [];
+  copy = x.list;
+  start = M.count x.machine;
+  held = [];
+  replayed = 0;
+  log = [];
+  covered = 0;
+  notes = [];
+  image = None;
+  parts = replicate C.part_count None;
+}
+
+-- ---- the machine's moves at a node
+
+-- a primary logs a mark for an operation, and notes that the operation waits for it
+abbrev pub notes_after : List Note → ℕ → Option Operation → List Note
+notes_after notes index None = notes
+notes_after notes index (Some operation) = record { name = id_of operation; index = index } ∷ notes
+
+abbrev pub primary_steps : {S : Type 0} → Machine S → Node S → S → Option Operation → Node S
+primary_steps M x s gives = record x {
+  machine = s;
+  log = x.log ++ marks (M.count s) gives;
+  notes = notes_after x.notes (length x.log) gives;
+}
+
+-- every other node logs nothing
+abbrev pub plainly_steps : {S : Type 0} → Node S → S → Node S
+plainly_steps x s = record x { machine = s }
+
+-- a primary logs an input with its count
+abbrev pub primary_takes : {S : Type 0} → Machine S → Node S → S → Input → Node S
+primary_takes M x s i = record x {
+  machine = s;
+  list = x.list ++ timed (M.count x.machine) i ∷ [];
+  log = x.log ++ entry_of (M.count x.machine) i ∷ [];
+}
+
+abbrev pub alone_takes : {S : Type 0} → Machine S → Node S → S → Input → Node S
+alone_takes M x s i = record x { machine = s; list = x.list ++ timed (M.count x.machine) i ∷ [] }
+
+-- ---- what else changes at a node
+
+abbrev pub holds : {S : Type 0} → Node S → Entry → Node S
+holds x e = record x { held = x.held ++ e ∷ [] }
+
+-- an entry is replayed: a mark leaves the machine, an input is taken
+abbrev pub passes_mark : {S : Type 0} → Node S → Node S
+passes_mark x = record x { replayed = suc x.replayed }
+
+abbrev pub passes_input : {S : Type 0} → Node S → S → Node S
+passes_input x s = record x { machine = s; replayed = suc x.replayed }
+
+-- an acknowledgement comes: one of fewer entries covers no more, and the image is needed no longer
+abbrev pub hears : {S : Type 0} → Node S → ℕ → Node S
+hears x held = record x { covered = max x.covered held; image = None }
+
+abbrev pub halts : {S : Type 0} → Node S → Node S
+halts x = record x { running = false }
+
+abbrev pub wins : {S : Type 0} → Node S → Node S
+wins x = record x { role = won_role x.role }
+
+-- a drained node is alone: its inputs are the copy's and those that it held
+abbrev pub goes_live : {S : Type 0} → Node S → Node S
+goes_live x = record x { role = Alone; list = x.copy ++ inputs_of x.held }
+
+-- a part comes, and with the last one the node is the backup
+abbrev pub gets_part : {S : Type 0} → Node S → ℕ → List ℕ → Node S
+gets_part x index part = record x { parts = slice_set x.parts index (Some part) }
+
+abbrev pub joins : {S : Type 0} → Node S → S → Node S
+joins x s = record x { role = Backup; machine = s; list = x.copy }
+
+-- all the parts, where each came
+abbrev pub with_first : List ℕ → Option (List (List ℕ)) → Option (List (List ℕ))
+with_first part None = None
+with_first part (Some parts) = Some (part ∷ parts)
+
+abbrev pub gathered : List (Option (List ℕ)) → Option (List (List ℕ))
+gathered [] = Some []
+gathered (None ∷ slots) = None
+gathered (Some part ∷ slots) = with_first part (gathered slots)
+
+-- ---- what a node covers
+
+-- both are one name
+abbrev pub same_name : OpId → OpId → Bool
+same_name (id.Byte port number) (id.Byte to other) = port == to && number == other
+same_name (id.Write number) (id.Write other) = number == other
+same_name (id.Byte port number) (id.Write other) = false
+same_name (id.Write number) (id.Byte to other) = false
+
+-- the entry that an operation waits for; none where it was outstanding in the image already
+abbrev pub note_of : List Note → OpId → Option ℕ
+note_of [] name = None
+note_of (note ∷ notes) name = if same_name name note.name then Some note.index else note_of notes name
+
+-- output rule: an operation is covered where the backup has acknowledged its entry
+abbrev pub covers : ℕ → Option ℕ → Bool
+covers acknowledged None = true
+covers acknowledged (Some index) = nat_lt index acknowledged
+
+-- how many keys of a port are covered: at a primary those of the copy and of the acknowledged entries, at an alone
+-- node all that its machine has taken
+abbrev pub keys_covered : {S : Type 0} → Machine S → Node S → ℕ → Role → ℕ
+keys_covered M x port Primary = length (keys port (x.copy ++ inputs_of (take x.covered x.log)))
+keys_covered M x port Alone = M.keys x.machine port
+keys_covered M x port Backup = 0
+keys_covered M x port Joining = 0
+keys_covered M x port Draining = 0
+keys_covered M x port Spare = 0

@@ -1,0 +1,51 @@
+//! What the rules of a pair promise, for any machine that is lawful and any copy of it. Nothing here runs.
+ghost use Rattle.pair_protocol.specs.Examples.{TakesOver, WritesDisk};
+ghost use Rattle.pair_protocol.specs.Laws.{ReachedIsFaithful, ReachedGrows, RowIsChanges, ChangesReach, RunReaches, RunIsFaithful, RunGrows, RunReplies};
+ghost use Rattle.pair_protocol.specs.Traces.{OneTrace, OneEnd, FirstEntries, QuietMoves, QuietEntries};
+
+/// Whatever the actors of a pair do, one action after another, every world that they reach is faithful.
+pub fn actions_are_faithful<S>()
+    ensures faithful { ReachedIsFaithful S }
+{}
+
+/// Whatever events come, in whatever order, every world of a run is faithful: its terminals and its disk have what one
+/// machine that never fails gives from the settled inputs.
+pub fn events_are_faithful<S>()
+    ensures faithful { RunIsFaithful S }
+{}
+
+/// Each further event lets what is settled grow and takes nothing back; who has won stays the winner, and its inputs
+/// begin with those that were settled before it won.
+pub fn events_grow<S>()
+    ensures reached { ReachedGrows S }
+    ensures grows { RunGrows S }
+{}
+
+/// Each event is some actions of the actors, so every world of a run is one that actions reach.
+pub fn events_are_actions<S>()
+    ensures actions { RowIsChanges S }
+    ensures reach { ChangesReach S }
+    ensures runs { RunReaches S }
+{}
+
+/// A run gives one reply for each event.
+pub fn every_event_is_answered<S>()
+    ensures replies { RunReplies S }
+{}
+
+/// A timed list and a count have one trace, which ends at one state; its first entries are those of its first moves; and
+/// moves without an entry are quiet steps.
+pub fn traces_are_determined<S>()
+    ensures one { OneTrace S }
+    ensures one_end { OneEnd S }
+    ensures first_entries { FirstEntries S }
+    ensures quiet { QuietMoves }
+    ensures quiet_entries { QuietEntries }
+{}
+
+/// The rules can be followed: a backup takes over from a primary that stops, and sends the byte that it held; and a write
+/// that is released reaches the disk and is read again. Both scripts are of a small machine, reply by reply.
+pub fn scripts_run()
+    ensures failover { TakesOver }
+    ensures disk_write { WritesDisk }
+{}

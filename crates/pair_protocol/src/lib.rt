@@ -1,0 +1,11 @@
+//! The protocol of a pair: worlds, events, what a faithful world is, and the law that every event keeps it. No code.
+#![tactic(auto)]
+
+mod altair;
+mod laws;
+
+pub use altair::{altair_pairs_are_faithful, altairs_are_lawful, altairs_stay_within};
+pub use laws::{
+    actions_are_faithful, events_are_actions, events_are_faithful, events_grow,
+    every_event_is_answered, scripts_run, traces_are_determined,
+};

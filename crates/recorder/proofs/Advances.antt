@@ -1,0 +1,96 @@
+-- What an advance records. Steps that give nothing push nothing, so one by one they record as many steps and no entry;
+-- the step that gives an operation is recorded behind them, with its mark.
+use Rattle.std.proofs.Common.{◌≡◌, ℕ, zero, suc, ◌+◌, List, [], ◌∷◌, ◌++◌, Some, None, refl, sym, ap, ◌∙◌, arith}
+use Rattle.std.proofs.lemmas.List.{append-nil}
+use Rattle.event_callbacks.specs.declared.operations.Operation.{Operation}
+use Rattle.guest_board.specs.Machine.{Machine, Move, Do}
+use Rattle.log_buffer.specs.Log.{Log, pushed}
+use Rattle.log_entry.specs.Entries.{entries}
+use Rattle.log_entry.specs.declared.entry.Entry.{Entry}
+use Rattle.log_entry.specs.declared.entry.Entry.TheVariants.{Mark}
+use Rattle.plain_single.specs.Reach.{inputs, steps}
+use Rattle.recorder.specs.Laws.{RecordsSteps}
+use Rattle.recorder.specs.Recorded.{Counts, Recorded}
+use Rattle.recorder.specs.Recording.{Quiet, Begin, More, Advances, AllTurns, Gives, Idles, IsSpent, WantsMemory}
+use Rattle.recorder.specs.declared.advanced.Advanced.{Advanced}
+
+-- steps that give nothing, with other moves behind them
+abbrev pub quiet_moves : ℕ → List Move → List Move
+quiet_moves zero moves = moves
+quiet_moves (suc n) moves = quiet_moves n (Do None ∷ moves)
+
+quiet_runs : {S : Type 0} (M : Machine S) (s t u : S) (n : ℕ) (moves : List Move) → Quiet M s n t
+    → Recorded M t moves u → Recorded M s (quiet_moves n moves) u
+quiet_runs M s t u n moves Begin r = r
+quiet_runs M s t u n moves (More {n = m} {t = v} q allowed made) r =
+    quiet_runs M s v u m (Do None ∷ moves) q (t, made, r)
+
+quiet_count : {S : Type 0} (M : Machine S) (s t : S) (n : ℕ) → Counts M → Quiet M s n t → M.count t ≡ n + M.count s
+quiet_count M s t n counts Begin = omega arith
+quiet_count M s t n counts (More {n = m} {t = v} q allowed made) =
+    let one = counts.by_step v t None made in
+    let others = quiet_count M s v m counts q in
+    omega arith
+
+entries-quiet_moves : (n count : ℕ) (moves : List Move)
+    → entries count (quiet_moves n moves) ≡ entries (n + count) moves
+entries-quiet_moves zero count moves =
+    let e : count ≡ 0 + count = omega arith in ap (λ count. entries count moves) e
+entries-quiet_moves (suc n) count moves =
+    let e : suc (n + count) ≡ suc n + count = omega arith in
+    entries-quiet_moves n count (Do None ∷ moves) ∙ ap (λ count. entries count moves) e
+
+steps-quiet_moves : (n : ℕ) (moves : List Move) → steps (quiet_moves n moves) ≡ n + steps moves
+steps-quiet_moves zero moves = omega arith
+steps-quiet_moves (suc n) moves = let e = steps-quiet_moves n (Do None ∷ moves) in omega arith
+
+inputs-quiet_moves : (n count : ℕ) (moves : List Move) → inputs count (quiet_moves n moves) ≡ inputs (n + count) moves
+inputs-quiet_moves zero count moves =
+    let e : count ≡ 0 + count = omega arith in ap (λ count. inputs count moves) e
+inputs-quiet_moves (suc n) count moves =
+    let e : suc (n + count) ≡ suc n + count = omega arith in
+    inputs-quiet_moves n count (Do None ∷ moves) ∙ ap (λ count. inputs count moves) e
+
+quietly : {S : Type 0} (M : Machine S) (s t : S) (log : Log) (n : ℕ) (a : Advanced) → a.steps ≡ n → Quiet M s n t
+    → RecordsSteps M s log a t log
+quietly M s t log n a made q = record {
+  moves = quiet_moves n [];
+  records = record {
+    runs = quiet_runs M s t t n [] q refl;
+    first = refl;
+    pushes =
+        sym (append-nil log.entries)
+        ∙ ap (λ (behind : List Entry). log.entries ++ behind) (sym (entries-quiet_moves n (M.count s) []));
+  };
+  steps_are = steps-quiet_moves n [] ∙ (let e : n + 0 ≡ a.steps = omega arith in e);
+  no_input = inputs-quiet_moves n (M.count s) [];
+}
+
+with_mark : {S : Type 0} (M : Machine S) (s t u : S) (log : Log) (n : ℕ) (a : Advanced) (given : Operation)
+    → Counts M → a.steps ≡ suc n → Quiet M s n t → M.step t ≡ Some (u, Some given)
+    → RecordsSteps M s log a u (pushed log (Mark (M.count u)))
+with_mark M s t u log n a given counts made q st =
+    let last : List Move = Do (Some given) ∷ [] in
+    let count : M.count u ≡ suc (n + M.count s) =
+    (let one = counts.by_step t u (Some given) st in let others = quiet_count M s t n counts q in omega arith) in
+    record {
+      moves = quiet_moves n last;
+      records = record {
+        runs = quiet_runs M s t u n last q (u, st, refl);
+        first = refl;
+        pushes =
+            ap (λ (behind : List Entry). log.entries ++ behind)
+            (ap (λ count. Mark count ∷ []) count ∙ sym (entries-quiet_moves n (M.count s) last));
+      };
+      steps_are = steps-quiet_moves n last ∙ (let e : n + 1 ≡ a.steps = omega arith in e);
+      no_input = inputs-quiet_moves n (M.count s) last;
+    }
+
+pub records_steps : {S : Type 0} (M : Machine S) (s t : S) (log new : Log) (turns : ℕ) (a : Advanced) → Counts M
+    → Advances M s log turns a t new → RecordsSteps M s log a t new
+records_steps M s t log new turns a counts (AllTurns q) = quietly M s t log turns _ refl q
+records_steps M s t log new turns a counts (Idles {n = n} lt q r) = quietly M s t log n _ refl q
+records_steps M s t log new turns a counts (IsSpent {n = n} lt q r) = quietly M s t log n _ refl q
+records_steps M s t log new turns a counts (WantsMemory {n = n} lt q r) = quietly M s t log n _ refl q
+records_steps M s t log new turns a counts (Gives {n = n} {t = v} {given = given} lt q r st) =
+    with_mark M s v t log n _ given counts refl q st

@@ -1,0 +1,3 @@
+pub mod Recorded
+pub mod Advances
+pub mod Runs

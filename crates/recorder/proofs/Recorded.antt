@@ -1,0 +1,63 @@
+-- Recorded runs and what they push. A run behind a run is a run, and since a machine's count rises by one at a step and
+-- stays at an input, the entries of the second begin at the count where the first ends. So the entries of both are
+-- those of the first with those of the second behind them, and what each pushes is what the whole run pushes.
+use Rattle.std.proofs.Common.{◌≡◌, suc, ◌+◌, arith, List, [], ◌∷◌, ◌++◌, sym, ap, subst, ◌∙◌}
+use Rattle.std.proofs.lemmas.List.{append_assoc}
+use Rattle.guest_board.specs.Machine.{Machine, Move, Do, Take, Runs}
+use Rattle.log_buffer.specs.Log.{Log}
+use Rattle.log_entry.specs.Entries.{entries, marks, entry_of}
+use Rattle.log_entry.specs.declared.entry.Entry.{Entry}
+use Rattle.plain_single.specs.Reach.{steps}
+use Rattle.recorder.specs.Laws.{Records}
+use Rattle.recorder.specs.Recorded.{Counts, Recorded}
+
+pub is_run : {S : Type 0} (M : Machine S) (s t : S) (moves : List Move) → Recorded M s moves t → Runs M s moves t
+is_run M s t [] r = r
+is_run M s t (Do gives ∷ moves) r = (r.0, r.1, is_run M r.0 t moves r.2)
+is_run M s t (Take input ∷ moves) r = (r.0, r.1.taken, is_run M r.0 t moves r.2)
+
+pub Recorded-append : {S : Type 0} (M : Machine S) (s t u : S) (moves more : List Move) → Recorded M s moves t
+    → Recorded M t more u → Recorded M s (moves ++ more) u
+Recorded-append M s t u [] more a b = subst (λ t. Recorded M t more u) (sym a) b
+Recorded-append M s t u (Do gives ∷ moves) more a b = (a.0, a.1, Recorded-append M a.0 t u moves more a.2 b)
+Recorded-append M s t u (Take input ∷ moves) more a b = (a.0, a.1, Recorded-append M a.0 t u moves more a.2 b)
+
+pub count-Recorded : {S : Type 0} (M : Machine S) (s t : S) (moves : List Move) → Counts M → Recorded M s moves t
+    → M.count t ≡ M.count s + steps moves
+count-Recorded M s t [] counts r = let e = ap M.count r in omega arith
+count-Recorded M s t (Do gives ∷ moves) counts r =
+    let one = counts.by_step s r.0 gives r.1 in
+    let others = count-Recorded M r.0 t moves counts r.2 in
+    omega arith
+count-Recorded M s t (Take input ∷ moves) counts r =
+    let none = counts.by_input s r.0 input r.1.taken in
+    let others = count-Recorded M r.0 t moves counts r.2 in
+    omega arith
+
+-- the entries of more moves begin at the count where the others end
+pub entries-append : {S : Type 0} (M : Machine S) (s t : S) (moves more : List Move) → Counts M → Recorded M s moves t
+    → entries (M.count s) (moves ++ more) ≡ entries (M.count s) moves ++ entries (M.count t) more
+entries-append M s t [] more counts r = ap (λ s. entries (M.count s) more) r
+entries-append M s t (Do gives ∷ moves) more counts r =
+    ap (λ rest. marks (suc (M.count s)) gives ++ rest)
+    (subst (λ n. entries n (moves ++ more) ≡ entries n moves ++ entries (M.count t) more)
+    (counts.by_step s r.0 gives r.1) (entries-append M r.0 t moves more counts r.2))
+    ∙ sym (append_assoc (marks (suc (M.count s)) gives) (entries (suc (M.count s)) moves) (entries (M.count t) more))
+entries-append M s t (Take input ∷ moves) more counts r =
+    ap (λ rest. entry_of (M.count s) input ∷ rest)
+    (subst (λ n. entries n (moves ++ more) ≡ entries n moves ++ entries (M.count t) more)
+    (counts.by_input s r.0 input r.1.taken) (entries-append M r.0 t moves more counts r.2))
+
+pub Records-append : {S : Type 0} (M : Machine S) (s t u : S) (log middle new : Log) (moves more : List Move)
+    → Counts M → Records M s log moves t middle → Records M t middle more u new → Records M s log (moves ++ more) u new
+Records-append M s t u log middle new moves more counts a b =
+    let es = entries (M.count s) moves in
+    let later = entries (M.count t) more in
+    record {
+      runs = Recorded-append M s t u moves more a.runs b.runs;
+      first = b.first ∙ a.first;
+      pushes =
+          b.pushes ∙ ap (λ (before : List Entry). before ++ later) a.pushes ∙ append_assoc log.entries es later
+          ∙ ap (λ (behind : List Entry). log.entries ++ behind)
+          (sym (entries-append M s t moves more counts a.runs));
+    }

@@ -1,0 +1,8 @@
+use Rattle.recorder.proofs.Recorded.{count-Recorded, is_run}
+use Rattle.recorder.proofs.laws.recorded_runs_are_runs.Goals as goal
+
+pub returns-clause-runs : goal.returns-clause-runs
+returns-clause-runs g c = λ M s t moves r. is_run M s t moves r
+
+pub returns-clause-count : goal.returns-clause-count
+returns-clause-count g c = λ M s t moves counts r. count-Recorded M s t moves counts r

@@ -1,0 +1,4 @@
+pub mod Recorded
+pub mod Recording
+pub mod Stepping
+pub mod Laws

@@ -1,0 +1,100 @@
+//! A guest with the log of its moves.
+ghost use Rattle.std.specs.Prelude.{◌≡◌};
+ghost use Rattle.guest_board.specs.Lockstep.{HasRoom, IsInput};
+ghost use Rattle.guest_board.specs.Machine.{refusal_of};
+ghost use Rattle.log_buffer.specs.contracts.buffer.LogBuffer as buffer;
+ghost use Rattle.recorder.specs.Recording as table;
+ghost use Rattle.recorder.specs.contracts.recorder.Recorder.{the_row};
+ghost use Rattle.std.specs.Borrow.{Lends, sem};
+
+use crate::advanced::{Advanced, Why};
+use crate::run::run;
+use guest_board::{Input, Lockstep};
+use i8080_words::R;
+use log_buffer::LogBuffer;
+use log_entry::Entry;
+
+/// A guest with the log of what it was given and of what it gave (VMware FT, section 2.1).
+#[derive(Drop)]
+pub struct Recorder<B> {
+    board: B,
+    log: LogBuffer,
+}
+
+impl<B: Lockstep> Recorder<B> {
+    /// A guest whose moves are recorded from now on.
+    pub fn new(board: B, log: LogBuffer) -> Recorder<B>
+        ensures board { result.board ≡ board }
+        ensures log { result.log ≡ log }
+    {
+        Recorder { board, log }
+    }
+
+    /// The guest.
+    pub fn board(&self) -> &B
+        ensures { result.now ≡ self.now.board }
+    {
+        &self.board
+    }
+
+    /// The log.
+    pub fn log(&self) -> &LogBuffer
+        ensures { result.now ≡ self.now.log }
+    {
+        &self.log
+    }
+
+    /// The log, for its owner to drop what the backup has acknowledged.
+    pub fn log_mut(&mut self) -> &mut LogBuffer
+        ensures value { result.now ≡ self.old.log }
+        ensures* writes_back { sem 𝓛 (Lends (the_row B.row) buffer.the_row self.entry result
+            (λ log. record self.old { log = log })) }
+    {
+        &mut self.log
+    }
+
+    /// The guest, without its log.
+    pub fn into_board(self) -> B
+        ensures { result ≡ self.board }
+    {
+        let Recorder { board, log: _ } = self;
+        board
+    }
+
+    /// Makes at most `turns` steps, and stops after the first that gives an operation, whose mark is logged. It is
+    /// refused only where no step is made: `LogFull` and `Spent` by the log, `Spent` and `Idle` by the guest, and
+    /// `OutOfMemory`.
+    pub fn advance(&mut self, turns: u64) -> R<Advanced>
+        ensures { table.AdvancesUnless B.machine (B.state self.old.board) self.old.log turns
+            (table.advance_refusal B.machine (B.state self.old.board) self.old.log turns) result
+            (B.state self.new.board) self.new.log }
+    {
+        if turns == 0 {
+            return Ok(Advanced {
+                steps: 0,
+                why: Why::Turns,
+            });
+        }
+        self.log.room()?;
+        run(&mut self.board, &mut self.log, turns)
+    }
+
+    /// Takes an input, and logs it at the guest's count. Gives the index of its entry. It takes no memory, and is
+    /// refused as the guest refuses the input, and then as the log refuses an entry.
+    pub fn offer(&mut self, input: Input) -> R<u64>
+        requires input { IsInput input }
+        requires room { HasRoom B.machine (B.state self.old.board) input }
+        ensures answer { result
+            ≡ table.offer_answer (refusal_of B.machine (B.state self.old.board) input) self.old.log }
+        ensures after { table.Offers B.machine (B.state self.old.board) self.old.log input result
+            (B.state self.new.board) self.new.log }
+    {
+        self.board.check(&input)?;
+        let entry = Entry::of_input(self.board.count(), input);
+        let index = self.log.push(entry)?;
+        match self.board.take(input) {
+            Ok(()) => Ok(index),
+            Err(_) => unreachable!(),
+        }
+    }
+}

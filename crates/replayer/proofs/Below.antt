@@ -1,0 +1,88 @@
+-- A replayer never passes the count of the last entry that was held. The counts of what is held never fall, from the
+-- machine's own on, and the last of them stays what it was: a step leaves the machine at or below the first, and an
+-- entry is popped where the machine stands at its count.
+use Rattle.std.proofs.Common.{◌≡◌, ℕ, suc, ◌≤◌, Bool, true, false, List, [], ◌∷◌, ◌++◌, Some, None, refl, sym, ap, subst, ◌∙◌, arith}
+use Rattle.guest_board.specs.Machine.{Machine, Move, Do, Take}
+use Rattle.log_entry.specs.Entries.{count_of, entries, last_count}
+use Rattle.log_entry.specs.Laws.{NeverFalls}
+use Rattle.log_entry.specs.declared.entry.Entry.{Entry}
+use Rattle.recorder.specs.Recorded.{Counts}
+use Rattle.replayer.specs.Replaying.{Moves, Steps, Passes, Takes, Replays, Begin, Then}
+use Rattle.replayer.specs.Standing.{owed, IsOnTrace}
+use Rattle.replayer.proofs.Fronts.{count_of-entry_of}
+
+-- ---- the entries of a run
+
+NeverFalls-lower : (a b : ℕ) (es : List Entry) → a ≤ b → NeverFalls b es → NeverFalls a es
+NeverFalls-lower a b [] le f = tt
+NeverFalls-lower a b (e ∷ es) le f = let first = f.0 in (omega arith, f.1)
+
+NeverFalls-entries : (count : ℕ) (moves : List Move) → NeverFalls count (entries count moves)
+NeverFalls-entries count [] = tt
+NeverFalls-entries count (Do None ∷ moves) =
+    NeverFalls-lower count (suc count) (entries (suc count) moves) (omega arith) (NeverFalls-entries (suc count) moves)
+NeverFalls-entries count (Do (Some given) ∷ moves) = (omega arith, NeverFalls-entries (suc count) moves)
+NeverFalls-entries count (Take input ∷ moves) =
+    let at = count_of-entry_of count input in
+    (omega arith, subst (λ n. NeverFalls n (entries count moves)) (sym at) (NeverFalls-entries count moves))
+
+NeverFalls-owed : (count : ℕ) (owes : Bool) (moves : List Move)
+    → NeverFalls count (owed count owes ++ entries count moves)
+NeverFalls-owed count true moves = (omega arith, NeverFalls-entries count moves)
+NeverFalls-owed count false moves = NeverFalls-entries count moves
+
+NeverFalls-front : (count : ℕ) (xs ys : List Entry) → NeverFalls count (xs ++ ys) → NeverFalls count xs
+NeverFalls-front count [] ys f = tt
+NeverFalls-front count (x ∷ xs) ys f = (f.0, NeverFalls-front (count_of x) xs ys f.1)
+
+below-last_count : (count : ℕ) (es : List Entry) → NeverFalls count es → count ≤ last_count count es
+below-last_count count [] f = omega arith
+below-last_count count (e ∷ es) f =
+    let first = f.0 in let rest = below-last_count (count_of e) es f.1 in omega arith
+
+-- ---- what is held
+
+-- the counts of what is held never fall from the machine's own on, and this is the last of them
+pub record Leads {S : Type 0} (M : Machine S) (last : ℕ) (t : S) (held : List Entry) : Type 0 where
+  pub rising : NeverFalls (M.count t) held
+  pub last_is : last_count (M.count t) held ≡ last
+
+leads_on : {S : Type 0} (M : Machine S) (last : ℕ) (t u : S) (now left : List Entry) → Counts M → Moves M t now u left
+    → Leads M last t now → Leads M last u left
+leads_on M last t u now left counts (Steps {gives = gives} {e = e} {es = es} now_is lt made) x =
+    let y : Leads M last t (e ∷ es) = subst (λ h. Leads M last t h) now_is x in
+    let count = counts.by_step t u gives made in
+    let first : M.count u ≤ count_of e = omega arith in
+    subst (λ h. Leads M last u h) (sym now_is) (record { rising = (first, y.rising.1); last_is = y.last_is })
+leads_on M last t u now left counts (Passes {e = e} {es = es} now_is at has) x =
+    let y : Leads M last t (e ∷ es) = subst (λ h. Leads M last t h) now_is x in
+    record {
+      rising = subst (λ n. NeverFalls n es) (sym at) y.rising.1;
+      last_is = ap (λ n. last_count n es) at ∙ y.last_is;
+    }
+leads_on M last t u now left counts (Takes {e = e} {es = es} {input = input} now_is at has accepts) x =
+    let y : Leads M last t (e ∷ es) = subst (λ h. Leads M last t h) now_is x in
+    let count : M.count u ≡ count_of e = counts.by_input t u input accepts.taken ∙ at in
+    record {
+      rising = subst (λ n. NeverFalls n es) (sym count) y.rising.1;
+      last_is = ap (λ n. last_count n es) count ∙ y.last_is;
+    }
+
+leads : {S : Type 0} (M : Machine S) (s : S) (held : List Entry) (t : S) (left : List Entry) (n last : ℕ) → Counts M
+    → Replays M s held n t left → Leads M last s held → Leads M last t left
+leads M s held t left n last counts Begin x = x
+leads M s held t left n last counts (Then {n = m} {t = v} {now = now} before one) x =
+    leads_on M last v t now left counts one (leads M s held v now m last counts before x)
+
+pub stays_below : {S : Type 0} (M : Machine S) (s t : S) (held left : List Entry) (n : ℕ) → Counts M
+    → Replays M s held n t left → IsOnTrace M s held → M.count t ≤ last_count (M.count s) held
+stays_below M s t held left n counts replays on =
+    let all : NeverFalls (M.count s) (held ++ on.stands.later) =
+    subst (λ es. NeverFalls (M.count s) es) (sym on.stands.next_ones)
+    (NeverFalls-owed (M.count s) on.owes on.moves) in
+    let x : Leads M (last_count (M.count s) held) t left =
+    leads M s held t left n (last_count (M.count s) held) counts replays
+    (record { rising = NeverFalls-front (M.count s) held on.stands.later all; last_is = refl }) in
+    let below = below-last_count (M.count t) left x.rising in
+    let last_is = x.last_is in
+    omega arith

@@ -1,0 +1,94 @@
+-- A recorded run of the small guest: it takes a key at count 0, reads it at its first step, and sends it at the second.
+use Rattle.std.proofs.Common.{eq-eqb, nat_eq, ◌-◌, ◌^◌, ◌≡◌, ℕ, suc, ◌<◌, Bool, true, false, cond, ◌||◌, List, [], ◌∷◌, Option, Some, None, Result, Ok, refl, sym, ap, subst, ◌∙◌, arith}
+use Rattle.echo_guest.specs.Echo.{Echo, at_boot, echo, moved, reads, sends, is_spent, is_idle, after}
+use Rattle.event_callbacks.specs.declared.operations.Operation.{Operation}
+use Rattle.event_callbacks.specs.declared.operations.Operation.TheVariants.{Byte}
+use Rattle.guest_board.specs.Machine.{Do, Take}
+use Rattle.guest_board.specs.declared.input.Input.{Input}
+use Rattle.guest_board.specs.declared.input.Input.TheVariants as input
+use Rattle.i8080_words.specs.declared.refusal.Fault.{Fault}
+use Rattle.log_channel.specs.Channel.{Receiving, Answers, heard, holding, Next}
+use Rattle.log_channel.specs.declared.packet.Packet.TheVariants.{Log}
+use Rattle.log_channel.specs.Laws.{ReadsAgain}
+use Rattle.log_channel.specs.Packet.{packet_at, packet_bytes}
+use Rattle.log_entry.specs.Spelling.{IsEntry}
+use Rattle.log_entry.specs.declared.entry.Entry.{Entry}
+use Rattle.log_entry.specs.declared.entry.Entry.TheVariants.{Mark, Rx}
+use Rattle.recorder.specs.Recorded.{Counts}
+use Rattle.replayer.specs.Standing.{IsOnTrace}
+use Rattle.replayer.proofs.Fronts.{same_value}
+
+-- ---- its count
+
+step_counts : (none : Bool) (byte : Option ℕ) (e : Echo) (x : Echo × Option Operation)
+    → cond none None (Some (moved e byte)) ≡ Some x → x.0.count ≡ suc e.count
+step_counts true byte e x h = absurd cc
+step_counts false None e x h = sym (ap (λ (p : Echo × Option Operation). p.0.count) (same_value (reads e) x h))
+step_counts false (Some byte) e x h =
+    sym (ap (λ (p : Echo × Option Operation). p.0.count) (same_value (sends e byte) x h))
+
+accepted_counts : (due : Bool) (e t : Echo) → cond due (Some (record e { waits = false })) None ≡ Some t
+    → t.count ≡ e.count
+accepted_counts true e t h = sym (ap (λ (u : Echo). u.count) (same_value (record e { waits = false }) t h))
+accepted_counts false e t h = absurd cc
+
+input_counts : (e t : Echo) (i : Input) → after e i ≡ Some t → t.count ≡ e.count
+input_counts e t (input.Rx port byte) h =
+    sym (ap (λ (u : Echo). u.count) (same_value (record e { keys = suc e.keys; key = Some byte }) t h))
+input_counts e t (input.Sent port) h = accepted_counts _ e t h
+input_counts e t (input.Sector drive sector number bytes) h = absurd cc
+input_counts e t (input.Written number) h = absurd cc
+
+spent_steps : (spent idle : Bool) (x : Echo × Option Operation) → spent ≡ true
+    → cond (spent || idle) None (Some x) ≡ None
+spent_steps true idle x h = refl
+spent_steps false idle x h = absurd cc
+
+pub echo_counts : Counts echo
+echo_counts = record {
+  by_step = λ s t gives made. step_counts _ _ s (t, gives) made;
+  by_input = λ s t i taken. input_counts s t i taken;
+  spent = λ s spent. spent_steps (is_spent s) (is_idle s) _ spent;
+}
+
+-- ---- its run
+
+pub on_trace : (s : Echo) (held : List Entry) → s ≡ at_boot → held ≡ Rx 0 0 0x48 ∷ Mark 2 ∷ [] → IsOnTrace echo s held
+on_trace s held at are =
+    subst (λ s. IsOnTrace echo s held) (sym at)
+    (subst (λ held. IsOnTrace echo at_boot held) (sym are) (record {
+      owes = false;
+      moves = Take (input.Rx 0 0x48) ∷ Do None ∷ Do (Some (Byte 0 1 0x48)) ∷ [];
+      last = record { count = 2; keys = 1; key = None; byte = None; sent = 1; waits = true };
+      stands = record {
+        runs = (
+          record { count = 0; keys = 1; key = Some 0x48; byte = None; sent = 0; waits = false },
+          record { is_input = omega arith; room = omega arith; allowed = refl; taken = refl },
+          (
+            record { count = 1; keys = 1; key = None; byte = Some 0x48; sent = 0; waits = false },
+            refl,
+            (record { count = 2; keys = 1; key = None; byte = None; sent = 1; waits = true }, refl, refl),
+          ),
+        );
+        later = [];
+        next_ones = refl;
+      };
+    }))
+
+-- ---- an entry that is held
+
+pub held_next : (r new : Receiving) (entry : Entry) (generation index : ℕ) (bytes : List ℕ) (result : Result Bool Fault)
+    → ReadsAgain → 0 < generation → generation < 2 ^ 32 → index < 1000 → IsEntry entry → r.generation ≡ generation
+    → index ≡ r.held → bytes ≡ packet_bytes (Log generation index entry) → result ≡ Ok true
+    → Answers (heard r (packet_at bytes)) r result new → new ≡ holding r entry
+held_next r new entry generation index bytes result again first within few valid same at are is_held a =
+    let few_enough : index < 2 ^ 62 - 1 = omega arith in
+    let read : packet_at bytes ≡ Some (Log generation index entry) =
+    ap packet_at are ∙ again (Log generation index entry) (first, within, few_enough, valid) in
+    let generations : nat_eq generation r.generation ≡ true = eq-eqb generation r.generation (sym same) in
+    let indexes : nat_eq index r.held ≡ true = eq-eqb index r.held at in
+    let next : heard r (Some (Log generation index entry)) ≡ Next entry = rw (generations, indexes) refl in
+    let answers : Answers (Next entry) r (Ok true) new =
+    subst (λ h. Answers h r (Ok true) new) (ap (heard r) read ∙ next)
+    (subst (λ result. Answers (heard r (packet_at bytes)) r result new) is_held a) in
+    answers.1

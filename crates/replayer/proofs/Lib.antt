@@ -1,0 +1,6 @@
+pub mod Fronts
+pub mod Standing
+pub mod Below
+pub mod OneMove
+pub mod Runs
+pub mod EchoTrace

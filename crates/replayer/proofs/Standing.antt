@@ -1,0 +1,173 @@
+-- A replayer keeps to every recorded run on which it stood. A step is the run's next move, and the mark of what it gave
+-- is owed from then on; the mark that is owed passes; an input is the run's next move, and its entry is popped with it.
+-- So after each move what was popped, with the mark that may be owed, are the entries of the moves that were made.
+use Rattle.std.proofs.Common.{◌≡◌, ℕ, suc, Bool, true, false, List, [], ◌∷◌, ◌++◌, Option, Some, None, refl, sym, ap, subst, ◌∙◌}
+use Rattle.std.proofs.lemmas.List.{append-nil, append_assoc}
+use Rattle.event_callbacks.specs.declared.operations.Operation.{Operation}
+use Rattle.guest_board.specs.Machine.{Machine, Move, Do, Take}
+use Rattle.guest_board.specs.declared.input.Input.{Input}
+use Rattle.log_entry.specs.Entries.{entries, marks}
+use Rattle.log_entry.specs.declared.entry.Entry.{Entry}
+use Rattle.recorder.proofs.Recorded.{Recorded-append, entries-append}
+use Rattle.recorder.specs.Recorded.{Counts, Accepts, Recorded}
+use Rattle.replayer.specs.Replaying.{Moves, Steps, Passes, Takes, Replays, Begin, Then}
+use Rattle.replayer.specs.Standing.{owed, Stands, StaysOn}
+use Rattle.replayer.proofs.Fronts.{same_value, NextDoes, next_does, NextTakes, next_takes, NextPasses, next_passes}
+
+-- ---- after a step
+
+gave : Option Operation → Bool
+gave None = false
+gave (Some given) = true
+
+-- what a step leaves owed is its entry
+owed-marks : (count : ℕ) (gives : Option Operation) → owed count (gave gives) ≡ marks count gives
+unfolding gave
+owed-marks count None = refl
+owed-marks count (Some given) = refl
+
+after_step : {S : Type 0} (M : Machine S) (s t u last : S) (held left : List Entry) (owes : Bool) (moves : List Move)
+    (gives : Option Operation) → Counts M → (x : StaysOn M s held owes moves last t left) → M.step t ≡ Some (u, gives)
+    → NextDoes M t last x.owes_still x.rest → StaysOn M s held owes moves last u left
+after_step M s t u last held left owes moves gives counts x made next =
+    let same : (next.t, next.gives) ≡ (u, gives) =
+    same_value (next.t, next.gives) (u, gives) (sym next.made ∙ made) in
+    let rest_is : x.rest ≡ Do gives ∷ next.rest =
+    next.moves_are ∙ ap (λ (p : _ × Option Operation). Do p.1 ∷ next.rest) same in
+    let runs_on : Recorded M u next.rest last =
+    subst (λ (p : _ × Option Operation). Recorded M p.0 next.rest last) same next.runs in
+    let count : M.count u ≡ suc (M.count t) = counts.by_step t u gives made in
+    let owes_is : owed (M.count u) (gave gives) ≡ marks (suc (M.count t)) gives =
+    owed-marks (M.count u) gives ∙ ap (λ n. marks n gives) count in
+    let step : List Move = Do gives ∷ [] in
+    let step_entries : entries (M.count t) step ≡ marks (suc (M.count t)) gives =
+    append-nil (marks (suc (M.count t)) gives) in
+    let popped_before : x.popped ≡ owed (M.count s) owes ++ entries (M.count s) x.made =
+    sym (append-nil x.popped) ∙ ap (λ b. x.popped ++ owed (M.count t) b) (sym next.owes_none) ∙ x.popped_are in
+    record {
+      made = x.made ++ step;
+      rest = next.rest;
+      popped = x.popped;
+      owes_still = gave gives;
+      moves_are =
+          x.moves_are ∙ ap (λ (r : List Move). x.made ++ r) rest_is ∙ sym (append_assoc x.made step next.rest);
+      runs = Recorded-append M s t u x.made step x.runs (u, made, refl);
+      stands = record {
+        runs = runs_on;
+        later = x.stands.later;
+        next_ones =
+            x.stands.next_ones
+            ∙ ap (λ b. owed (M.count t) b ++ entries (M.count t) x.rest) next.owes_none
+            ∙ ap (λ (r : List Move). entries (M.count t) r) rest_is
+            ∙ ap (λ n. marks (suc (M.count t)) gives ++ entries n next.rest) (sym count)
+            ∙ ap (λ (m : List Entry). m ++ entries (M.count u) next.rest) (sym owes_is);
+      };
+      held_are = x.held_are;
+      popped_are =
+          ap (λ (m : List Entry). x.popped ++ m) (owes_is ∙ sym step_entries)
+          ∙ ap (λ (p : List Entry). p ++ entries (M.count t) step) popped_before
+          ∙ append_assoc (owed (M.count s) owes) (entries (M.count s) x.made) (entries (M.count t) step)
+          ∙ ap (λ (m : List Entry). owed (M.count s) owes ++ m)
+          (sym (entries-append M s t x.made step counts x.runs));
+    }
+
+-- ---- after an entry
+
+-- one more entry is popped
+popped_one : (held popped left es : List Entry) (e : Entry) → held ≡ popped ++ left → left ≡ e ∷ es
+    → held ≡ (popped ++ e ∷ []) ++ es
+popped_one held popped left es e held_are left_are =
+    held_are ∙ ap (λ (l : List Entry). popped ++ l) left_are ∙ sym (append_assoc popped (e ∷ []) es)
+
+-- what stands behind the first entry that is held
+behind : {S : Type 0} (M : Machine S) (t last : S) (left es : List Entry) (e : Entry) (owes : Bool) (moves : List Move)
+    → (x : Stands M t left owes moves last) → left ≡ e ∷ es
+    → e ∷ (es ++ x.later) ≡ owed (M.count t) owes ++ entries (M.count t) moves
+behind M t last left es e owes moves x left_are =
+    ap (λ (l : List Entry). l ++ x.later) (sym left_are) ∙ x.next_ones
+
+after_mark : {S : Type 0} (M : Machine S) (s t last : S) (held left es : List Entry) (owes : Bool) (moves : List Move)
+    (e : Entry) (x : StaysOn M s held owes moves last t left) → left ≡ e ∷ es
+    → NextPasses (M.count t) e (es ++ x.stands.later) x.owes_still x.rest → StaysOn M s held owes moves last t es
+after_mark M s t last held left es owes moves e x left_are next = record {
+  made = x.made;
+  rest = x.rest;
+  popped = x.popped ++ e ∷ [];
+  owes_still = false;
+  moves_are = x.moves_are;
+  runs = x.runs;
+  stands = record { runs = x.stands.runs; later = x.stands.later; next_ones = next.next_ones };
+  held_are = popped_one held x.popped left es e x.held_are left_are;
+  popped_are =
+      append-nil (x.popped ++ e ∷ []) ∙ ap (λ e. x.popped ++ e ∷ []) next.entry_is
+      ∙ ap (λ b. x.popped ++ owed (M.count t) b) (sym next.owes_one) ∙ x.popped_are;
+}
+
+after_input : {S : Type 0} (M : Machine S) (s t u last : S) (held left es : List Entry) (owes : Bool)
+    (moves : List Move) (e : Entry) (input : Input) → Counts M → (x : StaysOn M s held owes moves last t left)
+    → left ≡ e ∷ es → M.take t input ≡ Some u
+    → NextTakes M t last e (es ++ x.stands.later) x.owes_still x.rest input → StaysOn M s held owes moves last u es
+after_input M s t u last held left es owes moves e input counts x left_are taken next =
+    let same : next.t ≡ u = same_value next.t u (sym next.accepts.taken ∙ taken) in
+    let accepts : Accepts M t input u = subst (λ u. Accepts M t input u) same next.accepts in
+    let runs_on : Recorded M u next.rest last = subst (λ u. Recorded M u next.rest last) same next.runs in
+    let count : M.count u ≡ M.count t = counts.by_input t u input taken in
+    let one : List Move = Take input ∷ [] in
+    let popped_before : x.popped ≡ owed (M.count s) owes ++ entries (M.count s) x.made =
+    sym (append-nil x.popped) ∙ ap (λ b. x.popped ++ owed (M.count t) b) (sym next.owes_none) ∙ x.popped_are in
+    record {
+      made = x.made ++ one;
+      rest = next.rest;
+      popped = x.popped ++ e ∷ [];
+      owes_still = false;
+      moves_are =
+          x.moves_are ∙ ap (λ (r : List Move). x.made ++ r) next.moves_are ∙ sym (append_assoc x.made one next.rest);
+      runs = Recorded-append M s t u x.made one x.runs (u, accepts, refl);
+      stands = record {
+        runs = runs_on;
+        later = x.stands.later;
+        next_ones = next.next_ones ∙ ap (λ n. entries n next.rest) (sym count);
+      };
+      held_are = popped_one held x.popped left es e x.held_are left_are;
+      popped_are =
+          append-nil (x.popped ++ e ∷ []) ∙ ap (λ e. x.popped ++ e ∷ []) next.entry_is
+          ∙ ap (λ (p : List Entry). p ++ entries (M.count t) one) popped_before
+          ∙ append_assoc (owed (M.count s) owes) (entries (M.count s) x.made) (entries (M.count t) one)
+          ∙ ap (λ (m : List Entry). owed (M.count s) owes ++ m)
+          (sym (entries-append M s t x.made one counts x.runs));
+    }
+
+-- ---- after any moves
+
+further : {S : Type 0} (M : Machine S) (s t u last : S) (held now left : List Entry) (owes : Bool) (moves : List Move)
+    → Counts M → Moves M t now u left → StaysOn M s held owes moves last t now → StaysOn M s held owes moves last u left
+further M s t u last held now left owes moves counts (Steps {gives = gives} {e = e} {es = es} now_is lt made) x =
+    after_step M s t u last held now owes moves gives counts x made
+    (next_does M t last e (es ++ x.stands.later) x.owes_still x.rest x.stands.runs
+    (behind M t last now es e x.owes_still x.rest x.stands now_is) lt)
+further M s t u last held now left owes moves counts (Passes {e = e} {es = es} now_is at has) x =
+    after_mark M s t last held now es owes moves e x now_is
+    (next_passes (M.count t) e (es ++ x.stands.later) x.owes_still x.rest
+    (behind M t last now es e x.owes_still x.rest x.stands now_is) at has)
+further M s t u last held now left owes moves counts (Takes {e = e} {es = es} {input = input} now_is at has accepts) x =
+    after_input M s t u last held now es owes moves e input counts x now_is accepts.taken
+    (next_takes M t last e (es ++ x.stands.later) x.owes_still x.rest input x.stands.runs
+    (behind M t last now es e x.owes_still x.rest x.stands now_is) at has)
+
+pub stays_on : {S : Type 0} (M : Machine S) (s : S) (held : List Entry) (t last : S) (left : List Entry) (n : ℕ)
+    (owes : Bool) (moves : List Move) → Counts M → Replays M s held n t left → Stands M s held owes moves last
+    → StaysOn M s held owes moves last t left
+stays_on M s held t last left n owes moves counts Begin stands = record {
+  made = [];
+  rest = moves;
+  popped = [];
+  owes_still = owes;
+  moves_are = refl;
+  runs = refl;
+  stands = stands;
+  held_are = refl;
+  popped_are = sym (append-nil (owed (M.count s) owes));
+}
+stays_on M s held t last left n owes moves counts (Then {n = m} {t = v} {now = now} before one) stands =
+    further M s v t last held now left owes moves counts one
+    (stays_on M s held v last now m owes moves counts before stands)

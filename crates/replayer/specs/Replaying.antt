@@ -1,0 +1,58 @@
+-- What a replayer does with the entries that are held: how far it comes, and why no further.
+use Rattle.std.specs.Prelude.{◌≡◌, ℕ, suc, ◌<◌, ◌↔◌, IsTrue, List, [], ◌∷◌, Option, Some, None, Bool, true, false, Result, Ok, Err}
+use Rattle.event_callbacks.specs.declared.operations.Operation.{Operation}
+use Rattle.guest_board.specs.Machine.{Machine}
+use Rattle.guest_board.specs.declared.input.Input.{Input}
+use Rattle.i8080_words.specs.declared.refusal.Fault.{Fault}
+use Rattle.i8080_words.specs.declared.refusal.Fault.TheVariants.{OutOfMemory}
+use Rattle.log_entry.specs.Entries.{count_of, input_of}
+use Rattle.log_entry.specs.declared.entry.Entry.{Entry}
+use Rattle.recorder.specs.Recorded.{Accepts}
+use Rattle.replayer.specs.declared.replayer.Replayed.{Replayed}
+
+-- one move: a step below the count of the first entry that is held, or that entry at its count
+pub data Moves {S : Type 0} (M : Machine S) (s : S) (held : List Entry) : S → List Entry → Type 0 where
+  Steps : {t : S} {gives : Option Operation} {e : Entry} {es : List Entry} → held ≡ e ∷ es → M.count s < count_of e
+      → M.step s ≡ Some (t, gives) → Moves M s held t held
+  Passes : {e : Entry} {es : List Entry} → held ≡ e ∷ es → M.count s ≡ count_of e → input_of e ≡ None
+      → Moves M s held s es
+  Takes : {t : S} {e : Entry} {es : List Entry} {input : Input} → held ≡ e ∷ es → M.count s ≡ count_of e
+      → input_of e ≡ Some input → Accepts M s input t → Moves M s held t es
+
+-- so many moves
+pub data Replays {S : Type 0} (M : Machine S) (s : S) (held : List Entry) : ℕ → S → List Entry → Type 0 where
+  Begin : Replays M s held 0 s held
+  Then : {n : ℕ} {t u : S} {now left : List Entry} → Replays M s held n t now → Moves M t now u left
+      → Replays M s held (suc n) u left
+
+-- the next move is a step: the first entry that is held stands at a later count
+pub record IsBehind {S : Type 0} (M : Machine S) (s : S) (held : List Entry) : Type 0 where
+  pub first : Entry
+  pub rest : List Entry
+  pub held_are : held ≡ first ∷ rest
+  pub later : M.count s < count_of first
+
+-- why no more moves were made than so many: no turns are left, no entry is held, or the next step wants memory
+pub data Ends {S : Type 0} (M : Machine S) (turns : ℕ) : ℕ → S → List Entry → Type 0 where
+  AllTurns : {t : S} {left : List Entry} → Ends M turns turns t left
+  AtEnd : {n : ℕ} {t : S} → n < turns → Ends M turns n t []
+  WantsMemory : {n : ℕ} {t : S} {left : List Entry} → 0 < n → n < turns → IsBehind M t left → Ends M turns n t left
+
+-- an answer says how many moves were made, and whether an entry is left
+pub record Came {S : Type 0} (M : Machine S) (s : S) (held : List Entry) (turns : ℕ) (r : Replayed) (t : S)
+    (left : List Entry) : Type 0 where
+  pub replays : Replays M s held r.moves t left
+  pub ends : Ends M turns r.moves t left
+  pub at_end : IsTrue r.at_end ↔ (left ≡ [])
+
+-- what a replay answers and leaves; it is refused where its first move is a step that wants memory
+abbrev pub Answers : {S : Type 0} → Machine S → S → List Entry → ℕ → Result Replayed Fault → S → List Entry → Type 0
+Answers M s held turns (Ok r) t left = Came M s held turns r t left
+Answers M s held turns (Err fault) t left =
+    (fault ≡ OutOfMemory) × (0 < turns) × IsBehind M s held × (t ≡ s) × (left ≡ held)
+
+-- what one move answers and leaves: whether it was made
+abbrev pub AnswersOne : {S : Type 0} → Machine S → S → List Entry → Result Bool Fault → S → List Entry → Type 0
+AnswersOne M s held (Ok true) t left = Moves M s held t left
+AnswersOne M s held (Ok false) t left = (held ≡ []) × (t ≡ s) × (left ≡ held)
+AnswersOne M s held (Err fault) t left = (fault ≡ OutOfMemory) × IsBehind M s held × (t ≡ s) × (left ≡ held)

@@ -1,0 +1,57 @@
+-- Where a replayer stands on a recorded run.
+use Rattle.std.specs.Prelude.{◌≡◌, ℕ, ◌≤◌, List, [], ◌∷◌, ◌++◌, Bool, if◌then◌else◌}
+use Rattle.guest_board.specs.Machine.{Machine, Move}
+use Rattle.log_entry.specs.Entries.{entries, last_count}
+use Rattle.log_entry.specs.declared.entry.Entry.{Entry}
+use Rattle.log_entry.specs.declared.entry.Entry.TheVariants.{Mark}
+use Rattle.recorder.specs.Recorded.{Counts, Recorded}
+use Rattle.replayer.specs.Replaying.{Replays}
+
+-- the mark that is owed: of a step that was made and gave an operation, and whose entry is not popped
+abbrev pub owed : ℕ → Bool → List Entry
+owed count owes = if owes then Mark count ∷ [] else []
+
+-- these moves of a recorded run are still to be made, and the entries that are held are their next ones
+pub record Stands {S : Type 0} (M : Machine S) (s : S) (held : List Entry) (owes : Bool) (moves : List Move)
+    (last : S) : Type 0 where
+  pub runs : Recorded M s moves last
+  pub later : List Entry
+  pub next_ones : held ++ later ≡ owed (M.count s) owes ++ entries (M.count s) moves
+
+-- some moves of a recorded run are still to be made
+pub record IsOnTrace {S : Type 0} (M : Machine S) (s : S) (held : List Entry) : Type 0 where
+  pub owes : Bool
+  pub moves : List Move
+  pub last : S
+  pub stands : Stands M s held owes moves last
+
+-- some of the moves were made and the others are still to be made, and what was popped are the entries of those made;
+-- only the mark of the last of them may still be held
+pub record StaysOn {S : Type 0} (M : Machine S) (s : S) (held : List Entry) (owes : Bool) (moves : List Move) (last : S)
+    (t : S) (left : List Entry) : Type 0 where
+  pub made : List Move
+  pub rest : List Move
+  pub popped : List Entry
+  pub owes_still : Bool
+  pub moves_are : moves ≡ made ++ rest
+  pub runs : Recorded M s made t
+  pub stands : Stands M t left owes_still rest last
+  pub held_are : held ≡ popped ++ left
+  pub popped_are : popped ++ owed (M.count t) owes_still ≡ owed (M.count s) owes ++ entries (M.count s) made
+
+-- so it is with every recorded run on which the replayer stood
+abbrev pub StaysOnEach : {S : Type 0} → Machine S → S → List Entry → S → List Entry → Type 0
+StaysOnEach {S} M s held t left = (owes : Bool) (moves : List Move) (last : S) → Stands M s held owes moves last
+    → StaysOn M s held owes moves last t left
+
+-- ---- laws
+
+-- moves by the entries of a recorded run are moves of that run, and never pass the count of the last entry that was
+-- held
+pub record KeepsTo {S : Type 0} (M : Machine S) (s : S) (held : List Entry) (t : S) (left : List Entry) : Type 0 where
+  pub stays : StaysOnEach M s held t left
+  pub below : IsOnTrace M s held → M.count t ≤ last_count (M.count s) held
+
+abbrev pub ReplaysKeepTo : Type 0 → Type 0
+ReplaysKeepTo S = (M : Machine S) (s t : S) (held left : List Entry) (moves : ℕ) → Counts M
+    → Replays M s held moves t left → KeepsTo M s held t left

@@ -1,0 +1,8 @@
+//! What follows from the definitions alone, for the crates above.
+ghost use Rattle.replayer.specs.Standing.{ReplaysKeepTo};
+
+/// Moves by the entries of a recorded run are moves of that run, made after exactly the entries that were popped, and
+/// they never pass the count of the last entry that was held.
+pub fn replays_keep_to_the_trace<S>()
+    ensures { ReplaysKeepTo S }
+{}

@@ -1,0 +1,11 @@
+//! A guest that repeats the moves of another by the entries of its log.
+#![tactic(auto)]
+
+mod laws;
+mod replay;
+mod replayer;
+#[cfg(test)]
+mod tests;
+
+pub use laws::replays_keep_to_the_trace;
+pub use replayer::{Replayed, Replayer};

@@ -1,0 +1,102 @@
+-- A write changes one sector alone, so every other sector keeps the greatest of the same records. Its own sector has
+-- one more record to choose from, behind the others, and the write stands there exactly where it is the new greatest.
+use Rattle.std.proofs.Common.{◌≡◌, Bool, true, false, cond, List, [], ◌∷◌, ◌++◌, Option, Some, None, refl, sym, ap, subst, ◌∙◌}
+use Rattle.std.specs.Prelude.{◌≢◌, nat_lt, filter, map}
+use Rattle.std.specs.Option.{IsSomeAnd, option_map_or}
+use Rattle.std.proofs.lemmas.Bool.{ltb-true, ltb-false}
+use Rattle.std.proofs.lemmas.List.{append-nil, map-append}
+use Rattle.std.proofs.lemmas.List.Elements.{filter-append}
+use Rattle.disk_dcdd.specs.Address.{address_of, same_address}
+use Rattle.disk_dcdd.specs.declared.address.SectorAddress.{SectorAddress}
+use Rattle.disk_dcdd.specs.declared.sector.SectorWrite.{SectorWrite}
+use Rattle.shared_disk.specs.Arrivals.{record_of, written_at, IsGreatest, Keeps, IsShared, GoesOn, after_meeting, after_put}
+use Rattle.shared_disk.specs.Records.{record_at, with_record}
+use Rattle.shared_disk.specs.declared.store.Record.{Record}
+use Rattle.shared_disk.proofs.Greatest.{greater_comes, no_greater_comes, first_is_greatest}
+use Rattle.shared_disk.proofs.RecordsBySector.{is_same, is_other, record_at-with_same, record_at-with_other}
+
+-- what one write brings to a sector
+abbrev brought : Bool → SectorWrite → List Record
+brought here write = map record_of (cond here (write ∷ []) [])
+
+written_at-append : (arrivals : List SectorWrite) (write : SectorWrite) (a : SectorAddress)
+    → written_at a (arrivals ++ write ∷ []) ≡ written_at a arrivals ++ brought (same_address (address_of write) a) write
+written_at-append arrivals write a =
+    ap (map record_of) (filter-append (λ (w : SectorWrite). same_address (address_of w) a) arrivals (write ∷ []))
+    ∙ map-append record_of (filter (λ (w : SectorWrite). same_address (address_of w) a) arrivals)
+    (filter (λ (w : SectorWrite). same_address (address_of w) a) (write ∷ []))
+
+-- the write meets this record, whose number is below its own or not
+met-at : (less : Bool) (old : List Record) (write : SectorWrite) (first met : Record) (writes : List Record)
+    → nat_lt met.number write.number ≡ less → record_at old (address_of write) ≡ Some met
+    → IsGreatest (first ∷ writes) met
+    → IsSomeAnd (record_at (cond less (with_record old (address_of write) (record_of write)) old) (address_of write))
+    (IsGreatest (first ∷ (writes ++ record_of write ∷ [])))
+met-at true old write first met writes e at is =
+    subst (λ o. IsSomeAnd o (IsGreatest (first ∷ (writes ++ record_of write ∷ []))))
+    (sym (record_at-with_same old (address_of write) (record_of write) met at))
+    (greater_comes (first ∷ writes) met (record_of write) is (ltb-true met.number write.number e))
+met-at false old write first met writes e at is =
+    subst (λ o. IsSomeAnd o (IsGreatest (first ∷ (writes ++ record_of write ∷ []))))
+    (sym at)
+    (no_greater_comes (first ∷ writes) met (record_of write) is (ltb-false met.number write.number e))
+
+-- its own sector
+own_sector : (f o : Option Record) (old : List Record) (write : SectorWrite) (writes : List Record)
+    → record_at old (address_of write) ≡ o → Keeps f writes o
+    → Keeps f (writes ++ record_of write ∷ []) (record_at (after_put old write) (address_of write))
+own_sector None o old write writes at keeps =
+    ap (λ r. record_at (option_map_or (after_meeting old write) r old) (address_of write)) (at ∙ keeps) ∙ at ∙ keeps
+own_sector (Some first) None old write writes at keeps = absurd keeps
+own_sector (Some first) (Some met) old write writes at keeps =
+    subst (λ l. IsSomeAnd (record_at l (address_of write)) (IsGreatest (first ∷ (writes ++ record_of write ∷ []))))
+    (sym (ap (λ r. option_map_or (after_meeting old write) r old) at))
+    (met-at (nat_lt met.number write.number) old write first met writes refl at keeps)
+
+unmet-at : (less : Bool) (old : List Record) (write : SectorWrite) (a : SectorAddress) → address_of write ≢ a
+    → record_at (cond less (with_record old (address_of write) (record_of write)) old) a ≡ record_at old a
+unmet-at true old write a apart = record_at-with_other old (address_of write) a (record_of write) apart
+unmet-at false old write a apart = refl
+
+-- any other sector
+other_sector : (o : Option Record) (old : List Record) (write : SectorWrite) (a : SectorAddress)
+    → record_at old (address_of write) ≡ o → address_of write ≢ a → record_at (after_put old write) a ≡ record_at old a
+other_sector None old write a at apart =
+    ap (λ r. record_at (option_map_or (after_meeting old write) r old) a) at
+other_sector (Some met) old write a at apart =
+    ap (λ r. record_at (option_map_or (after_meeting old write) r old) a) at
+    ∙ unmet-at (nat_lt met.number write.number) old write a apart
+
+at_sector : (here : Bool) (first old : List Record) (write : SectorWrite) (writes : List Record) (a : SectorAddress)
+    → same_address (address_of write) a ≡ here → Keeps (record_at first a) writes (record_at old a)
+    → Keeps (record_at first a) (writes ++ brought here write) (record_at (after_put old write) a)
+at_sector true first old write writes a e keeps =
+    let same : address_of write ≡ a = is_same (address_of write) a e in
+    subst (λ b. Keeps (record_at first a) (writes ++ record_of write ∷ []) (record_at (after_put old write) b)) same
+    (own_sector (record_at first a) (record_at old (address_of write)) old write writes refl
+    (subst (λ b. Keeps (record_at first a) writes (record_at old b)) (sym same) keeps))
+at_sector false first old write writes a e keeps =
+    subst (λ l. Keeps (record_at first a) l (record_at (after_put old write) a)) (sym (append-nil writes))
+    (subst (λ o. Keeps (record_at first a) writes o)
+    (sym (other_sector (record_at old (address_of write)) old write a refl (is_other (address_of write) a e))) keeps)
+
+put_goes_on-at : (old : List Record) (write : SectorWrite) → GoesOn old write (after_put old write)
+put_goes_on-at old write = record {
+  so_far = λ first arrivals shared a.
+      subst (λ l. Keeps (record_at first a) l (record_at (after_put old write) a))
+      (sym (written_at-append arrivals write a))
+      (at_sector (same_address (address_of write) a) first old write (written_at a arrivals) a refl (shared a));
+}
+
+-- a put
+pub put_goes_on : (old : List Record) (write : SectorWrite) (new : List Record) → new ≡ after_put old write
+    → GoesOn old write new
+put_goes_on old write new is = subst (GoesOn old write) (sym is) (put_goes_on-at old write)
+
+nothing-at : (o : Option Record) → Keeps o [] o
+nothing-at None = refl
+nothing-at (Some first) = first_is_greatest first
+
+-- no write came yet
+pub nothing_arrived : (records : List Record) → IsShared records [] records
+nothing_arrived records = λ a. nothing-at (record_at records a)

@@ -1,0 +1,3 @@
+pub mod Arriving
+pub mod Greatest
+pub mod RecordsBySector

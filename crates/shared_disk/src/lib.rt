@@ -1,0 +1,14 @@
+//! The disk that both nodes share: per sector the write of the greatest number, in whatever order writes arrive.
+#![tactic(auto)]
+
+mod disk;
+mod laws;
+mod memory_store;
+mod store;
+#[cfg(test)]
+mod tests;
+
+pub use disk::{SectorRead, SharedDisk};
+pub use laws::{new_stores_are_unwritten, one_write_is_chosen};
+pub use memory_store::MemoryStore;
+pub use store::{Record, SectorStore};

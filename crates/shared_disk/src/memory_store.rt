@@ -1,0 +1,80 @@
+//! Records in memory.
+ghost use Rattle.std.specs.Prelude.{◌≡◌, IfOk, IsOkUnless};
+ghost use Rattle.i8080_words.specs.declared.refusal.Fault.TheVariants.{OutOfMemory};
+ghost use Rattle.shared_disk.specs.Records as table;
+
+use crate::store::{Record, SectorStore};
+use disk_dcdd::{DRIVE_SECTORS, SECTOR_BYTES, SectorAddress};
+use i8080_words::{Fault, R};
+use std::alloc::Global;
+use std::marker::Model;
+
+/// A store in memory, whose device never fails.
+#[derive(Drop)]
+pub struct MemoryStore {
+    records: Vec<Record>,
+}
+
+impl Model for MemoryStore {
+    ghost use Rattle.std.specs.Prelude.{List};
+    ghost use Rattle.shared_disk.specs.declared.store.Record.{Record};
+
+    ghost Value = { List Record };
+
+    ghost view = { λ s. s.records.items };
+}
+
+impl MemoryStore {
+    /// A store of so many drives, in which nothing is written yet: zeros under number 0 in each sector.
+    #[tactic(auto, unfolding(crate::specs::Records::unwritten))]
+    pub fn new(alloc: Global, drives: u8) -> R<MemoryStore>
+        ensures ok { IfOk result (λ store. store ≡ table.unwritten drives) }
+        ensures only_memory { IsOkUnless result OutOfMemory }
+    {
+        let blank = Record {
+            number: 0,
+            bytes: [0; SECTOR_BYTES],
+        };
+        let records = vec![in alloc; blank; drives as usize * DRIVE_SECTORS]?;
+        Ok(MemoryStore { records })
+    }
+
+    /// Puts bytes into a sector before any node writes to it: their number is 0, so that the first write replaces them.
+    /// `Unknown` where no drive has the sector.
+    pub fn set_boot(&mut self, address: SectorAddress, bytes: [u8; SECTOR_BYTES]) -> R<()>
+        ensures answer { result ≡ table.put_answer self.old address }
+        ensures after { self.new ≡ table.with_record self.old address (table.boot_record bytes) }
+    {
+        self.put(address, Record { number: 0, bytes })
+    }
+
+    // Puts a record into a sector.
+    #[tactic(auto, using(crate::proofs::RecordsBySector::takes_none))]
+    fn put(&mut self, address: SectorAddress, content: Record) -> R<()>
+        ensures answer { result ≡ table.put_answer self.old address }
+        ensures after { self.new ≡ table.with_record self.old address content }
+    {
+        let place = address.index().ok_or(Fault::Unknown)?;
+        if place >= self.records.len() {
+            return Err(Fault::Unknown);
+        }
+        self.records[place] = content;
+        Ok(())
+    }
+}
+
+impl SectorStore for MemoryStore {
+    ghost records = { λ s. s };
+
+    ghost failures = { λ s. 0 };
+
+    fn read(&mut self, address: SectorAddress) -> R<Record> {
+        let place = address.index().ok_or(Fault::Unknown)?;
+        self.records.get(place).copied().ok_or(Fault::Unknown)
+    }
+
+    #[tactic(auto, using(crate::proofs::RecordsBySector::takes_none))]
+    fn write(&mut self, address: SectorAddress, content: Record) -> R<()> {
+        self.put(address, content)
+    }
+}
