@@ -5,6 +5,9 @@
 mod board;
 mod flat_memory;
 mod guests;
+mod single;
+#[cfg(test)]
+mod tests;
 
 use anyhow::{Result, bail};
 use event_callbacks::plain_completions;
@@ -37,17 +40,22 @@ fn run_processor(bytes: Vec<u8>, steps: u64) -> Result<Regs> {
     Ok(cpu.processor().regs)
 }
 
-// Runs the whole board.
-fn run_board(alloc: Global, bytes: Vec<u8>, steps: u64) -> Result<Regs> {
+// A guest with one drive and this memory.
+fn setup_of(bytes: Vec<u8>) -> Result<Setup> {
     if bytes.len() != 65536 {
         bail!("no memory of 65,536 bytes");
     }
-    let setup = Setup {
+    Ok(Setup {
         memory: bytes,
         drives: 1,
         levels: [7; 3],
         sense: 0,
-    };
+    })
+}
+
+// Runs the whole board.
+fn run_board(alloc: Global, bytes: Vec<u8>, steps: u64) -> Result<Regs> {
+    let setup = setup_of(bytes)?;
     let regs = board::run(
         alloc,
         &setup,
@@ -59,12 +67,21 @@ fn run_board(alloc: Global, bytes: Vec<u8>, steps: u64) -> Result<Regs> {
     Ok(regs)
 }
 
+// Runs the single machine.
+fn run_single(alloc: Global, bytes: Vec<u8>, steps: u64) -> Result<Regs> {
+    let setup = setup_of(bytes)?;
+    let regs = single::run(alloc, &setup, steps)?;
+    Ok(regs)
+}
+
 // Arguments: the executor, the name of the guest program, `count` or `copy`, and the number of steps.
 fn main(rt: HostRuntime) -> Result<()> {
     let mut arguments = env::args(&rt)?.skip(1);
-    let (Some(executor), Some(name), Some(number)) =
-        (arguments.next(), arguments.next(), arguments.next())
-    else {
+    let (Some(executor), Some(name), Some(number)) = (
+        arguments.next(),
+        arguments.next(),
+        arguments.next(),
+    ) else {
         bail!("usage: guest_bench processor|board|single count|copy STEPS");
     };
     let Some(program) = guests::program(name.as_str()) else {
@@ -75,6 +92,7 @@ fn main(rt: HostRuntime) -> Result<()> {
     let regs = match executor.as_str() {
         "processor" => run_processor(bytes, steps)?,
         "board" => run_board(rt.alloc(), bytes, steps)?,
+        "single" => run_single(rt.alloc(), bytes, steps)?,
         other => bail!("no executor {other:?}"),
     };
     println!(rt;

@@ -1,4 +1,4 @@
--- The scripts of the small machine, event by event.
+-- The scripts of the small machines, event by event.
 use Rattle.std.proofs.Common.{◌≡◌, ◌≤◌, ◌<◌, [], ◌∷◌, ◌++◌, List, None, Some, arith, false, inl, inr, refl, true, ℕ}
 use Rattle.event_callbacks.specs.declared.operations.Operation.TheVariants.{Write}
 use Rattle.guest_board.specs.Machine.{Machine}
@@ -10,7 +10,7 @@ use Rattle.pair_protocol.specs.Lawful.{top}
 use Rattle.pair_protocol.specs.Examples.{TakesOver, WritesDisk, letter, sector_write, small, small_copying}
 use Rattle.pair_protocol.specs.Node.{Alone, Node, Primary}
 use Rattle.pair_protocol.specs.Row.{Accepts, First, Nothing, Refuses, Run}
-use Rattle.pair_protocol.specs.Rows.{AtEnd, Gives, Goes, OneMark, OneStep}
+use Rattle.pair_protocol.specs.Rows.{AtEnd, Gives, Goes, NoneLeft, OneMark, OneStep}
 use Rattle.pair_protocol.specs.World.{Acknowledgement, LogEntry, World, accepted, opening, with_host}
 use Rattle.event_callbacks.specs.declared.operations.OpId.TheVariants as id
 
@@ -40,6 +40,9 @@ seven = omega arith
 
 one : 1 ≤ 1
 one = omega arith
+
+two : 1 ≤ 2
+two = omega arith
 
 -- a run may be made in two parts
 run-append : {S : Type 0} (M : Machine S) (C : Copying S) (old mid new : World S) (events later : List Event)
@@ -199,23 +202,30 @@ writes_disk = (
     y = _;
     made = _;
     why = _;
-    steps = Goes 1 refl (Goes 2 refl (Goes 3 refl (Goes 4 refl (Goes 5 refl (Gives 6 letter refl)))));
-    some = inr six;
+    steps = Goes 1 refl (Goes 2 refl NoneLeft);
+    some = inr two;
     reply = refl;
     after = refl;
   }))
+      (First (Accepts refl (record { x = _; there = refl; drive = _; selected = refl; reply = refl; after = refl }))
+      (First (Accepts refl (record {
+        address = _;
+        number = _;
+        bytes = _;
+        message = refl;
+        input = record { x = _; there = refl; s = 3; takes = refl; reply = refl; after = refl };
+      }))
       (First (Accepts refl (record {
         x = _;
         there = refl;
         y = _;
         made = _;
         why = _;
-        steps = Gives 7 (Write sector_write) refl;
+        steps = Gives 4 (Write sector_write) refl;
         some = inr one;
         reply = refl;
         after = refl;
       }))
-      (First (Refuses refl refl)
       (First (Accepts refl (record {
         x = _;
         there = refl;
@@ -269,16 +279,9 @@ writes_disk = (
       (First (Accepts refl (record {
         number = _;
         message = refl;
-        input = record { x = _; there = refl; s = 8; takes = refl; reply = refl; after = refl };
+        input = record { x = _; there = refl; s = 5; takes = refl; reply = refl; after = refl };
       }))
       (First (Accepts refl (record { x = _; there = refl; drive = _; selected = refl; reply = refl; after = refl }))
-      (First (Accepts refl (record {
-        address = _;
-        number = _;
-        bytes = _;
-        message = refl;
-        input = record { x = _; there = refl; s = 9; takes = refl; reply = refl; after = refl };
-      }))
       Nothing))))))))))))),
   refl,
 )

@@ -1,5 +1,5 @@
--- A small machine, and two scripts that a pair of it runs: a backup takes over, and a write reaches the disk.
-use Rattle.std.specs.Prelude.{◌≡◌, ℕ, suc, min, nat_le, ◌==◌, ◌&&◌, if◌then◌else◌, false, Option, Some, None, List, [], ◌∷◌, slice_get}
+-- Two small machines, and a script that a pair of each runs: a backup takes over, and a sector is read and written.
+use Rattle.std.specs.Prelude.{◌≡◌, ℕ, suc, Bool, nat_le, ◌==◌, ◌&&◌, ◌||◌, if◌then◌else◌, false, Option, Some, None, List, [], ◌∷◌, slice_get, slice_index_or}
 use Rattle.std.specs.Option.{option_map}
 use Rattle.disk_dcdd.specs.Address.{address_of, same_address}
 use Rattle.disk_dcdd.specs.declared.address.SectorAddress.{SectorAddress}
@@ -11,42 +11,38 @@ use Rattle.event_callbacks.specs.declared.operations.Operation.TheVariants.{Byte
 use Rattle.guest_board.specs.Machine.{Machine}
 use Rattle.guest_board.specs.declared.input.Input.{Input}
 use Rattle.guest_board.specs.declared.input.Input.TheVariants as input
-use Rattle.i8080_words.specs.declared.refusal.Fault.TheVariants.{WrongRole, NotCovered}
+use Rattle.i8080_words.specs.declared.refusal.Fault.TheVariants.{WrongRole}
+use Rattle.log_entry.specs.declared.entry.Entry.TheVariants.{Mark, Sector}
 use Rattle.pair_protocol.specs.Copying.{Copying}
-use Rattle.pair_protocol.specs.World.{World, opening, accepted, sector_record}
-use Rattle.pair_protocol.specs.Event.{Event, Step, TypeByte, TakeKey, Send, DeliverLog, Ack, DeliverAck, Release, Arrive, Stop, Suspect, Drain, Put, PutReply, Get, GetReply, Reply, Ran, Gave, TypedAt, Taken, New, Accepted, Dropped, Won, Stopped, MessageIs, HeldIs, MovedAlone, Refused}
+use Rattle.pair_protocol.specs.World.{World, Message, LogEntry, Acknowledgement, Released, WriteDone, SectorRead, opening, accepted}
+use Rattle.pair_protocol.specs.Event.{Event, Step, TypeByte, TakeKey, Send, DeliverLog, Ack, DeliverAck, Release, Arrive, Stop, Suspect, Drain, Put, PutReply, Get, GetReply, Reply, Ran, Turns, Gave, TypedAt, Taken, New, Accepted, Dropped, Won, Stopped, MessageIs, HeldIs, MovedAlone, Refused}
 use Rattle.pair_protocol.specs.Row.{Run}
 
--- ---- the machine
+-- ---- a machine that sends a byte
 
 abbrev pub letter : Operation
 letter = Byte 0 1 72
 
-abbrev pub sector_write : SectorWrite
-sector_write = record { number = 1; drive = 0; track = 0; sector = 5; bytes = 229 ∷ [] }
-
--- its steps: the sixth sends 48h at port 0, the seventh writes a sector
+-- its steps: the sixth sends 48h at port 0
 abbrev pub program : List (Option Operation)
-program =
-    None ∷ None ∷ None ∷ None ∷ None ∷ Some letter ∷ Some (Write sector_write) ∷ []
+program = None ∷ None ∷ None ∷ None ∷ None ∷ Some letter ∷ []
 
--- its state is its place in the program; past it, 8 says that the write is done and 9 that the sector was read
+-- its state is its place in the program
 abbrev pub small_step : ℕ → Option (ℕ × Option Operation)
 small_step s = option_map (λ gives. (suc s, gives)) (slice_get program s)
 
+-- it may be given a key at any time, and nothing else
 abbrev pub small_take : ℕ → Input → Option ℕ
 small_take s (input.Rx port byte) = Some s
 small_take s (input.Sent port) = None
-small_take s (input.Sector drive sector number bytes) = if s == 8 then Some 9 else None
-small_take s (input.Written number) = if s == 7 && number == 1 then Some 8 else None
+small_take s (input.Sector drive sector number bytes) = None
+small_take s (input.Written number) = None
 
 abbrev pub small_find : ℕ → OpId → Option Operation
 small_find s (id.Byte port number) = if nat_le 6 s && port == 0 && number == 1 then Some letter else None
-small_find s (id.Write number) = if s == 7 && number == 1 then Some (Write sector_write) else None
+small_find s (id.Write number) = None
 
-abbrev pub small_done : ℕ → SectorAddress → ℕ
-small_done s address = if nat_le 8 s && same_address address (address_of sector_write) then 1 else 0
-
+-- it has no disk
 abbrev pub small : Machine ℕ
 small = record {
   boot = 0;
@@ -54,19 +50,19 @@ small = record {
   window_size = 1;
   step = small_step;
   take = small_take;
-  count = λ s. min s 7;
+  count = λ s. s;
   is_spent = λ s. false;
   keys = λ s port. 0;
   find = small_find;
   due_byte = λ s port. None;
-  selected = λ s. Some 0;
+  selected = λ s. None;
   address = λ s drive sector. record { drive = drive; track = 0; sector = sector };
-  ready = λ s address. nat_le 8 s;
-  busy = λ s address. s == 7;
-  done = small_done;
+  ready = λ s address. false;
+  busy = λ s address. false;
+  done = λ s address. 0;
 }
 
--- a copy of it is one part with its state
+-- a copy of it, and of the machine with a disk below, is one part with its state
 abbrev pub small_assemble : List (List ℕ) → Option ℕ
 small_assemble ((s ∷ []) ∷ []) = Some s
 small_assemble _ = None
@@ -92,20 +88,83 @@ abbrev pub TakesOver : Type 0
 TakesOver =
     (w : World ℕ) × Run small small_copying (opening small) failover failover_replies w × (accepted w 0 ≡ 72 ∷ [])
 
--- ---- a write reaches the disk
+-- ---- a machine that reads a sector and writes it
 
--- the primary may release its write only once its entry is acknowledged; the disk has it then, and gives it back
+-- it writes one sector; a sector has two bytes here in place of 137, both 0 at boot
+abbrev pub sector_write : SectorWrite
+sector_write = record { number = 1; drive = 0; track = 0; sector = 0; bytes = 72 ∷ 105 ∷ [] }
+
+abbrev pub is_its_sector : SectorAddress → Bool
+is_its_sector address = same_address address (address_of sector_write)
+
+-- its state: 0 at boot, 1 the disk turns, 2 the sector comes, 3 it is under the head, 4 its write is outstanding, 5 the
+-- write is done
+abbrev pub disk_step : ℕ → Option (ℕ × Option Operation)
+disk_step s =
+    if nat_le s 1 then Some (suc s, None) else if s == 3 then Some (4, Some (Write sector_write)) else None
+
+-- how many steps it has made in each state
+abbrev pub disk_count : ℕ → ℕ
+disk_count s = slice_index_or (0 ∷ 1 ∷ 2 ∷ 2 ∷ 3 ∷ 3 ∷ []) s 3
+
+-- the sector comes once the disk has turned, and may come again once it is written
+abbrev pub after_sector : ℕ → Option ℕ
+after_sector s = if s == 2 then Some 3 else if s == 5 then Some 5 else None
+
+-- it is given its sector and the completion of its write, and no key
+abbrev pub disk_take : ℕ → Input → Option ℕ
+disk_take s (input.Rx port byte) = None
+disk_take s (input.Sent port) = None
+disk_take s (input.Sector drive sector number bytes) =
+    if drive == 0 && sector == 0 then after_sector s else None
+disk_take s (input.Written number) = if s == 4 && number == 1 then Some 5 else None
+
+abbrev pub disk_find : ℕ → OpId → Option Operation
+disk_find s (id.Byte port number) = None
+disk_find s (id.Write number) = if s == 4 && number == 1 then Some (Write sector_write) else None
+
+abbrev pub small_disk : Machine ℕ
+small_disk = record {
+  boot = 0;
+  boot_sector = λ address. 0 ∷ 0 ∷ [];
+  window_size = 1;
+  step = disk_step;
+  take = disk_take;
+  count = disk_count;
+  is_spent = λ s. false;
+  keys = λ s port. 0;
+  find = disk_find;
+  due_byte = λ s port. None;
+  selected = λ s. Some 0;
+  address = λ s drive sector. record { drive = drive; track = 0; sector = sector };
+  ready = λ s address. is_its_sector address && (s == 2 || nat_le 4 s);
+  busy = λ s address. is_its_sector address && s == 4;
+  done = λ s address. if is_its_sector address && nat_le 5 s then 1 else 0;
+}
+
+-- ---- a sector is read and written
+
+-- the sector that comes is entry 0 of the log, and the mark of its write is entry 1; once the backup has acknowledged
+-- both, the primary releases the write, the disk has it, and the primary hears that it is done; then it is read again
 abbrev pub disk_write : List Event
 disk_write =
-    Step 0 10 ∷ Step 0 10 ∷ Release 0 (id.Write 1) ∷ Send 0 0 ∷ Send 0 1 ∷ DeliverLog 0 1 ∷ DeliverLog 1 1 ∷ Ack 1
-    ∷ DeliverAck 2 0 ∷ Release 0 (id.Write 1) ∷ Put 3 ∷ PutReply 4 0 ∷ Get 0 5 ∷ GetReply 5 0 ∷ []
+    Step 0 2 ∷ Get 0 0 ∷ GetReply 0 0 ∷ Step 0 10 ∷ Send 0 0 ∷ Send 0 1 ∷ DeliverLog 1 1 ∷ DeliverLog 2 1 ∷ Ack 1
+    ∷ DeliverAck 3 0 ∷ Release 0 (id.Write 1) ∷ Put 4 ∷ PutReply 5 0 ∷ Get 0 0 ∷ []
 
 abbrev pub disk_write_replies : List Reply
 disk_write_replies =
-    Ran 6 6 (Gave (id.Byte 0 1)) ∷ Ran 1 7 (Gave (id.Write 1)) ∷ Refused NotCovered ∷ MessageIs 0 ∷ MessageIs 1 ∷ New
-    ∷ New ∷ MessageIs 2 ∷ HeldIs 2 ∷ MessageIs 3 ∷ MessageIs 4 ∷ Taken ∷ MessageIs 5 ∷ Taken ∷ []
+    Ran 2 2 Turns ∷ MessageIs 0 ∷ Taken ∷ Ran 1 3 (Gave (id.Write 1)) ∷ MessageIs 1 ∷ MessageIs 2 ∷ New ∷ New
+    ∷ MessageIs 3 ∷ HeldIs 2 ∷ MessageIs 4 ∷ MessageIs 5 ∷ Taken ∷ MessageIs 6 ∷ []
+
+-- the messages 0 to 6: the sector is read first with its bytes at boot under number 0, and last with those of write 1;
+-- entry 0 stands at count 2, and entry 1 at count 3
+abbrev pub disk_write_messages : List Message
+disk_write_messages =
+    SectorRead (address_of sector_write) 0 (0 ∷ 0 ∷ []) ∷ LogEntry 1 0 (Sector 2 0 0 0 (0 ∷ 0 ∷ []))
+    ∷ LogEntry 1 1 (Mark 3) ∷ Acknowledgement 1 2 ∷ Released (Write sector_write) ∷ WriteDone 1
+    ∷ SectorRead (address_of sector_write) 1 (72 ∷ 105 ∷ []) ∷ []
 
 abbrev pub WritesDisk : Type 0
 WritesDisk =
-    (w : World ℕ) × Run small small_copying (opening small) disk_write disk_write_replies w
-    × ((sector_record small w.puts (address_of sector_write)).number ≡ 1)
+    (w : World ℕ) × Run small_disk small_copying (opening small_disk) disk_write disk_write_replies w
+    × (w.messages ≡ disk_write_messages)

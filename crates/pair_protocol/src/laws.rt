@@ -33,8 +33,8 @@ pub fn every_event_is_answered<S>()
     ensures replies { RunReplies S }
 {}
 
-/// A timed list and a count have one trace, which ends at one state; its first entries are those of its first moves; and
-/// moves without an entry are quiet steps.
+/// A timed list and a count have one trace, which ends at one state; its first entries are those of its first moves;
+/// and moves without an entry are quiet steps.
 pub fn traces_are_determined<S>()
     ensures one { OneTrace S }
     ensures one_end { OneEnd S }
@@ -43,8 +43,9 @@ pub fn traces_are_determined<S>()
     ensures quiet_entries { QuietEntries }
 {}
 
-/// The rules can be followed: a backup takes over from a primary that stops, and sends the byte that it held; and a write
-/// that is released reaches the disk and is read again. Both scripts are of a small machine, reply by reply.
+/// The rules can be followed: a backup takes over from a primary that stops, and sends the byte that it held; and a
+/// sector is read, its write is released once it is acknowledged, and what it wrote is read again. Both scripts are of
+/// small machines, reply by reply.
 pub fn scripts_run()
     ensures failover { TakesOver }
     ensures disk_write { WritesDisk }

@@ -1,5 +1,5 @@
 -- The trace of a single machine from a list of timed inputs, and what such a trace has sent, written and stored.
-use Rattle.std.specs.Prelude.{◌≡◌, ℕ, suc, ◌+◌, Bool, ◌==◌, if◌then◌else◌, Option, Some, None, List, [], ◌∷◌, ◌++◌}
+use Rattle.std.specs.Prelude.{◌≡◌, ℕ, suc, ◌+◌, ◌==◌, if◌then◌else◌, Some, None, List, [], ◌∷◌, ◌++◌}
 use Rattle.disk_dcdd.specs.Address.{address_of, same_address}
 use Rattle.disk_dcdd.specs.declared.address.SectorAddress.{SectorAddress}
 use Rattle.disk_dcdd.specs.declared.sector.SectorWrite.{SectorWrite}

@@ -1,0 +1,303 @@
+//! Both executors make the same of random programs, with random inputs at random counts.
+ghost use Rattle.std.specs.Prelude.{IsTrue};
+ghost use Rattle.event_callbacks.specs.declared.devices.TheConstants.{SENT, SECTOR, WRITTEN};
+ghost use Rattle.event_callbacks.specs.Keeping.{Keeps};
+ghost use Rattle.guest_board.specs.Inputs.{some_altair};
+ghost use Rattle.guest_board.specs.Lockstep.{HasRoom, IsInput};
+ghost use Rattle.plain_single.specs.Reaching.{NeverFall};
+
+use disk_dcdd::{GREATEST_NUMBER, SECTOR_BYTES, SectorAddress, SectorWrite};
+use event_callbacks::{
+    Callbacks, Completes, Kept, Operation, SECTOR, SENT, WRITTEN, plain_completions,
+};
+use guest_board::{Board, Input, Setup};
+use i8080_words::{Fault, R};
+use plain_single::{Bare, Single, Timed};
+use rand_core::utils::NextWord;
+use rand_pcg::Pcg32;
+use std::alloc::Global;
+use std::process::Abort;
+
+const PROGRAMS: u64 = 240;
+
+// How often a program is run on before an input is offered to it.
+const INPUTS: u32 = 100;
+
+// The ports at which a device stands.
+static PORTS: [u8; 8] = [0x08, 0x09, 0x0a, 0x10, 0x11, 0x12, 0x13, 0xff];
+
+// Selects drive 0, loads its head, enables interrupts of the drives, waits for a sector, writes E5 to all of it, and goes
+// on at 0027.
+static WRITES_A_SECTOR: [u8; 39] = [
+    0x31, 0x00, 0x80, 0x3e, 0x00, 0xd3, 0x08, 0x3e, 0x04, 0xd3, 0x09, 0xdb, 0x09, 0x0f, 0xda, 0x0b,
+    0x00, 0x3e, 0x80, 0xd3, 0x09, 0x06, 0x89, 0xdb, 0x08, 0x0f, 0xda, 0x17, 0x00, 0x3e, 0xe5, 0xd3,
+    0x0a, 0x05, 0xc2, 0x17, 0x00, 0xfb, 0x00,
+];
+
+// What a board was given and what it gave.
+#[derive(Drop)]
+struct Course {
+    inputs: Vec<Timed>,
+    first: Vec<u8>,
+    second: Vec<u8>,
+    writes: Vec<SectorWrite>,
+    done: Vec<SectorWrite>,
+}
+
+// A memory of random bytes, of which many reach a port and few halt.
+fn random_memory(alloc: Global, random: &mut Pcg32, program: u64) -> R<Vec<u8>> {
+    let mut memory = vec![in alloc; 0u8; 65536]?;
+    for byte in memory.iter_mut() {
+        let [code, seldom, _, _] = random.next_word().to_be_bytes();
+        *byte = if code == 0x76 && seldom > 32 {
+            0xfb
+        } else {
+            code
+        };
+    }
+    for _ in 0..6000 {
+        let [high, low, port, kind] = random.next_word().to_be_bytes();
+        let at = u16::from_be_bytes([high, low]) as usize;
+        let port = PORTS[(port % 8) as usize];
+        if let Some(code) = memory.get_mut(at) {
+            *code = if kind % 2 == 0 { 0xd3 } else { 0xdb };
+        }
+        if let Some(operand) = memory.get_mut(at + 1) {
+            *operand = port;
+        }
+    }
+    if program % 2 == 0 {
+        for (place, byte) in memory.iter_mut().zip(&WRITES_A_SECTOR) {
+            *place = *byte;
+        }
+    }
+    Ok(memory)
+}
+
+// What the disk has in a sector: the last write of it that is done, or zeros.
+fn sector_bytes(done: &[SectorWrite], address: SectorAddress) -> [u8; SECTOR_BYTES] {
+    match done.iter().rev().find(|write| write.address() == address) {
+        Some(write) => write.bytes,
+        None => [0; SECTOR_BYTES],
+    }
+}
+
+// A random input, as this board might take it now, without what only the log carries and with it.
+fn random_input<T: Completes, S: Completes, W: Completes>(
+    board: &Board<T, S, W>,
+    course: &Course,
+    random: &mut Pcg32,
+) -> (Bare, Input) {
+    let [kind, place, sector, byte] = random.next_word().to_be_bytes();
+    let port = place % 2;
+    let sector = sector % 32;
+    match kind % 8 {
+        0..=2 => (Bare::Rx(port, byte), Input::Rx(port, byte)),
+        3..=4 => (Bare::Sent(port), Input::Sent(port)),
+        5..=6 => {
+            let drive = place % 2;
+            let track = match board.place() {
+                Some((_, track)) => track,
+                None => 0,
+            };
+            let address = SectorAddress {
+                drive,
+                track,
+                sector,
+            };
+            let number = board.done(address);
+            let bytes = sector_bytes(&course.done, address);
+            let input = Input::Sector {
+                drive,
+                sector,
+                number,
+                bytes,
+            };
+            (Bare::Sector(drive, sector), input)
+        }
+        _ => {
+            let number = course.done.len() as u64 + 1;
+            (Bare::Written(number), Input::Written(number))
+        }
+    }
+}
+
+// Whether a board may be offered the input: its port, drive and sector are there, and its keys are not spent.
+fn may_offer<T: Completes, S: Completes, W: Completes>(
+    board: &Board<T, S, W>,
+    input: &Input,
+) -> bool
+    ensures input { IsTrue result → IsInput input.now }
+    ensures room { IsTrue result → HasRoom some_altair board.now.guest input.now }
+{
+    match input {
+        Input::Rx(port, _) => *port < 2 && board.keys(*port) < GREATEST_NUMBER,
+        Input::Sent(port) => *port < 2,
+        Input::Sector { drive, sector, .. } => *drive < 4 && *sector < 32,
+        Input::Written(_) => true,
+    }
+}
+
+// Offers a random input, and notes it where it is taken.
+fn offer<T: Completes, S: Completes, W: Completes>(
+    board: &mut Board<T, S, W>,
+    course: &mut Course,
+    random: &mut Pcg32,
+) -> R<()> {
+    let (bare, input) = random_input(board, course, random);
+    if !may_offer(board, &input) || board.take(input).is_err() {
+        return Ok(());
+    }
+    if let Bare::Written(_) = bare
+        && let Some(write) = course.writes.get(course.done.len())
+    {
+        course.done.push(*write)?;
+    }
+    let count = board.count();
+    course
+        .inputs
+        .push(Timed { count, input: bare })
+        .map_err(|_| Fault::OutOfMemory)
+}
+
+// Makes at most this many steps, and notes what they give.
+fn advance<T: Completes, S: Completes, W: Completes>(
+    board: &mut Board<T, S, W>,
+    course: &mut Course,
+    steps: u32,
+) -> R<()> {
+    for _ in 0..steps {
+        let executed = match board.exec() {
+            Ok(executed) => executed,
+            Err(Fault::Idle) => return Ok(()),
+            Err(fault) => return Err(fault),
+        };
+        match executed.given() {
+            Some(Operation::Byte { port: 0, byte, .. }) => course.first.push(byte)?,
+            Some(Operation::Byte { byte, .. }) => course.second.push(byte)?,
+            Some(Operation::Write(write)) => course.writes.push(write)?,
+            None => {}
+        }
+    }
+    Ok(())
+}
+
+// Whether counts never fall, from this one on.
+fn never_fall(from: u64, inputs: &[Timed]) -> bool
+    ensures { IsTrue result → NeverFall from inputs.now }
+{
+    match inputs {
+        [] => true,
+        [first, rest @ ..] => from <= first.count && never_fall(first.count, rest),
+    }
+}
+
+// The single machine makes of the board's inputs what the board made.
+fn compare<T: Completes, S: Completes, W: Completes>(
+    rt: &(impl Abort + AllocGlobal),
+    board: &Board<T, S, W>,
+    course: &Course,
+    setup: &Setup,
+    program: u64,
+) -> R<()> {
+    assert!(rt; never_fall(0, &course.inputs));
+    let single = Single::boot(rt.alloc(), setup, &[])?;
+    let single = single.run(rt.alloc(), &course.inputs, board.count())?;
+    assert_eq!(rt; single.processor(), board.processor(), "program {program}");
+    for address in 0..=u16::MAX {
+        assert_eq!(rt;
+            single.byte(address),
+            board.byte(address),
+            "program {program}"
+        );
+    }
+    assert_eq!(rt;
+        single.outputs(0),
+        course.first.as_slice(),
+        "program {program}"
+    );
+    assert_eq!(rt;
+        single.outputs(1),
+        course.second.as_slice(),
+        "program {program}"
+    );
+    assert_eq!(rt;
+        single.writes(),
+        course.writes.as_slice(),
+        "program {program}"
+    );
+    for write in course.done.iter() {
+        let address = write.address();
+        assert_eq!(rt; single.image(address), sector_bytes(&course.done, address));
+    }
+    Ok(())
+}
+
+// Runs a random program on a board, and then on the single machine. Gives how many steps it made, how many inputs it
+// took and how many writes were done.
+fn run_program<T: Completes + Drop, S: Completes + Drop, W: Completes + Drop>(
+    rt: &(impl Abort + AllocGlobal),
+    program: u64,
+    sent: T,
+    sector: S,
+    written: W,
+) -> R<(u64, usize, usize)>
+    requires sent { Keeps (T.may sent) (T.gives sent) SENT }
+    requires sector { Keeps (S.may sector) (S.gives sector) SECTOR }
+    requires written { Keeps (W.may written) (W.gives written) WRITTEN }
+{
+    let mut random = Pcg32::new(program, 54);
+    let memory = random_memory(rt.alloc(), &mut random, program)?;
+    if memory.len() != 65536 {
+        return Err(Fault::Malformed);
+    }
+    let setup = Setup {
+        memory,
+        drives: 1,
+        levels: [7, 6, 5],
+        sense: 0x5a,
+    };
+    let sent = Kept::<T, SENT>::new(sent);
+    let sector = Kept::<S, SECTOR>::new(sector);
+    let written = Kept::<W, WRITTEN>::new(written);
+    let callbacks = Callbacks::new(sent, sector, written);
+    let mut board = match Board::boot(rt.alloc(), &setup, callbacks) {
+        Ok(board) => board,
+        Err((_, fault)) => return Err(fault),
+    };
+    let mut course = Course {
+        inputs: Vec::new(rt.alloc()),
+        first: Vec::new(rt.alloc()),
+        second: Vec::new(rt.alloc()),
+        writes: Vec::new(rt.alloc()),
+        done: Vec::new(rt.alloc()),
+    };
+    for _ in 0..INPUTS {
+        let steps = random.next_word() % 100;
+        advance(&mut board, &mut course, steps)?;
+        offer(&mut board, &mut course, &mut random)?;
+    }
+    compare(rt, &board, &course, &setup, program)?;
+    Ok((board.count(), course.inputs.len(), course.done.len()))
+}
+
+#[test]
+fn both_executors_agree_on_random_programs(rt: HostRuntime) -> R<()> {
+    let (mut steps, mut inputs, mut done) = (0u64, 0usize, 0usize);
+    for program in 0..PROGRAMS {
+        let (count, taken, completed) = run_program(
+            &rt,
+            program,
+            plain_completions::sent,
+            plain_completions::sector,
+            plain_completions::written,
+        )?;
+        steps = steps.saturating_add(count);
+        inputs = inputs.saturating_add(taken);
+        done = done.saturating_add(completed);
+    }
+    assert!(rt; steps > 300_000, "{steps} steps");
+    assert!(rt; inputs > 5_000, "{inputs} inputs");
+    assert!(rt; done > 20, "{done} writes");
+    Ok(())
+}

@@ -1,0 +1,17 @@
+-- So far the machine stands where it stood at first, moved on to the count.
+use Rattle.std.proofs.Common.{◌≡◌, ℕ, List}
+use Rattle.disk_dcdd.specs.declared.address.SectorAddress.{SectorAddress}
+use Rattle.guest_board.specs.Guest.{altair}
+use Rattle.guest_board.specs.declared.setup.Setup.{Setup}
+use Rattle.plain_single.specs.Alone.{alone_of}
+use Rattle.plain_single.specs.Reaching.{StandsAt}
+use Rattle.plain_single.specs.declared.timed.Timed.{Timed}
+use Rattle.plain_single.proofs.machine.Machine.advance.Given as goal
+
+abbrev pub invariant-loop : goal.invariant-loop
+invariant-loop l = record {
+  count : l.self.count ≡ l.counter;
+  stands : (setup : Setup) (sectors : SectorAddress → List ℕ) (list : List Timed)
+      → StandsAt (altair setup sectors) list (alone_of l.fn.self)
+      → StandsAt (altair setup sectors) list (alone_of l.self);
+}

@@ -1,0 +1,153 @@
+-- The single machine as it keeps itself, and the guest that it stands for.
+use Rattle.std.specs.Prelude.{◌≡◌, ℕ, ◌+◌, ◌==◌, Bool, reverse, nat_lt, ◌&&◌, if◌then◌else◌, Option, Some, None, List, [], ◌∷◌}
+use Rattle.std.specs.FinMap as map
+use Rattle.i8080_words.specs.declared.refusal.Fault.{Fault}
+use Rattle.i8080_words.specs.declared.refusal.Fault.TheVariants.{OutOfMemory, Spent, NotDue, Idle}
+use Rattle.i8080_words.specs.declared.registers.Processor.{Processor}
+use Rattle.serial_2sio.specs.Port as serial
+use Rattle.disk_dcdd.specs.Drive as drives
+use Rattle.disk_dcdd.specs.Completion as completion
+use Rattle.disk_dcdd.specs.declared.address.SectorAddress.{SectorAddress}
+use Rattle.disk_dcdd.specs.declared.controller.TheConstants.{GREATEST_NUMBER}
+use Rattle.event_callbacks.specs.Operations.{Operations}
+use Rattle.guest_board.specs.Guest.{Guest, step_of, wired_after, is_spent, is_idle}
+use Rattle.plain_single.specs.Behind.{Behind, behind_of, devices_of, after_wired}
+use Rattle.plain_single.specs.Image.{IsSector, sector_at}
+use Rattle.plain_single.specs.Reach.{bytes_after}
+use Rattle.plain_single.specs.Serial as serial_line
+use Rattle.plain_single.specs.Serial.{due_unless}
+use Rattle.plain_single.specs.declared.machine.Machine.{Machine}
+use Rattle.plain_single.specs.declared.timed.Bare.{Bare}
+use Rattle.plain_single.specs.declared.timed.Bare.TheVariants.{Rx, Sent, Sector, Written}
+
+-- the processor, what stands behind it, the disk by its places, the count and the interrupt levels
+pub record Alone : Type 0 where
+  pub processor : Processor
+  pub behind : Behind
+  pub disk : List (List ℕ)
+  pub count : ℕ
+  pub levels : List ℕ
+
+-- what the fields are
+abbrev pub alone_of : Machine → Alone
+alone_of m = record {
+  processor = m.processor;
+  behind = behind_of m.wires;
+  disk = m.disk.sectors.items;
+  count = m.count;
+  levels = m.levels;
+}
+
+-- the output of a port
+abbrev pub output_of : Alone → ℕ → List ℕ
+output_of a port = if port == 0 then a.behind.first.output else a.behind.second.output
+
+-- the guest of these parts, with operations that wait and last completed writes, which nothing here depends on
+abbrev pub guest_with : Alone → Operations → List ℕ → Guest
+guest_with a operations completed = record {
+  processor = a.processor;
+  memory = a.behind.memory;
+  devices = devices_of a.behind;
+  operations = operations;
+  issued = a.behind.first.issued ∷ a.behind.second.issued ∷ [];
+  completed = completed;
+  count = a.count;
+  keys = a.behind.first.keys ∷ a.behind.second.keys ∷ [];
+  levels = a.levels;
+  sense = a.behind.sense;
+}
+
+abbrev pub guest_of : Alone → Guest
+guest_of a = guest_with a map.empty []
+
+-- it is that guest in all but the operations that wait and the last completed writes
+abbrev pub StandsFor : Alone → Guest → Type 0
+StandsFor a g = guest_with a g.operations g.completed ≡ g
+
+-- ---- a step
+
+-- what it means that the machine idles on the way to a count: past the limit it is spent
+abbrev pub idle_towards : ℕ → Fault
+idle_towards last = if nat_lt GREATEST_NUMBER last then Spent else Idle
+
+-- why no step is made on the way to a count: a number is spent; else the machine idles
+abbrev pub step_refusal : ℕ → Alone → Option Fault
+step_refusal last a =
+    if is_spent (guest_of a) then Some Spent else if is_idle (guest_of a) then Some (idle_towards last) else None
+
+-- a step is refused so, or for want of memory
+abbrev pub RefusesStep : ℕ → Alone → Fault → Type 0
+RefusesStep last a OutOfMemory = Unit {0}
+RefusesStep last a fault = step_refusal last a ≡ Some fault
+
+-- after a step
+abbrev pub after_step : Alone → Alone
+after_step a = record {
+  processor = (step_of (guest_of a)).after;
+  behind = after_wired a.behind (wired_after (guest_of a));
+  disk = a.disk;
+  count = a.count + 1;
+  levels = a.levels;
+}
+
+-- ---- an input
+
+-- a key may come at a port
+abbrev pub may_take_key : Behind → ℕ → Bool
+may_take_key b port =
+    if port == 0 then nat_lt b.first.keys GREATEST_NUMBER else port == 1 && nat_lt b.second.keys GREATEST_NUMBER
+
+-- a port has a byte that is not accepted
+abbrev pub may_accept : Behind → ℕ → Bool
+may_accept b port = if port == 0 then serial.is_sent_due b.first.port else port == 1 && serial.is_sent_due b.second.port
+
+-- the sector of this number at the track where a drive stands
+abbrev pub address_under : drives.Drives → ℕ → ℕ → SectorAddress
+address_under d drive sector = record { drive = drive; track = (drives.drive_of d drive).track; sector = sector }
+
+-- why an input is refused
+abbrev pub input_refusal : Alone → Bare → Option Fault
+input_refusal a (Rx port byte) = due_unless (may_take_key a.behind port)
+input_refusal a (Sent port) = due_unless (may_accept a.behind port)
+input_refusal a (Sector drive sector) =
+    if completion.is_selected a.behind.disk drive then completion.sector_refusal a.behind.disk sector else Some NotDue
+input_refusal a (Written number) = completion.written_refusal a.behind.disk number
+
+-- what stands behind the processor after an input
+abbrev pub after_key : Behind → ℕ → ℕ → Behind
+after_key b port byte =
+    if port == 0
+    then record b { first = serial_line.after_key b.first byte }
+    else record b { second = serial_line.after_key b.second byte }
+
+abbrev pub after_accept : Behind → ℕ → Behind
+after_accept b port =
+    if port == 0
+    then record b { first = serial_line.with_port b.first (serial.after_sent b.first.port) }
+    else record b { second = serial_line.with_port b.second (serial.after_sent b.second.port) }
+
+abbrev pub after_input : Alone → Bare → Behind
+after_input a (Rx port byte) = after_key a.behind port byte
+after_input a (Sent port) = after_accept a.behind port
+after_input a (Sector drive sector) = record a.behind {
+  disk = completion.after_sector a.behind.disk sector (sector_at a.disk (address_under a.behind.disk drive sector));
+}
+after_input a (Written number) = record a.behind { disk = completion.after_written a.behind.disk number }
+
+-- what a sector of the disk has after an input
+abbrev pub disk_after : Alone → Bare → SectorAddress → List ℕ
+disk_after a (Rx port byte) address = sector_at a.disk address
+disk_after a (Sent port) address = sector_at a.disk address
+disk_after a (Sector drive sector) address = sector_at a.disk address
+disk_after a (Written number) address = bytes_after (reverse a.behind.writes) number address (sector_at a.disk address)
+
+-- after an input that left the disk so
+abbrev pub after_taking : Alone → Bare → List (List ℕ) → Alone
+after_taking a input disk = record a { behind = after_input a input; disk = disk }
+
+-- where a sector comes under the head, a drive has it
+abbrev pub ReadsSector : Alone → Bare → Type 0
+ReadsSector a (Sector drive sector) = IsSector (address_under a.behind.disk drive sector)
+ReadsSector a (Rx port byte) = Unit {0}
+ReadsSector a (Sent port) = Unit {0}
+ReadsSector a (Written number) = Unit {0}

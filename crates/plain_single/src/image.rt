@@ -1,0 +1,111 @@
+//! The machine's own disk: the bytes of every sector that drives can have.
+ghost use Rattle.std.specs.Prelude.{◌≡◌, ℕ, ◌*◌, IfOk, IfErr, List, vec_len, reverse};
+ghost use Rattle.std.specs.Option.{option_map_or, option_copied};
+ghost use Rattle.disk_dcdd.specs.declared.address.SectorAddress.{SectorAddress};
+ghost use Rattle.disk_dcdd.specs.declared.address.TheConstants.{DRIVE_SECTORS};
+ghost use Rattle.disk_dcdd.specs.declared.controller.TheConstants.{DRIVES};
+ghost use Rattle.i8080_words.specs.declared.refusal.Fault.TheVariants.{OutOfMemory};
+ghost use Rattle.plain_single.specs.Image.{IsSector, zero_sector, sector_at, bytes_with, boot_sectors};
+ghost use Rattle.plain_single.specs.Reach.{bytes_after};
+
+use disk_dcdd::{
+    DRIVE_SECTORS, DRIVES, SECTOR_BYTES, SectorAddress, SectorWrite, sectors_stand_apart,
+};
+use i8080_words::R;
+use std::alloc::Global;
+
+// How many sectors there are.
+const PLACES: usize = DRIVES * DRIVE_SECTORS;
+
+/// A table of sectors, by `SectorAddress::index`.
+#[derive(Drop)]
+pub(crate) struct DiskImage {
+    pub(crate) sectors: Vec<[u8; SECTOR_BYTES]>,
+    ghost whole: { vec_len sectors ≡ DRIVES * DRIVE_SECTORS },
+}
+
+impl DiskImage {
+    /// A disk of zeros, and these writes on it in turn.
+    pub(crate) fn new(alloc: Global, writes: &[SectorWrite]) -> R<Self>
+        ensures ok { IfOk result (λ image. (a : SectorAddress) → IsSector a
+            → sector_at image.sectors.items a ≡ boot_sectors writes.now a) }
+        ensures only_memory { IfErr result (λ fault. fault ≡ OutOfMemory) }
+    {
+        let mut image = DiskImage::zeros(alloc)?;
+        for write in writes {
+            image.put(write);
+        }
+        Ok(image)
+    }
+
+    // A disk of zeros.
+    #[tactic(auto, using(crate::proofs::Zeros::one_more, crate::proofs::Zeros::at_each_address), unfolding(crate::specs::Image::zero_sector))]
+    fn zeros(alloc: Global) -> R<Self>
+        ensures ok { IfOk result (λ image. (a : SectorAddress) → sector_at image.sectors.items a ≡ zero_sector) }
+        ensures only_memory { IfErr result (λ fault. fault ≡ OutOfMemory) }
+    {
+        let mut sectors = Vec::with_capacity(alloc, PLACES)?;
+        for _ in 0..PLACES {
+            sectors.push([0; SECTOR_BYTES])?;
+        }
+        Ok(DiskImage { sectors })
+    }
+
+    /// The same disk again.
+    pub(crate) fn copy(&self, alloc: Global) -> R<Self>
+        ensures ok { IfOk result (λ image. image.sectors.items ≡ self.now.sectors.items) }
+        ensures only_memory { IfErr result (λ fault. fault ≡ OutOfMemory) }
+    {
+        let sectors = Vec::from_slice(alloc, &self.sectors)?;
+        Ok(DiskImage { sectors })
+    }
+
+    /// The bytes of a sector; zeros where no drive has such a sector.
+    #[tactic(auto, unfolding(crate::specs::Image::zero_sector))]
+    pub(crate) fn get(&self, address: SectorAddress) -> [u8; SECTOR_BYTES]
+        ensures { result ≡ sector_at self.now.sectors.items address }
+    {
+        match address.index() {
+            Some(index) if index < PLACES => self.sectors[index],
+            _ => [0; SECTOR_BYTES],
+        }
+    }
+
+    /// A write is put on the disk.
+    pub(crate) fn put(&mut self, write: &SectorWrite)
+        ensures { (a : SectorAddress) → IsSector a
+            → sector_at self.new.sectors.items a ≡ bytes_with write.now a (sector_at self.old.sectors.items a) }
+    {
+        sectors_stand_apart();
+        if let Some(index) = write.address().index() {
+            if index < PLACES {
+                self.sectors[index] = write.bytes;
+            }
+        }
+    }
+
+    /// The write of this number, one of these, is put on the disk.
+    pub(crate) fn complete(&mut self, writes: &[SectorWrite], number: u64)
+        ensures { (a : SectorAddress) → IsSector a → sector_at self.new.sectors.items a
+            ≡ bytes_after (reverse writes.now) number a (sector_at self.old.sectors.items a) }
+    {
+        if let Some(write) = latest(writes, number) {
+            self.put(write);
+        }
+    }
+}
+
+// The last of these writes that has this number.
+fn latest(writes: &[SectorWrite], number: u64) -> Option<&SectorWrite>
+    ensures { (a : SectorAddress) (bytes : List ℕ) → bytes_after (reverse writes.now) number a bytes
+        ≡ option_map_or (λ write. bytes_with write a bytes) (option_copied result) bytes }
+{
+    let mut rest = writes;
+    while let Some((write, before)) = rest.split_last() {
+        if write.number == number {
+            return Some(write);
+        }
+        rest = before;
+    }
+    None
+}

@@ -1,0 +1,89 @@
+//! The inputs of the machine.
+ghost use Rattle.std.specs.Prelude.{◌≡◌, ◌<◌, ◌==◌, None, IfSome, OnOk, IfErr, reverse, Some};
+ghost use Rattle.disk_dcdd.specs.Completion.{answered};
+ghost use Rattle.disk_dcdd.specs.declared.address.SectorAddress.{SectorAddress};
+ghost use Rattle.plain_single.specs.Serial.{due_unless};
+ghost use Rattle.plain_single.specs.Alone.{alone_of, input_refusal, after_input, may_take_key, may_accept, after_key, after_accept, after_taking, disk_after, ReadsSector};
+ghost use Rattle.plain_single.specs.Behind.{behind_of};
+ghost use Rattle.plain_single.specs.Image.{IsSector, sector_at};
+ghost use Rattle.plain_single.specs.Reach.{bytes_after};
+
+use super::Machine;
+use crate::timed::Bare;
+use crate::wires::Wires;
+use disk_dcdd::SectorAddress;
+use i8080_words::{Fault, R};
+
+impl Machine {
+    /// An input is taken. `SectorBusy` where a write of the sector is outstanding, else `NotDue` where no device waits
+    /// for it.
+    pub(crate) fn take(&mut self, input: Bare) -> R<()>
+        ensures answer { result ≡ answered (input_refusal (alone_of self.old) input) }
+        ensures after { OnOk result (alone_of self.new
+            ≡ after_taking (alone_of self.old) input self.new.disk.sectors.items) }
+        ensures sector { OnOk result (ReadsSector (alone_of self.old) input) }
+        ensures disk { OnOk result ((a : SectorAddress) → IsSector a
+            → sector_at self.new.disk.sectors.items a ≡ disk_after (alone_of self.old) input a) }
+    {
+        match input {
+            Bare::Rx(port, byte) => self.wires.receive(port, byte),
+            Bare::Sent(port) => self.wires.accept(port),
+            Bare::Sector(drive, sector) => self.bring(drive, sector),
+            Bare::Written(number) => {
+                self.wires.disk.written(number)?;
+                self.disk.complete(&self.wires.writes, number);
+                Ok(())
+            }
+        }
+    }
+
+    // A sector of this drive comes under the head, with the bytes that the disk has.
+    fn bring(&mut self, drive: u8, sector: u8) -> R<()>
+        ensures answer { result ≡ answered (input_refusal (alone_of self.old) (Bare.Sector drive sector)) }
+        ensures processor { self.new.processor ≡ self.old.processor }
+        ensures behind { OnOk result (behind_of self.new.wires
+            ≡ after_input (alone_of self.old) (Bare.Sector drive sector)) }
+        ensures count { self.new.count ≡ self.old.count }
+        ensures levels { self.new.levels ≡ self.old.levels }
+        ensures disk { self.new.disk ≡ self.old.disk }
+        ensures sector { OnOk result (ReadsSector (alone_of self.old) (Bare.Sector drive sector)) }
+    {
+        self.wires.disk.stands();
+        if self.wires.disk.selected() != Some(drive) {
+            return Err(Fault::NotDue);
+        }
+        let track = self.wires.disk.track(drive);
+        let bytes = self.disk.get(SectorAddress {
+            drive,
+            track,
+            sector,
+        });
+        self.wires.disk.sector(sector, bytes)
+    }
+}
+
+impl Wires {
+    // A key comes at a port.
+    fn receive(&mut self, port: u8, byte: u8) -> R<()>
+        ensures answer { result ≡ answered (due_unless (may_take_key (behind_of self.old) port)) }
+        ensures after { OnOk result (behind_of self.new ≡ after_key (behind_of self.old) port byte) }
+    {
+        match port {
+            0 => self.first.receive(byte),
+            1 => self.second.receive(byte),
+            _ => Err(Fault::NotDue),
+        }
+    }
+
+    // The terminal of a port has accepted a byte.
+    fn accept(&mut self, port: u8) -> R<()>
+        ensures answer { result ≡ answered (due_unless (may_accept (behind_of self.old) port)) }
+        ensures after { OnOk result (behind_of self.new ≡ after_accept (behind_of self.old) port) }
+    {
+        match port {
+            0 => self.first.accept(),
+            1 => self.second.accept(),
+            _ => Err(Fault::NotDue),
+        }
+    }
+}
