@@ -46,22 +46,33 @@ pub record IsWritten {S : Type 0} (M : Machine S) (moves : List Move) (s : S) (a
 pub record Lawful {S : Type 0} (M : Machine S) : Type 0 where
   -- its count is that of its steps, and it has taken the keys that its inputs have
   pub counts : (moves : List Move) (s : S) → Reaches M moves s → M.count s ≡ steps moves
-  pub takes_keys : (moves : List Move) (s : S) (port : ℕ) → Reaches M moves s → M.keys s port ≡ length (keys port (inputs 0 moves))
+  pub takes_keys : (moves : List Move) (s : S) (port : ℕ) → Reaches M moves s
+      → M.keys s port ≡ length (keys port (inputs 0 moves))
   -- no count passes the limit
   pub limit : (moves : List Move) (s : S) → Reaches M moves s → M.count s ≤ top
   pub spent : (moves : List Move) (s : S) → Reaches M moves s → M.is_spent s ≡ true → M.step s ≡ None
   -- no more bytes of a port are sent and not accepted than the window has
-  pub window : (moves : List Move) (s : S) (port : ℕ) → Reaches M moves s → length (output port moves) ≤ acceptances port (inputs 0 moves) + M.window_size
+  pub window : (moves : List Move) (s : S) (port : ℕ) → Reaches M moves s
+      → length (output port moves) ≤ acceptances port (inputs 0 moves) + M.window_size
   -- bytes are numbered from 1 at each port, and the one that is accepted next is the oldest that is not
-  pub numbered : (moves : List Move) (s : S) (port number byte : ℕ) → Reaches M (moves ++ Do (Some (Byte port number byte)) ∷ []) s → number ≡ length (output port moves) + 1
-  pub due : (moves : List Move) (s : S) (port number : ℕ) → Reaches M moves s → M.due_byte s port ≡ Some number → number ≡ acceptances port (inputs 0 moves) + 1
+  pub numbered : (moves : List Move) (s : S) (port number byte : ℕ)
+      → Reaches M (moves ++ Do (Some (Byte port number byte)) ∷ []) s → number ≡ length (output port moves) + 1
+  pub due : (moves : List Move) (s : S) (port number : ℕ) → Reaches M moves s → M.due_byte s port ≡ Some number
+      → number ≡ acceptances port (inputs 0 moves) + 1
   -- what is outstanding has the name that it is found by, and was given by a step
-  pub named : (moves : List Move) (s : S) (name : OpId) (operation : Operation) → Reaches M moves s → M.find s name ≡ Some operation → id_of operation ≡ name
-  pub given : (moves : List Move) (s : S) (name : OpId) (operation : Operation) → Reaches M moves s → M.find s name ≡ Some operation → Among operation (operations moves)
+  pub named : (moves : List Move) (s : S) (name : OpId) (operation : Operation) → Reaches M moves s
+      → M.find s name ≡ Some operation → id_of operation ≡ name
+  pub given : (moves : List Move) (s : S) (name : OpId) (operation : Operation) → Reaches M moves s
+      → M.find s name ≡ Some operation → Among operation (operations moves)
   -- writes are numbered from 1, each number once
-  pub write_once : (moves : List Move) (s : S) (v w : SectorWrite) → Reaches M moves s → Among (Write v) (operations moves) → Among (Write w) (operations moves) → v.number ≡ w.number → v ≡ w
-  pub write_some : (moves : List Move) (s : S) (w : SectorWrite) → Reaches M moves s → Among (Write w) (operations moves) → 1 ≤ w.number
+  pub write_once : (moves : List Move) (s : S) (v w : SectorWrite) → Reaches M moves s
+      → Among (Write v) (operations moves) → Among (Write w) (operations moves) → v.number ≡ w.number → v ≡ w
+  pub write_some : (moves : List Move) (s : S) (w : SectorWrite) → Reaches M moves s
+      → Among (Write w) (operations moves) → 1 ≤ w.number
   -- each sector of the machine's own disk is unwritten, or holds its last completed write
-  pub own_disk : (moves : List Move) (s : S) (address : SectorAddress) → Reaches M moves s → IsUnwritten M moves s address ⊎ IsWritten M moves s address
+  pub own_disk : (moves : List Move) (s : S) (address : SectorAddress) → Reaches M moves s
+      → IsUnwritten M moves s address ⊎ IsWritten M moves s address
   -- a write is completed, and no later than the last completed one of its sector, or outstanding
-  pub write_is : (moves : List Move) (s : S) (w : SectorWrite) → Reaches M moves s → Among (Write w) (operations moves) → (w.number ≤ M.done s (address_of w)) ⊎ (M.find s (id.Write w.number) ≡ Some (Write w))
+  pub write_is : (moves : List Move) (s : S) (w : SectorWrite) → Reaches M moves s
+      → Among (Write w) (operations moves)
+      → (w.number ≤ M.done s (address_of w)) ⊎ (M.find s (id.Write w.number) ≡ Some (Write w))
