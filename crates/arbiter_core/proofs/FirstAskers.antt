@@ -58,7 +58,7 @@ none_at true old g n w k e won =
 none_at false old g n w k e won =
     or_none (winner_of old k)
     ∙ ap (λ b. option_or (winner_of old k) (option_map (λ (a : Asking). a.node) (cond b (Some (asks g n)) None)))
-        (sym e)
+    (sym e)
 
 goes_on_with : (old : List Asking) (g n w : ℕ) → winner_of old g ≡ Some w → GoesOn old g n old
 goes_on_with old g n w won = record {
@@ -92,8 +92,8 @@ no_winner (a ∷ rest) g nobody =
 is_first : (g n : ℕ) (later : List Asking) → winner_of (asks g n ∷ later) g ≡ Some n
 is_first g n later =
     ap (λ b. option_map (λ (x : Asking). x.node)
-            (cond b (Some (asks g n)) (find (λ (x : Asking). eqb x.generation g) later)))
-        (eq-eqb g g refl)
+    (cond b (Some (asks g n)) (find (λ (x : Asking). eqb x.generation g) later)))
+    (eq-eqb g g refl)
 
 nobody_at : (here : Bool) (a : Asking) (rest : List Asking) (g : ℕ) → eqb a.generation g ≡ here
     → option_map (λ (x : Asking). x.node) (cond here (Some a) (find (λ (x : Asking). eqb x.generation g) rest)) ≡ None
