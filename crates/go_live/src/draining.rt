@@ -1,10 +1,11 @@
 //! A guest with what it has still to replay.
-ghost use Rattle.std.specs.Prelude.{◌≡◌, ◌≤◌, ◌↔◌, [], IfOk, IfErr, IsOk, IsTrue};
+ghost use Rattle.std.specs.Prelude.{◌≡◌, ◌≤◌, ◌↔◌, [], IfOk, IfErr, IsOk};
 ghost use Rattle.i8080_words.specs.declared.refusal.Fault.TheVariants.{WrongRole};
+ghost use Rattle.guest_board.specs.Recorded.{Counts};
 ghost use Rattle.log_entry.specs.Entries.{last_count};
-ghost use Rattle.recorder.specs.Recorded.{Counts};
+ghost use Rattle.log_entry.specs.Standing.{IsOnTrace};
 ghost use Rattle.replayer.specs.Replaying.{Answers};
-ghost use Rattle.replayer.specs.Standing.{IsOnTrace, StaysOnEach};
+ghost use Rattle.replayer.specs.Standing.{StaysOnEach};
 
 use guest_board::Lockstep;
 use i8080_words::{Fault, R};
@@ -65,7 +66,7 @@ impl<B: Lockstep> Draining<B> {
         ensures board { IfOk result (λ board. board ≡ self.replayer.board) }
         ensures refused { IfErr result (λ refusal. (refusal.0 ≡ self) × (refusal.1 ≡ WrongRole)) }
     {
-        if !is_drained(&self.receiver) {
+        if !self.receiver.is_empty() {
             return Err((self, Fault::WrongRole));
         }
         let Draining {
@@ -73,15 +74,5 @@ impl<B: Lockstep> Draining<B> {
             receiver: _,
         } = self;
         Ok(replayer.into_board())
-    }
-}
-
-// Whether no entry is held.
-fn is_drained(receiver: &Receiver) -> bool
-    ensures { IsTrue result ↔ (receiver.now.entries ≡ []) }
-{
-    match receiver.front() {
-        Some(_) => false,
-        None => true,
     }
 }

@@ -7,3 +7,5 @@ pub mod Accesses
 pub mod Steps
 pub mod Inputs
 pub mod InLockstep
+pub mod Moves
+pub mod Booted

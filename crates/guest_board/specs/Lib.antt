@@ -7,3 +7,5 @@ pub mod Board
 pub mod Stepping
 pub mod Inputs
 pub mod Fields
+pub mod Recorded
+pub mod Outstanding

@@ -36,6 +36,10 @@ pub record Machine (S : Type 0) : Type 0 where
   -- the number of the last completed write of a sector, 0 where there is none
   pub done : S → SectorAddress → ℕ
 
+-- the machine that boots elsewhere: in this state, with these sectors
+abbrev pub booted_from : {S : Type 0} → Machine S → S → (SectorAddress → List ℕ) → Machine S
+booted_from M start sectors = record M { boot = start; boot_sector = sectors }
+
 -- a move of a trace: a step with the operation that it gives, or an input
 pub data Move : Type 0 where
   Do : (gives : Option Operation) → Move

@@ -15,6 +15,6 @@ mod wiring;
 pub use board::Board;
 pub use executed::Executed;
 pub use input::Input;
-pub use laws::the_machine_refuses_alike;
+pub use laws::{boards_count, boards_issue_and_complete, the_machine_refuses_alike};
 pub use lockstep::Lockstep;
 pub use setup::Setup;

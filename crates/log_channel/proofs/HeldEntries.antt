@@ -55,6 +55,11 @@ pub first_valid : (front : Option Entry) (block : List ℕ) → IsBlock front bl
     → IfSome (slice_get (held_in front block) 0) IsEntry
 first_valid front block b = rw (first_held front block b) b.front_valid
 
+-- where there is no first, none is held
+pub no_first : (es : List Entry) → slice_get es 0 ≡ None → es ≡ []
+no_first [] h = refl
+no_first (e ∷ es) h = absurd cc
+
 -- ---- one more
 
 -- where nothing is held, it is the first

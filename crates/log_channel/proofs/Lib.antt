@@ -1,3 +1,4 @@
+mod Dropped
 pub mod PacketLaws
 pub mod BlockEntries
 pub mod HeldEntries

@@ -6,11 +6,11 @@ use Rattle.log_channel.specs.declared.receiver.Receiver.TheInside.{Inside}
 
 -- the first entry and those that the block spells are held
 abbrev pub receiving_of : Inside → Receiving
-receiving_of r = record { generation = r.generation; held = r.held; entries = held_in r.front r.block.items }
+receiving_of r = record { generation = r.generation; held = r.held; entries = held_in r.front r.block }
 
 -- a generation is at least 1, the number held is below the limit, and the block spells entries
 pub record IsReceiver (r : Inside) : Type 0 where
   pub first_generation : 0 < r.generation
   pub generation : r.generation < 2 ^ 32
   pub held : r.held < 2 ^ 62
-  pub block : IsBlock r.front r.block.items
+  pub block : IsBlock r.front r.block

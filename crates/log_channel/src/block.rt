@@ -1,56 +1,70 @@
-//! Entries that are held: the first of them, and those behind it one after another in a block of bytes.
-
-ghost use Rattle.std.specs.Prelude.{◌≡◌, ◌≢◌, ◌++◌, ◌∷◌, [], drop, slice_get, OnOk, OnErr, IfErr, IfSome};
+//! Bytes that come at the back and go at the front.
+ghost use Rattle.std.specs.Prelude.{◌≡◌, ◌≤◌, ◌++◌, [], length, drop, OnOk, OnErr, IfErr};
 ghost use Rattle.i8080_words.specs.declared.refusal.Fault.TheVariants.{OutOfMemory};
-ghost use Rattle.log_entry.specs.Spelling.{IsEntry};
-ghost use Rattle.log_channel.specs.Block.{first_of, held_in, IsBlock, TakesFirst};
+ghost use Rattle.log_entry.specs.Spelling.{spelling};
 
 use i8080_words::R;
-use log_entry::{Entry, size};
+use log_entry::Entry;
+use std::alloc::Global;
+use std::marker::Model;
 
-/// Puts an entry behind those that are held. The first one takes no memory.
-pub(crate) fn hold(front: &mut Option<Entry>, block: &mut Vec<u8>, entry: Entry) -> R<()>
-    requires block { IsBlock front.old block.old.items }
-    requires valid { IsEntry entry }
-    ensures ok { OnOk result (held_in front.new block.new.items ≡ held_in front.old block.old.items ++ entry ∷ []) }
-    ensures err { OnErr result (held_in front.new block.new.items ≡ held_in front.old block.old.items) }
-    ensures only_memory { IfErr result (λ fault. fault ≡ OutOfMemory) }
-    ensures full { OnErr result (held_in front.old block.old.items ≢ []) }
-    ensures block { IsBlock front.new block.new.items }
-{
-    match front {
-        None => {
-            *front = Some(entry);
-            Ok(())
+/// The spellings of entries one after another. What is taken from the front only moves a mark; the bytes before it are
+/// removed once they are the greater part, so that each byte is moved about once.
+#[derive(Drop)]
+pub(crate) struct Block {
+    bytes: Vec<u8>,
+    start: usize,
+}
+
+impl Model for Block {
+    ghost use Rattle.std.specs.Prelude.{ℕ, List, ◌≤◌, length, drop};
+
+    ghost Value = { List ℕ };
+
+    ghost view = { λ b. drop b.start b.bytes.items };
+
+    ghost invariant = { λ b. b.start ≤ length b.bytes.items };
+}
+
+impl Block {
+    /// No bytes.
+    pub(crate) fn new(alloc: Global) -> Block
+        ensures { result ≡ [] }
+    {
+        Block {
+            bytes: Vec::new(alloc),
+            start: 0,
         }
-        Some(_) => entry.write(block),
     }
-}
 
-/// Takes the first entry that is held. It takes no memory.
-pub(crate) fn unhold(front: &mut Option<Entry>, block: &mut Vec<u8>) -> Option<Entry>
-    requires { IsBlock front.old block.old.items }
-    ensures entry { result ≡ slice_get (held_in front.old block.old.items) 0 }
-    ensures valid { IfSome result IsEntry }
-    ensures after { held_in front.new block.new.items ≡ drop 1 (held_in front.old block.old.items) }
-    ensures block { IsBlock front.new block.new.items }
-{
-    let first = front.take()?;
-    *front = take_first(block);
-    Some(first)
-}
-
-// Takes the first entry of a block.
-#[tactic(auto, unfolding(crate::specs::Block::first_of))]
-fn take_first(block: &mut Vec<u8>) -> Option<Entry>
-    ensures { TakesFirst (first_of block.old.items) block.old.items result block.new.items }
-{
-    let count = size(*block.first()?)?;
-    if block.len() < count {
-        return None;
+    /// The bytes.
+    pub(crate) fn as_slice(&self) -> &[u8]
+        ensures { result.now ≡ self.now }
+    {
+        &self.bytes[self.start..]
     }
-    let entry = Entry::read(&block[..count]).ok()?;
-    block.rotate_left(count);
-    block.truncate(block.len() - count);
-    Some(entry)
+
+    /// Puts the spelling of an entry behind the bytes.
+    #[tactic(auto, using(crate::proofs::Dropped::drop_longer))]
+    pub(crate) fn write(&mut self, entry: &Entry) -> R<()>
+        ensures ok { OnOk result (self.new ≡ self.old ++ spelling entry.now) }
+        ensures err { OnErr result (self.new ≡ self.old) }
+        ensures only_memory { IfErr result (λ fault. fault ≡ OutOfMemory) }
+    {
+        entry.write(&mut self.bytes)
+    }
+
+    /// Takes bytes from the front. It takes no memory.
+    #[tactic(auto, using(crate::proofs::Dropped::drop_twice))]
+    pub(crate) fn remove_front(&mut self, count: usize)
+        requires { count ≤ length self.old }
+        ensures { self.new ≡ drop count self.old }
+    {
+        self.start += count;
+        if self.start > self.bytes.len() / 2 {
+            self.bytes.rotate_left(self.start);
+            self.bytes.truncate(self.bytes.len() - self.start);
+            self.start = 0;
+        }
+    }
 }

@@ -2,6 +2,7 @@
 #![tactic(auto)]
 
 mod block;
+mod held;
 mod laws;
 mod packet;
 mod receiver;

@@ -1,8 +1,9 @@
 //! The backup's end.
 
-ghost use Rattle.std.specs.Prelude.{◌≡◌, ◌<◌, ◌^◌, [], drop, slice_get, option_copied, IfSome, Some};
+ghost use Rattle.std.specs.Prelude.{◌≡◌, ◌<◌, ◌^◌, ◌↔◌, IsTrue, [], drop, slice_get, option_copied, IfSome, Some};
 
-use crate::block::{hold, unhold};
+use crate::block::Block;
+use crate::held::{hold, unhold};
 use crate::packet::Packet;
 use i8080_words::{Fault, R};
 use log_entry::Entry;
@@ -16,7 +17,7 @@ pub struct Receiver {
     generation: u32,
     held: u64,
     front: Option<Entry>,
-    block: Vec<u8>,
+    block: Block,
 }
 
 impl Model for Receiver {
@@ -45,8 +46,16 @@ impl Receiver {
             generation,
             held: 0,
             front: None,
-            block: Vec::new(alloc),
+            block: Block::new(alloc),
         }
+    }
+
+    /// The generation, at least 1.
+    pub fn generation(&self) -> u32
+        ensures value { result ≡ self.now.generation }
+        ensures first { 0 < result }
+    {
+        self.generation
     }
 
     /// Takes a packet of the log. Where its index is the number held, its entry is held and the answer is true; a
@@ -95,6 +104,16 @@ impl Receiver {
         self.held
     }
 
+    /// Whether no entry is held.
+    pub fn is_empty(&self) -> bool
+        ensures { IsTrue result ↔ (self.now.entries ≡ []) }
+    {
+        match self.front() {
+            Some(_) => false,
+            None => true,
+        }
+    }
+
     /// The first entry that is held.
     pub fn front(&self) -> Option<&Entry>
         ensures entry { option_copied result ≡ slice_get self.now.entries 0 }
@@ -107,7 +126,7 @@ impl Receiver {
     pub fn block(&self) -> &[u8]
         ensures { result.now ≡ flat_map spelling (drop 1 self.now.entries) }
     {
-        &self.block
+        self.block.as_slice()
     }
 
     /// Takes the first entry that is held. It takes no memory.

@@ -42,6 +42,14 @@ impl Sender {
         }
     }
 
+    /// The generation, at least 1.
+    pub fn generation(&self) -> u32
+        ensures value { result ≡ self.now.generation }
+        ensures first { 0 < result }
+    {
+        self.generation
+    }
+
     /// The packet of the entry of this index, `Unknown` where the log does not keep it.
     pub fn packet(&self, alloc: Global, log: &LogBuffer, index: u64) -> R<Vec<u8>>
         ensures { Spells (packet_of self.now.generation index (kept_at log.now index)) result }

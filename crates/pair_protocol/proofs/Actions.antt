@@ -3,7 +3,8 @@ use Rattle.std.proofs.Common.{◌≡◌, ◌≤◌, [], ◌∷◌, ◌++◌, ◌
 use Rattle.std.specs.Prelude.{slice_get}
 use Rattle.event_callbacks.specs.declared.operations.Operation.{Operation}
 use Rattle.event_callbacks.specs.declared.operations.Operation.TheVariants.{Byte, Write}
-use Rattle.guest_board.specs.Machine.{Machine, Move, Runs}
+use Rattle.guest_board.specs.Machine.{Machine, Move, refusal_of}
+use Rattle.guest_board.specs.Recorded.{Recorded}
 use Rattle.guest_board.specs.declared.input.Input.{Input}
 use Rattle.log_entry.specs.Entries.{entries}
 use Rattle.plain_single.specs.Reach.{operations, steps}
@@ -46,13 +47,14 @@ primary_steps_keep M C laws w i n x s o acts h =
     (count-does M laws _ x.machine s o (lead-runs M C w i x q.leads) h) q.leads)
 
 primary_takes_keep : {S : Type 0} (M : Machine S) (C : Copying S) (laws : Lawful M) (w : World S) (i : Inv M C w)
-    (n : ℕ) (x : Node S) (s : S) (v : Input) → Acts w n x Primary → MayTake M w x v → M.take x.machine v ≡ Some s →
+    (n : ℕ) (x : Node S) (s : S) (v : Input) → Acts w n x Primary → MayTake M w x v →
+    refusal_of M x.machine v ≡ None → M.take x.machine v ≡ Some s →
     Next M C i.trace (with_node w n (primary_takes M x s v))
-primary_takes_keep M C laws w i n x s v acts may h =
+primary_takes_keep M C laws w i n x s v acts may ok h =
     let q = leading M C w i n x acts in
     let l = (i.each x.generation).line in
     let ns = not_spare w n x Primary acts (λ k. (cc)) in
-    lead-accepts M C laws w i n x (primary_takes M x s v) v may acts.there ns ns refl q.spot q.place q.leads
+    lead-accepts M C laws w i n x (primary_takes M x s v) v may ok acts.there ns ns refl q.spot q.place q.leads
     (leads-takes M l.stage l.base l.own l.mid (length l.held) x s v acts.role_is h
     (count-takes M laws _ x.machine s v (lead-runs M C w i x q.leads) h) q.leads)
 
@@ -76,9 +78,10 @@ alone_steps_keep {S} M C laws w i n x s o acts h =
         (count-does M laws i.trace x.machine s o (alone M C w i n x acts).runs h)
 
 alone_takes_keep : {S : Type 0} (M : Machine S) (C : Copying S) (laws : Lawful M) (w : World S) (i : Inv M C w)
-    (n : ℕ) (x : Node S) (s : S) (v : Input) → Acts w n x Alone → MayTake M w x v → M.take x.machine v ≡ Some s →
+    (n : ℕ) (x : Node S) (s : S) (v : Input) → Acts w n x Alone → MayTake M w x v →
+    refusal_of M x.machine v ≡ None → M.take x.machine v ≡ Some s →
     Next M C i.trace (with_node w n (alone_takes M x s v))
-alone_takes_keep {S} M C laws w i n x s v acts may h =
+alone_takes_keep {S} M C laws w i n x s v acts may ok h =
     go (acting M C w i.top i.trace n x (i.each x.generation) acts.there ns)
   where
     ns : x.role ≡ Spare → ⊥
@@ -88,10 +91,10 @@ alone_takes_keep {S} M C laws w i n x s v acts may h =
     l = (i.each x.generation).line
 
     go : Acting M C w i.top i.trace n x (i.each x.generation) → Next M C i.trace (with_node w n (alone_takes M x s v))
-    go (IsLead e leads p) = lead-accepts M C laws w i n x (alone_takes M x s v) v may acts.there ns ns refl e p leads
+    go (IsLead e leads p) = lead-accepts M C laws w i n x (alone_takes M x s v) v may ok acts.there ns ns refl e p leads
         (leads-takes_alone M l.stage l.base l.own l.mid (length l.held) x s v acts.role_is h
         (count-takes M laws _ x.machine s v (lead-runs M C w i x leads) h) leads)
-    go (IsBack e held b p) = back-accepts M C laws w i n x s v acts.there acts.role_is e p held b may h
+    go (IsBack e held b p) = back-accepts M C laws w i n x s v acts.there acts.role_is e p held b may ok h
         (count-takes M laws i.trace x.machine s v (alone M C w i n x acts).runs h)
 
 stops_keep : {S : Type 0} (M : Machine S) (C : Copying S) (w : World S) (i : Inv M C w) (n : ℕ) (x : Node S) →
@@ -161,7 +164,7 @@ replays : {S : Type 0} (M : Machine S) (C : Copying S) (w : World S) (i : Inv M 
     (r : Role) → Acts w n x r → (r ≡ Backup) ⊎ (r ≡ Draining) → y.role ≡ x.role → y.generation ≡ x.generation →
     y.held ≡ x.held → y.copy ≡ x.copy → y.start ≡ x.start →
     ((last : S) → IsPrefix x.held (entries (steps (i.each x.generation).line.base) (i.each x.generation).line.own) →
-    Runs M (i.each x.generation).line.mid (i.each x.generation).line.own last →
+    Recorded M (i.each x.generation).line.mid (i.each x.generation).line.own last →
     Follows M (i.each x.generation).line.base (i.each x.generation).line.own (i.each x.generation).line.mid x →
     Follows M (i.each x.generation).line.base (i.each x.generation).line.own (i.each x.generation).line.mid y) →
     Next M C i.trace (with_node w n y)
@@ -195,8 +198,9 @@ pub keep : {S : Type 0} (M : Machine S) (C : Copying S) → Lawful M → IsCopyi
     (w new : World S) (i : Inv M C w) → Change M C w new → Next M C i.trace new
 keep M C laws copies w new i (PrimarySteps n x s o acts h) = primary_steps_keep M C laws w i n x s o acts h
 keep M C laws copies w new i (AloneSteps n x s o acts h) = alone_steps_keep M C laws w i n x s o acts h
-keep M C laws copies w new i (PrimaryTakes n x s v acts may h) = primary_takes_keep M C laws w i n x s v acts may h
-keep M C laws copies w new i (AloneTakes n x s v acts may h) = alone_takes_keep M C laws w i n x s v acts may h
+keep M C laws copies w new i (PrimaryTakes n x s v acts may ok h) =
+    primary_takes_keep M C laws w i n x s v acts may ok h
+keep M C laws copies w new i (AloneTakes n x s v acts may ok h) = alone_takes_keep M C laws w i n x s v acts may ok h
 keep M C laws copies w new i (Types p b) =
     keep-terminal M C w i p (record (terminal w p) { typed = (terminal w p).typed ++ b ∷ [] })
     (record { accepts = omega arith; types = prefix-append (terminal w p).typed (b ∷ []) }) (i.global.arrived p)

@@ -10,6 +10,9 @@ use Rattle.pair_protocol.proofs.AltairImages.{Apart}
 use Rattle.pair_protocol.proofs.AltairCounts.{counts_after, keys_taken}
 use Rattle.pair_protocol.proofs.AltairLimits.{within_after}
 use Rattle.pair_protocol.proofs.AltairBytes.{bytes_after, window_is, due_is, numbered_is}
+use Rattle.pair_protocol.proofs.AltairFew.{few_is}
+use Rattle.pair_protocol.proofs.AltairInputs.{accepts_is}
+use Rattle.pair_protocol.proofs.AltairWindows.{bytes_pending}
 use Rattle.pair_protocol.proofs.AltairWrites.{OwnIs}
 use Rattle.pair_protocol.proofs.AltairCompletions.{writes_after}
 
@@ -41,4 +44,8 @@ lawful apart setup sectors = record {
   own_disk = λ moves s address r. own_is setup sectors moves s address
       ((writes_after apart setup sectors moves s r).own address);
   write_is = λ moves s w r h. (writes_after apart setup sectors moves s r).settled w h;
+  few = λ moves s r. few_is setup sectors moves s (bytes_after setup sectors moves s r)
+      (bytes_pending setup sectors moves s r) (writes_after apart setup sectors moves s r);
+  accepts = λ moves s t input r allowed taken.
+      accepts_is setup sectors s t input (writes_after apart setup sectors moves s r).stands taken;
 }

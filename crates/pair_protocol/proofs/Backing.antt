@@ -1,8 +1,8 @@
 -- The backup of a generation: it changes otherwise and its moves stay; or it is alone and makes a move.
-use Rattle.std.proofs.Common.{◌≡◌, ◌+◌, ◌≤◌, [], ◌∷◌, ◌++◌, ◌∙◌, List, Option, Some, ap, append_assoc, arith, inl, inr, length, refl, subst, suc, sym, take, ℕ}
+use Rattle.std.proofs.Common.{◌≡◌, ◌+◌, ◌≤◌, [], ◌∷◌, ◌++◌, ◌∙◌, List, None, Option, Some, ap, append_assoc, arith, inl, inr, length, refl, subst, suc, sym, take, ℕ}
 use Rattle.std.specs.Prelude.{slice_get, slice_set}
 use Rattle.event_callbacks.specs.declared.operations.Operation.{Operation}
-use Rattle.guest_board.specs.Machine.{Do, Machine, Move, Runs, Take}
+use Rattle.guest_board.specs.Machine.{Do, Machine, Move, Runs, Take, refusal_of}
 use Rattle.guest_board.specs.declared.input.Input.{Input}
 use Rattle.log_entry.specs.Entries.{entries}
 use Rattle.log_entry.specs.declared.entry.Entry.{Entry}
@@ -276,9 +276,10 @@ pub back-accepts : {S : Type 0} (M : Machine S) (C : Copying S) (laws : Lawful M
     x.held ≡ (i.each x.generation).line.held →
     Backs M C (i.each x.generation).line.stage (i.each x.generation).line.base (i.each x.generation).line.own
     (i.each x.generation).line.more (i.each x.generation).line.mid x →
-    MayTake M w x inp → M.take x.machine inp ≡ Some s → M.count s ≡ M.count x.machine →
+    MayTake M w x inp → refusal_of M x.machine inp ≡ None → M.take x.machine inp ≡ Some s →
+    M.count s ≡ M.count x.machine →
     Next M C i.trace (with_node w n (alone_takes M x s inp))
-back-accepts {S} M C laws w i n x s inp h role e place held b may take counted =
+back-accepts {S} M C laws w i n x s inp h role e place held b may ok take counted =
     let o = i.each x.generation in
     let l = o.line in
     let k = back-alone M C l x b role in
@@ -307,7 +308,7 @@ back-accepts {S} M C laws w i n x s inp h role e place held b may take counted =
     (subst (λ zs. Owns M [] M.boot zs) (append_assoc l.base z (Take inp ∷ []))
     (owns-append M [] M.boot x.machine (l.base ++ z) (Take inp ∷ []) from_boot
     (subst (λ zs. Owns M [] M.boot zs) (alone-trace M C w i x place held k) i.global.owns) (
-      own-take M laws w x inp (l.base ++ z) i.trace from_boot may
+      own-take M laws w x inp (l.base ++ z) i.trace from_boot may ok
           (same_prefix i.trace (l.base ++ z) (alone-trace M C w i x place held k)) i.global.reads,
       λ u q. tt,
     ))))

@@ -1,11 +1,10 @@
 -- The rows by which a primary or alone node takes an input: what the refusals leave possible is what an input may be.
-use Rattle.std.proofs.Common.{◌≡◌, ◌≤◌, [], ◌∷◌, ◌∙◌, Bool, List, None, Option, Some, ap, cond, eqb-true, false, inl, inr, length, ltb-false, not, refl, subst, suc, sym, true, zero, ℕ}
+use Rattle.std.proofs.Common.{◌≡◌, ◌≤◌, [], ◌∷◌, ◌∙◌, List, None, Option, Some, ap, eqb-true, inl, inr, length, ltb-false, not, refl, subst, suc, sym, true, zero, ℕ}
 use Rattle.std.specs.Prelude.{slice_get, ◌==◌}
 use Rattle.disk_dcdd.specs.Address.{same_address}
-use Rattle.disk_dcdd.specs.declared.address.SectorAddress.{SectorAddress}
-use Rattle.guest_board.specs.Machine.{Machine, refusal_of, sector_refusal}
+use Rattle.guest_board.specs.Machine.{Machine, refusal_of}
 use Rattle.guest_board.specs.declared.input.Input.{Input}
-use Rattle.i8080_words.specs.declared.refusal.Fault.TheVariants.{NotDue, SectorBusy, StaleRead, Unknown, WrongNumber}
+use Rattle.i8080_words.specs.declared.refusal.Fault.TheVariants.{NotDue, Unknown, WrongNumber}
 use Rattle.pair_protocol.specs.Change.{Acts, AloneTakes, Change, Changes, MayTake, PrimaryTakes, Serving}
 use Rattle.pair_protocol.specs.Copying.{Copying}
 use Rattle.pair_protocol.specs.Event.{GetReply, PutReply, Reply, TakeKey, TellSent}
@@ -24,20 +23,22 @@ same_get (y ∷ xs) zero x h = inl (cc)
 same_get (y ∷ xs) (suc k) x h = inr (same_get xs k x h)
 
 pub takes_once : {S : Type 0} (M : Machine S) (C : Copying S) (w : World S) (n : ℕ) (x : Node S) (r : Role) (s : S)
-    (i : Input) → Serving r → Acts w n x r → MayTake M w x i → M.take x.machine i ≡ Some s →
+    (i : Input) → Serving r → Acts w n x r → MayTake M w x i → refusal_of M x.machine i ≡ None →
+    M.take x.machine i ≡ Some s →
     Change M C w (with_node w n (took M x x.role s i))
-takes_once M C w n x r s i (inl e) a m h =
+takes_once M C w n x r s i (inl e) a m ok h =
     subst (λ q. Change M C w (with_node w n (took M x q s i))) (sym (a.role_is ∙ e))
-    (PrimaryTakes n x s i (record { there = a.there; up = a.up; role_is = a.role_is ∙ e }) m h)
-takes_once M C w n x r s i (inr e) a m h =
+    (PrimaryTakes n x s i (record { there = a.there; up = a.up; role_is = a.role_is ∙ e }) m ok h)
+takes_once M C w n x r s i (inr e) a m ok h =
     subst (λ q. Change M C w (with_node w n (took M x q s i))) (sym (a.role_is ∙ e))
-    (AloneTakes n x s i (record { there = a.there; up = a.up; role_is = a.role_is ∙ e }) m h)
+    (AloneTakes n x s i (record { there = a.there; up = a.up; role_is = a.role_is ∙ e }) m ok h)
 
 pub takes : {S : Type 0} (M : Machine S) (C : Copying S) (w : World S) (n : ℕ) (i : Input) (r : Reply) (new : World S)
-    (d : Takes M w n i r new) → serves d.x ≡ None → MayTake M w d.x i → Changes M C w new
-takes M C w n i r new d p may =
+    (d : Takes M w n i r new) → serves d.x ≡ None → MayTake M w d.x i → refusal_of M d.x.machine i ≡ None →
+    Changes M C w new
+takes M C w n i r new d p may ok =
     let a = serving w n d.x d.there p in
-    changed M C w new _ d.after (takes_once M C w n d.x a.0 d.s i a.2 a.1 may d.takes)
+    changed M C w new _ d.after (takes_once M C w n d.x a.0 d.s i a.2 a.1 may ok d.takes)
 
 pub does_key : {S : Type 0} (M : Machine S) (C : Copying S) (w : World S) (n port index : ℕ) (r : Reply) (new : World S) →
     refusal M C w (TakeKey n port index) ≡ None → TakesKey M w n port index r new → Changes M C w new
@@ -49,7 +50,7 @@ does_key M C w n port index r new p d =
     let g = first-passed (fault_if (not (index == M.keys x.machine port)) WrongNumber) _ f.1 in
     let e : index ≡ M.keys x.machine port = eqb-true index (M.keys x.machine port) (passes-if _ WrongNumber g.0) in
     takes M C w n (input.Rx port d.byte) r new d.input f.0
-    (subst (λ z. slice_get (terminal w port).typed z ≡ Some d.byte) e d.typed)
+    (subst (λ z. slice_get (terminal w port).typed z ≡ Some d.byte) e d.typed) refl
 
 pub number-is : (o : Option ℕ) (k : ℕ) → is_number o k ≡ true → o ≡ Some k
 number-is None k h = (cc)
@@ -66,28 +67,17 @@ does_sent M C w n port k r new p d =
     let l : k ≤ length (accepted w port) =
     ltb-false (length (accepted w port)) k (or-false (k == 0) _ (not-stands _ Unknown f.0)).1 in
     takes M C w n (input.Sent port) r new d g.0
-    (k, number-is (M.due_byte d.x.machine port) k (passes-if _ WrongNumber j.0), l)
+    (k, number-is (M.due_byte d.x.machine port) k (passes-if _ WrongNumber j.0), l) h.0
 
 pub does_done : {S : Type 0} (M : Machine S) (C : Copying S) (w : World S) (m n : ℕ) (r : Reply) (new : World S) →
     refusal M C w (PutReply m n) ≡ None → TakesDone M w m n r new → Changes M C w new
 does_done M C w m n r new p d =
     let k = subst (λ z. at_done M (slice_get w.nodes n) z ≡ None) d.message p in
     let q = (node-passed (slice_get w.nodes n) d.input.x (done_refusal M d.number) d.input.there k).1 in
-    takes M C w n (input.Written d.number) r new d.input (first-passed (serves d.input.x) _ q).0
+    let f = first-passed (serves d.input.x) _ q in
+    takes M C w n (input.Written d.number) r new d.input f.0
     (same_get w.messages m (WriteDone d.number) d.message)
-
--- a sector comes only with the number of the machine's own last completed write there
-pub sector-done : {S : Type 0} (M : Machine S) (s : S) (address : SectorAddress) (number : ℕ) →
-    sector_refusal M s address number ≡ None → M.done s address ≡ number
-sector-done M s address number h = go (not (M.ready s address)) (M.busy s address) (M.done s address == number) refl h
-  where
-    go : (a b c : Bool) → (M.done s address == number) ≡ c →
-        cond a (Some NotDue) (cond b (Some SectorBusy) (cond (not c) (Some StaleRead) None)) ≡ None →
-        M.done s address ≡ number
-    go true b c e k = (cc)
-    go false true c e k = (cc)
-    go false false true e k = eqb-true (M.done s address) number e
-    go false false false e k = (cc)
+    (first-passed (refusal_of M d.input.x.machine (input.Written d.number)) _ f.1).0
 
 pub does_under : {S : Type 0} (M : Machine S) (C : Copying S) (w : World S) (m n : ℕ) (r : Reply) (new : World S) →
     refusal M C w (GetReply m n) ≡ None → TakesSector M w m n r new → Changes M C w new
@@ -101,8 +91,6 @@ does_under M C w m n r new p d =
     let e : M.address x.machine a.drive a.sector ≡ a =
     same_address-is (M.address x.machine a.drive a.sector) a (passes-if _ NotDue g.0) in
     let h = (first-passed (refusal_of M x.machine (input.Sector a.drive a.sector d.number d.bytes)) _ g.1).0 in
-    takes M C w n (input.Sector a.drive a.sector d.number d.bytes) r new d.input f.0 (
-      subst (λ z. Among (SectorRead z d.number d.bytes) w.messages) (sym e)
-          (same_get w.messages m (SectorRead a d.number d.bytes) d.message),
-      sector-done M x.machine (M.address x.machine a.drive a.sector) d.number h,
-    )
+    takes M C w n (input.Sector a.drive a.sector d.number d.bytes) r new d.input f.0
+    (subst (λ z. Among (SectorRead z d.number d.bytes) w.messages) (sym e)
+    (same_get w.messages m (SectorRead a d.number d.bytes) d.message)) h

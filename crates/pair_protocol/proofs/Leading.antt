@@ -4,7 +4,8 @@ use Rattle.std.specs.Prelude.{slice_get, slice_set}
 use Rattle.disk_dcdd.specs.declared.address.SectorAddress.{SectorAddress}
 use Rattle.disk_dcdd.specs.declared.sector.SectorWrite.{SectorWrite}
 use Rattle.event_callbacks.specs.declared.operations.Operation.TheVariants.{Byte, Write}
-use Rattle.guest_board.specs.Machine.{Machine, Move, Runs}
+use Rattle.guest_board.specs.Machine.{Machine, Move}
+use Rattle.guest_board.specs.Recorded.{Recorded}
 use Rattle.log_entry.specs.Entries.{entries}
 use Rattle.plain_single.specs.Reach.{Owns, acceptances, inputs, keys, operations, steps}
 use Rattle.pair_protocol.specs.Copying.{Copying}
@@ -65,7 +66,7 @@ pub lead-line : {S : Type 0} (M : Machine S) (C : Copying S) (w : World S) (high
     n ≡ o.line.lead →
     Presence M C (slice_set w.nodes n y) w.messages ws high new x.generation (led o.line own stage) →
     winner_in ws x.generation ≡ winner_at stage o.line.lead o.line.back →
-    ((t : S) × Runs M o.line.mid own t) →
+    ((t : S) × Recorded M o.line.mid own t) →
     IsPrefix o.line.own own →
     ((p : ℕ) → acceptances p (inputs 0 (o.line.base ++ own)) ≤ length (accepted w p)) →
     ((p : ℕ) → IsPrefix (keys p (inputs 0 (o.line.base ++ own))) (terminal w p).typed) →
@@ -133,6 +134,7 @@ pub lead-moves : {S : Type 0} (M : Machine S) (C : Copying S) (w : World S) (i :
     Leads M (i.each x.generation).line.stage (i.each x.generation).line.base
     ((i.each x.generation).line.own ++ m ∷ []) (i.each x.generation).line.mid
     (length (i.each x.generation).line.held) y →
+    ((t : S) × Recorded M (i.each x.generation).line.mid ((i.each x.generation).line.own ++ m ∷ []) t) →
     ((p : ℕ) → acceptances p (inputs 0
     ((i.each x.generation).line.base ++ ((i.each x.generation).line.own ++ m ∷ []))) ≤ length (accepted w p)) →
     ((p : ℕ) →
@@ -142,7 +144,7 @@ pub lead-moves : {S : Type 0} (M : Machine S) (C : Copying S) (w : World S) (i :
     (((i.each x.generation).line.stage ≡ BackWon → ⊥) →
     Owns M [] M.boot ((i.each x.generation).line.base ++ ((i.each x.generation).line.own ++ m ∷ []))) →
     Next M C i.trace (with_node w n y)
-lead-moves {S} M C w i n x y m h nx ny gy e place leads done typed put owns = go place
+lead-moves {S} M C w i n x y m h nx ny gy e place leads run done typed put owns = go place
   where
     o : LineOf M C w i.top i.trace x.generation
     o = i.each x.generation
@@ -180,7 +182,7 @@ lead-moves {S} M C w i n x y m h nx ny gy e place leads done typed put owns = go
         let which = settled-longer l.stage l.base l.own l.more (m ∷ []) (length l.held) same_cut in
         relined M C w i x.generation n x y w.winners new h nx ny refl gy (λ k d. refl) grows (inr g)
         (lead-line M C w i.top n i.trace new x y o own l.stage w.winners e (AtTop g refl lead_here back) o.tied
-        (y.machine, leads.runs) (prefix-append l.own (m ∷ [])) done typed put owns (prefix-refl new))
+        run (prefix-append l.own (m ∷ [])) done typed put owns (prefix-refl new))
         (global-grows M w.messages w.terminals w.puts i.trace new grows
         (λ p. elim which [
           | inl q ↦ subst (λ zs. acceptances p (inputs 0 zs) ≤ length (accepted w p)) (sym (q ∙ s))
@@ -209,7 +211,7 @@ lead-moves {S} M C w i n x y m h nx ny gy e place leads done typed put owns = go
         relined M C w i x.generation n x y w.winners i.trace h nx ny refl gy (λ k d. refl) (prefix-refl i.trace)
         (inl refl)
         (lead-line M C w i.top n i.trace i.trace x y o own l.stage w.winners e
-        (BackLeft g s (back_gone M C w i.top n i.trace x y o e b) lead_here) o.tied (y.machine, leads.runs)
+        (BackLeft g s (back_gone M C w i.top n i.trace x y o e b) lead_here) o.tied run
         (prefix-append l.own (m ∷ [])) done typed put owns (subst (λ z. IsPrefix z i.trace) (sym same) o.below))
         i.global
 

@@ -1,6 +1,7 @@
 pub mod Moves
 pub mod Cuts
 pub mod Traces
+pub mod Recorded
 pub mod Generations
 pub mod LeadMoves
 pub mod LeadInputs
@@ -26,6 +27,8 @@ pub mod RowActions
 pub mod Outputs
 pub mod Settling
 pub mod Promises
+pub mod NodeStands
+pub mod OneMore
 pub mod Runs
 pub mod Growth
 pub mod Scripts
@@ -45,4 +48,7 @@ pub mod AltairWrites
 pub mod AltairIssues
 pub mod AltairCompletions
 pub mod AltairStanding
+pub mod AltairFew
+pub mod AltairInputs
 pub mod AltairLaws
+pub mod Booted

@@ -7,6 +7,7 @@ use Rattle.disk_dcdd.specs.declared.sector.SectorWrite.{SectorWrite}
 use Rattle.event_callbacks.specs.declared.operations.Operation.{Operation}
 use Rattle.event_callbacks.specs.declared.operations.Operation.TheVariants.{Byte, Write}
 use Rattle.guest_board.specs.Machine.{Machine, Move, Runs}
+use Rattle.guest_board.specs.Recorded.{Recorded}
 use Rattle.log_entry.specs.Entries.{entries}
 use Rattle.log_entry.specs.declared.entry.Entry.{Entry}
 use Rattle.plain_single.specs.Reach.{Owns, acceptances, inputs, keys, operations, steps}
@@ -108,7 +109,7 @@ pub record LineOf {S : Type 0} (M : Machine S) (C : Copying S) (w : World S) (to
   pub line : Line S
   pub presence : Presence M C w.nodes w.messages w.winners top T g line
   pub based : Runs M M.boot line.base line.mid
-  pub led : (t : S) × Runs M line.mid line.own t
+  pub led : (t : S) × Recorded M line.mid line.own t
   pub tied : winner_in w.winners g ≡ winner_at line.stage line.lead line.back
   pub apart : line.lead ≡ line.back → ⊥
   pub held : IsPrefix line.held (entries (steps line.base) line.own)

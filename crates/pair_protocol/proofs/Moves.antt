@@ -3,6 +3,7 @@ use Rattle.std.proofs.Common.{◌≡◌, ◌+◌, ◌≤◌, [], ◌∷◌, ◌+
 use Rattle.disk_dcdd.specs.declared.sector.SectorWrite.{SectorWrite}
 use Rattle.event_callbacks.specs.declared.operations.Operation.{Operation}
 use Rattle.guest_board.specs.Machine.{Do, Machine, Move, Runs, Take}
+use Rattle.guest_board.specs.Outstanding.{IsFrugal}
 use Rattle.guest_board.specs.declared.input.Input.{Input}
 use Rattle.log_entry.specs.Entries.{count_of, entries, entry_of, input_of, inputs_of, timed_in, timed_of}
 use Rattle.log_entry.specs.declared.entry.Entry.{Entry}
@@ -286,3 +287,9 @@ count-takes M laws ms s u i r h =
     let b = laws.counts (ms ++ Take i ∷ []) u (runs-append M M.boot s u ms (Take i ∷ []) r (u, h, refl)) in
     let c = steps-append ms (Take i ∷ []) in
     omega arith
+
+-- few operations of a lawful machine are outstanding wherever it goes
+
+pub frugal-reached : {S : Type 0} (M : Machine S) → Lawful M → (ms : List Move) (s : S) → Runs M M.boot ms s →
+    IsFrugal M s
+frugal-reached M laws ms s r more t h = laws.few (ms ++ more) t (runs-append M M.boot s t ms more r h)

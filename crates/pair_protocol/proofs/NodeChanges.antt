@@ -155,8 +155,7 @@ state-joins M C laws copies stage base own more mid s b ps role got made copy st
 state-joins M C laws copies stage base own more mid s b ps role got made copy start based (AsAlone k t u c l) = (cc)
 state-joins M C laws copies stage base own more mid s b ps role got made copy start based (AsJoining k t g) =
     let e : ps ≡ C.parts mid = gathered_is b.parts (C.parts mid) ps g.long g.each got in
-    let m : mid ≡ s = same_some mid s (C.assemble (C.parts mid)) (copies.again base mid based) (ap C.assemble (sym e)
-    ∙ made) in
+    let m : mid ≡ s = sym (copies.again base mid s based (ap C.assemble (sym e) ∙ made)) in
     let l = ap length g.empty in
     let r = g.none in
     AsBackup refl t (record {

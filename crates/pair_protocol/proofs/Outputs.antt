@@ -13,6 +13,7 @@ use Rattle.pair_protocol.specs.Node.{Node}
 use Rattle.pair_protocol.specs.Traces.{cut}
 use Rattle.pair_protocol.specs.World.{Arrival, World, accepted, accepted_after, terminal}
 use Rattle.pair_protocol.proofs.Moves.{output-append, runs-append, runs-prefix, runs-split}
+use Rattle.pair_protocol.proofs.Recorded.{recorded-runs}
 use Rattle.pair_protocol.proofs.Cuts.{cut-prefix}
 use Rattle.pair_protocol.proofs.Generations.{AsAlone, AsBackup, AsDraining, AsJoining, BackState, BackWon, LeadWon, Stage, Undecided, settled_moves}
 use Rattle.pair_protocol.proofs.LeadMoves.{bool_cases, prefix_next}
@@ -118,7 +119,8 @@ trace_runs {S} M C w i = let r = by_state l.stage t.lead.leads.runs t.back.backs
     held_is = ap (λ es. cut (length es) l.own) (sym t.back.held)
 
     front : (u : S) × Runs M l.mid (cut (length l.held) l.own) u
-    front = runs-prefix M l.mid o.led.0 (cut (length l.held) l.own) l.own (cut-prefix (length l.held) l.own) o.led.1
+    front = runs-prefix M l.mid o.led.0 (cut (length l.held) l.own) l.own (cut-prefix (length l.held) l.own)
+        (recorded-runs M l.mid o.led.0 l.own o.led.1)
 
     by_state : (stage : Stage) → Runs M l.mid l.own t.lead.a.machine →
         BackState M C stage l.base l.own l.more l.mid b →

@@ -4,7 +4,8 @@ use Rattle.std.proofs.lemmas.List.{append_cancel_left, take-append-le, take_at}
 use Rattle.std.proofs.lemmas.Option.{slice_get_within}
 use Rattle.std.specs.Prelude.{slice_get}
 use Rattle.event_callbacks.specs.declared.operations.Operation.{Operation}
-use Rattle.guest_board.specs.Machine.{Do, Machine, Move, Runs, Take}
+use Rattle.guest_board.specs.Machine.{Do, Machine, Move, Take}
+use Rattle.guest_board.specs.Recorded.{Recorded}
 use Rattle.guest_board.specs.declared.input.Input.{Input}
 use Rattle.log_entry.specs.Entries.{count_of, entries, entry_of, input_of, inputs_of}
 use Rattle.log_entry.specs.declared.entry.Entry.{Entry}
@@ -14,7 +15,8 @@ use Rattle.plain_single.specs.declared.timed.Timed.{Timed}
 use Rattle.pair_protocol.specs.Faithful.{IsPrefix}
 use Rattle.pair_protocol.specs.Node.{Node, holds, passes_input, passes_mark, plainly_steps}
 use Rattle.pair_protocol.specs.Traces.{cut}
-use Rattle.pair_protocol.proofs.Moves.{count_entry, entries-append, entry_is, input_entry, inputs-append, inputs_of-entries, prefix-trans, runs-append, runs-prefix, runs_rest, same_some, steps-append}
+use Rattle.pair_protocol.proofs.Moves.{count_entry, entries-append, entry_is, input_entry, inputs-append, inputs_of-entries, prefix-trans, runs-append, same_some, steps-append}
+use Rattle.pair_protocol.proofs.Recorded.{recorded-prefix, recorded_rest}
 use Rattle.pair_protocol.proofs.Cuts.{cut-more, cut-prefix, cut_ends, entries-cut}
 use Rattle.pair_protocol.proofs.Generations.{AtPlace, Follows}
 use Rattle.pair_protocol.proofs.LeadMoves.{steps-do, steps-take}
@@ -30,12 +32,16 @@ take_at_get [] k x h = (cc)
 take_at_get {A} (y ∷ xs) zero x h = let e : y ≡ x = (cc) in ap (λ (z : A). z ∷ []) e
 take_at_get (y ∷ xs) (suc k) x h = ap (λ zs. y ∷ zs) (take_at_get xs k x h)
 
--- what follows the replayed entries begins with the next one
+-- what follows the replayed entries are those that are not replayed, and begins with the next one
+pub unreplayed : {A : Type 0} (held lag rest : List A) (k : ℕ) → (take k held ++ lag) ++ rest ≡ held →
+    lag ++ rest ≡ drop k held
+unreplayed held lag rest k h =
+    append_cancel_left (take k held) (lag ++ rest) (drop k held) (sym (append_assoc (take k held) lag rest) ∙ h
+    ∙ sym (take-append-drop k held))
+
 behind : {A : Type 0} (held lag rest : List A) (k : ℕ) (e : A) → (take k held ++ lag) ++ rest ≡ held →
     slice_get held k ≡ Some e → lag ++ rest ≡ e ∷ drop (suc k) held
-behind held lag rest k e h g =
-    append_cancel_left (take k held) (lag ++ rest) (e ∷ drop (suc k) held) (sym (append_assoc (take k held) lag rest)
-    ∙ h ∙ sym (take-append-drop k held) ∙ ap (λ zs. take k held ++ zs) (drop_at_get held k e g))
+behind held lag rest k e h g = unreplayed held lag rest k h ∙ drop_at_get held k e g
 
 head_is : (e f : Entry) (es fs : List Entry) → e ∷ es ≡ f ∷ fs → e ≡ f
 head_is e f es fs h = (cc)
@@ -82,25 +88,25 @@ next_take c (Take j ∷ r) e es i h l m =
     (r, ap (λ (v : Input). Take v ∷ r) s)
 
 -- What is still to come, and that the moves to come lead on from here.
-record Ahead {S : Type 0} (M : Machine S) (base own : List Move) (b : Node S) (f : List Move) : Type 0 where
-  rest : List Move
-  whole : f ++ rest ≡ cut (length b.held) own
-  final : S
-  runs : Runs M b.machine rest final
-  entries_are : entries (steps base) f ++ entries (M.count b.machine) rest ≡ b.held
+pub record Ahead {S : Type 0} (M : Machine S) (base own : List Move) (b : Node S) (f : List Move) : Type 0 where
+  pub rest : List Move
+  pub whole : f ++ rest ≡ cut (length b.held) own
+  pub final : S
+  pub runs : Recorded M b.machine rest final
+  pub entries_are : entries (steps base) f ++ entries (M.count b.machine) rest ≡ b.held
 
-ahead : {S : Type 0} (M : Machine S) (base own : List Move) (mid last : S) (b : Node S) →
-    IsPrefix b.held (entries (steps base) own) → Runs M mid own last → (f : Follows M base own mid b) →
+pub ahead : {S : Type 0} (M : Machine S) (base own : List Move) (mid last : S) (b : Node S) →
+    IsPrefix b.held (entries (steps base) own) → Recorded M mid own last → (f : Follows M base own mid b) →
     Ahead M base own b f.ms
 ahead M base own mid last b p r f =
     let x = cut (length b.held) own in
-    let u = runs-prefix M mid last x own (cut-prefix (length b.held) own) r in
+    let u = recorded-prefix M mid last x own (cut-prefix (length b.held) own) r in
     record {
       rest = f.within.0;
       whole = f.within.1;
       final = u.0;
-      runs = runs_rest M mid b.machine u.0 f.ms f.within.0 f.runs
-          (subst (λ zs. Runs M mid zs u.0) (sym f.within.1) u.1);
+      runs = recorded_rest M mid b.machine u.0 f.ms f.within.0 f.runs
+          (subst (λ zs. Recorded M mid zs u.0) (sym f.within.1) u.1);
       entries_are =
           ap (λ c. entries (steps base) f.ms ++ entries c f.within.0) f.count
           ∙ sym (entries-append (steps base) f.ms f.within.0)
@@ -109,7 +115,7 @@ ahead M base own mid last b p r f =
     }
 
 -- the entry of a mark that is not replayed yet
-lag_is : (c : ℕ) (short ms : List Move) (o : Operation) → ms ≡ short ++ Do (Some o) ∷ [] →
+pub lag_is : (c : ℕ) (short ms : List Move) (o : Operation) → ms ≡ short ++ Do (Some o) ∷ [] →
     entries c ms ≡ entries c short ++ Mark (c + steps ms) ∷ []
 lag_is c short ms o h =
     let s = steps-append short (Do (Some o) ∷ []) in
@@ -119,7 +125,7 @@ lag_is c short ms o h =
 
 pub follow-steps : {S : Type 0} (M : Machine S) (base own : List Move) (mid last : S) (b : Node S) (e : Entry) (s : S)
     (o : Option Operation) →
-    IsPrefix b.held (entries (steps base) own) → Runs M mid own last → slice_get b.held b.replayed ≡ Some e →
+    IsPrefix b.held (entries (steps base) own) → Recorded M mid own last → slice_get b.held b.replayed ≡ Some e →
     (M.count b.machine) < count_of e → M.step b.machine ≡ Some (s, o) → M.count s ≡ suc (M.count b.machine) →
     Follows M base own mid b → Follows M base own mid (plainly_steps b s)
 follow-steps {S} M base own mid last b e s o p r g l h counted f = by_place f.place
@@ -134,7 +140,7 @@ follow-steps {S} M base own mid last b e s o p r g l h counted f = by_place f.pl
         (ap (λ zs. zs ++ entries (M.count b.machine) a.rest) (append-nil (take b.replayed b.held) ∙ sym q)
         ∙ a.entries_are) g in
         let n = next_do (M.count b.machine) a.rest e (drop (suc b.replayed) b.held) j l in
-        let u = subst (λ zs. Runs M b.machine zs a.final) n.2 a.runs in
+        let u = subst (λ zs. Recorded M b.machine zs a.final) n.2 a.runs in
         let same : ◌≡◌ {A = S × Option Operation} (s, o) (u.0, n.0) =
         same_some (s, o) (u.0, n.0) (M.step b.machine) h u.1 in
         let os : o ≡ n.0 = ap (λ (v : S × Option Operation). v.1) same in
@@ -171,7 +177,7 @@ follow-steps {S} M base own mid last b e s o p r g l h counted f = by_place f.pl
         absurd (omega arith)
 
 pub follow-mark : {S : Type 0} (M : Machine S) (base own : List Move) (mid last : S) (b : Node S) (e : Entry) →
-    IsPrefix b.held (entries (steps base) own) → Runs M mid own last → slice_get b.held b.replayed ≡ Some e →
+    IsPrefix b.held (entries (steps base) own) → Recorded M mid own last → slice_get b.held b.replayed ≡ Some e →
     M.count b.machine ≡ count_of e → input_of e ≡ None →
     Follows M base own mid b → Follows M base own mid (passes_mark b)
 follow-mark {S} M base own mid last b e p r g l w f = by_place f.place
@@ -206,7 +212,7 @@ follow-mark {S} M base own mid last b e p r g l w f = by_place f.place
 
 pub follow-takes : {S : Type 0} (M : Machine S) (base own : List Move) (mid last : S) (b : Node S) (e : Entry)
     (i : Input) (s : S) →
-    IsPrefix b.held (entries (steps base) own) → Runs M mid own last → slice_get b.held b.replayed ≡ Some e →
+    IsPrefix b.held (entries (steps base) own) → Recorded M mid own last → slice_get b.held b.replayed ≡ Some e →
     M.count b.machine ≡ count_of e → input_of e ≡ Some i → M.take b.machine i ≡ Some s →
     M.count s ≡ M.count b.machine →
     Follows M base own mid b → Follows M base own mid (passes_input b s)
@@ -222,7 +228,7 @@ follow-takes {S} M base own mid last b e i s p r g l w h counted f = by_place f.
         (ap (λ zs. zs ++ entries (M.count b.machine) a.rest) (append-nil (take b.replayed b.held) ∙ sym q)
         ∙ a.entries_are) g in
         let n = next_take (M.count b.machine) a.rest e (drop (suc b.replayed) b.held) i j l w in
-        let u = subst (λ zs. Runs M b.machine zs a.final) n.1 a.runs in
+        let u = subst (λ zs. Recorded M b.machine zs a.final) n.1 a.runs in
         let t = slice_get_within b.held b.replayed e g in
         let d : steps base + steps f.ms ≡ count_of e = sym f.count ∙ l in
         let z : entry_of (steps base + steps f.ms) i ≡ e = ap (λ k. entry_of k i) d ∙ entry_is e i w in

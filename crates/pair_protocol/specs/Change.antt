@@ -5,7 +5,7 @@ use Rattle.disk_dcdd.specs.declared.sector.SectorWrite.{SectorWrite}
 use Rattle.event_callbacks.specs.declared.operations.OpId.{OpId}
 use Rattle.event_callbacks.specs.declared.operations.Operation.{Operation}
 use Rattle.event_callbacks.specs.declared.operations.Operation.TheVariants.{Byte, Write}
-use Rattle.guest_board.specs.Machine.{Machine}
+use Rattle.guest_board.specs.Machine.{Machine, refusal_of}
 use Rattle.guest_board.specs.declared.input.Input.{Input}
 use Rattle.guest_board.specs.declared.input.Input.TheVariants.{Rx, Sent, Sector, Written}
 use Rattle.log_entry.specs.Entries.{count_of, input_of}
@@ -21,14 +21,13 @@ pub record Acts {S : Type 0} (w : World S) (n : ℕ) (x : Node S) (role : Role) 
   pub up : x.running ≡ true
   pub role_is : x.role ≡ role
 
--- Where an input may come from: a key is the next of those typed; a byte that is sent was accepted; what the disk says
--- was answered, and a sector that is read has the number of the machine's own last completed write there.
+-- Where an input may come from: a key is the next of those typed; a byte that is sent was accepted; and what the disk
+-- says was answered.
 abbrev pub MayTake : {S : Type 0} → Machine S → World S → Node S → Input → Type 0
 MayTake M w x (Rx port byte) = slice_get (terminal w port).typed (M.keys x.machine port) ≡ Some byte
 MayTake M w x (Sent port) = (k : ℕ) × (M.due_byte x.machine port ≡ Some k) × (k ≤ length (accepted w port))
 MayTake M w x (Sector drive sector number bytes) =
     Among (SectorRead (M.address x.machine drive sector) number bytes) w.messages
-    × (M.done x.machine (M.address x.machine drive sector) ≡ number)
 MayTake M w x (Written number) = Among (WriteDone number) w.messages
 
 -- a node that replays: a backup, or one that drains
@@ -46,12 +45,12 @@ pub data Change {S : Type 0} (M : Machine S) (C : Copying S) (w : World S) : Wor
       Change M C w (with_node w n (primary_steps M x s gives))
   AloneSteps : (n : ℕ) (x : Node S) (s : S) (gives : Option Operation) →
       Acts w n x Alone → M.step x.machine ≡ Some (s, gives) → Change M C w (with_node w n (plainly_steps x s))
-  -- or takes an input
+  -- or takes an input that it does not refuse: no sector, then, that was read before its last completed write
   PrimaryTakes : (n : ℕ) (x : Node S) (s : S) (i : Input) →
-      Acts w n x Primary → MayTake M w x i → M.take x.machine i ≡ Some s →
+      Acts w n x Primary → MayTake M w x i → refusal_of M x.machine i ≡ None → M.take x.machine i ≡ Some s →
       Change M C w (with_node w n (primary_takes M x s i))
   AloneTakes : (n : ℕ) (x : Node S) (s : S) (i : Input) →
-      Acts w n x Alone → MayTake M w x i → M.take x.machine i ≡ Some s →
+      Acts w n x Alone → MayTake M w x i → refusal_of M x.machine i ≡ None → M.take x.machine i ≡ Some s →
       Change M C w (with_node w n (alone_takes M x s i))
   -- a byte is typed
   Types : (port byte : ℕ) → Change M C w (with_key w port byte)

@@ -1,5 +1,5 @@
 -- The copy of a machine: the parts that an image of it has, and the machine that parts make.
-use Rattle.std.specs.Prelude.{◌≡◌, ℕ, Option, Some, List, length}
+use Rattle.std.specs.Prelude.{◌≡◌, ℕ, Option, Some, None, List, [], length}
 use Rattle.guest_board.specs.Machine.{Machine, Move}
 use Rattle.pair_protocol.specs.Lawful.{Reaches}
 
@@ -14,5 +14,9 @@ pub record Copying (S : Type 0) : Type 0 where
 pub record IsCopying {S : Type 0} (M : Machine S) (C : Copying S) : Type 0 where
   -- each image has that many parts
   pub counted : (moves : List Move) (s : S) → Reaches M moves s → length (C.parts s) ≡ C.part_count
-  -- the parts of a machine make it again
-  pub again : (moves : List Move) (s : S) → Reaches M moves s → C.assemble (C.parts s) ≡ Some s
+  -- whatever the parts of a machine make is that machine
+  pub again : (moves : List Move) (s t : S) → Reaches M moves s → C.assemble (C.parts s) ≡ Some t → t ≡ s
+
+-- no copies: an image has no parts, and nothing is made of them
+abbrev pub no_copies : {S : Type 0} → Copying S
+no_copies = record { parts = λ s. []; part_count = 0; assemble = λ parts. None }

@@ -8,7 +8,10 @@ use Rattle.event_callbacks.specs.declared.operations.OpId.{OpId}
 use Rattle.event_callbacks.specs.declared.operations.OpId.TheVariants as id
 use Rattle.event_callbacks.specs.declared.operations.Operation.{Operation}
 use Rattle.event_callbacks.specs.declared.operations.Operation.TheVariants.{Byte, Write}
-use Rattle.guest_board.specs.Machine.{Machine, Move, Do, Runs}
+use Rattle.guest_board.specs.Lockstep.{IsInput, HasRoom}
+use Rattle.guest_board.specs.Machine.{Machine, Move, Do, Runs, refusal_of}
+use Rattle.guest_board.specs.Outstanding.{AreFew}
+use Rattle.guest_board.specs.declared.input.Input.{Input}
 use Rattle.plain_single.specs.Reach.{inputs, steps, operations, output, keys, acceptances, image}
 use Rattle.plain_single.specs.declared.timed.Bare.TheVariants.{Written}
 
@@ -76,3 +79,8 @@ pub record Lawful {S : Type 0} (M : Machine S) : Type 0 where
   pub write_is : (moves : List Move) (s : S) (w : SectorWrite) → Reaches M moves s
       → Among (Write w) (operations moves)
       → (w.number ≤ M.done s (address_of w)) ⊎ (M.find s (id.Write w.number) ≡ Some (Write w))
+  -- few operations are outstanding at once
+  pub few : (moves : List Move) (s : S) → Reaches M moves s → AreFew M s
+  -- an input that is not refused and is taken is one of a port or a sector that is there, and there was room for it
+  pub accepts : (moves : List Move) (s t : S) (i : Input) → Reaches M moves s → refusal_of M s i ≡ None
+      → M.take s i ≡ Some t → IsInput i × HasRoom M s i

@@ -1,8 +1,10 @@
 -- The laws of a pair, for any machine that is lawful and any copy of it.
-use Rattle.std.specs.Prelude.{◌≡◌, List, length}
+use Rattle.std.specs.Prelude.{◌≡◌, ℕ, Some, List, length, slice_get}
 use Rattle.guest_board.specs.Machine.{Machine}
 use Rattle.pair_protocol.specs.Lawful.{Lawful}
-use Rattle.pair_protocol.specs.Copying.{Copying, IsCopying}
+use Rattle.pair_protocol.specs.Copying.{Copying, IsCopying, no_copies}
+use Rattle.pair_protocol.specs.Node.{Node}
+use Rattle.pair_protocol.specs.NodeStands.{NodeStands}
 use Rattle.pair_protocol.specs.World.{World, opening}
 use Rattle.pair_protocol.specs.Change.{Changes, Reached}
 use Rattle.pair_protocol.specs.Event.{Event, Reply}
@@ -20,6 +22,16 @@ abbrev pub ReachedGrows : (S : Type 0) → Type 0
 ReachedGrows S =
     (M : Machine S) (C : Copying S) → Lawful M → IsCopying M C → (w new : World S) (e : Event) (r : Reply) →
     Reached M C w → Row M C w e r new → Grows M w new
+
+-- in every world that actions reach, each node stands as its role asks
+abbrev pub NodesStand : (S : Type 0) → Type 0
+NodesStand S =
+    (M : Machine S) (C : Copying S) → Lawful M → IsCopying M C → (w : World S) → Reached M C w →
+    (n : ℕ) (x : Node S) → slice_get w.nodes n ≡ Some x → NodeStands M x
+
+-- no copies are a copying of every machine
+abbrev pub NeedsNoCopies : (S : Type 0) → Type 0
+NeedsNoCopies S = (M : Machine S) → IsCopying M no_copies
 
 -- an event is some actions
 abbrev pub RowIsChanges : (S : Type 0) → Type 0

@@ -9,6 +9,7 @@ pub mod Refusals
 pub mod Rows
 pub mod Row
 pub mod Settled
+pub mod NodeStands
 pub mod Faithful
 pub mod Grows
 pub mod Traces

@@ -1,11 +1,23 @@
 //! What the rules of a pair promise, for any machine that is lawful and any copy of it. Nothing here runs.
 ghost use Rattle.pair_protocol.specs.Examples.{TakesOver, WritesDisk};
-ghost use Rattle.pair_protocol.specs.Laws.{ReachedIsFaithful, ReachedGrows, RowIsChanges, ChangesReach, RunReaches, RunIsFaithful, RunGrows, RunReplies};
+ghost use Rattle.pair_protocol.specs.Laws.{ReachedIsFaithful, NodesStand, NeedsNoCopies, ReachedGrows, RowIsChanges, ChangesReach, RunReaches, RunIsFaithful, RunGrows, RunReplies};
 ghost use Rattle.pair_protocol.specs.Traces.{OneTrace, OneEnd, FirstEntries, QuietMoves, QuietEntries};
 
 /// Whatever the actors of a pair do, one action after another, every world that they reach is faithful.
 pub fn actions_are_faithful<S>()
     ensures faithful { ReachedIsFaithful S }
+{}
+
+/// In every world that actions reach, a node that serves or replays has a machine that was run from boot; one that
+/// serves has taken the keys of its list; a primary has logged all that is covered; and what a node has still to
+/// replay are the next entries of a recorded run.
+pub fn nodes_stand<S>()
+    ensures stand { NodesStand S }
+{}
+
+/// A pair may make no copies at all: that meets what is asked of a copy, whatever machine the pair runs.
+pub fn pairs_without_copies<S>()
+    ensures without { NeedsNoCopies S }
 {}
 
 /// Whatever events come, in whatever order, every world of a run is faithful: its terminals and its disk have what one

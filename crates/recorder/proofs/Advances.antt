@@ -4,13 +4,13 @@ use Rattle.std.proofs.Common.{◌≡◌, ℕ, zero, suc, ◌+◌, List, [], ◌�
 use Rattle.std.proofs.lemmas.List.{append-nil}
 use Rattle.event_callbacks.specs.declared.operations.Operation.{Operation}
 use Rattle.guest_board.specs.Machine.{Machine, Move, Do}
+use Rattle.guest_board.specs.Recorded.{Counts, Recorded}
 use Rattle.log_buffer.specs.Log.{Log, pushed}
 use Rattle.log_entry.specs.Entries.{entries}
 use Rattle.log_entry.specs.declared.entry.Entry.{Entry}
 use Rattle.log_entry.specs.declared.entry.Entry.TheVariants.{Mark}
 use Rattle.plain_single.specs.Reach.{inputs, steps}
 use Rattle.recorder.specs.Laws.{RecordsSteps}
-use Rattle.recorder.specs.Recorded.{Counts, Recorded}
 use Rattle.recorder.specs.Recording.{Quiet, Begin, More, Advances, AllTurns, Gives, Idles, IsSpent, WantsMemory}
 use Rattle.recorder.specs.declared.advanced.Advanced.{Advanced}
 

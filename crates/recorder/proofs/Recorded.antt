@@ -4,12 +4,12 @@
 use Rattle.std.proofs.Common.{◌≡◌, suc, ◌+◌, arith, List, [], ◌∷◌, ◌++◌, sym, ap, subst, ◌∙◌}
 use Rattle.std.proofs.lemmas.List.{append_assoc}
 use Rattle.guest_board.specs.Machine.{Machine, Move, Do, Take, Runs}
+use Rattle.guest_board.specs.Recorded.{Counts, Recorded}
 use Rattle.log_buffer.specs.Log.{Log}
 use Rattle.log_entry.specs.Entries.{entries, marks, entry_of}
 use Rattle.log_entry.specs.declared.entry.Entry.{Entry}
 use Rattle.plain_single.specs.Reach.{steps}
 use Rattle.recorder.specs.Laws.{Records}
-use Rattle.recorder.specs.Recorded.{Counts, Recorded}
 
 pub is_run : {S : Type 0} (M : Machine S) (s t : S) (moves : List Move) → Recorded M s moves t → Runs M s moves t
 is_run M s t [] r = r

@@ -1,11 +1,11 @@
 -- What whoever keeps a recorder may count on.
 use Rattle.std.specs.Prelude.{◌≡◌, ℕ, ◌+◌, Ok, List, [], ◌∷◌, ◌++◌}
 use Rattle.guest_board.specs.Machine.{Machine, Move, Take, Runs}
+use Rattle.guest_board.specs.Recorded.{Counts, Recorded}
 use Rattle.guest_board.specs.declared.input.Input.{Input}
 use Rattle.log_buffer.specs.Log.{Log}
 use Rattle.log_entry.specs.Entries.{entries}
 use Rattle.plain_single.specs.Reach.{inputs, steps}
-use Rattle.recorder.specs.Recorded.{Counts, Recorded}
 use Rattle.recorder.specs.Recording.{Advances, Offers}
 use Rattle.recorder.specs.declared.advanced.Advanced.{Advanced}
 

@@ -1,4 +1,3 @@
-pub mod Recorded
 pub mod Recording
 pub mod Stepping
 pub mod Laws

@@ -4,13 +4,13 @@ use Rattle.event_callbacks.specs.Operations.{id_of}
 use Rattle.event_callbacks.specs.declared.operations.Operation.{Operation}
 use Rattle.guest_board.specs.Lockstep.{step_refusal}
 use Rattle.guest_board.specs.Machine.{Machine}
+use Rattle.guest_board.specs.Recorded.{Accepts}
 use Rattle.guest_board.specs.declared.input.Input.{Input}
 use Rattle.i8080_words.specs.declared.refusal.Fault.{Fault}
 use Rattle.i8080_words.specs.declared.refusal.Fault.TheVariants.{OutOfMemory, Spent, Idle}
 use Rattle.log_buffer.specs.Log.{Log, next_of, pushed, push_answer, room_answer}
 use Rattle.log_entry.specs.Entries.{entry_of}
 use Rattle.log_entry.specs.declared.entry.Entry.TheVariants.{Mark}
-use Rattle.recorder.specs.Recorded.{Accepts}
 use Rattle.recorder.specs.declared.advanced.Advanced.{Advanced}
 use Rattle.recorder.specs.declared.advanced.Why.{Why}
 use Rattle.recorder.specs.declared.advanced.Why.TheVariants as why

@@ -3,12 +3,12 @@
 -- entry is popped where the machine stands at its count.
 use Rattle.std.proofs.Common.{◌≡◌, ℕ, suc, ◌≤◌, Bool, true, false, List, [], ◌∷◌, ◌++◌, Some, None, refl, sym, ap, subst, ◌∙◌, arith}
 use Rattle.guest_board.specs.Machine.{Machine, Move, Do, Take}
+use Rattle.guest_board.specs.Recorded.{Counts}
 use Rattle.log_entry.specs.Entries.{count_of, entries, last_count}
 use Rattle.log_entry.specs.Laws.{NeverFalls}
+use Rattle.log_entry.specs.Standing.{owed, IsOnTrace}
 use Rattle.log_entry.specs.declared.entry.Entry.{Entry}
-use Rattle.recorder.specs.Recorded.{Counts}
 use Rattle.replayer.specs.Replaying.{Moves, Steps, Passes, Takes, Replays, Begin, Then}
-use Rattle.replayer.specs.Standing.{owed, IsOnTrace}
 use Rattle.replayer.proofs.Fronts.{count_of-entry_of}
 
 -- ---- the entries of a run

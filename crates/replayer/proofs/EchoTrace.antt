@@ -4,6 +4,7 @@ use Rattle.echo_guest.specs.Echo.{Echo, at_boot, echo, moved, reads, sends, is_s
 use Rattle.event_callbacks.specs.declared.operations.Operation.{Operation}
 use Rattle.event_callbacks.specs.declared.operations.Operation.TheVariants.{Byte}
 use Rattle.guest_board.specs.Machine.{Do, Take}
+use Rattle.guest_board.specs.Recorded.{Counts}
 use Rattle.guest_board.specs.declared.input.Input.{Input}
 use Rattle.guest_board.specs.declared.input.Input.TheVariants as input
 use Rattle.i8080_words.specs.declared.refusal.Fault.{Fault}
@@ -12,10 +13,9 @@ use Rattle.log_channel.specs.declared.packet.Packet.TheVariants.{Log}
 use Rattle.log_channel.specs.Laws.{ReadsAgain}
 use Rattle.log_channel.specs.Packet.{packet_at, packet_bytes}
 use Rattle.log_entry.specs.Spelling.{IsEntry}
+use Rattle.log_entry.specs.Standing.{IsOnTrace}
 use Rattle.log_entry.specs.declared.entry.Entry.{Entry}
 use Rattle.log_entry.specs.declared.entry.Entry.TheVariants.{Mark, Rx}
-use Rattle.recorder.specs.Recorded.{Counts}
-use Rattle.replayer.specs.Standing.{IsOnTrace}
 use Rattle.replayer.proofs.Fronts.{same_value}
 
 -- ---- its count

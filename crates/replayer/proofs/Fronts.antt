@@ -5,13 +5,13 @@
 use Rattle.std.proofs.Common.{◌≡◌, ℕ, suc, ◌<◌, ◌≤◌, Bool, true, false, List, [], ◌∷◌, ◌++◌, Option, Some, None, refl, sym, ap, subst, ◌∙◌, arith}
 use Rattle.event_callbacks.specs.declared.operations.Operation.{Operation}
 use Rattle.guest_board.specs.Machine.{Machine, Move, Do, Take}
+use Rattle.guest_board.specs.Recorded.{Accepts, Recorded}
 use Rattle.guest_board.specs.declared.input.Input.{Input}
 use Rattle.guest_board.specs.declared.input.Input.TheVariants.{Rx, Sent, Sector, Written}
 use Rattle.log_entry.specs.Entries.{count_of, entry_of, input_of, entries}
+use Rattle.log_entry.specs.Standing.{owed}
 use Rattle.log_entry.specs.declared.entry.Entry.{Entry}
 use Rattle.log_entry.specs.declared.entry.Entry.TheVariants.{Mark}
-use Rattle.recorder.specs.Recorded.{Accepts, Recorded}
-use Rattle.replayer.specs.Standing.{owed}
 
 pub count_of-entry_of : (count : ℕ) (input : Input) → count_of (entry_of count input) ≡ count
 count_of-entry_of count (Rx port byte) = refl

@@ -4,25 +4,22 @@ use Rattle.std.proofs.Common.{◌≡◌, ◌<◌, true, false, List, [], ◌∷�
 use Rattle.event_callbacks.specs.declared.operations.Operation.{Operation}
 use Rattle.guest_board.specs.Lockstep.{Executes, StepsUnless, Takes as TakesInput, given_by, step_refusal}
 use Rattle.guest_board.specs.Machine.{Machine}
+use Rattle.guest_board.specs.Recorded.{Counts, Accepts}
 use Rattle.guest_board.specs.declared.executed.Executed.{Executed}
 use Rattle.guest_board.specs.declared.input.Input.{Input}
 use Rattle.i8080_words.specs.declared.refusal.Fault.{Fault}
 use Rattle.i8080_words.specs.declared.refusal.Fault.TheVariants.{OutOfMemory, Spent, Idle}
 use Rattle.log_entry.specs.Entries.{count_of, entries, input_of}
+use Rattle.log_entry.specs.Standing.{owed, IsOnTrace}
 use Rattle.log_entry.specs.declared.entry.Entry.{Entry}
-use Rattle.recorder.specs.Recorded.{Counts, Accepts}
 use Rattle.replayer.specs.Replaying.{Moves, Steps, Passes, Takes, Begin, Then, IsBehind, AnswersOne}
-use Rattle.replayer.specs.Standing.{owed, StaysOn, IsOnTrace}
+use Rattle.replayer.specs.Standing.{StaysOn}
 use Rattle.replayer.proofs.Fronts.{same_value, not_behind, NextDoes, next_does, NextTakes, next_takes}
 use Rattle.replayer.proofs.Standing.{stays_on}
 
 front_is : (held : List Entry) (e : Entry) → slice_get held 0 ≡ Some e → held ≡ e ∷ drop 1 held
 front_is [] e h = absurd cc
 front_is (x ∷ xs) e h = ap (λ x. x ∷ xs) (same_value x e h)
-
-pub no_front : (held : List Entry) → slice_get held 0 ≡ None → held ≡ []
-no_front [] h = refl
-no_front (x ∷ xs) h = absurd cc
 
 -- a move by the entries that are held keeps to the run
 pub still_on : {S : Type 0} (M : Machine S) (s t : S) (held left : List Entry) → Counts M → IsOnTrace M s held

@@ -3,12 +3,13 @@
 use Rattle.std.proofs.Common.{◌≡◌, ℕ, suc, ◌+◌, ◌<◌, ◌≤◌, Bool, true, false, List, [], ◌∷◌, Result, Ok, Err, refl, sym, subst, ◌∙◌, arith, IsTrue}
 use Rattle.std.specs.Prelude.{◌↔◌}
 use Rattle.guest_board.specs.Machine.{Machine}
+use Rattle.guest_board.specs.Recorded.{Counts}
 use Rattle.i8080_words.specs.declared.refusal.Fault.{Fault}
 use Rattle.log_entry.specs.Entries.{last_count}
+use Rattle.log_entry.specs.Standing.{IsOnTrace}
 use Rattle.log_entry.specs.declared.entry.Entry.{Entry}
-use Rattle.recorder.specs.Recorded.{Counts}
 use Rattle.replayer.specs.Replaying.{Moves, Replays, Begin, Then, IsBehind, Ends, AllTurns, AtEnd, WantsMemory, Answers, AnswersOne}
-use Rattle.replayer.specs.Standing.{StaysOnEach, IsOnTrace, StaysOn}
+use Rattle.replayer.specs.Standing.{StaysOnEach, StaysOn}
 use Rattle.replayer.specs.declared.replayer.Replayed.{Replayed}
 use Rattle.replayer.proofs.Below.{stays_below}
 use Rattle.replayer.proofs.Standing.{stays_on}

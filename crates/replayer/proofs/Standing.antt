@@ -5,13 +5,14 @@ use Rattle.std.proofs.Common.{◌≡◌, ℕ, suc, Bool, true, false, List, [], 
 use Rattle.std.proofs.lemmas.List.{append-nil, append_assoc}
 use Rattle.event_callbacks.specs.declared.operations.Operation.{Operation}
 use Rattle.guest_board.specs.Machine.{Machine, Move, Do, Take}
+use Rattle.guest_board.specs.Recorded.{Counts, Accepts, Recorded}
 use Rattle.guest_board.specs.declared.input.Input.{Input}
 use Rattle.log_entry.specs.Entries.{entries, marks}
+use Rattle.log_entry.specs.Standing.{owed, Stands}
 use Rattle.log_entry.specs.declared.entry.Entry.{Entry}
 use Rattle.recorder.proofs.Recorded.{Recorded-append, entries-append}
-use Rattle.recorder.specs.Recorded.{Counts, Accepts, Recorded}
 use Rattle.replayer.specs.Replaying.{Moves, Steps, Passes, Takes, Replays, Begin, Then}
-use Rattle.replayer.specs.Standing.{owed, Stands, StaysOn}
+use Rattle.replayer.specs.Standing.{StaysOn}
 use Rattle.replayer.proofs.Fronts.{same_value, NextDoes, next_does, NextTakes, next_takes, NextPasses, next_passes}
 
 -- ---- after a step

@@ -2,12 +2,12 @@
 use Rattle.std.specs.Prelude.{◌≡◌, ℕ, suc, ◌<◌, ◌↔◌, IsTrue, List, [], ◌∷◌, Option, Some, None, Bool, true, false, Result, Ok, Err}
 use Rattle.event_callbacks.specs.declared.operations.Operation.{Operation}
 use Rattle.guest_board.specs.Machine.{Machine}
+use Rattle.guest_board.specs.Recorded.{Accepts}
 use Rattle.guest_board.specs.declared.input.Input.{Input}
 use Rattle.i8080_words.specs.declared.refusal.Fault.{Fault}
 use Rattle.i8080_words.specs.declared.refusal.Fault.TheVariants.{OutOfMemory}
 use Rattle.log_entry.specs.Entries.{count_of, input_of}
 use Rattle.log_entry.specs.declared.entry.Entry.{Entry}
-use Rattle.recorder.specs.Recorded.{Accepts}
 use Rattle.replayer.specs.declared.replayer.Replayed.{Replayed}
 
 -- one move: a step below the count of the first entry that is held, or that entry at its count

@@ -1,8 +1,8 @@
 //! The moves of a guest by the entries that are held.
-ghost use Rattle.std.specs.Prelude.{◌≡◌, ◌↔◌, [], IsTrue};
-ghost use Rattle.recorder.specs.Recorded.{Counts};
+ghost use Rattle.std.specs.Prelude.{◌≡◌};
+ghost use Rattle.guest_board.specs.Recorded.{Counts};
+ghost use Rattle.log_entry.specs.Standing.{IsOnTrace};
 ghost use Rattle.replayer.specs.Replaying.{Answers, AnswersOne};
-ghost use Rattle.replayer.specs.Standing.{IsOnTrace};
 
 use crate::replayer::Replayed;
 use guest_board::Lockstep;
@@ -37,18 +37,8 @@ pub(crate) fn run<B: Lockstep>(board: &mut B, receiver: &mut Receiver, turns: u6
     }
     Ok(Replayed {
         moves: turns,
-        at_end: is_at_end(receiver),
+        at_end: receiver.is_empty(),
     })
-}
-
-// Whether no entry is held.
-fn is_at_end(receiver: &Receiver) -> bool
-    ensures { IsTrue result ↔ (receiver.now.entries ≡ []) }
-{
-    match receiver.front() {
-        Some(_) => false,
-        None => true,
-    }
 }
 
 // One move, and whether it was made: none is where no entry is held.

@@ -1,9 +1,10 @@
 //! A guest that repeats the moves of another.
 ghost use Rattle.std.specs.Prelude.{◌≡◌, ◌≤◌};
+ghost use Rattle.guest_board.specs.Recorded.{Counts};
 ghost use Rattle.log_entry.specs.Entries.{last_count};
-ghost use Rattle.recorder.specs.Recorded.{Counts};
+ghost use Rattle.log_entry.specs.Standing.{IsOnTrace};
 ghost use Rattle.replayer.specs.Replaying.{Answers};
-ghost use Rattle.replayer.specs.Standing.{IsOnTrace, StaysOnEach};
+ghost use Rattle.replayer.specs.Standing.{StaysOnEach};
 
 use crate::replay::run;
 use guest_board::Lockstep;

@@ -1,12 +1,13 @@
 -- What stands at each way out of one move, by the lemmas of `OneMove`.
 use Rattle.std.proofs.Common.{sym, refl, ap, subst, ◌∙◌, arith}
 use Rattle.replayer.specs.Replaying.{Moves}
-use Rattle.replayer.proofs.OneMove.{no_front, still_on, steps, wants_memory, may_take, no_refusal, takes, passes}
+use Rattle.log_channel.proofs.HeldEntries.{no_first}
+use Rattle.replayer.proofs.OneMove.{still_on, steps, wants_memory, may_take, no_refusal, takes, passes}
 use Rattle.replayer.proofs.replay.one_move.Goals as goal
 
 pub returns-in_default-clause-answers : goal.returns-in_default-clause-answers
 returns-in_default-clause-answers g c = (
-  no_front c.args.receiver.now.entries
+  no_first c.args.receiver.now.entries
       (sym c.in_default.ensures.entry),
   refl,
   refl,

@@ -43,5 +43,5 @@ returns-in-Err-2-clause-answers g c =
 pub returns-clause-answers : goal.returns-clause-answers
 returns-clause-answers g c =
     all_turns g.B.Lockstep.machine (g.B.Lockstep.state c.args.board.now) (g.B.Lockstep.state c.loop-moves.board)
-    c.args.receiver.now.entries c.loop-moves.receiver.entries c.args.turns c.loop-moves.moves c.is_at_end.result
-    (omega arith) c.loop-moves.invariant.0 c.is_at_end.ensures
+    c.args.receiver.now.entries c.loop-moves.receiver.entries c.args.turns c.loop-moves.moves c.is_empty.result
+    (omega arith) c.loop-moves.invariant.0 c.is_empty.ensures

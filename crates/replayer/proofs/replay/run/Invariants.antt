@@ -1,6 +1,6 @@
 use Rattle.std.proofs.Common.{◌≡◌}
 use Rattle.replayer.specs.Replaying.{Replays}
-use Rattle.replayer.specs.Standing.{IsOnTrace}
+use Rattle.log_entry.specs.Standing.{IsOnTrace}
 use Rattle.replayer.proofs.replay.run.Given as goal
 
 abbrev pub invariant-loop-moves : goal.invariant-loop-moves

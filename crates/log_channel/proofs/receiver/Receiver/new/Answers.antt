@@ -7,8 +7,8 @@ invariant_of-result c = record {
   first_generation = search rules;
   generation = omega arith;
   held = omega arith;
-  block = (holds_nothing c.new.result.items c.new.ensures.items).0;
+  block = (holds_nothing c.new.result c.new.ensures).0;
 }
 
 pub returns : goal.returns
-returns c = let none = (holds_nothing c.new.result.items c.new.ensures.items).1 in rw none refl
+returns c = let none = (holds_nothing c.new.result c.new.ensures).1 in rw none refl

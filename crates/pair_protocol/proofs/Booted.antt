@@ -1,0 +1,100 @@
+-- A node whose machine boots elsewhere advances, replays and refuses as before: none of these asks where its machine
+-- boots. Each fact is carried to the machine that boots elsewhere, and by the same lemma back.
+use Rattle.std.proofs.Common.{◌≡◌, ℕ, Bool, List, refl}
+use Rattle.disk_dcdd.specs.declared.address.SectorAddress.{SectorAddress}
+use Rattle.event_callbacks.specs.declared.operations.OpId.{OpId}
+use Rattle.guest_board.proofs.Booted.{Recorded-booted}
+use Rattle.guest_board.specs.Machine.{Machine, Move, booted_from}
+use Rattle.log_entry.specs.Standing.{Stands, IsOnTrace}
+use Rattle.log_entry.specs.declared.entry.Entry.{Entry}
+use Rattle.pair_protocol.specs.Event.{Why}
+use Rattle.pair_protocol.specs.Node.{Node, Role, keys_covered}
+use Rattle.pair_protocol.specs.Refusals.{step_refusal, key_refusal, sent_refusal, done_refusal, under_refusal, release_refusal, place_refusal}
+use Rattle.pair_protocol.specs.Rows.{Advances, NoneLeft, Ends, Waits, Short, Gives, Goes, Replays, NoTurns, AtEnd, NoMemory, OneStep, OneMark, OneInput}
+
+-- ---- to the machine that boots elsewhere
+
+module _ {S : Type 0} (M : Machine S) (start : S) (sectors : SectorAddress → List ℕ) where
+  pub Stands-booted : (s : S) (held : List Entry) (owes : Bool) (moves : List Move) (last : S)
+      → Stands M s held owes moves last → Stands (booted_from M start sectors) s held owes moves last
+  Stands-booted s held owes moves last h =
+      record { runs = Recorded-booted M start sectors s last moves h.runs; later = h.later; next_ones = h.next_ones }
+
+  pub IsOnTrace-booted : (s : S) (held : List Entry) → IsOnTrace M s held
+      → IsOnTrace (booted_from M start sectors) s held
+  IsOnTrace-booted s held h = record {
+    owes = h.owes;
+    moves = h.moves;
+    last = h.last;
+    stands = Stands-booted s held h.owes h.moves h.last h.stands;
+  }
+
+  pub Advances-booted : {x y : Node S} {turns made : ℕ} {why : Why} → Advances M x turns y made why
+      → Advances (booted_from M start sectors) x turns y made why
+  Advances-booted NoneLeft = NoneLeft
+  Advances-booted (Ends spent) = Ends spent
+  Advances-booted (Waits unspent idle) = Waits unspent idle
+  Advances-booted Short = Short
+  Advances-booted (Gives s o made) = Gives s o made
+  Advances-booted (Goes s made rest) = Goes s made (Advances-booted rest)
+
+  pub Replays-booted : {x y : Node S} {turns made : ℕ} → Replays M x turns y made
+      → Replays (booted_from M start sectors) x turns y made
+  Replays-booted NoTurns = NoTurns
+  Replays-booted (AtEnd none) = AtEnd none
+  Replays-booted NoMemory = NoMemory
+  Replays-booted (OneStep e s gives next below made rest) = OneStep e s gives next below made (Replays-booted rest)
+  Replays-booted (OneMark e next at mark rest) = OneMark e next at mark (Replays-booted rest)
+  Replays-booted (OneInput e i s next at input taken rest) = OneInput e i s next at input taken (Replays-booted rest)
+
+  -- ---- refusals, which are the same
+
+  pub step_refusal-booted : (turns : ℕ) (x : Node S)
+      → step_refusal (booted_from M start sectors) turns x ≡ step_refusal M turns x
+  step_refusal-booted turns x = refl
+
+  pub key_refusal-booted : (port index : ℕ) (x : Node S)
+      → key_refusal (booted_from M start sectors) port index x ≡ key_refusal M port index x
+  key_refusal-booted port index x = refl
+
+  pub sent_refusal-booted : (port number : ℕ) (x : Node S)
+      → sent_refusal (booted_from M start sectors) port number x ≡ sent_refusal M port number x
+  sent_refusal-booted port number x = refl
+
+  pub done_refusal-booted : (number : ℕ) (x : Node S)
+      → done_refusal (booted_from M start sectors) number x ≡ done_refusal M number x
+  done_refusal-booted number x = refl
+
+  pub under_refusal-booted : (address : SectorAddress) (number : ℕ) (bytes : List ℕ) (x : Node S)
+      → under_refusal (booted_from M start sectors) address number bytes x ≡ under_refusal M address number bytes x
+  under_refusal-booted address number bytes x = refl
+
+  pub release_refusal-booted : (name : OpId) (x : Node S)
+      → release_refusal (booted_from M start sectors) name x ≡ release_refusal M name x
+  release_refusal-booted name x = refl
+
+  pub place_refusal-booted : (x : Node S) → place_refusal (booted_from M start sectors) x ≡ place_refusal M x
+  place_refusal-booted x = refl
+
+  pub keys_covered-booted : (x : Node S) (port : ℕ) (role : Role)
+      → keys_covered (booted_from M start sectors) x port role ≡ keys_covered M x port role
+  keys_covered-booted x port role = refl
+
+-- ---- and back
+
+module _ {S : Type 0} (M : Machine S) (start : S) (sectors : SectorAddress → List ℕ) where
+  pub Stands-back : (s : S) (held : List Entry) (owes : Bool) (moves : List Move) (last : S)
+      → Stands (booted_from M start sectors) s held owes moves last → Stands M s held owes moves last
+  Stands-back = Stands-booted (booted_from M start sectors) M.boot M.boot_sector
+
+  pub IsOnTrace-back : (s : S) (held : List Entry) → IsOnTrace (booted_from M start sectors) s held
+      → IsOnTrace M s held
+  IsOnTrace-back = IsOnTrace-booted (booted_from M start sectors) M.boot M.boot_sector
+
+  pub Advances-back : {x y : Node S} {turns made : ℕ} {why : Why}
+      → Advances (booted_from M start sectors) x turns y made why → Advances M x turns y made why
+  Advances-back = Advances-booted (booted_from M start sectors) M.boot M.boot_sector
+
+  pub Replays-back : {x y : Node S} {turns made : ℕ} → Replays (booted_from M start sectors) x turns y made
+      → Replays M x turns y made
+  Replays-back = Replays-booted (booted_from M start sectors) M.boot M.boot_sector

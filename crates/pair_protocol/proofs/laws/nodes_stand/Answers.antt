@@ -1,0 +1,6 @@
+-- The law is that of the invariant.
+use Rattle.pair_protocol.proofs.NodeStands.{nodes_stand}
+use Rattle.pair_protocol.proofs.laws.nodes_stand.Goals as goal
+
+pub returns : goal.returns
+returns g c = record { stand = nodes_stand }
