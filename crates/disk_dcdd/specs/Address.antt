@@ -18,6 +18,10 @@ same_address a b = a.drive == b.drive && a.track == b.track && a.sector == b.sec
 abbrev pub is_on_disk : SectorAddress → Bool
 is_on_disk a = nat_lt a.track TRACKS && nat_lt a.sector SECTORS
 
+-- one of so many drives has this sector
+abbrev pub has_sector : ℕ → SectorAddress → Bool
+has_sector drives a = is_on_disk a && nat_lt a.drive drives
+
 -- the place in a table by drive, track and number
 abbrev pub index_of : SectorAddress → Option ℕ
 index_of a = if is_on_disk a then Some (a.drive * DRIVE_SECTORS + a.track * SECTORS + a.sector) else None

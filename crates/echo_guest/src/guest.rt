@@ -1,8 +1,8 @@
 //! A guest of a few numbers.
 ghost use Rattle.std.specs.Prelude.{◌≡◌, false};
 
-use disk_dcdd::GREATEST_NUMBER;
-use event_callbacks::Operation;
+use disk_dcdd::{GREATEST_NUMBER, SectorAddress};
+use event_callbacks::{OpId, Operation};
 use guest_board::{Executed, Input, Lockstep};
 use i8080_words::{Fault, R};
 use std::marker::Model;
@@ -127,5 +127,21 @@ impl Lockstep for Echo {
             return Some(self.sent);
         }
         None
+    }
+
+    fn outstanding(&self, _id: OpId) -> Option<&Operation> {
+        None
+    }
+
+    fn selected(&self) -> Option<u8> {
+        None
+    }
+
+    fn sector_under(&self, _drive: u8, _sector: u8) -> SectorAddress {
+        SectorAddress {
+            drive: 0,
+            track: 0,
+            sector: 0,
+        }
     }
 }

@@ -1,14 +1,20 @@
 -- Each access of a step keeps what is outstanding in agreement with the devices, with the operation that the step gives
 -- among it; the operation given is a new one. So do all accesses of a step, one after another.
-use Rattle.std.proofs.Common.{◌≡◌, ℕ, ◌+◌, ◌<◌, ◌≤◌, Bool, true, false, cond, List, [], ◌∷◌, Some, None, is_none, refl, sym, subst, ◌∙◌, arith, lit<, zero, suc, nat_eq}
+use Rattle.std.proofs.Common.{◌≡◌, ℕ, ◌+◌, ◌<◌, ◌≤◌, Bool, true, false, cond, ◌==◌, ◌||◌, List, [], ◌∷◌, Some, None, is_none, refl, sym, ap, subst, ◌∙◌, arith, lit<, zero, suc, nat_eq}
 use Rattle.std.specs.Prelude.{nat_lt, slice_index, slice_set, IfSome}
+use Rattle.std.specs.List.{list_any}
 use Rattle.std.specs.Option.{option_map_or}
 use Rattle.std.proofs.lemmas.Bool.Decides.{nat_tests}
+use Rattle.std.proofs.lemmas.List.Folds.{list_any-append}
 use Rattle.i8080_words.specs.Effects.{Access, after_accesses}
 use Rattle.i8080_words.specs.Effects.Access.{Write, Input, Output}
 use Rattle.serial_2sio.specs.Port as serial
 use Rattle.disk_dcdd.specs.Drive as drives
+use Rattle.disk_dcdd.specs.Completion.{is_outstanding}
+use Rattle.disk_dcdd.specs.Sector.{place_of}
 use Rattle.disk_dcdd.specs.declared.controller.TheConstants.{GREATEST_NUMBER}
+use Rattle.disk_dcdd.specs.declared.sector.Place.{Place}
+use Rattle.disk_dcdd.specs.declared.sector.SectorWrite.{SectorWrite}
 use Rattle.event_callbacks.specs.declared.devices.TheConstants.{PORTS}
 use Rattle.event_callbacks.specs.Completions.{port_of}
 use Rattle.event_callbacks.specs.Operations.{Operations, operation_at, id_of}
@@ -21,17 +27,32 @@ use Rattle.guest_board.specs.Board.{AreAwaited}
 use Rattle.guest_board.proofs.Awaited.{IsAlike, awaited-port, awaited-disk, awaited-sent, awaited-issued, byte_is_new, write_is_new}
 use Rattle.guest_board.proofs.Commands.{selects, shows, reads, commands, keeps, issues_next}
 
+-- no write that was issued, and is not outstanding, is outstanding later
+abbrev pub StayDone : drives.Drives → drives.Drives → Type 0
+StayDone old new =
+    (number : ℕ) → number ≤ old.issued → is_outstanding old number ≡ false → is_outstanding new number ≡ false
+
+-- no byte and no write was numbered
+pub record IsNumberedAs (start w : Wired) : Type 0 where
+  pub bytes : w.issued ≡ start.issued
+  pub writes : w.devices.disk.issued ≡ start.devices.disk.issued
+
 -- while a step is made: what is outstanding is awaited, the operation given is new, and the numbers stay in range; the
--- drives and the switches are those of the start, and no number of writes falls
+-- drives and the switches are those of the start, no number of writes falls, and no write that was done is outstanding again
 pub record IsWired (operations : Operations) (start w : Wired) : Type 0 where
   pub awaited : AreAwaited w.devices (with_given operations w.given) w.issued
   pub fresh : IfSome w.given (λ op. operation_at operations (id_of op) ≡ None)
   pub range : (port : ℕ) → slice_index w.issued port ≤ GREATEST_NUMBER
   pub attached : w.devices.disk.attached ≡ start.devices.disk.attached
   pub writes : start.devices.disk.issued ≤ w.devices.disk.issued
+  pub done : StayDone start.devices.disk w.devices.disk
   pub sense : w.sense ≡ start.sense
+  pub unless_given : w.given ≡ None → IsNumberedAs start w
 
 -- ---- an access that gives nothing
+
+same_writes : (a b : drives.Drives) (n : ℕ) → IsAlike a b → is_outstanding a n ≡ is_outstanding b n
+same_writes a b n alike = ap (list_any (λ (place : Place). place.number == n)) alike.outstanding
 
 wired-port : (operations : Operations) (start w : Wired) (p : ℕ) (x : serial.Port) → IsWired operations start w
     → x.unaccepted ≡ (port_of w.devices p).unaccepted
@@ -42,7 +63,9 @@ wired-port operations start w p x h e = record {
   range = h.range;
   attached = h.attached;
   writes = h.writes;
+  done = h.done;
   sense = h.sense;
+  unless_given = λ none. record { bytes = (h.unless_given none).bytes; writes = (h.unless_given none).writes };
 }
 
 wired-disk : (operations : Operations) (start w : Wired) (c : drives.Drives) → IsWired operations start w
@@ -53,7 +76,10 @@ wired-disk operations start w c h alike = record {
   range = h.range;
   attached = alike.attached ∙ h.attached;
   writes = subst (λ n. start.devices.disk.issued ≤ n) (sym alike.issued) h.writes;
+  done = λ n low before. same_writes c w.devices.disk n alike ∙ h.done n low before;
   sense = h.sense;
+  unless_given = λ none.
+      record { bytes = (h.unless_given none).bytes; writes = alike.issued ∙ (h.unless_given none).writes };
 }
 
 in_kept : (operations : Operations) (start w : Wired) (device : Device) → IsWired operations start w
@@ -102,7 +128,9 @@ sent_ready operations start w p byte lt l none room ready h =
       range = in_range-set w.issued p (slice_index w.issued p + 1) h.range (below (slice_index w.issued p) GREATEST_NUMBER room);
       attached = h.attached;
       writes = h.writes;
+      done = h.done;
       sense = h.sense;
+      unless_given = λ none. cc;
     }
 
 sent_kept : (operations : Operations) (start w : Wired) (p byte : ℕ) → nat_lt p PORTS ≡ true → p < PORTS
@@ -120,6 +148,21 @@ sent_kept operations start w p byte lt l none h =
     ] refl
 
 -- ---- a byte for the drive
+
+-- of other numbers than that of the write that is issued the same are outstanding
+others_outstanding : (disk : drives.Drives) (w : SectorWrite) (n : ℕ) → n < w.number
+    → is_outstanding (drives.after_issue disk w) n ≡ is_outstanding disk n
+others_outstanding disk w n past =
+    list_any-append (λ (place : Place). place.number == n) disk.outstanding (place_of w ∷ [])
+    ∙ ap (λ b. is_outstanding disk n || (b || false)) (later_differs w.number n past)
+    ∙ or_false (is_outstanding disk n)
+  where
+    later_differs : (a b : ℕ) → b < a → (a == b) ≡ false
+    later_differs a b past = grind (arith, nat_tests)
+
+    or_false : (b : Bool) → (b || (false || false)) ≡ b
+    or_false true = refl
+    or_false false = refl
 
 issued_kept : (operations : Operations) (start w : Wired) (byte : ℕ) → w.given ≡ None → IsWired operations start w
     → IsWired operations start (record w {
@@ -142,7 +185,10 @@ issued_kept operations start w byte none h =
             range = h.range;
             attached = alike.attached ∙ h.attached;
             writes = subst (λ n. start.devices.disk.issued ≤ n) (sym alike.issued) h.writes;
+            done = λ n low before. same_writes (drives.after_keep disk byte) disk n alike ∙ h.done n low before;
             sense = h.sense;
+            unless_given = λ same.
+                record { bytes = (h.unless_given none).bytes; writes = alike.issued ∙ (h.unless_given none).writes };
           }
       | Some write ↦ λ e.
           let number : write.number ≡ disk.issued + 1 = issues_next disk byte write e in
@@ -153,7 +199,9 @@ issued_kept operations start w byte none h =
             range = h.range;
             attached = h.attached;
             writes = omega (arith, number, grows);
+            done = λ n low before. others_outstanding disk write n (omega (arith, number, grows, low)) ∙ h.done n low before;
             sense = h.sense;
+            unless_given = λ same. cc;
           }
     ] refl
 
@@ -210,7 +258,9 @@ access_kept operations start w (Write address byte) h = record {
   range = h.range;
   attached = h.attached;
   writes = h.writes;
+  done = h.done;
   sense = h.sense;
+  unless_given = λ none. record { bytes = (h.unless_given none).bytes; writes = (h.unless_given none).writes };
 }
 access_kept operations start w (Input number) h = in_kept operations start w (device_at number) h
 access_kept operations start w (Output number byte) h =

@@ -301,7 +301,7 @@ places-done operations later n (x ∷ xs) all same =
     (held-kept operations later x (same x.number f) (All-head (IsHeld operations) x xs all)) rest))
     (eqb_tells x.number n)
 
-any_gone : (xs : List Place) (n : ℕ)
+pub any_gone : (xs : List Place) (n : ℕ)
     → list_any (λ (place : Place). place.number == n) (filter (λ (place : Place). not (place.number == n)) xs) ≡ false
 any_gone xs n =
     any-filter_same (λ (place : Place). place.number == n) (λ (place : Place). not (place.number == n)) false

@@ -39,5 +39,6 @@ board-boot g versions attached at none issued keys count completed pages levels 
   completed = record {
     sectors = rw (completed, at) (length-zeros (attached * DRIVE_SECTORS));
     last = λ index. rw (completed, only_zeros (attached * DRIVE_SECTORS) index) (omega arith);
+    done = λ index. rw at refl;
   };
 }

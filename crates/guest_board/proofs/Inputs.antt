@@ -1,8 +1,10 @@
 -- An input that is taken leaves a board that stands as every board does.
-use Rattle.std.proofs.Common.{◌≡◌, ℕ, zero, suc, ◌+◌, ◌-◌, ◌<◌, ◌≤◌, Bool, true, false, cond, ◌==◌, ◌&&◌, List, [], ◌∷◌, ⊎_elim, Option, Some, None, Ok, ok_or, refl, sym, ap, ◌∙◌, arith}
+use Rattle.std.proofs.Common.{◌≡◌, ℕ, zero, suc, ◌+◌, ◌-◌, ◌<◌, ◌≤◌, Bool, true, false, cond, not, ◌==◌, ◌&&◌, List, [], ◌∷◌, filter, ⊎_elim, Option, Some, None, Ok, ok_or, refl, sym, ap, ◌∙◌, arith}
 use Rattle.std.specs.Prelude.{nat_lt, slice_index, slice_set, is_some}
+use Rattle.std.specs.List.{list_any}
 use Rattle.std.specs.Option.{option_map_or}
 use Rattle.std.proofs.lemmas.Bool.Decides.{eqb_tells, nat_tests}
+use Rattle.std.proofs.lemmas.Grind.{common_steps}
 use Rattle.std.proofs.lemmas.List.{length-set}
 use Rattle.serial_2sio.specs.Port as serial
 use Rattle.i8080_words.specs.declared.refusal.Fault.TheVariants.{NotDue}
@@ -10,6 +12,7 @@ use Rattle.disk_dcdd.specs.Drive as drives
 use Rattle.disk_dcdd.specs.Completion as completion
 use Rattle.disk_dcdd.specs.Address.{address_of, index_of}
 use Rattle.disk_dcdd.specs.declared.controller.TheConstants.{GREATEST_NUMBER}
+use Rattle.disk_dcdd.specs.declared.sector.Place.{Place}
 use Rattle.disk_dcdd.specs.declared.sector.SectorWrite.{SectorWrite}
 use Rattle.event_callbacks.specs.declared.devices.TheConstants.{PORTS}
 use Rattle.event_callbacks.specs.declared.devices.Devices.{Devices}
@@ -22,7 +25,7 @@ use Rattle.event_callbacks.specs.Operations.{Operations, Outstanding, after_comp
 use Rattle.guest_board.specs.Guest.{Guest, after_rx, due_byte, oldest_byte, with_completed}
 use Rattle.guest_board.specs.Board.{AreAwaited, AreInRange, AreCompleted, IsBoard, is_on_its_way}
 use Rattle.guest_board.proofs.OnTheirWay.{oldest}
-use Rattle.guest_board.proofs.Awaited.{awaited-port, awaited-disk, awaited-accepted, awaited-written, none_past}
+use Rattle.guest_board.proofs.Awaited.{awaited-port, awaited-disk, awaited-accepted, awaited-written, none_past, any_gone}
 use Rattle.guest_board.proofs.Accesses.{in_range-set}
 
 in_range_with : (g : Guest) (versions : List ℕ) (d : Devices) (operations : Operations) (completed : List ℕ) → AreInRange g versions
@@ -122,7 +125,7 @@ board_sector g versions sector bytes d after board =
       awaited = awaited-disk g.devices g.operations g.issued (completion.after_sector g.devices.disk sector bytes) board.awaited
           (record { outstanding = refl; issued = refl; attached = refl });
       in_range = in_range_with g versions (done_of g.devices (done.Sector sector bytes)) g.operations g.completed board.in_range;
-      completed = board.completed;
+      completed = record { sectors = board.completed.sectors; last = board.completed.last; done = board.completed.done };
     })
 
 -- of the selected drive it is one question whether a write of a sector is outstanding
@@ -154,31 +157,51 @@ gone_there pending later n op there after =
     ap (λ (o : Outstanding). o.operations) after
     ∙ ap (λ o. (cond (is_some o) (record { operations = without_operation pending.operations (id.Write n); spare = pending.spare + 1 }) pending).operations) there
 
-completed-low : (xs : List ℕ) (index n bound : ℕ) → ((k : ℕ) → slice_index xs k ≤ bound) → n ≤ bound
-    → (k : ℕ) → slice_index (slice_set xs index n) k ≤ bound
-completed-low [] index n bound all few k = all k
-completed-low (x ∷ xs) zero n bound all few zero = few
-completed-low (x ∷ xs) zero n bound all few (suc k) = all (suc k)
-completed-low (x ∷ xs) (suc index) n bound all few zero = all zero
-completed-low (x ∷ xs) (suc index) n bound all few (suc k) = completed-low xs index n bound (λ q. all (suc q)) few k
+-- what holds of each number and of a new one holds after the new one is put at a place
+each_after-set : (Q : ℕ → Type 0) (xs : List ℕ) (index n : ℕ) → ((k : ℕ) → Q (slice_index xs k)) → Q n
+    → (k : ℕ) → Q (slice_index (slice_set xs index n) k)
+each_after-set Q [] index n all new k = all k
+each_after-set Q (x ∷ xs) zero n all new zero = new
+each_after-set Q (x ∷ xs) zero n all new (suc k) = all (suc k)
+each_after-set Q (x ∷ xs) (suc index) n all new zero = all zero
+each_after-set Q (x ∷ xs) (suc index) n all new (suc k) = each_after-set Q xs index n (λ q. all (suc q)) new k
 
-completed-write : (completed : List ℕ) (attached issued : ℕ) (write : SectorWrite) → write.number ≤ issued
-    → AreCompleted completed attached issued → AreCompleted (with_completed completed (Some (operation.Write write))) attached issued
-completed-write completed attached issued write few h =
-    elim (index_of (address_of write)) as (λ o. AreCompleted (option_map_or (λ index. slice_set completed index write.number) o completed) attached issued) [
+-- a write that is done may be the last completed one of its sector
+completed-write : (completed : List ℕ) (disk : drives.Drives) (write : SectorWrite) → write.number ≤ disk.issued
+    → completion.is_outstanding disk write.number ≡ false → AreCompleted completed disk
+    → AreCompleted (with_completed completed (Some (operation.Write write))) disk
+completed-write completed disk write few gone h =
+    elim (index_of (address_of write)) as (λ o. AreCompleted (option_map_or (λ index. slice_set completed index write.number) o completed) disk) [
       | None ↦ h
       | Some index ↦ record {
         sectors = length-set completed index write.number ∙ h.sectors;
-        last = completed-low completed index write.number issued h.last few;
+        last = each_after-set (λ n. n ≤ disk.issued) completed index write.number h.last few;
+        done = each_after-set (λ n. completion.is_outstanding disk n ≡ false) completed index write.number h.done gone;
       }
     ]
 
-completed-with : (completed : List ℕ) (attached issued number : ℕ) (op : Operation) → id_of op ≡ id.Write number → number ≤ issued
-    → AreCompleted completed attached issued → AreCompleted (with_completed completed (Some op)) attached issued
-completed-with completed attached issued number (operation.Byte port n byte) e few h = h
-completed-with completed attached issued number (operation.Write write) e few h =
+completed-with : (completed : List ℕ) (disk : drives.Drives) (number : ℕ) (op : Operation) → id_of op ≡ id.Write number
+    → number ≤ disk.issued → completion.is_outstanding disk number ≡ false → AreCompleted completed disk
+    → AreCompleted (with_completed completed (Some op)) disk
+completed-with completed disk number (operation.Byte port n byte) e few gone h = h
+completed-with completed disk number (operation.Write write) e few gone h =
     let same : write.number ≡ number = cc in
-    completed-write completed attached issued write (omega (arith, same, few)) h
+    completed-write completed disk write (omega (arith, same, few))
+    (ap (completion.is_outstanding disk) same ∙ gone) h
+
+-- once a write is done it is outstanding no more, and no other is that was not
+completed-done : (completed : List ℕ) (disk : drives.Drives) (number : ℕ) → AreCompleted completed disk
+    → AreCompleted completed (completion.after_written disk number)
+completed-done completed disk number h = record {
+  sectors = h.sectors;
+  last = h.last;
+  done = λ index. none_after-filter (λ (place : Place). place.number == slice_index completed index)
+      (λ (place : Place). not (place.number == number)) disk.outstanding (h.done index);
+}
+  where
+    none_after-filter : {X : Type 0} (p q : X → Bool) (xs : List X) → list_any p xs ≡ false → list_any p (filter q xs) ≡ false
+    none_after-filter p q [] none = refl
+    none_after-filter p q (x ∷ xs) none = grind (arith, common_steps, none_after-filter p q xs)
 
 outstanding_is_low : (d : Devices) (operations : Operations) (issued : List ℕ) (n : ℕ) → AreAwaited d operations issued
     → completion.is_outstanding d.disk n ≡ true → n ≤ d.disk.issued
@@ -208,7 +231,7 @@ board_written g versions n op d operations completed there named after gone last
     rw (after, gone, last) (record {
       awaited = awaited-written g.devices g.operations g.issued n board.awaited;
       in_range = in_range_with g versions (done_of g.devices (done.Written n)) (without_operation g.operations (id.Write n)) (with_completed g.completed (Some op)) board.in_range;
-      completed = completed-with g.completed g.devices.disk.attached g.devices.disk.issued n op named
+      completed = completed-with g.completed (completion.after_written g.devices.disk n) n op named
           (outstanding_is_low g.devices g.operations g.issued n board.awaited (write_is_due g versions n op board there))
-          board.completed;
+          (any_gone g.devices.disk.outstanding n) (completed-done g.completed g.devices.disk n board.completed);
     })

@@ -2,10 +2,17 @@ pub mod OnTheirWay
 pub mod Names
 pub mod Awaited
 pub mod Boot
+pub mod Waiting
+pub mod Places
+pub mod Standing
+pub mod Shown
 pub mod Commands
 pub mod Accesses
 pub mod Steps
+pub mod Stepping
+pub mod Ready
 pub mod Inputs
 pub mod InLockstep
 pub mod Moves
 pub mod Booted
+pub mod Numbered

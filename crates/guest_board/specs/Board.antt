@@ -1,9 +1,10 @@
 -- What the fields of a `Board` mean, its callbacks apart, and how every board stands.
-use Rattle.std.specs.Prelude.{◌≡◌, ℕ, ◌+◌, ◌*◌, ◌^◌, ◌<◌, ◌≤◌, nat_lt, nat_le, Bool, ◌&&◌, Some, is_some, IfSome, List, All, length, slice_index, refl}
+use Rattle.std.specs.Prelude.{◌≡◌, Option, None, ℕ, ◌+◌, ◌*◌, ◌^◌, ◌<◌, ◌≤◌, nat_lt, nat_le, Bool, false, ◌&&◌, Some, is_some, IfSome, List, All, length, slice_index, refl}
 use Rattle.std.specs.Coded.{Coded, code_by, coded×, coded_ℕ, coded_list}
 use Rattle.std.specs.FinMap as map
 use Rattle.i8080_words.specs.declared.registers.Processor.{Processor}
 use Rattle.disk_dcdd.specs.Completion.{is_outstanding}
+use Rattle.disk_dcdd.specs.Drive.{Drives}
 use Rattle.disk_dcdd.specs.Sector.{place_of}
 use Rattle.disk_dcdd.specs.declared.address.TheConstants.{DRIVE_SECTORS}
 use Rattle.disk_dcdd.specs.declared.controller.TheConstants.{GREATEST_NUMBER}
@@ -17,7 +18,7 @@ use Rattle.event_callbacks.specs.declared.operations.OpId.{OpId}
 use Rattle.event_callbacks.specs.declared.operations.OpId.TheVariants as id
 use Rattle.event_callbacks.specs.declared.operations.Operation.{Operation}
 use Rattle.event_callbacks.specs.declared.operations.Operation.TheVariants as operation
-use Rattle.guest_board.specs.Guest.{Guest}
+use Rattle.guest_board.specs.Guest.{Guest, is_spent_at}
 
 -- a guest on a board, and how often each page of its memory was written
 pub record OnBoard : Type 0 where
@@ -98,13 +99,26 @@ pub record AreInRange (g : Guest) (versions : List ℕ) : Type 0 where
   pub sense : g.sense < 2 ^ 8
   pub writes : (page : ℕ) → slice_index versions page ≤ 2 * g.count
 
--- there is a number for each sector of the attached drives, and none past the last write that was issued
-pub record AreCompleted (completed : List ℕ) (attached issued : ℕ) : Type 0 where
-  pub sectors : length completed ≡ attached * DRIVE_SECTORS
-  pub last : (index : ℕ) → slice_index completed index ≤ issued
+-- there is a number for each sector of the attached drives, none past the last write that was issued, and none of a
+-- write that is outstanding
+pub record AreCompleted (completed : List ℕ) (disk : Drives) : Type 0 where
+  pub sectors : length completed ≡ disk.attached * DRIVE_SECTORS
+  pub last : (index : ℕ) → slice_index completed index ≤ disk.issued
+  pub done : (index : ℕ) → is_outstanding disk (slice_index completed index) ≡ false
 
 -- how every board stands between two steps
 pub record IsBoard (g : Guest) (versions : List ℕ) : Type 0 where
   pub awaited : AreAwaited g.devices g.operations g.issued
   pub in_range : AreInRange g versions
-  pub completed : AreCompleted g.completed g.devices.disk.attached g.devices.disk.issued
+  pub completed : AreCompleted g.completed g.devices.disk
+
+-- below this count no number of these is at its greatest, and an operation has room
+pub record IsReadyUntil (limit : ℕ) (issued : List ℕ) (writes spare : ℕ) : Type 0 where
+  pub numbers : (count : ℕ) → count < limit → is_spent_at count issued writes ≡ false
+  pub room : 0 < limit → 1 ≤ spare
+
+-- how the fields of every board stand between two steps: no operation is given, and the limit holds
+pub record Stands (g : Guest) (versions : List ℕ) (given : Option Operation) (limit spare : ℕ) : Type 0 where
+  pub board : IsBoard g versions
+  pub forgotten : given ≡ None
+  pub ready : IsReadyUntil limit g.issued g.devices.disk.issued spare

@@ -1,4 +1,5 @@
 pub mod Machine
+pub mod Parts
 pub mod Ports
 pub mod Guest
 pub mod Lockstep

@@ -1,5 +1,5 @@
 -- What a call does to a machine that is run in lockstep.
-use Rattle.std.specs.Prelude.{◌≡◌, ◌<◌, Option, Some, None, Result, Ok, Err, is_none, if◌then◌else◌}
+use Rattle.std.specs.Prelude.{◌≡◌, ◌<◌, ◌≤◌, Option, Some, None, Result, Ok, Err, is_none, if◌then◌else◌}
 use Rattle.i8080_words.specs.declared.refusal.Fault.{Fault}
 use Rattle.i8080_words.specs.declared.refusal.Fault.TheVariants.{OutOfMemory, Spent, Idle}
 use Rattle.disk_dcdd.specs.declared.controller.TheConstants.{DRIVES, GREATEST_NUMBER}
@@ -41,6 +41,13 @@ IsInput (Rx port byte) = port < PORTS
 IsInput (Sent port) = port < PORTS
 IsInput (Sector drive sector number bytes) = (drive < DRIVES) × (sector < SECTORS)
 IsInput (Written number) = Unit {0}
+
+-- the number of a write that an input names is one that a write can have; 0 stands for a sector that was never written
+abbrev pub IsNumbered : Input → Type 0
+IsNumbered (Rx port byte) = Unit {0}
+IsNumbered (Sent port) = Unit {0}
+IsNumbered (Sector drive sector number bytes) = number ≤ GREATEST_NUMBER
+IsNumbered (Written number) = (0 < number) × (number ≤ GREATEST_NUMBER)
 
 -- the number of keys has room for one more
 abbrev pub HasRoom : {S : Type 0} → Machine S → S → Input → Type 0

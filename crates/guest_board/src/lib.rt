@@ -6,6 +6,7 @@ mod executed;
 mod input;
 mod laws;
 mod lockstep;
+mod parts;
 mod ports;
 mod setup;
 #[cfg(test)]
@@ -17,4 +18,5 @@ pub use executed::Executed;
 pub use input::Input;
 pub use laws::{boards_count, boards_issue_and_complete, the_machine_refuses_alike};
 pub use lockstep::Lockstep;
+pub use parts::BoardParts;
 pub use setup::Setup;

@@ -1,12 +1,16 @@
 //! What the layers of a pair ask of a guest, so that they are proved for any.
-ghost use Rattle.std.specs.Prelude.{◌≡◌, ◌<◌, ℕ};
+ghost use Rattle.std.specs.Prelude.{◌≡◌, ◌<◌, ◌≤◌, ℕ, IfSome, OnOk, option_copied};
 ghost use Rattle.guest_board.specs.Machine.{Machine, refusal_of};
-ghost use Rattle.guest_board.specs.Lockstep.{Executes, Takes, IsInput, HasRoom};
+ghost use Rattle.guest_board.specs.Lockstep.{Executes, Takes, IsInput, IsNumbered, HasRoom};
 ghost use Rattle.disk_dcdd.specs.Completion.{answered};
+ghost use Rattle.disk_dcdd.specs.declared.controller.TheConstants.{DRIVES, GREATEST_NUMBER};
+ghost use Rattle.event_callbacks.specs.Operations.{id_of};
 ghost use Rattle.event_callbacks.specs.declared.devices.TheConstants.{PORTS};
 
 use crate::executed::Executed;
 use crate::input::Input;
+use disk_dcdd::SectorAddress;
+use event_callbacks::{OpId, Operation};
 use i8080_words::R;
 
 /// A guest that can be run in lockstep with another: its state is a pure function of its inputs and their counts.
@@ -24,10 +28,12 @@ pub trait Lockstep: Sized {
     fn exec(&mut self) -> R<Executed>
         ensures { Executes machine (state self.old) result (state self.new) };
 
-    /// Whether an input would be taken now: the answer that `take` would give.
+    /// Whether an input would be taken now: the answer that `take` would give. No number of a write that would be taken
+    /// is past the greatest.
     fn check(&self, input: &Input) -> R<()>
         requires { IsInput input.now }
-        ensures { result ≡ answered (refusal_of machine (state self.now) input.now) };
+        ensures answer { result ≡ answered (refusal_of machine (state self.now) input.now) }
+        ensures numbers { OnOk result (IsNumbered input.now) };
 
     /// Takes an input. `NotDue`, `SectorBusy` and `StaleRead` change nothing.
     fn take(&mut self, input: Input) -> R<()>
@@ -37,7 +43,8 @@ pub trait Lockstep: Sized {
 
     /// How many steps were made.
     fn count(&self) -> u64
-        ensures { result ≡ machine.count (state self.now) };
+        ensures value { result ≡ machine.count (state self.now) }
+        ensures within { result ≤ GREATEST_NUMBER };
 
     /// How many keys of a port were taken.
     fn keys(&self, port: u8) -> u64
@@ -48,4 +55,19 @@ pub trait Lockstep: Sized {
     fn due_byte(&self, port: u8) -> Option<u64>
         requires { port < PORTS }
         ensures { result ≡ machine.due_byte (state self.now) port };
+
+    /// The outstanding operation of this name.
+    fn outstanding(&self, id: OpId) -> Option<&Operation>
+        ensures value { option_copied result ≡ machine.find (state self.now) id }
+        ensures name { IfSome (option_copied result) (λ op. id_of op ≡ id) };
+
+    /// The selected drive.
+    fn selected(&self) -> Option<u8>
+        ensures value { result ≡ machine.selected (state self.now) }
+        ensures within { IfSome result (λ drive. drive < DRIVES) };
+
+    /// The sector of this number at the track where the head of a drive stands.
+    fn sector_under(&self, drive: u8, sector: u8) -> SectorAddress
+        requires { drive < DRIVES }
+        ensures { result ≡ machine.address (state self.now) drive sector };
 }

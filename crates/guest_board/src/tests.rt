@@ -1,9 +1,12 @@
 //! Guests that run: an interrupt that a key brings, a byte on its way and a copy of its board, writes and late reads.
-ghost use Rattle.std.specs.Prelude.{◌≡◌, ◌<◌, ◌≤◌, IsTrue};
+ghost use Rattle.std.specs.Prelude.{◌≡◌, ◌^◌, ◌<◌, ◌≤◌, IsTrue, IfOk, vec_len};
 ghost use Rattle.disk_dcdd.specs.declared.controller.TheConstants.{DRIVES};
 ghost use Rattle.event_callbacks.specs.declared.devices.TheConstants.{SENT, SECTOR, WRITTEN};
 ghost use Rattle.event_callbacks.specs.Completions.{is_due, done_of};
 ghost use Rattle.event_callbacks.specs.Keeping.{Keeps, kind_of};
+ghost use Rattle.guest_memory.specs.declared.memory.TheConstants.{BYTES};
+
+mod rebuilt;
 
 use crate::{Board, Executed, Input, Setup};
 use disk_dcdd::{SECTOR_BYTES, SectorAddress};
@@ -16,13 +19,21 @@ use i8080_words::{Fault, R};
 use std::alloc::Global;
 use std::process::Abort;
 
-// A guest with one drive, this program at address 0, and level 7 for each device.
-fn setup(alloc: Global, program: &[u8]) -> R<Setup> {
+// Memory that begins with this program.
+fn memory(alloc: Global, program: &[u8]) -> R<Vec<u8>>
+    ensures { IfOk result (λ memory. vec_len memory ≡ BYTES) }
+{
     let mut memory = Vec::from_slice(alloc, program)?;
     memory.resize(BYTES, 0x00)?;
     if memory.len() != BYTES {
         return Err(Fault::Malformed);
     }
+    Ok(memory)
+}
+
+// A guest with one drive, this program at address 0, and level 7 for each device.
+fn setup(alloc: Global, program: &[u8]) -> R<Setup> {
+    let memory = memory(alloc, program)?;
     Ok(Setup {
         memory,
         drives: 1,
@@ -45,6 +56,19 @@ fn store<T: Completes, S: Completes, W: Completes>(
     let sector = Kept::<S, SECTOR>::new(sector);
     let written = Kept::<W, WRITTEN>::new(written);
     Callbacks::new(sent, sector, written)
+}
+
+// Boots a guest with this program.
+fn boot<T: Completes + Drop, S: Completes + Drop, W: Completes + Drop>(
+    alloc: Global,
+    program: &[u8],
+    callbacks: Callbacks<T, S, W>,
+) -> R<Board<T, S, W>> {
+    let setup = setup(alloc, program)?;
+    match Board::boot(alloc, &setup, callbacks) {
+        Ok(board) => Ok(board),
+        Err((_, fault)) => Err(fault),
+    }
 }
 
 // Makes this many steps, none of which gives an operation.
@@ -71,30 +95,73 @@ fn wake<T: Completes + Drop, S: Completes + Drop, W: Completes + Drop>(
     requires sector { Keeps (S.may sector) (S.gives sector) SECTOR }
     requires written { Keeps (W.may written) (W.gives written) WRITTEN }
 {
-    let setup = setup(rt.alloc(), &WAITS_FOR_A_KEY)?;
-    let mut board = match Board::boot(rt.alloc(), &setup, store(sent, sector, written)) {
-        Ok(board) => board,
-        Err((_, fault)) => return Err(fault),
-    };
+    let mut board = boot(rt.alloc(), &WAITS_FOR_A_KEY, store(sent, sector, written))?;
     step(rt, &mut board, 5);
+    wait_for_a_key(rt, &mut board, 5, 0x09);
+    Ok(())
+}
+
+// Idles at this count, then takes a key, and is interrupted at this address.
+fn wait_for_a_key<T: Completes, S: Completes, W: Completes>(
+    rt: &impl Abort,
+    board: &mut Board<T, S, W>,
+    count: u64,
+    address: u8,
+)
+    requires { count < 2 ^ 8 }
+{
+    idle_twice(rt, board, count);
+    press_a_key(rt, board);
+    accept(rt, board, count + 1);
+    pushed(rt, board, address);
+}
+
+// Does nothing twice, at this count.
+fn idle_twice<T: Completes, S: Completes, W: Completes>(
+    rt: &impl Abort,
+    board: &mut Board<T, S, W>,
+    count: u64,
+) {
     for _ in 0..2 {
         assert!(rt; board.idle());
         assert_eq!(rt; board.exec(), Err(Fault::Idle));
-        assert_eq!(rt; board.count(), 5);
+        assert_eq!(rt; board.count(), count);
     }
+}
+
+// Takes the first key of port 0.
+fn press_a_key<T: Completes, S: Completes, W: Completes>(
+    rt: &impl Abort,
+    board: &mut Board<T, S, W>,
+) {
     assert_eq!(rt; board.keys(0), 0);
     assert_eq!(rt; board.check(&Input::Rx(0, 0x41)), Ok(()));
     if board.keys(0) < 1 {
         assert_eq!(rt; board.take(Input::Rx(0, 0x41)), Ok(()));
     }
     assert_eq!(rt; board.keys(0), 1);
+}
+
+// Accepts an interrupt, and has made this many steps then.
+fn accept<T: Completes, S: Completes, W: Completes>(
+    rt: &impl Abort,
+    board: &mut Board<T, S, W>,
+    count: u64,
+) {
     assert_eq!(rt; board.exec(), Ok(Executed::Accepted));
-    assert_eq!(rt; board.count(), 6);
-    assert_eq!(rt; board.byte(0x00fe), 0x09);
+    assert_eq!(rt; board.count(), count);
+}
+
+// The address that was pushed below 0100 ends in this byte and begins with 00.
+fn pushed<T: Completes, S: Completes, W: Completes>(
+    rt: &impl Abort,
+    board: &Board<T, S, W>,
+    low: u8,
+) {
+    assert_eq!(rt; board.byte(0x00fe), low);
     assert_eq!(rt; board.byte(0x00ff), 0x00);
     assert_eq!(rt; board.version(0x00), 2);
-    assert_eq!(rt; board.page(0x00).get(0xfe).copied(), Some(0x09));
-    Ok(())
+    assert_eq!(rt; board.page(0x00).get(0xfe).copied(), Some(low));
 }
 
 #[test]
@@ -118,33 +185,73 @@ const FIRST: Operation = Operation::Byte {
     byte: 0x48,
 };
 
+// Makes five steps and sends a byte.
+fn send<T: Completes, S: Completes, W: Completes>(
+    rt: &impl Abort,
+    board: &mut Board<T, S, W>,
+) -> R<()> {
+    step(rt, board, 5);
+    let executed = board.exec()?;
+    assert_eq!(rt; executed.given(), Some(FIRST));
+    assert_eq!(rt; board.count(), 6);
+    Ok(())
+}
+
+// The first byte is on its way, or is not.
+fn first_byte<T: Completes, S: Completes, W: Completes>(
+    rt: &impl Abort,
+    board: &Board<T, S, W>,
+    due: Option<u64>,
+    byte: Option<Operation>,
+) {
+    assert_eq!(rt; board.due_byte(0), due);
+    assert_eq!(rt; board.outstanding(OpId::Byte(0, 1)).copied(), byte);
+}
+
+// The terminal accepts the byte, once.
+fn accept_a_byte<T: Completes, S: Completes, W: Completes>(
+    rt: &impl Abort,
+    board: &mut Board<T, S, W>,
+) {
+    first_byte(rt, board, Some(1), Some(FIRST));
+    assert_eq!(rt; board.take(Input::Sent(0)), Ok(()));
+    assert_eq!(rt; board.take(Input::Sent(0)), Err(Fault::NotDue));
+    first_byte(rt, board, None, None);
+}
+
+// The same guest again, with these closures.
+fn copied<T: Completes, S: Completes + Drop, W: Completes + Drop, T2: Completes + Drop>(
+    alloc: Global,
+    board: &Board<T, S, W>,
+    callbacks: Callbacks<T2, S, W>,
+) -> R<Board<T2, S, W>> {
+    match board.copy(alloc, callbacks) {
+        Ok(copied) => Ok(copied),
+        Err((_, fault)) => Err(fault),
+    }
+}
+
+// Copies a board whose byte is on its way, and has the byte accepted on the copy alone.
+fn accept_on_a_copy<T: Completes, S: Completes + Drop, W: Completes + Drop, T2: Completes + Drop>(
+    rt: &(impl Abort + AllocGlobal),
+    board: &Board<T, S, W>,
+    callbacks: Callbacks<T2, S, W>,
+) -> R<()> {
+    let mut copy = copied(rt.alloc(), board, callbacks)?;
+    assert_eq!(rt; copy.count(), 6);
+    accept_a_byte(rt, &mut copy);
+    first_byte(rt, board, Some(1), Some(FIRST));
+    Ok(())
+}
+
 fn copy<T: Completes + Drop, S: Completes + Drop, W: Completes + Drop, T2: Completes + Drop>(
     rt: &(impl Abort + AllocGlobal),
     first: Callbacks<T, S, W>,
     second: Callbacks<T2, S, W>,
 ) -> R<()> {
-    let setup = setup(rt.alloc(), &SENDS_A_BYTE)?;
-    let mut board = match Board::boot(rt.alloc(), &setup, first) {
-        Ok(board) => board,
-        Err((_, fault)) => return Err(fault),
-    };
-    step(rt, &mut board, 5);
-    match board.exec() {
-        Err(fault) => return Err(fault),
-        Ok(executed) => assert_eq!(rt; executed.given(), Some(FIRST)),
-    }
-    let mut copied = match board.copy(rt.alloc(), second) {
-        Ok(copied) => copied,
-        Err((_, fault)) => return Err(fault),
-    };
-    assert_eq!(rt; copied.count(), 6);
-    assert_eq!(rt; copied.due_byte(0), Some(1));
-    assert_eq!(rt; copied.outstanding(OpId::Byte(0, 1)).copied(), Some(FIRST));
-    assert_eq!(rt; copied.take(Input::Sent(0)), Ok(()));
-    assert_eq!(rt; copied.take(Input::Sent(0)), Err(Fault::NotDue));
-    assert_eq!(rt; copied.outstanding(OpId::Byte(0, 1)).copied(), None);
-    assert_eq!(rt; board.outstanding(OpId::Byte(0, 1)).copied(), Some(FIRST));
-    Ok(())
+    let mut board = boot(rt.alloc(), &SENDS_A_BYTE, first)?;
+    send(rt, &mut board)?;
+    accept_on_a_copy(rt, &board, second)
 }
 
 fn copy_with<
@@ -188,6 +295,11 @@ const WRITES_EACH_SECTOR: [u8; 30] = [
     0x80, 0xd3, 0x09, 0x06, 0x89, 0xd3, 0x0a, 0x05, 0xc2, 0x15, 0x00, 0xc3, 0x08, 0x00,
 ];
 
+// What sector 5 holds at first, behind a call so that no proof reads each byte.
+fn old_bytes() -> [u8; SECTOR_BYTES] {
+    [0xe5; SECTOR_BYTES]
+}
+
 // Offers sector 5 of a drive, as it comes from the disk with the write of this number.
 fn offer<T: Completes, S: Completes, W: Completes>(
     board: &mut Board<T, S, W>,
@@ -200,7 +312,7 @@ fn offer<T: Completes, S: Completes, W: Completes>(
         drive,
         sector: 5,
         number,
-        bytes: [0xe5; SECTOR_BYTES],
+        bytes: old_bytes(),
     })
 }
 
@@ -232,29 +344,65 @@ fn read_late<T: Completes + Drop, S: Completes + Drop, W: Completes + Drop>(
     requires sector { Keeps (S.may sector) (S.gives sector) SECTOR }
     requires written { Keeps (W.may written) (W.gives written) WRITTEN }
 {
-    let setup = setup(rt.alloc(), &WRITES_EACH_SECTOR)?;
-    let mut board = match Board::boot(rt.alloc(), &setup, store(sent, sector, written)) {
-        Ok(board) => board,
-        Err((_, fault)) => return Err(fault),
-    };
+    let mut board = boot(
+        rt.alloc(),
+        &WRITES_EACH_SECTOR,
+        store(sent, sector, written),
+    )?;
     step(rt, &mut board, 4);
-    assert_eq!(rt; board.place(), Some((0, 0)));
-    assert_eq!(rt; offer(&mut board, 1, 0), Err(Fault::NotDue));
+    rewrite_each(rt, &mut board)
+}
+
+// Writes sector 5 three times.
+fn rewrite_each<T: Completes, S: Completes, W: Completes>(
+    rt: &impl Abort,
+    board: &mut Board<T, S, W>,
+) -> R<()> {
+    select_no_other(rt, board);
     for number in 0..2 {
-        rewrite(rt, &mut board, number)?;
-        assert_eq!(rt; board.take(Input::Written(number + 1)), Ok(()));
-        assert_eq!(rt; board.take(Input::Written(number + 1)), Err(Fault::NotDue));
-        assert_eq!(rt; offer(&mut board, 0, number), Err(Fault::StaleRead));
+        complete(rt, board, number)?;
     }
+    keep_busy(rt, board)
+}
+
+// The head stands at track 0 of drive 0, so no sector of drive 1 comes.
+fn select_no_other<T: Completes, S: Completes, W: Completes>(
+    rt: &impl Abort,
+    board: &mut Board<T, S, W>,
+) {
+    assert_eq!(rt; board.place(), Some((0, 0)));
+    assert_eq!(rt; offer(board, 1, 0), Err(Fault::NotDue));
+}
+
+// Sector 5 is written again, which completes once; what it held before comes too late then.
+fn complete<T: Completes, S: Completes, W: Completes>(
+    rt: &impl Abort,
+    board: &mut Board<T, S, W>,
+    number: u64,
+) -> R<()>
+    requires { number ≤ 2 }
+{
+    rewrite(rt, board, number)?;
+    assert_eq!(rt; board.take(Input::Written(number + 1)), Ok(()));
+    assert_eq!(rt; board.take(Input::Written(number + 1)), Err(Fault::NotDue));
+    assert_eq!(rt; offer(board, 0, number), Err(Fault::StaleRead));
+    Ok(())
+}
+
+// Two writes of sector 5 are done. While the third is outstanding the sector does not come, whatever its number.
+fn keep_busy<T: Completes, S: Completes, W: Completes>(
+    rt: &impl Abort,
+    board: &mut Board<T, S, W>,
+) -> R<()> {
     let five = SectorAddress {
         drive: 0,
         track: 0,
         sector: 5,
     };
     assert_eq!(rt; board.done(five), 2);
-    rewrite(rt, &mut board, 2)?;
-    assert_eq!(rt; offer(&mut board, 0, 1), Err(Fault::SectorBusy));
-    assert_eq!(rt; offer(&mut board, 0, 2), Err(Fault::SectorBusy));
+    rewrite(rt, board, 2)?;
+    assert_eq!(rt; offer(board, 0, 1), Err(Fault::SectorBusy));
+    assert_eq!(rt; offer(board, 0, 2), Err(Fault::SectorBusy));
     Ok(())
 }
 

@@ -1,13 +1,13 @@
 //! The arithmetic and logical instructions.
 ghost use Rattle.std.specs.Prelude.{◌≡◌, ◌+◌, ◌*◌, ◌/◌, ◌%◌};
-ghost use Rattle.i8080_words.specs.Arithmetic.{bit, has_bit, wrapped, word_of, low_byte as low_byte_of, high_byte as high_byte_of};
+ghost use Rattle.i8080_words.specs.Arithmetic.{incremented, decremented, bit, has_bit, wrapped, word_of, low_byte as low_byte_of, high_byte as high_byte_of};
 ghost use Rattle.i8080_words.specs.Effects.{after_accesses, operated, counted_up, counted_down, with_pair, pair_value as pair_value_of, turned as turned_of, accumulated, with_carry, pair_added, decimal_adjusted};
 
 use crate::bus::Bus;
-use crate::operands::{offset, pair_value, read_operand, set_pair, write_operand};
+use crate::operands::{offset, pair_value, set_pair};
 use i8080_words::{
-    AccumulatorOperation, AddressRegister, AluOperation, Register, RegisterPair, Regs, add8, and8,
-    daa, dad, dcr, inr, or8, rotate_left, rotate_right, sub8, xor8,
+    AccumulatorOperation, AddressRegister, AluOperation, Flags, Register, RegisterPair, Regs, add8,
+    and8, daa, dad, dcr, inr, or8, rotate_left, rotate_right, sub8, xor8,
 };
 
 /// An operation of the accumulator with a byte (ADD to CMP, ADI to CPI).
@@ -29,15 +29,44 @@ pub fn operate(operation: AluOperation, byte: u8, regs: &mut Regs)
     }
 }
 
-/// INR.
+// One more in a byte.
+fn count_up(byte: &mut u8, flags: &mut Flags)
+    ensures byte { byte.new ≡ (incremented byte.old flags.old.cy).0 }
+    ensures flags { flags.new ≡ (incremented byte.old flags.old.cy).1 }
+{
+    (*byte, *flags) = inr(*byte, flags.cy);
+}
+
+/// INR: each register has a line of its own, so that an instruction is dispatched by its register once.
 pub fn increment<B: Bus>(bus: &mut B, register: Register, regs: &mut Regs)
     ensures regs { regs.new ≡ (counted_up register (B.byte_at (B.state bus.old)) regs.old).regs }
     ensures bus { B.state bus.new
         ≡ after_accesses B.after (counted_up register (B.byte_at (B.state bus.old)) regs.old).accesses (B.state bus.old) }
 {
-    let (value, flags) = inr(read_operand(bus, register, regs), regs.flags.cy);
-    regs.flags = flags;
-    write_operand(bus, register, value, regs);
+    let flags = &mut regs.flags;
+    match register {
+        Register::B => count_up(&mut regs.b, flags),
+        Register::C => count_up(&mut regs.c, flags),
+        Register::D => count_up(&mut regs.d, flags),
+        Register::E => count_up(&mut regs.e, flags),
+        Register::H => count_up(&mut regs.h, flags),
+        Register::L => count_up(&mut regs.l, flags),
+        Register::A => count_up(&mut regs.a, flags),
+        Register::M => {
+            let address = pair_value(RegisterPair::HL, regs);
+            let mut byte = bus.read(address);
+            count_up(&mut byte, &mut regs.flags);
+            bus.write(address, byte);
+        }
+    }
+}
+
+// One less in a byte.
+fn count_down(byte: &mut u8, flags: &mut Flags)
+    ensures byte { byte.new ≡ (decremented byte.old flags.old.cy).0 }
+    ensures flags { flags.new ≡ (decremented byte.old flags.old.cy).1 }
+{
+    (*byte, *flags) = dcr(*byte, flags.cy);
 }
 
 /// DCR.
@@ -46,9 +75,22 @@ pub fn decrement<B: Bus>(bus: &mut B, register: Register, regs: &mut Regs)
     ensures bus { B.state bus.new
         ≡ after_accesses B.after (counted_down register (B.byte_at (B.state bus.old)) regs.old).accesses (B.state bus.old) }
 {
-    let (value, flags) = dcr(read_operand(bus, register, regs), regs.flags.cy);
-    regs.flags = flags;
-    write_operand(bus, register, value, regs);
+    let flags = &mut regs.flags;
+    match register {
+        Register::B => count_down(&mut regs.b, flags),
+        Register::C => count_down(&mut regs.c, flags),
+        Register::D => count_down(&mut regs.d, flags),
+        Register::E => count_down(&mut regs.e, flags),
+        Register::H => count_down(&mut regs.h, flags),
+        Register::L => count_down(&mut regs.l, flags),
+        Register::A => count_down(&mut regs.a, flags),
+        Register::M => {
+            let address = pair_value(RegisterPair::HL, regs);
+            let mut byte = bus.read(address);
+            count_down(&mut byte, &mut regs.flags);
+            bus.write(address, byte);
+        }
+    }
 }
 
 fn add_to_halves(high: &mut u8, low: &mut u8, by: u16)

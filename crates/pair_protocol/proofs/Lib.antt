@@ -50,5 +50,6 @@ pub mod AltairCompletions
 pub mod AltairStanding
 pub mod AltairFew
 pub mod AltairInputs
+pub mod AltairOnDisk
 pub mod AltairLaws
 pub mod Booted

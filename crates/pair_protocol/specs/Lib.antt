@@ -1,5 +1,6 @@
 pub mod Lawful
 pub mod AltairStands
+pub mod OnDisk
 pub mod Copying
 pub mod Node
 pub mod World

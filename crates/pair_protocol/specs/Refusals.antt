@@ -56,9 +56,15 @@ step_refusal M (suc turns) x =
     (serves x ∷ log_full x ∷ log_spent x ∷ fault_if (M.is_spent x.machine) Spent
     ∷ fault_if (is_none (M.step x.machine)) Idle ∷ [])
 
+-- the number of keys that a port may take is spent
+abbrev pub keys_spent : {S : Type 0} → Machine S → ℕ → Node S → Option Fault
+keys_spent M port x = fault_if (nat_le top (M.keys x.machine port)) Spent
+
 abbrev pub key_refusal : {S : Type 0} → Machine S → ℕ → ℕ → Node S → Option Fault
 key_refusal M port index x =
-    first_of (serves x ∷ fault_if (not (index == M.keys x.machine port)) WrongNumber ∷ log_full x ∷ log_spent x ∷ [])
+    first_of
+    (serves x ∷ fault_if (not (index == M.keys x.machine port)) WrongNumber ∷ log_full x ∷ log_spent x
+    ∷ keys_spent M port x ∷ [])
 
 -- the number of the byte whose acceptance is due
 abbrev pub is_number : Option ℕ → ℕ → Bool

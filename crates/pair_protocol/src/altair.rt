@@ -7,6 +7,7 @@ ghost use Rattle.guest_board.specs.Machine.{Move};
 ghost use Rattle.pair_protocol.specs.AltairPairs.{PairsAreFaithful, PairsGrow};
 ghost use Rattle.pair_protocol.specs.AltairStands.{AltairStands};
 ghost use Rattle.pair_protocol.specs.Lawful.{Lawful, Reaches};
+ghost use Rattle.pair_protocol.specs.OnDisk.{StaysOnDisk};
 
 use disk_dcdd::sectors_stand_apart;
 
@@ -22,6 +23,13 @@ pub fn altairs_are_lawful()
 pub fn altairs_stay_within()
     ensures { (setup : Setup) (sectors : SectorAddress → List ℕ) (moves : List Move) (g : Guest)
         → Reaches (altair setup sectors) moves g → AltairStands setup moves g }
+{
+    sectors_stand_apart();
+}
+
+/// An Altair reads and writes only sectors of its own drives, whatever comes to it.
+pub fn altairs_stay_on_their_disks()
+    ensures { (setup : Setup) (sectors : SectorAddress → List ℕ) → StaysOnDisk (altair setup sectors) setup.drives }
 {
     sectors_stand_apart();
 }

@@ -4,7 +4,9 @@
 mod altair;
 mod laws;
 
-pub use altair::{altair_pairs_are_faithful, altairs_are_lawful, altairs_stay_within};
+pub use altair::{
+    altair_pairs_are_faithful, altairs_are_lawful, altairs_stay_on_their_disks, altairs_stay_within,
+};
 pub use laws::{
     actions_are_faithful, events_are_actions, events_are_faithful, events_grow,
     every_event_is_answered, nodes_stand, pairs_without_copies, scripts_run, traces_are_determined,

@@ -1,8 +1,10 @@
 //! A guest with the log of its moves.
-ghost use Rattle.std.specs.Prelude.{◌≡◌};
-ghost use Rattle.guest_board.specs.Lockstep.{HasRoom, IsInput};
+ghost use Rattle.std.specs.Prelude.{◌≡◌, ◌<◌, ◌^◌, OnOk};
+ghost use Rattle.guest_board.specs.Lockstep.{HasRoom, IsInput, IsNumbered};
 ghost use Rattle.guest_board.specs.Machine.{refusal_of};
 ghost use Rattle.log_buffer.specs.contracts.buffer.LogBuffer as buffer;
+ghost use Rattle.log_entry.specs.Entries.{entry_of};
+ghost use Rattle.log_entry.specs.Spelling.{IsEntry};
 ghost use Rattle.recorder.specs.Recording as table;
 ghost use Rattle.recorder.specs.contracts.recorder.Recorder.{the_row};
 ghost use Rattle.std.specs.Borrow.{Lends, sem};
@@ -79,8 +81,8 @@ impl<B: Lockstep> Recorder<B> {
         run(&mut self.board, &mut self.log, turns)
     }
 
-    /// Takes an input, and logs it at the guest's count. Gives the index of its entry. It takes no memory, and is
-    /// refused as the guest refuses the input, and then as the log refuses an entry.
+    /// Takes an input, and logs it at the guest's count, as an entry that can be spelled. Gives the index of the entry.
+    /// It takes no memory, and is refused as the guest refuses the input, and then as the log refuses an entry.
     pub fn offer(&mut self, input: Input) -> R<u64>
         requires input { IsInput input }
         requires room { HasRoom B.machine (B.state self.old.board) input }
@@ -88,13 +90,42 @@ impl<B: Lockstep> Recorder<B> {
             ≡ table.offer_answer (refusal_of B.machine (B.state self.old.board) input) self.old.log }
         ensures after { table.Offers B.machine (B.state self.old.board) self.old.log input result
             (B.state self.new.board) self.new.log }
+        ensures entry { OnOk result
+            (IsEntry (entry_of (B.machine.count (B.state self.old.board)) input)) }
     {
         self.board.check(&input)?;
-        let entry = Entry::of_input(self.board.count(), input);
+        let entry = entry_at(self.board.count(), input);
         let index = self.log.push(entry)?;
         match self.board.take(input) {
             Ok(()) => Ok(index),
             Err(_) => unreachable!(),
         }
+    }
+}
+
+// The entry of an input that may come, at a count: its fields are in their ranges, so it can be spelled.
+fn entry_at(count: u64, input: Input) -> Entry
+    requires input { IsInput input }
+    requires numbers { IsNumbered input }
+    requires count { count < 2 ^ 62 }
+    ensures value { result ≡ entry_of count input }
+    ensures valid { IsEntry result }
+{
+    match input {
+        Input::Rx(port, byte) => Entry::Rx { count, port, byte },
+        Input::Sent(port) => Entry::Sent { count, port },
+        Input::Sector {
+            drive,
+            sector,
+            number,
+            bytes,
+        } => Entry::Sector {
+            count,
+            drive,
+            sector,
+            number,
+            bytes,
+        },
+        Input::Written(number) => Entry::Written { count, number },
     }
 }

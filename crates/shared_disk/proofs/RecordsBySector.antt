@@ -6,12 +6,12 @@ use Rattle.std.specs.Option.{option_and_then, option_map_or}
 use Rattle.std.proofs.lemmas.Bool.{eq-eqb, eqb-true, ltb-true, ltb-false}
 use Rattle.std.proofs.lemmas.List.{length-replicate, set_past}
 use Rattle.std.proofs.lemmas.Option.{same_Some, slice_get_past}
-use Rattle.disk_dcdd.specs.Address.{index_of, same_address}
+use Rattle.disk_dcdd.specs.Address.{has_sector, index_of, same_address}
 use Rattle.disk_dcdd.specs.declared.address.SectorAddress.{SectorAddress}
 use Rattle.disk_dcdd.specs.declared.address.TheConstants.{DRIVE_SECTORS}
 use Rattle.disk_dcdd.specs.declared.drive.TheConstants.{TRACKS}
 use Rattle.disk_dcdd.specs.declared.sector.TheConstants.{SECTORS}
-use Rattle.shared_disk.specs.Records.{record_at, with_record, blank_record, unwritten, has_sector}
+use Rattle.shared_disk.specs.Records.{record_at, with_record, blank_record, unwritten}
 use Rattle.shared_disk.specs.declared.store.Record.{Record}
 
 address : ℕ → ℕ → ℕ → SectorAddress

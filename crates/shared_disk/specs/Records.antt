@@ -1,7 +1,7 @@
 -- The records of a disk, one for each sector, by the sector's place in a table of them all.
-use Rattle.std.specs.Prelude.{◌≡◌, ℕ, ◌*◌, Bool, nat_lt, ◌&&◌, if◌then◌else◌, List, replicate, slice_get, slice_set, Option, Some, is_some, IsSome, Result, Ok, Err}
+use Rattle.std.specs.Prelude.{◌≡◌, ℕ, ◌*◌, if◌then◌else◌, List, replicate, slice_get, slice_set, Option, Some, is_some, IsSome, Result, Ok, Err}
 use Rattle.std.specs.Option.{option_and_then, option_map_or}
-use Rattle.disk_dcdd.specs.Address.{index_of, is_on_disk}
+use Rattle.disk_dcdd.specs.Address.{index_of}
 use Rattle.disk_dcdd.specs.declared.address.SectorAddress.{SectorAddress}
 use Rattle.disk_dcdd.specs.declared.address.TheConstants.{DRIVE_SECTORS}
 use Rattle.disk_dcdd.specs.declared.sector.TheConstants.{SECTOR_BYTES}
@@ -42,10 +42,6 @@ blank_record = record { number = 0; bytes = replicate SECTOR_BYTES 0 }
 -- so many drives on which nothing is written
 unfoldable pub unwritten : ℕ → List Record
 unwritten drives = replicate (drives * DRIVE_SECTORS) blank_record
-
--- one of so many drives has this sector
-abbrev pub has_sector : ℕ → SectorAddress → Bool
-has_sector drives address = is_on_disk address && nat_lt address.drive drives
 
 -- bytes that no node wrote
 abbrev pub boot_record : List ℕ → Record

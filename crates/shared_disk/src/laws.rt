@@ -1,8 +1,9 @@
 //! What follows from the definitions alone.
 ghost use Rattle.std.specs.Prelude.{◌≡◌, ℕ, List, [], if◌then◌else◌, Some, None};
+ghost use Rattle.disk_dcdd.specs.Address.{has_sector};
 ghost use Rattle.disk_dcdd.specs.declared.address.SectorAddress.{SectorAddress};
 ghost use Rattle.shared_disk.specs.Arrivals.{ChoosesOne, IsShared};
-ghost use Rattle.shared_disk.specs.Records.{blank_record, has_sector, record_at, unwritten};
+ghost use Rattle.shared_disk.specs.Records.{blank_record, record_at, unwritten};
 ghost use Rattle.shared_disk.specs.declared.store.Record.{Record};
 
 /// A new store has the sectors of its drives and no other, each with zeros under number 0.

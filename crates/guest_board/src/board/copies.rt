@@ -45,6 +45,7 @@ impl<T: Completes, S: Completes, W: Completes> Board<T, S, W> {
             pending,
             completed,
             count: self.count,
+            ready_until: 0,
             keys,
             levels,
         })

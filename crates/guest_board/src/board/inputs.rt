@@ -6,7 +6,7 @@ ghost use Rattle.event_callbacks.specs.Completions.{is_due, done_of};
 ghost use Rattle.event_callbacks.specs.declared.devices.TheConstants.{PORTS};
 ghost use Rattle.guest_board.specs.Guest as table;
 ghost use Rattle.guest_board.specs.Inputs as inputs;
-ghost use Rattle.guest_board.specs.Lockstep.{IsInput, HasRoom};
+ghost use Rattle.guest_board.specs.Lockstep.{IsInput, IsNumbered, HasRoom};
 ghost use Rattle.guest_board.specs.declared.input.Input.TheVariants as input_of;
 
 use super::Board;
@@ -22,8 +22,10 @@ impl<T: Completes, S: Completes, W: Completes> Board<T, S, W> {
     /// `NotDue` where no device waits for it, or the drive is not the selected one; else `SectorBusy` where a write of
     /// that sector is outstanding; else `StaleRead` where the number is not that of the sector's last completed write.
     pub fn check(&self, input: &Input) -> R<()>
-        ensures { result ≡ answered (inputs.refusal self.now.guest input.now) }
+        ensures answer { result ≡ answered (inputs.refusal self.now.guest input.now) }
+        ensures numbers { OnOk result (IsNumbered input.now) }
     {
+        self.wiring.devices.disk.stands();
         match input {
             Input::Rx(_, _) => Ok(()),
             Input::Sent(port) => { due(self.wiring.devices.is_due(&Done::Sent(*port))) }

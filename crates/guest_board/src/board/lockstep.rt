@@ -3,7 +3,8 @@ use super::Board;
 use crate::executed::Executed;
 use crate::input::Input;
 use crate::lockstep::Lockstep;
-use event_callbacks::Completes;
+use disk_dcdd::SectorAddress;
+use event_callbacks::{Completes, OpId, Operation};
 use i8080_words::R;
 
 impl<T: Completes, S: Completes, W: Completes> Lockstep for Board<T, S, W> {
@@ -38,5 +39,21 @@ impl<T: Completes, S: Completes, W: Completes> Lockstep for Board<T, S, W> {
 
     fn due_byte(&self, port: u8) -> Option<u64> {
         self.due_byte(port)
+    }
+
+    fn outstanding(&self, id: OpId) -> Option<&Operation> {
+        self.outstanding(id)
+    }
+
+    fn selected(&self) -> Option<u8> {
+        self.disk().selected()
+    }
+
+    fn sector_under(&self, drive: u8, sector: u8) -> SectorAddress {
+        SectorAddress {
+            drive,
+            track: self.disk().track(drive),
+            sector,
+        }
     }
 }

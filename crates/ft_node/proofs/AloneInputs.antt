@@ -1,0 +1,129 @@
+-- What an alone node answers to an input. No log of its own stands in the way, so behind the tests of a call only the
+-- machine's refusal is left; and where the machine takes the input, so does the node.
+use Rattle.std.proofs.Common.{◌≡◌, ℕ, ◌≤◌, ◌<◌, false, not, ◌&&◌, ok_or, eqb, leb, Option, Some, None, List, [], ◌∷◌, Result, Ok, Err, refl, sym, ap, subst, ◌∙◌, arith}
+use Rattle.std.proofs.Math.Bool.{and_assoc}
+use Rattle.std.proofs.lemmas.Bool.{eq-eqb, le-leb, lt-leb}
+use Rattle.disk_dcdd.specs.Address.{same_address}
+use Rattle.disk_dcdd.specs.declared.address.SectorAddress.{SectorAddress}
+use Rattle.disk_dcdd.specs.declared.controller.TheConstants.{GREATEST_NUMBER}
+use Rattle.guest_board.specs.Lockstep as lockstep
+use Rattle.guest_board.specs.Machine.{Machine, refusal_of}
+use Rattle.guest_board.specs.declared.input.Input.{Input}
+use Rattle.guest_board.specs.declared.input.Input.TheVariants as input
+use Rattle.i8080_words.specs.declared.refusal.Fault.{Fault}
+use Rattle.i8080_words.specs.declared.refusal.Fault.TheVariants.{NotDue, Spent}
+use Rattle.pair_protocol.specs.Lawful.{top}
+use Rattle.pair_protocol.specs.Node.{Node, Alone}
+use Rattle.pair_protocol.specs.Refusals as refusals
+use Rattle.pair_protocol.specs.Rows.{took}
+use Rattle.ft_node.specs.Calls as calls
+use Rattle.ft_node.specs.Roles.{IsAlone}
+
+-- the machine's refusal alone
+only : (r : Option Fault) → refusals.first_of (r ∷ None ∷ None ∷ []) ≡ r
+only None = refl
+only (Some fault) = refl
+
+-- ---- why an input is refused
+
+pub done_refusal : {S : Type 0} (M : Machine S) (x : Node S) (s : S) (generation number : ℕ) → IsAlone s generation x
+    → refusals.done_refusal M number x ≡ refusal_of M s (input.Written number)
+done_refusal M x s generation number a =
+    rw (a.role, a.up, a.machine) (only (refusal_of M s (input.Written number)))
+
+-- the byte that is due is the one that was named
+pub due_is : (due : Option ℕ) (number : ℕ) → ok_or due NotDue ≡ Ok number → due ≡ Some number
+due_is None number e = absurd cc
+due_is (Some due) number e = cc
+
+pub sent_refusal : {S : Type 0} (M : Machine S) (x : Node S) (s : S) (generation port number due : ℕ)
+    → IsAlone s generation x → M.due_byte s port ≡ Some due → due ≡ number
+    → refusals.sent_refusal M port number x ≡ refusal_of M s (input.Sent port)
+sent_refusal M x s generation port number due a is same =
+    rw (a.role, a.up, a.machine, is, eq-eqb due number same) refl
+
+-- two addresses that the code found equal are one sector
+same_as : (address under here : SectorAddress) → here ≡ under
+    → not (eqb under.drive address.drive && (eqb under.track address.track && eqb under.sector address.sector)) ≡ false
+    → not (same_address here address) ≡ false
+same_as address under here is same =
+    ap (λ (b : SectorAddress). not (same_address b address)) is
+    ∙ ap (λ b. not b)
+    (and_assoc (eqb under.drive address.drive) (eqb under.track address.track) (eqb under.sector address.sector))
+    ∙ same
+
+-- the sector that was read is under the head
+pub under_refusal : {S : Type 0} (M : Machine S) (x : Node S) (s : S) (generation number : ℕ)
+    (address under : SectorAddress) (bytes : List ℕ) → IsAlone s generation x
+    → M.address s address.drive address.sector ≡ under
+    → not (eqb under.drive address.drive && (eqb under.track address.track && eqb under.sector address.sector)) ≡ false
+    → refusals.under_refusal M address number bytes x
+    ≡ refusal_of M s (input.Sector address.drive address.sector number bytes)
+under_refusal M x s generation number address under bytes a is same =
+    let here = same_as address under (M.address s address.drive address.sector) is same in
+    rw (a.role, a.up, a.machine, here)
+    (only (refusal_of M s (input.Sector address.drive address.sector number bytes)))
+
+-- the one refusal
+fault_alone : (r : Option Fault) → refusals.first_of (r ∷ []) ≡ r
+fault_alone None = refl
+fault_alone (Some fault) = refl
+
+-- the key is the next one
+key_refusal : {S : Type 0} (M : Machine S) (x : Node S) (s : S) (generation port index : ℕ) → IsAlone s generation x
+    → index ≡ M.keys s port
+    → refusals.key_refusal M port index x ≡ refusals.fault_if (leb top (M.keys s port)) Spent
+key_refusal M x s generation port index a is =
+    rw (a.role, a.up, a.machine, eq-eqb index (M.keys s port) is)
+    (fault_alone (refusals.fault_if (leb top (M.keys s port)) Spent))
+
+pub keys_left : {S : Type 0} (M : Machine S) (x : Node S) (s : S) (generation port index byte : ℕ)
+    → IsAlone s generation x → index ≡ M.keys s port → index < GREATEST_NUMBER
+    → refusals.key_refusal M port index x ≡ refusal_of M s (input.Rx port byte)
+unfolding top
+keys_left M x s generation port index byte a is lt =
+    key_refusal M x s generation port index a is
+    ∙ ap (λ b. refusals.fault_if b Spent) (lt-leb top (M.keys s port) (omega arith))
+
+pub keys_spent : {S : Type 0} (M : Machine S) (x : Node S) (s : S) (generation port index : ℕ)
+    → IsAlone s generation x → index ≡ M.keys s port → GREATEST_NUMBER ≤ index
+    → refusals.key_refusal M port index x ≡ Some Spent
+unfolding top
+keys_spent M x s generation port index a is ge =
+    key_refusal M x s generation port index a is
+    ∙ ap (λ b. refusals.fault_if b Spent) (le-leb top (M.keys s port) (omega arith))
+
+-- ---- what an input does
+
+pub refused : {S : Type 0} (M : Machine S) (i : Input) (x : Node S) (s : S) (generation : ℕ) (refusal : Option Fault)
+    (fault : Fault) → IsAlone s generation x → refusal ≡ Some fault
+    → calls.Takes M i refusal x (Err fault) (IsAlone s generation)
+refused M i x s generation refusal fault a is =
+    subst (λ r. calls.Takes M i r x (Err fault) (IsAlone s generation)) (sym is) (refl, a)
+
+still : {S : Type 0} (x : Node S) (s t : S) (generation : ℕ) → IsAlone s generation x → t ≡ s → IsAlone t generation x
+still x s t generation a same = subst (λ t. IsAlone t generation x) (sym same) a
+
+after : {S : Type 0} (M : Machine S) (i : Input) (x : Node S) (s t : S) (generation : ℕ) → IsAlone s generation x
+    → IsAlone t generation (took M x x.role t i)
+after M i x s t generation a =
+    let alone : IsAlone t generation (took M x Alone t i) =
+    record { role = a.role; up = a.up; generation_is = a.generation_is; machine = refl } in
+    subst (λ role. IsAlone t generation (took M x role t i)) (sym a.role) alone
+
+answered : {S : Type 0} (M : Machine S) (i : Input) (x : Node S) (s t : S) (generation : ℕ) (refusal : Option Fault)
+    (result : Result (Unit {0}) Fault) → IsAlone s generation x → refusal_of M s i ≡ refusal
+    → lockstep.Takes M s i result t → calls.Takes M i refusal x result (IsAlone t generation)
+answered M i x s t generation None (Ok done) a is h =
+    record { s = t; takes = ap (λ s. M.take s i) a.machine ∙ h.1; after = after M i x s t generation a }
+answered M i x s t generation None (Err fault) a is h = let none : Some fault ≡ None = sym h.0 ∙ is in absurd cc
+answered M i x s t generation (Some fault) (Ok done) a is h =
+    let none : Some fault ≡ None = sym is ∙ h.0 in absurd cc
+answered M i x s t generation (Some fault) (Err other) a is h =
+    let same : Some other ≡ Some fault = sym h.0 ∙ is in
+    let e : other ≡ fault = cc in (ap (λ f. Err f) e, still x s t generation a h.1)
+
+pub takes : {S : Type 0} (M : Machine S) (i : Input) (x : Node S) (s t : S) (generation : ℕ) (refusal : Option Fault)
+    (result : Result (Unit {0}) Fault) → IsAlone s generation x → refusal ≡ refusal_of M s i
+    → lockstep.Takes M s i result t → calls.Takes M i refusal x result (IsAlone t generation)
+takes M i x s t generation refusal result a is h = answered M i x s t generation refusal result a (sym is) h

@@ -1,0 +1,55 @@
+-- How a node drains. Its moves are those of a replay, so where they leave entries it drains on; and where they leave
+-- none it is what an alone node is.
+use Rattle.std.proofs.Common.{◌≡◌, ℕ, true, false, Ok, refl, sym, subst, ◌∙◌}
+use Rattle.guest_board.specs.Machine.{Machine}
+use Rattle.log_channel.specs.Channel.{Receiving}
+use Rattle.pair_protocol.specs.Node.{Node, Draining, goes_live}
+use Rattle.pair_protocol.specs.Rows.{after_drain, at_end}
+use Rattle.replayer.specs.Replaying as replaying
+use Rattle.replayer.specs.declared.replayer.Replayed.{Replayed}
+use Rattle.ft_node.specs.Calls as calls
+use Rattle.ft_node.specs.Roles.{IsFollower}
+use Rattle.ft_node.specs.declared.ran.Drained.{Drained}
+use Rattle.ft_node.proofs.FollowerMoves.{in_role, repeats}
+
+abbrev drained_by : Replayed → Drained
+drained_by r = record { moves = r.moves; alone = r.at_end }
+
+-- a draining node is not refused
+allowed : {S : Type 0} (M : Machine S) (x : Node S) (s : S) (r : Receiving) (turns : ℕ) (d : Drained)
+    (Is : Node S → Type 0) → IsFollower Draining s r x → calls.Empties M turns x Is d
+    → calls.Draining M turns x (Ok d) Is
+allowed M x s r turns d Is f empties =
+    subst (λ refusal. calls.Unless {A = Drained} refusal (Ok d) (Is x) (calls.Empties M turns x Is d))
+    (sym (in_role Draining x s r f refl)) empties
+
+pub drains_on : {S : Type 0} (M : Machine S) (x : Node S) (s t : S) (r new : Receiving) (turns : ℕ) (a : Replayed)
+    → IsFollower Draining s r x → new ≡ record r { entries = new.entries }
+    → replaying.Answers M s r.entries turns (Ok a) t new.entries → a.at_end ≡ false
+    → calls.Draining M turns x (Ok (drained_by a)) (IsFollower Draining t new)
+drains_on M x s t r new turns a f held answers left =
+    let h = repeats M Draining x s t r new turns (Ok a) f held answers in
+    let more : at_end h.y ≡ false = sym h.ends ∙ left in
+    allowed M x s r turns (drained_by a) (IsFollower Draining t new) f (record {
+      y = h.y;
+      moves = h.moves;
+      some = h.some;
+      ends = h.ends;
+      after = subst (λ all. IsFollower Draining t new (after_drain h.y all)) (sym more) h.after;
+    })
+
+pub drained : {S : Type 0} (M : Machine S) (x : Node S) (s t : S) (r new : Receiving) (turns : ℕ) (a : Replayed)
+    (Is : Node S → Type 0) → IsFollower Draining s r x → new ≡ record r { entries = new.entries }
+    → replaying.Answers M s r.entries turns (Ok a) t new.entries → a.at_end ≡ true
+    → ((y : Node S) → y.role ≡ Draining → at_end y ≡ true → IsFollower Draining t new y → Is (goes_live y))
+    → calls.Draining M turns x (Ok (drained_by a)) Is
+drained M x s t r new turns a Is f held answers all lives =
+    let h = repeats M Draining x s t r new turns (Ok a) f held answers in
+    let none : at_end h.y ≡ true = sym h.ends ∙ all in
+    allowed M x s r turns (drained_by a) Is f (record {
+      y = h.y;
+      moves = h.moves;
+      some = h.some;
+      ends = h.ends;
+      after = subst (λ all. Is (after_drain h.y all)) (sym none) (lives h.y h.after.role_is none h.after);
+    })

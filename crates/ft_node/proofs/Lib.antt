@@ -1,0 +1,10 @@
+pub mod PrimaryRefusals
+pub mod PrimaryNotes
+pub mod PrimaryInputs
+pub mod PrimaryPlaces
+pub mod PrimarySteps
+pub mod PrimaryAcknowledged
+pub mod AloneInputs
+pub mod AloneSteps
+pub mod FollowerMoves
+pub mod LastMoves

@@ -1,0 +1,174 @@
+-- What an acknowledgement makes of a primary. The entries that it covers leave the log, and their keys are covered; the
+-- log that is left is the rest of the whole log.
+use Rattle.std.proofs.Common.{◌≡◌, ℕ, zero, suc, ◌+◌, ◌-◌, ◌<◌, ◌≤◌, max, Bool, true, false, cond, not, ◌==◌, Option, Some, None, Ok, Err, List, [], ◌∷◌, ◌++◌, length, take, drop, append_assoc, length-append, refl, sym, ap, subst, ◌∙◌, arith}
+use Rattle.std.specs.Prelude.{nat_lt, slice_index}
+use Rattle.std.proofs.lemmas.Bool.{ltb-false}
+use Rattle.std.proofs.lemmas.List.{drop-drop}
+use Rattle.std.proofs.lemmas.List.Elements.{All-drop}
+use Rattle.event_callbacks.specs.declared.devices.TheConstants.{PORTS}
+use Rattle.guest_board.specs.Machine.{Machine}
+use Rattle.i8080_words.specs.declared.refusal.Fault.TheVariants.{WrongGeneration, BadAck}
+use Rattle.log_buffer.specs.Log.{Log, log, next_of, dropped_to}
+use Rattle.log_channel.specs.Channel.{Sending, ack_answer, acknowledged}
+use Rattle.log_channel.specs.declared.packet.Packet.{Packet}
+use Rattle.log_channel.specs.declared.packet.Packet.TheVariants as packet
+use Rattle.log_entry.specs.Entries.{inputs_of}
+use Rattle.log_entry.specs.Spelling.{IsEntry}
+use Rattle.log_entry.specs.declared.entry.Entry.{Entry}
+use Rattle.output_rule.proofs.Told.{tells_acknowledged}
+use Rattle.output_rule.specs.Covering.{Covering, after_acknowledge}
+use Rattle.output_rule.specs.Keys.{keys_in}
+use Rattle.output_rule.specs.Laws.{Tells}
+use Rattle.pair_protocol.specs.Node.{Node, hears}
+use Rattle.pair_protocol.specs.Refusals.{first_of, fault_if, acked_refusal}
+use Rattle.plain_single.specs.Reach as reach
+use Rattle.plain_single.specs.declared.timed.Timed.{Timed}
+use Rattle.ft_node.specs.Calls.{Hears}
+use Rattle.ft_node.specs.Roles.{IsPrimary, Covers}
+use Rattle.ft_node.proofs.PrimaryRefusals.{primary_acts, allowed}
+use Rattle.ft_node.proofs.PrimarySteps.{next_behind}
+
+-- ---- keys
+
+-- the keys of two lists of inputs, one behind the other
+keys-append : (port : ℕ) (front back : List Timed)
+    → reach.keys port (front ++ back) ≡ reach.keys port front ++ reach.keys port back
+keys-append port [] back = refl
+keys-append port (t ∷ ts) back =
+    ap (λ rest. reach.key_at port t.input ++ rest) (keys-append port ts back)
+    ∙ sym (append_assoc (reach.key_at port t.input) (reach.keys port ts) (reach.keys port back))
+
+-- how many keys of a port are in the image, and among entries behind it
+keys_of_both : (port : ℕ) (copy : List Timed) (es : List Entry)
+    → length (reach.keys port (copy ++ inputs_of es)) ≡ length (reach.keys port copy) + keys_in port es
+keys_of_both port copy es =
+    ap length (keys-append port copy (inputs_of es))
+    ∙ length-append (reach.keys port copy) (reach.keys port (inputs_of es))
+
+-- the numbers of keys of an image
+abbrev keys_of_image : List Timed → List ℕ
+keys_of_image copy = length (reach.keys 0 copy) ∷ length (reach.keys 1 copy) ∷ []
+
+of_image : (copy : List Timed) (port : ℕ) → port < PORTS
+    → slice_index (keys_of_image copy) port ≡ length (reach.keys port copy)
+of_image copy zero within = refl
+of_image copy (suc zero) within = refl
+of_image copy (suc (suc port)) within = absurd (omega arith)
+
+tells_before : {S : Type 0} (M : Machine S) (c : Covering) (x : Node S) → Covers M c x → x.covered ≤ length x.log
+    → Tells (keys_of_image x.copy) x.log c
+tells_before M c x covers within = record {
+  within = subst (λ n. n ≤ length x.log) (sym covers.acknowledged) within;
+  keys = λ port is.
+      covers.keys port is ∙ keys_of_both port x.copy (take x.covered x.log)
+      ∙ ap (λ n. n + keys_in port (take x.covered x.log)) (sym (of_image x.copy port is))
+      ∙ ap (λ n. slice_index (keys_of_image x.copy) port + keys_in port (take n x.log)) (sym covers.acknowledged);
+}
+
+keys_after : {S : Type 0} (M : Machine S) (c : Covering) (x : Node S) (held port : ℕ) → Covers M c x
+    → x.covered ≤ length x.log → held ≤ length x.log → port < PORTS → max c.acknowledged held ≡ held
+    → slice_index (after_acknowledge c (log x.covered (drop x.covered x.log)) held).keys port
+    ≡ length (reach.keys port (x.copy ++ inputs_of (take held x.log)))
+keys_after M c x held port covers within bound is most =
+    let first : x.covered ≤ c.acknowledged = (let e = covers.acknowledged in omega arith) in
+    let told =
+    tells_acknowledged (keys_of_image x.copy) x.log c x.covered held (tells_before M c x covers within) covers.waits
+    first bound in
+    told.keys port is
+    ∙ ap (λ n. slice_index (keys_of_image x.copy) port + keys_in port (take n x.log)) most
+    ∙ ap (λ n. n + keys_in port (take held x.log)) (of_image x.copy port is)
+    ∙ sym (keys_of_both port x.copy (take held x.log))
+
+-- ---- a primary that heard
+
+-- the log after it is the rest of the whole
+rest_of_log : (covered held : ℕ) (whole : List Entry) → covered ≤ held
+    → dropped_to (log covered (drop covered whole)) held ≡ log held (drop held whole)
+rest_of_log covered held whole order =
+    let most : max covered held ≡ held = omega arith in
+    let both : covered + (held - covered) ≡ held = omega arith in
+    ap (λ n. log n (drop (held - covered) (drop covered whole))) most
+    ∙ ap (log held) (drop-drop (held - covered) covered whole ∙ ap (λ n. drop n whole) both)
+
+no_less : (covered held : ℕ) → covered ≤ max covered held
+no_less covered held = omega arith
+
+covers_heard : {S : Type 0} (M : Machine S) (c : Covering) (l : Log) (x : Node S) (held : ℕ) → Covers M c x
+    → l ≡ log x.covered (drop x.covered x.log) → x.covered ≤ length x.log → max x.covered held ≤ length x.log
+    → Covers M (after_acknowledge c l (max x.covered held)) (hears x held)
+covers_heard M c l x held covers kept within bound =
+    let most : max c.acknowledged (max x.covered held) ≡ max x.covered held =
+    (let e = covers.acknowledged in omega arith) in
+    subst (λ l. Covers M (after_acknowledge c l (max x.covered held)) (hears x held)) (sym kept)
+    (record {
+      acknowledged = most;
+      waits = covers.waits;
+      keys = λ port is. keys_after M c x (max x.covered held) port covers within bound is most;
+      noted = covers.noted;
+      outstanding = covers.outstanding;
+    })
+
+primary_heard : {S : Type 0} (M : Machine S) (s : S) (l : Log) (sd : Sending) (c : Covering) (x : Node S) (held : ℕ)
+    → IsPrimary M s l sd c x → held ≤ length x.log
+    → IsPrimary M s (dropped_to l (max x.covered held)) (acknowledged sd (Ok (max x.covered held)))
+    (after_acknowledge c l (max x.covered held)) (hears x held)
+primary_heard M s l sd c x held p order =
+    let within = p.within in
+    let bound : max x.covered held ≤ length x.log = omega arith in
+    record {
+      role = p.role;
+      up = p.up;
+      generation = p.generation;
+      machine = p.machine;
+      kept =
+          ap (λ l. dropped_to l (max x.covered held)) p.kept
+          ∙ rest_of_log x.covered (max x.covered held) x.log (no_less x.covered held);
+      within = bound;
+      entries = All-drop IsEntry (max x.covered held - l.first) l.entries p.entries;
+      acknowledged = refl;
+      covers = covers_heard M c l x held p.covers p.kept p.within bound;
+    }
+
+-- ---- what is answered
+
+tests_passed : (wrong bad : Bool) (covered held : ℕ)
+    → Ok covered ≡ cond wrong (Err WrongGeneration) (cond bad (Err BadAck) (Ok held))
+    → (first_of (fault_if wrong WrongGeneration ∷ fault_if bad BadAck ∷ []) ≡ None) × (bad ≡ false)
+    × (covered ≡ held)
+tests_passed true bad covered held answer = cc
+tests_passed false true covered held answer = cc
+tests_passed false false covered held answer = (refl, refl, (cc))
+
+-- the primary's own tests are the protocol's
+acked_by : {S : Type 0} (M : Machine S) (s : S) (l : Log) (sd : Sending) (c : Covering) (x : Node S)
+    (generation held : ℕ) → IsPrimary M s l sd c x
+    → acked_refusal generation held x
+    ≡ first_of
+    (fault_if (not (generation == sd.generation)) WrongGeneration ∷ fault_if (nat_lt (next_of l) held) BadAck ∷ [])
+acked_by M s l sd c x generation held p =
+    ap (λ r. first_of (r ∷ fault_if (not (generation == x.generation)) WrongGeneration
+    ∷ fault_if (nat_lt (length x.log) held) BadAck ∷ [])) (primary_acts x p.role p.up)
+    ∙ ap (λ g. first_of (fault_if (not (generation == g)) WrongGeneration
+    ∷ fault_if (nat_lt (length x.log) held) BadAck ∷ [])) p.generation
+    ∙ ap (λ n. first_of (fault_if (not (generation == sd.generation)) WrongGeneration
+    ∷ fault_if (nat_lt n held) BadAck ∷ [])) (next_behind M s l sd c x p)
+
+pub ack_heard : {S : Type 0} (M : Machine S) (s : S) (l : Log) (sd : Sending) (c : Covering) (x : Node S)
+    (came : Option Packet) (covered : ℕ) → IsPrimary M s l sd c x
+    → Ok covered ≡ ack_answer sd (next_of l) came
+    → Hears came x (Ok covered)
+    (IsPrimary M s (dropped_to l covered) (acknowledged sd (Ok covered)) (after_acknowledge c l covered))
+ack_heard M s l sd c x None covered p answer = absurd (cc)
+ack_heard M s l sd c x (Some (packet.Log generation index e)) covered p answer = absurd (cc)
+ack_heard M s l sd c x (Some (packet.Ack generation held)) covered p answer =
+    let passed =
+    tests_passed (not (generation == sd.generation)) (nat_lt (next_of l) held) covered (max sd.held held) answer in
+    let no_more : held ≤ next_of l = ltb-false _ _ passed.1 in
+    let is : max x.covered held ≡ covered = ap (λ n. max n held) (sym p.acknowledged) ∙ sym passed.2 in
+    let bound : held ≤ length x.log = subst (λ n. held ≤ n) (sym (next_behind M s l sd c x p)) no_more in
+    allowed ℕ _ (Ok covered) _ _ (acked_by M s l sd c x generation held p ∙ passed.0) (
+      sym is,
+      subst
+          (λ n. IsPrimary M s (dropped_to l n) (acknowledged sd (Ok n)) (after_acknowledge c l n) (hears x held)) is
+          (primary_heard M s l sd c x held p bound),
+    )

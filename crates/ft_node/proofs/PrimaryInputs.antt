@@ -1,0 +1,134 @@
+-- An input that a primary takes. Its entry is pushed behind those that are kept, so the primary keeps what it kept and
+-- the new entry; its machine takes the input; and the operation that the input completes has no note any more.
+use Rattle.std.proofs.Common.{◌≡◌, ℕ, ◌≤◌, Option, Some, None, Ok, Err, List, [], ◌∷◌, ◌++◌, length, drop, length-append, refl, sym, ap, subst, ◌∙◌, arith}
+use Rattle.std.proofs.lemmas.List.{drop-append-le}
+use Rattle.std.proofs.lemmas.List.Elements.{All-push}
+use Rattle.event_callbacks.specs.declared.operations.OpId.{OpId}
+use Rattle.guest_board.specs.Machine.{Machine, refusal_of}
+use Rattle.guest_board.specs.declared.input.Input.{Input}
+use Rattle.i8080_words.specs.declared.refusal.Fault.{Fault}
+use Rattle.log_buffer.specs.Log as buffer
+use Rattle.log_buffer.specs.Log.{Log, log, pushed, IsWithinLimits}
+use Rattle.log_channel.specs.Channel.{Sending}
+use Rattle.log_entry.specs.Entries.{entry_of}
+use Rattle.log_entry.specs.Spelling.{IsEntry}
+use Rattle.log_entry.specs.declared.entry.Entry.{Entry}
+use Rattle.output_rule.specs.Covering.{Covering, after_forget}
+use Rattle.output_rule.specs.declared.notes.Note.{Note}
+use Rattle.pair_protocol.specs.Node.{Node, primary_takes}
+use Rattle.pair_protocol.specs.Rows.{took}
+use Rattle.recorder.specs.Recording.{Offers, offer_answer}
+use Rattle.ft_node.specs.Calls.{Takes}
+use Rattle.guest_board.specs.Outstanding.{ComesAndGoes, completed_by}
+use Rattle.ft_node.specs.Roles.{IsPrimary}
+use Rattle.ft_node.proofs.PrimaryNotes.{Covers-kept, keeps_all, keeps_others}
+use Rattle.ft_node.proofs.PrimaryNotes as notes
+use Rattle.ft_node.proofs.PrimaryRefusals.{Keeps, or_else, refused, allowed, offer_refused, offer_taken}
+
+-- ---- a primary
+
+pub keeps_log : {S : Type 0} (M : Machine S) (s : S) (l : Log) (sd : Sending) (c : Covering) (x : Node S)
+    → IsPrimary M s l sd c x → IsWithinLimits l → Keeps x l
+keeps_log M s l sd c x p limits = record {
+  role = p.role;
+  up = p.up;
+  kept = p.kept;
+  within = p.within;
+  limits = limits;
+}
+
+-- the same primary, where its parts are the same
+pub same_primary : {S : Type 0} (M : Machine S) (s t : S) (l new : Log) (sd : Sending) (c : Covering) (x : Node S)
+    → t ≡ s → new ≡ l → IsPrimary M s l sd c x → IsPrimary M t new sd c x
+same_primary M s t l new sd c x same logged p =
+    subst (λ t. IsPrimary M t new sd c x) (sym same) (subst (λ l. IsPrimary M s l sd c x) (sym logged) p)
+
+-- the log with one more entry, as far as it is not acknowledged
+pushed_behind : (l : Log) (covered : ℕ) (whole : List Entry) (e : Entry) → l ≡ log covered (drop covered whole)
+    → covered ≤ length whole → pushed l e ≡ log covered (drop covered (whole ++ e ∷ []))
+pushed_behind l covered whole e kept within =
+    ap (λ l. pushed l e) kept ∙ ap (log covered) (sym (drop-append-le covered whole (e ∷ []) within))
+
+-- the primary that took an input, with the notes that are left
+pub primary_took : {S : Type 0} (M : Machine S) (s t : S) (l : Log) (sd : Sending) (c : Covering) (left : List Note)
+    (x : Node S) (i : Input) → IsPrimary M s l sd c x → IsEntry (entry_of (M.count s) i)
+    → notes.Keeps M s c.notes t left
+    → IsPrimary M t (pushed l (entry_of (M.count s) i)) sd (record c { notes = left }) (took M x x.role t i)
+primary_took M s t l sd c left x i p valid keeps =
+    subst (λ r. IsPrimary M t (pushed l (entry_of (M.count s) i)) sd (record c { notes = left }) (took M x r t i))
+    (sym p.role)
+    (subst
+    (λ (e : Entry). IsPrimary M t (pushed l e) sd (record c { notes = left }) (primary_takes M x t i))
+    (ap (λ s. entry_of (M.count s) i) p.machine)
+    (record {
+      role = p.role;
+      up = p.up;
+      generation = p.generation;
+      machine = refl;
+      kept = pushed_behind l x.covered x.log (entry_of (M.count x.machine) i) p.kept p.within;
+      within =
+          let longer = length-append x.log (entry_of (M.count x.machine) i ∷ []) in
+          let within = p.within in
+          omega arith;
+      entries =
+          All-push IsEntry l.entries (entry_of (M.count x.machine) i) p.entries
+          (subst (λ s. IsEntry (entry_of (M.count s) i)) (sym p.machine) valid);
+      acknowledged = p.acknowledged;
+      covers =
+          Covers-kept M x c t left _ (entry_of (M.count x.machine) i ∷ []) p.covers p.within
+          (subst (λ s. notes.Keeps M s c.notes t left) (sym p.machine) keeps);
+    }))
+
+-- ---- an offer
+
+-- an input that is refused leaves the primary
+pub take_refused : {S : Type 0} (M : Machine S) (i : Input) (x : Node S) (Is : Node S → Type 0)
+    (refusal : Option Fault) (fault : Fault) → refusal ≡ Some fault → Is x → Takes M i refusal x (Err fault) Is
+take_refused M i x Is refusal fault is same = refused (Unit {0}) refusal fault (Err fault) (Is x) ⊥ is refl same
+
+-- the notes that an input leaves
+abbrev pub notes_left : Option OpId → Covering → Covering
+notes_left None c = c
+notes_left (Some name) c = after_forget c name
+
+-- an input of a primary that was refused
+pub offer_fails : {S : Type 0} (M : Machine S) (s t : S) (l new : Log) (sd : Sending) (c : Covering) (x : Node S)
+    (i : Input) (refusal : Option Fault) (fault : Fault) → IsPrimary M s l sd c x
+    → refusal ≡ or_else (refusal_of M x.machine i) (buffer.refusal_of l)
+    → Err fault ≡ offer_answer (refusal_of M s i) l → Offers M s l i (Err fault) t new
+    → Takes M i refusal x (Err fault) (IsPrimary M t new sd c)
+offer_fails {S} M s t l new sd c x i refusal fault p is answer stays =
+    let first = ap (λ s. or_else (refusal_of M s i) (buffer.refusal_of l)) p.machine in
+    take_refused M i x (IsPrimary M t new sd c) refusal fault
+    (is ∙ first ∙ offer_refused (refusal_of M s i) l fault answer)
+    (same_primary M s t l new sd c x stays.0 stays.1 p)
+
+-- and one that was taken, with the operation that it completes
+pub offer_done : {S : Type 0} (M : Machine S) (s t : S) (l new : Log) (sd : Sending) (c : Covering) (x : Node S)
+    (i : Input) (refusal : Option Fault) (index : ℕ) → ComesAndGoes M → IsPrimary M s l sd c x
+    → refusal ≡ or_else (refusal_of M x.machine i) (buffer.refusal_of l)
+    → Ok index ≡ offer_answer (refusal_of M s i) l → Offers M s l i (Ok index) t new
+    → IsEntry (entry_of (M.count s) i)
+    → Takes M i refusal x (Ok tt) (IsPrimary M t new sd (notes_left (completed_by M s i) c))
+offer_done {S} M s t l new sd c x i refusal index laws p is answer offers valid =
+    let first = ap (λ s. or_else (refusal_of M s i) (buffer.refusal_of l)) p.machine in
+    allowed (Unit {0}) refusal (Ok tt) _ _ (is ∙ first ∙ offer_taken (refusal_of M s i) l index answer)
+    (record {
+      s = t;
+      takes = ap (λ s. M.take s i) p.machine ∙ offers.0.taken;
+      after =
+          subst
+          (λ new. IsPrimary M t new sd (notes_left (completed_by M s i) c) (took M x x.role t i))
+          (sym offers.1)
+          (by_completed M s t l sd c x i (completed_by M s i) laws p valid offers.0.taken refl);
+    })
+  where
+    by_completed : {S : Type 0} (M : Machine S) (s t : S) (l : Log) (sd : Sending) (c : Covering) (x : Node S)
+        (i : Input) (name : Option OpId) → ComesAndGoes M → IsPrimary M s l sd c x → IsEntry (entry_of (M.count s) i)
+        → M.take s i ≡ Some t → completed_by M s i ≡ name
+        → IsPrimary M t (pushed l (entry_of (M.count s) i)) sd (notes_left name c) (took M x x.role t i)
+    by_completed M s t l sd c x i None laws p valid taken is =
+        primary_took M s t l sd c c.notes x i p valid (keeps_all M s t c.notes (laws.stays s t i taken is))
+    by_completed M s t l sd c x i (Some name) laws p valid taken is =
+        let gone = laws.goes s t i name taken is in
+        primary_took M s t l sd c _ x i p valid (keeps_others M s t c.notes name gone.0 gone.1)

@@ -1,0 +1,206 @@
+-- What a coverage knows of a primary as its machine moves. An operation that comes has its note, one that goes has none
+-- any more, and every other is found and noted as it was: so the notes are those of the protocol, and of outstanding
+-- operations alone, of which there are few.
+use Rattle.std.proofs.Common.{◌≡◌, ◌≢◌, ℕ, zero, suc, ◌<◌, ◌≤◌, ◌⊎◌, inl, inr, ⊎_elim, false, cond, Some, None, List, [], ◌∷◌, ◌++◌, length, take, get_or, length-append, refl, sym, ap, ◌∙◌, arith}
+use Rattle.std.specs.Prelude.{AllPairs}
+use Rattle.std.proofs.lemmas.Bool.{cases_Bool}
+use Rattle.std.proofs.lemmas.List.{take-append-le}
+use Rattle.std.proofs.lemmas.List.Kept.{AllPairs-filter}
+use Rattle.event_callbacks.specs.Operations.{id_of}
+use Rattle.event_callbacks.specs.declared.operations.OpId.{OpId}
+use Rattle.event_callbacks.specs.declared.operations.OpId.TheVariants as id
+use Rattle.event_callbacks.specs.declared.operations.Operation.{Operation}
+use Rattle.guest_board.specs.Machine.{Machine}
+use Rattle.log_entry.specs.Entries.{inputs_of, marks}
+use Rattle.log_entry.specs.declared.entry.Entry.{Entry}
+use Rattle.output_rule.specs.Covering.{Covering, IsCovering, after_forget, after_note}
+use Rattle.output_rule.specs.Laws.{AreNotesOf}
+use Rattle.output_rule.specs.Notes.{index_of, same_name, with_note, without_note, AreApart}
+use Rattle.output_rule.specs.declared.notes.Note.{Note}
+use Rattle.output_rule.specs.declared.notes.TheConstants.{PLACES}
+use Rattle.output_rule.proofs.FewNotes.{few_notes}
+use Rattle.output_rule.proofs.Names.{equal_from_same, same_name-itself}
+use Rattle.output_rule.proofs.NoteLists.{apart-with_note, note_comes, note_goes}
+use Rattle.pair_protocol.specs.Node as protocol
+use Rattle.pair_protocol.specs.Node.{Node, Primary, note_of, notes_after, primary_steps, primary_takes}
+use Rattle.pair_protocol.proofs.LeadMoves.{same_name-refl}
+use Rattle.plain_single.specs.declared.timed.Timed.{Timed}
+use Rattle.plain_single.specs.Reach as reach
+use Rattle.guest_board.specs.Outstanding.{ComesAndGoes, AreFew}
+use Rattle.ft_node.specs.Roles.{AreOfOutstanding, Covers}
+
+-- ---- names
+
+-- two names are one or not
+name_cases : (one other : OpId) → (one ≡ other) ⊎ (one ≢ other)
+name_cases one other =
+    ⊎_elim (λ same. inl (equal_from_same one other same))
+    (λ differs. inr (λ e. let itself = ap (λ n. same_name n other) e ∙ same_name-itself other in cc))
+    (cases_Bool (same_name one other))
+
+-- the protocol's test of two names is the coverage's
+alike : (one other : OpId) → same_name one other ≡ protocol.same_name one other
+alike (id.Byte port number) (id.Byte to other) = refl
+alike (id.Byte port number) (id.Write other) = refl
+alike (id.Write number) (id.Byte to other) = refl
+alike (id.Write number) (id.Write other) = refl
+
+same_name-alike : (one other : OpId) → one ≢ other → protocol.same_name one other ≡ false
+same_name-alike one other differs =
+    ⊎_elim (λ same. absurd (differs (equal_from_same one other (alike one other ∙ same)))) (λ e. e)
+    (cases_Bool (protocol.same_name one other))
+
+-- ---- the notes while nothing but the machine and its log moves
+
+-- of the operations and the notes nothing changes, but that some operation goes, with its note
+abbrev pub Keeps : {S : Type 0} → Machine S → S → List Note → S → List Note → Type 0
+Keeps M s notes t left =
+    (name : OpId)
+    → ((M.find t name ≡ None) × (index_of left name ≡ None))
+    ⊎ ((M.find t name ≡ M.find s name) × (index_of left name ≡ index_of notes name))
+
+pub keeps_all : {S : Type 0} (M : Machine S) (s t : S) (notes : List Note)
+    → ((name : OpId) → M.find t name ≡ M.find s name) → Keeps M s notes t notes
+keeps_all M s t notes same = λ name. inr (same name, refl)
+
+pub keeps_others : {S : Type 0} (M : Machine S) (s t : S) (notes : List Note) (name : OpId) → M.find t name ≡ None
+    → ((other : OpId) → other ≢ name → M.find t other ≡ M.find s other)
+    → Keeps M s notes t (without_note notes name)
+keeps_others M s t notes name gone same = λ other.
+    ⊎_elim
+    (λ is. inl (ap (M.find t) is ∙ gone, ap (index_of (without_note notes name)) is ∙ (note_goes notes name).itself))
+    (λ differs. inr (same other differs, (note_goes notes name).others other differs))
+    (name_cases other name)
+
+kept_outstanding : {S : Type 0} (M : Machine S) (s t : S) (notes left : List Note) (name : OpId) (index : ℕ)
+    → ((M.find t name ≡ None) × (index_of left name ≡ None))
+    ⊎ ((M.find t name ≡ M.find s name) × (index_of left name ≡ index_of notes name))
+    → ((name : OpId) (index : ℕ) → index_of notes name ≡ Some index → (o : Operation) × (M.find s name ≡ Some o))
+    → index_of left name ≡ Some index → (o : Operation) × (M.find t name ≡ Some o)
+kept_outstanding M s t notes left name index (inl gone) before is = let none = gone.1 in absurd (cc)
+kept_outstanding M s t notes left name index (inr same) before is =
+    let there = before name index (sym same.1 ∙ is) in
+    (there.0, same.0 ∙ there.1)
+
+kept_noted : {S : Type 0} (M : Machine S) (x : Node S) (c : Covering) (t : S) (left : List Note) (name : OpId)
+    (o : Operation)
+    → ((M.find t name ≡ None) × (index_of left name ≡ None))
+    ⊎ ((M.find t name ≡ M.find x.machine name) × (index_of left name ≡ index_of c.notes name))
+    → Covers M c x → M.find t name ≡ Some o → index_of left name ≡ note_of x.notes name
+kept_noted M x c t left name o (inl gone) covers there = let none = gone.0 in absurd (cc)
+kept_noted M x c t left name o (inr same) covers there = same.1 ∙ covers.noted name o (sym same.0 ∙ there)
+
+-- the keys that are covered stay while the log grows
+same_keys : {S : Type 0} (x : Node S) (more : List Entry) (port : ℕ) → x.covered ≤ length x.log
+    → length (reach.keys port (x.copy ++ inputs_of (take x.covered x.log)))
+    ≡ length (reach.keys port (x.copy ++ inputs_of (take x.covered (x.log ++ more))))
+same_keys x more port within =
+    ap (λ (es : List Entry). length (reach.keys port (x.copy ++ inputs_of es)))
+    (sym (take-append-le x.covered x.log more within))
+
+pub Covers-kept : {S : Type 0} (M : Machine S) (x : Node S) (c : Covering) (t : S) (left : List Note)
+    (list : List Timed) (more : List Entry) → Covers M c x → x.covered ≤ length x.log
+    → Keeps M x.machine c.notes t left
+    → Covers M (record c { notes = left }) (record x { machine = t; list = list; log = x.log ++ more })
+Covers-kept M x c t left list more covers within keeps = record {
+  acknowledged = covers.acknowledged;
+  waits = covers.waits;
+  keys = λ port is. covers.keys port is ∙ same_keys x more port within;
+  noted = λ name o there. kept_noted M x c t left name o (keeps name) covers there;
+  outstanding = λ name index is.
+      kept_outstanding M x.machine t c.notes left name index (keeps name) covers.outstanding is;
+}
+
+-- ---- an operation comes
+
+-- it has the new note, whatever note of its name there was before
+abbrev pub noted_after : Covering → OpId → ℕ → Covering
+noted_after c name index = after_note (after_forget c name) name index
+
+pub new_note : (notes : List Note) (name : OpId) (index : ℕ)
+    → index_of (with_note (without_note notes name) name index) name ≡ Some index
+new_note notes name index =
+    (note_comes (without_note notes name) name index).itself (note_goes notes name).itself
+
+pub other_notes : (notes : List Note) (name other : OpId) (index : ℕ) → other ≢ name
+    → index_of (with_note (without_note notes name) name index) other ≡ index_of notes other
+other_notes notes name other index differs =
+    (note_comes (without_note notes name) name index).others other differs
+    ∙ (note_goes notes name).others other differs
+
+pub AreOfOutstanding-noted : {S : Type 0} (M : Machine S) (s t : S) (c : Covering) (given : Operation) (index : ℕ)
+    → ComesAndGoes M → M.step s ≡ Some (t, Some given) → AreOfOutstanding M s c
+    → AreOfOutstanding M t (noted_after c (id_of given) index)
+AreOfOutstanding-noted M s t c given index laws made before = λ name at is.
+    let comes = laws.comes s t given made in
+    ⊎_elim
+    (λ same. (given, ap (M.find t) same ∙ comes.0))
+    (λ differs.
+    let there = before name at (sym (other_notes c.notes (id_of given) name index differs) ∙ is) in
+    (there.0, comes.1 name differs ∙ there.1))
+    (name_cases name (id_of given))
+
+new_noted : {S : Type 0} (M : Machine S) (x : Node S) (c : Covering) (t : S) (given : Operation) (name : OpId)
+    (o : Operation) → (M.find t (id_of given) ≡ Some given)
+    × ((other : OpId) → other ≢ id_of given → M.find t other ≡ M.find x.machine other) → Covers M c x
+    → M.find t name ≡ Some o → (name ≡ id_of given) ⊎ (name ≢ id_of given)
+    → index_of (noted_after c (id_of given) (length x.log)).notes name
+    ≡ note_of (notes_after x.notes (length x.log) (Some given)) name
+new_noted M x c t given name o comes covers there (inl same) =
+    ap (index_of (noted_after c (id_of given) (length x.log)).notes) same
+    ∙ new_note c.notes (id_of given) (length x.log)
+    ∙ ap (λ b. cond b (Some (length x.log)) (note_of x.notes name))
+    (sym (ap (λ n. protocol.same_name n (id_of given)) same ∙ same_name-refl (id_of given)))
+new_noted M x c t given name o comes covers there (inr differs) =
+    other_notes c.notes (id_of given) name (length x.log) differs
+    ∙ covers.noted name o (sym (comes.1 name differs) ∙ there)
+    ∙ ap (λ b. cond b (Some (length x.log)) (note_of x.notes name))
+    (sym (same_name-alike name (id_of given) differs))
+
+pub Covers-noted : {S : Type 0} (M : Machine S) (x : Node S) (c : Covering) (t : S) (given : Operation)
+    → ComesAndGoes M → M.step x.machine ≡ Some (t, Some given) → Covers M c x → x.covered ≤ length x.log
+    → Covers M (noted_after c (id_of given) (length x.log)) (primary_steps M x t (Some given))
+Covers-noted M x c t given laws made covers within = record {
+  acknowledged = covers.acknowledged;
+  waits = covers.waits;
+  keys = λ port is. covers.keys port is ∙ same_keys x (marks (M.count t) (Some given)) port within;
+  noted = λ name o there.
+      new_noted M x c t given name o (laws.comes x.machine t given made) covers there (name_cases name (id_of given));
+  outstanding =
+      AreOfOutstanding-noted M x.machine t c given (length x.log) laws made covers.outstanding;
+}
+
+-- ---- there is room for its note
+
+-- each note is found under its name
+found_itself : (notes : List Note) (k : ℕ) (d : Note) → k < length notes
+    → (index : ℕ) × (index_of notes (get_or notes k d).id ≡ Some index)
+found_itself [] k d within = let none : k < 0 = within in absurd (omega arith)
+found_itself (note ∷ notes) zero d within =
+    (note.index, ap (λ b. cond b (Some note.index) (index_of notes note.id)) (same_name-itself note.id))
+found_itself (note ∷ notes) (suc k) d within =
+    let later = found_itself notes k d (omega arith) in
+    ⊎_elim
+    (λ same. (note.index, ap (λ b. cond b (Some note.index) (index_of notes (get_or notes k d).id)) same))
+    (λ differs. (later.0, ap (λ b. cond b (Some note.index) (index_of notes (get_or notes k d).id)) differs ∙ later.1))
+    (cases_Bool (same_name note.id (get_or notes k d).id))
+
+few_outstanding : {S : Type 0} (M : Machine S) (t : S) (c : Covering) (few : AreFew M t) → AreOfOutstanding M t c
+    → AreNotesOf few.names c.notes
+few_outstanding M t c few outstanding k d within =
+    let found = found_itself c.notes k d within in
+    let there = outstanding (get_or c.notes k d).id found.0 found.1 in
+    few.all (get_or c.notes k d).id there.0 there.1
+
+pub room_for_note : {S : Type 0} (M : Machine S) (t : S) (c : Covering) (name : OpId) (index : ℕ) → IsCovering c
+    → AreFew M t → AreOfOutstanding M t (noted_after c name index) → length (after_forget c name).notes < PLACES
+room_for_note M t c name index stands few outstanding =
+    let left = without_note c.notes name in
+    let apart : AllPairs AreApart left = AllPairs-filter AreApart _ c.notes stands.apart in
+    let all_apart = apart-with_note left name index (note_goes c.notes name).itself apart in
+    let notes : AreNotesOf few.names (with_note left name index) =
+    few_outstanding M t (noted_after c name index) few outstanding in
+    let no_more = few_notes (with_note left name index) few.names all_apart notes in
+    let one_more = length-append left (record { id = name; index = index } ∷ []) in
+    let limit = few.few in
+    omega arith

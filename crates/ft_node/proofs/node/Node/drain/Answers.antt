@@ -1,0 +1,26 @@
+use Rattle.pair_protocol.specs.Node.{Draining}
+use Rattle.ft_node.specs.Roles.{IsFollower}
+use Rattle.ft_node.specs.Seats.{IsNode}
+use Rattle.ft_node.proofs.LastMoves.{drained, drains_on}
+use Rattle.ft_node.proofs.node.Node.drain.Goals as goal
+
+pub returns-then-replayed : goal.returns-then-replayed
+returns-then-replayed g c = λ x is.
+    let M = g.B.Lockstep.machine in
+    let state = g.B.Lockstep.state in
+    let old = c.in-Draining.draining in
+    let new = c.drain.new.self in
+    let f : IsFollower Draining (state old.replayer.board) old.receiver x = rw c.in-Draining.is at is in
+    drained M x (state old.replayer.board) (state new.replayer.board) old.receiver new.receiver c.args.turns
+    c.in_ok-replayed.replayed (IsNode state M c.finish.new.self) f c.in_ok-replayed.ensures.held
+    c.in_ok-replayed.ensures.answers c.if-replayed.true c.finish.ensures
+
+pub returns-else-replayed : goal.returns-else-replayed
+returns-else-replayed g c = λ x is.
+    let M = g.B.Lockstep.machine in
+    let state = g.B.Lockstep.state in
+    let old = c.in-Draining.draining in
+    let new = c.drain.new.self in
+    let f : IsFollower Draining (state old.replayer.board) old.receiver x = rw c.in-Draining.is at is in
+    drains_on M x (state old.replayer.board) (state new.replayer.board) old.receiver new.receiver c.args.turns
+    c.in_ok-replayed.replayed f c.in_ok-replayed.ensures.held c.in_ok-replayed.ensures.answers c.if-replayed.false

@@ -1,0 +1,4 @@
+pub mod Roles
+pub mod Seats
+pub mod Calls
+pub mod Noting

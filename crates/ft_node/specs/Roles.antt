@@ -1,0 +1,64 @@
+-- What the fields of a node in each role say of the protocol's node that it is.
+use Rattle.std.specs.Prelude.{◌≡◌, ℕ, ◌<◌, ◌≤◌, true, false, Some, All, length, drop, slice_index}
+use Rattle.event_callbacks.specs.declared.devices.TheConstants.{PORTS}
+use Rattle.event_callbacks.specs.declared.operations.OpId.{OpId}
+use Rattle.event_callbacks.specs.declared.operations.Operation.{Operation}
+use Rattle.guest_board.specs.Machine.{Machine}
+use Rattle.log_entry.specs.Spelling.{IsEntry}
+use Rattle.log_buffer.specs.Log.{Log, log}
+use Rattle.log_channel.specs.Channel.{Receiving, Sending}
+use Rattle.output_rule.specs.Covering.{Covering}
+use Rattle.output_rule.specs.Notes.{index_of}
+use Rattle.pair_protocol.specs.Node.{Node, Role, Primary, Alone, note_of, keys_covered}
+
+-- only operations that are outstanding have notes
+abbrev pub AreOfOutstanding : {S : Type 0} → Machine S → S → Covering → Type 0
+AreOfOutstanding M s c =
+    (name : OpId) (index : ℕ) → index_of c.notes name ≡ Some index → (o : Operation) × (M.find s name ≡ Some o)
+
+-- what a coverage knows of a primary: how far its log is acknowledged, the keys that are covered so, and the notes of
+-- exactly those outstanding operations that have one
+pub record Covers {S : Type 0} (M : Machine S) (c : Covering) (x : Node S) : Type 0 where
+  pub acknowledged : c.acknowledged ≡ x.covered
+  pub waits : c.all ≡ false
+  pub keys : (port : ℕ) → port < PORTS → slice_index c.keys port ≡ keys_covered M x port Primary
+  pub noted : (name : OpId) (o : Operation) → M.find x.machine name ≡ Some o
+      → index_of c.notes name ≡ note_of x.notes name
+  pub outstanding : AreOfOutstanding M x.machine c
+
+-- a primary with this guest, this log, its end of the channel and its coverage: the log keeps the entries that are not
+-- acknowledged
+pub record IsPrimary {S : Type 0} (M : Machine S) (s : S) (l : Log) (sending : Sending) (c : Covering) (x : Node S)
+    : Type 0 where
+  pub role : x.role ≡ Primary
+  pub up : x.running ≡ true
+  pub generation : x.generation ≡ sending.generation
+  pub machine : x.machine ≡ s
+  pub kept : l ≡ log x.covered (drop x.covered x.log)
+  pub within : x.covered ≤ length x.log
+  pub entries : All IsEntry l.entries
+  pub acknowledged : sending.held ≡ x.covered
+  pub covers : Covers M c x
+
+-- a backup, or one that drains, with this guest and its end of the channel: what it has not replayed is still held
+pub record IsFollower {S : Type 0} (role : Role) (s : S) (r : Receiving) (x : Node S) : Type 0 where
+  pub role_is : x.role ≡ role
+  pub up : x.running ≡ true
+  pub generation : x.generation ≡ r.generation
+  pub machine : x.machine ≡ s
+  pub held : length x.held ≡ r.held
+  pub left : r.entries ≡ drop x.replayed x.held
+  pub within : x.replayed ≤ length x.held
+
+-- an alone node with this guest
+pub record IsAlone {S : Type 0} (s : S) (generation : ℕ) (x : Node S) : Type 0 where
+  pub role : x.role ≡ Alone
+  pub up : x.running ≡ true
+  pub generation_is : x.generation ≡ generation
+  pub machine : x.machine ≡ s
+
+-- a node that halted at this count, in whatever role
+pub record IsHalted {S : Type 0} (M : Machine S) (generation count : ℕ) (x : Node S) : Type 0 where
+  pub down : x.running ≡ false
+  pub generation_is : x.generation ≡ generation
+  pub count_is : M.count x.machine ≡ count

@@ -1,0 +1,172 @@
+//! A node that is live.
+ghost use Rattle.std.specs.Prelude.{◌≡◌, ◌≢◌, ◌<◌, Ok, ok_or};
+ghost use Rattle.i8080_words.specs.declared.refusal.Fault.TheVariants.{NotDue, Spent, Idle};
+ghost use Rattle.disk_dcdd.specs.declared.controller.TheConstants.{DRIVES};
+ghost use Rattle.disk_dcdd.specs.declared.sector.TheConstants.{SECTORS};
+ghost use Rattle.event_callbacks.specs.declared.devices.TheConstants.{PORTS};
+ghost use Rattle.guest_board.specs.declared.input.Input.TheVariants as input;
+ghost use Rattle.pair_protocol.specs.Node.{Node};
+ghost use Rattle.pair_protocol.specs.Refusals as refusals;
+ghost use Rattle.ft_node.specs.Calls as calls;
+ghost use Rattle.ft_node.specs.Roles.{IsAlone};
+ghost use Rattle.pair_events.specs.declared.reply.Why.TheVariants as why;
+
+use crate::ran::Ran;
+use disk_dcdd::{GREATEST_NUMBER, SECTOR_BYTES, SectorAddress};
+use event_callbacks::{OpId, Operation};
+use guest_board::{Input, Lockstep};
+use i8080_words::{Fault, R};
+use pair_events::Why;
+
+/// A guest that runs with no backup: it logs nothing, and releases all that it gives (VMware FT, section 2.3,
+/// "go live").
+#[derive(Drop)]
+pub struct Alone<B> {
+    pub(crate) board: B,
+    pub(crate) generation: u32,
+    ghost first: { 0 < generation },
+}
+
+impl<B: Lockstep> Alone<B> {
+    /// Makes at most `turns` steps, and stops after the first that gives an operation.
+    pub(crate) fn step(&mut self, turns: u64) -> R<Ran>
+        ensures { (x : Node B.State)
+            → IsAlone (B.state self.old.board) self.old.generation x
+            → calls.Steps B.machine turns x result (IsAlone (B.state self.new.board) self.new.generation) }
+    {
+        for steps in 0..turns {
+            match self.board.exec() {
+                Ok(executed) => {
+                    if let Some(operation) = executed.given() {
+                        return Ok(self.ran(steps + 1, Why::Operation(operation.id())));
+                    }
+                }
+                Err(fault) if steps == 0 => return Err(fault),
+                Err(fault) => return Ok(self.ran(steps, why_of(fault))),
+            }
+        }
+        Ok(self.ran(turns, Why::Turns))
+    }
+
+    // What the node answers that came so far.
+    fn ran(&self, steps: u64, why: Why) -> Ran
+        ensures { result ≡ record { steps = steps; count = B.machine.count (B.state self.now.board); why = why } }
+    {
+        Ran {
+            steps,
+            count: self.board.count(),
+            why,
+        }
+    }
+
+    /// Takes the key of an index.
+    pub(crate) fn key(&mut self, port: u8, index: u64, byte: u8) -> R<()>
+        requires { port < PORTS }
+        ensures { (x : Node B.State)
+            → IsAlone (B.state self.old.board) self.old.generation x
+            → calls.Takes B.machine (input.Rx port byte) (refusals.key_refusal B.machine port index x) x result
+            (IsAlone (B.state self.new.board) self.new.generation) }
+    {
+        if index != self.board.keys(port) {
+            return Err(Fault::WrongNumber);
+        }
+        if index >= GREATEST_NUMBER {
+            return Err(Fault::Spent);
+        }
+        self.board.take(Input::Rx(port, byte))
+    }
+
+    /// Takes the acceptance of the byte of a number, which has to be the oldest that is not accepted.
+    pub(crate) fn sent(&mut self, port: u8, number: u64) -> R<()>
+        requires { port < PORTS }
+        ensures { (x : Node B.State)
+            → IsAlone (B.state self.old.board) self.old.generation x
+            → calls.Takes B.machine (input.Sent port) (refusals.sent_refusal B.machine port number x) x result
+            (IsAlone (B.state self.new.board) self.new.generation) }
+    {
+        let due = self.board.due_byte(port).ok_or(Fault::NotDue)?;
+        if due != number {
+            return Err(Fault::WrongNumber);
+        }
+        self.board.take(Input::Sent(port))
+    }
+
+    /// Takes the completion of a write.
+    pub(crate) fn done(&mut self, number: u64) -> R<()>
+        ensures { (x : Node B.State)
+            → IsAlone (B.state self.old.board) self.old.generation x
+            → calls.Takes B.machine (input.Written number) (refusals.done_refusal B.machine number x) x result
+            (IsAlone (B.state self.new.board) self.new.generation) }
+    {
+        self.board.take(Input::Written(number))
+    }
+
+    /// Takes a sector that was read at an address, with the number of the write that brought its bytes.
+    pub(crate) fn under(
+        &mut self,
+        address: SectorAddress,
+        number: u64,
+        bytes: [u8; SECTOR_BYTES],
+    ) -> R<()>
+        requires drive { address.drive < DRIVES }
+        requires sector { address.sector < SECTORS }
+        ensures { (x : Node B.State)
+            → IsAlone (B.state self.old.board) self.old.generation x
+            → calls.Takes B.machine (input.Sector address.drive address.sector number bytes)
+            (refusals.under_refusal B.machine address number bytes x) x result
+            (IsAlone (B.state self.new.board) self.new.generation) }
+    {
+        if self.board.sector_under(address.drive, address.sector) != address {
+            return Err(Fault::NotDue);
+        }
+        self.board.take(Input::Sector {
+            drive: address.drive,
+            sector: address.sector,
+            number,
+            bytes,
+        })
+    }
+
+    /// The sector of a number at the selected drive, where its head stands, if one is selected.
+    pub(crate) fn sector(&self, sector: u8) -> Option<SectorAddress>
+        ensures { (x : Node B.State)
+            → IsAlone (B.state self.now.board) self.now.generation x
+            → calls.Finds B.machine sector x (ok_or result NotDue) }
+    {
+        let drive = self.board.selected()?;
+        Some(self.board.sector_under(drive, sector))
+    }
+
+    /// The outstanding operation of a name.
+    pub(crate) fn release(&self, id: OpId) -> R<Operation>
+        ensures { (x : Node B.State)
+            → IsAlone (B.state self.now.board) self.now.generation x
+            → calls.Releases B.machine id x result }
+    {
+        let operation = self.board.outstanding(id).ok_or(Fault::NotDue)?;
+        Ok(*operation)
+    }
+
+    /// How many keys of a port are covered: all that the guest has taken.
+    pub(crate) fn told(&self, port: u8) -> u64
+        requires { port < PORTS }
+        ensures { (x : Node B.State)
+            → IsAlone (B.state self.now.board) self.now.generation x
+            → calls.Tells B.machine port x (Ok result) }
+    {
+        self.board.keys(port)
+    }
+}
+
+// Why a guest stops that is refused a step.
+fn why_of(fault: Fault) -> Why
+    ensures idle { fault ≡ Idle → result ≡ why.Idle }
+    ensures spent { fault ≡ Spent → result ≡ why.Spent }
+    ensures memory { fault ≢ Idle → fault ≢ Spent → result ≡ why.Memory }
+{
+    match fault {
+        Fault::Idle => Why::Idle,
+        Fault::Spent => Why::Spent,
+        _ => Why::Memory,
+    }
+}

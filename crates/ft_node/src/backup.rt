@@ -1,0 +1,56 @@
+//! The backup of a generation.
+ghost use Rattle.std.specs.Prelude.{◌≡◌};
+ghost use Rattle.log_channel.specs.Packet.{packet_at};
+ghost use Rattle.pair_protocol.specs.Node as protocol;
+ghost use Rattle.guest_board.specs.Recorded.{Counts};
+ghost use Rattle.log_entry.specs.Standing.{IsOnTrace};
+ghost use Rattle.ft_node.specs.Calls as calls;
+ghost use Rattle.ft_node.specs.Roles.{IsFollower};
+
+use guest_board::Lockstep;
+use i8080_words::R;
+use log_channel::Receiver;
+use replayer::{Replayed, Replayer};
+use std::alloc::Global;
+
+/// A guest that holds the log of its primary and repeats it (VMware FT, section 2.1).
+#[derive(Drop)]
+pub struct Backup<B> {
+    pub(crate) replayer: Replayer<B>,
+    pub(crate) receiver: Receiver,
+}
+
+impl<B: Lockstep> Backup<B> {
+    /// Takes a packet of the log: true where its entry is the next one, and is held.
+    pub(crate) fn on_log(&mut self, bytes: &[u8]) -> R<bool>
+        ensures { (x : protocol.Node B.State)
+            → IsFollower protocol.Backup (B.state self.old.replayer.board) self.old.receiver x
+            → calls.Delivers (packet_at bytes.now) x result
+            (IsFollower protocol.Backup (B.state self.new.replayer.board) self.new.receiver) }
+    {
+        self.receiver.on_log(bytes)
+    }
+
+    /// The packet that acknowledges all that is held.
+    pub(crate) fn ack(&self, alloc: Global) -> R<Vec<u8>>
+        ensures { (x : protocol.Node B.State)
+            → IsFollower protocol.Backup (B.state self.now.replayer.board) self.now.receiver x
+            → calls.Acknowledges x result }
+    {
+        // Both are in the range of a packet.
+        let _ = (self.receiver.generation(), self.receiver.held());
+        self.receiver.ack(alloc)
+    }
+
+    /// Makes at most `turns` moves, each of them a step or an entry that is held.
+    pub(crate) fn replay(&mut self, turns: u64) -> R<Replayed>
+        requires counts { Counts B.machine }
+        requires on_trace { IsOnTrace B.machine (B.state self.old.replayer.board) self.old.receiver.entries }
+        ensures { (x : protocol.Node B.State)
+            → IsFollower protocol.Backup (B.state self.old.replayer.board) self.old.receiver x
+            → calls.Replaying B.machine turns x result
+            (IsFollower protocol.Backup (B.state self.new.replayer.board) self.new.receiver) }
+    {
+        self.replayer.replay(&mut self.receiver, turns)
+    }
+}

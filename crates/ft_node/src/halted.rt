@@ -1,0 +1,10 @@
+//! A node that halted.
+ghost use Rattle.std.specs.Prelude.{◌<◌};
+
+/// A node that does nothing more, with the count at which it halted.
+#[derive(Clone, Copy, Debug, PartialEq, Eq)]
+pub struct Halted {
+    pub(crate) generation: u32,
+    pub(crate) count: u64,
+    ghost first: { 0 < generation },
+}

@@ -1,0 +1,16 @@
+//! A node of a pair: its role, its machine, and its part of each event.
+#![tactic(auto)]
+
+mod alone;
+mod backup;
+mod halted;
+mod node;
+mod primary;
+mod ran;
+
+pub use alone::Alone;
+pub use backup::Backup;
+pub use halted::Halted;
+pub use node::Node;
+pub use primary::Primary;
+pub use ran::{Drained, Ran};

@@ -1,0 +1,423 @@
+//! A node, in whatever role.
+ghost use Rattle.std.specs.Prelude.{◌≡◌, ◌<◌, true, IfOk, IfErr};
+ghost use Rattle.i8080_words.specs.declared.refusal.Fault.TheVariants.{OutOfMemory};
+ghost use Rattle.pair_protocol.specs.Rows.{at_end};
+ghost use Rattle.pair_protocol.specs.Node.{goes_live, halts, wins};
+ghost use Rattle.disk_dcdd.specs.declared.controller.TheConstants.{DRIVES};
+ghost use Rattle.disk_dcdd.specs.declared.sector.TheConstants.{SECTORS};
+ghost use Rattle.event_callbacks.specs.declared.devices.TheConstants.{PORTS};
+ghost use Rattle.guest_board.specs.declared.input.Input.TheVariants as input;
+ghost use Rattle.log_channel.specs.Packet.{packet_at};
+ghost use Rattle.pair_protocol.specs.Node as protocol;
+ghost use Rattle.pair_protocol.specs.Refusals as refusals;
+ghost use Rattle.guest_board.specs.Recorded.{Counts};
+ghost use Rattle.ft_node.specs.Calls as calls;
+ghost use Rattle.guest_board.specs.Outstanding.{ComesAndGoes};
+ghost use Rattle.ft_node.specs.Roles.{IsFollower, IsHalted};
+ghost use Rattle.ft_node.specs.Seats.{IsNode, MayRun, MayReplay, IsRole};
+
+use crate::alone::Alone;
+use crate::backup::Backup;
+use crate::halted::Halted;
+use crate::primary::Primary;
+use crate::ran::{Drained, Ran};
+use arbiter_core::{Arbiter, Won};
+use disk_dcdd::{SECTOR_BYTES, SectorAddress};
+use event_callbacks::{OpId, Operation, PORTS};
+use go_live::Draining;
+use guest_board::Lockstep;
+use i8080_words::{Fault, R};
+use log_buffer::LogBuffer;
+use log_channel::{Receiver, Sender};
+use output_rule::Coverage;
+use pair_events::Role;
+use recorder::Recorder;
+use replayer::{Replayed, Replayer};
+use std::alloc::Global;
+use std::mem;
+
+/// A node of a pair, by its role. A call that the role has no part in is refused with `WrongRole`; a refused call
+/// leaves the node as it was, but for one that asked the arbiter and lost: that one is halted.
+#[derive(Drop)]
+pub enum Node<B> {
+    Primary(Primary<B>),
+    Backup(Backup<B>),
+    Draining(Draining<B>),
+    Alone(Alone<B>),
+    Halted(Halted),
+}
+
+impl<B: Lockstep + Drop> Node<B> {
+    /// The primary of a generation, with an empty log. `OutOfMemory` hands the guest back.
+    pub fn primary(alloc: Global, board: B, generation: u32) -> Result<Node<B>, (B, Fault)>
+        requires { 0 < generation }
+        ensures ok { IfOk result (λ node. (x : protocol.Node B.State)
+            → calls.Begins B.machine protocol.Primary generation (B.state board) x → IsNode B.state B.machine node x) }
+        ensures full { IfErr result (λ refused. (refused.0 ≡ board) × (refused.1 ≡ OutOfMemory)) }
+    {
+        match LogBuffer::new(alloc, 0) {
+            Ok(log) => Ok(Node::Primary(Primary {
+                recorder: Recorder::new(board, log),
+                sender: Sender::new(generation),
+                coverage: Coverage::new([0; PORTS]),
+            })),
+            Err(fault) => Err((board, fault)),
+        }
+    }
+
+    /// The backup of a generation, which holds nothing yet.
+    pub fn backup(alloc: Global, board: B, generation: u32) -> Node<B>
+        requires { 0 < generation }
+        ensures { (x : protocol.Node B.State)
+            → calls.Begins B.machine protocol.Backup generation (B.state board) x → IsNode B.state B.machine result x }
+    {
+        Node::Backup(Backup {
+            replayer: Replayer::new(board),
+            receiver: Receiver::new(alloc, generation),
+        })
+    }
+
+    /// Makes at most `turns` steps of a primary's or an alone node's machine, up to the first that gives an operation.
+    /// `LogFull`, `Spent`, `Idle` and `OutOfMemory` come only where no step is made.
+    pub fn step(&mut self, turns: u64) -> R<Ran>
+        requires counts { Counts B.machine }
+        requires operations { ComesAndGoes B.machine }
+        requires few { MayRun B.state B.machine self.old }
+        ensures { (x : protocol.Node B.State) → IsNode B.state B.machine self.old x
+            → calls.Steps B.machine turns x result (IsNode B.state B.machine self.new) }
+    {
+        match self {
+            Node::Primary(primary) => primary.step(turns),
+            Node::Alone(alone) => alone.step(turns),
+            _ => Err(Fault::WrongRole),
+        }
+    }
+
+    /// Takes the key that was typed at an index, from 0. `WrongNumber` where it is not the next one; `LogFull` and
+    /// `Spent` as the log and the number of keys say.
+    pub fn key(&mut self, port: u8, index: u64, byte: u8) -> R<()>
+        requires counts { Counts B.machine }
+        requires operations { ComesAndGoes B.machine }
+        requires port { port < PORTS }
+        ensures { (x : protocol.Node B.State) → IsNode B.state B.machine self.old x
+            → calls.Takes B.machine (input.Rx port byte) (refusals.key_refusal B.machine port index x) x
+            result (IsNode B.state B.machine self.new) }
+    {
+        match self {
+            Node::Primary(primary) => primary.key(port, index, byte),
+            Node::Alone(alone) => alone.key(port, index, byte),
+            _ => Err(Fault::WrongRole),
+        }
+    }
+
+    /// Takes the acceptance of the byte of a number. `NotDue` where no byte of the port waits, `WrongNumber` where
+    /// another one is the oldest.
+    pub fn sent(&mut self, port: u8, number: u64) -> R<()>
+        requires counts { Counts B.machine }
+        requires operations { ComesAndGoes B.machine }
+        requires port { port < PORTS }
+        ensures { (x : protocol.Node B.State) → IsNode B.state B.machine self.old x
+            → calls.Takes B.machine (input.Sent port) (refusals.sent_refusal B.machine port number x) x result
+            (IsNode B.state B.machine self.new) }
+    {
+        match self {
+            Node::Primary(primary) => primary.sent(port, number),
+            Node::Alone(alone) => alone.sent(port, number),
+            _ => Err(Fault::WrongRole),
+        }
+    }
+
+    /// Takes the completion of a write. `NotDue` where it is not outstanding.
+    pub fn done(&mut self, number: u64) -> R<()>
+        requires counts { Counts B.machine }
+        requires operations { ComesAndGoes B.machine }
+        ensures { (x : protocol.Node B.State) → IsNode B.state B.machine self.old x
+            → calls.Takes B.machine (input.Written number) (refusals.done_refusal B.machine number x) x result
+            (IsNode B.state B.machine self.new) }
+    {
+        match self {
+            Node::Primary(primary) => primary.done(number),
+            Node::Alone(alone) => alone.done(number),
+            _ => Err(Fault::WrongRole),
+        }
+    }
+
+    /// The sector of a number at the selected drive, where its head stands. `NotDue` where no drive is selected.
+    pub fn place(&self, sector: u8) -> R<SectorAddress>
+        requires { sector < SECTORS }
+        ensures { (x : protocol.Node B.State) → IsNode B.state B.machine self.now x
+            → calls.Finds B.machine sector x result }
+    {
+        let selected = match self {
+            Node::Primary(primary) => primary.sector(sector),
+            Node::Alone(alone) => alone.sector(sector),
+            _ => return Err(Fault::WrongRole),
+        };
+        selected.ok_or(Fault::NotDue)
+    }
+
+    /// Takes a sector that was read, with the number of the write that brought its bytes. `NotDue` where the head is
+    /// elsewhere by now, `SectorBusy` where a write of it is outstanding, `StaleRead` where it was read too early.
+    pub fn under(&mut self, address: SectorAddress, number: u64, bytes: [u8; SECTOR_BYTES]) -> R<()>
+        requires counts { Counts B.machine }
+        requires operations { ComesAndGoes B.machine }
+        requires drive { address.drive < DRIVES }
+        requires sector { address.sector < SECTORS }
+        ensures { (x : protocol.Node B.State) → IsNode B.state B.machine self.old x
+            → calls.Takes B.machine (input.Sector address.drive address.sector number bytes)
+            (refusals.under_refusal B.machine address number bytes x) x result (IsNode B.state B.machine self.new) }
+    {
+        match self {
+            Node::Primary(primary) => primary.under(address, number, bytes),
+            Node::Alone(alone) => alone.under(address, number, bytes),
+            _ => Err(Fault::WrongRole),
+        }
+    }
+
+    /// The packet of a primary's log entry of an index. `Unknown` where it is acknowledged or not there yet, and at
+    /// every other node.
+    pub fn packet(&self, alloc: Global, index: u64) -> R<Vec<u8>>
+        ensures { (x : protocol.Node B.State) → IsNode B.state B.machine self.now x → calls.Sends index x result }
+    {
+        match self {
+            Node::Primary(primary) => primary.packet(alloc, index),
+            _ => Err(Fault::Unknown),
+        }
+    }
+
+    /// Takes a packet of the log: true where its entry is the next one, and is held; a repeat, or one past a gap, is
+    /// false and changes nothing. `Malformed` and `WrongGeneration` as the packet is.
+    pub fn on_log(&mut self, bytes: &[u8]) -> R<bool>
+        ensures { (x : protocol.Node B.State) → IsNode B.state B.machine self.old x
+            → calls.Delivers (packet_at bytes.now) x result (IsNode B.state B.machine self.new) }
+    {
+        match self {
+            Node::Backup(backup) => backup.on_log(bytes),
+            _ => Err(Fault::WrongRole),
+        }
+    }
+
+    /// The packet by which a backup acknowledges all that it holds.
+    pub fn ack(&self, alloc: Global) -> R<Vec<u8>>
+        ensures { (x : protocol.Node B.State) → IsNode B.state B.machine self.now x → calls.Acknowledges x result }
+    {
+        match self {
+            Node::Backup(backup) => backup.ack(alloc),
+            _ => Err(Fault::WrongRole),
+        }
+    }
+
+    /// Takes an acknowledgement, and gives how many entries are acknowledged then. `BadAck` where it is of more entries
+    /// than the log has.
+    pub fn on_ack(&mut self, bytes: &[u8]) -> R<u64>
+        ensures { (x : protocol.Node B.State) → IsNode B.state B.machine self.old x
+            → calls.Hears (packet_at bytes.now) x result (IsNode B.state B.machine self.new) }
+    {
+        match self {
+            Node::Primary(primary) => primary.on_ack(bytes),
+            _ => Err(Fault::WrongRole),
+        }
+    }
+
+    /// Makes at most `turns` moves of what a backup holds. `OutOfMemory` comes only where no move is made.
+    pub fn replay(&mut self, turns: u64) -> R<Replayed>
+        requires counts { Counts B.machine }
+        requires on_trace { MayReplay B.state B.machine self.old }
+        ensures { (x : protocol.Node B.State) → IsNode B.state B.machine self.old x
+            → calls.Replaying B.machine turns x result (IsNode B.state B.machine self.new) }
+    {
+        match self {
+            Node::Backup(backup) => backup.replay(turns),
+            _ => Err(Fault::WrongRole),
+        }
+    }
+
+    /// The outstanding operation of a name: `NotDue` where there is none, `NotCovered` where a primary's backup has not
+    /// acknowledged it.
+    pub fn release(&self, id: OpId) -> R<Operation>
+        ensures { (x : protocol.Node B.State) → IsNode B.state B.machine self.now x
+            → calls.Releases B.machine id x result }
+    {
+        match self {
+            Node::Primary(primary) => primary.release(id),
+            Node::Alone(alone) => alone.release(id),
+            _ => Err(Fault::WrongRole),
+        }
+    }
+
+    /// How many keys of a port are covered, so that its terminal may forget them.
+    pub fn told(&self, port: u8) -> R<u64>
+        requires { port < PORTS }
+        ensures { (x : protocol.Node B.State) → IsNode B.state B.machine self.now x
+            → calls.Tells B.machine port x result }
+    {
+        match self {
+            Node::Primary(primary) => Ok(primary.told(port)),
+            Node::Alone(alone) => Ok(alone.told(port)),
+            _ => Err(Fault::WrongRole),
+        }
+    }
+
+    /// Makes at most `turns` moves of what a node that won still holds; with nothing left it is alone. `OutOfMemory`
+    /// comes only where no move is made.
+    pub fn drain(&mut self, turns: u64) -> R<Drained>
+        requires counts { Counts B.machine }
+        requires on_trace { MayReplay B.state B.machine self.old }
+        ensures { (x : protocol.Node B.State) → IsNode B.state B.machine self.old x
+            → calls.Draining B.machine turns x result (IsNode B.state B.machine self.new) }
+    {
+        let Node::Draining(draining) = self else {
+            return Err(Fault::WrongRole);
+        };
+        let replayed = draining.drain(turns)?;
+        if replayed.at_end {
+            self.finish();
+        }
+        Ok(Drained {
+            moves: replayed.moves,
+            alone: replayed.at_end,
+        })
+    }
+
+    /// Asks the arbiter for the generation: whoever asks first goes on alone, a backup once it is drained. `Lost` where
+    /// the other node has asked before, and then this one is halted; `OutOfMemory` where the arbiter has no room.
+    pub fn suspect(&mut self, id: u64, arbiter: &mut Arbiter) -> R<Won>
+        ensures { (x : protocol.Node B.State) → IsNode B.state B.machine self.old x
+            → calls.Asks arbiter.old id x result arbiter.new (IsNode B.state B.machine self.new) }
+    {
+        let generation = self.generation();
+        if let Node::Halted(_) = self {
+            return Err(Fault::WrongRole);
+        }
+        if arbiter.winner(generation) == Some(id) {
+            return Ok(Won);
+        }
+        match arbiter.test_and_set(generation, id) {
+            Ok(won) => {
+                self.win();
+                Ok(won)
+            }
+            Err(Fault::Lost) => {
+                self.halt();
+                Err(Fault::Lost)
+            }
+            Err(fault) => Err(fault),
+        }
+    }
+
+    /// Halts. `WrongRole` where it was halted before.
+    pub fn stop(&mut self) -> R<()>
+        ensures { (x : protocol.Node B.State) → IsNode B.state B.machine self.old x
+            → calls.Stops x result (IsNode B.state B.machine self.new) }
+    {
+        if let Node::Halted(_) = self {
+            return Err(Fault::WrongRole);
+        }
+        self.halt();
+        Ok(())
+    }
+
+    /// The role.
+    pub fn role(&self) -> Role
+        ensures { (x : protocol.Node B.State) → IsNode B.state B.machine self.now x → IsRole x result }
+    {
+        match self {
+            Node::Primary(_) => Role::Primary,
+            Node::Backup(_) => Role::Backup,
+            Node::Draining(_) => Role::Draining,
+            Node::Alone(_) => Role::Alone,
+            Node::Halted(_) => Role::Halted,
+        }
+    }
+
+    /// How many steps the machine has made; of a halted node, had made.
+    pub fn count(&self) -> u64
+        ensures { (x : protocol.Node B.State) → IsNode B.state B.machine self.now x
+            → B.machine.count x.machine ≡ result }
+    {
+        match self {
+            Node::Primary(primary) => primary.recorder.board().count(),
+            Node::Backup(backup) => backup.replayer.board().count(),
+            Node::Draining(draining) => draining.board().count(),
+            Node::Alone(alone) => alone.board.count(),
+            Node::Halted(halted) => halted.count,
+        }
+    }
+
+    /// The generation, at least 1.
+    pub fn generation(&self) -> u32
+        ensures first { 0 < result }
+        ensures value { (x : protocol.Node B.State) → IsNode B.state B.machine self.now x → x.generation ≡ result }
+    {
+        match self {
+            Node::Primary(primary) => primary.sender.generation(),
+            Node::Backup(backup) => backup.receiver.generation(),
+            Node::Draining(draining) => draining.receiver().generation(),
+            Node::Alone(alone) => alone.generation,
+            Node::Halted(halted) => halted.generation,
+        }
+    }
+
+    // A node that drained is alone.
+    fn finish(&mut self)
+        ensures { (y : protocol.Node B.State) → y.role ≡ protocol.Draining → at_end y ≡ true
+            → IsNode B.state B.machine self.old y → IsNode B.state B.machine self.new (goes_live y) }
+    {
+        let halted = self.halted();
+        let node = mem::replace(self, Node::Halted(halted));
+        *self = match node {
+            Node::Draining(draining) => alone(draining),
+            other => other,
+        };
+    }
+
+    // The winner of the test-and-set goes on: a primary is alone, a backup drains.
+    fn win(&mut self)
+        ensures { (x : protocol.Node B.State) → x.running ≡ true → IsNode B.state B.machine self.old x
+            → IsNode B.state B.machine self.new (wins x) }
+    {
+        let halted = self.halted();
+        *self = match mem::replace(self, Node::Halted(halted)) {
+            Node::Primary(primary) => Node::Alone(Alone {
+                generation: primary.sender.generation(),
+                board: primary.recorder.into_board(),
+            }),
+            Node::Backup(backup) => {
+                Node::Draining(Draining::begin(backup.replayer, backup.receiver))
+            }
+            other => other,
+        };
+    }
+
+    // It does nothing more.
+    fn halt(&mut self)
+        ensures { (x : protocol.Node B.State) → IsNode B.state B.machine self.old x
+            → IsNode B.state B.machine self.new (halts x) }
+    {
+        *self = Node::Halted(self.halted());
+    }
+
+    // The node as it would be if it halted now.
+    fn halted(&self) -> Halted
+        ensures { (x : protocol.Node B.State) → IsNode B.state B.machine self.now x
+            → IsHalted B.machine result.generation result.count (halts x) }
+    {
+        Halted {
+            generation: self.generation(),
+            count: self.count(),
+        }
+    }
+}
+
+// The node that a drained node is.
+fn alone<B: Lockstep + Drop>(draining: Draining<B>) -> Node<B>
+    ensures { (y : protocol.Node B.State) → at_end y ≡ true
+        → IsFollower protocol.Draining (B.state draining.replayer.board) draining.receiver y
+        → IsNode B.state B.machine result (goes_live y) }
+{
+    let generation = draining.receiver().generation();
+    match draining.finish() {
+        Ok(board) => Node::Alone(Alone { board, generation }),
+        Err((draining, _)) => Node::Draining(draining),
+    }
+}

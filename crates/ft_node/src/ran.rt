@@ -1,0 +1,18 @@
+//! How far a node came, and whether it is alone.
+
+use pair_events::Why;
+
+/// How many steps were made, how many the guest has made in all, and why no more were made.
+#[derive(Clone, Copy, Debug, PartialEq, Eq)]
+pub struct Ran {
+    pub steps: u64,
+    pub count: u64,
+    pub why: Why,
+}
+
+/// How many moves were made, and whether the node is alone now.
+#[derive(Clone, Copy, Debug, PartialEq, Eq)]
+pub struct Drained {
+    pub moves: u64,
+    pub alone: bool,
+}

@@ -1,0 +1,10 @@
+//! What happens in a world of pairs, one event for each line of a script, and what is answered.
+#![tactic(auto)]
+
+mod event;
+mod reply;
+#[cfg(test)]
+mod tests;
+
+pub use event::Event;
+pub use reply::{Reply, Role, Why};

@@ -1,0 +1,114 @@
+//! What is answered to an event, and what a node is; each shows itself in the words of a script's output.
+
+use event_callbacks::OpId;
+use std::fmt;
+
+/// What a node is to its pair.
+#[derive(Clone, Copy, Debug, PartialEq, Eq)]
+pub enum Role {
+    /// It runs, and logs what it does.
+    Primary,
+    /// It repeats what the primary logged.
+    Backup,
+    /// It was a backup and has won: it repeats what it still holds.
+    Draining,
+    /// It runs without a peer.
+    Alone,
+    /// It was stopped, or has lost.
+    Halted,
+}
+
+/// Why a machine's steps ended.
+#[derive(Clone, Copy, Debug, PartialEq, Eq)]
+pub enum Why {
+    /// All steps that were asked for are made.
+    Turns,
+    /// The machine waits for an interrupt.
+    Idle,
+    /// A number of the machine or of its log has reached its limit.
+    Spent,
+    /// No memory was left.
+    Memory,
+    /// The last step gave this operation.
+    Operation(OpId),
+}
+
+/// The answer to an event that was not refused.
+#[derive(Clone, Copy, Debug, PartialEq, Eq)]
+pub enum Reply {
+    /// The steps made, the instruction count after them, and why no more were made.
+    Ran { steps: u64, count: u64, why: Why },
+    /// The byte was typed, as the key of this index.
+    Typed { index: u64 },
+    /// The node has taken the input.
+    Taken,
+    /// A message was sent, under this number.
+    Message { message: u64 },
+    /// The backup holds the entry from now on.
+    New,
+    /// The backup held the entry before, or an entry before it is missing: nothing changed.
+    Old,
+    /// The greatest number of entries that the backup has acknowledged.
+    Held { held: u64 },
+    /// The moves made, and whether no entry is left.
+    Moved { moves: u64, at_end: bool },
+    /// The moves made, after which no entry is left and the node is alone.
+    MovedAlone { moves: u64 },
+    /// The terminal has accepted the byte.
+    Accepted,
+    /// The byte is not the next one of its port: the terminal has dropped it.
+    Dropped,
+    /// How many keys the terminal was told are covered.
+    Told { keys: u64 },
+    /// The node has won its generation.
+    Won,
+    /// The node is halted.
+    Stopped,
+}
+
+impl fmt::Display for Role {
+    fn fmt<W: fmt::Write>(&self, f: &mut fmt::Formatter<W>) -> fmt::Result {
+        match self {
+            Role::Primary => write!(f, "primary"),
+            Role::Backup => write!(f, "backup"),
+            Role::Draining => write!(f, "draining"),
+            Role::Alone => write!(f, "alone"),
+            Role::Halted => write!(f, "halted"),
+        }
+    }
+}
+
+impl fmt::Display for Why {
+    fn fmt<W: fmt::Write>(&self, f: &mut fmt::Formatter<W>) -> fmt::Result {
+        match self {
+            Why::Turns => write!(f, "turns"),
+            Why::Idle => write!(f, "idle"),
+            Why::Spent => write!(f, "spent"),
+            Why::Memory => write!(f, "memory"),
+            Why::Operation(OpId::Byte(port, number)) => write!(f, "byte {port} {number}"),
+            Why::Operation(OpId::Write(number)) => write!(f, "write {number}"),
+        }
+    }
+}
+
+impl fmt::Display for Reply {
+    fn fmt<W: fmt::Write>(&self, f: &mut fmt::Formatter<W>) -> fmt::Result {
+        match self {
+            Reply::Ran { steps, count, why } => write!(f, "ran {steps} count {count} {why}"),
+            Reply::Typed { index } => write!(f, "typed {index}"),
+            Reply::Taken => write!(f, "taken"),
+            Reply::Message { message } => write!(f, "message {message}"),
+            Reply::New => write!(f, "new"),
+            Reply::Old => write!(f, "old"),
+            Reply::Held { held } => write!(f, "held {held}"),
+            Reply::Moved { moves, at_end } if *at_end => write!(f, "moved {moves} end"),
+            Reply::Moved { moves, .. } => write!(f, "moved {moves}"),
+            Reply::MovedAlone { moves } => write!(f, "moved {moves} alone"),
+            Reply::Accepted => write!(f, "accepted"),
+            Reply::Dropped => write!(f, "dropped"),
+            Reply::Told { keys } => write!(f, "told {keys}"),
+            Reply::Won => write!(f, "won"),
+            Reply::Stopped => write!(f, "stopped"),
+        }
+    }
+}
