@@ -1,6 +1,6 @@
 //! An entry of the log.
 
-ghost use Rattle.std.specs.Prelude.{◌≡◌};
+ghost use Rattle.std.specs.Prelude.{◌≡◌, ◌<◌, ◌^◌};
 
 use disk_dcdd::SECTOR_BYTES;
 use guest_board::Input;
@@ -41,11 +41,15 @@ pub enum Entry {
 }
 
 impl Entry {
+    ghost use Rattle.guest_board.specs.Lockstep.{IsInput, IsNumbered};
     ghost use Rattle.log_entry.specs.Entries.{count_of, entry_of, input_of, timed_of};
+    ghost use Rattle.log_entry.specs.Spelling.{IsEntry};
 
-    /// The entry of an input that is taken at this count.
+    /// The entry of an input that is taken at this count. One that may come, at a count that may be, has all its fields in
+    /// their ranges.
     pub fn of_input(count: u64, input: Input) -> Entry
-        ensures { result ≡ entry_of count input }
+        ensures value { result ≡ entry_of count input }
+        ensures valid { IsInput input → IsNumbered input → count < 2 ^ 62 → IsEntry result }
     {
         match input {
             Input::Rx(port, byte) => Entry::Rx { count, port, byte },

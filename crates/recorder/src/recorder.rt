@@ -1,6 +1,6 @@
 //! A guest with the log of its moves.
-ghost use Rattle.std.specs.Prelude.{◌≡◌, ◌<◌, ◌^◌, OnOk};
-ghost use Rattle.guest_board.specs.Lockstep.{HasRoom, IsInput, IsNumbered};
+ghost use Rattle.std.specs.Prelude.{◌≡◌, OnOk};
+ghost use Rattle.guest_board.specs.Lockstep.{HasRoom, IsInput};
 ghost use Rattle.guest_board.specs.Machine.{refusal_of};
 ghost use Rattle.log_buffer.specs.contracts.buffer.LogBuffer as buffer;
 ghost use Rattle.log_entry.specs.Entries.{entry_of};
@@ -94,38 +94,11 @@ impl<B: Lockstep> Recorder<B> {
             (IsEntry (entry_of (B.machine.count (B.state self.old.board)) input)) }
     {
         self.board.check(&input)?;
-        let entry = entry_at(self.board.count(), input);
+        let entry = Entry::of_input(self.board.count(), input);
         let index = self.log.push(entry)?;
         match self.board.take(input) {
             Ok(()) => Ok(index),
             Err(_) => unreachable!(),
         }
-    }
-}
-
-// The entry of an input that may come, at a count: its fields are in their ranges, so it can be spelled.
-fn entry_at(count: u64, input: Input) -> Entry
-    requires input { IsInput input }
-    requires numbers { IsNumbered input }
-    requires count { count < 2 ^ 62 }
-    ensures value { result ≡ entry_of count input }
-    ensures valid { IsEntry result }
-{
-    match input {
-        Input::Rx(port, byte) => Entry::Rx { count, port, byte },
-        Input::Sent(port) => Entry::Sent { count, port },
-        Input::Sector {
-            drive,
-            sector,
-            number,
-            bytes,
-        } => Entry::Sector {
-            count,
-            drive,
-            sector,
-            number,
-            bytes,
-        },
-        Input::Written(number) => Entry::Written { count, number },
     }
 }
