@@ -8,3 +8,4 @@ pub mod AloneInputs
 pub mod AloneSteps
 pub mod FollowerMoves
 pub mod LastMoves
+pub mod PrimaryChecks

@@ -1,6 +1,6 @@
 -- What each call of a node answers and leaves, by the node of the protocol that it is before the call: the refusal of the
 -- event's node part, or what its row says of the node.
-use Rattle.std.specs.Prelude.{◌≡◌, ◌≢◌, ℕ, ◌≤◌, ◌⊎◌, Bool, true, false, Option, Some, None, List, [], ◌∷◌, length, slice_get, Result, Ok, Err}
+use Rattle.std.specs.Prelude.{◌≡◌, ◌≢◌, ℕ, ◌≤◌, ◌⊎◌, Bool, true, false, Option, Some, None, List, [], ◌∷◌, length, slice_get, ◌==◌, if◌then◌else◌, Result, Ok, Err}
 use Rattle.std.specs.Global.{Vec}
 use Rattle.disk_dcdd.specs.declared.address.SectorAddress.{SectorAddress}
 use Rattle.event_callbacks.specs.declared.operations.OpId.{OpId}
@@ -111,6 +111,14 @@ Delivers (Some (Log generation index e)) x result Is =
     Unless (refusals.log_refusal generation x) result (Is x) (Gives result (Is x) (Delivered index e x Is))
 Delivers _ x result Is =
     Unless (refusals.first_of (refusals.role_refusal (Backup ∷ []) x ∷ Some Malformed ∷ [])) result (Is x) ⊥
+
+-- the entry that would be held of a packet
+abbrev pub Expects : {S : Type 0} → Option Packet → Node S → Result (Option Entry) Fault → Type 0
+Expects (Some (Log generation index e)) x result =
+    Unless (refusals.log_refusal generation x) result (Unit {0})
+    (Always result (λ next. next ≡ (if index == length x.held then Some e else None)))
+Expects _ x result =
+    Unless (refusals.first_of (refusals.role_refusal (Backup ∷ []) x ∷ Some Malformed ∷ [])) result (Unit {0}) ⊥
 
 -- the packet that acknowledges all that is held
 abbrev pub Acknowledges : {S : Type 0} → Node S → Result (Vec ℕ) Fault → Type 0

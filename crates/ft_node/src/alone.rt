@@ -3,6 +3,7 @@ ghost use Rattle.std.specs.Prelude.{◌≡◌, ◌≢◌, ◌<◌, Ok, ok_or};
 ghost use Rattle.i8080_words.specs.declared.refusal.Fault.TheVariants.{NotDue, Spent, Idle};
 ghost use Rattle.disk_dcdd.specs.declared.controller.TheConstants.{DRIVES};
 ghost use Rattle.disk_dcdd.specs.declared.sector.TheConstants.{SECTORS};
+ghost use Rattle.disk_dcdd.specs.Completion.{answered};
 ghost use Rattle.event_callbacks.specs.declared.devices.TheConstants.{PORTS};
 ghost use Rattle.guest_board.specs.declared.input.Input.TheVariants as input;
 ghost use Rattle.pair_protocol.specs.Node.{Node};
@@ -57,6 +58,69 @@ impl<B: Lockstep> Alone<B> {
             count: self.board.count(),
             why,
         }
+    }
+
+    /// Whether `key` would take the key of an index: its refusal, and nothing changes.
+    pub(crate) fn check_key(&self, port: u8, index: u64) -> R<()>
+        requires { port < PORTS }
+        ensures { (x : Node B.State)
+            → IsAlone (B.state self.now.board) self.now.generation x
+            → result ≡ answered (refusals.key_refusal B.machine port index x) }
+    {
+        if index != self.board.keys(port) {
+            return Err(Fault::WrongNumber);
+        }
+        if index >= GREATEST_NUMBER {
+            return Err(Fault::Spent);
+        }
+        Ok(())
+    }
+
+    /// Whether `sent` would take the acceptance of a byte: its refusal, and nothing changes.
+    pub(crate) fn check_sent(&self, port: u8, number: u64) -> R<()>
+        requires { port < PORTS }
+        ensures { (x : Node B.State)
+            → IsAlone (B.state self.now.board) self.now.generation x
+            → result ≡ answered (refusals.sent_refusal B.machine port number x) }
+    {
+        let due = self.board.due_byte(port).ok_or(Fault::NotDue)?;
+        if due != number {
+            return Err(Fault::WrongNumber);
+        }
+        Ok(())
+    }
+
+    /// Whether `done` would take the completion of a write: its refusal, and nothing changes.
+    pub(crate) fn check_done(&self, number: u64) -> R<()>
+        ensures { (x : Node B.State)
+            → IsAlone (B.state self.now.board) self.now.generation x
+            → result ≡ answered (refusals.done_refusal B.machine number x) }
+    {
+        self.board.check(&Input::Written(number))
+    }
+
+    /// Whether `under` would take a sector: its refusal, and nothing changes.
+    pub(crate) fn check_under(
+        &self,
+        address: SectorAddress,
+        number: u64,
+        bytes: [u8; SECTOR_BYTES],
+    ) -> R<()>
+        requires drive { address.drive < DRIVES }
+        requires sector { address.sector < SECTORS }
+        ensures { (x : Node B.State)
+            → IsAlone (B.state self.now.board) self.now.generation x
+            → result ≡ answered (refusals.under_refusal B.machine address number bytes x) }
+    {
+        if self.board.sector_under(address.drive, address.sector) != address {
+            return Err(Fault::NotDue);
+        }
+        self.board.check(&Input::Sector {
+            drive: address.drive,
+            sector: address.sector,
+            number,
+            bytes,
+        })
     }
 
     /// Takes the key of an index.

@@ -8,8 +8,9 @@ ghost use Rattle.ft_node.specs.Calls as calls;
 ghost use Rattle.ft_node.specs.Roles.{IsFollower};
 
 use guest_board::Lockstep;
-use i8080_words::R;
-use log_channel::Receiver;
+use i8080_words::{Fault, R};
+use log_channel::{Packet, Receiver};
+use log_entry::Entry;
 use replayer::{Replayed, Replayer};
 use std::alloc::Global;
 
@@ -29,6 +30,26 @@ impl<B: Lockstep> Backup<B> {
             (IsFollower protocol.Backup (B.state self.new.replayer.board) self.new.receiver) }
     {
         self.receiver.on_log(bytes)
+    }
+
+    /// The entry that `on_log` would hold; none where the packet is a repeat, or past a gap.
+    pub(crate) fn next_entry(&self, bytes: &[u8]) -> R<Option<Entry>>
+        ensures { (x : protocol.Node B.State)
+            → IsFollower protocol.Backup (B.state self.now.replayer.board) self.now.receiver x
+            → calls.Expects (packet_at bytes.now) x result }
+    {
+        let Packet::Log {
+            generation,
+            index,
+            entry,
+        } = Packet::read(bytes)?
+        else {
+            return Err(Fault::Malformed);
+        };
+        if generation != self.receiver.generation() {
+            return Err(Fault::WrongGeneration);
+        }
+        Ok((index == self.receiver.held()).then_some(entry))
     }
 
     /// The packet that acknowledges all that is held.

@@ -7,6 +7,7 @@ ghost use Rattle.disk_dcdd.specs.declared.controller.TheConstants.{DRIVES};
 ghost use Rattle.disk_dcdd.specs.declared.sector.TheConstants.{SECTORS};
 ghost use Rattle.event_callbacks.specs.declared.devices.TheConstants.{PORTS};
 ghost use Rattle.guest_board.specs.declared.input.Input.TheVariants as input;
+ghost use Rattle.disk_dcdd.specs.Completion.{answered};
 ghost use Rattle.log_channel.specs.Packet.{packet_at};
 ghost use Rattle.pair_protocol.specs.Node as protocol;
 ghost use Rattle.pair_protocol.specs.Refusals as refusals;
@@ -29,6 +30,7 @@ use guest_board::Lockstep;
 use i8080_words::{Fault, R};
 use log_buffer::LogBuffer;
 use log_channel::{Receiver, Sender};
+use log_entry::Entry;
 use output_rule::Coverage;
 use pair_events::Role;
 use recorder::Recorder;
@@ -89,6 +91,75 @@ impl<B: Lockstep + Drop> Node<B> {
         match self {
             Node::Primary(primary) => primary.step(turns),
             Node::Alone(alone) => alone.step(turns),
+            _ => Err(Fault::WrongRole),
+        }
+    }
+
+    /// Whether `key` would take the key of an index: its refusal, and nothing changes.
+    pub fn check_key(&self, port: u8, index: u64) -> R<()>
+        requires { port < PORTS }
+        ensures { (x : protocol.Node B.State) → IsNode B.state B.machine self.now x
+            → result ≡ answered (refusals.key_refusal B.machine port index x) }
+    {
+        match self {
+            Node::Primary(primary) => primary.check_key(port, index),
+            Node::Alone(alone) => alone.check_key(port, index),
+            _ => Err(Fault::WrongRole),
+        }
+    }
+
+    /// Whether `sent` would take the acceptance of a byte: its refusal, and nothing changes.
+    pub fn check_sent(&self, port: u8, number: u64) -> R<()>
+        requires { port < PORTS }
+        ensures { (x : protocol.Node B.State) → IsNode B.state B.machine self.now x
+            → result ≡ answered (refusals.sent_refusal B.machine port number x) }
+    {
+        match self {
+            Node::Primary(primary) => primary.check_sent(port, number),
+            Node::Alone(alone) => alone.check_sent(port, number),
+            _ => Err(Fault::WrongRole),
+        }
+    }
+
+    /// Whether `done` would take the completion of a write: its refusal, and nothing changes.
+    pub fn check_done(&self, number: u64) -> R<()>
+        ensures { (x : protocol.Node B.State) → IsNode B.state B.machine self.now x
+            → result ≡ answered (refusals.done_refusal B.machine number x) }
+    {
+        match self {
+            Node::Primary(primary) => primary.check_done(number),
+            Node::Alone(alone) => alone.check_done(number),
+            _ => Err(Fault::WrongRole),
+        }
+    }
+
+    /// Whether `under` would take a sector: its refusal, and nothing changes.
+    pub fn check_under(
+        &self,
+        address: SectorAddress,
+        number: u64,
+        bytes: [u8; SECTOR_BYTES],
+    ) -> R<()>
+        requires drive { address.drive < DRIVES }
+        requires sector { address.sector < SECTORS }
+        ensures { (x : protocol.Node B.State) → IsNode B.state B.machine self.now x
+            → result ≡ answered (refusals.under_refusal B.machine address number bytes x) }
+    {
+        match self {
+            Node::Primary(primary) => primary.check_under(address, number, bytes),
+            Node::Alone(alone) => alone.check_under(address, number, bytes),
+            _ => Err(Fault::WrongRole),
+        }
+    }
+
+    /// The entry that `on_log` would hold; none where the packet is a repeat, or past a gap. Refused as `on_log` is, want of
+    /// memory apart.
+    pub fn next_entry(&self, bytes: &[u8]) -> R<Option<Entry>>
+        ensures { (x : protocol.Node B.State) → IsNode B.state B.machine self.now x
+            → calls.Expects (packet_at bytes.now) x result }
+    {
+        match self {
+            Node::Backup(backup) => backup.next_entry(bytes),
             _ => Err(Fault::WrongRole),
         }
     }

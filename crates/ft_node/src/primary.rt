@@ -6,6 +6,7 @@ ghost use Rattle.disk_dcdd.specs.declared.sector.TheConstants.{SECTORS};
 ghost use Rattle.event_callbacks.specs.declared.devices.TheConstants.{PORTS};
 ghost use Rattle.guest_board.specs.declared.input.Input.TheVariants as input;
 ghost use Rattle.log_buffer.specs.Log.{next_of};
+ghost use Rattle.disk_dcdd.specs.Completion.{answered};
 ghost use Rattle.log_channel.specs.Packet.{packet_at};
 ghost use Rattle.pair_protocol.specs.Node.{Node};
 ghost use Rattle.pair_protocol.specs.Refusals as refusals;
@@ -64,6 +65,85 @@ impl<B: Lockstep> Primary<B> {
             count: self.recorder.board().count(),
             why,
         })
+    }
+
+    /// Whether `key` would take the key of an index: its refusal, and nothing changes.
+    pub(crate) fn check_key(&self, port: u8, index: u64) -> R<()>
+        requires { port < PORTS }
+        ensures { (x : Node B.State)
+            → IsPrimary B.machine (B.state self.now.recorder.board) self.now.recorder.log self.now.sender
+            self.now.coverage x
+            → result ≡ answered (refusals.key_refusal B.machine port index x) }
+    {
+        self.recorder.log().stands();
+        if index != self.recorder.board().keys(port) {
+            return Err(Fault::WrongNumber);
+        }
+        self.recorder.log().room()?;
+        if index >= GREATEST_NUMBER {
+            return Err(Fault::Spent);
+        }
+        Ok(())
+    }
+
+    /// Whether `sent` would take the acceptance of a byte: its refusal, and nothing changes.
+    pub(crate) fn check_sent(&self, port: u8, number: u64) -> R<()>
+        requires { port < PORTS }
+        ensures { (x : Node B.State)
+            → IsPrimary B.machine (B.state self.now.recorder.board) self.now.recorder.log self.now.sender
+            self.now.coverage x
+            → result ≡ answered (refusals.sent_refusal B.machine port number x) }
+    {
+        self.recorder.log().stands();
+        let due = self.recorder.board().due_byte(port).ok_or(Fault::NotDue)?;
+        if due != number {
+            return Err(Fault::WrongNumber);
+        }
+        self.recorder.log().room()
+    }
+
+    /// Whether `done` would take the completion of a write: its refusal, and nothing changes.
+    pub(crate) fn check_done(&self, number: u64) -> R<()>
+        ensures { (x : Node B.State)
+            → IsPrimary B.machine (B.state self.now.recorder.board) self.now.recorder.log self.now.sender
+            self.now.coverage x
+            → result ≡ answered (refusals.done_refusal B.machine number x) }
+    {
+        self.recorder.log().stands();
+        self.recorder.board().check(&Input::Written(number))?;
+        self.recorder.log().room()
+    }
+
+    /// Whether `under` would take a sector: its refusal, and nothing changes.
+    pub(crate) fn check_under(
+        &self,
+        address: SectorAddress,
+        number: u64,
+        bytes: [u8; SECTOR_BYTES],
+    ) -> R<()>
+        requires drive { address.drive < DRIVES }
+        requires sector { address.sector < SECTORS }
+        ensures { (x : Node B.State)
+            → IsPrimary B.machine (B.state self.now.recorder.board) self.now.recorder.log self.now.sender
+            self.now.coverage x
+            → result ≡ answered (refusals.under_refusal B.machine address number bytes x) }
+    {
+        self.recorder.log().stands();
+        if self
+            .recorder
+            .board()
+            .sector_under(address.drive, address.sector)
+            != address
+        {
+            return Err(Fault::NotDue);
+        }
+        self.recorder.board().check(&Input::Sector {
+            drive: address.drive,
+            sector: address.sector,
+            number,
+            bytes,
+        })?;
+        self.recorder.log().room()
     }
 
     /// Takes the key of an index.
