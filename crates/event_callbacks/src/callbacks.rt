@@ -103,20 +103,29 @@ impl<F: Completes> Kept<F, WRITTEN> {
     }
 }
 
-/// The closures of one holder, one of each kind.
+/// The closures of one holder, one of each kind. They stand here by themselves, each with what its `Kept` knew: a holder
+/// that is generic lets go of them without being asked how much memory a closure takes.
 #[derive(Drop)]
 pub struct Callbacks<T: Completes, S: Completes, W: Completes> {
-    sent: Kept<T, SENT>,
-    sector: Kept<S, SECTOR>,
-    written: Kept<W, WRITTEN>,
+    sent: T,
+    sector: S,
+    written: W,
 }
 
 impl<T: Completes, S: Completes, W: Completes> Model for Callbacks<T, S, W> {
     ghost use Rattle.event_callbacks.specs.Callbacks.{Closures};
+    ghost use Rattle.event_callbacks.specs.Keeping.{Keeps};
+    ghost use Rattle.event_callbacks.specs.declared.devices.TheConstants.{SENT, SECTOR, WRITTEN};
 
     ghost Value = { Closures T S W };
 
     ghost view = { λ c. record { sent = c.sent; sector = c.sector; written = c.written } };
+
+    ghost invariant = { λ c. record {
+      sent : Keeps (T.may c.sent) (T.gives c.sent) SENT;
+      sector : Keeps (S.may c.sector) (S.gives c.sector) SECTOR;
+      written : Keeps (W.may c.written) (W.gives c.written) WRITTEN;
+    } };
 }
 
 impl<T: Completes, S: Completes, W: Completes> Callbacks<T, S, W> {
@@ -124,6 +133,9 @@ impl<T: Completes, S: Completes, W: Completes> Callbacks<T, S, W> {
     pub fn new(sent: Kept<T, SENT>, sector: Kept<S, SECTOR>, written: Kept<W, WRITTEN>) -> Self
         ensures { result ≡ record { sent = sent; sector = sector; written = written } }
     {
+        let Kept { closure: sent } = sent;
+        let Kept { closure: sector } = sector;
+        let Kept { closure: written } = written;
         Callbacks {
             sent,
             sector,
@@ -137,18 +149,9 @@ impl<T: Completes, S: Completes, W: Completes> Callbacks<T, S, W> {
         ensures { result ≡ done_of devices done }
     {
         match done {
-            Done::Sent(_) => {
-                let kept = &self.sent;
-                kept.closure.complete(devices, done)
-            }
-            Done::Sector(_, _) => {
-                let kept = &self.sector;
-                kept.closure.complete(devices, done)
-            }
-            Done::Written(_) => {
-                let kept = &self.written;
-                kept.closure.complete(devices, done)
-            }
+            Done::Sent(_) => self.sent.complete(devices, done),
+            Done::Sector(_, _) => self.sector.complete(devices, done),
+            Done::Written(_) => self.written.complete(devices, done),
         }
     }
 }

@@ -1,3 +1,4 @@
 pub mod Arriving
 pub mod Greatest
 pub mod RecordsBySector
+pub mod Booting

@@ -1,9 +1,10 @@
 -- The records of a disk, one for each sector, by the sector's place in a table of them all.
-use Rattle.std.specs.Prelude.{◌≡◌, ℕ, ◌*◌, if◌then◌else◌, List, replicate, slice_get, slice_set, Option, Some, is_some, IsSome, Result, Ok, Err}
+use Rattle.std.specs.Prelude.{◌≡◌, ℕ, IsTrue, ◌*◌, if◌then◌else◌, List, [], ◌∷◌, All, replicate, slice_get, slice_set, Option, Some, None, is_some, IsSome, Result, Ok, Err}
 use Rattle.std.specs.Option.{option_and_then, option_map_or}
-use Rattle.disk_dcdd.specs.Address.{index_of}
+use Rattle.disk_dcdd.specs.Address.{address_of, has_sector, index_of, same_address}
 use Rattle.disk_dcdd.specs.declared.address.SectorAddress.{SectorAddress}
 use Rattle.disk_dcdd.specs.declared.address.TheConstants.{DRIVE_SECTORS}
+use Rattle.disk_dcdd.specs.declared.sector.SectorWrite.{SectorWrite}
 use Rattle.disk_dcdd.specs.declared.sector.TheConstants.{SECTOR_BYTES}
 use Rattle.i8080_words.specs.declared.refusal.Fault.{Fault}
 use Rattle.i8080_words.specs.declared.refusal.Fault.TheVariants.{DeviceFault, Unknown}
@@ -50,3 +51,27 @@ boot_record bytes = record { number = 0; bytes = bytes }
 -- a device that never fails takes a record wherever there is a sector
 abbrev pub put_answer : List Record → SectorAddress → Result (Unit {0}) Fault
 put_answer records address = if is_some (record_at records address) then Ok tt else Err Unknown
+
+-- a disk has each sector of so many drives, and no write has come to it
+abbrev pub HasDrives : List Record → ℕ → Type 0
+HasDrives records drives = (address : SectorAddress) → IsTrue (has_sector drives address) → IsThere records address
+
+abbrev pub IsUnwritten : List Record → Type 0
+IsUnwritten records = (address : SectorAddress) (r : Record) → IsAt records address r → r.number ≡ 0
+
+-- what a sector has after these are put on a disk, one after another, where it had these bytes before
+abbrev pub bytes_after : List SectorWrite → SectorAddress → List ℕ → List ℕ
+bytes_after [] address bytes = bytes
+bytes_after (sector ∷ sectors) address bytes =
+    bytes_after sectors address (if same_address (address_of sector) address then sector.bytes else bytes)
+
+-- each sector of so many drives has the bytes of the last of these that goes there, and zeros where none does; no write
+-- has come to it, and no other sector is there
+abbrev pub IsAtBoot : List Record → ℕ → List SectorWrite → Type 0
+IsAtBoot records drives sectors = (address : SectorAddress) → record_at records address
+    ≡ (if has_sector drives address then Some (boot_record (bytes_after sectors address (replicate SECTOR_BYTES 0)))
+    else None)
+
+-- each of these goes to a sector of so many drives
+abbrev pub AreOnDrives : ℕ → List SectorWrite → Type 0
+AreOnDrives drives = All (λ (sector : SectorWrite). IsTrue (has_sector drives (address_of sector)))

@@ -1,10 +1,10 @@
 //! Records in memory.
-ghost use Rattle.std.specs.Prelude.{◌≡◌, IfOk, IsOkUnless};
-ghost use Rattle.i8080_words.specs.declared.refusal.Fault.TheVariants.{OutOfMemory};
+ghost use Rattle.std.specs.Prelude.{◌≡◌, ◌⊎◌, IfErr, IfOk, IsOkUnless};
+ghost use Rattle.i8080_words.specs.declared.refusal.Fault.TheVariants.{OutOfMemory, Unknown};
 ghost use Rattle.shared_disk.specs.Records as table;
 
 use crate::store::{Record, SectorStore};
-use disk_dcdd::{DRIVE_SECTORS, SECTOR_BYTES, SectorAddress};
+use disk_dcdd::{DRIVE_SECTORS, SECTOR_BYTES, SectorAddress, SectorWrite};
 use i8080_words::{Fault, R};
 use std::alloc::Global;
 use std::marker::Model;
@@ -37,6 +37,24 @@ impl MemoryStore {
         };
         let records = vec![in alloc; blank; drives as usize * DRIVE_SECTORS]?;
         Ok(MemoryStore { records })
+    }
+
+    /// A store of so many drives on which these sectors stand at boot, the later one of two for one place; all others
+    /// are zeros. No write has come to any: the numbers of these count for nothing. `Unknown` where no drive has one.
+    pub fn at_boot(alloc: Global, drives: u8, sectors: &[SectorWrite]) -> R<MemoryStore>
+        ensures drives { IfOk result (λ store. table.HasDrives store drives) }
+        ensures unwritten { IfOk result (λ store. table.IsUnwritten store) }
+        ensures sectors { IfOk result (λ store. table.IsAtBoot store drives sectors.now) }
+        ensures on_drives { IfOk result (λ store. table.AreOnDrives drives sectors.now) }
+        ensures refused { IfErr result (λ fault. (fault ≡ OutOfMemory)
+            ⊎ ((fault ≡ Unknown) × (table.AreOnDrives drives sectors.now → ⊥))) }
+    {
+        let mut store = MemoryStore::new(alloc, drives)?;
+        for sector in sectors {
+            let bytes = sector.bytes;
+            store.set_boot(sector.address(), bytes)?;
+        }
+        Ok(store)
     }
 
     /// Puts bytes into a sector before any node writes to it: their number is 0, so that the first write replaces them.

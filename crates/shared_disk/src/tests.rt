@@ -56,6 +56,19 @@ fn a_stale_put_changes_nothing(rt: HostRuntime) -> R<()> {
 }
 
 #[test]
+fn the_later_of_two_boot_sectors_stands(rt: HostRuntime) -> R<()> {
+    let sectors = [write(9, 0x01), write(3, 0xe5)];
+    let mut disk = SharedDisk::new(MemoryStore::at_boot(rt.alloc(), 1, &sectors)?);
+    assert_eq!(rt; disk.get(FIVE), Ok(read(0, 0xe5)));
+    assert_eq!(rt; disk.put(&write(1, 0x02)), Ok(()));
+    assert_eq!(rt; disk.get(FIVE), Ok(read(1, 0x02)));
+    let other = SectorAddress { sector: 6, ..FIVE };
+    let found = disk.get(other).unwrap_or(read(9, 0x01));
+    assert_eq!(rt; found.bytes, [0; SECTOR_BYTES]);
+    Ok(())
+}
+
+#[test]
 fn only_the_sectors_of_the_drives_are_there(rt: HostRuntime) -> R<()> {
     let mut store = MemoryStore::new(rt.alloc(), 1)?;
     let far = [

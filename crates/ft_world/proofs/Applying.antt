@@ -1,0 +1,108 @@
+-- What a row gives of a world that is shown: the world after it is reached by actions, so it is faithful, and what was
+-- settled grows. So an event applies wherever its row holds and the fields show the world after it.
+use Rattle.std.proofs.Common.{◌≡◌, Bool, Err, List, None, Ok, Some, ap, false, refl, subst, sym, true}
+use Rattle.std.specs.Prelude.{IsTrue, Result}
+use Rattle.std.specs.Result.{IsErrAnd}
+use Rattle.guest_board.specs.Machine.{Machine}
+use Rattle.i8080_words.specs.declared.refusal.Fault.{Fault}
+use Rattle.i8080_words.specs.declared.refusal.Fault.TheVariants.{DeviceFault, OutOfMemory}
+use Rattle.shared_disk.specs.declared.store.Record.{Record}
+use Rattle.pair_protocol.specs.Change.{Reached}
+use Rattle.pair_protocol.specs.Copying.{IsCopying, no_copies}
+use Rattle.pair_protocol.specs.Event.{Refused, is_disk, takes_memory}
+use Rattle.pair_protocol.specs.Refusals.{fault_if, refusal}
+use Rattle.pair_protocol.specs.Row.{DeviceFails, Leaves, Refuses, Row, WantsMemory}
+use Rattle.pair_protocol.specs.World.{World}
+use Rattle.pair_protocol.proofs.Growth.{row_grows}
+use Rattle.pair_protocol.proofs.RowActions.{row_changes}
+use Rattle.pair_protocol.proofs.Runs.{always_faithful, changes_reach}
+use Rattle.ft_world.specs.Applies.{Applies, Shows, ShowsParts, ShowsSome}
+use Rattle.ft_world.specs.Running.{Running}
+use Rattle.ft_world.specs.Standing.{Course, machine_of}
+use Rattle.ft_world.specs.Words.{answer_of, event_of}
+use Rattle.pair_events.specs.declared.event.Event.{Event}
+use Rattle.pair_events.specs.declared.reply.Reply.{Reply}
+
+pub no_copies_copy : {S : Type 0} (M : Machine S) → IsCopying M no_copies
+no_copies_copy M = record { counted = λ moves s reaches. refl; again = λ moves s t reaches e. (cc) }
+
+pub applies : {B H D S : Type 0} (state : B → S) (M : Machine S) (records : D → List Record) (old : Running B H D)
+    (c : Course S) (e : Event) (answer : Result Reply Fault) (after : World S) (new : Running B H D) →
+    (h : Shows state M records old c) →
+    Row (machine_of M c) no_copies c.world (event_of e) (answer_of answer) after →
+    ShowsParts state M records h.drives new (record c { world = after }) →
+    Applies state M records c e answer new
+applies state M records old c e answer after new h row parts =
+    let N = machine_of M c in
+    let copies = no_copies_copy N in
+    let reached : Reached N no_copies after =
+    changes_reach N no_copies c.world after h.reached (row_changes N no_copies c.world after _ _ row) in
+    record {
+      after = after;
+      row = row;
+      shows = record { drives = h.drives; machine = h.machine; reached = reached; parts = parts };
+      faithful = always_faithful N no_copies h.machine.lawful copies after reached;
+      grows = row_grows N no_copies h.machine.lawful copies c.world after _ _ h.reached row;
+    }
+
+-- An event that is refused, and leaves the world and the fields as they were.
+
+pub unchanged : {B H D S : Type 0} (state : B → S) (M : Machine S) (records : D → List Record)
+    (old new : Running B H D) (c : Course S) (e : Event) (fault : Fault) → (h : Shows state M records old c) →
+    ShowsParts state M records h.drives new c →
+    Row (machine_of M c) no_copies c.world (event_of e) (Refused fault) c.world →
+    Applies state M records c e (Err fault) new
+unchanged state M records old new c e fault h parts row =
+    applies state M records old c e (Err fault) c.world new h row parts
+
+same_world : {B H D S : Type 0} (state : B → S) (M : Machine S) (records : D → List Record) (old new : Running B H D)
+    (c : Course S) (e : Event) (fault : Fault) → (h : Shows state M records old c) → new ≡ old →
+    Row (machine_of M c) no_copies c.world (event_of e) (Refused fault) c.world →
+    Applies state M records c e (Err fault) new
+same_world state M records old new c e fault h same row =
+    unchanged state M records old new c e fault h
+    (subst (λ v. ShowsParts state M records h.drives v c) (sym same) h.parts) row
+
+pub refuses : {B H D S : Type 0} (state : B → S) (M : Machine S) (records : D → List Record) (old new : Running B H D)
+    (c : Course S) (e : Event) (fault : Fault) → Shows state M records old c → new ≡ old →
+    refusal (machine_of M c) no_copies c.world (event_of e) ≡ Some fault →
+    Leaves c.world (event_of e) fault c.world → Applies state M records c e (Err fault) new
+refuses state M records old new c e fault h same because leaves =
+    same_world state M records old new c e fault h same (Refuses because leaves)
+
+pub wants_memory : {B H D S : Type 0} (state : B → S) (M : Machine S) (records : D → List Record)
+    (old new : Running B H D) (c : Course S) (e : Event) (fault : Fault) → Shows state M records old c → new ≡ old →
+    refusal (machine_of M c) no_copies c.world (event_of e) ≡ None → IsTrue (takes_memory (event_of e)) →
+    fault ≡ OutOfMemory → Applies state M records c e (Err fault) new
+wants_memory state M records old new c e fault h same free takes wants =
+    subst (λ f. Applies state M records c e (Err f) new) (sym wants)
+    (same_world state M records old new c e OutOfMemory h same (WantsMemory free takes))
+
+pub device_fails : {B H D S : Type 0} (state : B → S) (M : Machine S) (records : D → List Record)
+    (old new : Running B H D) (c : Course S) (e : Event) (fault : Fault) → Shows state M records old c → new ≡ old →
+    refusal (machine_of M c) no_copies c.world (event_of e) ≡ None → IsTrue (is_disk (event_of e)) →
+    fault ≡ DeviceFault → Applies state M records c e (Err fault) new
+device_fails state M records old new c e fault h same free disk fails =
+    subst (λ f. Applies state M records c e (Err f) new) (sym fails)
+    (same_world state M records old new c e DeviceFault h same (DeviceFails free disk))
+
+-- a refusal that stands, and one that does not
+pub stands : (b : Bool) (fault : Fault) → b ≡ true → fault_if b fault ≡ Some fault
+stands b fault e = ap (λ b. fault_if b fault) e
+
+pub stands_not : (b : Bool) (fault : Fault) → b ≡ false → fault_if b fault ≡ None
+stands_not b fault e = ap (λ b. fault_if b fault) e
+
+-- what is shown goes on from event to event
+pub goes_on : {B H D S : Type 0} (state : B → S) (M : Machine S) (records : D → List Record) (old new : Running B H D)
+    (e : Event) (answer : Result Reply Fault) → ShowsSome state M records old →
+    ((c : Course S) → Shows state M records old c → Applies state M records c e answer new) →
+    ShowsSome state M records new
+goes_on state M records old new e answer some does =
+    let a = does some.course some.shows in
+    record { course = record some.course { world = a.after }; shows = a.shows }
+
+-- the fault that a call hands on
+pub handed_on : {T : Type 0} (r : Result T Fault) (fault : Fault) → IsErrAnd r (λ e. e ≡ fault) → r ≡ Err fault
+handed_on (Ok x) fault h = absurd h
+handed_on (Err e) fault h = ap Err h

@@ -1,0 +1,217 @@
+-- A write comes to the disk: the record of its sector is the greatest that arrived there, and every other sector keeps its
+-- record. A write that was released is of a sector of the disk, so only the device itself can fail.
+use Rattle.std.proofs.Common.{◌≡◌, [], ◌∷◌, ◌++◌, ◌∙◌, Bool, Err, List, None, Ok, Some, ap, cond, false, inl, inr, refl, subst, sym, true, ℕ}
+use Rattle.std.specs.Option.{option_and_then, option_map_or}
+use Rattle.std.specs.Prelude.{if◌then◌else◌, Option, Result, is_some, nat_lt, slice_get}
+use Rattle.disk_dcdd.specs.Address.{address_of, same_address}
+use Rattle.disk_dcdd.specs.declared.address.SectorAddress.{SectorAddress}
+use Rattle.disk_dcdd.specs.declared.sector.SectorWrite.{SectorWrite}
+use Rattle.event_callbacks.specs.declared.operations.Operation.TheVariants as operation
+use Rattle.guest_board.specs.Machine.{Machine}
+use Rattle.i8080_words.specs.declared.refusal.Fault.{Fault}
+use Rattle.i8080_words.specs.declared.refusal.Fault.TheVariants.{DeviceFault, Unknown}
+use Rattle.shared_disk.specs.Arrivals.{after_meeting, after_put, record_of}
+use Rattle.shared_disk.specs.Records.{IsAt, record_at, refusal_at, with_record}
+use Rattle.shared_disk.specs.declared.store.Record.{Record}
+use Rattle.shared_disk.proofs.RecordsBySector.{is_other, is_same, record_at-with_other, record_at-with_same}
+use Rattle.pair_protocol.specs.Copying.{no_copies}
+use Rattle.pair_protocol.specs.Event as protocol
+use Rattle.pair_protocol.specs.Refusals.{write_refusal}
+use Rattle.pair_protocol.specs.Row.{Accepts, DeviceFails, Row, WantsMemory}
+use Rattle.pair_protocol.specs.World as world
+use Rattle.pair_protocol.specs.World.{SectorRecord, sector_record, with_put}
+use Rattle.pair_protocol.proofs.Moves.{same_some}
+use Rattle.pair_protocol.proofs.OneMore.{sector_record-one}
+use Rattle.ft_world.specs.Applies.{Applies, Shows}
+use Rattle.ft_world.specs.Devices.{PutsWrite}
+use Rattle.ft_world.specs.Messages.{write_of}
+use Rattle.ft_world.specs.Running.{Running}
+use Rattle.ft_world.specs.Shows.{Agree, AreMessages, IsDisk}
+use Rattle.ft_world.specs.Standing.{Course, machine_of}
+use Rattle.ft_world.specs.Words.{IsMessage, reply_of}
+use Rattle.pair_events.specs.declared.event.Event.TheVariants as event
+use Rattle.ft_world.specs.declared.message.Message.{Message}
+use Rattle.ft_world.specs.declared.message.Message.TheVariants as message
+use Rattle.pair_events.specs.declared.reply.Reply.{Reply}
+use Rattle.ft_world.proofs.Applying.{applies, no_copies_copy, refuses, unchanged}
+use Rattle.ft_world.proofs.Released.{writes_on_disk}
+use Rattle.ft_world.proofs.Sending.{messages_push}
+
+-- What a write leaves.
+
+abbrev brought : SectorWrite → SectorRecord
+brought write = record { number = write.number; bytes = write.bytes }
+
+-- a record of the disk has this number and these bytes
+abbrev Has : Record → SectorRecord → Type 0
+Has r k = (r.number ≡ k.number) × (r.bytes ≡ k.bytes)
+
+own_after : (rs : List Record) (write : SectorWrite) (met r : Record) (k : SectorRecord) (less : Bool) → Has met k →
+    record_at rs (address_of write) ≡ Some met →
+    record_at (cond less (with_record rs (address_of write) (record_of write)) rs) (address_of write) ≡ Some r →
+    Has r (cond less (brought write) k)
+own_after rs write met r k true has at e =
+    let q : record_of write ≡ r = same_some (record_of write) r _
+    (record_at-with_same rs (address_of write) (record_of write) met at) e in
+    (ap (λ (r : Record). r.number) (sym q), ap (λ (r : Record). r.bytes) (sym q))
+own_after rs write met r k false has at e =
+    let q : met ≡ r = same_some met r _ at e in
+    (ap (λ (r : Record). r.number) (sym q) ∙ has.0, ap (λ (r : Record). r.bytes) (sym q) ∙ has.1)
+
+other_after : (rs : List Record) (write : SectorWrite) (a : SectorAddress) (less : Bool) →
+    same_address (address_of write) a ≡ false →
+    record_at (cond less (with_record rs (address_of write) (record_of write)) rs) a ≡ record_at rs a
+other_after rs write a true e =
+    record_at-with_other rs (address_of write) a (record_of write) (is_other (address_of write) a e)
+other_after rs write a false e = refl
+
+kept_after : {S : Type 0} (M : Machine S) (drives : ℕ) (rs : List Record) (puts : List SectorWrite)
+    (write : SectorWrite) (met : Record) (a : SectorAddress) (r : Record) (here : Bool) → IsDisk M drives rs puts →
+    record_at rs (address_of write) ≡ Some met → same_address (address_of write) a ≡ here →
+    record_at (cond (nat_lt met.number write.number) (with_record rs (address_of write) (record_of write)) rs) a
+    ≡ Some r →
+    Has r
+    (cond here (cond (nat_lt (sector_record M puts a).number write.number) (brought write) (sector_record M puts a))
+    (sector_record M puts a))
+kept_after M drives rs puts write met a r false d at here e =
+    d.kept a r (sym (other_after rs write a (nat_lt met.number write.number) here) ∙ e)
+kept_after M drives rs puts write met a r true d at here e =
+    let same : address_of write ≡ a = is_same (address_of write) a here in
+    let k = sector_record M puts a in
+    let at_a : record_at rs a ≡ Some met = subst (λ z. record_at rs z ≡ Some met) same at in
+    let has = d.kept a met at_a in
+    let e_own : record_at
+    (cond (nat_lt met.number write.number) (with_record rs (address_of write) (record_of write)) rs)
+    (address_of write) ≡ Some r =
+    subst (λ z. record_at
+    (cond (nat_lt met.number write.number) (with_record rs (address_of write) (record_of write)) rs) z ≡ Some r)
+    (sym same) e in
+    subst (λ b. Has r (cond b (brought write) k)) (ap (λ n. nat_lt n write.number) has.0)
+    (own_after rs write met r k (nat_lt met.number write.number) has at e_own)
+
+there_after : (rs : List Record) (write : SectorWrite) (met : Record) (a : SectorAddress) (here less : Bool) →
+    record_at rs (address_of write) ≡ Some met → same_address (address_of write) a ≡ here →
+    (r : Record) × IsAt rs a r →
+    (r : Record) × IsAt (cond less (with_record rs (address_of write) (record_of write)) rs) a r
+there_after rs write met a here false at e there = there
+there_after rs write met a false true at e (r, there) = (r, other_after rs write a true e ∙ there)
+there_after rs write met a true true at e there = (
+  record_of write,
+  subst
+      (λ z. record_at (with_record rs (address_of write) (record_of write)) z ≡ Some (record_of write))
+      (is_same (address_of write) a e)
+      (record_at-with_same rs (address_of write) (record_of write) met at),
+)
+
+disk_put : {S : Type 0} (M : Machine S) (drives : ℕ) (rs : List Record) (puts : List SectorWrite)
+    (write : SectorWrite) (met : Record) → IsDisk M drives rs puts → record_at rs (address_of write) ≡ Some met →
+    IsDisk M drives (after_put rs write) (puts ++ write ∷ [])
+disk_put M drives rs puts write met d at =
+    subst (λ l. IsDisk M drives l (puts ++ write ∷ []))
+    (sym (ap (λ o. option_map_or (after_meeting rs write) o rs) at))
+    (record {
+      there = λ a t. there_after rs write met a (same_address (address_of write) a)
+          (nat_lt met.number write.number) at refl (d.there a t);
+      kept = λ a r e. subst (λ k. Has r k) (sym (sector_record-one M puts write a))
+          (kept_after M drives rs puts write met a r (same_address (address_of write) a) d at refl e);
+    })
+
+-- The message that brings it.
+
+brings_write : (o : Option Message) (q : Option world.Message) (write : SectorWrite) → Agree IsMessage o q →
+    option_and_then write_of o ≡ Some write → q ≡ Some (world.Released (operation.Write write))
+brings_write (Some (message.Write v)) (Some (world.Released x)) write a e =
+    ap (λ y. Some (world.Released y)) (a ∙ ap operation.Write (same_some v write _ refl e))
+brings_write (Some (message.Write v)) q write a e = absurd a
+brings_write (Some (message.Byte p n b)) q write a e = (cc)
+brings_write (Some (message.Log bytes)) q write a e = (cc)
+brings_write (Some (message.Ack bytes)) q write a e = (cc)
+brings_write (Some (message.Written n)) q write a e = (cc)
+brings_write (Some (message.Sector r)) q write a e = (cc)
+brings_write None q write a e = (cc)
+
+brings_none : (o : Option Message) (q : Option world.Message) → Agree IsMessage o q →
+    option_and_then write_of o ≡ None → write_refusal q ≡ Some Unknown
+brings_none None None a e = refl
+brings_none None (Some y) a e = absurd a
+brings_none (Some (message.Write v)) q a e = (cc)
+brings_none (Some (message.Log bytes)) (Some (world.LogEntry g i x)) a e = refl
+brings_none (Some (message.Log bytes)) q a e = absurd a
+brings_none (Some (message.Ack bytes)) (Some (world.Acknowledgement g h)) a e = refl
+brings_none (Some (message.Ack bytes)) q a e = absurd a
+brings_none (Some (message.Byte p n b)) (Some (world.Released (operation.Byte u v w))) a e = refl
+brings_none (Some (message.Byte p n b)) (Some (world.Released (operation.Write v))) a e = (cc)
+brings_none (Some (message.Byte p n b)) q a e = absurd a
+brings_none (Some (message.Written n)) (Some (world.WriteDone d)) a e = refl
+brings_none (Some (message.Written n)) q a e = absurd a
+brings_none (Some (message.Sector r)) (Some (world.SectorRead ad n bs)) a e = refl
+brings_none (Some (message.Sector r)) q a e = absurd a
+
+pub puts_unknown : {B H D S : Type 0} (state : B → S) (M : Machine S) (records : D → List Record)
+    (old : Running B H D) (c : Course S) (m : ℕ) → option_and_then write_of (slice_get old.messages m) ≡ None →
+    Shows state M records old c → Applies state M records c (event.Put m) (Err Unknown) old
+puts_unknown state M records old c m brings h =
+    refuses state M records old old c (event.Put m) Unknown h refl
+    (brings_none (slice_get old.messages m) (slice_get c.world.messages m) (h.parts.messages.each m) brings) refl
+
+-- the disk fails, or wants room for its answer
+pub not_put : (rs : List Record) (a : SectorAddress) (met : Record) (fault : Fault) → record_at rs a ≡ Some met →
+    fault ≡ refusal_at rs a → fault ≡ DeviceFault
+not_put rs a met fault at e = e ∙ ap (λ (o : Option Record). if is_some o then DeviceFault else Unknown) at
+
+pub puts_applies : {B H D S : Type 0} (state : B → S) (M : Machine S) (records : D → List Record)
+    (old : Running B H D) (c : Course S) (m : ℕ) (write : SectorWrite) (answer : Result Reply Fault)
+    (ms : List Message) (disk : D) → option_and_then write_of (slice_get old.messages m) ≡ Some write →
+    Shows state M records old c →
+    PutsWrite old.messages (records old.disk) write answer ms (records disk) →
+    Applies state M records c (event.Put m) answer (record old { messages = ms; disk = disk })
+puts_applies state M records old c m write (Ok r) ms disk brings h (said, sends, after) =
+    let N = machine_of M c in
+    let there = brings_write (slice_get old.messages m) (slice_get c.world.messages m) write
+    (h.parts.messages.each m) brings in
+    let on_disk = writes_on_disk N h.drives m c.world write h.machine (no_copies_copy N) h.reached there in
+    let met = h.parts.disk.there (address_of write) on_disk in
+    applies state M records old c (event.Put m) (Ok r) (with_put c.world write)
+    (record old { messages = ms; disk = disk }) h
+    (Accepts (ap write_refusal there) (record {
+      write = write;
+      message = there;
+      reply = ap reply_of said ∙ ap protocol.MessageIs h.parts.messages.count;
+      after = refl;
+    }))
+    (record {
+      hosts = h.parts.hosts;
+      messages = subst (λ l. AreMessages l (c.world.messages ++ world.WriteDone write.number ∷ [])) (sym sends)
+          (messages_push old.messages c.world.messages (message.Written write.number)
+          (world.WriteDone write.number) h.parts.messages refl);
+      terminals = h.parts.terminals;
+      winners = h.parts.winners;
+      disk = subst (λ l. IsDisk N h.drives l (c.world.puts ++ write ∷ [])) (sym after)
+          (disk_put N h.drives (records old.disk) c.world.puts write met.0 h.parts.disk met.1);
+      generation = h.parts.generation;
+      backup = h.parts.backup;
+    })
+puts_applies state M records old c m write (Err fault) ms disk brings h (why, same, kept) =
+    let N = machine_of M c in
+    let there = brings_write (slice_get old.messages m) (slice_get c.world.messages m) write
+    (h.parts.messages.each m) brings in
+    let on_disk = writes_on_disk N h.drives m c.world write h.machine (no_copies_copy N) h.reached there in
+    let met = h.parts.disk.there (address_of write) on_disk in
+    let free : write_refusal (slice_get c.world.messages m) ≡ None = ap write_refusal there in
+    let refused = λ (f : Fault). Row N no_copies c.world (protocol.Put m) (protocol.Refused f) c.world in
+    let row : refused fault = elim why [
+      | inl is ↦ subst refused (sym is) (WantsMemory free refl)
+      | inr is ↦ subst refused (sym (not_put (records old.disk) (address_of write) met.0 fault met.1 is))
+          (DeviceFails free refl)
+    ] in
+    unchanged state M records old (record old { messages = ms; disk = disk }) c (event.Put m) fault h
+    (record {
+      hosts = h.parts.hosts;
+      messages = subst (λ l. AreMessages l c.world.messages) (sym same) h.parts.messages;
+      terminals = h.parts.terminals;
+      winners = h.parts.winners;
+      disk = subst (λ l. IsDisk N h.drives l c.world.puts) (sym kept) h.parts.disk;
+      generation = h.parts.generation;
+      backup = h.parts.backup;
+    })
+    row

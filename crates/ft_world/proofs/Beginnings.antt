@@ -1,0 +1,222 @@
+-- How a pair begins. Its two nodes are those of the opening, since both guests stand where the machine boots and no
+-- step is counted there; nothing was sent, typed or asked; and a disk on which nothing is written has its sectors at
+-- boot. The Altair of a setup is a machine that a pair may run.
+use Rattle.std.proofs.Common.{◌≡◌, ◌∙◌, [], ◌∷◌, ◌++◌, ◌≤◌, List, None, Option, Some, ap, refl, subst, suc, sym, true, false, zero, ℕ}
+use Rattle.std.specs.Prelude.{IsSome, slice_get}
+use Rattle.std.specs.Option.{option_map_or}
+use Rattle.arbiter_core.specs.declared.arbiter.Asking.{Asking}
+use Rattle.disk_dcdd.specs.declared.address.SectorAddress.{SectorAddress}
+use Rattle.disk_dcdd.specs.declared.controller.TheConstants.{DRIVES}
+use Rattle.guest_board.specs.Guest.{Guest, altair, guest_at_boot}
+use Rattle.guest_board.specs.Inputs.{some_altair}
+use Rattle.guest_board.specs.Machine.{Machine}
+use Rattle.guest_board.specs.Outstanding.{ComesAndGoes, completed_by}
+use Rattle.guest_board.specs.Recorded.{Counts}
+use Rattle.guest_board.specs.declared.input.Input.{Input}
+use Rattle.guest_board.specs.declared.input.Input.TheVariants.{Rx, Sector, Sent, Written}
+use Rattle.guest_board.specs.declared.setup.Setup.{Setup}
+use Rattle.guest_board.proofs.Moves.{guests_count, guests_issue_and_complete}
+use Rattle.shared_disk.specs.Records.{HasDrives, IsUnwritten, record_at}
+use Rattle.shared_disk.specs.declared.store.Record.{Record}
+use Rattle.terminals.specs.Screen.{Screen, blank}
+use Rattle.pair_protocol.specs.Change.{AtBoot}
+use Rattle.pair_protocol.specs.Lawful.{Lawful}
+use Rattle.pair_protocol.specs.Node.{Backup, Node, Primary, Role, first_node}
+use Rattle.pair_protocol.specs.OnDisk.{StaysOnDisk}
+use Rattle.pair_protocol.specs.Settled.{is_backup}
+use Rattle.pair_protocol.specs.World.{no_terminal, opening}
+use Rattle.pair_protocol.proofs.Moves.{same_some}
+use Rattle.ft_node.specs.Calls.{Begins}
+use Rattle.ft_node.specs.Seats.{IsNode}
+use Rattle.ft_node.specs.declared.node.Node as code
+use Rattle.ft_world.specs.Applies.{Shows}
+use Rattle.ft_world.specs.Beginning.{MayBegin, beginning, bytes_in}
+use Rattle.ft_world.specs.Shows.{Agree, AreHosts, AreMessages, AreTerminals, AreWinners, IsDisk, IsHost, IsOnlyBackup, IsStation, IsTerminal}
+use Rattle.ft_world.specs.Standing.{Course, IsMachine, machine_of}
+use Rattle.ft_world.specs.declared.hosts.Host.{Host}
+use Rattle.ft_world.specs.declared.hosts.Host.TheVariants as host
+use Rattle.ft_world.specs.declared.hosts.Station.{Station}
+use Rattle.ft_world.specs.declared.message.Message.{Message}
+use Rattle.ft_world.proofs.Agreeing.{agree-push}
+
+-- ---- the two nodes
+
+first_begins : {S : Type 0} (M : Machine S) (c : Course S) (role : Role) (s : S) → s ≡ c.boot →
+    Begins M role 1 s (first_node (machine_of M c) role)
+first_begins M c role s from = record {
+  role_is = refl;
+  up = refl;
+  generation_is = refl;
+  machine = sym from;
+  no_log = refl;
+  covered = refl;
+  notes = refl;
+  no_held = refl;
+  replayed = refl;
+  no_copy = refl;
+}
+
+-- the node of a new station is a first node of the role that it began in, wherever its guest stands at boot
+begins_as : {B S : Type 0} (state : B → S) (M : Machine S) (c : Course S) (role : Role) (s : S) (node : code.Node B) →
+    ((x : Node S) → Begins M role 1 s x → IsNode state M node x) → s ≡ c.boot →
+    IsNode state M node (first_node (machine_of M c) role)
+begins_as state M c role s node begins from = begins (first_node (machine_of M c) role) (first_begins M c role s from)
+
+pub primary_station : {B S : Type 0} (state : B → S) (M : Machine S) (c : Course S) (s : S) (node : code.Node B)
+    (h : Station B) → ((x : Node S) → Begins M Primary 1 s x → IsNode state M node x) → h.node ≡ node →
+    h.inputs.items ≡ [] → ((x : Node S) → IsNode state M node x → h.count ≡ M.count x.machine) → s ≡ c.boot →
+    IsStation state M h (first_node (machine_of M c) Primary)
+primary_station state M c s node h begins is inputs count from =
+    let first = begins_as state M c Primary s node begins from in record {
+      node = subst (λ n. IsNode state M n (first_node (machine_of M c) Primary)) (sym is) first;
+      inputs = inputs;
+      count = count (first_node (machine_of M c) Primary) first;
+      a_node = λ e. absurd (cc);
+    }
+
+pub backup_station : {B S : Type 0} (state : B → S) (M : Machine S) (c : Course S) (s : S) (node : code.Node B)
+    (h : Station B) → ((x : Node S) → Begins M Backup 1 s x → IsNode state M node x) → h.node ≡ node →
+    h.inputs.items ≡ [] → ((x : Node S) → IsNode state M node x → h.count ≡ M.count x.machine) → s ≡ c.boot →
+    M.count c.boot ≡ 0 → IsStation state M h (first_node (machine_of M c) Backup)
+backup_station state M c s node h begins is inputs count from none =
+    let first = begins_as state M c Backup s node begins from in record {
+      node = subst (λ n. IsNode state M n (first_node (machine_of M c) Backup)) (sym is) first;
+      inputs = inputs;
+      count = count (first_node (machine_of M c) Backup) first ∙ none;
+      a_node = λ e. absurd (cc);
+    }
+
+-- the hosts of a new pair are one of each
+pub two_hosts : {B H S : Type 0} (state : B → S) (M : Machine S) (c : Course S) (none one two : List (Host B H))
+    (primary backup : Station B) → none ≡ [] → one ≡ none ++ host.Node primary ∷ [] →
+    two ≡ one ++ host.Node backup ∷ [] → IsStation state M primary (first_node (machine_of M c) Primary) →
+    IsStation state M backup (first_node (machine_of M c) Backup) →
+    AreHosts state M two (opening (machine_of M c)).nodes
+two_hosts {B} {H} {S} state M c none one two primary backup empty first second p b =
+    subst (λ hosts. AreHosts state M hosts (opening (machine_of M c)).nodes)
+    (sym (second ∙ ap (λ hosts. hosts ++ host.Node backup ∷ []) (first
+    ∙ ap (λ hosts. hosts ++ host.Node primary ∷ []) empty)))
+    (agree-push (IsHost {H = H} state M) (host.Node primary ∷ []) (first_node (machine_of M c) Primary ∷ [])
+    (host.Node backup) (first_node (machine_of M c) Backup) b
+    (agree-push (IsHost {H = H} state M) [] [] (host.Node primary) (first_node (machine_of M c) Primary) p (λ n. tt)))
+
+only_backup : {S : Type 0} (M : Machine S) → IsOnlyBackup (opening M).nodes 1 1
+only_backup M zero x here is role =
+    let same : first_node M Primary ≡ x = same_some (first_node M Primary) x (Some (first_node M Primary)) refl here in
+    absurd (let e : false ≡ true = ap (λ (u : Node _). is_backup u.role) same ∙ role in (cc))
+only_backup M (suc zero) x here is role = refl
+only_backup M (suc (suc n)) x here is role = absurd (cc)
+
+-- ---- all that they share
+
+no_messages : AreMessages [] []
+no_messages = record { count = refl; each = λ m. tt }
+
+blank_screens : AreTerminals (blank ∷ blank ∷ []) (no_terminal ∷ no_terminal ∷ [])
+blank_screens = record { ports = refl; count = refl; each = each }
+  where
+    each : (port : ℕ) → Agree IsTerminal (slice_get (blank ∷ blank ∷ []) port)
+        (slice_get (no_terminal ∷ no_terminal ∷ []) port)
+    each zero = record { accepted = refl; typed = refl; told = refl }
+    each (suc zero) = record { accepted = refl; typed = refl; told = refl }
+    each (suc (suc port)) = tt
+
+some_of : {A : Type 0} (o : Option A) → IsSome o → (a : A) × (o ≡ Some a)
+some_of (Some a) is = (a, refl)
+some_of None is = absurd (cc)
+
+-- a disk on which nothing is written has its sectors at boot
+disk_at_boot : {B D S : Type 0} (state : B → S) (M : Machine S) (records : D → List Record) (primary backup : B)
+    (store : D) (may : MayBegin state M records primary backup store) →
+    IsDisk (machine_of M (beginning M (state primary) (records store))) may.drives (records store) []
+disk_at_boot state M records primary backup store may = record {
+  there = λ address has. some_of (record_at (records store) address) (may.there address has);
+  kept = λ address r at. (
+    may.unwritten address r at,
+    sym (ap (λ o. option_map_or (λ (u : Record). u.bytes) o []) at),
+  );
+}
+
+-- the fields of a new pair show the world that it begins with
+pub shows_beginning : {B H D S : Type 0} (state : B → S) (M : Machine S) (records : D → List Record)
+    (primary backup : B) (store disk : D) (hosts : List (Host B H)) (messages : List Message) (one two : Screen)
+    (askings : List Asking) → MayBegin state M records primary backup store →
+    ((c : Course S) → state primary ≡ c.boot → state backup ≡ c.boot → M.count c.boot ≡ 0 →
+    AreHosts state M hosts (opening (machine_of M c)).nodes) →
+    messages ≡ [] → one ≡ blank → two ≡ blank → askings ≡ [] → disk ≡ store →
+    Shows state M records
+    (record {
+      hosts = hosts;
+      messages = messages;
+      terminals = one ∷ two ∷ [];
+      askings = askings;
+      disk = disk;
+      generation = 1;
+      backup = 1;
+    })
+    (beginning M (state primary) (records store))
+shows_beginning state M records primary backup store disk hosts messages one two askings may opened none first second
+    unasked same =
+    let c = beginning M (state primary) (records store) in record {
+      drives = may.drives;
+      machine = may.machine;
+      reached = AtBoot;
+      parts = record {
+        hosts = opened c refl may.alike (may.machine.lawful.counts [] (state primary) refl);
+        messages = subst (λ list. AreMessages list []) (sym none) no_messages;
+        terminals = subst (λ list. AreTerminals list (no_terminal ∷ no_terminal ∷ []))
+            (sym (ap (λ t. t ∷ two ∷ []) first ∙ ap (λ t. blank ∷ t ∷ []) second)) blank_screens;
+        winners = subst (λ list. AreWinners list []) (sym unasked) (λ generation. refl);
+        disk = subst (λ d. IsDisk (machine_of M c) may.drives (records d) []) (sym same)
+            (disk_at_boot state M records primary backup store may);
+        generation = refl;
+        backup = only_backup (machine_of M c);
+      };
+    }
+
+-- ---- a pair of Altairs
+
+-- what completes an operation does so wherever the machine boots
+completed_there : {S : Type 0} (M : Machine S) (c : Course S) (s : S) (input : Input) →
+    completed_by (machine_of M c) s input ≡ completed_by M s input
+completed_there M c s (Rx port byte) = refl
+completed_there M c s (Sent port) = refl
+completed_there M c s (Sector drive sector number bytes) = refl
+completed_there M c s (Written number) = refl
+
+-- a machine that counts, and whose operations come and go, does so wherever it boots
+is_machine : {S : Type 0} (M : Machine S) (c : Course S) (drives : ℕ) → Lawful (machine_of M c) → Counts M →
+    ComesAndGoes M → drives ≤ DRIVES → StaysOnDisk (machine_of M c) drives → IsMachine (machine_of M c) drives
+is_machine M c drives lawful counts operations within on_disk = record {
+  lawful = lawful;
+  counts = record { by_step = counts.by_step; by_input = counts.by_input; spent = counts.spent };
+  operations = record {
+    comes = operations.comes;
+    quiet = operations.quiet;
+    goes = λ s t input name takes is. operations.goes s t input name takes (sym (completed_there M c s input) ∙ is);
+    stays = λ s t input takes is. operations.stays s t input takes (sym (completed_there M c s input) ∙ is);
+  };
+  few = lawful.few;
+  drives_within = within;
+  on_disk = on_disk;
+}
+
+-- two guests of one setup may begin over a disk that has its drives, and on which nothing is written
+pub altairs_may_begin : {B D : Type 0} (state : B → Guest) (records : D → List Record) (setup : Setup)
+    (primary backup : B) (store : D) →
+    ((setup : Setup) (sectors : SectorAddress → List ℕ) → Lawful (altair setup sectors)) →
+    ((setup : Setup) (sectors : SectorAddress → List ℕ) → StaysOnDisk (altair setup sectors) setup.drives) →
+    setup.drives ≤ DRIVES → state primary ≡ guest_at_boot setup → state backup ≡ guest_at_boot setup →
+    HasDrives (records store) setup.drives → IsUnwritten (records store) →
+    MayBegin state some_altair records primary backup store
+altairs_may_begin state records setup primary backup store lawful on_disk within first second there unwritten =
+    let sectors = bytes_in (records store) in record {
+      drives = setup.drives;
+      machine = subst
+          (λ s. IsMachine (machine_of some_altair (beginning some_altair s (records store))) setup.drives) (sym first)
+          (is_machine some_altair (beginning some_altair (guest_at_boot setup) (records store)) setup.drives
+          (lawful setup sectors) guests_count guests_issue_and_complete within (on_disk setup sectors));
+      alike = second ∙ sym first;
+      there = there;
+      unwritten = unwritten;
+    }

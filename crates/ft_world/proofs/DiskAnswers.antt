@@ -1,0 +1,193 @@
+-- The disk's answers come to a node: a write is done, or a sector was read. The message brings what it brings in the
+-- world that is shown, so the event is refused alike, as the node refuses the input.
+use Rattle.std.proofs.Common.{◌≡◌, ◌∙◌, Err, List, None, Ok, Some, ap, refl, ℕ}
+use Rattle.std.specs.Option.{option_and_then}
+use Rattle.std.specs.Prelude.{Option, slice_get}
+use Rattle.guest_board.specs.Machine.{Machine}
+use Rattle.guest_board.specs.declared.input.Input.TheVariants as input
+use Rattle.i8080_words.specs.declared.refusal.Fault.{Fault}
+use Rattle.i8080_words.specs.declared.refusal.Fault.TheVariants.{Unknown}
+use Rattle.shared_disk.specs.declared.disk.SectorRead.{SectorRead}
+use Rattle.shared_disk.specs.declared.store.Record.{Record}
+use Rattle.pair_protocol.specs.Copying.{no_copies}
+use Rattle.pair_protocol.specs.Event as protocol
+use Rattle.pair_protocol.specs.Node.{Node}
+use Rattle.pair_protocol.specs.Refusals.{at_done, at_node, at_under, done_refusal, refusal, under_refusal}
+use Rattle.pair_protocol.specs.World as world
+use Rattle.pair_protocol.proofs.Moves.{same_some}
+use Rattle.ft_world.specs.Applies.{Applies, Shows}
+use Rattle.ft_world.specs.AtHost.{AtHost}
+use Rattle.ft_world.specs.Does as does
+use Rattle.ft_world.specs.Messages.{sector_of, written_of}
+use Rattle.ft_world.specs.Running.{Running}
+use Rattle.ft_world.specs.Shows.{Agree}
+use Rattle.ft_world.specs.Standing.{Course, machine_of}
+use Rattle.ft_world.specs.Words.{IsMessage, read_address}
+use Rattle.pair_events.specs.declared.event.Event.TheVariants as event
+use Rattle.pair_events.specs.declared.reply.Reply.TheVariants as reply
+use Rattle.ft_world.specs.declared.hosts.Host.{Host}
+use Rattle.ft_world.specs.declared.message.Message.{Message}
+use Rattle.ft_world.specs.declared.message.Message.TheVariants as message
+use Rattle.ft_world.proofs.Applying.{refuses}
+use Rattle.ft_world.proofs.AtInputs.{input_applies}
+use Rattle.ft_world.proofs.AtOneNode.{node_refused}
+
+-- A write is done.
+
+brings_done : (o : Option Message) (q : Option world.Message) (number : ℕ) → Agree IsMessage o q →
+    option_and_then written_of o ≡ Some number → q ≡ Some (world.WriteDone number)
+brings_done (Some (message.Written k)) (Some (world.WriteDone d)) number a e =
+    ap (λ n. Some (world.WriteDone n)) (a ∙ same_some k number _ refl e)
+brings_done (Some (message.Written k)) q number a e = absurd a
+brings_done (Some (message.Byte p n b)) q number a e = (cc)
+brings_done (Some (message.Log bytes)) q number a e = (cc)
+brings_done (Some (message.Ack bytes)) q number a e = (cc)
+brings_done (Some (message.Write write)) q number a e = (cc)
+brings_done (Some (message.Sector r)) q number a e = (cc)
+brings_done None q number a e = (cc)
+
+none_done : {S : Type 0} (M : Machine S) (here : Option (Node S)) (o : Option Message) (q : Option world.Message) →
+    Agree IsMessage o q → option_and_then written_of o ≡ None → at_done M here q ≡ Some Unknown
+none_done M here None None a e = refl
+none_done M here None (Some y) a e = absurd a
+none_done M here (Some (message.Written k)) q a e = (cc)
+none_done M here (Some (message.Log bytes)) (Some (world.LogEntry g i x)) a e = refl
+none_done M here (Some (message.Log bytes)) q a e = absurd a
+none_done M here (Some (message.Ack bytes)) (Some (world.Acknowledgement g h)) a e = refl
+none_done M here (Some (message.Ack bytes)) q a e = absurd a
+none_done M here (Some (message.Byte p n b)) (Some (world.Released x)) a e = refl
+none_done M here (Some (message.Byte p n b)) q a e = absurd a
+none_done M here (Some (message.Write write)) (Some (world.Released x)) a e = refl
+none_done M here (Some (message.Write write)) q a e = absurd a
+none_done M here (Some (message.Sector r)) (Some (world.SectorRead ad n bs)) a e = refl
+none_done M here (Some (message.Sector r)) q a e = absurd a
+
+pub done_unknown : {B H D S : Type 0} (state : B → S) (M : Machine S) (records : D → List Record)
+    (old : Running B H D) (c : Course S) (m n : ℕ) → option_and_then written_of (slice_get old.messages m) ≡ None →
+    Shows state M records old c → Applies state M records c (event.PutReply m n) (Err Unknown) old
+done_unknown state M records old c m n brings h =
+    refuses state M records old old c (event.PutReply m n) Unknown h refl
+    (none_done (machine_of M c) (slice_get c.world.nodes n) (slice_get old.messages m) (slice_get c.world.messages m)
+    (h.parts.messages.each m) brings)
+    refl
+
+-- the message is the world's
+done_there : {B H D S : Type 0} (state : B → S) (M : Machine S) (records : D → List Record) (old : Running B H D)
+    (c : Course S) (m number : ℕ) → option_and_then written_of (slice_get old.messages m) ≡ Some number →
+    Shows state M records old c → slice_get c.world.messages m ≡ Some (world.WriteDone number)
+done_there state M records old c m number brings h =
+    brings_done (slice_get old.messages m) (slice_get c.world.messages m) number (h.parts.messages.each m) brings
+
+done_free : {S : Type 0} (M : Machine S) (c : Course S) (m n number : ℕ) →
+    slice_get c.world.messages m ≡ Some (world.WriteDone number) →
+    refusal (machine_of M c) no_copies c.world (protocol.PutReply m n)
+    ≡ at_node (slice_get c.world.nodes n) (done_refusal M number)
+done_free M c m n number there = ap (λ q. at_done (machine_of M c) (slice_get c.world.nodes n) q) there
+
+pub done_refused : {B H D S : Type 0} (state : B → S) (M : Machine S) (records : D → List Record)
+    (old : Running B H D) (c : Course S) (m n number : ℕ) (fault : Fault) (hosts : List (Host B H)) →
+    option_and_then written_of (slice_get old.messages m) ≡ Some number → Shows state M records old c →
+    AtHost {A = Unit {0}} state M c.world.nodes n (done_refusal M number) (Err fault) hosts
+    (does.Took M (input.Written number)) →
+    Applies state M records c (event.PutReply m n) (Err fault) (record old { hosts = hosts })
+done_refused state M records old c m n number fault hosts brings h a =
+    node_refused (Unit {0}) state M records old c (event.PutReply m n) n (done_refusal M number)
+    (does.Took M (input.Written number)) fault hosts h
+    (done_free M c m n number (done_there state M records old c m number brings h)) refl refl a
+
+pub done_applies : {B H D S : Type 0} (state : B → S) (M : Machine S) (records : D → List Record)
+    (old : Running B H D) (c : Course S) (m n number : ℕ) (hosts : List (Host B H)) →
+    option_and_then written_of (slice_get old.messages m) ≡ Some number → Shows state M records old c →
+    AtHost state M c.world.nodes n (done_refusal M number) (Ok tt) hosts (does.Took M (input.Written number)) →
+    Applies state M records c (event.PutReply m n) (Ok reply.Taken) (record old { hosts = hosts })
+done_applies state M records old c m n number hosts brings h a =
+    let there = done_there state M records old c m number brings h in
+    input_applies state M records old c (event.PutReply m n) n (done_refusal M number) (input.Written number) hosts h
+    (done_free M c m n number there)
+    (λ new takes. record { number = number; message = there; input = takes }) a
+
+-- A sector was read.
+
+brings_read : (o : Option Message) (q : Option world.Message) (read : SectorRead) → Agree IsMessage o q →
+    option_and_then sector_of o ≡ Some read →
+    q ≡ Some (world.SectorRead (read_address read) read.number read.bytes)
+brings_read (Some (message.Sector r)) (Some (world.SectorRead address number bytes)) read (at, k, bs, drive, sector) e =
+    ap (λ z. Some (world.SectorRead z number bytes)) at ∙ ap (λ z. Some (world.SectorRead (read_address r) z bytes)) k
+    ∙ ap (λ z. Some (world.SectorRead (read_address r) r.number z)) bs
+    ∙ ap (λ (v : SectorRead). Some (world.SectorRead (read_address v) v.number v.bytes)) (same_some r read _ refl e)
+brings_read (Some (message.Sector r)) q read a e = absurd a
+brings_read (Some (message.Byte p n b)) q read a e = (cc)
+brings_read (Some (message.Log bytes)) q read a e = (cc)
+brings_read (Some (message.Ack bytes)) q read a e = (cc)
+brings_read (Some (message.Write write)) q read a e = (cc)
+brings_read (Some (message.Written k)) q read a e = (cc)
+brings_read None q read a e = (cc)
+
+none_read : {S : Type 0} (M : Machine S) (here : Option (Node S)) (o : Option Message) (q : Option world.Message) →
+    Agree IsMessage o q → option_and_then sector_of o ≡ None → at_under M here q ≡ Some Unknown
+none_read M here None None a e = refl
+none_read M here None (Some y) a e = absurd a
+none_read M here (Some (message.Sector r)) q a e = (cc)
+none_read M here (Some (message.Log bytes)) (Some (world.LogEntry g i x)) a e = refl
+none_read M here (Some (message.Log bytes)) q a e = absurd a
+none_read M here (Some (message.Ack bytes)) (Some (world.Acknowledgement g h)) a e = refl
+none_read M here (Some (message.Ack bytes)) q a e = absurd a
+none_read M here (Some (message.Byte p n b)) (Some (world.Released x)) a e = refl
+none_read M here (Some (message.Byte p n b)) q a e = absurd a
+none_read M here (Some (message.Write write)) (Some (world.Released x)) a e = refl
+none_read M here (Some (message.Write write)) q a e = absurd a
+none_read M here (Some (message.Written k)) (Some (world.WriteDone d)) a e = refl
+none_read M here (Some (message.Written k)) q a e = absurd a
+
+pub read_unknown : {B H D S : Type 0} (state : B → S) (M : Machine S) (records : D → List Record)
+    (old : Running B H D) (c : Course S) (m n : ℕ) → option_and_then sector_of (slice_get old.messages m) ≡ None →
+    Shows state M records old c → Applies state M records c (event.GetReply m n) (Err Unknown) old
+read_unknown state M records old c m n brings h =
+    refuses state M records old old c (event.GetReply m n) Unknown h refl
+    (none_read (machine_of M c) (slice_get c.world.nodes n) (slice_get old.messages m) (slice_get c.world.messages m)
+    (h.parts.messages.each m) brings)
+    refl
+
+read_there : {B H D S : Type 0} (state : B → S) (M : Machine S) (records : D → List Record) (old : Running B H D)
+    (c : Course S) (m : ℕ) (read : SectorRead) → option_and_then sector_of (slice_get old.messages m) ≡ Some read →
+    Shows state M records old c →
+    slice_get c.world.messages m ≡ Some (world.SectorRead (read_address read) read.number read.bytes)
+read_there state M records old c m read brings h =
+    brings_read (slice_get old.messages m) (slice_get c.world.messages m) read (h.parts.messages.each m) brings
+
+read_free : {S : Type 0} (M : Machine S) (c : Course S) (m n : ℕ) (read : SectorRead) →
+    slice_get c.world.messages m ≡ Some (world.SectorRead (read_address read) read.number read.bytes) →
+    refusal (machine_of M c) no_copies c.world (protocol.GetReply m n)
+    ≡ at_node (slice_get c.world.nodes n) (under_refusal M (read_address read) read.number read.bytes)
+read_free M c m n read there = ap (λ q. at_under (machine_of M c) (slice_get c.world.nodes n) q) there
+
+pub read_refused : {B H D S : Type 0} (state : B → S) (M : Machine S) (records : D → List Record)
+    (old : Running B H D) (c : Course S) (m n : ℕ) (read : SectorRead) (fault : Fault) (hosts : List (Host B H)) →
+    option_and_then sector_of (slice_get old.messages m) ≡ Some read → Shows state M records old c →
+    AtHost {A = Unit {0}} state M c.world.nodes n (under_refusal M (read_address read) read.number read.bytes)
+    (Err fault) hosts (does.Took M (input.Sector read.drive read.sector read.number read.bytes)) →
+    Applies state M records c (event.GetReply m n) (Err fault) (record old { hosts = hosts })
+read_refused state M records old c m n read fault hosts brings h a =
+    node_refused (Unit {0}) state M records old c (event.GetReply m n) n
+    (under_refusal M (read_address read) read.number read.bytes)
+    (does.Took M (input.Sector read.drive read.sector read.number read.bytes)) fault hosts h
+    (read_free M c m n read (read_there state M records old c m read brings h)) refl refl a
+
+pub read_applies : {B H D S : Type 0} (state : B → S) (M : Machine S) (records : D → List Record)
+    (old : Running B H D) (c : Course S) (m n : ℕ) (read : SectorRead) (hosts : List (Host B H)) →
+    option_and_then sector_of (slice_get old.messages m) ≡ Some read → Shows state M records old c →
+    AtHost state M c.world.nodes n (under_refusal M (read_address read) read.number read.bytes) (Ok tt) hosts
+    (does.Took M (input.Sector read.drive read.sector read.number read.bytes)) →
+    Applies state M records c (event.GetReply m n) (Ok reply.Taken) (record old { hosts = hosts })
+read_applies state M records old c m n read hosts brings h a =
+    let there = read_there state M records old c m read brings h in
+    input_applies state M records old c (event.GetReply m n) n
+    (under_refusal M (read_address read) read.number read.bytes)
+    (input.Sector read.drive read.sector read.number read.bytes) hosts h (read_free M c m n read there)
+    (λ new takes. record {
+      address = read_address read;
+      number = read.number;
+      bytes = read.bytes;
+      message = there;
+      input = takes;
+    }) a

@@ -1,0 +1,220 @@
+-- A sector is read: at the track where the head of a node that serves stands, and its machine was run from boot, so it is
+-- a sector of the disk. What is read is what the writes that arrived have left there.
+use Rattle.std.proofs.Common.{◌≡◌, ◌<◌, ◌≤◌, [], ◌∷◌, ◌∙◌, Err, List, None, Ok, Some, ap, arith, inl, inr, ltb-true, refl, subst, sym, ℕ}
+use Rattle.std.specs.Option.{option_map}
+use Rattle.std.specs.Prelude.{IsTrue, Option, Result, nat_le, nat_lt, slice_get}
+use Rattle.std.proofs.lemmas.Bool.{and_parts, le-leb, lt-leb}
+use Rattle.disk_dcdd.specs.Address.{is_on_disk}
+use Rattle.disk_dcdd.specs.declared.address.SectorAddress.{SectorAddress}
+use Rattle.disk_dcdd.specs.declared.drive.TheConstants.{TRACKS}
+use Rattle.disk_dcdd.specs.declared.controller.TheConstants.{DRIVES}
+use Rattle.disk_dcdd.specs.declared.sector.TheConstants.{SECTORS}
+use Rattle.guest_board.specs.Machine.{Machine}
+use Rattle.i8080_words.specs.declared.refusal.Fault.{Fault}
+use Rattle.i8080_words.specs.declared.refusal.Fault.TheVariants.{Unknown}
+use Rattle.shared_disk.specs.Arrivals.{read_of}
+use Rattle.disk_dcdd.specs.Address.{has_sector}
+use Rattle.shared_disk.specs.Records.{record_at}
+use Rattle.shared_disk.specs.declared.disk.SectorRead.{SectorRead}
+use Rattle.shared_disk.specs.declared.store.Record.{Record}
+use Rattle.pair_protocol.specs.Change.{Serving}
+use Rattle.pair_protocol.specs.Copying.{no_copies}
+use Rattle.pair_protocol.specs.Event as protocol
+use Rattle.pair_protocol.specs.Node.{Node}
+use Rattle.pair_protocol.specs.Refusals.{at_node, first_of, no_sector, place_refusal, serves}
+use Rattle.pair_protocol.specs.Row.{Accepts, DeviceFails, Row, WantsMemory}
+use Rattle.pair_protocol.specs.World as sent
+use Rattle.pair_protocol.specs.World.{World, sector_record, with_read}
+use Rattle.pair_protocol.proofs.Moves.{same_some}
+use Rattle.pair_protocol.proofs.Passed.{first-passed, node-passed, serving}
+use Rattle.ft_world.specs.Applies.{Applies, Shows, ShowsSome}
+use Rattle.ft_world.specs.AtHost as host
+use Rattle.ft_world.specs.AtHost.{ReadHost}
+use Rattle.ft_world.specs.Devices.{GetsSector}
+use Rattle.ft_world.specs.Does as does
+use Rattle.ft_world.specs.Running.{Running}
+use Rattle.ft_world.specs.Shows.{AreMessages, IsDisk}
+use Rattle.ft_world.specs.Standing.{Course, machine_of}
+use Rattle.ft_world.specs.Words.{IsMessage, reply_of}
+use Rattle.pair_events.specs.declared.event.Event.TheVariants as event
+use Rattle.ft_world.specs.declared.message.Message.{Message}
+use Rattle.ft_world.specs.declared.message.Message.TheVariants as message
+use Rattle.pair_events.specs.declared.reply.Reply.{Reply}
+use Rattle.ft_world.proofs.Applying.{applies, no_copies_copy, refuses, stands, stands_not, unchanged}
+use Rattle.ft_world.proofs.AtDisk.{not_put}
+use Rattle.ft_world.proofs.AtOneNode.{refused_surely}
+use Rattle.ft_world.proofs.Sending.{asked_ok, messages_push}
+use Rattle.ft_world.proofs.Standing.{serving_runs}
+
+-- Refusals: a sector of no track, and then as the node refuses.
+
+no_sector_first : (sector : ℕ) (o : Option Fault) → SECTORS ≤ sector →
+    first_of (no_sector sector ∷ o ∷ []) ≡ Some Unknown
+no_sector_first sector o high =
+    ap (λ p. first_of (p ∷ o ∷ [])) (stands (nat_le 32 sector) Unknown (le-leb 32 sector high))
+
+is_sector : (sector : ℕ) (o : Option Fault) → sector < SECTORS → first_of (no_sector sector ∷ o ∷ []) ≡ o
+is_sector sector None low =
+    ap (λ p. first_of (p ∷ None ∷ [])) (stands_not (nat_le 32 sector) Unknown (lt-leb 32 sector low))
+is_sector sector (Some fault) low =
+    ap (λ p. first_of (p ∷ Some fault ∷ [])) (stands_not (nat_le 32 sector) Unknown (lt-leb 32 sector low))
+
+pub gets_unknown : {B H D S : Type 0} (state : B → S) (M : Machine S) (records : D → List Record)
+    (old : Running B H D) (c : Course S) (n sector : ℕ) → Shows state M records old c → SECTORS ≤ sector →
+    Applies state M records c (event.Get n sector) (Err Unknown) old
+gets_unknown state M records old c n sector h high =
+    refuses state M records old old c (event.Get n sector) Unknown h refl
+    (no_sector_first sector (at_node (slice_get c.world.nodes n) (place_refusal (machine_of M c))) high) refl
+
+pub gets_refused : {B H D S : Type 0} (state : B → S) (M : Machine S) (records : D → List Record)
+    (old : Running B H D) (c : Course S) (n sector : ℕ) (fault : Fault) → Shows state M records old c →
+    sector < SECTORS →
+    ReadHost {A = SectorAddress} c.world.nodes n (place_refusal M) (Err fault) (does.Finds M sector) →
+    Applies state M records c (event.Get n sector) (Err fault) old
+gets_refused state M records old c n sector fault h low a =
+    let o = at_node (slice_get c.world.nodes n) (place_refusal M) in
+    let k = refused_surely {A = SectorAddress} o fault (Unit {0})
+    (λ address. host.Says c.world.nodes n (does.Finds M sector address)) a in
+    refuses state M records old old c (event.Get n sector) fault h refl (is_sector sector o low ∙ k.0) refl
+
+-- What is read.
+
+-- a sector of the disk is of a drive and a track that are there
+place_within : (drives : ℕ) (a : SectorAddress) → drives ≤ DRIVES → IsTrue (has_sector drives a) →
+    (a.drive < DRIVES) × (a.sector < SECTORS)
+place_within drives a few there =
+    let p = and_parts (is_on_disk a) (nat_lt a.drive drives) there in
+    let q = and_parts (nat_lt a.track TRACKS) (nat_lt a.sector SECTORS) p.0 in
+    let d = ltb-true a.drive drives p.1 in
+    (omega arith, ltb-true a.sector SECTORS q.1)
+
+read_is : (rs : List Record) (a : SectorAddress) (met : Record) (read : SectorRead) → record_at rs a ≡ Some met →
+    option_map (read_of a) (record_at rs a) ≡ Some read → read_of a met ≡ read
+read_is rs a met read at e = same_some (read_of a met) read _ (ap (λ o. option_map (read_of a) o) at) e
+
+-- the node stands at a sector of the disk
+record StandsAt {S : Type 0} (N : Machine S) (drives : ℕ) (w : World S) (n sector : ℕ)
+    (address : SectorAddress) : Type 0 where
+  x : Node S
+  here : slice_get w.nodes n ≡ Some x
+  drive : ℕ
+  selected : N.selected x.machine ≡ Some drive
+  address_is : address ≡ N.address x.machine drive sector
+  there : IsTrue (has_sector drives address)
+  free : first_of (no_sector sector ∷ at_node (slice_get w.nodes n) (place_refusal N) ∷ []) ≡ None
+
+stands_at : {B H D S : Type 0} (state : B → S) (M : Machine S) (records : D → List Record) (old : Running B H D)
+    (c : Course S) (n sector : ℕ) (address : SectorAddress) → (h : Shows state M records old c) → sector < SECTORS →
+    ReadHost c.world.nodes n (place_refusal M) (Ok address) (does.Finds M sector) →
+    StandsAt (machine_of M c) h.drives c.world n sector address
+stands_at state M records old c n sector address h low a =
+    let N = machine_of M c in
+    let o = at_node (slice_get c.world.nodes n) (place_refusal N) in
+    let k = asked_ok o address (Unit {0})
+    (λ address. host.Says c.world.nodes n (does.Finds M sector address)) a in
+    let x = k.1.x in
+    let at = k.1.said in
+    let passed = node-passed (slice_get c.world.nodes n) x (place_refusal N) k.1.there k.0 in
+    let serves_now = serving c.world n x k.1.there (first-passed (serves x) _ passed.1).0 in
+    let is_serving = subst (λ role. Serving role) (sym serves_now.1.role_is) serves_now.2 in
+    let r = serving_runs N c.world n x h.machine.lawful (no_copies_copy N) h.reached k.1.there is_serving in
+    record {
+      x = x;
+      here = k.1.there;
+      drive = at.drive;
+      selected = at.selected;
+      address_is = at.address_is;
+      there = subst (λ a. IsTrue (has_sector h.drives a)) (sym at.address_is)
+          (h.machine.on_disk.reads r.0 x.machine at.drive sector r.1 at.selected low);
+      free = is_sector sector o low ∙ k.0;
+    }
+
+pub gets_applies : {B H D S : Type 0} (state : B → S) (M : Machine S) (records : D → List Record)
+    (old : Running B H D) (c : Course S) (n sector : ℕ) (address : SectorAddress) (answer : Result Reply Fault)
+    (ms : List Message) (disk : D) → Shows state M records old c → sector < SECTORS →
+    ReadHost c.world.nodes n (place_refusal M) (Ok address) (does.Finds M sector) →
+    GetsSector old.messages (records old.disk) address answer ms (records disk) →
+    Applies state M records c (event.Get n sector) answer (record old { messages = ms; disk = disk })
+gets_applies state M records old c n sector address (Ok r) ms disk h low a (read, is_read, said, sends, after) =
+    let N = machine_of M c in
+    let s = stands_at state M records old c n sector address h low a in
+    let met = h.parts.disk.there address s.there in
+    let kept = h.parts.disk.kept address met.0 met.1 in
+    let place = place_within h.drives address h.machine.drives_within s.there in
+    let message_is : IsMessage (message.Sector (read_of address met.0))
+    (sent.SectorRead address (sector_record N c.world.puts address).number
+    (sector_record N c.world.puts address).bytes) =
+    (refl, sym kept.0, sym kept.1, place.0, place.1) in
+    let message_at = subst
+    (λ read. IsMessage (message.Sector read)
+    (sent.SectorRead address (sector_record N c.world.puts address).number
+    (sector_record N c.world.puts address).bytes))
+    (read_is (records old.disk) address met.0 read met.1 is_read) message_is in
+    applies state M records old c (event.Get n sector) (Ok r) (with_read N c.world address)
+    (record old { messages = ms; disk = disk }) h
+    (Accepts s.free (record {
+      x = s.x;
+      there = s.here;
+      drive = s.drive;
+      selected = s.selected;
+      reply = ap reply_of said ∙ ap protocol.MessageIs h.parts.messages.count;
+      after = ap (λ a. with_read N c.world a) s.address_is;
+    }))
+    (record {
+      hosts = h.parts.hosts;
+      messages = subst (λ l. AreMessages l (with_read N c.world address).messages) (sym sends)
+          (messages_push old.messages c.world.messages (message.Sector read)
+          (sent.SectorRead address (sector_record N c.world.puts address).number
+          (sector_record N c.world.puts address).bytes) h.parts.messages message_at);
+      terminals = h.parts.terminals;
+      winners = h.parts.winners;
+      disk = subst (λ l. IsDisk N h.drives l c.world.puts) (sym after) h.parts.disk;
+      generation = h.parts.generation;
+      backup = h.parts.backup;
+    })
+gets_applies state M records old c n sector address (Err fault) ms disk h low a (why, same, after) =
+    let N = machine_of M c in
+    let s = stands_at state M records old c n sector address h low a in
+    let met = h.parts.disk.there address s.there in
+    let refused = λ (f : Fault). Row N no_copies c.world (protocol.Get n sector) (protocol.Refused f) c.world in
+    let row : refused fault = elim why [
+      | inl is ↦ subst refused (sym is) (WantsMemory s.free refl)
+      | inr is ↦ subst refused (sym (not_put (records old.disk) address met.0 fault met.1 is)) (DeviceFails s.free refl)
+    ] in
+    unchanged state M records old (record old { messages = ms; disk = disk }) c (event.Get n sector) fault h
+    (record {
+      hosts = h.parts.hosts;
+      messages = subst (λ l. AreMessages l c.world.messages) (sym same) h.parts.messages;
+      terminals = h.parts.terminals;
+      winners = h.parts.winners;
+      disk = subst (λ l. IsDisk N h.drives l c.world.puts) (sym after) h.parts.disk;
+      generation = h.parts.generation;
+      backup = h.parts.backup;
+    })
+    row
+
+-- A sector is only looked at: the disk has the same records, so the same worlds are shown.
+
+pub same_shown : {B H D S : Type 0} (state : B → S) (M : Machine S) (records : D → List Record)
+    (old new : Running B H D) → ShowsSome state M records old → records new.disk ≡ records old.disk →
+    new ≡ record old { disk = new.disk } → ShowsSome state M records new
+same_shown state M records old new some kept others =
+    let h = some.shows in
+    let p = h.parts in
+    subst (ShowsSome state M records) (sym others) (record {
+      course = some.course;
+      shows = record {
+        drives = h.drives;
+        machine = h.machine;
+        reached = h.reached;
+        parts = record {
+          hosts = p.hosts;
+          messages = p.messages;
+          terminals = p.terminals;
+          winners = p.winners;
+          disk = subst (λ l. IsDisk (machine_of M some.course) h.drives l some.course.world.puts) (sym kept) p.disk;
+          generation = p.generation;
+          backup = p.backup;
+        };
+      };
+    })

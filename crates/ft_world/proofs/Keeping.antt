@@ -1,0 +1,118 @@
+-- What moves of a node keep: its role, its generation, and the lists and the count that it began with. So what is
+-- settled by it changes only with its machine and its own inputs.
+use Rattle.std.proofs.Common.{◌≡◌, ◌∙◌, [], ◌∷◌, ◌++◌, ℕ, None, Option, Some, ap, inl, inr, refl, subst, sym}
+use Rattle.event_callbacks.specs.declared.operations.Operation.{Operation}
+use Rattle.guest_board.specs.Machine.{Machine}
+use Rattle.log_entry.specs.Entries.{inputs_of, last_count}
+use Rattle.pair_protocol.specs.Change.{Serving}
+use Rattle.pair_protocol.specs.Event.{Why}
+use Rattle.pair_protocol.specs.Node.{Node, Role, Primary, Backup, Joining, Draining, Alone, Spare, plainly_steps, passes_mark, passes_input}
+use Rattle.pair_protocol.specs.Refusals.{serves, role_refusal}
+use Rattle.pair_protocol.specs.Rows.{Advances, Replays, NoneLeft, Ends, Waits, Short, Gives, Goes, NoTurns, AtEnd, NoMemory, OneStep, OneMark, OneInput, stepped}
+use Rattle.pair_protocol.specs.Settled.{list_of, count_in}
+use Rattle.pair_protocol.specs.World.{World}
+use Rattle.pair_protocol.proofs.Passed.{acts-in, serving}
+
+pub record Kept {S : Type 0} (x y : Node S) : Type 0 where
+  pub role : y.role ≡ x.role
+  pub generation : y.generation ≡ x.generation
+  pub list : y.list ≡ x.list
+  pub copy : y.copy ≡ x.copy
+  pub start : y.start ≡ x.start
+  pub held : y.held ≡ x.held
+
+pub kept_here : {S : Type 0} (x : Node S) → Kept x x
+kept_here x = record { role = refl; generation = refl; list = refl; copy = refl; start = refl; held = refl }
+
+pub kept_then : {S : Type 0} (x y z : Node S) → Kept x y → Kept y z → Kept x z
+kept_then x y z a b = record {
+  role = b.role ∙ a.role;
+  generation = b.generation ∙ a.generation;
+  list = b.list ∙ a.list;
+  copy = b.copy ∙ a.copy;
+  start = b.start ∙ a.start;
+  held = b.held ∙ a.held;
+}
+
+pub stepped_keeps : {S : Type 0} (M : Machine S) (x : Node S) (q : Role) (s : S) (o : Option Operation)
+    → Kept x (stepped M x q s o)
+stepped_keeps M x Primary s o =
+    record { role = refl; generation = refl; list = refl; copy = refl; start = refl; held = refl }
+stepped_keeps M x Alone s o =
+    record { role = refl; generation = refl; list = refl; copy = refl; start = refl; held = refl }
+stepped_keeps M x Backup s o = kept_here x
+stepped_keeps M x Joining s o = kept_here x
+stepped_keeps M x Draining s o = kept_here x
+stepped_keeps M x Spare s o = kept_here x
+
+pub advances_keep : {S : Type 0} (M : Machine S) {x y : Node S} {k made : ℕ} {why : Why} → Advances M x k y made why
+    → Kept x y
+advances_keep M (NoneLeft {x = x}) = kept_here x
+advances_keep M (Ends {x = x} q) = kept_here x
+advances_keep M (Waits {x = x} p q) = kept_here x
+advances_keep M (Short {x = x}) = kept_here x
+advances_keep M (Gives {x = x} s o q) = stepped_keeps M x x.role s (Some o)
+advances_keep M (Goes {x = x} {y = y} s q rest) =
+    kept_then x (stepped M x x.role s None) y (stepped_keeps M x x.role s None) (advances_keep M rest)
+
+pub replays_keep : {S : Type 0} (M : Machine S) {x y : Node S} {k made : ℕ} → Replays M x k y made → Kept x y
+replays_keep M (NoTurns {x = x}) = kept_here x
+replays_keep M (AtEnd {x = x} q) = kept_here x
+replays_keep M (NoMemory {x = x}) = kept_here x
+replays_keep M (OneStep {x = x} {y = y} e s gives g c q rest) =
+    kept_then x (plainly_steps x s) y
+    (record { role = refl; generation = refl; list = refl; copy = refl; start = refl; held = refl })
+    (replays_keep M rest)
+replays_keep M (OneMark {x = x} {y = y} e g c q rest) =
+    kept_then x (passes_mark x) y
+    (record { role = refl; generation = refl; list = refl; copy = refl; start = refl; held = refl })
+    (replays_keep M rest)
+replays_keep M (OneInput {x = x} {y = y} e i s g c q v rest) =
+    kept_then x (passes_input x s) y
+    (record { role = refl; generation = refl; list = refl; copy = refl; start = refl; held = refl })
+    (replays_keep M rest)
+
+-- ---- what is settled by it
+
+pub held_inputs : {S : Type 0} (x y : Node S) → Kept x y → y.copy ++ inputs_of y.held ≡ x.copy ++ inputs_of x.held
+held_inputs x y k = ap (λ c. c ++ inputs_of y.held) k.copy ∙ ap (λ h. x.copy ++ inputs_of h) k.held
+
+pub held_count : {S : Type 0} (x y : Node S) → Kept x y → last_count y.start y.held ≡ last_count x.start x.held
+held_count x y k = ap (λ c. last_count c y.held) k.start ∙ ap (λ h. last_count x.start h) k.held
+
+pub same_list : {S : Type 0} (x y : Node S) (q : Role) → Kept x y → list_of y q ≡ list_of x q
+same_list x y Primary k = k.list
+same_list x y Alone k = k.list
+same_list x y Backup k = held_inputs x y k
+same_list x y Draining k = held_inputs x y k
+same_list x y Joining k = held_inputs x y k
+same_list x y Spare k = refl
+
+pub same_count : {S : Type 0} (M : Machine S) (x y : Node S) (q : Role) → Kept x y → y.machine ≡ x.machine
+    → count_in M y q ≡ count_in M x q
+same_count M x y Primary k e = ap M.count e
+same_count M x y Alone k e = ap M.count e
+same_count M x y Backup k e = held_count x y k
+same_count M x y Draining k e = held_count x y k
+same_count M x y Joining k e = held_count x y k
+same_count M x y Spare k e = refl
+
+-- ---- the role of a node that a call does not refuse
+
+abbrev only : {S : Type 0} → Node S → World S
+only x = record { nodes = x ∷ []; messages = []; terminals = []; winners = []; puts = [] }
+
+pub serving_role : {S : Type 0} (x : Node S) → serves x ≡ None → Serving x.role
+serving_role x h = let a = serving (only x) 0 x refl h in subst (λ q. Serving q) (sym a.1.role_is) a.2
+
+pub acting_role : {S : Type 0} (x : Node S) (q : Role) → role_refusal (q ∷ []) x ≡ None → x.role ≡ q
+acting_role x q h = (acts-in (only x) 0 x q refl h).role_is
+
+pub machine_count : {S : Type 0} (M : Machine S) (x : Node S) → Serving x.role
+    → count_in M x x.role ≡ M.count x.machine
+machine_count M x (inl e) = ap (count_in M x) e
+machine_count M x (inr e) = ap (count_in M x) e
+
+pub own_inputs : {S : Type 0} (x : Node S) → Serving x.role → list_of x x.role ≡ x.list
+own_inputs x (inl e) = ap (list_of x) e
+own_inputs x (inr e) = ap (list_of x) e

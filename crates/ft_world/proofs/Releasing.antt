@@ -1,0 +1,167 @@
+-- A node releases an operation to its device, and a terminal is told how many of its keys a node has covered. Each is
+-- refused where there is no such port, and then as the node refuses it. Neither changes a node: a release sends one more
+-- message, and a telling leaves the greatest number told on the screen, here and in the world.
+use Rattle.std.proofs.Common.{◌≡◌, ◌<◌, ◌≤◌, [], ◌∷◌, ◌∙◌, Err, List, None, Ok, Some, ap, refl, subst, sym, ℕ}
+use Rattle.std.specs.Prelude.{Option, Result, length, max, nat_le, slice_get, slice_set}
+use Rattle.disk_dcdd.specs.Completion.{answered}
+use Rattle.event_callbacks.specs.declared.devices.TheConstants.{PORTS}
+use Rattle.event_callbacks.specs.declared.operations.OpId.{OpId}
+use Rattle.event_callbacks.specs.declared.operations.OpId.TheVariants as id
+use Rattle.event_callbacks.specs.declared.operations.Operation.{Operation}
+use Rattle.event_callbacks.specs.declared.operations.Operation.TheVariants as operation
+use Rattle.guest_board.specs.Machine.{Machine}
+use Rattle.i8080_words.specs.declared.refusal.Fault.{Fault}
+use Rattle.i8080_words.specs.declared.refusal.Fault.TheVariants.{Unknown}
+use Rattle.shared_disk.specs.declared.store.Record.{Record}
+use Rattle.terminals.specs.Screen.{Screen, after_telling}
+use Rattle.pair_protocol.specs.Event as protocol
+use Rattle.pair_protocol.specs.Refusals.{at_node, fault_if, first_of, no_such, no_port, release_refusal, told_refusal}
+use Rattle.pair_protocol.specs.Row.{Accepts}
+use Rattle.pair_protocol.specs.World as world
+use Rattle.pair_protocol.specs.World.{World, terminal_in, with_told}
+use Rattle.ft_world.specs.Applies.{Applies, Shows}
+use Rattle.ft_world.specs.AtHost as host
+use Rattle.ft_world.specs.AtHost.{ReadHost}
+use Rattle.ft_world.specs.Devices.{no_device, screen_in}
+use Rattle.ft_world.specs.Does as does
+use Rattle.ft_world.specs.Messages.{Says, released}
+use Rattle.ft_world.specs.Running.{Running}
+use Rattle.ft_world.specs.Shows.{AreTerminals, IsTerminal}
+use Rattle.ft_world.specs.Standing.{Course, machine_of}
+use Rattle.ft_world.specs.Words.{IsMessage}
+use Rattle.pair_events.specs.declared.event.Event.TheVariants as event
+use Rattle.pair_events.specs.declared.reply.Reply.{Reply}
+use Rattle.pair_events.specs.declared.reply.Reply.TheVariants as reply
+use Rattle.ft_world.specs.declared.message.Message.{Message}
+use Rattle.ft_world.proofs.Applying.{applies, refuses}
+use Rattle.ft_world.proofs.AtOneNode.{first_stands, refused_surely, second_of}
+use Rattle.ft_world.proofs.AtTerminals.{port_missing, port_there, screen_is, terminals_set, with_screens}
+use Rattle.ft_world.proofs.Sending.{asked_ok, says_applies}
+
+-- ---- an operation is released
+
+-- its device is there where the world has it
+device_is : {S : Type 0} (w : World S) (name : OpId) → length w.terminals ≡ PORTS → no_such w name ≡ no_device name
+device_is w (id.Byte port number) e = ap (λ n. fault_if (nat_le n port) Unknown) e
+device_is w (id.Write number) e = refl
+
+-- what a check answers says whether it refuses
+checked : (o : Option Fault) (fault : Fault) → ◌≡◌ {A = Result (Unit {0}) Fault} (Err fault) (answered o) →
+    o ≡ Some fault
+checked None fault e = absurd (cc)
+checked (Some f) fault e = let same : fault ≡ f = (cc) in ap Some (sym same)
+
+passes : (o : Option Fault) (done : Unit {0}) → ◌≡◌ {A = Result (Unit {0}) Fault} (Ok done) (answered o) → o ≡ None
+passes None done e = refl
+passes (Some f) done e = absurd (cc)
+
+released_is : (o : Operation) → IsMessage (released o) (world.Released o)
+released_is (operation.Byte port number byte) = refl
+released_is (operation.Write write) = refl
+
+pub releases_nowhere : {B H D S : Type 0} (state : B → S) (M : Machine S) (records : D → List Record)
+    (old : Running B H D) (c : Course S) (n : ℕ) (name : OpId) (fault : Fault) → Shows state M records old c →
+    ◌≡◌ {A = Result (Unit {0}) Fault} (Err fault) (answered (no_device name)) →
+    Applies state M records c (event.Release n name) (Err fault) old
+releases_nowhere state M records old c n name fault h e =
+    refuses state M records old old c (event.Release n name) fault h refl
+    (first_stands (no_such c.world name) (at_node (slice_get c.world.nodes n) (release_refusal (machine_of M c) name))
+    fault (device_is c.world name h.parts.terminals.count ∙ checked (no_device name) fault e)) refl
+
+-- the device is there, so the node's part is left
+node_left : {B H D S : Type 0} (state : B → S) (M : Machine S) (records : D → List Record) (old : Running B H D)
+    (c : Course S) (n : ℕ) (name : OpId) (done : Unit {0}) → Shows state M records old c →
+    ◌≡◌ {A = Result (Unit {0}) Fault} (Ok done) (answered (no_device name)) →
+    first_of (no_such c.world name ∷ at_node (slice_get c.world.nodes n) (release_refusal M name) ∷ [])
+    ≡ at_node (slice_get c.world.nodes n) (release_refusal M name)
+node_left state M records old c n name done h e =
+    second_of (no_such c.world name) (at_node (slice_get c.world.nodes n) (release_refusal M name))
+    (device_is c.world name h.parts.terminals.count ∙ passes (no_device name) done e)
+
+pub releases_refused : {B H D S : Type 0} (state : B → S) (M : Machine S) (records : D → List Record)
+    (old : Running B H D) (c : Course S) (n : ℕ) (name : OpId) (done : Unit {0}) (fault : Fault) →
+    Shows state M records old c → ◌≡◌ {A = Result (Unit {0}) Fault} (Ok done) (answered (no_device name)) →
+    ReadHost {A = Operation} c.world.nodes n (release_refusal M name) (Err fault) (does.Releases M name) →
+    Applies state M records c (event.Release n name) (Err fault) old
+releases_refused state M records old c n name done fault h e a =
+    let k = refused_surely {A = Operation} (at_node (slice_get c.world.nodes n) (release_refusal M name)) fault
+    (Unit {0}) (λ o. host.Says c.world.nodes n (does.Releases M name o)) a in
+    refuses state M records old old c (event.Release n name) fault h refl
+    (node_left state M records old c n name done h e ∙ k.0) refl
+
+pub releases_applies : {B H D S : Type 0} (state : B → S) (M : Machine S) (records : D → List Record)
+    (old : Running B H D) (c : Course S) (n : ℕ) (name : OpId) (done : Unit {0}) (o : Operation)
+    (answer : Result Reply Fault) (ms : List Message) → Shows state M records old c →
+    ◌≡◌ {A = Result (Unit {0}) Fault} (Ok done) (answered (no_device name)) →
+    ReadHost c.world.nodes n (release_refusal M name) (Ok o) (does.Releases M name) →
+    Says old.messages (released o) answer ms →
+    Applies state M records c (event.Release n name) answer (record old { messages = ms })
+releases_applies state M records old c n name done o answer ms h e a said =
+    let k = asked_ok (at_node (slice_get c.world.nodes n) (release_refusal M name)) o (Unit {0})
+    (λ o. host.Says c.world.nodes n (does.Releases M name o)) a in
+    says_applies state M records old c (event.Release n name) (released o) (world.Released o) answer ms h
+    (released_is o) (node_left state M records old c n name done h e ∙ k.0) refl
+    (record {
+      x = k.1.x;
+      there = k.1.there;
+      o = o;
+      outstanding = k.1.said;
+      says = record { reply = refl; after = refl };
+    })
+    said
+
+-- ---- a terminal is told
+
+pub tells_nowhere : {B H D S : Type 0} (state : B → S) (M : Machine S) (records : D → List Record)
+    (old : Running B H D) (c : Course S) (n port : ℕ) → Shows state M records old c → PORTS ≤ port →
+    Applies state M records c (event.Told n port) (Err Unknown) old
+tells_nowhere state M records old c n port h high =
+    refuses state M records old old c (event.Told n port) Unknown h refl
+    (first_stands (no_port c.world port) (at_node (slice_get c.world.nodes n) told_refusal) Unknown
+    (port_missing c.world port h.parts.terminals.count high)) refl
+
+tells_left : {B H D S : Type 0} (state : B → S) (M : Machine S) (records : D → List Record) (old : Running B H D)
+    (c : Course S) (n port : ℕ) → Shows state M records old c → port < PORTS →
+    first_of (no_port c.world port ∷ at_node (slice_get c.world.nodes n) told_refusal ∷ [])
+    ≡ at_node (slice_get c.world.nodes n) told_refusal
+tells_left state M records old c n port h low =
+    second_of (no_port c.world port) (at_node (slice_get c.world.nodes n) told_refusal)
+    (port_there c.world port h.parts.terminals.count low)
+
+pub tells_refused : {B H D S : Type 0} (state : B → S) (M : Machine S) (records : D → List Record)
+    (old : Running B H D) (c : Course S) (n port : ℕ) (fault : Fault) → Shows state M records old c → port < PORTS →
+    ReadHost {A = ℕ} c.world.nodes n told_refusal (Err fault) (does.Tells M port) →
+    Applies state M records c (event.Told n port) (Err fault) old
+tells_refused state M records old c n port fault h low a =
+    let k = refused_surely {A = ℕ} (at_node (slice_get c.world.nodes n) told_refusal) fault (Unit {0})
+    (λ keys. host.Says c.world.nodes n (does.Tells M port keys)) a in
+    refuses state M records old old c (event.Told n port) fault h refl
+    (tells_left state M records old c n port h low ∙ k.0) refl
+
+told_is : (s : Screen) (t : world.Terminal) (keys : ℕ) → IsTerminal s t →
+    IsTerminal (after_telling s keys) (record t { told = max t.told keys })
+told_is s t keys i = record { accepted = i.accepted; typed = i.typed; told = ap (λ n. max n keys) i.told }
+
+pub tells_applies : {B H D S : Type 0} (state : B → S) (M : Machine S) (records : D → List Record)
+    (old : Running B H D) (c : Course S) (n port keys : ℕ) (screens : List Screen) → Shows state M records old c →
+    port < PORTS → ReadHost c.world.nodes n told_refusal (Ok keys) (does.Tells M port) →
+    screens ≡ slice_set old.terminals port (after_telling (screen_in old.terminals port) keys) →
+    Applies state M records c (event.Told n port) (Ok (reply.Told keys)) (record old { terminals = screens })
+tells_applies state M records old c n port keys screens h low a after =
+    let k = asked_ok (at_node (slice_get c.world.nodes n) told_refusal) keys (Unit {0})
+    (λ keys. host.Says c.world.nodes n (does.Tells M port keys)) a in
+    let ts = c.world.terminals in
+    let i = screen_is old.terminals ts port h.parts.terminals low in
+    let are = terminals_set old.terminals ts port (after_telling (screen_in old.terminals port) keys)
+    (record (terminal_in ts port) { told = max (terminal_in ts port).told keys }) h.parts.terminals
+    (told_is (screen_in old.terminals port) (terminal_in ts port) keys i) in
+    applies state M records old c (event.Told n port) (Ok (reply.Told keys)) (with_told c.world port keys)
+    (record old { terminals = screens }) h
+    (Accepts (tells_left state M records old c n port h low ∙ k.0) (record {
+      x = k.1.x;
+      there = k.1.there;
+      reply = ap protocol.ToldIs k.1.said;
+      after = ap (λ m. with_told c.world port m) k.1.said;
+    }))
+    (with_screens state M records h.drives old c screens (with_told c.world port keys).terminals h.parts
+    (subst (λ l. AreTerminals l (with_told c.world port keys).terminals) (sym after) are))

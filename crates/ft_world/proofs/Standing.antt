@@ -1,0 +1,76 @@
+-- What the calls of the hosts ask: a primary's machine was run from boot, so that few of its operations are outstanding,
+-- wherever it goes. A machine that begins elsewhere runs alike.
+use Rattle.std.proofs.Common.{◌≡◌, ◌++◌, [], ◌∷◌, List, Some, inl, subst, ℕ}
+use Rattle.std.specs.Prelude.{slice_get}
+use Rattle.guest_board.specs.Machine.{Do, Machine, Move, Runs, Take}
+use Rattle.shared_disk.specs.declared.store.Record.{Record}
+use Rattle.pair_protocol.specs.Change.{Reached, Serving}
+use Rattle.pair_protocol.specs.Copying.{IsCopying, no_copies}
+use Rattle.pair_protocol.specs.Lawful.{Lawful, Reaches}
+use Rattle.pair_protocol.specs.Node.{Node}
+use Rattle.pair_protocol.specs.World.{World}
+use Rattle.pair_protocol.proofs.Moves.{runs-append}
+use Rattle.guest_board.specs.Outstanding.{IsFrugal}
+use Rattle.ft_node.specs.Roles.{AreOfOutstanding}
+use Rattle.ft_node.specs.Seats.{IsNode, MayRun}
+use Rattle.ft_node.specs.declared.node.Node as code
+use Rattle.ft_node.specs.declared.node.Node.TheVariants as seat
+use Rattle.pair_protocol.proofs.NodeStands.{nodes_stand}
+use Rattle.ft_world.specs.Applies.{Shows, ShowsSome}
+use Rattle.ft_world.specs.AtHost.{AllMayRun, HostMayRun}
+use Rattle.ft_world.specs.Running.{Running}
+use Rattle.ft_world.specs.Shows.{IsHost}
+use Rattle.ft_world.specs.Standing.{Course, IsMachine, machine_of}
+use Rattle.ft_world.specs.declared.hosts.Host.{Host}
+use Rattle.ft_world.specs.declared.hosts.Host.TheVariants as host
+use Rattle.ft_world.proofs.Agreeing.{agree-other}
+use Rattle.ft_world.proofs.Applying.{no_copies_copy}
+
+-- a node that serves has a machine that was run from boot
+pub serving_runs : {S : Type 0} (M : Machine S) (w : World S) (n : ℕ) (x : Node S) → Lawful M → IsCopying M no_copies →
+    Reached M no_copies w → slice_get w.nodes n ≡ Some x → Serving x.role → (moves : List Move) × Reaches M moves x.machine
+serving_runs M w n x laws copies h there serves =
+    (nodes_stand M no_copies laws copies w h n x there).machine (inl serves)
+
+runs_same : {S : Type 0} (M : Machine S) (c : Course S) (s t : S) (moves : List Move) → Runs M s moves t →
+    Runs (machine_of M c) s moves t
+runs_same M c s t [] h = h
+runs_same M c s t (Do gives ∷ moves) h = (h.0, h.1, runs_same M c h.0 t moves h.2)
+runs_same M c s t (Take i ∷ moves) h = (h.0, h.1, runs_same M c h.0 t moves h.2)
+
+frugal : {S : Type 0} (M : Machine S) (c : Course S) (drives : ℕ) (front : List Move) (s : S) →
+    IsMachine (machine_of M c) drives → Reaches (machine_of M c) front s → IsFrugal M s
+frugal M c drives front s machine from = λ moves t runs.
+    let few = machine.few (front ++ moves) t
+    (runs-append (machine_of M c) c.boot s t front moves from (runs_same M c s t moves runs)) in
+    record { names = few.names; few = few.few; all = few.all }
+
+may_run : {B H D S : Type 0} (state : B → S) (M : Machine S) (records : D → List Record) (old : Running B H D)
+    (c : Course S) (n : ℕ) (x : Node S) (node : code.Node B) → Shows state M records old c →
+    slice_get c.world.nodes n ≡ Some x → IsNode state M node x → MayRun state M node
+may_run state M records old c n x (seat.Primary p) h there is =
+    let N = machine_of M c in
+    let r = serving_runs N c.world n x h.machine.lawful (no_copies_copy N) h.reached there (inl is.role) in (
+      subst (λ s. IsFrugal M s) is.machine (frugal M c h.drives r.0 x.machine h.machine r.1),
+      subst (λ s. AreOfOutstanding M s p.coverage) is.machine is.covers.outstanding,
+    )
+may_run state M records old c n x (seat.Backup b) h there is = tt
+may_run state M records old c n x (seat.Draining d) h there is = tt
+may_run state M records old c n x (seat.Alone a) h there is = tt
+may_run state M records old c n x (seat.Halted a) h there is = tt
+
+host_may_run : {B H D S : Type 0} (state : B → S) (M : Machine S) (records : D → List Record) (old : Running B H D)
+    (c : Course S) (n : ℕ) (x : Node S) (here : Host B H) → Shows state M records old c →
+    slice_get c.world.nodes n ≡ Some x → IsHost state M here x → HostMayRun state M here
+host_may_run state M records old c n x (host.Node station) h there is =
+    may_run state M records old c n x station.node h there is.node
+host_may_run state M records old c n x (host.Spare means) h there is = tt
+
+pub all_may_run : {B H D S : Type 0} (state : B → S) (M : Machine S) (records : D → List Record)
+    (old : Running B H D) → ShowsSome state M records old → AllMayRun state M old.hosts
+all_may_run state M records old some = λ n here there.
+    let c = some.course in
+    let h = some.shows in
+    let x = agree-other (IsHost state M) (slice_get old.hosts n) (slice_get c.world.nodes n) here there
+    (h.parts.hosts n) in
+    host_may_run state M records old c n x.0 here h x.1 x.2

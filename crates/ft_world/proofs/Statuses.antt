@@ -1,0 +1,38 @@
+-- What a station shows of its node is what the node of the world has at that number.
+use Rattle.std.proofs.Common.{◌≡◌, Err, IfOk, List, Ok, Result, Some, refl, subst, sym, ℕ}
+use Rattle.std.specs.Prelude.{slice_get}
+use Rattle.std.specs.Result.{result_ok}
+use Rattle.guest_board.specs.Machine.{Machine}
+use Rattle.pair_protocol.specs.Node.{Node}
+use Rattle.pair_protocol.proofs.Moves.{same_some}
+use Rattle.ft_node.specs.Seats.{IsNode, IsRole}
+use Rattle.ft_world.specs.Shows.{AreHosts, IsHost, IsStatusAt}
+use Rattle.ft_world.specs.declared.hosts.Host.{Host}
+use Rattle.ft_world.specs.declared.hosts.Host.TheVariants as host
+use Rattle.ft_world.specs.declared.hosts.NodeStatus.{NodeStatus}
+use Rattle.ft_world.specs.declared.hosts.Station.{Station}
+use Rattle.ft_world.proofs.Agreeing.{agree-other}
+
+-- what holds of the value that a call gives holds of the one that was found
+pub holds_of_found : {A E : Type 0} (P : A → Type 0) (r : Result A E) (v : A) → Some v ≡ result_ok r → IfOk r P → P v
+holds_of_found P (Ok a) v e h = subst P (sym (same_some v a (Some v) refl e)) h
+holds_of_found P (Err fault) v e h = absurd (cc)
+
+pub station_shows : {B H S : Type 0} (state : B → S) (M : Machine S) (hosts : List (Host B H)) (nodes : List (Node S))
+    (n : ℕ) (station : Station B) (status : NodeStatus) → AreHosts state M hosts nodes →
+    slice_get hosts n ≡ Some (host.Node station) →
+    ((x : Node S) → IsNode state M station.node x → IsRole x status.role) →
+    ((x : Node S) → IsNode state M station.node x → x.generation ≡ status.generation) →
+    ((x : Node S) → IsNode state M station.node x → M.count x.machine ≡ status.count) →
+    IsStatusAt M (slice_get nodes n) (Some status)
+station_shows {B} {H} state M hosts nodes n station status are at role generation count =
+    let o = agree-other (IsHost {B = B} {H = H} state M) (slice_get hosts n) (slice_get nodes n) (host.Node station) at
+    (are n) in
+    let is = o.2 in
+    subst (λ here. IsStatusAt M here (Some status)) (sym o.1)
+    (record {
+      role = role o.0 is.node;
+      generation = sym (generation o.0 is.node);
+      count = sym (count o.0 is.node);
+      a_node = is.a_node;
+    })

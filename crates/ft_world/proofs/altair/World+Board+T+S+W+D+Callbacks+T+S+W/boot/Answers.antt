@@ -1,0 +1,13 @@
+-- Both guests stand as the setup has them, and the Altair of a setup is a machine that a pair may run.
+use Rattle.std.proofs.Common.{ap}
+use Rattle.guest_board.specs.Board.{OnBoard}
+use Rattle.ft_world.proofs.Beginnings.{altairs_may_begin}
+use Rattle.ft_world.proofs.altair.World+Board+T+S+W+D+Callbacks+T+S+W.boot.Goals as goal
+
+pub begin-requires : goal.begin-requires
+begin-requires g c = record {
+  may = altairs_may_begin (λ (board : OnBoard). board.guest) g.D.SectorStore.records c.args.setup.now c.in-Ok.primary
+      c.in-Ok-boot.backup c.args.store c.altairs_are_lawful.ensures c.altairs_stay_on_their_disks.ensures
+      c.args.setup.now.few (ap (λ (board : OnBoard). board.guest) c.in-Ok.ensures.ok)
+      (ap (λ (board : OnBoard). board.guest) c.in-Ok-boot.ensures.ok) c.requires.drives c.requires.unwritten;
+}

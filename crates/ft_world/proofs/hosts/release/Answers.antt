@@ -1,0 +1,16 @@
+use Rattle.pair_protocol.specs.Refusals as refusals
+use Rattle.ft_world.specs.Does as does
+use Rattle.ft_world.proofs.AtHosts.{asks_none, reads_host}
+use Rattle.ft_world.proofs.hosts.release.Goals as goal
+
+pub returns-in_err-here : goal.returns-in_err-here
+returns-in_err-here g c = λ nodes are.
+    asks_none g.B.Lockstep.state g.B.Lockstep.machine c.args.hosts.now nodes c.args.node (refusals.release_refusal g.B.Lockstep.machine c.args.id)
+    c.from_residual.result c.in_err-here.field-0.0 _ c.from_residual.ensures.1 c.in_err-here.ensures.absent.0
+    c.in_err-here.ensures.absent.1 are
+
+pub returns : goal.returns
+returns g c = λ nodes are.
+    reads_host g.B.Lockstep.state g.B.Lockstep.machine c.args.hosts.now nodes c.args.node c.in_ok-here.here.now
+    (refusals.release_refusal g.B.Lockstep.machine c.args.id) c.release.result (does.Releases g.B.Lockstep.machine c.args.id) are c.in_ok-here.ensures.found
+    c.release.ensures

@@ -1,0 +1,23 @@
+use Rattle.std.proofs.Common.{length, refl}
+use Rattle.std.proofs.lemmas.Option.{slice_get_past, slice_get_read}
+use Rattle.guest_board.specs.declared.input.Input.TheVariants as input
+use Rattle.pair_protocol.specs.Refusals as refusals
+use Rattle.ft_world.specs.Does as does
+use Rattle.ft_world.proofs.AtHosts.{at_host, no_host}
+use Rattle.ft_world.proofs.hosts.under.Goals as goal
+
+pub returns-in-Some : goal.returns-in-Some
+returns-in-Some g c = λ nodes are.
+    at_host g.B.Lockstep.state g.B.Lockstep.machine c.args.hosts.now.items nodes c.args.node c.in-Some.host.now
+    c.under.new.self (refusals.under_refusal g.B.Lockstep.machine c.args.address c.args.number c.args.bytes)
+    c.under.result (does.Took g.B.Lockstep.machine (input.Sector c.args.address.drive c.args.address.sector
+    c.args.number c.args.bytes)) are
+    (slice_get_read c.args.hosts.now.items (length c.args.hosts.now.items) c.args.node c.in-Some.host.now refl
+    c.in-Some.ensures.item.3.0 c.in-Some.ensures.value) c.under.ensures
+
+pub returns-in-None : goal.returns-in-None
+returns-in-None g c = λ nodes are.
+    no_host g.B.Lockstep.state g.B.Lockstep.machine c.args.hosts.now.items nodes c.args.node
+    (refusals.under_refusal g.B.Lockstep.machine c.args.address c.args.number c.args.bytes) (does.Took
+    g.B.Lockstep.machine (input.Sector c.args.address.drive c.args.address.sector c.args.number c.args.bytes)) are
+    (slice_get_past c.args.hosts.now.items c.args.node c.in-None.ensures.item.3)

@@ -1,0 +1,40 @@
+-- No such sector, or the node refuses, or the disk answers.
+use Rattle.std.proofs.Common.{◌≡◌, ◌<◌, ◌≤◌, Err, arith, subst, sym}
+use Rattle.disk_dcdd.specs.declared.sector.TheConstants.{SECTORS}
+use Rattle.ft_world.specs.Applies.{Applies}
+use Rattle.ft_world.specs.Pairs.{running_of}
+use Rattle.ft_world.specs.Shows.{AreHosts}
+use Rattle.pair_events.specs.declared.event.Event.TheVariants as event
+use Rattle.ft_world.proofs.Applying.{handed_on}
+use Rattle.ft_world.proofs.DiskReads.{gets_applies, gets_refused, gets_unknown}
+use Rattle.ft_world.proofs.pair.Pair.get.Goals as goal
+
+pub returns-then-sector-ge-SECTORS : goal.returns-then-sector-ge-SECTORS
+returns-then-sector-ge-SECTORS g c = λ course h.
+    let high : SECTORS ≤ c.args.sector = omega arith in
+    gets_unknown g.B.Lockstep.state g.B.Lockstep.machine g.D.SectorStore.records (running_of c.args.self.now) course
+    c.args.node c.args.sector h high
+
+pub returns-in_err-address : goal.returns-in_err-address
+returns-in_err-address g c = λ course h.
+    let low : c.args.sector < SECTORS = omega arith in
+    let e : c.from_residual.result ≡ Err c.in_err-address.field-0.0 =
+    handed_on c.from_residual.result c.in_err-address.field-0.0 c.from_residual.ensures.1 in
+    subst
+    (λ r. Applies g.B.Lockstep.state g.B.Lockstep.machine g.D.SectorStore.records course
+    (event.Get c.args.node c.args.sector) r (running_of c.args.self.now)) (sym e)
+    (gets_refused g.B.Lockstep.state g.B.Lockstep.machine g.D.SectorStore.records (running_of c.args.self.now)
+    course c.args.node c.args.sector c.in_err-address.field-0.0 h low
+    (c.in_err-address.ensures course.world.nodes
+    (subst (λ hs. AreHosts g.B.Lockstep.state g.B.Lockstep.machine hs course.world.nodes)
+    (sym c.deref.ensures.value) h.parts.hosts)))
+
+pub returns : goal.returns
+returns g c = λ course h.
+    let low : c.args.sector < SECTORS = omega arith in
+    gets_applies g.B.Lockstep.state g.B.Lockstep.machine g.D.SectorStore.records (running_of c.args.self.now) course
+    c.args.node c.args.sector c.in_ok-address.address c.get.result c.get.new.messages.items c.get.new.disk h low
+    (c.in_ok-address.ensures course.world.nodes
+    (subst (λ hs. AreHosts g.B.Lockstep.state g.B.Lockstep.machine hs course.world.nodes)
+    (sym c.deref.ensures.value) h.parts.hosts))
+    c.get.ensures

@@ -1,0 +1,46 @@
+-- Each event's answer stands behind the others, as its row does in the run.
+use Rattle.std.proofs.Common.{◌+◌, ◌∙◌, [], ap, arith, get_or, subst, sym}
+use Rattle.std.proofs.lemmas.List.{take_all}
+use Rattle.ft_world.specs.Applies.{Runs}
+use Rattle.ft_world.specs.Pairs.{running_of}
+use Rattle.pair_events.specs.declared.event.Event.TheVariants as event
+use Rattle.ft_world.proofs.Applying.{goes_on}
+use Rattle.ft_world.proofs.Running.{runs_begin, runs_on}
+use Rattle.ft_world.proofs.pair.Pair.run.Goals as goal
+
+pub loop-event-init : goal.loop-event-init
+loop-event-init g c = record {
+  shown = c.requires.shown;
+  runs = λ course h.
+      subst
+      (λ answers. Runs g.B.Lockstep.state g.B.Lockstep.machine g.D.SectorStore.records course [] answers
+      (running_of c.args.self.now))
+      (sym c.in_ok-answers.ensures.items)
+      (runs_begin g.B.Lockstep.state g.B.Lockstep.machine g.D.SectorStore.records (running_of c.args.self.now) course
+      h);
+  many = c.in_ok-answers.ensures.len;
+  room = c.in_ok-answers.ensures.capacity;
+}
+
+pub loop-event-preserved : goal.loop-event-preserved
+loop-event-preserved g c = record {
+  shown = goes_on g.B.Lockstep.state g.B.Lockstep.machine g.D.SectorStore.records (running_of c.loop-event.self)
+      (running_of c.apply-answer.new.self)
+      (get_or c.args.events.now c.loop-event.event-index (event.Step 0 0)) c.apply-answer.result
+      c.loop-event.invariant.shown c.apply-answer.ensures;
+  runs = λ course h.
+      runs_on g.B.Lockstep.state g.B.Lockstep.machine g.D.SectorStore.records (running_of c.loop-event.self)
+      (running_of c.apply-answer.new.self) course c.args.events.now c.loop-event.event-index (event.Step 0 0)
+      c.loop-event.answers.items c.push.new.self.items c.apply-answer.result c.loop-event-test.true
+      c.in-Ok.ensures.items (c.loop-event.invariant.runs course h) c.apply-answer.ensures;
+  many = c.in-Ok.ensures.len ∙ ap (λ n. n + 1) c.loop-event.invariant.many;
+  room = omega (arith, c.loop-event.invariant.room, c.in-Ok.ensures.capacity);
+}
+
+pub returns-clause-ok : goal.returns-clause-ok
+returns-clause-ok g c = λ course h.
+    subst
+    (λ events. Runs g.B.Lockstep.state g.B.Lockstep.machine g.D.SectorStore.records course events
+    c.loop-event.answers.items (running_of c.loop-event.self))
+    (take_all c.loop-event.event-index c.args.events.now c.loop-event-test.false)
+    (c.loop-event.invariant.runs course h)

@@ -1,0 +1,18 @@
+-- The events so far have happened, each with its answer, and there is room for the answers to those that are left.
+use Rattle.std.proofs.Common.{◌≡◌, ◌≤◌, length, take}
+use Rattle.std.specs.Prelude.{vec_capacity, vec_len}
+use Rattle.ft_world.specs.Applies.{Runs, Shows, ShowsSome}
+use Rattle.ft_world.specs.Pairs.{running_of}
+use Rattle.ft_world.specs.Standing.{Course}
+use Rattle.ft_world.proofs.pair.Pair.run.Given as goal
+
+abbrev pub invariant-loop-event : goal.invariant-loop-event
+invariant-loop-event g l = record {
+  shown : ShowsSome g.B.Lockstep.state g.B.Lockstep.machine g.D.SectorStore.records (running_of l.self);
+  runs : (c : Course g.B.Lockstep.State)
+      → Shows g.B.Lockstep.state g.B.Lockstep.machine g.D.SectorStore.records (running_of l.fn.self) c
+      → Runs g.B.Lockstep.state g.B.Lockstep.machine g.D.SectorStore.records c (take l.event-index l.fn.events)
+      l.answers.items (running_of l.self);
+  many : vec_len l.answers ≡ l.event-index;
+  room : length l.fn.events ≤ vec_capacity l.answers;
+}

@@ -1,0 +1,77 @@
+-- What a running world stands for, and what an event makes of it.
+use Rattle.std.specs.Prelude.{◌≡◌, ℕ, List, Result, length, map}
+use Rattle.disk_dcdd.specs.declared.address.SectorAddress.{SectorAddress}
+use Rattle.guest_board.specs.Machine.{Machine}
+use Rattle.i8080_words.specs.declared.refusal.Fault.{Fault}
+use Rattle.shared_disk.specs.declared.disk.SectorRead.{SectorRead}
+use Rattle.shared_disk.specs.declared.store.Record.{Record}
+use Rattle.pair_protocol.specs.Change.{Reached}
+use Rattle.pair_protocol.specs.Copying.{no_copies}
+use Rattle.pair_protocol.specs.Faithful.{Faithful}
+use Rattle.pair_protocol.specs.Grows.{Grows}
+use Rattle.pair_protocol.specs.Row.{Row, Run}
+use Rattle.pair_protocol.specs.Settled.{highest}
+use Rattle.pair_protocol.specs.World.{World, sector_record}
+use Rattle.ft_world.specs.Shows.{AreHosts, AreMessages, AreTerminals, AreWinners, IsDisk, IsOnlyBackup}
+use Rattle.ft_world.specs.Standing.{Course, machine_of, IsMachine}
+use Rattle.ft_world.specs.Words.{event_of, answer_of, read_address}
+use Rattle.pair_events.specs.declared.event.Event.{Event}
+use Rattle.pair_events.specs.declared.reply.Reply.{Reply}
+use Rattle.ft_world.specs.Running.{Running}
+
+-- the fields show a world: its nodes, its messages, its terminals, its winners and its disk, the highest generation, and
+-- the only node that may be its backup
+pub record ShowsParts {B H D S : Type 0} (state : B → S) (M : Machine S) (records : D → List Record) (drives : ℕ)
+    (v : Running B H D) (c : Course S) : Type 0 where
+  pub hosts : AreHosts state M v.hosts c.world.nodes
+  pub messages : AreMessages v.messages c.world.messages
+  pub terminals : AreTerminals v.terminals c.world.terminals
+  pub winners : AreWinners v.askings c.world.winners
+  pub disk : IsDisk (machine_of M c) drives (records v.disk) c.world.puts
+  pub generation : v.generation ≡ highest c.world.nodes
+  pub backup : IsOnlyBackup c.world.nodes v.generation v.backup
+
+-- a world of the protocol that a pair of such machines reaches without copies, and that this one shows
+pub record Shows {B H D S : Type 0} (state : B → S) (M : Machine S) (records : D → List Record) (v : Running B H D)
+    (c : Course S) : Type 0 where
+  pub drives : ℕ
+  pub machine : IsMachine (machine_of M c) drives
+  pub reached : Reached (machine_of M c) no_copies c.world
+  pub parts : ShowsParts state M records drives v c
+
+-- some such world is shown
+pub record ShowsSome {B H D S : Type 0} (state : B → S) (M : Machine S) (records : D → List Record)
+    (v : Running B H D) : Type 0 where
+  pub course : Course S
+  pub shows : Shows state M records v course
+
+-- an event's row: its answer, and the world that is shown after it; that world is faithful, and what was settled grows
+pub record Applies {B H D S : Type 0} (state : B → S) (M : Machine S) (records : D → List Record) (c : Course S)
+    (e : Event) (answer : Result Reply Fault) (new : Running B H D) : Type 0 where
+  pub after : World S
+  pub row : Row (machine_of M c) no_copies c.world (event_of e) (answer_of answer) after
+  pub shows : Shows state M records new (record c { world = after })
+  pub faithful : Faithful (machine_of M c) no_copies after
+  pub grows : Grows (machine_of M c) c.world after
+
+-- an event happens: whatever world is shown, it applies there
+abbrev pub Happens : {B H D S : Type 0} → (B → S) → Machine S → (D → List Record) → Running B H D → Event
+    → Result Reply Fault → Running B H D → Type 0
+Happens {S = S} state M records old e answer new =
+    (c : Course S) → Shows state M records old c → Applies state M records c e answer new
+
+-- a run: one answer for each event, each the event's row; the world after it is shown, and it is faithful
+pub record Runs {B H D S : Type 0} (state : B → S) (M : Machine S) (records : D → List Record) (c : Course S)
+    (events : List Event) (answers : List (Result Reply Fault)) (new : Running B H D) : Type 0 where
+  pub after : World S
+  pub run : Run (machine_of M c) no_copies c.world (map event_of events) (map answer_of answers) after
+  pub each : length answers ≡ length events
+  pub shows : Shows state M records new (record c { world = after })
+  pub faithful : Faithful (machine_of M c) no_copies after
+
+-- what the disk of a world has in a sector
+pub record IsSectorOf {S : Type 0} (M : Machine S) (w : World S) (address : SectorAddress) (read : SectorRead)
+    : Type 0 where
+  pub where_it_is : read_address read ≡ address
+  pub number : read.number ≡ (sector_record M w.puts address).number
+  pub bytes : read.bytes ≡ (sector_record M w.puts address).bytes

@@ -1,0 +1,11 @@
+pub mod Words
+pub mod Standing
+pub mod Running
+pub mod Shows
+pub mod Does
+pub mod AtHost
+pub mod Messages
+pub mod Devices
+pub mod Pairs
+pub mod Applies
+pub mod Beginning

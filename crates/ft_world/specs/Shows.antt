@@ -1,0 +1,90 @@
+-- Which worlds of the protocol a running world shows.
+use Rattle.std.specs.Prelude.{◌≡◌, ℕ, true, IsTrue, Option, Some, None, List, length, slice_get}
+use Rattle.arbiter_core.specs.Winners.{winner_of}
+use Rattle.arbiter_core.specs.declared.arbiter.Asking.{Asking}
+use Rattle.disk_dcdd.specs.declared.address.SectorAddress.{SectorAddress}
+use Rattle.disk_dcdd.specs.declared.sector.SectorWrite.{SectorWrite}
+use Rattle.event_callbacks.specs.declared.devices.TheConstants.{PORTS}
+use Rattle.guest_board.specs.Machine.{Machine}
+use Rattle.disk_dcdd.specs.Address.{has_sector}
+use Rattle.shared_disk.specs.Records.{IsAt}
+use Rattle.shared_disk.specs.declared.store.Record.{Record}
+use Rattle.terminals.specs.Screen.{Screen}
+use Rattle.pair_protocol.specs.Node.{Node, Spare}
+use Rattle.pair_protocol.specs.Settled.{list_of, count_in, is_backup}
+use Rattle.pair_protocol.specs.World as protocol
+use Rattle.ft_node.specs.Seats.{IsNode, IsRole}
+use Rattle.ft_world.specs.Words.{IsMessage}
+use Rattle.ft_world.specs.declared.hosts.Host.{Host}
+use Rattle.ft_world.specs.declared.hosts.Host.TheVariants as host
+use Rattle.ft_world.specs.declared.hosts.NodeStatus.{NodeStatus}
+use Rattle.ft_world.specs.declared.hosts.Station.{Station}
+use Rattle.ft_world.specs.declared.message.Message.{Message}
+
+-- a node beside its list of inputs and its count, by which it settles
+pub record IsStation {B S : Type 0} (state : B → S) (M : Machine S) (h : Station B) (x : Node S) : Type 0 where
+  pub node : IsNode state M h.node x
+  pub inputs : h.inputs.items ≡ list_of x x.role
+  pub count : h.count ≡ count_in M x x.role
+  pub a_node : x.role ≡ Spare → ⊥
+
+-- a host: a node, or one that has no role yet
+abbrev pub IsHost : {B H S : Type 0} → (B → S) → Machine S → Host B H → Node S → Type 0
+IsHost state M (host.Node h) x = IsStation state M h x
+IsHost state M (host.Spare means) x = x.role ≡ Spare
+
+-- two lists agree place by place
+abbrev pub Agree : {A B : Type 0} → (A → B → Type 0) → Option A → Option B → Type 0
+Agree P (Some a) (Some b) = P a b
+Agree P None None = Unit {0}
+Agree P _ _ = ⊥
+
+abbrev pub AreHosts : {B H S : Type 0} → (B → S) → Machine S → List (Host B H) → List (Node S) → Type 0
+AreHosts state M hosts nodes = (n : ℕ) → Agree (IsHost state M) (slice_get hosts n) (slice_get nodes n)
+
+pub record AreMessages (messages : List Message) (sent : List protocol.Message) : Type 0 where
+  pub count : length messages ≡ length sent
+  pub each : (m : ℕ) → Agree IsMessage (slice_get messages m) (slice_get sent m)
+
+-- a terminal has accepted what its arrivals gave
+pub record IsTerminal (screen : Screen) (t : protocol.Terminal) : Type 0 where
+  pub accepted : screen.accepted ≡ protocol.accepted_after 0 t.arrivals
+  pub typed : screen.typed ≡ t.typed
+  pub told : screen.told ≡ t.told
+
+pub record AreTerminals (screens : List Screen) (terminals : List protocol.Terminal) : Type 0 where
+  pub ports : length screens ≡ PORTS
+  pub count : length terminals ≡ PORTS
+  pub each : (port : ℕ) → Agree IsTerminal (slice_get screens port) (slice_get terminals port)
+
+-- the arbiter's winners
+abbrev pub AreWinners : List Asking → List protocol.Winner → Type 0
+AreWinners askings winners = (generation : ℕ) → winner_of askings generation ≡ protocol.winner_in winners generation
+
+-- the disk has a record for each sector of its drives: what the writes that arrived have left there
+pub record IsDisk {S : Type 0} (M : Machine S) (drives : ℕ) (records : List Record) (puts : List SectorWrite)
+    : Type 0 where
+  pub there : (address : SectorAddress) → IsTrue (has_sector drives address)
+      → (r : Record) × IsAt records address r
+  pub kept : (address : SectorAddress) (r : Record) → IsAt records address r
+      → (r.number ≡ (protocol.sector_record M puts address).number)
+      × (r.bytes ≡ (protocol.sector_record M puts address).bytes)
+
+-- only the node of this number may be the backup of this generation
+abbrev pub IsOnlyBackup : {S : Type 0} → List (Node S) → ℕ → ℕ → Type 0
+IsOnlyBackup {S} nodes generation backup =
+    (n : ℕ) (x : Node S) → slice_get nodes n ≡ Some x → x.generation ≡ generation → is_backup x.role ≡ true
+    → n ≡ backup
+
+-- what a node shows of itself; a number that no node has shows nothing
+pub record IsStatus {S : Type 0} (M : Machine S) (x : Node S) (status : NodeStatus) : Type 0 where
+  pub role : IsRole x status.role
+  pub generation : status.generation ≡ x.generation
+  pub count : status.count ≡ M.count x.machine
+  pub a_node : x.role ≡ Spare → ⊥
+
+abbrev pub IsStatusAt : {S : Type 0} → Machine S → Option (Node S) → Option NodeStatus → Type 0
+IsStatusAt M (Some x) (Some status) = IsStatus M x status
+IsStatusAt M (Some x) None = x.role ≡ Spare
+IsStatusAt M None (Some status) = ⊥
+IsStatusAt M None None = Unit {0}

@@ -1,0 +1,29 @@
+-- What a world knows of the machine that its nodes run.
+use Rattle.std.specs.Prelude.{ℕ, ◌≤◌, List}
+use Rattle.disk_dcdd.specs.declared.address.SectorAddress.{SectorAddress}
+use Rattle.disk_dcdd.specs.declared.controller.TheConstants.{DRIVES}
+use Rattle.guest_board.specs.Machine.{Machine, Move}
+use Rattle.pair_protocol.specs.Lawful.{Lawful, Reaches}
+use Rattle.pair_protocol.specs.OnDisk.{StaysOnDisk}
+use Rattle.pair_protocol.specs.World.{World}
+use Rattle.guest_board.specs.Recorded.{Counts}
+use Rattle.guest_board.specs.Outstanding.{ComesAndGoes, AreFew}
+
+-- a world of the protocol, and where its machines and its disk began
+pub record Course (S : Type 0) : Type 0 where
+  pub boot : S
+  pub sectors : SectorAddress → List ℕ
+  pub world : World S
+
+-- the machine of a course: the one that the nodes run, from there
+abbrev pub machine_of : {S : Type 0} → Machine S → Course S → Machine S
+machine_of M c = record M { boot = c.boot; boot_sector = c.sectors }
+
+-- what a pair asks of the machine that it runs
+pub record IsMachine {S : Type 0} (M : Machine S) (drives : ℕ) : Type 0 where
+  pub lawful : Lawful M
+  pub counts : Counts M
+  pub operations : ComesAndGoes M
+  pub few : (moves : List Move) (s : S) → Reaches M moves s → AreFew M s
+  pub drives_within : drives ≤ DRIVES
+  pub on_disk : StaysOnDisk M drives

@@ -1,0 +1,21 @@
+//! The world of a pair: nodes, messages, terminals, the shared disk and the arbiter, and what each event does to them.
+#![tactic(auto)]
+
+mod altair;
+mod device_events;
+mod devices;
+mod host;
+mod hosts;
+mod message;
+mod messages;
+mod node_events;
+mod pair;
+mod readers;
+mod station;
+#[cfg(test)]
+mod tests;
+mod world;
+
+pub use hosts::NodeStatus;
+pub use message::Message;
+pub use world::World;

@@ -1,0 +1,66 @@
+//! The messages that were sent: one more is sent, and what the message of a number brings.
+ghost use Rattle.std.specs.Prelude.{◌≡◌, option_map};
+ghost use Rattle.ft_world.specs.Messages as table;
+
+use crate::message::Message;
+use disk_dcdd::SectorWrite;
+use i8080_words::R;
+use pair_events::Reply;
+use shared_disk::SectorRead;
+
+/// A message is sent; the answer is its number.
+pub(crate) fn say(messages: &mut Vec<Message>, message: Message) -> R<Reply>
+    ensures { table.Says messages.old.items message result messages.new.items }
+{
+    let number = messages.len() as u64;
+    messages.push(message)?;
+    Ok(Reply::Message { message: number })
+}
+
+/// The packet of a log entry that a message brings to a backup.
+pub(crate) fn log_in(messages: &Vec<Message>, message: u64) -> Option<&[u8]>
+    ensures { option_map (λ packet. packet.now) result ≡ table.brought table.log_of messages.now.items message }
+{
+    let message = messages.get(message as usize)?;
+    message.log()
+}
+
+/// The packet of an acknowledgement that a message brings to a primary.
+pub(crate) fn ack_in(messages: &Vec<Message>, message: u64) -> Option<&[u8]>
+    ensures { option_map (λ packet. packet.now) result ≡ table.brought table.ack_of messages.now.items message }
+{
+    let message = messages.get(message as usize)?;
+    message.ack()
+}
+
+/// The byte that a message brings to its terminal: port, number and byte.
+pub(crate) fn byte_in(messages: &Vec<Message>, message: u64) -> Option<(u8, u64, u8)>
+    ensures { result ≡ table.brought table.byte_of messages.now.items message }
+{
+    let message = messages.get(message as usize)?;
+    message.byte()
+}
+
+/// The write that a message brings to the disk.
+pub(crate) fn write_in(messages: &Vec<Message>, message: u64) -> Option<SectorWrite>
+    ensures { result ≡ table.brought table.write_of messages.now.items message }
+{
+    let message = messages.get(message as usize)?;
+    message.write()
+}
+
+/// The number of the write of which a message says that the disk has taken it.
+pub(crate) fn written_in(messages: &Vec<Message>, message: u64) -> Option<u64>
+    ensures { result ≡ table.brought table.written_of messages.now.items message }
+{
+    let message = messages.get(message as usize)?;
+    message.written()
+}
+
+/// The sector that a message brings to a node.
+pub(crate) fn sector_in(messages: &Vec<Message>, message: u64) -> Option<SectorRead>
+    ensures { result ≡ table.brought table.sector_of messages.now.items message }
+{
+    let message = messages.get(message as usize)?;
+    message.sector()
+}

@@ -1,0 +1,242 @@
+//! What an event does at a station.
+ghost use Rattle.std.specs.Prelude.{◌≡◌, ◌+◌, ◌<◌, ◌≤◌, [], ◌∷◌, ◌++◌, vec_capacity, vec_len};
+ghost use Rattle.std.specs.Prelude.{if◌then◌else◌};
+ghost use Rattle.disk_dcdd.specs.declared.controller.TheConstants.{DRIVES};
+ghost use Rattle.disk_dcdd.specs.declared.sector.TheConstants.{SECTORS};
+ghost use Rattle.event_callbacks.specs.declared.devices.TheConstants.{PORTS};
+ghost use Rattle.guest_board.specs.declared.input.Input.TheVariants as input;
+ghost use Rattle.log_channel.specs.Packet.{packet_at};
+ghost use Rattle.log_entry.specs.Entries.{count_of, timed_in, timed_of};
+ghost use Rattle.pair_protocol.specs.Node as protocol;
+ghost use Rattle.pair_protocol.specs.Refusals as refusals;
+ghost use Rattle.guest_board.specs.Recorded.{Counts};
+ghost use Rattle.ft_node.specs.Calls as calls;
+ghost use Rattle.guest_board.specs.Outstanding.{ComesAndGoes};
+ghost use Rattle.ft_node.specs.Seats.{IsNode, MayRun, MayReplay};
+ghost use Rattle.ft_world.specs.AtHost.{AtStation, DoesAtStation};
+ghost use Rattle.ft_world.specs.Does as does;
+ghost use Rattle.ft_world.specs.Shows.{IsStation};
+
+use crate::hosts::Station;
+use arbiter_core::{Arbiter, Won};
+use disk_dcdd::{SECTOR_BYTES, SectorAddress};
+use ft_node::{Drained, Node, Ran};
+use guest_board::Lockstep;
+use i8080_words::R;
+use log_entry::Entry;
+use plain_single::{Bare, Timed};
+use replayer::Replayed;
+use std::alloc::Global;
+
+impl<B: Lockstep + Drop> Station<B> {
+    // A node that begins, with no inputs yet, settled by the count of its machine.
+    pub(crate) fn new(alloc: Global, node: Node<B>) -> Station<B>
+        ensures node { result.node ≡ node }
+        ensures inputs { result.inputs.items ≡ [] }
+        ensures count { (x : protocol.Node B.State) → IsNode B.state B.machine node x
+            → result.count ≡ B.machine.count x.machine }
+    {
+        let count = node.count();
+        Station {
+            node,
+            inputs: Vec::new(alloc),
+            count,
+        }
+    }
+
+    // Puts an input at the end of the list, at the count at which the station settles. There is room.
+    fn keep(&mut self, input: Bare)
+        requires room { vec_len self.old.inputs < vec_capacity self.old.inputs }
+        ensures inputs { self.new.inputs.items
+            ≡ self.old.inputs.items ++ record { count = self.old.count; input = input } ∷ [] }
+        ensures node { self.new.node ≡ self.old.node }
+        ensures count { self.new.count ≡ self.old.count }
+    {
+        let timed = Timed {
+            count: self.count,
+            input,
+        };
+        match self.inputs.push(timed) {
+            Ok(()) => (),
+            Err(_) => unreachable!(),
+        }
+    }
+
+    // Puts the input of a held entry at the end of the list, and settles up to the entry. There is room.
+    fn hold(&mut self, entry: Entry)
+        requires room { vec_len self.old.inputs < vec_capacity self.old.inputs }
+        ensures inputs { self.new.inputs.items ≡ self.old.inputs.items ++ timed_in (timed_of entry) }
+        ensures node { self.new.node ≡ self.old.node }
+        ensures count { self.new.count ≡ count_of entry }
+    {
+        self.count = entry.count();
+        let Some(timed) = entry.timed() else {
+            return;
+        };
+        match self.inputs.push(timed) {
+            Ok(()) => (),
+            Err(_) => unreachable!(),
+        }
+    }
+
+    // The count by which a node settles after it drained: its machine's, once it is alone.
+    fn settled_count(&self, alone: bool) -> u64
+        ensures { (x : protocol.Node B.State) → IsNode B.state B.machine self.now.node x
+            → result ≡ (if alone then B.machine.count x.machine else self.now.count) }
+    {
+        if alone { self.node.count() } else { self.count }
+    }
+
+    /// The machine of a node makes at most `turns` steps, up to the first that gives an operation.
+    pub(crate) fn step(&mut self, turns: u64) -> R<Ran>
+        requires counts { Counts B.machine }
+        requires operations { ComesAndGoes B.machine }
+        requires few { MayRun B.state B.machine self.old.node }
+        ensures { (x : protocol.Node B.State) → IsStation B.state B.machine self.old x
+            → AtStation (refusals.step_refusal B.machine turns x) result x
+            (IsStation B.state B.machine self.new) (does.Stepped B.machine turns) }
+    {
+        let ran = self.node.step(turns)?;
+        self.count = ran.count;
+        Ok(ran)
+    }
+
+    /// A node takes the key that was typed at an index, from 0.
+    pub(crate) fn key(&mut self, port: u8, index: u64, byte: u8) -> R<()>
+        requires counts { Counts B.machine }
+        requires operations { ComesAndGoes B.machine }
+        requires port { port < PORTS }
+        ensures { (x : protocol.Node B.State) → IsStation B.state B.machine self.old x
+            → AtStation (refusals.key_refusal B.machine port index x) result x
+            (IsStation B.state B.machine self.new) (does.Took B.machine (input.Rx port byte)) }
+    {
+        self.node.check_key(port, index)?;
+        self.inputs.reserve(1)?;
+        self.node.key(port, index, byte)?;
+        self.keep(Bare::Rx(port, byte));
+        Ok(())
+    }
+
+    /// A node takes the acceptance of the byte of a number, from 1.
+    pub(crate) fn sent(&mut self, port: u8, number: u64) -> R<()>
+        requires counts { Counts B.machine }
+        requires operations { ComesAndGoes B.machine }
+        requires port { port < PORTS }
+        ensures { (x : protocol.Node B.State) → IsStation B.state B.machine self.old x
+            → AtStation (refusals.sent_refusal B.machine port number x) result x
+            (IsStation B.state B.machine self.new) (does.Took B.machine (input.Sent port)) }
+    {
+        self.node.check_sent(port, number)?;
+        self.inputs.reserve(1)?;
+        self.node.sent(port, number)?;
+        self.keep(Bare::Sent(port));
+        Ok(())
+    }
+
+    /// A node takes the completion of the write of a number.
+    pub(crate) fn done(&mut self, number: u64) -> R<()>
+        requires counts { Counts B.machine }
+        requires operations { ComesAndGoes B.machine }
+        ensures { (x : protocol.Node B.State) → IsStation B.state B.machine self.old x
+            → AtStation (refusals.done_refusal B.machine number x) result x
+            (IsStation B.state B.machine self.new) (does.Took B.machine (input.Written number)) }
+    {
+        self.node.check_done(number)?;
+        self.inputs.reserve(1)?;
+        self.node.done(number)?;
+        self.keep(Bare::Written(number));
+        Ok(())
+    }
+
+    /// A node takes a sector that was read, with the number of the write that brought its bytes.
+    pub(crate) fn under(
+        &mut self,
+        address: SectorAddress,
+        number: u64,
+        bytes: [u8; SECTOR_BYTES],
+    ) -> R<()>
+        requires counts { Counts B.machine }
+        requires operations { ComesAndGoes B.machine }
+        requires drive { address.drive < DRIVES }
+        requires sector { address.sector < SECTORS }
+        ensures { (x : protocol.Node B.State) → IsStation B.state B.machine self.old x
+            → AtStation (refusals.under_refusal B.machine address number bytes x) result x
+            (IsStation B.state B.machine self.new)
+            (does.Took B.machine (input.Sector address.drive address.sector number bytes)) }
+    {
+        self.node.check_under(address, number, bytes)?;
+        self.inputs.reserve(1)?;
+        self.node.under(address, number, bytes)?;
+        self.keep(Bare::Sector(address.drive, address.sector));
+        Ok(())
+    }
+
+    /// A node takes a packet of the log: true where its entry comes next, and is held; a repeat, or one past a gap,
+    /// is false.
+    pub(crate) fn on_log(&mut self, bytes: &[u8]) -> R<bool>
+        ensures { (x : protocol.Node B.State) → IsStation B.state B.machine self.old x
+            → AtStation (does.log_packet_refusal (packet_at bytes.now) x) result x
+            (IsStation B.state B.machine self.new) (does.Held (packet_at bytes.now)) }
+    {
+        let next = self.node.next_entry(bytes)?;
+        match next {
+            None => self.node.on_log(bytes),
+            Some(entry) => {
+                self.inputs.reserve(1)?;
+                let held = self.node.on_log(bytes)?;
+                self.hold(entry);
+                Ok(held)
+            }
+        }
+    }
+
+    /// A node takes an acknowledgement, and gives how many entries are acknowledged then.
+    pub(crate) fn on_ack(&mut self, bytes: &[u8]) -> R<u64>
+        ensures { (x : protocol.Node B.State) → IsStation B.state B.machine self.old x
+            → DoesAtStation (does.ack_packet_refusal (packet_at bytes.now) x) result x
+            (IsStation B.state B.machine self.new) (does.Heard (packet_at bytes.now)) }
+    {
+        self.node.on_ack(bytes)
+    }
+
+    /// A backup makes at most `turns` moves of what it holds.
+    pub(crate) fn replay(&mut self, turns: u64) -> R<Replayed>
+        requires counts { Counts B.machine }
+        requires on_trace { MayReplay B.state B.machine self.old.node }
+        ensures { (x : protocol.Node B.State) → IsStation B.state B.machine self.old x
+            → AtStation (refusals.replay_refusal x) result x
+            (IsStation B.state B.machine self.new) (does.Repeated B.machine turns) }
+    {
+        self.node.replay(turns)
+    }
+
+    /// A node that won makes at most `turns` moves of what it still holds; with nothing left it is alone.
+    pub(crate) fn drain(&mut self, turns: u64) -> R<Drained>
+        requires counts { Counts B.machine }
+        requires on_trace { MayReplay B.state B.machine self.old.node }
+        ensures { (x : protocol.Node B.State) → IsStation B.state B.machine self.old x
+            → AtStation (refusals.drain_refusal x) result x
+            (IsStation B.state B.machine self.new) (does.Emptied B.machine turns) }
+    {
+        let drained = self.node.drain(turns)?;
+        self.count = self.settled_count(drained.alone);
+        Ok(drained)
+    }
+
+    /// A node halts.
+    pub(crate) fn stop(&mut self) -> R<()>
+        ensures { (x : protocol.Node B.State) → IsStation B.state B.machine self.old x
+            → DoesAtStation (refusals.stop_refusal x) result x
+            (IsStation B.state B.machine self.new) does.Halted }
+    {
+        self.node.stop()
+    }
+
+    /// Asks the arbiter for the generation: whoever asks first goes on alone, a backup once it is drained.
+    pub(crate) fn suspect(&mut self, id: u64, arbiter: &mut Arbiter) -> R<Won>
+        ensures { (x : protocol.Node B.State) → IsStation B.state B.machine self.old x
+            → calls.Asks arbiter.old id x result arbiter.new (IsStation B.state B.machine self.new) }
+    {
+        self.node.suspect(id, arbiter)
+    }
+}

@@ -1,0 +1,262 @@
+//! How a row of a table is run: a program at 0000, what happens to a pair that boots with it and with one drive, in
+//! parts, and what stands in the end.
+ghost use Rattle.std.specs.Prelude.{◌≡◌, ◌^◌, ◌<◌, ◌≤◌, IsTrue, IfOk, vec_len};
+ghost use Rattle.event_callbacks.specs.declared.devices.TheConstants.{SENT, SECTOR, WRITTEN};
+ghost use Rattle.event_callbacks.specs.Keeping.{Keeps};
+
+use crate::tests::lines::Line;
+use crate::{Message, NodeStatus, World};
+use disk_dcdd::{SECTOR_BYTES, SectorAddress, SectorWrite};
+use event_callbacks::{Callbacks, Completes, Kept, SECTOR, SENT, WRITTEN, plain_completions};
+use guest_board::{Board, Lockstep, Setup};
+use i8080_words::{Fault, R};
+use pair_events::Role;
+use plain_single::Timed;
+use shared_disk::{MemoryStore, SectorRead, SectorStore, new_stores_are_unwritten};
+use std::alloc::Global;
+use std::process::Abort;
+
+/// What is in a message.
+#[derive(Clone, Copy, Debug, PartialEq, Eq)]
+pub(crate) enum Sent<'a> {
+    Nothing,
+    Log(&'a [u8]),
+    Ack(&'a [u8]),
+    Byte(u8, u64, u8),
+    Write(SectorWrite),
+    Written(u64),
+    Sector(SectorRead),
+}
+
+/// What stands in the end: of both ports what was accepted and how many keys were told, the first two nodes, the winner
+/// of generation 1, what is settled, what stands in the sector of this record, and what is in the message of this
+/// number.
+#[derive(Clone, Copy)]
+pub(crate) struct End<'a> {
+    pub(crate) accepted: [&'a [u8]; 2],
+    pub(crate) told: [u64; 2],
+    pub(crate) nodes: [NodeStatus; 2],
+    pub(crate) winner: Option<u64>,
+    pub(crate) settled: &'a [Timed],
+    pub(crate) settled_count: u64,
+    pub(crate) sector: SectorRead,
+    pub(crate) message: u64,
+    pub(crate) content: Sent<'a>,
+}
+
+/// A node of generation 1.
+pub(crate) fn node(role: Role, count: u64) -> NodeStatus {
+    NodeStatus {
+        role,
+        generation: 1,
+        count,
+    }
+}
+
+/// What stands in a sector of track 0 of drive 0: the write of this number, of 137 such bytes.
+pub(crate) fn sector(sector: u8, number: u64, byte: u8) -> SectorRead {
+    SectorRead {
+        number,
+        drive: 0,
+        track: 0,
+        sector,
+        bytes: [byte; SECTOR_BYTES],
+    }
+}
+
+/// A write of 137 such bytes to a sector of track 0 of drive 0.
+pub(crate) fn write(sector: u8, number: u64, byte: u8) -> SectorWrite {
+    SectorWrite {
+        number,
+        drive: 0,
+        track: 0,
+        sector,
+        bytes: [byte; SECTOR_BYTES],
+    }
+}
+
+// Memory that begins with this program.
+fn memory(alloc: Global, program: &[u8]) -> R<Vec<u8>>
+    ensures { IfOk result (λ memory. vec_len memory ≡ 65536) }
+{
+    let mut memory = Vec::from_slice(alloc, program)?;
+    memory.resize(65536, 0x00)?;
+    if memory.len() != 65536 {
+        return Err(Fault::Malformed);
+    }
+    Ok(memory)
+}
+
+/// The callbacks of one node.
+pub(crate) fn callbacks<T: Completes, S: Completes, W: Completes>(
+    sent: T,
+    sector: S,
+    written: W,
+) -> Callbacks<T, S, W>
+    requires sent { Keeps (T.may sent) (T.gives sent) SENT }
+    requires sector { Keeps (S.may sector) (S.gives sector) SECTOR }
+    requires written { Keeps (W.may written) (W.gives written) WRITTEN }
+{
+    let sent = Kept::<T, SENT>::new(sent);
+    let sector = Kept::<S, SECTOR>::new(sector);
+    let written = Kept::<W, WRITTEN>::new(written);
+    Callbacks::new(sent, sector, written)
+}
+
+/// A pair of Altairs in memory.
+pub(crate) type Altairs<T, S, W> = World<Board<T, S, W>, MemoryStore, Callbacks<T, S, W>>;
+
+// A pair boots with this program and one drive.
+fn boot_once<T: Completes + Drop, S: Completes + Drop, W: Completes + Drop>(
+    alloc: Global,
+    program: &[u8],
+    primary: Callbacks<T, S, W>,
+    backup: Callbacks<T, S, W>,
+) -> R<Altairs<T, S, W>> {
+    let setup = Setup {
+        memory: memory(alloc, program)?,
+        drives: 1,
+        levels: [7; 3],
+        sense: 0x00,
+    };
+    let store = MemoryStore::new(alloc, 1)?;
+    new_stores_are_unwritten();
+    match World::boot(alloc, &setup, store, primary, backup) {
+        Ok(world) => Ok(world),
+        Err((_, fault)) => Err(fault),
+    }
+}
+
+/// A pair boots with this program and one drive, at the second attempt if memory is refused at the first.
+pub(crate) fn boot<
+    T: Completes + Drop + Copy,
+    S: Completes + Drop + Copy,
+    W: Completes + Drop + Copy,
+>(alloc: Global, program: &[u8], sent: T, sector: S, written: W) -> R<Altairs<T, S, W>>
+    requires sent { Keeps (T.may sent) (T.gives sent) SENT }
+    requires sector { Keeps (S.may sector) (S.gives sector) SECTOR }
+    requires written { Keeps (W.may written) (W.gives written) WRITTEN }
+{
+    let primary = callbacks(sent, sector, written);
+    let backup = callbacks(sent, sector, written);
+    match boot_once(alloc, program, primary, backup) {
+        Err(Fault::OutOfMemory) => {
+            let primary = callbacks(sent, sector, written);
+            let backup = callbacks(sent, sector, written);
+            boot_once(alloc, program, primary, backup)
+        }
+        booted => booted,
+    }
+}
+
+/// Each event happens and is answered so. Where memory is refused, once at most, the same event is answered so then.
+pub(crate) fn happen<B: Lockstep + Drop, D: SectorStore, H: Drop>(
+    rt: &impl Abort,
+    alloc: Global,
+    world: &mut World<B, D, H>,
+    events: &[Line],
+) {
+    let mut refused = false;
+    for (event, answer) in events {
+        let mut answered = world.apply(alloc, *event);
+        if answered == Err(Fault::OutOfMemory) && !refused {
+            refused = true;
+            answered = world.apply(alloc, *event);
+        }
+        assert_eq!(rt; answered, *answer, "{event:?}");
+    }
+}
+
+// What is in a message.
+fn sent_in(message: Option<&Message>) -> Sent<'_> {
+    match message {
+        None => Sent::Nothing,
+        Some(Message::Log(packet)) => Sent::Log(packet),
+        Some(Message::Ack(packet)) => Sent::Ack(packet),
+        Some(Message::Byte { port, number, byte }) => Sent::Byte(*port, *number, *byte),
+        Some(Message::Write(write)) => Sent::Write(*write),
+        Some(Message::Written(number)) => Sent::Written(*number),
+        Some(Message::Sector(read)) => Sent::Sector(*read),
+    }
+}
+
+/// A world stands so in the end. It has two nodes and one drive, and its generation is the first.
+pub(crate) fn stands<B: Lockstep + Drop, D: SectorStore, H: Drop>(
+    rt: &impl Abort,
+    world: &mut World<B, D, H>,
+    end: &End,
+) {
+    let (accepted, told, nodes) = (end.accepted, end.told, end.nodes);
+    for port in 0..2 {
+        let place = port as usize;
+        let shown = accepted[place];
+        assert_eq!(rt; world.accepted(port), shown);
+        assert_eq!(rt; world.terminal_told(port), told[place]);
+        assert_eq!(rt; world.node(port as u64), Some(nodes[place]));
+    }
+    assert_eq!(rt; world.node(2), None);
+    let winner = end.winner;
+    assert_eq!(rt;
+        (world.generation(), world.winner(1), world.winner(2)),
+        (1, winner, None)
+    );
+    let (inputs, count) = world.settled();
+    let settled = end.settled;
+    assert_eq!(rt; inputs, settled);
+    let settled_count = end.settled_count;
+    assert_eq!(rt; count, settled_count);
+    let read = end.sector;
+    let address = SectorAddress {
+        drive: read.drive,
+        track: read.track,
+        sector: read.sector,
+    };
+    assert_eq!(rt; world.sector(address), Ok(read));
+    let absent = SectorAddress {
+        drive: 1,
+        ..address
+    };
+    assert_eq!(rt; world.sector(absent), Err(Fault::Unknown));
+    let content = end.content;
+    assert_eq!(rt; sent_in(world.message(end.message)), content);
+}
+
+// The row is run, event by event.
+fn run<T: Completes + Drop + Copy, S: Completes + Drop + Copy, W: Completes + Drop + Copy>(
+    rt: &(impl Abort + AllocGlobal),
+    program: &[u8],
+    events: &[&[Line]],
+    end: &End,
+    sent: T,
+    sector: S,
+    written: W,
+) -> R<()>
+    requires sent { Keeps (T.may sent) (T.gives sent) SENT }
+    requires sector { Keeps (S.may sector) (S.gives sector) SECTOR }
+    requires written { Keeps (W.may written) (W.gives written) WRITTEN }
+{
+    let mut world = boot(rt.alloc(), program, sent, sector, written)?;
+    for part in events {
+        happen(rt, rt.alloc(), &mut world, part);
+    }
+    stands(rt, &mut world, end);
+    Ok(())
+}
+
+/// The row is run, with the plain completions.
+pub(crate) fn check(
+    rt: &(impl Abort + AllocGlobal),
+    program: &[u8],
+    events: &[&[Line]],
+    end: &End,
+) -> R<()> {
+    run(
+        rt,
+        program,
+        events,
+        end,
+        plain_completions::sent,
+        plain_completions::sector,
+        plain_completions::written,
+    )
+}

@@ -1,0 +1,154 @@
+//! The world of a pair.
+
+use crate::hosts::NodeStatus;
+use crate::message::Message;
+use crate::pair::Pair;
+use disk_dcdd::SectorAddress;
+use guest_board::Lockstep;
+use i8080_words::{Fault, R};
+use pair_events::{Event, Reply};
+use plain_single::Timed;
+use shared_disk::{SectorRead, SectorStore};
+use std::alloc::Global;
+use std::marker::Model;
+
+/// A pair of nodes with all that they share: every message ever sent, a terminal at each port, the arbiter and the disk.
+#[derive(Drop)]
+pub struct World<B: Lockstep + Drop, D: SectorStore, H: Drop> {
+    pair: Pair<B, D, H>,
+}
+
+impl<B: Lockstep + Drop, D: SectorStore, H: Drop> Model for World<B, D, H> {
+    ghost use Rattle.ft_world.specs.Running.{Running};
+    ghost use Rattle.ft_world.specs.Applies.{ShowsSome};
+    ghost use Rattle.ft_world.specs.Pairs.{running_of};
+
+    ghost Value = { Running B H D };
+
+    ghost view = { λ w. running_of w.pair };
+
+    ghost invariant = { λ w. ShowsSome B.state B.machine D.records (running_of w.pair) };
+}
+
+impl<B: Lockstep + Drop, D: SectorStore, H: Drop> World<B, D, H> {
+    ghost use Rattle.std.specs.Prelude.{◌≡◌, length, IfErr, IfOk, OnErr, OnOk, option_map, slice_get};
+    ghost use Rattle.disk_dcdd.specs.declared.address.SectorAddress.{SectorAddress};
+    ghost use Rattle.i8080_words.specs.declared.refusal.Fault.TheVariants.{OutOfMemory};
+    ghost use Rattle.pair_protocol.specs.World.{accepted, terminal, winner_in, with_host};
+    ghost use Rattle.pair_protocol.specs.Settled.{Settled};
+    ghost use Rattle.shared_disk.specs.Records.{refusal_at};
+    ghost use Rattle.ft_world.specs.Applies.{Happens, IsSectorOf, Runs, Shows};
+    ghost use Rattle.ft_world.specs.Beginning.{MayBegin, beginning};
+    ghost use Rattle.ft_world.specs.Shows.{Agree, IsStatusAt};
+    ghost use Rattle.ft_world.specs.Standing.{Course, machine_of};
+    ghost use Rattle.ft_world.specs.Words.{IsMessage};
+
+    /// A pair begins: nodes 0 and 1 are primary and backup of generation 1, and both guests stand alike. `OutOfMemory`
+    /// hands the disk's store back.
+    pub fn begin(alloc: Global, primary: B, backup: B, store: D) -> Result<Self, (D, Fault)>
+        requires may { MayBegin B.state B.machine D.records primary backup store }
+        ensures ok { IfOk result (λ world. Shows B.state B.machine D.records world
+            (beginning B.machine (B.state primary) (D.records store))) }
+        ensures full { IfErr result (λ refused. (refused.0 ≡ store) × (refused.1 ≡ OutOfMemory)) }
+    {
+        let pair = Pair::begin(alloc, primary, backup, store)?;
+        Ok(World { pair })
+    }
+
+    /// An event happens: the reply, or why it is refused, and the world after it are the event's row, whatever world of the
+    /// protocol this one showed. A refused event changes nothing, but for a node that asked the arbiter and lost.
+    pub fn apply(&mut self, alloc: Global, event: Event) -> R<Reply>
+        ensures { Happens B.state B.machine D.records self.old event result self.new }
+    {
+        self.pair.apply(alloc, event)
+    }
+
+    /// Events happen, one after another, each as by `apply`, and each is answered. `OutOfMemory` where there is no room for
+    /// the answers: then none has happened.
+    pub fn run(&mut self, alloc: Global, events: &[Event]) -> R<Vec<R<Reply>>>
+        ensures ok { IfOk result (λ answers. (c : Course B.State) → Shows B.state B.machine D.records self.old c
+            → Runs B.state B.machine D.records c events.now answers.items self.new) }
+        ensures full { IfErr result (λ fault. fault ≡ OutOfMemory) }
+        ensures unchanged { OnErr result (self.new ≡ self.old) }
+    {
+        self.pair.run(alloc, events)
+    }
+
+    /// A host without a role comes; the answer is its number. `OutOfMemory` hands its means back.
+    pub fn host(&mut self, means: H) -> Result<u64, (H, Fault)>
+        ensures ok { OnOk result ((c : Course B.State) → Shows B.state B.machine D.records self.old c
+            → Shows B.state B.machine D.records self.new
+            (record c { world = with_host (machine_of B.machine c) c.world })) }
+        ensures number { IfOk result (λ number. number ≡ length self.old.hosts) }
+        ensures refused { IfErr result (λ refusal. (refusal.0 ≡ means) × (refusal.1 ≡ OutOfMemory)) }
+        ensures unchanged { OnErr result (self.new ≡ self.old) }
+    {
+        self.pair.host(means)
+    }
+
+    /// The bytes that the terminal of a port has accepted, in order; none where there is no such port.
+    pub fn accepted(&self, port: u8) -> &[u8]
+        ensures { (c : Course B.State) → Shows B.state B.machine D.records self.now c → result.now ≡ accepted c.world port }
+    {
+        self.pair.accepted(port)
+    }
+
+    /// How many of its keys the terminal of a port was told are covered; 0 where there is no such port.
+    pub fn terminal_told(&self, port: u8) -> u64
+        ensures { (c : Course B.State) → Shows B.state B.machine D.records self.now c
+            → result ≡ (terminal c.world port).told }
+    {
+        self.pair.told(port)
+    }
+
+    /// What stands in a sector of the disk. `Unknown` where no drive has it; `DeviceFault` where the device failed.
+    pub fn sector(&mut self, address: SectorAddress) -> R<SectorRead>
+        ensures ok { IfOk result (λ read. (c : Course B.State) → Shows B.state B.machine D.records self.old c
+            → IsSectorOf (machine_of B.machine c) c.world address read) }
+        ensures refused { IfErr result (λ fault. fault ≡ refusal_at (D.records self.old.disk) address) }
+        ensures kept { D.records self.new.disk ≡ D.records self.old.disk }
+        ensures others { self.new ≡ record self.old { disk = self.new.disk } }
+    {
+        self.pair.sector(address)
+    }
+
+    /// The role, the generation and the count of a node; none where there is no node of this number.
+    pub fn node(&self, node: u64) -> Option<NodeStatus>
+        ensures { (c : Course B.State) → Shows B.state B.machine D.records self.now c
+            → IsStatusAt B.machine (slice_get c.world.nodes node) result }
+    {
+        self.pair.node(node)
+    }
+
+    /// The message of a number, if it was sent.
+    pub fn message(&self, message: u64) -> Option<&Message>
+        ensures { (c : Course B.State) → Shows B.state B.machine D.records self.now c
+            → Agree IsMessage (option_map (λ found. found.now) result) (slice_get c.world.messages message) }
+    {
+        self.pair.message(message)
+    }
+
+    /// The node that has won a generation, if one has.
+    pub fn winner(&self, generation: u32) -> Option<u64>
+        ensures { (c : Course B.State) → Shows B.state B.machine D.records self.now c
+            → result ≡ winner_in c.world.winners generation }
+    {
+        self.pair.winner(generation)
+    }
+
+    /// The inputs that are settled, and the count up to which they are: those of the winner of the highest generation, or of
+    /// its backup where nobody has won.
+    pub fn settled(&self) -> (&[Timed], u64)
+        ensures { (c : Course B.State) → Shows B.state B.machine D.records self.now c
+            → Settled (machine_of B.machine c) c.world result.0.now result.1 }
+    {
+        self.pair.settled()
+    }
+
+    /// The highest generation.
+    pub fn generation(&self) -> u32
+        ensures { result ≡ self.now.generation }
+    {
+        self.pair.generation
+    }
+}

@@ -1,0 +1,103 @@
+-- The sectors of a disk at boot, put there one after another: the next one is read in its own sector, and every other
+-- sector keeps what it had.
+use Rattle.std.proofs.Common.{◌≡◌, ◌∙◌, ℕ, suc, ◌+◌, ◌<◌, Bool, true, false, cond, List, [], ◌∷◌, ◌++◌, length, replicate, take, get_or, Option, Some, None, Ok, Err, Result, ap, refl, subst, sym, arith}
+use Rattle.std.specs.Prelude.{IsTrue, is_some}
+use Rattle.std.proofs.lemmas.Option.{same_Some}
+use Rattle.std.proofs.Math.Seq.{take-suc}
+use Rattle.disk_dcdd.specs.Address.{address_of, has_sector, same_address}
+use Rattle.disk_dcdd.specs.declared.address.SectorAddress.{SectorAddress}
+use Rattle.disk_dcdd.specs.declared.sector.SectorWrite.{SectorWrite}
+use Rattle.disk_dcdd.specs.declared.sector.TheConstants.{SECTOR_BYTES}
+use Rattle.i8080_words.specs.declared.refusal.Fault.{Fault}
+use Rattle.i8080_words.specs.declared.refusal.Fault.TheVariants.{Unknown}
+use Rattle.shared_disk.specs.Records.{HasDrives, IsAtBoot, IsUnwritten, boot_record, bytes_after, put_answer, record_at, unwritten, with_record}
+use Rattle.shared_disk.specs.declared.store.Record.{Record}
+use Rattle.shared_disk.proofs.RecordsBySector.{is_other, is_same, record_at-with_other, record_at-with_same, takes_none, unwritten_record}
+
+-- what a sector has after these are put over zeros
+abbrev after : List SectorWrite → SectorAddress → List ℕ
+after sectors a = bytes_after sectors a (replicate SECTOR_BYTES 0)
+
+abbrev after_one : SectorWrite → SectorAddress → List ℕ → List ℕ
+after_one w a bytes = cond (same_address (address_of w) a) w.bytes bytes
+
+after_more : (sectors : List SectorWrite) (w : SectorWrite) (a : SectorAddress) (bytes : List ℕ)
+    → bytes_after (sectors ++ w ∷ []) a bytes ≡ after_one w a (bytes_after sectors a bytes)
+after_more [] w a bytes = refl
+after_more (v ∷ sectors) w a bytes = after_more sectors w a (cond (same_address (address_of v) a) v.bytes bytes)
+
+-- a new store has what no sectors leave
+pub nothing_put : (drives : ℕ) → IsAtBoot (unwritten drives) drives []
+nothing_put drives a = unwritten_record drives a
+
+put-at : (there same : Bool) (records : List Record) (w : SectorWrite) (a : SectorAddress) (bytes : List ℕ)
+    → record_at records a ≡ cond there (Some (boot_record bytes)) None → same_address (address_of w) a ≡ same
+    → record_at (with_record records (address_of w) (boot_record w.bytes)) a
+    ≡ cond there (Some (boot_record (cond same w.bytes bytes))) None
+put-at true true records w a bytes at e =
+    subst (λ b. record_at (with_record records b (boot_record w.bytes)) a ≡ Some (boot_record w.bytes))
+    (sym (is_same (address_of w) a e))
+    (record_at-with_same records a (boot_record w.bytes) (boot_record bytes) at)
+put-at false true records w a bytes at e =
+    subst (λ b. record_at (with_record records b (boot_record w.bytes)) a ≡ None)
+    (sym (is_same (address_of w) a e))
+    (ap (λ rs. record_at rs a) (takes_none records a (boot_record w.bytes) at) ∙ at)
+put-at there false records w a bytes at e =
+    record_at-with_other records (address_of w) a (boot_record w.bytes) (is_other (address_of w) a e) ∙ at
+
+put-one : (records : List Record) (drives : ℕ) (sectors : List SectorWrite) (w : SectorWrite)
+    → IsAtBoot records drives sectors
+    → IsAtBoot (with_record records (address_of w) (boot_record w.bytes)) drives (sectors ++ w ∷ [])
+put-one records drives sectors w at a =
+    subst (λ bytes. record_at (with_record records (address_of w) (boot_record w.bytes)) a
+    ≡ cond (has_sector drives a) (Some (boot_record bytes)) None)
+    (sym (after_more sectors w a (replicate SECTOR_BYTES 0)))
+    (put-at (has_sector drives a) (same_address (address_of w) a) records w a (after sectors a) (at a) refl)
+
+-- the next of the sectors is put
+pub next_put : (records : List Record) (drives : ℕ) (sectors : List SectorWrite) (i : ℕ) (d : SectorWrite)
+    → i < length sectors → IsAtBoot records drives (take i sectors)
+    → IsAtBoot (with_record records (address_of (get_or sectors i d)) (boot_record (get_or sectors i d).bytes)) drives
+    (take (i + 1) sectors)
+next_put records drives sectors i d within at =
+    let more : i + 1 ≡ suc i = omega arith in
+    subst (λ list. IsAtBoot (with_record records (address_of (get_or sectors i d))
+    (boot_record (get_or sectors i d).bytes)) drives list)
+    (sym (ap (λ n. take n sectors) more ∙ take-suc sectors i d within))
+    (put-one records drives (take i sectors) (get_or sectors i d) at)
+
+there-at : (b : Bool) (r : Record) → IsTrue b → IsTrue (is_some (cond b (Some r) None))
+there-at true r is = refl
+there-at false r is = absurd (cc)
+
+-- each drive has its sectors then
+pub has_drives : (records : List Record) (drives : ℕ) (sectors : List SectorWrite) → IsAtBoot records drives sectors
+    → HasDrives records drives
+has_drives records drives sectors at a is =
+    subst (λ o. IsTrue (is_some o)) (sym (at a)) (there-at (has_sector drives a) (boot_record (after sectors a)) is)
+
+number-at : (b : Bool) (bytes : List ℕ) (r : Record) → cond b (Some (boot_record bytes)) None ≡ Some r → r.number ≡ 0
+number-at true bytes r e = sym (ap (λ (x : Record). x.number) (same_Some _ _ e))
+number-at false bytes r e = absurd (cc)
+
+-- and none of them is written
+pub is_unwritten : (records : List Record) (drives : ℕ) (sectors : List SectorWrite) → IsAtBoot records drives sectors
+    → IsUnwritten records
+is_unwritten records drives sectors at a r e =
+    number-at (has_sector drives a) (after sectors a) r (sym (at a) ∙ e)
+
+-- how a put is answered, where there is the sector, and where there is none
+abbrev answered : Bool → Result (Unit {0}) Fault
+answered there = cond there (Ok tt) (Err Unknown)
+
+one-at : (b : Bool) (r : Record) (o : Option Record) → o ≡ cond b (Some r) None → (u : Unit {0})
+    → answered (is_some o) ≡ Ok u → IsTrue b
+one-at true r o at u e = refl
+one-at false r o at u e =
+    absurd (let k : answered false ≡ Ok u = subst (λ p. answered (is_some p) ≡ Ok u) at e in (cc))
+
+-- a sector that was put is on a drive
+pub taken_there : (records : List Record) (drives : ℕ) (sectors : List SectorWrite) (a : SectorAddress) (u : Unit {0})
+    → IsAtBoot records drives sectors → put_answer records a ≡ Ok u → IsTrue (has_sector drives a)
+taken_there records drives sectors a u at e =
+    one-at (has_sector drives a) (boot_record (after sectors a)) (record_at records a) (at a) u e
