@@ -1,9 +1,10 @@
--- What an alone node answers to an input. No log of its own stands in the way, so behind the tests of a call only the
--- machine's refusal is left; and where the machine takes the input, so does the node.
+-- What an alone node answers to an input. No log of its own stands in the way, so behind the tests of a check only the
+-- machine's refusal is left; and where the check passed, the machine takes the input, and so does the node.
 use Rattle.std.proofs.Common.{◌≡◌, ℕ, ◌≤◌, ◌<◌, false, not, ◌&&◌, ok_or, eqb, leb, Option, Some, None, List, [], ◌∷◌, Result, Ok, Err, refl, sym, ap, subst, ◌∙◌, arith}
 use Rattle.std.proofs.Math.Bool.{and_assoc}
 use Rattle.std.proofs.lemmas.Bool.{eq-eqb, le-leb, lt-leb}
 use Rattle.disk_dcdd.specs.Address.{same_address}
+use Rattle.disk_dcdd.specs.Completion as completion
 use Rattle.disk_dcdd.specs.declared.address.SectorAddress.{SectorAddress}
 use Rattle.disk_dcdd.specs.declared.controller.TheConstants.{GREATEST_NUMBER}
 use Rattle.guest_board.specs.Lockstep as lockstep
@@ -13,11 +14,13 @@ use Rattle.guest_board.specs.declared.input.Input.TheVariants as input
 use Rattle.i8080_words.specs.declared.refusal.Fault.{Fault}
 use Rattle.i8080_words.specs.declared.refusal.Fault.TheVariants.{NotDue, Spent}
 use Rattle.pair_protocol.specs.Lawful.{top}
-use Rattle.pair_protocol.specs.Node.{Node, Alone}
+use Rattle.pair_protocol.specs.Node.{Node, Alone, spare}
 use Rattle.pair_protocol.specs.Refusals as refusals
 use Rattle.pair_protocol.specs.Rows.{took}
 use Rattle.ft_node.specs.Calls as calls
 use Rattle.ft_node.specs.Roles.{IsAlone}
+use Rattle.ft_node.proofs.PassedChecks.{Passes, key_passes}
+use Rattle.ft_node.proofs.PrimaryRefusals.{allowed}
 
 -- the machine's refusal alone
 only : (r : Option Fault) → refusals.first_of (r ∷ None ∷ None ∷ []) ≡ r
@@ -95,15 +98,6 @@ keys_spent M x s generation port index a is ge =
 
 -- ---- what an input does
 
-pub refused : {S : Type 0} (M : Machine S) (i : Input) (x : Node S) (s : S) (generation : ℕ) (refusal : Option Fault)
-    (fault : Fault) → IsAlone s generation x → refusal ≡ Some fault
-    → calls.Takes M i refusal x (Err fault) (IsAlone s generation)
-refused M i x s generation refusal fault a is =
-    subst (λ r. calls.Takes M i r x (Err fault) (IsAlone s generation)) (sym is) (refl, a)
-
-still : {S : Type 0} (x : Node S) (s t : S) (generation : ℕ) → IsAlone s generation x → t ≡ s → IsAlone t generation x
-still x s t generation a same = subst (λ t. IsAlone t generation x) (sym same) a
-
 after : {S : Type 0} (M : Machine S) (i : Input) (x : Node S) (s t : S) (generation : ℕ) → IsAlone s generation x
     → IsAlone t generation (took M x x.role t i)
 after M i x s t generation a =
@@ -111,19 +105,22 @@ after M i x s t generation a =
     record { role = a.role; up = a.up; generation_is = a.generation_is; machine = refl } in
     subst (λ role. IsAlone t generation (took M x role t i)) (sym a.role) alone
 
-answered : {S : Type 0} (M : Machine S) (i : Input) (x : Node S) (s t : S) (generation : ℕ) (refusal : Option Fault)
-    (result : Result (Unit {0}) Fault) → IsAlone s generation x → refusal_of M s i ≡ refusal
-    → lockstep.Takes M s i result t → calls.Takes M i refusal x result (IsAlone t generation)
-answered M i x s t generation None (Ok done) a is h =
-    record { s = t; takes = ap (λ s. M.take s i) a.machine ∙ h.1; after = after M i x s t generation a }
-answered M i x s t generation None (Err fault) a is h = let none : Some fault ≡ None = sym h.0 ∙ is in absurd cc
-answered M i x s t generation (Some fault) (Ok done) a is h =
-    let none : Some fault ≡ None = sym is ∙ h.0 in absurd cc
-answered M i x s t generation (Some fault) (Err other) a is h =
-    let same : Some other ≡ Some fault = sym h.0 ∙ is in
-    let e : other ≡ fault = cc in (ap (λ f. Err f) e, still x s t generation a h.1)
-
+-- what a check let pass is taken
 pub takes : {S : Type 0} (M : Machine S) (i : Input) (x : Node S) (s t : S) (generation : ℕ) (refusal : Option Fault)
-    (result : Result (Unit {0}) Fault) → IsAlone s generation x → refusal ≡ refusal_of M s i
+    (result : Result (Unit {0}) Fault) → IsAlone s generation x → Passes M i refusal x
     → lockstep.Takes M s i result t → calls.Takes M i refusal x result (IsAlone t generation)
-takes M i x s t generation refusal result a is h = answered M i x s t generation refusal result a (sym is) h
+takes M i x s t generation refusal (Ok done) a passes h =
+    allowed (Unit {0}) refusal (Ok done) _ _ passes.allowed
+    (record { s = t; takes = ap (λ s. M.take s i) a.machine ∙ h.1; after = after M i x s t generation a })
+takes M i x s t generation refusal (Err fault) a passes h =
+    let guest : refusal_of M s i ≡ None = ap (λ s. refusal_of M s i) (sym a.machine) ∙ passes.guest in
+    let none : Some fault ≡ None = sym h.0 ∙ guest in absurd cc
+
+-- where the check of a key passes at any node that is alone with this guest, a number for the key is left
+pub key_room : {S : Type 0} (M : Machine S) (s : S) (generation port index byte : ℕ) (done : Unit {0})
+    → ((x : Node S) → IsAlone s generation x → Ok done ≡ completion.answered (refusals.key_refusal M port index x))
+    → M.keys s port < GREATEST_NUMBER
+key_room {S} M s generation port index byte done answers =
+    let x : Node S = record (spare M) { role = Alone; generation = generation; machine = s } in
+    let a : IsAlone s generation x = record { role = refl; up = refl; generation_is = refl; machine = refl } in
+    (key_passes M port index byte x done (answers x a)).1

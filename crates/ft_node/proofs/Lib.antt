@@ -9,3 +9,4 @@ pub mod AloneSteps
 pub mod FollowerMoves
 pub mod LastMoves
 pub mod PrimaryChecks
+pub mod PassedChecks

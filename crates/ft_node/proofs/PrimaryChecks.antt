@@ -10,10 +10,6 @@ room_is : (r : Option Fault) → buffer.answered r tt ≡ answered r
 room_is None = refl
 room_is (Some fault) = refl
 
-pub not_refused : (r : Option Fault) (done : Unit {0}) → Ok done ≡ answered r → r ≡ None
-not_refused None done answer = refl
-not_refused (Some fault) done answer = absurd (cc)
-
 -- where the guest refuses nothing, the log's answer is the whole answer
 pub log_answers : (refusal own : Option Fault) (l : Log) (result : Result (Unit {0}) Fault)
     → refusal ≡ or_else own (buffer.refusal_of l) → own ≡ None → result ≡ room_answer l → result ≡ answered refusal

@@ -8,7 +8,7 @@ use Rattle.guest_board.specs.Machine.{Machine, refusal_of}
 use Rattle.guest_board.specs.declared.input.Input.{Input}
 use Rattle.i8080_words.specs.declared.refusal.Fault.{Fault}
 use Rattle.log_buffer.specs.Log as buffer
-use Rattle.log_buffer.specs.Log.{Log, log, pushed, IsWithinLimits}
+use Rattle.log_buffer.specs.Log.{Log, log, next_of, pushed, IsWithinLimits}
 use Rattle.log_channel.specs.Channel.{Sending}
 use Rattle.log_entry.specs.Entries.{entry_of}
 use Rattle.log_entry.specs.Spelling.{IsEntry}
@@ -23,7 +23,8 @@ use Rattle.guest_board.specs.Outstanding.{ComesAndGoes, completed_by}
 use Rattle.ft_node.specs.Roles.{IsPrimary}
 use Rattle.ft_node.proofs.PrimaryNotes.{Covers-kept, keeps_all, keeps_others}
 use Rattle.ft_node.proofs.PrimaryNotes as notes
-use Rattle.ft_node.proofs.PrimaryRefusals.{Keeps, or_else, refused, allowed, offer_refused, offer_taken}
+use Rattle.ft_node.proofs.PrimaryRefusals.{Keeps, allowed}
+use Rattle.ft_node.proofs.PassedChecks.{Passes, has_room}
 
 -- ---- a primary
 
@@ -81,38 +82,29 @@ primary_took M s t l sd c left x i p valid keeps =
 
 -- ---- an offer
 
--- an input that is refused leaves the primary
-pub take_refused : {S : Type 0} (M : Machine S) (i : Input) (x : Node S) (Is : Node S → Type 0)
-    (refusal : Option Fault) (fault : Fault) → refusal ≡ Some fault → Is x → Takes M i refusal x (Err fault) Is
-take_refused M i x Is refusal fault is same = refused (Unit {0}) refusal fault (Err fault) (Is x) ⊥ is refl same
-
 -- the notes that an input leaves
 abbrev pub notes_left : Option OpId → Covering → Covering
 notes_left None c = c
 notes_left (Some name) c = after_forget c name
 
--- an input of a primary that was refused
-pub offer_fails : {S : Type 0} (M : Machine S) (s t : S) (l new : Log) (sd : Sending) (c : Covering) (x : Node S)
-    (i : Input) (refusal : Option Fault) (fault : Fault) → IsPrimary M s l sd c x
-    → refusal ≡ or_else (refusal_of M x.machine i) (buffer.refusal_of l)
-    → Err fault ≡ offer_answer (refusal_of M s i) l → Offers M s l i (Err fault) t new
-    → Takes M i refusal x (Err fault) (IsPrimary M t new sd c)
-offer_fails {S} M s t l new sd c x i refusal fault p is answer stays =
-    let first = ap (λ s. or_else (refusal_of M s i) (buffer.refusal_of l)) p.machine in
-    take_refused M i x (IsPrimary M t new sd c) refusal fault
-    (is ∙ first ∙ offer_refused (refusal_of M s i) l fault answer)
-    (same_primary M s t l new sd c x stays.0 stays.1 p)
+-- what a check let pass is not refused
+pub offer_stands : {S : Type 0} (M : Machine S) (s : S) (l : Log) (sd : Sending) (c : Covering) (x : Node S)
+    (i : Input) (refusal : Option Fault) (fault : Fault) → IsPrimary M s l sd c x → Passes M i refusal x
+    → Err fault ≡ offer_answer (refusal_of M s i) l → ⊥
+offer_stands M s l sd c x i refusal fault p passes answer =
+    let guest : refusal_of M s i ≡ None = ap (λ s. refusal_of M s i) (sym p.machine) ∙ passes.guest in
+    let room = has_room M s l sd c x p passes.full passes.spent in
+    let index : Err fault ≡ Ok (next_of l) =
+    answer ∙ ap (λ r. offer_answer r l) guest ∙ ap (λ r. buffer.answered r (next_of l)) room in
+    cc
 
--- and one that was taken, with the operation that it completes
+-- it is taken, with the operation that it completes
 pub offer_done : {S : Type 0} (M : Machine S) (s t : S) (l new : Log) (sd : Sending) (c : Covering) (x : Node S)
-    (i : Input) (refusal : Option Fault) (index : ℕ) → ComesAndGoes M → IsPrimary M s l sd c x
-    → refusal ≡ or_else (refusal_of M x.machine i) (buffer.refusal_of l)
-    → Ok index ≡ offer_answer (refusal_of M s i) l → Offers M s l i (Ok index) t new
-    → IsEntry (entry_of (M.count s) i)
+    (i : Input) (refusal : Option Fault) (index : ℕ) → ComesAndGoes M → IsPrimary M s l sd c x → refusal ≡ None
+    → Offers M s l i (Ok index) t new → IsEntry (entry_of (M.count s) i)
     → Takes M i refusal x (Ok tt) (IsPrimary M t new sd (notes_left (completed_by M s i) c))
-offer_done {S} M s t l new sd c x i refusal index laws p is answer offers valid =
-    let first = ap (λ s. or_else (refusal_of M s i) (buffer.refusal_of l)) p.machine in
-    allowed (Unit {0}) refusal (Ok tt) _ _ (is ∙ first ∙ offer_taken (refusal_of M s i) l index answer)
+offer_done {S} M s t l new sd c x i refusal index laws p none offers valid =
+    allowed (Unit {0}) refusal (Ok tt) _ _ none
     (record {
       s = t;
       takes = ap (λ s. M.take s i) p.machine ∙ offers.0.taken;

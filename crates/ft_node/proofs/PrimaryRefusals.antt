@@ -19,7 +19,7 @@ use Rattle.log_buffer.specs.declared.buffer.TheConstants.{CAPACITY, GREATEST_NEX
 use Rattle.pair_protocol.specs.Lawful.{top}
 use Rattle.pair_protocol.specs.Node.{Node, Primary, Alone, is_role}
 use Rattle.pair_protocol.specs.Refusals.{fault_if, first_of, role_refusal, serves, log_size, log_full, log_spent, step_refusal, key_refusal, keys_spent, is_number, sent_refusal, done_refusal, under_refusal}
-use Rattle.recorder.specs.Recording.{advance_refusal, refusal_behind, offer_answer}
+use Rattle.recorder.specs.Recording.{advance_refusal, refusal_behind}
 use Rattle.ft_node.specs.Calls.{Unless}
 
 -- ---- lists of refusals
@@ -28,15 +28,6 @@ use Rattle.ft_node.specs.Calls.{Unless}
 abbrev pub or_else : Option Fault → Option Fault → Option Fault
 or_else (Some fault) rest = Some fault
 or_else None rest = rest
-
-first_of-cons : (r : Option Fault) (rest : List (Option Fault)) → first_of (r ∷ rest) ≡ or_else r (first_of rest)
-first_of-cons None rest = refl
-first_of-cons (Some fault) rest = refl
-
-pub refused : (A : Type 0) (refusal : Option Fault) (fault : Fault) (result : Result A Fault) (stays does : Type 0)
-    → refusal ≡ Some fault → result ≡ Err fault → stays → Unless refusal result stays does
-refused A refusal fault result stays does is answer same =
-    subst (λ r. Unless r result stays does) (sym is) (answer, same)
 
 pub allowed : (A : Type 0) (refusal : Option Fault) (result : Result A Fault) (stays does : Type 0) → refusal ≡ None
     → does → Unless refusal result stays does
@@ -73,33 +64,44 @@ pub record Keeps {S : Type 0} (x : Node S) (l : Log) : Type 0 where
   pub within : x.covered ≤ length x.log
   pub limits : IsWithinLimits l
 
-kept_few : {S : Type 0} (x : Node S) (l : Log) → Keeps x l → length x.log - x.covered ≡ length l.entries
-kept_few x l k = sym (ap (λ (l : Log). length l.entries) k.kept ∙ length-drop x.covered x.log)
+kept_few : {S : Type 0} (x : Node S) (l : Log) → l ≡ log x.covered (drop x.covered x.log)
+    → length x.log - x.covered ≡ length l.entries
+kept_few x l kept = sym (ap (λ (l : Log). length l.entries) kept ∙ length-drop x.covered x.log)
 
-pub kept_next : {S : Type 0} (x : Node S) (l : Log) → Keeps x l → length x.log ≡ next_of l
-kept_next x l k =
-    let few = kept_few x l k in
-    let first : l.first ≡ x.covered = ap (λ (l : Log). l.first) k.kept in
-    let within = k.within in
+kept_next : {S : Type 0} (x : Node S) (l : Log) → l ≡ log x.covered (drop x.covered x.log)
+    → x.covered ≤ length x.log → length x.log ≡ next_of l
+kept_next x l kept within =
+    let few = kept_few x l kept in
+    let first : l.first ≡ x.covered = ap (λ (l : Log). l.first) kept in
     omega arith
 
 top_is : top ≡ GREATEST_NEXT
 unfolding top
 top_is = refl
 
+pub full_where : {S : Type 0} (x : Node S) (l : Log) → x.role ≡ Primary → l ≡ log x.covered (drop x.covered x.log)
+    → log_full x ≡ fault_if (nat_le CAPACITY (length l.entries)) LogFull
+full_where x l role kept =
+    ap (λ r. fault_if (is_role r Primary && nat_le log_size (length x.log - x.covered)) LogFull) role
+    ∙ ap (λ n. fault_if (nat_le log_size n) LogFull) (kept_few x l kept)
+
+pub spent_where : {S : Type 0} (x : Node S) (l : Log) → x.role ≡ Primary → l ≡ log x.covered (drop x.covered x.log)
+    → x.covered ≤ length x.log → log_spent x ≡ fault_if (nat_le GREATEST_NEXT (next_of l)) Spent
+spent_where x l role kept within =
+    ap (λ r. fault_if (is_role r Primary && nat_le top (length x.log)) Spent) role
+    ∙ ap (λ n. fault_if (nat_le n (length x.log)) Spent) top_is
+    ∙ ap (λ n. fault_if (nat_le GREATEST_NEXT n) Spent) (kept_next x l kept within)
+
 full_alike : {S : Type 0} (x : Node S) (l : Log) → Keeps x l
     → log_full x ≡ fault_if (length l.entries == CAPACITY) LogFull
 full_alike x l k =
-    ap (λ r. fault_if (is_role r Primary && nat_le log_size (length x.log - x.covered)) LogFull) k.role
-    ∙ ap (λ n. fault_if (nat_le log_size n) LogFull) (kept_few x l k)
+    full_where x l k.role k.kept
     ∙ ap (λ b. fault_if b LogFull) (reaches_limit (length l.entries) CAPACITY k.limits.few)
 
 spent_alike : {S : Type 0} (x : Node S) (l : Log) → Keeps x l
     → log_spent x ≡ fault_if (next_of l == GREATEST_NEXT) Spent
 spent_alike x l k =
-    ap (λ r. fault_if (is_role r Primary && nat_le top (length x.log)) Spent) k.role
-    ∙ ap (λ n. fault_if (nat_le n (length x.log)) Spent) top_is
-    ∙ ap (λ n. fault_if (nat_le GREATEST_NEXT n) Spent) (kept_next x l k)
+    spent_where x l k.role k.kept k.within
     ∙ ap (λ b. fault_if b Spent) (reaches_limit (next_of l) GREATEST_NEXT k.limits.next)
 
 by_tests : (full spent : Bool) (rest : List (Option Fault))
@@ -200,7 +202,7 @@ under_head M address number bytes x l k here =
     ∷ [])) here
     ∙ by_input x l (refusal_of M x.machine (input.Sector address.drive address.sector number bytes)) k
 
--- ---- what the log and an offer answer
+-- ---- what the log answers
 
 pub room_refused : (r rest : Option Fault) (fault : Fault) → Err fault ≡ answered {A = Unit {0}} r tt
     → or_else r rest ≡ Some fault
@@ -210,21 +212,3 @@ room_refused (Some first) rest fault answer = cc
 pub room_there : (r rest : Option Fault) (done : Unit {0}) → Ok done ≡ answered r tt → or_else r rest ≡ rest
 room_there None rest done answer = refl
 room_there (Some fault) rest done answer = absurd (cc)
-
-pub offer_refused : (r : Option Fault) (l : Log) (fault : Fault) → Err fault ≡ offer_answer r l
-    → or_else r (buffer.refusal_of l) ≡ Some fault
-offer_refused (Some first) l fault answer = cc
-offer_refused None l fault answer = go (buffer.refusal_of l) answer
-  where
-    go : (r : Option Fault) → Err fault ≡ answered r (next_of l) → r ≡ Some fault
-    go None answer = cc
-    go (Some first) answer = cc
-
-pub offer_taken : (r : Option Fault) (l : Log) (index : ℕ) → Ok index ≡ offer_answer r l
-    → or_else r (buffer.refusal_of l) ≡ None
-offer_taken (Some first) l index answer = cc
-offer_taken None l index answer = go (buffer.refusal_of l) answer
-  where
-    go : (r : Option Fault) → Ok index ≡ answered r (next_of l) → r ≡ None
-    go None answer = refl
-    go (Some first) answer = cc

@@ -131,12 +131,7 @@ impl<B: Lockstep> Alone<B> {
             → calls.Takes B.machine (input.Rx port byte) (refusals.key_refusal B.machine port index x) x result
             (IsAlone (B.state self.new.board) self.new.generation) }
     {
-        if index != self.board.keys(port) {
-            return Err(Fault::WrongNumber);
-        }
-        if index >= GREATEST_NUMBER {
-            return Err(Fault::Spent);
-        }
+        self.check_key(port, index)?;
         self.board.take(Input::Rx(port, byte))
     }
 
@@ -148,10 +143,7 @@ impl<B: Lockstep> Alone<B> {
             → calls.Takes B.machine (input.Sent port) (refusals.sent_refusal B.machine port number x) x result
             (IsAlone (B.state self.new.board) self.new.generation) }
     {
-        let due = self.board.due_byte(port).ok_or(Fault::NotDue)?;
-        if due != number {
-            return Err(Fault::WrongNumber);
-        }
+        self.check_sent(port, number)?;
         self.board.take(Input::Sent(port))
     }
 
@@ -162,6 +154,7 @@ impl<B: Lockstep> Alone<B> {
             → calls.Takes B.machine (input.Written number) (refusals.done_refusal B.machine number x) x result
             (IsAlone (B.state self.new.board) self.new.generation) }
     {
+        self.check_done(number)?;
         self.board.take(Input::Written(number))
     }
 
@@ -180,9 +173,7 @@ impl<B: Lockstep> Alone<B> {
             (refusals.under_refusal B.machine address number bytes x) x result
             (IsAlone (B.state self.new.board) self.new.generation) }
     {
-        if self.board.sector_under(address.drive, address.sector) != address {
-            return Err(Fault::NotDue);
-        }
+        self.check_under(address, number, bytes)?;
         self.board.take(Input::Sector {
             drive: address.drive,
             sector: address.sector,

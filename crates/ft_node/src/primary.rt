@@ -1,7 +1,7 @@
 //! The primary of a generation.
-ghost use Rattle.std.specs.Prelude.{◌≡◌, ◌<◌, ◌≤◌, Ok, ok_or};
+ghost use Rattle.std.specs.Prelude.{◌≡◌, ◌<◌, ◌≤◌, Ok, OnOk, ok_or};
 ghost use Rattle.i8080_words.specs.declared.refusal.Fault.TheVariants.{NotDue};
-ghost use Rattle.disk_dcdd.specs.declared.controller.TheConstants.{DRIVES};
+ghost use Rattle.disk_dcdd.specs.declared.controller.TheConstants.{DRIVES, GREATEST_NUMBER};
 ghost use Rattle.disk_dcdd.specs.declared.sector.TheConstants.{SECTORS};
 ghost use Rattle.event_callbacks.specs.declared.devices.TheConstants.{PORTS};
 ghost use Rattle.guest_board.specs.declared.input.Input.TheVariants as input;
@@ -70,10 +70,11 @@ impl<B: Lockstep> Primary<B> {
     /// Whether `key` would take the key of an index: its refusal, and nothing changes.
     pub(crate) fn check_key(&self, port: u8, index: u64) -> R<()>
         requires { port < PORTS }
-        ensures { (x : Node B.State)
+        ensures answer { (x : Node B.State)
             → IsPrimary B.machine (B.state self.now.recorder.board) self.now.recorder.log self.now.sender
             self.now.coverage x
             → result ≡ answered (refusals.key_refusal B.machine port index x) }
+        ensures room { OnOk result (B.machine.keys (B.state self.now.recorder.board) port < GREATEST_NUMBER) }
     {
         self.recorder.log().stands();
         if index != self.recorder.board().keys(port) {
@@ -158,14 +159,7 @@ impl<B: Lockstep> Primary<B> {
             (IsPrimary B.machine (B.state self.new.recorder.board) self.new.recorder.log self.new.sender
             self.new.coverage) }
     {
-        self.recorder.log().stands();
-        if index != self.recorder.board().keys(port) {
-            return Err(Fault::WrongNumber);
-        }
-        self.recorder.log().room()?;
-        if index >= GREATEST_NUMBER {
-            return Err(Fault::Spent);
-        }
+        self.check_key(port, index)?;
         self.recorder.offer(Input::Rx(port, byte))?;
         Ok(())
     }
@@ -182,13 +176,9 @@ impl<B: Lockstep> Primary<B> {
             (IsPrimary B.machine (B.state self.new.recorder.board) self.new.recorder.log self.new.sender
             self.new.coverage) }
     {
-        self.recorder.log().stands();
-        let due = self.recorder.board().due_byte(port).ok_or(Fault::NotDue)?;
-        if due != number {
-            return Err(Fault::WrongNumber);
-        }
+        self.check_sent(port, number)?;
         self.recorder.offer(Input::Sent(port))?;
-        self.coverage.forget(OpId::Byte(port, due));
+        self.coverage.forget(OpId::Byte(port, number));
         Ok(())
     }
 
@@ -203,7 +193,7 @@ impl<B: Lockstep> Primary<B> {
             (IsPrimary B.machine (B.state self.new.recorder.board) self.new.recorder.log self.new.sender
             self.new.coverage) }
     {
-        self.recorder.log().stands();
+        self.check_done(number)?;
         self.recorder.offer(Input::Written(number))?;
         self.coverage.forget(OpId::Write(number));
         Ok(())
@@ -228,15 +218,7 @@ impl<B: Lockstep> Primary<B> {
             (IsPrimary B.machine (B.state self.new.recorder.board) self.new.recorder.log self.new.sender
             self.new.coverage) }
     {
-        self.recorder.log().stands();
-        if self
-            .recorder
-            .board()
-            .sector_under(address.drive, address.sector)
-            != address
-        {
-            return Err(Fault::NotDue);
-        }
+        self.check_under(address, number, bytes)?;
         self.recorder.offer(Input::Sector {
             drive: address.drive,
             sector: address.sector,

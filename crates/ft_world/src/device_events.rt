@@ -16,14 +16,16 @@ use shared_disk::SectorStore;
 impl<B: Lockstep + Drop, D: SectorStore, H: Drop> Pair<B, D, H> {
     /// A byte is typed at the terminal of a port.
     pub(crate) fn type_byte(&mut self, port: u8, byte: u8) -> R<Reply>
-        ensures { Happens B.state B.machine D.records (running_of self.old) (happens.TypeByte port byte) result (running_of self.new) }
+        ensures { Happens B.state B.machine D.records (running_of self.old) (happens.TypeByte port byte) result
+            (running_of self.new) }
     {
         devices::type_byte(&mut self.terminals, port, byte)
     }
 
     /// A node sends an outstanding operation to its device.
     pub(crate) fn release(&mut self, node: u64, id: OpId) -> R<Reply>
-        ensures { Happens B.state B.machine D.records (running_of self.old) (happens.Release node id) result (running_of self.new) }
+        ensures { Happens B.state B.machine D.records (running_of self.old) (happens.Release node id) result
+            (running_of self.new) }
     {
         devices::check_device(id)?;
         let operation = hosts::release(&self.hosts, node, id)?;
@@ -32,7 +34,8 @@ impl<B: Lockstep + Drop, D: SectorStore, H: Drop> Pair<B, D, H> {
 
     /// A released byte comes to its terminal.
     pub(crate) fn arrive(&mut self, message: u64) -> R<Reply>
-        ensures { Happens B.state B.machine D.records (running_of self.old) (happens.Arrive message) result (running_of self.new) }
+        ensures { Happens B.state B.machine D.records (running_of self.old) (happens.Arrive message) result
+            (running_of self.new) }
     {
         let Some((port, number, byte)) = messages::byte_in(&self.messages, message) else {
             return Err(Fault::Unknown);
@@ -43,7 +46,8 @@ impl<B: Lockstep + Drop, D: SectorStore, H: Drop> Pair<B, D, H> {
     /// A node hears that the terminal of a port has accepted the byte of a number.
     pub(crate) fn tell_sent(&mut self, node: u64, port: u8, number: u64) -> R<Reply>
         requires shown { ShowsSome B.state B.machine D.records (running_of self.old) }
-        ensures { Happens B.state B.machine D.records (running_of self.old) (happens.TellSent node port number) result (running_of self.new) }
+        ensures { Happens B.state B.machine D.records (running_of self.old) (happens.TellSent node port number) result
+            (running_of self.new) }
     {
         devices::check_accepted(&self.terminals, port, number)?;
         hosts::sent(&mut self.hosts, node, port, number)?;
@@ -52,7 +56,8 @@ impl<B: Lockstep + Drop, D: SectorStore, H: Drop> Pair<B, D, H> {
 
     /// The terminal of a port is told how many of its keys a node has covered.
     pub(crate) fn tell(&mut self, node: u64, port: u8) -> R<Reply>
-        ensures { Happens B.state B.machine D.records (running_of self.old) (happens.Told node port) result (running_of self.new) }
+        ensures { Happens B.state B.machine D.records (running_of self.old) (happens.Told node port) result
+            (running_of self.new) }
     {
         if port as usize >= PORTS {
             return Err(Fault::Unknown);
@@ -64,7 +69,8 @@ impl<B: Lockstep + Drop, D: SectorStore, H: Drop> Pair<B, D, H> {
 
     /// A released write comes to the shared disk.
     pub(crate) fn put(&mut self, message: u64) -> R<Reply>
-        ensures { Happens B.state B.machine D.records (running_of self.old) (happens.Put message) result (running_of self.new) }
+        ensures { Happens B.state B.machine D.records (running_of self.old) (happens.Put message) result
+            (running_of self.new) }
     {
         let Some(write) = messages::write_in(&self.messages, message) else {
             return Err(Fault::Unknown);
@@ -75,7 +81,8 @@ impl<B: Lockstep + Drop, D: SectorStore, H: Drop> Pair<B, D, H> {
     /// The disk's answer to a write comes to a node.
     pub(crate) fn put_reply(&mut self, message: u64, node: u64) -> R<Reply>
         requires shown { ShowsSome B.state B.machine D.records (running_of self.old) }
-        ensures { Happens B.state B.machine D.records (running_of self.old) (happens.PutReply message node) result (running_of self.new) }
+        ensures { Happens B.state B.machine D.records (running_of self.old) (happens.PutReply message node) result
+            (running_of self.new) }
     {
         let Some(number) = messages::written_in(&self.messages, message) else {
             return Err(Fault::Unknown);
@@ -86,7 +93,8 @@ impl<B: Lockstep + Drop, D: SectorStore, H: Drop> Pair<B, D, H> {
 
     /// A node reads a sector of its selected drive.
     pub(crate) fn get(&mut self, node: u64, sector: u8) -> R<Reply>
-        ensures { Happens B.state B.machine D.records (running_of self.old) (happens.Get node sector) result (running_of self.new) }
+        ensures { Happens B.state B.machine D.records (running_of self.old) (happens.Get node sector) result
+            (running_of self.new) }
     {
         if sector >= SECTORS {
             return Err(Fault::Unknown);
@@ -98,7 +106,8 @@ impl<B: Lockstep + Drop, D: SectorStore, H: Drop> Pair<B, D, H> {
     /// A sector that was read comes to a node.
     pub(crate) fn get_reply(&mut self, message: u64, node: u64) -> R<Reply>
         requires shown { ShowsSome B.state B.machine D.records (running_of self.old) }
-        ensures { Happens B.state B.machine D.records (running_of self.old) (happens.GetReply message node) result (running_of self.new) }
+        ensures { Happens B.state B.machine D.records (running_of self.old) (happens.GetReply message node) result
+            (running_of self.new) }
     {
         let Some(read) = messages::sector_in(&self.messages, message) else {
             return Err(Fault::Unknown);

@@ -16,7 +16,8 @@ impl<B: Lockstep + Drop, D: SectorStore, H: Drop> Pair<B, D, H> {
     /// The machine of a primary or alone node makes at most so many steps.
     pub(crate) fn step(&mut self, node: u64, turns: u64) -> R<Reply>
         requires shown { ShowsSome B.state B.machine D.records (running_of self.old) }
-        ensures { Happens B.state B.machine D.records (running_of self.old) (happens.Step node turns) result (running_of self.new) }
+        ensures { Happens B.state B.machine D.records (running_of self.old) (happens.Step node turns) result
+            (running_of self.new) }
     {
         let ran = hosts::step(&mut self.hosts, node, turns)?;
         Ok(Reply::Ran {
@@ -29,7 +30,8 @@ impl<B: Lockstep + Drop, D: SectorStore, H: Drop> Pair<B, D, H> {
     /// A node takes the key of an index from the terminal of a port.
     pub(crate) fn take_key(&mut self, node: u64, port: u8, index: u64) -> R<Reply>
         requires shown { ShowsSome B.state B.machine D.records (running_of self.old) }
-        ensures { Happens B.state B.machine D.records (running_of self.old) (happens.TakeKey node port index) result (running_of self.new) }
+        ensures { Happens B.state B.machine D.records (running_of self.old) (happens.TakeKey node port index) result
+            (running_of self.new) }
     {
         let byte = devices::key_at(&self.terminals, port, index)?;
         hosts::key(&mut self.hosts, node, port, index, byte)?;
@@ -38,7 +40,8 @@ impl<B: Lockstep + Drop, D: SectorStore, H: Drop> Pair<B, D, H> {
 
     /// A primary sends an entry of its log.
     pub(crate) fn send(&mut self, alloc: Global, node: u64, index: u64) -> R<Reply>
-        ensures { Happens B.state B.machine D.records (running_of self.old) (happens.Send node index) result (running_of self.new) }
+        ensures { Happens B.state B.machine D.records (running_of self.old) (happens.Send node index) result
+            (running_of self.new) }
     {
         let bytes = hosts::packet(alloc, &self.hosts, node, index)?;
         messages::say(&mut self.messages, Message::Log(bytes))
@@ -46,7 +49,8 @@ impl<B: Lockstep + Drop, D: SectorStore, H: Drop> Pair<B, D, H> {
 
     /// A log entry comes to a backup.
     pub(crate) fn deliver_log(&mut self, message: u64, node: u64) -> R<Reply>
-        ensures { Happens B.state B.machine D.records (running_of self.old) (happens.DeliverLog message node) result (running_of self.new) }
+        ensures { Happens B.state B.machine D.records (running_of self.old) (happens.DeliverLog message node) result
+            (running_of self.new) }
     {
         let Some(packet) = messages::log_in(&self.messages, message) else {
             return Err(Fault::Unknown);
@@ -60,7 +64,8 @@ impl<B: Lockstep + Drop, D: SectorStore, H: Drop> Pair<B, D, H> {
 
     /// A backup sends an acknowledgement of all that it holds.
     pub(crate) fn acknowledge(&mut self, alloc: Global, node: u64) -> R<Reply>
-        ensures { Happens B.state B.machine D.records (running_of self.old) (happens.Acknowledge node) result (running_of self.new) }
+        ensures { Happens B.state B.machine D.records (running_of self.old) (happens.Acknowledge node) result
+            (running_of self.new) }
     {
         let bytes = hosts::ack(alloc, &self.hosts, node)?;
         messages::say(&mut self.messages, Message::Ack(bytes))
@@ -68,7 +73,8 @@ impl<B: Lockstep + Drop, D: SectorStore, H: Drop> Pair<B, D, H> {
 
     /// An acknowledgement comes to a primary.
     pub(crate) fn deliver_acknowledgement(&mut self, message: u64, node: u64) -> R<Reply>
-        ensures { Happens B.state B.machine D.records (running_of self.old) (happens.DeliverAcknowledgement message node) result (running_of self.new) }
+        ensures { Happens B.state B.machine D.records (running_of self.old) (happens.DeliverAcknowledgement message node) result
+            (running_of self.new) }
     {
         let Some(packet) = messages::ack_in(&self.messages, message) else {
             return Err(Fault::Unknown);
@@ -80,7 +86,8 @@ impl<B: Lockstep + Drop, D: SectorStore, H: Drop> Pair<B, D, H> {
     /// A backup makes at most so many moves of what it holds.
     pub(crate) fn replay(&mut self, node: u64, turns: u64) -> R<Reply>
         requires shown { ShowsSome B.state B.machine D.records (running_of self.old) }
-        ensures { Happens B.state B.machine D.records (running_of self.old) (happens.Replay node turns) result (running_of self.new) }
+        ensures { Happens B.state B.machine D.records (running_of self.old) (happens.Replay node turns) result
+            (running_of self.new) }
     {
         let replayed = hosts::replay(&mut self.hosts, node, turns)?;
         Ok(Reply::Moved {
@@ -91,7 +98,8 @@ impl<B: Lockstep + Drop, D: SectorStore, H: Drop> Pair<B, D, H> {
 
     /// A node asks the arbiter for its generation.
     pub(crate) fn suspect(&mut self, node: u64) -> R<Reply>
-        ensures { Happens B.state B.machine D.records (running_of self.old) (happens.Suspect node) result (running_of self.new) }
+        ensures { Happens B.state B.machine D.records (running_of self.old) (happens.Suspect node) result
+            (running_of self.new) }
     {
         hosts::suspect(&mut self.hosts, node, &mut self.arbiter)?;
         Ok(Reply::Won)
@@ -100,7 +108,8 @@ impl<B: Lockstep + Drop, D: SectorStore, H: Drop> Pair<B, D, H> {
     /// A node that won makes at most so many moves of what it still holds.
     pub(crate) fn drain(&mut self, node: u64, turns: u64) -> R<Reply>
         requires shown { ShowsSome B.state B.machine D.records (running_of self.old) }
-        ensures { Happens B.state B.machine D.records (running_of self.old) (happens.Drain node turns) result (running_of self.new) }
+        ensures { Happens B.state B.machine D.records (running_of self.old) (happens.Drain node turns) result
+            (running_of self.new) }
     {
         let drained = hosts::drain(&mut self.hosts, node, turns)?;
         let moves = drained.moves;
@@ -116,7 +125,8 @@ impl<B: Lockstep + Drop, D: SectorStore, H: Drop> Pair<B, D, H> {
 
     /// A node halts.
     pub(crate) fn stop(&mut self, node: u64) -> R<Reply>
-        ensures { Happens B.state B.machine D.records (running_of self.old) (happens.Stop node) result (running_of self.new) }
+        ensures { Happens B.state B.machine D.records (running_of self.old) (happens.Stop node) result
+            (running_of self.new) }
     {
         hosts::stop(&mut self.hosts, node)?;
         Ok(Reply::Stopped)

@@ -1,13 +1,12 @@
 use Rattle.guest_board.specs.declared.input.Input.TheVariants as input
-use Rattle.pair_protocol.specs.Refusals as refusals
-use Rattle.ft_node.proofs.AloneInputs.{done_refusal, takes}
+use Rattle.pair_protocol.specs.Refusals.{done_refusal}
+use Rattle.ft_node.proofs.AloneInputs.{takes}
+use Rattle.ft_node.proofs.PassedChecks.{done_passes}
 use Rattle.ft_node.proofs.alone.Alone.done.Goals as goal
 
 pub returns : goal.returns
 returns g c = λ x a.
     let M = g.B.Lockstep.machine in
-    let s = g.B.Lockstep.state c.args.self.now.board in
-    let generation = c.args.self.now.generation in
-    takes M (input.Written c.args.number) x s (g.B.Lockstep.state c.take.new.self) generation
-    (refusals.done_refusal M c.args.number x) c.take.result a (done_refusal M x s generation c.args.number a)
-    c.take.ensures
+    takes M (input.Written c.args.number) x (g.B.Lockstep.state c.args.self.now.board)
+    (g.B.Lockstep.state c.take.new.self) c.args.self.now.generation (done_refusal M c.args.number x) c.take.result a
+    (done_passes M c.args.number x c.in_ok-check_done.field-0 (c.in_ok-check_done.ensures x a)) c.take.ensures

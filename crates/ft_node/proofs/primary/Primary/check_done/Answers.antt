@@ -4,7 +4,8 @@ use Rattle.guest_board.specs.Machine.{refusal_of}
 use Rattle.guest_board.specs.declared.input.Input.TheVariants as input
 use Rattle.log_buffer.specs.Log.{IsWithinLimits, room_answer}
 use Rattle.pair_protocol.specs.Refusals.{done_refusal}
-use Rattle.ft_node.proofs.PrimaryChecks.{log_answers, not_refused}
+use Rattle.ft_node.proofs.PassedChecks.{not_refused}
+use Rattle.ft_node.proofs.PrimaryChecks.{log_answers}
 use Rattle.ft_node.proofs.PrimaryInputs.{keeps_log}
 use Rattle.ft_node.proofs.PrimaryRefusals.{write_done}
 use Rattle.ft_node.proofs.primary.Primary.check_done.Goals as goal

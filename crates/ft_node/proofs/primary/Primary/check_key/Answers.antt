@@ -11,8 +11,8 @@ use Rattle.ft_node.proofs.PrimaryInputs.{keeps_log}
 use Rattle.ft_node.proofs.PrimaryRefusals.{next_key, keys_are_left, keys_are_spent, room_refused, room_there}
 use Rattle.ft_node.proofs.primary.Primary.check_key.Goals as goal
 
-pub returns-in_err-room : goal.returns-in_err-room
-returns-in_err-room g c = λ x p.
+pub returns-in_err-room-clause-answer : goal.returns-in_err-room-clause-answer
+returns-in_err-room-clause-answer g c = λ x p.
     let M = g.B.Lockstep.machine in
     let s = g.B.Lockstep.state c.args.self.now.recorder.board in
     let l = c.args.self.now.recorder.log in
@@ -30,8 +30,8 @@ returns-in_err-room g c = λ x p.
     (refused_by (key_refusal M c.args.port c.args.index x) c.in_err-room.field-0.0
     (next ∙ room_refused (refusal_of l) (first_of (keys_spent M c.args.port x ∷ [])) c.in_err-room.field-0.0 answer))
 
-pub returns-then-index-ge-GREATEST_NUMBER : goal.returns-then-index-ge-GREATEST_NUMBER
-returns-then-index-ge-GREATEST_NUMBER g c = λ x p.
+pub returns-then-index-ge-GREATEST_NUMBER-clause-answer : goal.returns-then-index-ge-GREATEST_NUMBER-clause-answer
+returns-then-index-ge-GREATEST_NUMBER-clause-answer g c = λ x p.
     let M = g.B.Lockstep.machine in
     let s = g.B.Lockstep.state c.args.self.now.recorder.board in
     let l = c.args.self.now.recorder.log in
@@ -50,8 +50,8 @@ returns-then-index-ge-GREATEST_NUMBER g c = λ x p.
     (next ∙ room_there (refusal_of l) (first_of (keys_spent M c.args.port x ∷ [])) c.in_ok-room.field-0 answer
     ∙ keys_are_spent M c.args.port x most)
 
-pub returns : goal.returns
-returns g c = λ x p.
+pub returns-clause-answer : goal.returns-clause-answer
+returns-clause-answer g c = λ x p.
     let M = g.B.Lockstep.machine in
     let s = g.B.Lockstep.state c.args.self.now.recorder.board in
     let l = c.args.self.now.recorder.log in

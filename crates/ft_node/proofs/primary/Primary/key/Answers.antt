@@ -1,82 +1,27 @@
--- The key has the next index, and no operation is completed.
-use Rattle.std.proofs.Common.{◌≡◌, ◌<◌, ◌≤◌, [], ◌∷◌, sym, ap, subst, ◌∙◌}
-use Rattle.std.proofs.lemmas.Bool.{eq-eqb}
-use Rattle.std.proofs.lemmas.Result.{err_from_is_err_and}
-use Rattle.disk_dcdd.specs.declared.controller.TheConstants.{GREATEST_NUMBER}
+-- The check let the key pass, so the offer takes it; no operation is completed.
 use Rattle.guest_board.specs.declared.input.Input.TheVariants as input
-use Rattle.i8080_words.specs.declared.refusal.Fault.TheVariants.{Spent}
-use Rattle.log_buffer.specs.Log.{IsWithinLimits, refusal_of, room_answer}
-use Rattle.pair_protocol.specs.Refusals.{first_of, key_refusal, keys_spent}
-use Rattle.ft_node.specs.Roles.{IsPrimary}
-use Rattle.ft_node.proofs.PrimaryInputs.{keeps_log, offer_done, take_refused}
-use Rattle.ft_node.proofs.PrimaryRefusals.{or_else, or_none, next_key, keys_are_left, keys_are_spent, room_refused, room_there}
+use Rattle.pair_protocol.specs.Refusals.{key_refusal}
+use Rattle.ft_node.proofs.PassedChecks.{key_passes}
+use Rattle.ft_node.proofs.PrimaryInputs.{offer_stands, offer_done}
 use Rattle.ft_node.proofs.primary.Primary.key.Goals as goal
 
-pub returns-in_err-room : goal.returns-in_err-room
-returns-in_err-room g c = λ x p.
+pub returns-in_err-offer : goal.returns-in_err-offer
+returns-in_err-offer g c = λ x p.
     let M = g.B.Lockstep.machine in
-    let s = g.B.Lockstep.state c.args.self.now.recorder.board in
-    let l = c.args.self.now.recorder.log in
-    let keeps =
-    keeps_log M s l c.args.self.now.sender c.args.self.now.coverage x p
-    (subst IsWithinLimits c.log.ensures c.stands.ensures) in
-    let index_is : c.args.index ≡ M.keys x.machine c.args.port =
-    c.if-index-keys.false ∙ c.keys.ensures
-    ∙ ap (λ board. M.keys (g.B.Lockstep.state board) c.args.port) c.board.ensures
-    ∙ ap (λ s. M.keys s c.args.port) (sym p.machine) in
-    let next =
-    next_key M c.args.port c.args.index x l keeps (eq-eqb c.args.index (M.keys x.machine c.args.port) index_is) in
-    let answer = c.in_err-room.ensures ∙ ap room_answer c.log-2.ensures in
-    let e = err_from_is_err_and c.from_residual.result c.from_residual.ensures.1 in
-    rw (e.1, e.2)
-    (take_refused M (input.Rx c.args.port c.args.byte) x
-    (IsPrimary M s l c.args.self.now.sender c.args.self.now.coverage) (key_refusal M c.args.port c.args.index x)
-    c.in_err-room.field-0.0
-    (next ∙ room_refused (refusal_of l) (first_of (keys_spent M c.args.port x ∷ [])) c.in_err-room.field-0.0 answer)
-    p)
-
-pub returns-then-index-ge-GREATEST_NUMBER : goal.returns-then-index-ge-GREATEST_NUMBER
-returns-then-index-ge-GREATEST_NUMBER g c = λ x p.
-    let M = g.B.Lockstep.machine in
-    let s = g.B.Lockstep.state c.args.self.now.recorder.board in
-    let l = c.args.self.now.recorder.log in
-    let keeps =
-    keeps_log M s l c.args.self.now.sender c.args.self.now.coverage x p
-    (subst IsWithinLimits c.log.ensures c.stands.ensures) in
-    let index_is : c.args.index ≡ M.keys x.machine c.args.port =
-    c.if-index-keys.false ∙ c.keys.ensures
-    ∙ ap (λ board. M.keys (g.B.Lockstep.state board) c.args.port) c.board.ensures
-    ∙ ap (λ s. M.keys s c.args.port) (sym p.machine) in
-    let next =
-    next_key M c.args.port c.args.index x l keeps (eq-eqb c.args.index (M.keys x.machine c.args.port) index_is) in
-    let answer = c.in_ok-room.ensures ∙ ap room_answer c.log-2.ensures in
-    let most : GREATEST_NUMBER ≤ M.keys x.machine c.args.port =
-    subst (λ n. GREATEST_NUMBER ≤ n) index_is c.if-index-ge-GREATEST_NUMBER.true in
-    take_refused M (input.Rx c.args.port c.args.byte) x
-    (IsPrimary M s l c.args.self.now.sender c.args.self.now.coverage) (key_refusal M c.args.port c.args.index x) Spent
-    (next ∙ room_there (refusal_of l) (first_of (keys_spent M c.args.port x ∷ [])) c.in_ok-room.field-0 answer
-    ∙ keys_are_spent M c.args.port x most)
-    p
+    let passes =
+    key_passes M c.args.port c.args.index c.args.byte x c.in_ok-check_key.field-0
+    (c.in_ok-check_key.ensures.answer x p) in
+    absurd (offer_stands M (g.B.Lockstep.state c.args.self.now.recorder.board) c.args.self.now.recorder.log
+    c.args.self.now.sender c.args.self.now.coverage x (input.Rx c.args.port c.args.byte)
+    (key_refusal M c.args.port c.args.index x) c.in_err-offer.field-0.0 p passes.0 c.in_err-offer.ensures.answer)
 
 pub returns : goal.returns
 returns g c = λ x p.
     let M = g.B.Lockstep.machine in
-    let s = g.B.Lockstep.state c.args.self.now.recorder.board in
-    let t = g.B.Lockstep.state c.offer.new.self.board in
-    let l = c.args.self.now.recorder.log in
-    let keeps =
-    keeps_log M s l c.args.self.now.sender c.args.self.now.coverage x p
-    (subst IsWithinLimits c.log.ensures c.stands.ensures) in
-    let index_is : c.args.index ≡ M.keys x.machine c.args.port =
-    c.if-index-keys.false ∙ c.keys.ensures
-    ∙ ap (λ board. M.keys (g.B.Lockstep.state board) c.args.port) c.board.ensures
-    ∙ ap (λ s. M.keys s c.args.port) (sym p.machine) in
-    let next =
-    next_key M c.args.port c.args.index x l keeps (eq-eqb c.args.index (M.keys x.machine c.args.port) index_is) in
-    let left : M.keys x.machine c.args.port < GREATEST_NUMBER =
-    subst (λ n. n < GREATEST_NUMBER) index_is c.if-index-ge-GREATEST_NUMBER.false in
-    offer_done M s t l c.offer.new.self.log c.args.self.now.sender c.args.self.now.coverage x
+    let passes =
+    key_passes M c.args.port c.args.index c.args.byte x c.in_ok-check_key.field-0
+    (c.in_ok-check_key.ensures.answer x p) in
+    offer_done M (g.B.Lockstep.state c.args.self.now.recorder.board) (g.B.Lockstep.state c.offer.new.self.board)
+    c.args.self.now.recorder.log c.offer.new.self.log c.args.self.now.sender c.args.self.now.coverage x
     (input.Rx c.args.port c.args.byte) (key_refusal M c.args.port c.args.index x) c.in_ok-offer.field-0
-    c.requires.operations p
-    (next ∙ ap (or_else (refusal_of l)) (keys_are_left M c.args.port x left) ∙ or_none (refusal_of l))
-    c.in_ok-offer.ensures.answer c.in_ok-offer.ensures.after c.in_ok-offer.ensures.entry
+    c.requires.operations p passes.0.allowed c.in_ok-offer.ensures.after c.in_ok-offer.ensures.entry
