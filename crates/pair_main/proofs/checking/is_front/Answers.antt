@@ -1,0 +1,18 @@
+-- What is behind the accepted bytes, if they stand in front, is the only rest.
+use Rattle.std.proofs.Common.{Some, None, true≢false, sym}
+use Rattle.std.proofs.lemmas.Bool.Decides.{Decides-eqb}
+use Rattle.std.proofs.lemmas.Slice.Eq.{strip_prefix_is}
+use Rattle.pair_main.specs.declared.checking.TheConstants.{WINDOW}
+use Rattle.pair_main.proofs.Fronts.{front_is, is_front}
+use Rattle.pair_main.proofs.checking.is_front.Goals as goal
+
+pub returns-in-Some : goal.returns-in-Some
+returns-in-Some c =
+    let all = strip_prefix_is Decides-eqb c.args.sent.now c.args.accepted.now (Some c.in-Some.rest)
+    c.in-Some.ensures.cases in
+    (front_is WINDOW _ _ _ all, is_front WINDOW _ _ _ all)
+
+pub returns-in-None : goal.returns-in-None
+returns-in-None c =
+    let none = strip_prefix_is Decides-eqb c.args.sent.now c.args.accepted.now None c.in-None.ensures.cases in
+    ((λ no. absurd (true≢false (sym no))), λ front. absurd (none front.rest front.all))

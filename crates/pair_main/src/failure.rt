@@ -1,0 +1,104 @@
+//! How a run of the program ends other than well.
+ghost use Rattle.std.specs.Prelude.{◌≡◌, ◌⊎◌, IsTrue};
+ghost use Rattle.pair_main.specs.Failures.{is_refusal};
+ghost use Rattle.pair_main.specs.Statuses.{IsStatus};
+ghost use Rattle.pair_main.specs.declared.failure.Failure.TheVariants as failure;
+
+use i8080_words::Fault;
+use script_language::{InputError, ScriptError};
+use std::alloc::{AllocError, AllocFailed, Global};
+use std::borrow::CowStr;
+use std::io;
+
+/// Why a run ends other than well.
+#[derive(Drop)]
+pub enum Failure {
+    /// The command line was refused, or asks for help; the text is for the user.
+    CommandLine(String),
+    /// A pair on threads was asked for.
+    NotLive,
+    /// The first line of the script that is none, from 1.
+    BadScript(u64),
+    /// The allocator refused memory.
+    OutOfMemory,
+    /// The input could not be read, or the output not be written.
+    InputOrOutput,
+    /// The pair and the single machine differ.
+    Differs,
+}
+
+const NOT_LIVE: &str =
+    "pair live: not there yet; `pair script` and `pair check` run a pair step by step";
+
+const OUT_OF_MEMORY: (u8, CowStr<'static>) = (4, CowStr::Borrowed("out of memory"));
+
+impl Failure {
+    /// The exit status, and the text for standard error.
+    pub fn ending(self, alloc: Global) -> (u8, CowStr<'static>)
+        ensures status { IsStatus result.0 }
+        ensures refusal { (result.0 ≡ 2) ⊎ (result.0 ≡ 3) → IsTrue (is_refusal self) }
+    {
+        match self {
+            Failure::CommandLine(text) => (2, CowStr::Owned(text)),
+            Failure::NotLive => (2, CowStr::Borrowed(NOT_LIVE)),
+            Failure::BadScript(line) => match format!(in alloc; "bad script at line {line}") {
+                Ok(text) => (3, CowStr::Owned(text)),
+                Err(_) => OUT_OF_MEMORY,
+            },
+            Failure::OutOfMemory => OUT_OF_MEMORY,
+            Failure::InputOrOutput => (5, CowStr::Borrowed("input or output failed")),
+            Failure::Differs => (7, CowStr::Borrowed("")),
+        }
+    }
+}
+
+impl From<AllocError> for Failure {
+    ghost from_gives = { λ _ e. e ≡ failure.OutOfMemory };
+
+    fn from(_error: AllocError) -> Failure {
+        Failure::OutOfMemory
+    }
+}
+
+impl<T: Drop> From<AllocFailed<T>> for Failure {
+    ghost from_gives = { λ _ e. e ≡ failure.OutOfMemory };
+
+    fn from(_error: AllocFailed<T>) -> Failure {
+        Failure::OutOfMemory
+    }
+}
+
+impl From<io::Error> for Failure {
+    ghost from_gives = { λ _ e. e ≡ failure.InputOrOutput };
+
+    fn from(_error: io::Error) -> Failure {
+        Failure::InputOrOutput
+    }
+}
+
+impl From<InputError> for Failure {
+    fn from(error: InputError) -> Failure {
+        match error {
+            InputError::Failed => Failure::InputOrOutput,
+            InputError::OutOfMemory => Failure::OutOfMemory,
+        }
+    }
+}
+
+impl From<ScriptError> for Failure {
+    fn from(error: ScriptError) -> Failure {
+        match error {
+            ScriptError::BadScript { line } => Failure::BadScript(line),
+            ScriptError::OutOfMemory => Failure::OutOfMemory,
+        }
+    }
+}
+
+// Outside an event only memory can be wanting.
+impl From<Fault> for Failure {
+    ghost from_gives = { λ _ e. e ≡ failure.OutOfMemory };
+
+    fn from(_fault: Fault) -> Failure {
+        Failure::OutOfMemory
+    }
+}

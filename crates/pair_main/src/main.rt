@@ -1,0 +1,37 @@
+//! The program `pair`: what happens to a fault-tolerant pair of Altairs, told by a script.
+#![tactic(auto)]
+
+mod checking;
+mod failure;
+mod options;
+mod program;
+mod report;
+mod session;
+mod show;
+
+use crate::program::run_program;
+use std::env;
+use std::io::{self, ErrorKind};
+use std::process::ExitCode;
+
+fn main(rt: HostRuntime) -> ExitCode {
+    let alloc = rt.alloc();
+    let arguments = match env::args(&rt) {
+        Ok(arguments) => arguments,
+        Err(error) if error.kind() == ErrorKind::OutOfMemory => return ExitCode::from(4),
+        Err(_) => return ExitCode::from(5),
+    };
+    let Ok(arguments) = arguments.collect::<Vec<String>>(alloc) else {
+        return ExitCode::from(4);
+    };
+    let mut reader = rt.reader();
+    let mut writer = io::writer(&rt);
+    let (status, text) = run_program(alloc, &arguments, &mut reader, &mut writer);
+    if !text.is_empty() {
+        let _ = eprintln!(rt; "{text}");
+    }
+    ExitCode::from(status)
+}
+
+#[cfg(test)]
+mod tests;

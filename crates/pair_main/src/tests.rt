@@ -1,0 +1,54 @@
+//! Runs of the program: what it reads, what it prints, and how it ends.
+mod endings;
+mod examples;
+mod rows;
+
+use crate::program::run_program;
+use std::alloc::{AllocError, Global};
+use std::io::{Read, Write};
+use std::process::Abort;
+use std::test::Fail;
+
+// How a run ends: its status and its text for standard error.
+type Ending<'a> = (u8, &'a str);
+
+const WELL: Ending<'static> = (0, "");
+
+// The program's name, and these words behind it.
+fn command_line(alloc: Global, words: &[&str]) -> Result<Vec<String>, AllocError> {
+    let mut arguments = Vec::new(alloc);
+    arguments.push(String::from_str(alloc, "pair")?)?;
+    for word in words {
+        arguments.push(String::from_str(alloc, word)?)?;
+    }
+    Ok(arguments)
+}
+
+// The status and the text of the program on these words.
+fn run_on<R: Read + Drop, W: Write + Drop>(
+    rt: &impl AllocGlobal,
+    words: &[&str],
+    reader: &mut R,
+    writer: &mut W,
+) -> Result<(u8, String), Fail> {
+    let arguments = command_line(rt.alloc(), words)?;
+    let (status, text) = run_program(rt.alloc(), &arguments, reader, writer);
+    Ok((status, String::from_str(rt.alloc(), text.as_str())?))
+}
+
+// A command on this script prints this and ends so.
+fn expect(
+    rt: &(impl Abort + AllocGlobal),
+    command: &str,
+    script: &[u8],
+    output: &str,
+    ending: Ending<'_>,
+) -> Result<(), Fail> {
+    let mut reader = script;
+    let mut printed = Vec::new(rt.alloc());
+    let (status, text) = run_on(rt, &[command], &mut reader, &mut printed)?;
+    let printed = String::from_utf8_lossy(rt.alloc(), &printed)?;
+    assert_eq!(rt; printed.as_str(), output, "{command}");
+    assert_eq!(rt; (status, text.as_str()), ending, "{command}");
+    Ok(())
+}

@@ -1,0 +1,163 @@
+//! Scripts that are none, input and output that fail, and command lines.
+use super::{Ending, WELL, expect, run_on};
+use crate::checking::Verdict;
+use crate::failure::Failure;
+use std::io::{self, ErrorKind, Read, Write};
+use std::test::Fail;
+
+// Scripts with what is printed and how the run ends.
+static SCRIPTS: [(&[u8], &str, Ending<'static>); 10] = [
+    (b"", "", WELL),
+    (b"\r\n\n# a comment, and then nothing\n", "", WELL),
+    (
+        b"# what follows has a CR\r\nsend 0 0\r\nstop 0",
+        "refused 15\nstopped\n",
+        WELL,
+    ),
+    (b"step 0", "", (3, "bad script at line 1")),
+    (
+        b"stop 0\n\nstop 0 1\nnode 0\n",
+        "",
+        (3, "bad script at line 3"),
+    ),
+    (b"stop 0\nmem 0000 76\n", "", (3, "bad script at line 2")),
+    (b"stop 0\nstop 1\r", "", (3, "bad script at line 2")),
+    (b"mem FFFF 01 02", "", (3, "bad script at line 1")),
+    (
+        b"drives 2\nsector 2 0 0 E5\n",
+        "",
+        (3, "bad script at line 2"),
+    ),
+    (b"#\n \n", "", (3, "bad script at line 2")),
+];
+
+#[test]
+fn bad_scripts_are_refused_whole(rt: HostRuntime) -> Result<(), Fail> {
+    for (script, printed, ending) in SCRIPTS {
+        expect(&rt, "script", script, printed, ending)?;
+    }
+    Ok(())
+}
+
+#[test]
+fn a_script_has_at_most_1_048_576_bytes(rt: HostRuntime) -> Result<(), Fail> {
+    let mut script = vec![in rt.alloc(); b'\n'; 1_048_575]?;
+    script.push(b'#')?;
+    expect(&rt, "script", &script, "", WELL)?;
+    script.push(b'#')?;
+    expect(
+        &rt,
+        "script",
+        &script,
+        "",
+        (3, "bad script at line 1048576"),
+    )
+}
+
+// A reader that gives a line that is none, and then fails.
+#[derive(Drop)]
+struct FailingReader {
+    given: bool,
+}
+
+impl Read for FailingReader {
+    fn read(&mut self, buf: &mut [u8]) -> io::Result<usize> {
+        if self.given || buf.is_empty() {
+            return Err(io::Error::from(ErrorKind::BrokenPipe));
+        }
+        self.given = true;
+        buf[0] = b'?';
+        Ok(1)
+    }
+}
+
+// A writer that takes so many bytes, one at a time, and then fails; or fails when it is flushed.
+#[derive(Drop)]
+struct FailingWriter {
+    room: usize,
+    flushes: bool,
+}
+
+impl Write for FailingWriter {
+    fn write(&mut self, buf: &[u8]) -> io::Result<usize> {
+        if self.room == 0 || buf.is_empty() {
+            return Err(io::Error::from(ErrorKind::BrokenPipe));
+        }
+        self.room -= 1;
+        Ok(1)
+    }
+
+    fn flush(&mut self) -> io::Result<()> {
+        if self.flushes {
+            return Ok(());
+        }
+        Err(io::Error::from(ErrorKind::BrokenPipe))
+    }
+}
+
+const FAILED: Ending<'static> = (5, "input or output failed");
+
+#[test]
+fn input_that_fails_comes_before_bad_lines(rt: HostRuntime) -> Result<(), Fail> {
+    let mut printed = Vec::new(rt.alloc());
+    let mut reader = FailingReader { given: false };
+    let (status, text) = run_on(&rt, &["script"], &mut reader, &mut printed)?;
+    assert_eq!(rt; (status, text.as_str()), FAILED);
+    assert!(rt; printed.is_empty());
+    Ok(())
+}
+
+#[test]
+fn output_fails_at_its_end_too(rt: HostRuntime) -> Result<(), Fail> {
+    // `refused 15` and a line end are eleven bytes.
+    for (room, flushes, ending) in [
+        (0, true, FAILED),
+        (10, true, FAILED),
+        (11, false, FAILED),
+        (11, true, WELL),
+    ] {
+        let mut reader: &[u8] = b"send 0 0";
+        let mut writer = FailingWriter { room, flushes };
+        let (status, text) = run_on(&rt, &["script"], &mut reader, &mut writer)?;
+        assert_eq!(rt; (status, text.as_str()), ending, "{room}");
+    }
+    Ok(())
+}
+
+// Words behind the program's name, and what the text about them says.
+static COMMAND_LINES: [(&[&str], &str); 8] = [
+    (&[], "Usage"),
+    (&["--help"], "Example: pair script"),
+    (&["help"], "Example: pair script"),
+    (&["script", "--help"], "Runs a script"),
+    (&["run"], "run"),
+    (&["script", "first"], "first"),
+    (&["check", "--quiet"], "--quiet"),
+    (&["live"], "not there yet"),
+];
+
+#[test]
+fn command_lines_are_refused_or_explained(rt: HostRuntime) -> Result<(), Fail> {
+    for (words, part) in COMMAND_LINES {
+        let mut reader: &[u8] = b"stop 0";
+        let mut printed = Vec::new(rt.alloc());
+        let (status, text) = run_on(&rt, words, &mut reader, &mut printed)?;
+        assert_eq!(rt; status, 2, "{part}");
+        assert!(rt; text.contains(part), "{part}");
+        assert!(rt; !text.ends_with("\n"), "{part}");
+        assert!(rt; printed.is_empty(), "{part}");
+    }
+    Ok(())
+}
+
+// No script makes a pair differ, so these are looked at by themselves.
+#[test]
+fn a_difference_is_told_on_standard_output(rt: HostRuntime) -> Result<(), Fail> {
+    let verdict = format!(in rt.alloc(); "{}", Verdict::Differs)?;
+    assert_eq!(rt; verdict.as_str(), "differs");
+    let (status, text) = Failure::Differs.ending(rt.alloc());
+    assert_eq!(rt; (status, text.as_str()), (7, ""));
+    let (status, text) = Failure::OutOfMemory.ending(rt.alloc());
+    assert_eq!(rt; (status, text.as_str()), (4, "out of memory"));
+    Ok(())
+}
