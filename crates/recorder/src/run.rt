@@ -13,6 +13,7 @@ use log_buffer::LogBuffer;
 use log_entry::Entry;
 
 // One step, and the name and the mark's index of the operation that it gives.
+#[inline(always)]
 fn step<B: Lockstep>(board: &mut B, log: &mut LogBuffer) -> R<Option<(OpId, u64)>>
     requires room { room_answer log.old ≡ Ok tt }
     ensures { stepping.Steps B.machine (B.state board.old) log.old result (B.state board.new) log.new }

@@ -17,6 +17,7 @@ impl<T: Completes, S: Completes, W: Completes> Lockstep for Board<T, S, W> {
 
     ghost machine = { some_altair };
 
+    #[inline(always)]
     fn exec(&mut self) -> R<Executed> {
         self.exec()
     }
