@@ -3,7 +3,7 @@ ghost use Rattle.std.specs.Prelude.{◌≡◌, false};
 
 use disk_dcdd::{GREATEST_NUMBER, SectorAddress};
 use event_callbacks::{OpId, Operation};
-use guest_board::{Executed, Input, Lockstep};
+use guest_board::{Input, Lockstep};
 use i8080_words::{Fault, R};
 use std::marker::Model;
 
@@ -66,18 +66,18 @@ impl Lockstep for Echo {
 
     ghost machine = { echo };
 
-    fn exec(&mut self) -> R<Executed> {
+    fn step(&mut self) -> R<Option<OpId>> {
         if self.count >= GREATEST_NUMBER {
             return Err(Fault::Spent);
         }
         if self.waits && self.key.is_none() {
             return Err(Fault::Idle);
         }
-        let Some(byte) = self.byte.filter(|_| !self.waits) else {
+        if self.waits || self.byte.is_none() {
             self.count += 1;
             self.byte = self.key.take();
-            return Ok(Executed::Ran(None));
-        };
+            return Ok(None);
+        }
         if self.room == 0 {
             return Err(Fault::OutOfMemory);
         }
@@ -86,12 +86,7 @@ impl Lockstep for Echo {
         self.byte = None;
         self.sent += 1;
         self.waits = true;
-        let number = self.sent;
-        Ok(Executed::Ran(Some(Operation::Byte {
-            port: 0,
-            number,
-            byte,
-        })))
+        Ok(Some(OpId::Byte(0, self.sent)))
     }
 
     fn check(&self, input: &Input) -> R<()> {

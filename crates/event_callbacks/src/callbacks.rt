@@ -4,17 +4,14 @@
 //! called and what is answered, every closure of the right shape has that trait, and what stores one is bound by it.
 //! In return no function may name `Kept` or `Callbacks`, or a type that holds them, at the type of a closure that it
 //! knows. Whoever has closures passes them, as they are, to a function that is generic over them. That one requires what
-//! `Kept::new` does, and makes all that holds them:
+//! `Callbacks::of` does, and makes all that holds them:
 //!
 //!     fn run<T: Completes + Drop, S: Completes + Drop, W: Completes + Drop>(sent: T, sector: S, written: W)
 //!         requires sent { Keeps (T.may sent) (T.gives sent) SENT }
 //!         requires sector { Keeps (S.may sector) (S.gives sector) SECTOR }
 //!         requires written { Keeps (W.may written) (W.gives written) WRITTEN }
 //!     {
-//!         let sent = Kept::<T, SENT>::new(sent);
-//!         let sector = Kept::<S, SECTOR>::new(sector);
-//!         let written = Kept::<W, WRITTEN>::new(written);
-//!         let callbacks = Callbacks::new(sent, sector, written);
+//!         let callbacks = Callbacks::of(sent, sector, written);
 //!         ..
 //!     }
 //!
@@ -27,6 +24,7 @@ ghost use Rattle.event_callbacks.specs.Keeping.{Keeps};
 ghost use Rattle.event_callbacks.specs.Completions.{is_due, done_of};
 ghost use Rattle.event_callbacks.specs.declared.devices.Devices.{Devices};
 ghost use Rattle.event_callbacks.specs.declared.devices.Done.{Done};
+ghost use Rattle.event_callbacks.specs.declared.devices.TheConstants.{SENT, SECTOR, WRITTEN};
 
 use crate::devices::{Devices, Done, SECTOR, SENT, WRITTEN};
 use std::marker::Model;
@@ -141,6 +139,19 @@ impl<T: Completes, S: Completes, W: Completes> Callbacks<T, S, W> {
             sector,
             written,
         }
+    }
+
+    /// These closures, each of which keeps the completion table for its kind.
+    pub fn of(sent: T, sector: S, written: W) -> Self
+        requires sent { Keeps (T.may sent) (T.gives sent) SENT }
+        requires sector { Keeps (S.may sector) (S.gives sector) SECTOR }
+        requires written { Keeps (W.may written) (W.gives written) WRITTEN }
+        ensures { result ≡ record { sent = sent; sector = sector; written = written } }
+    {
+        let sent = Kept::<T, SENT>::new(sent);
+        let sector = Kept::<S, SECTOR>::new(sector);
+        let written = Kept::<W, WRITTEN>::new(written);
+        Callbacks::new(sent, sector, written)
     }
 
     /// The devices after what is due: the stored closure of its kind completes it.

@@ -41,10 +41,7 @@ fn complete_each<T: Completes + Drop, S: Completes + Drop, W: Completes + Drop>(
     requires sector { Keeps (S.may sector) (S.gives sector) SECTOR }
     requires written { Keeps (W.may written) (W.gives written) WRITTEN }
 {
-    let sent = Kept::<T, SENT>::new(sent);
-    let sector = Kept::<S, SECTOR>::new(sector);
-    let written = Kept::<W, WRITTEN>::new(written);
-    let callbacks = Callbacks::new(sent, sector, written);
+    let callbacks = Callbacks::of(sent, sector, written);
     let devices = devices_with_a_byte(rt);
 
     let done = Done::Sent(0);

@@ -13,7 +13,8 @@ use Rattle.recorder.proofs.Advances.{records_steps}
 use Rattle.recorder.proofs.Recorded.{is_run}
 use Rattle.guest_board.specs.Recorded.{Counts}
 use Rattle.recorder.specs.Recording as table
-use Rattle.recorder.specs.Recording.{Quiet, Begin, More, AdvancesUnless, AdvancesSome, advance_refusal}
+use Rattle.guest_board.specs.Running.{Quiet, Begin, More}
+use Rattle.recorder.specs.Recording.{AdvancesUnless, AdvancesSome, advance_refusal}
 use Rattle.recorder.specs.declared.advanced.Advanced.{Advanced}
 use Rattle.recorder.specs.declared.advanced.Why as why
 use Rattle.recorder.specs.declared.advanced.Why.TheVariants as reasons

@@ -21,7 +21,8 @@ use Rattle.pair_protocol.specs.Refusals as refusals
 use Rattle.pair_protocol.specs.Rows as rows
 use Rattle.pair_protocol.specs.Rows.{stepped}
 use Rattle.recorder.specs.Recording as table
-use Rattle.recorder.specs.Recording.{Quiet, Begin, More, AdvancesUnless, advance_refusal}
+use Rattle.guest_board.specs.Running.{Quiet, Begin, More}
+use Rattle.recorder.specs.Recording.{AdvancesUnless, advance_refusal}
 use Rattle.recorder.specs.declared.advanced.Advanced.{Advanced}
 use Rattle.ft_node.specs.Calls as calls
 use Rattle.ft_node.specs.Calls.{Unless}

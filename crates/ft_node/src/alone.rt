@@ -15,7 +15,7 @@ ghost use Rattle.pair_events.specs.declared.reply.Why.TheVariants as why;
 use crate::ran::Ran;
 use disk_dcdd::{GREATEST_NUMBER, SECTOR_BYTES, SectorAddress};
 use event_callbacks::{OpId, Operation};
-use guest_board::{Input, Lockstep};
+use guest_board::{Input, Lockstep, StopReason, Stopped};
 use i8080_words::{Fault, R};
 use pair_events::Why;
 
@@ -35,18 +35,13 @@ impl<B: Lockstep> Alone<B> {
             → IsAlone (B.state self.old.board) self.old.generation x
             → calls.Steps B.machine turns x result (IsAlone (B.state self.new.board) self.new.generation) }
     {
-        for steps in 0..turns {
-            match self.board.exec() {
-                Ok(executed) => {
-                    if let Some(operation) = executed.given() {
-                        return Ok(self.ran(steps + 1, Why::Operation(operation.id())));
-                    }
-                }
-                Err(fault) if steps == 0 => return Err(fault),
-                Err(fault) => return Ok(self.ran(steps, why_of(fault))),
-            }
+        let Stopped { steps, reason } = guest_board::run(&mut self.board, turns);
+        match reason {
+            StopReason::Turns => Ok(self.ran(steps, Why::Turns)),
+            StopReason::Operation(name) => Ok(self.ran(steps, Why::Operation(name))),
+            StopReason::Refused(fault) if steps == 0 => Err(fault),
+            StopReason::Refused(fault) => Ok(self.ran(steps, why_of(fault))),
         }
-        Ok(self.ran(turns, Why::Turns))
     }
 
     // What the node answers that came so far.

@@ -42,7 +42,7 @@ use Rattle.ft_world.proofs.Reading.{accepted_is}
 
 -- A node takes an input.
 
-took_generation : {S : Type 0} (M : Machine S) (x : Node S) (role : Role) (s : S) (i : Input) →
+pub took_generation : {S : Type 0} (M : Machine S) (x : Node S) (role : Role) (s : S) (i : Input) →
     (took M x role s i).generation ≡ x.generation
 took_generation M x Primary s i = refl
 took_generation M x Backup s i = refl

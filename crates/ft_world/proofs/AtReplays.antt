@@ -131,7 +131,7 @@ drains_refused state M records old c n turns fault hosts h a =
     node_refused Drained state M records old c (event.Drain n turns) n drain_refusal (Emptied M turns) fault hosts
     h refl refl refl a
 
-drained_generation : {S : Type 0} (z : Node S) (b : Bool) → (after_drain z b).generation ≡ z.generation
+pub drained_generation : {S : Type 0} (z : Node S) (b : Bool) → (after_drain z b).generation ≡ z.generation
 drained_generation z true = refl
 drained_generation z false = refl
 

@@ -1,8 +1,8 @@
 -- A sector is read: at the track where the head of a node that serves stands, and its machine was run from boot, so it is
 -- a sector of the disk. What is read is what the writes that arrived have left there.
-use Rattle.std.proofs.Common.{◌≡◌, ◌<◌, ◌≤◌, [], ◌∷◌, ◌∙◌, Err, List, None, Ok, Some, ap, arith, inl, inr, ltb-true, refl, subst, sym, ℕ}
+use Rattle.std.proofs.Common.{◌≡◌, ◌<◌, ◌+◌, ◌≤◌, [], ◌∷◌, ◌∙◌, Bool, Err, List, None, Ok, Some, ap, arith, cond, false, inl, inr, ltb-true, not, refl, subst, sym, true, ℕ}
 use Rattle.std.specs.Option.{option_map}
-use Rattle.std.specs.Prelude.{IsTrue, Option, Result, nat_le, nat_lt, slice_get}
+use Rattle.std.specs.Prelude.{IsTrue, Option, Result, is_none, nat_le, nat_lt, slice_get}
 use Rattle.std.proofs.lemmas.Bool.{and_parts, le-leb, lt-leb}
 use Rattle.disk_dcdd.specs.Address.{is_on_disk}
 use Rattle.disk_dcdd.specs.declared.address.SectorAddress.{SectorAddress}
@@ -11,17 +11,17 @@ use Rattle.disk_dcdd.specs.declared.controller.TheConstants.{DRIVES}
 use Rattle.disk_dcdd.specs.declared.sector.TheConstants.{SECTORS}
 use Rattle.guest_board.specs.Machine.{Machine}
 use Rattle.i8080_words.specs.declared.refusal.Fault.{Fault}
-use Rattle.i8080_words.specs.declared.refusal.Fault.TheVariants.{Unknown}
+use Rattle.i8080_words.specs.declared.refusal.Fault.TheVariants.{NotDue, Unknown, WrongRole}
 use Rattle.shared_disk.specs.Arrivals.{read_of}
 use Rattle.disk_dcdd.specs.Address.{has_sector}
-use Rattle.shared_disk.specs.Records.{record_at}
+use Rattle.shared_disk.specs.Records.{faults_in, record_at}
 use Rattle.shared_disk.specs.declared.disk.SectorRead.{SectorRead}
 use Rattle.shared_disk.specs.declared.store.Record.{Record}
 use Rattle.pair_protocol.specs.Change.{Serving}
 use Rattle.pair_protocol.specs.Copying.{no_copies}
 use Rattle.pair_protocol.specs.Event as protocol
-use Rattle.pair_protocol.specs.Node.{Node}
-use Rattle.pair_protocol.specs.Refusals.{at_node, first_of, no_sector, place_refusal, serves}
+use Rattle.pair_protocol.specs.Node.{Alone, Node, Primary, Spare, acts_as, is_role}
+use Rattle.pair_protocol.specs.Refusals.{at_node, fault_if, first_of, no_sector, place_refusal, serves}
 use Rattle.pair_protocol.specs.Row.{Accepts, DeviceFails, Row, WantsMemory}
 use Rattle.pair_protocol.specs.World as sent
 use Rattle.pair_protocol.specs.World.{World, sector_record, with_read}
@@ -76,6 +76,40 @@ gets_refused state M records old c n sector fault h low a =
     let k = refused_surely {A = SectorAddress} o fault (Unit {0})
     (λ address. host.Says c.world.nodes n (does.Finds M sector address)) a in
     refuses state M records old old c (event.Get n sector) fault h refl (is_sector sector o low ∙ k.0) refl
+
+-- a node that refuses names no failure of the disk
+same_fault : (here fault : Fault) → Some here ≡ Some fault → faults_in {T = Reply} (Err here) ≡ 0 →
+    faults_in {T = Reply} (Err fault) ≡ 0
+same_fault here fault e none =
+    subst (λ f. faults_in {T = Reply} (Err f) ≡ 0) (same_some here fault (Some here) refl e) none
+
+no_role_or_drive : (role drive : Bool) (fault : Fault) →
+    first_of (fault_if role WrongRole ∷ fault_if drive NotDue ∷ []) ≡ Some fault →
+    faults_in {T = Reply} (Err fault) ≡ 0
+no_role_or_drive true drive fault e = same_fault WrongRole fault e refl
+no_role_or_drive false true fault e = same_fault NotDue fault e refl
+no_role_or_drive false false fault e = absurd (cc)
+
+no_place : {S : Type 0} (M : Machine S) (here : Option (Node S)) (fault : Fault) →
+    at_node here (place_refusal M) ≡ Some fault → faults_in {T = Reply} (Err fault) ≡ 0
+no_place M None fault e = same_fault Unknown fault e refl
+no_place {S} M (Some x) fault e = go (is_role x.role Spare) e
+  where
+    go : (b : Bool) → cond b (Some Unknown) (place_refusal M x) ≡ Some fault → faults_in {T = Reply} (Err fault) ≡ 0
+    go true e = same_fault Unknown fault e refl
+    go false e =
+        no_role_or_drive (not (acts_as x (Primary ∷ Alone ∷ []))) (is_none (M.selected x.machine)) fault e
+
+pub gets_no_failure : {S : Type 0} (M : Machine S) (nodes : List (Node S)) (n sector failures : ℕ) (fault : Fault)
+    (result : Result Reply Fault) → result ≡ Err fault →
+    ReadHost {A = SectorAddress} nodes n (place_refusal M) (Err fault) (does.Finds M sector) →
+    failures ≡ failures + faults_in result
+gets_no_failure M nodes n sector failures fault result is a =
+    let o = at_node (slice_get nodes n) (place_refusal M) in
+    let k = refused_surely {A = SectorAddress} o fault (Unit {0})
+    (λ address. host.Says nodes n (does.Finds M sector address)) a in
+    let none : faults_in result ≡ 0 = ap faults_in is ∙ no_place M (slice_get nodes n) fault k.0 in
+    omega (arith, none)
 
 -- What is read.
 

@@ -13,7 +13,6 @@ pub mod AtNodes
 pub mod AtOneNode
 pub mod Beginnings
 pub mod Releasing
-pub mod Running
 pub mod Winning
 pub mod Contesting
 pub mod AtInputs
@@ -27,3 +26,6 @@ pub mod Reading
 pub mod Hosting
 pub mod DiskReads
 pub mod Settling
+pub mod Generations
+pub mod Growing
+pub mod Running

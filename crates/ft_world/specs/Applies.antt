@@ -1,21 +1,24 @@
 -- What a running world stands for, and what an event makes of it.
-use Rattle.std.specs.Prelude.{◌≡◌, ℕ, List, Result, length, map}
+use Rattle.std.specs.Prelude.{◌≡◌, ℕ, ◌+◌, List, [], ◌∷◌, Result, length, map}
 use Rattle.disk_dcdd.specs.declared.address.SectorAddress.{SectorAddress}
 use Rattle.guest_board.specs.Machine.{Machine}
 use Rattle.i8080_words.specs.declared.refusal.Fault.{Fault}
+use Rattle.shared_disk.specs.Records.{faults_in}
 use Rattle.shared_disk.specs.declared.disk.SectorRead.{SectorRead}
 use Rattle.shared_disk.specs.declared.store.Record.{Record}
 use Rattle.pair_protocol.specs.Change.{Reached}
 use Rattle.pair_protocol.specs.Copying.{no_copies}
+use Rattle.pair_protocol.specs.Event as protocol
 use Rattle.pair_protocol.specs.Faithful.{Faithful}
 use Rattle.pair_protocol.specs.Grows.{Grows}
-use Rattle.pair_protocol.specs.Row.{Row, Run}
+use Rattle.pair_protocol.specs.Row.{Row}
 use Rattle.pair_protocol.specs.Settled.{highest}
 use Rattle.pair_protocol.specs.World.{World, sector_record}
 use Rattle.ft_world.specs.Shows.{AreHosts, AreMessages, AreTerminals, AreWinners, IsDisk, IsOnlyBackup}
 use Rattle.ft_world.specs.Standing.{Course, machine_of, IsMachine}
 use Rattle.ft_world.specs.Words.{event_of, answer_of, read_address}
 use Rattle.pair_events.specs.declared.event.Event.{Event}
+use Rattle.pair_events.specs.declared.event.Event.TheVariants as event
 use Rattle.pair_events.specs.declared.reply.Reply.{Reply}
 use Rattle.ft_world.specs.Running.{Running}
 
@@ -60,14 +63,30 @@ abbrev pub Happens : {B H D S : Type 0} → (B → S) → Machine S → (D → L
 Happens {S = S} state M records old e answer new =
     (c : Course S) → Shows state M records old c → Applies state M records c e answer new
 
--- a run: one answer for each event, each the event's row; the world after it is shown, and it is faithful
+-- an event at the disk is refused by a device fault exactly where the device failed; no other event touches the disk
+abbrev pub CountsFailures : Event → ℕ → Result Reply Fault → ℕ → Type 0
+CountsFailures (event.Put message) before answer after = after ≡ before + faults_in answer
+CountsFailures (event.Get node sector) before answer after = after ≡ before + faults_in answer
+CountsFailures _ before answer after = after ≡ before
+
+-- rows of events, one after another; no host comes meanwhile
+pub data Rows {S : Type 0} (M : Machine S) : World S → List protocol.Event → List protocol.Reply → World S
+    → Type 0 where
+  Nothing : {w : World S} → Rows M w [] [] w
+  First : {w mid new : World S} {e : protocol.Event} {events : List protocol.Event} {r : protocol.Reply}
+      {replies : List protocol.Reply} → Row M no_copies w e r mid → Rows M mid events replies new →
+      Rows M w (e ∷ events) (r ∷ replies) new
+
+-- a run: one answer for each event, each the event's row; the world after it is shown, it is faithful, and what was
+-- settled before the run grows
 pub record Runs {B H D S : Type 0} (state : B → S) (M : Machine S) (records : D → List Record) (c : Course S)
     (events : List Event) (answers : List (Result Reply Fault)) (new : Running B H D) : Type 0 where
   pub after : World S
-  pub run : Run (machine_of M c) no_copies c.world (map event_of events) (map answer_of answers) after
+  pub rows : Rows (machine_of M c) c.world (map event_of events) (map answer_of answers) after
   pub each : length answers ≡ length events
   pub shows : Shows state M records new (record c { world = after })
   pub faithful : Faithful (machine_of M c) no_copies after
+  pub grows : Grows (machine_of M c) c.world after
 
 -- what the disk of a world has in a sector
 pub record IsSectorOf {S : Type 0} (M : Machine S) (w : World S) (address : SectorAddress) (read : SectorRead)

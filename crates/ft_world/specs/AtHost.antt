@@ -96,6 +96,13 @@ AskHost nodes n part result says =
     Unless (at_node (slice_get nodes n) part) result (Unit {0})
     (Gives result (Unit {0}) (λ value. Says nodes n (says value)))
 
+-- likewise, where no memory is wanted
+abbrev pub ReadHost : {A S : Type 0} → List (Node S) → ℕ → (Node S → Option Fault) → Result A Fault
+    → (A → Node S → Type 0) → Type 0
+ReadHost nodes n part result says =
+    Unless (at_node (slice_get nodes n) part) result (Unit {0})
+    (Always result (λ value. Says nodes n (says value)))
+
 -- the refusal of the node's part, or what asking the arbiter does there
 pub record Asked {B H S : Type 0} (state : B → S) (M : Machine S) (nodes : List (Node S)) (n : ℕ) (old : List Asking)
     (result : Result Won Fault) (hosts : List (Host B H)) (new : List Asking) : Type 0 where
@@ -109,13 +116,6 @@ abbrev pub AsksHost : {B H S : Type 0} → (B → S) → Machine S → List (Nod
 AsksHost state M nodes n old result hosts new =
     Unless (at_node (slice_get nodes n) suspect_refusal) result (AreHosts state M hosts nodes × (new ≡ old))
     (Asked state M nodes n old result hosts new)
-
--- likewise, where no memory is wanted
-abbrev pub ReadHost : {A S : Type 0} → List (Node S) → ℕ → (Node S → Option Fault) → Result A Fault
-    → (A → Node S → Type 0) → Type 0
-ReadHost nodes n part result says =
-    Unless (at_node (slice_get nodes n) part) result (Unit {0})
-    (Always result (λ value. Says nodes n (says value)))
 
 -- no node has this number
 abbrev pub HasNoNode : {B H : Type 0} → List (Host B H) → ℕ → Type 0

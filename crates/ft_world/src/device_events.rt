@@ -1,4 +1,6 @@
 //! The events at terminals and at the disk, and what nodes hear from them.
+ghost use Rattle.std.specs.Prelude.{◌≡◌, ◌+◌};
+ghost use Rattle.shared_disk.specs.Records.{faults_in};
 ghost use Rattle.ft_world.specs.Applies.{Happens, ShowsSome};
 ghost use Rattle.ft_world.specs.Pairs.{running_of};
 ghost use Rattle.pair_events.specs.declared.event.Event.TheVariants as happens;
@@ -16,16 +18,18 @@ use shared_disk::SectorStore;
 impl<B: Lockstep + Drop, D: SectorStore, H: Drop> Pair<B, D, H> {
     /// A byte is typed at the terminal of a port.
     pub(crate) fn type_byte(&mut self, port: u8, byte: u8) -> R<Reply>
-        ensures { Happens B.state B.machine D.records (running_of self.old) (happens.TypeByte port byte) result
+        ensures row { Happens B.state B.machine D.records (running_of self.old) (happens.TypeByte port byte) result
             (running_of self.new) }
+        ensures disk { self.new.disk ≡ self.old.disk }
     {
         devices::type_byte(&mut self.terminals, port, byte)
     }
 
     /// A node sends an outstanding operation to its device.
     pub(crate) fn release(&mut self, node: u64, id: OpId) -> R<Reply>
-        ensures { Happens B.state B.machine D.records (running_of self.old) (happens.Release node id) result
+        ensures row { Happens B.state B.machine D.records (running_of self.old) (happens.Release node id) result
             (running_of self.new) }
+        ensures disk { self.new.disk ≡ self.old.disk }
     {
         devices::check_device(id)?;
         let operation = hosts::release(&self.hosts, node, id)?;
@@ -34,8 +38,9 @@ impl<B: Lockstep + Drop, D: SectorStore, H: Drop> Pair<B, D, H> {
 
     /// A released byte comes to its terminal.
     pub(crate) fn arrive(&mut self, message: u64) -> R<Reply>
-        ensures { Happens B.state B.machine D.records (running_of self.old) (happens.Arrive message) result
+        ensures row { Happens B.state B.machine D.records (running_of self.old) (happens.Arrive message) result
             (running_of self.new) }
+        ensures disk { self.new.disk ≡ self.old.disk }
     {
         let Some((port, number, byte)) = messages::byte_in(&self.messages, message) else {
             return Err(Fault::Unknown);
@@ -46,8 +51,9 @@ impl<B: Lockstep + Drop, D: SectorStore, H: Drop> Pair<B, D, H> {
     /// A node hears that the terminal of a port has accepted the byte of a number.
     pub(crate) fn tell_sent(&mut self, node: u64, port: u8, number: u64) -> R<Reply>
         requires shown { ShowsSome B.state B.machine D.records (running_of self.old) }
-        ensures { Happens B.state B.machine D.records (running_of self.old) (happens.TellSent node port number) result
-            (running_of self.new) }
+        ensures row { Happens B.state B.machine D.records (running_of self.old) (happens.TellSent node port number)
+            result (running_of self.new) }
+        ensures disk { self.new.disk ≡ self.old.disk }
     {
         devices::check_accepted(&self.terminals, port, number)?;
         hosts::sent(&mut self.hosts, node, port, number)?;
@@ -56,8 +62,9 @@ impl<B: Lockstep + Drop, D: SectorStore, H: Drop> Pair<B, D, H> {
 
     /// The terminal of a port is told how many of its keys a node has covered.
     pub(crate) fn tell(&mut self, node: u64, port: u8) -> R<Reply>
-        ensures { Happens B.state B.machine D.records (running_of self.old) (happens.Told node port) result
+        ensures row { Happens B.state B.machine D.records (running_of self.old) (happens.Told node port) result
             (running_of self.new) }
+        ensures disk { self.new.disk ≡ self.old.disk }
     {
         if port as usize >= PORTS {
             return Err(Fault::Unknown);
@@ -69,8 +76,9 @@ impl<B: Lockstep + Drop, D: SectorStore, H: Drop> Pair<B, D, H> {
 
     /// A released write comes to the shared disk.
     pub(crate) fn put(&mut self, message: u64) -> R<Reply>
-        ensures { Happens B.state B.machine D.records (running_of self.old) (happens.Put message) result
+        ensures row { Happens B.state B.machine D.records (running_of self.old) (happens.Put message) result
             (running_of self.new) }
+        ensures counted { D.failures self.new.disk ≡ D.failures self.old.disk + faults_in result }
     {
         let Some(write) = messages::write_in(&self.messages, message) else {
             return Err(Fault::Unknown);
@@ -81,8 +89,9 @@ impl<B: Lockstep + Drop, D: SectorStore, H: Drop> Pair<B, D, H> {
     /// The disk's answer to a write comes to a node.
     pub(crate) fn put_reply(&mut self, message: u64, node: u64) -> R<Reply>
         requires shown { ShowsSome B.state B.machine D.records (running_of self.old) }
-        ensures { Happens B.state B.machine D.records (running_of self.old) (happens.PutReply message node) result
+        ensures row { Happens B.state B.machine D.records (running_of self.old) (happens.PutReply message node) result
             (running_of self.new) }
+        ensures disk { self.new.disk ≡ self.old.disk }
     {
         let Some(number) = messages::written_in(&self.messages, message) else {
             return Err(Fault::Unknown);
@@ -93,8 +102,10 @@ impl<B: Lockstep + Drop, D: SectorStore, H: Drop> Pair<B, D, H> {
 
     /// A node reads a sector of its selected drive.
     pub(crate) fn get(&mut self, node: u64, sector: u8) -> R<Reply>
-        ensures { Happens B.state B.machine D.records (running_of self.old) (happens.Get node sector) result
+        ensures row { Happens B.state B.machine D.records (running_of self.old) (happens.Get node sector) result
             (running_of self.new) }
+        ensures counted { ShowsSome B.state B.machine D.records (running_of self.old)
+            → D.failures self.new.disk ≡ D.failures self.old.disk + faults_in result }
     {
         if sector >= SECTORS {
             return Err(Fault::Unknown);
@@ -106,8 +117,9 @@ impl<B: Lockstep + Drop, D: SectorStore, H: Drop> Pair<B, D, H> {
     /// A sector that was read comes to a node.
     pub(crate) fn get_reply(&mut self, message: u64, node: u64) -> R<Reply>
         requires shown { ShowsSome B.state B.machine D.records (running_of self.old) }
-        ensures { Happens B.state B.machine D.records (running_of self.old) (happens.GetReply message node) result
+        ensures row { Happens B.state B.machine D.records (running_of self.old) (happens.GetReply message node) result
             (running_of self.new) }
+        ensures disk { self.new.disk ≡ self.old.disk }
     {
         let Some(read) = messages::sector_in(&self.messages, message) else {
             return Err(Fault::Unknown);

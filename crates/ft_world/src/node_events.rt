@@ -1,4 +1,5 @@
 //! The events at a node alone.
+ghost use Rattle.std.specs.Prelude.{◌≡◌};
 ghost use Rattle.ft_world.specs.Applies.{Happens, ShowsSome};
 ghost use Rattle.ft_world.specs.Pairs.{running_of};
 ghost use Rattle.pair_events.specs.declared.event.Event.TheVariants as happens;
@@ -16,8 +17,9 @@ impl<B: Lockstep + Drop, D: SectorStore, H: Drop> Pair<B, D, H> {
     /// The machine of a primary or alone node makes at most so many steps.
     pub(crate) fn step(&mut self, node: u64, turns: u64) -> R<Reply>
         requires shown { ShowsSome B.state B.machine D.records (running_of self.old) }
-        ensures { Happens B.state B.machine D.records (running_of self.old) (happens.Step node turns) result
+        ensures row { Happens B.state B.machine D.records (running_of self.old) (happens.Step node turns) result
             (running_of self.new) }
+        ensures disk { self.new.disk ≡ self.old.disk }
     {
         let ran = hosts::step(&mut self.hosts, node, turns)?;
         Ok(Reply::Ran {
@@ -30,8 +32,9 @@ impl<B: Lockstep + Drop, D: SectorStore, H: Drop> Pair<B, D, H> {
     /// A node takes the key of an index from the terminal of a port.
     pub(crate) fn take_key(&mut self, node: u64, port: u8, index: u64) -> R<Reply>
         requires shown { ShowsSome B.state B.machine D.records (running_of self.old) }
-        ensures { Happens B.state B.machine D.records (running_of self.old) (happens.TakeKey node port index) result
+        ensures row { Happens B.state B.machine D.records (running_of self.old) (happens.TakeKey node port index) result
             (running_of self.new) }
+        ensures disk { self.new.disk ≡ self.old.disk }
     {
         let byte = devices::key_at(&self.terminals, port, index)?;
         hosts::key(&mut self.hosts, node, port, index, byte)?;
@@ -40,8 +43,9 @@ impl<B: Lockstep + Drop, D: SectorStore, H: Drop> Pair<B, D, H> {
 
     /// A primary sends an entry of its log.
     pub(crate) fn send(&mut self, alloc: Global, node: u64, index: u64) -> R<Reply>
-        ensures { Happens B.state B.machine D.records (running_of self.old) (happens.Send node index) result
+        ensures row { Happens B.state B.machine D.records (running_of self.old) (happens.Send node index) result
             (running_of self.new) }
+        ensures disk { self.new.disk ≡ self.old.disk }
     {
         let bytes = hosts::packet(alloc, &self.hosts, node, index)?;
         messages::say(&mut self.messages, Message::Log(bytes))
@@ -49,8 +53,9 @@ impl<B: Lockstep + Drop, D: SectorStore, H: Drop> Pair<B, D, H> {
 
     /// A log entry comes to a backup.
     pub(crate) fn deliver_log(&mut self, message: u64, node: u64) -> R<Reply>
-        ensures { Happens B.state B.machine D.records (running_of self.old) (happens.DeliverLog message node) result
+        ensures row { Happens B.state B.machine D.records (running_of self.old) (happens.DeliverLog message node) result
             (running_of self.new) }
+        ensures disk { self.new.disk ≡ self.old.disk }
     {
         let Some(packet) = messages::log_in(&self.messages, message) else {
             return Err(Fault::Unknown);
@@ -64,8 +69,9 @@ impl<B: Lockstep + Drop, D: SectorStore, H: Drop> Pair<B, D, H> {
 
     /// A backup sends an acknowledgement of all that it holds.
     pub(crate) fn acknowledge(&mut self, alloc: Global, node: u64) -> R<Reply>
-        ensures { Happens B.state B.machine D.records (running_of self.old) (happens.Acknowledge node) result
+        ensures row { Happens B.state B.machine D.records (running_of self.old) (happens.Acknowledge node) result
             (running_of self.new) }
+        ensures disk { self.new.disk ≡ self.old.disk }
     {
         let bytes = hosts::ack(alloc, &self.hosts, node)?;
         messages::say(&mut self.messages, Message::Ack(bytes))
@@ -73,8 +79,9 @@ impl<B: Lockstep + Drop, D: SectorStore, H: Drop> Pair<B, D, H> {
 
     /// An acknowledgement comes to a primary.
     pub(crate) fn deliver_acknowledgement(&mut self, message: u64, node: u64) -> R<Reply>
-        ensures { Happens B.state B.machine D.records (running_of self.old) (happens.DeliverAcknowledgement message node) result
-            (running_of self.new) }
+        ensures row { Happens B.state B.machine D.records (running_of self.old)
+            (happens.DeliverAcknowledgement message node) result (running_of self.new) }
+        ensures disk { self.new.disk ≡ self.old.disk }
     {
         let Some(packet) = messages::ack_in(&self.messages, message) else {
             return Err(Fault::Unknown);
@@ -86,8 +93,9 @@ impl<B: Lockstep + Drop, D: SectorStore, H: Drop> Pair<B, D, H> {
     /// A backup makes at most so many moves of what it holds.
     pub(crate) fn replay(&mut self, node: u64, turns: u64) -> R<Reply>
         requires shown { ShowsSome B.state B.machine D.records (running_of self.old) }
-        ensures { Happens B.state B.machine D.records (running_of self.old) (happens.Replay node turns) result
+        ensures row { Happens B.state B.machine D.records (running_of self.old) (happens.Replay node turns) result
             (running_of self.new) }
+        ensures disk { self.new.disk ≡ self.old.disk }
     {
         let replayed = hosts::replay(&mut self.hosts, node, turns)?;
         Ok(Reply::Moved {
@@ -98,8 +106,9 @@ impl<B: Lockstep + Drop, D: SectorStore, H: Drop> Pair<B, D, H> {
 
     /// A node asks the arbiter for its generation.
     pub(crate) fn suspect(&mut self, node: u64) -> R<Reply>
-        ensures { Happens B.state B.machine D.records (running_of self.old) (happens.Suspect node) result
+        ensures row { Happens B.state B.machine D.records (running_of self.old) (happens.Suspect node) result
             (running_of self.new) }
+        ensures disk { self.new.disk ≡ self.old.disk }
     {
         hosts::suspect(&mut self.hosts, node, &mut self.arbiter)?;
         Ok(Reply::Won)
@@ -108,8 +117,9 @@ impl<B: Lockstep + Drop, D: SectorStore, H: Drop> Pair<B, D, H> {
     /// A node that won makes at most so many moves of what it still holds.
     pub(crate) fn drain(&mut self, node: u64, turns: u64) -> R<Reply>
         requires shown { ShowsSome B.state B.machine D.records (running_of self.old) }
-        ensures { Happens B.state B.machine D.records (running_of self.old) (happens.Drain node turns) result
+        ensures row { Happens B.state B.machine D.records (running_of self.old) (happens.Drain node turns) result
             (running_of self.new) }
+        ensures disk { self.new.disk ≡ self.old.disk }
     {
         let drained = hosts::drain(&mut self.hosts, node, turns)?;
         let moves = drained.moves;
@@ -125,8 +135,9 @@ impl<B: Lockstep + Drop, D: SectorStore, H: Drop> Pair<B, D, H> {
 
     /// A node halts.
     pub(crate) fn stop(&mut self, node: u64) -> R<Reply>
-        ensures { Happens B.state B.machine D.records (running_of self.old) (happens.Stop node) result
+        ensures row { Happens B.state B.machine D.records (running_of self.old) (happens.Stop node) result
             (running_of self.new) }
+        ensures disk { self.new.disk ≡ self.old.disk }
     {
         hosts::stop(&mut self.hosts, node)?;
         Ok(Reply::Stopped)

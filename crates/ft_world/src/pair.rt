@@ -2,7 +2,7 @@
 ghost use Rattle.std.specs.Prelude.{◌≡◌, length, IfErr, IfOk, OnErr, OnOk};
 ghost use Rattle.i8080_words.specs.declared.refusal.Fault.TheVariants.{OutOfMemory};
 ghost use Rattle.pair_protocol.specs.World.{with_host};
-ghost use Rattle.ft_world.specs.Applies.{Happens, Runs, Shows, ShowsSome};
+ghost use Rattle.ft_world.specs.Applies.{CountsFailures, Happens, Runs, Shows, ShowsSome};
 ghost use Rattle.ft_world.specs.Beginning.{MayBegin, beginning};
 ghost use Rattle.ft_world.specs.Standing.{Course, machine_of};
 ghost use Rattle.ft_world.specs.Pairs.{running_of};
@@ -62,7 +62,8 @@ impl<B: Lockstep + Drop, D: SectorStore, H: Drop> Pair<B, D, H> {
     /// An event happens.
     pub(crate) fn apply(&mut self, alloc: Global, event: Event) -> R<Reply>
         requires shown { ShowsSome B.state B.machine D.records (running_of self.old) }
-        ensures { Happens B.state B.machine D.records (running_of self.old) event result (running_of self.new) }
+        ensures row { Happens B.state B.machine D.records (running_of self.old) event result (running_of self.new) }
+        ensures counted { CountsFailures event (D.failures self.old.disk) result (D.failures self.new.disk) }
     {
         match event {
             Event::Step { node, turns } => self.step(node, turns),

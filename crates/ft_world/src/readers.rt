@@ -1,9 +1,9 @@
 //! What a pair shows of itself.
-ghost use Rattle.std.specs.Prelude.{◌≡◌, IfErr, IfOk, option_map, slice_get};
+ghost use Rattle.std.specs.Prelude.{◌≡◌, ◌+◌, IfErr, IfOk, option_map, slice_get};
 ghost use Rattle.disk_dcdd.specs.declared.address.SectorAddress.{SectorAddress};
 ghost use Rattle.pair_protocol.specs.World.{accepted, terminal, winner_in};
 ghost use Rattle.pair_protocol.specs.Settled.{Settled};
-ghost use Rattle.shared_disk.specs.Records.{refusal_at};
+ghost use Rattle.shared_disk.specs.Records.{faults_in, refusal_at};
 ghost use Rattle.ft_world.specs.Applies.{IsSectorOf, Shows};
 ghost use Rattle.ft_world.specs.Pairs.{running_of};
 ghost use Rattle.ft_world.specs.Shows.{Agree, IsStatusAt};
@@ -44,6 +44,7 @@ impl<B: Lockstep + Drop, D: SectorStore, H: Drop> Pair<B, D, H> {
             → IsSectorOf (machine_of B.machine c) c.world address read) }
         ensures refused { IfErr result (λ fault. fault ≡ refusal_at (D.records self.old.disk) address) }
         ensures kept { D.records self.new.disk ≡ D.records self.old.disk }
+        ensures counted { D.failures self.new.disk ≡ D.failures self.old.disk + faults_in result }
         ensures others { running_of self.new ≡ record (running_of self.old) { disk = self.new.disk } }
     {
         self.disk.get(address)

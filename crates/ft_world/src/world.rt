@@ -31,13 +31,13 @@ impl<B: Lockstep + Drop, D: SectorStore, H: Drop> Model for World<B, D, H> {
 }
 
 impl<B: Lockstep + Drop, D: SectorStore, H: Drop> World<B, D, H> {
-    ghost use Rattle.std.specs.Prelude.{◌≡◌, length, IfErr, IfOk, OnErr, OnOk, option_map, slice_get};
+    ghost use Rattle.std.specs.Prelude.{◌≡◌, ◌+◌, length, IfErr, IfOk, OnErr, OnOk, option_map, slice_get};
     ghost use Rattle.disk_dcdd.specs.declared.address.SectorAddress.{SectorAddress};
     ghost use Rattle.i8080_words.specs.declared.refusal.Fault.TheVariants.{OutOfMemory};
     ghost use Rattle.pair_protocol.specs.World.{accepted, terminal, winner_in, with_host};
     ghost use Rattle.pair_protocol.specs.Settled.{Settled};
-    ghost use Rattle.shared_disk.specs.Records.{refusal_at};
-    ghost use Rattle.ft_world.specs.Applies.{Happens, IsSectorOf, Runs, Shows};
+    ghost use Rattle.shared_disk.specs.Records.{faults_in, refusal_at};
+    ghost use Rattle.ft_world.specs.Applies.{CountsFailures, Happens, IsSectorOf, Runs, Shows};
     ghost use Rattle.ft_world.specs.Beginning.{MayBegin, beginning};
     ghost use Rattle.ft_world.specs.Shows.{Agree, IsStatusAt};
     ghost use Rattle.ft_world.specs.Standing.{Course, machine_of};
@@ -58,7 +58,8 @@ impl<B: Lockstep + Drop, D: SectorStore, H: Drop> World<B, D, H> {
     /// An event happens: the reply, or why it is refused, and the world after it are the event's row, whatever world of the
     /// protocol this one showed. A refused event changes nothing, but for a node that asked the arbiter and lost.
     pub fn apply(&mut self, alloc: Global, event: Event) -> R<Reply>
-        ensures { Happens B.state B.machine D.records self.old event result self.new }
+        ensures row { Happens B.state B.machine D.records self.old event result self.new }
+        ensures counted { CountsFailures event (D.failures self.old.disk) result (D.failures self.new.disk) }
     {
         self.pair.apply(alloc, event)
     }
@@ -107,6 +108,7 @@ impl<B: Lockstep + Drop, D: SectorStore, H: Drop> World<B, D, H> {
             → IsSectorOf (machine_of B.machine c) c.world address read) }
         ensures refused { IfErr result (λ fault. fault ≡ refusal_at (D.records self.old.disk) address) }
         ensures kept { D.records self.new.disk ≡ D.records self.old.disk }
+        ensures counted { D.failures self.new.disk ≡ D.failures self.old.disk + faults_in result }
         ensures others { self.new ≡ record self.old { disk = self.new.disk } }
     {
         self.pair.sector(address)

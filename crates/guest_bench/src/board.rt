@@ -2,7 +2,7 @@
 ghost use Rattle.event_callbacks.specs.declared.devices.TheConstants.{SENT, SECTOR, WRITTEN};
 ghost use Rattle.event_callbacks.specs.Keeping.{Keeps};
 
-use event_callbacks::{Callbacks, Completes, Kept, SECTOR, SENT, WRITTEN};
+use event_callbacks::{Callbacks, Completes};
 use guest_board::{Board, Setup};
 use i8080_words::{R, Regs};
 use std::alloc::Global;
@@ -20,10 +20,7 @@ pub fn run<T: Completes + Drop, S: Completes + Drop, W: Completes + Drop>(
     requires sector { Keeps (S.may sector) (S.gives sector) SECTOR }
     requires written { Keeps (W.may written) (W.gives written) WRITTEN }
 {
-    let sent = Kept::<T, SENT>::new(sent);
-    let sector = Kept::<S, SECTOR>::new(sector);
-    let written = Kept::<W, WRITTEN>::new(written);
-    let callbacks = Callbacks::new(sent, sector, written);
+    let callbacks = Callbacks::of(sent, sector, written);
     let mut board = match Board::boot(alloc, setup, callbacks) {
         Ok(board) => board,
         Err((_callbacks, fault)) => return Err(fault),

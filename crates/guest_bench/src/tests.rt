@@ -7,9 +7,7 @@ ghost use Rattle.guest_board.specs.Lockstep.{HasRoom, IsInput};
 ghost use Rattle.plain_single.specs.Reaching.{NeverFall};
 
 use disk_dcdd::{GREATEST_NUMBER, SECTOR_BYTES, SectorAddress, SectorWrite};
-use event_callbacks::{
-    Callbacks, Completes, Kept, Operation, SECTOR, SENT, WRITTEN, plain_completions,
-};
+use event_callbacks::{Callbacks, Completes, Operation, plain_completions};
 use guest_board::{Board, Input, Setup};
 use i8080_words::{Fault, R};
 use plain_single::{Bare, Single, Timed};
@@ -257,10 +255,7 @@ fn run_program<T: Completes + Drop, S: Completes + Drop, W: Completes + Drop>(
         levels: [7, 6, 5],
         sense: 0x5a,
     };
-    let sent = Kept::<T, SENT>::new(sent);
-    let sector = Kept::<S, SECTOR>::new(sector);
-    let written = Kept::<W, WRITTEN>::new(written);
-    let callbacks = Callbacks::new(sent, sector, written);
+    let callbacks = Callbacks::of(sent, sector, written);
     let mut board = match Board::boot(rt.alloc(), &setup, callbacks) {
         Ok(board) => board,
         Err((_, fault)) => return Err(fault),

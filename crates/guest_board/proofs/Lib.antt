@@ -16,3 +16,5 @@ pub mod InLockstep
 pub mod Moves
 pub mod Booted
 pub mod Numbered
+pub mod QuietSteps
+pub mod ByName

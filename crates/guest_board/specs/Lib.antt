@@ -10,3 +10,4 @@ pub mod Inputs
 pub mod Fields
 pub mod Recorded
 pub mod Outstanding
+pub mod Running

@@ -1,38 +1,37 @@
 -- What a call does to a machine that is run in lockstep.
-use Rattle.std.specs.Prelude.{◌≡◌, ◌<◌, ◌≤◌, Option, Some, None, Result, Ok, Err, is_none, if◌then◌else◌}
+use Rattle.std.specs.Prelude.{◌≡◌, ◌<◌, ◌≤◌, Option, Some, None, option_map, Result, Ok, Err, is_none, if◌then◌else◌}
 use Rattle.i8080_words.specs.declared.refusal.Fault.{Fault}
 use Rattle.i8080_words.specs.declared.refusal.Fault.TheVariants.{OutOfMemory, Spent, Idle}
 use Rattle.disk_dcdd.specs.declared.controller.TheConstants.{DRIVES, GREATEST_NUMBER}
 use Rattle.disk_dcdd.specs.declared.sector.TheConstants.{SECTORS}
 use Rattle.event_callbacks.specs.declared.devices.TheConstants.{PORTS}
+use Rattle.event_callbacks.specs.Operations.{id_of}
+use Rattle.event_callbacks.specs.declared.operations.OpId.{OpId}
 use Rattle.event_callbacks.specs.declared.operations.Operation.{Operation}
 use Rattle.guest_board.specs.Machine.{Machine, refusal_of}
-use Rattle.guest_board.specs.declared.executed.Executed.{Executed}
-use Rattle.guest_board.specs.declared.executed.Executed.TheVariants.{Ran, Accepted}
 use Rattle.guest_board.specs.declared.input.Input.{Input}
 use Rattle.guest_board.specs.declared.input.Input.TheVariants.{Rx, Sent, Sector, Written}
-
--- the operation that a step gave
-abbrev pub given_by : Executed → Option Operation
-given_by (Ran given) = given
-given_by Accepted = None
 
 -- why no step is made, want of memory apart
 abbrev pub step_refusal : {S : Type 0} → Machine S → S → Option Fault
 step_refusal M s = if M.is_spent s then Some Spent else if is_none (M.step s) then Some Idle else None
 
+-- a step with the name of the operation that it gives
+abbrev pub named : {S : Type 0} → S × Option Operation → S × Option OpId
+named made = (made.0, option_map id_of made.1)
+
 -- a step that nothing refuses is made, or wants memory
-abbrev pub Steps : {S : Type 0} → Machine S → S → Result Executed Fault → S → Type 0
-Steps M old (Ok executed) new = M.step old ≡ Some (new, given_by executed)
+abbrev pub Steps : {S : Type 0} → Machine S → S → Result (Option OpId) Fault → S → Type 0
+Steps M old (Ok name) new = option_map named (M.step old) ≡ Some (new, name)
 Steps M old (Err fault) new = (fault ≡ OutOfMemory) × (new ≡ old)
 
 -- a step that something refuses leaves the machine as it was
-abbrev pub StepsUnless : {S : Type 0} → Machine S → S → Option Fault → Result Executed Fault → S → Type 0
+abbrev pub StepsUnless : {S : Type 0} → Machine S → S → Option Fault → Result (Option OpId) Fault → S → Type 0
 StepsUnless M old (Some fault) answer new = (answer ≡ Err fault) × (new ≡ old)
 StepsUnless M old None answer new = Steps M old answer new
 
 -- what a step answers and leaves
-abbrev pub Executes : {S : Type 0} → Machine S → S → Result Executed Fault → S → Type 0
+abbrev pub Executes : {S : Type 0} → Machine S → S → Result (Option OpId) Fault → S → Type 0
 Executes M old answer new = StepsUnless M old (step_refusal M old) answer new
 
 -- an input of a port and of a sector that are there

@@ -1,8 +1,8 @@
 //! What a step of the guest was.
 ghost use Rattle.std.specs.Prelude.{◌≡◌};
-ghost use Rattle.guest_board.specs.Lockstep.{given_by};
+ghost use Rattle.guest_board.specs.Stepping.{given_by};
 
-use event_callbacks::Operation;
+use event_callbacks::{OpId, Operation};
 
 /// What a step was.
 #[derive(Clone, Copy, Debug, PartialEq, Eq)]
@@ -23,4 +23,11 @@ impl Executed {
             Executed::Accepted => None,
         }
     }
+}
+
+// What a step was, with the name of the operation that it gave: an answer that fits in registers.
+#[derive(Clone, Copy)]
+pub(crate) enum Step {
+    Ran(Option<OpId>),
+    Accepted,
 }

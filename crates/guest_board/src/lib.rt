@@ -8,6 +8,7 @@ mod laws;
 mod lockstep;
 mod parts;
 mod ports;
+mod running;
 mod setup;
 #[cfg(test)]
 mod tests;
@@ -19,4 +20,5 @@ pub use input::Input;
 pub use laws::{boards_count, boards_issue_and_complete, the_machine_refuses_alike};
 pub use lockstep::Lockstep;
 pub use parts::BoardParts;
+pub use running::{StopReason, Stopped, run};
 pub use setup::Setup;

@@ -7,7 +7,6 @@ ghost use Rattle.disk_dcdd.specs.declared.controller.TheConstants.{DRIVES, GREAT
 ghost use Rattle.event_callbacks.specs.Operations.{id_of};
 ghost use Rattle.event_callbacks.specs.declared.devices.TheConstants.{PORTS};
 
-use crate::executed::Executed;
 use crate::input::Input;
 use disk_dcdd::SectorAddress;
 use event_callbacks::{OpId, Operation};
@@ -23,9 +22,9 @@ pub trait Lockstep: Sized {
     // How it moves. Nothing here depends on where this machine boots.
     ghost machine: { Machine State };
 
-    /// Makes one step. `Spent` where a number stands at its greatest, `Idle` where the guest waits for an interrupt,
-    /// `OutOfMemory` where an operation could not be kept; each changes nothing.
-    fn exec(&mut self) -> R<Executed>
+    /// Makes one step, and gives the name of its operation. `Spent` where a number stands at its greatest, `Idle` where the
+    /// guest waits for an interrupt, `OutOfMemory` where an operation could not be kept; each changes nothing.
+    fn step(&mut self) -> R<Option<OpId>>
         ensures { Executes machine (state self.old) result (state self.new) };
 
     /// Whether an input would be taken now: the answer that `take` would give. No number of a write that would be taken

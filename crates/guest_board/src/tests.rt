@@ -10,10 +10,7 @@ mod rebuilt;
 
 use crate::{Board, Executed, Input, Setup};
 use disk_dcdd::{SECTOR_BYTES, SectorAddress};
-use event_callbacks::{
-    Callbacks, Completes, Devices, Done, Kept, OpId, Operation, SECTOR, SENT, WRITTEN,
-    plain_completions,
-};
+use event_callbacks::{Callbacks, Completes, Devices, Done, OpId, Operation, plain_completions};
 use guest_memory::BYTES;
 use i8080_words::{Fault, R};
 use std::alloc::Global;
@@ -40,22 +37,6 @@ fn setup(alloc: Global, program: &[u8]) -> R<Setup> {
         levels: [7; 3],
         sense: 0xff,
     })
-}
-
-// Stores the three closures of a holder.
-fn store<T: Completes, S: Completes, W: Completes>(
-    sent: T,
-    sector: S,
-    written: W,
-) -> Callbacks<T, S, W>
-    requires sent { Keeps (T.may sent) (T.gives sent) SENT }
-    requires sector { Keeps (S.may sector) (S.gives sector) SECTOR }
-    requires written { Keeps (W.may written) (W.gives written) WRITTEN }
-{
-    let sent = Kept::<T, SENT>::new(sent);
-    let sector = Kept::<S, SECTOR>::new(sector);
-    let written = Kept::<W, WRITTEN>::new(written);
-    Callbacks::new(sent, sector, written)
 }
 
 // Boots a guest with this program.
@@ -95,7 +76,11 @@ fn wake<T: Completes + Drop, S: Completes + Drop, W: Completes + Drop>(
     requires sector { Keeps (S.may sector) (S.gives sector) SECTOR }
     requires written { Keeps (W.may written) (W.gives written) WRITTEN }
 {
-    let mut board = boot(rt.alloc(), &WAITS_FOR_A_KEY, store(sent, sector, written))?;
+    let mut board = boot(
+        rt.alloc(),
+        &WAITS_FOR_A_KEY,
+        Callbacks::of(sent, sector, written),
+    )?;
     step(rt, &mut board, 5);
     wait_for_a_key(rt, &mut board, 5, 0x09);
     Ok(())
@@ -265,8 +250,8 @@ fn copy_with<
     requires sector { Keeps (S.may sector) (S.gives sector) SECTOR }
     requires written { Keeps (W.may written) (W.gives written) WRITTEN }
 {
-    let first = store(sent, sector, written);
-    let second = store(other_sent, sector, written);
+    let first = Callbacks::of(sent, sector, written);
+    let second = Callbacks::of(other_sent, sector, written);
     copy(rt, first, second)
 }
 
@@ -347,7 +332,7 @@ fn read_late<T: Completes + Drop, S: Completes + Drop, W: Completes + Drop>(
     let mut board = boot(
         rt.alloc(),
         &WRITES_EACH_SECTOR,
-        store(sent, sector, written),
+        Callbacks::of(sent, sector, written),
     )?;
     step(rt, &mut board, 4);
     rewrite_each(rt, &mut board)

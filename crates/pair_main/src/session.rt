@@ -10,7 +10,7 @@ use crate::options::Order;
 use crate::report::Report;
 use crate::show::Answer;
 use disk_dcdd::SectorWrite;
-use event_callbacks::{Callbacks, Completes, Kept, PORTS, SECTOR, SENT, WRITTEN};
+use event_callbacks::{Callbacks, Completes, PORTS};
 use ft_world::{Message, World};
 use guest_board::Board;
 use i8080_words::{Fault, R};
@@ -68,22 +68,6 @@ fn writes_of(alloc: Global, sectors: &[BootSector]) -> R<Vec<SectorWrite>> {
     Ok(writes)
 }
 
-// Stores the three closures of a holder.
-fn store<T: Completes, S: Completes, W: Completes>(
-    sent: T,
-    sector: S,
-    written: W,
-) -> Callbacks<T, S, W>
-    requires sent { Keeps (T.may sent) (T.gives sent) SENT }
-    requires sector { Keeps (S.may sector) (S.gives sector) SECTOR }
-    requires written { Keeps (W.may written) (W.gives written) WRITTEN }
-{
-    let sent = Kept::<T, SENT>::new(sent);
-    let sector = Kept::<S, SECTOR>::new(sector);
-    let written = Kept::<W, WRITTEN>::new(written);
-    Callbacks::new(sent, sector, written)
-}
-
 // A pair of this setup, with its spare hosts.
 fn boot<T: Completes + Drop + Copy, S: Completes + Drop + Copy, W: Completes + Drop + Copy>(
     alloc: Global,
@@ -98,14 +82,14 @@ fn boot<T: Completes + Drop + Copy, S: Completes + Drop + Copy, W: Completes + D
     requires written { Keeps (W.may written) (W.gives written) WRITTEN }
 {
     let disk = MemoryStore::at_boot(alloc, setup.guest.drives, sectors)?;
-    let primary = store(sent, sector, written);
-    let backup = store(sent, sector, written);
+    let primary = Callbacks::of(sent, sector, written);
+    let backup = Callbacks::of(sent, sector, written);
     let mut world = match World::boot(alloc, &setup.guest, disk, primary, backup) {
         Ok(world) => world,
         Err((_disk, fault)) => return Err(fault),
     };
     for _ in 2..setup.hosts {
-        if let Err((_means, fault)) = world.host(store(sent, sector, written)) {
+        if let Err((_means, fault)) = world.host(Callbacks::of(sent, sector, written)) {
             return Err(fault);
         }
     }

@@ -45,7 +45,7 @@ winners_all M C w new (Then {mid = v} c cs) =
     (a.0 ++ b.0, b.1 ∙ ap (λ ws. ws ++ b.0) a.1 ∙ append_assoc w.winners a.0 b.0)
 
 -- a new winner is the one that was added
-winner_added : (ws : List Winner) (a : Winner) (g m : ℕ) → winner_in ws g ≡ None →
+pub winner_added : (ws : List Winner) (a : Winner) (g m : ℕ) → winner_in ws g ≡ None →
     winner_in (ws ++ a ∷ []) g ≡ Some m → (g ≡ a.generation) × (a.node ≡ m)
 winner_added [] a g m h k = go (g == a.generation) refl k
   where
@@ -79,7 +79,7 @@ spare_won Alone h = (cc)
 spare_won Spare h = refl
 
 -- it is of the highest generation
-asks_at_top : {S : Type 0} (M : Machine S) (C : Copying S) (w : World S) (i : Inv M C w) (n : ℕ) (x : Node S) →
+pub asks_at_top : {S : Type 0} (M : Machine S) (C : Copying S) (w : World S) (i : Inv M C w) (n : ℕ) (x : Node S) →
     slice_get w.nodes n ≡ Some x → (x.role ≡ Spare → ⊥) → winner_in w.winners x.generation ≡ None →
     x.generation ≡ i.top
 asks_at_top {S} M C w i n x h ns none = go (acting M C w i.top i.trace n x (i.each x.generation) h ns)

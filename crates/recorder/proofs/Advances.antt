@@ -11,7 +11,9 @@ use Rattle.log_entry.specs.declared.entry.Entry.{Entry}
 use Rattle.log_entry.specs.declared.entry.Entry.TheVariants.{Mark}
 use Rattle.plain_single.specs.Reach.{inputs, steps}
 use Rattle.recorder.specs.Laws.{RecordsSteps}
-use Rattle.recorder.specs.Recording.{Quiet, Begin, More, Advances, AllTurns, Gives, Idles, IsSpent, WantsMemory}
+use Rattle.guest_board.proofs.QuietSteps.{quiet_count}
+use Rattle.guest_board.specs.Running.{Quiet, Begin, More}
+use Rattle.recorder.specs.Recording.{Advances, AllTurns, Gives, Idles, IsSpent, WantsMemory}
 use Rattle.recorder.specs.declared.advanced.Advanced.{Advanced}
 
 -- steps that give nothing, with other moves behind them
@@ -24,13 +26,6 @@ quiet_runs : {S : Type 0} (M : Machine S) (s t u : S) (n : ℕ) (moves : List Mo
 quiet_runs M s t u n moves Begin r = r
 quiet_runs M s t u n moves (More {n = m} {t = v} q allowed made) r =
     quiet_runs M s v u m (Do None ∷ moves) q (t, made, r)
-
-quiet_count : {S : Type 0} (M : Machine S) (s t : S) (n : ℕ) → Counts M → Quiet M s n t → M.count t ≡ n + M.count s
-quiet_count M s t n counts Begin = omega arith
-quiet_count M s t n counts (More {n = m} {t = v} q allowed made) =
-    let one = counts.by_step v t None made in
-    let others = quiet_count M s v m counts q in
-    omega arith
 
 entries-quiet_moves : (n count : ℕ) (moves : List Move)
     → entries count (quiet_moves n moves) ≡ entries (n + count) moves

@@ -5,6 +5,7 @@ use Rattle.event_callbacks.specs.declared.operations.Operation.{Operation}
 use Rattle.guest_board.specs.Lockstep.{step_refusal}
 use Rattle.guest_board.specs.Machine.{Machine}
 use Rattle.guest_board.specs.Recorded.{Accepts}
+use Rattle.guest_board.specs.Running.{Quiet}
 use Rattle.guest_board.specs.declared.input.Input.{Input}
 use Rattle.i8080_words.specs.declared.refusal.Fault.{Fault}
 use Rattle.i8080_words.specs.declared.refusal.Fault.TheVariants.{OutOfMemory, Spent, Idle}
@@ -16,11 +17,6 @@ use Rattle.recorder.specs.declared.advanced.Why.{Why}
 use Rattle.recorder.specs.declared.advanced.Why.TheVariants as why
 
 -- ---- advance
-
--- so many steps, none of which gives an operation, lead from one state to another
-pub data Quiet {S : Type 0} (M : Machine S) (s : S) : ℕ → S → Type 0 where
-  Begin : Quiet M s 0 s
-  More : {n : ℕ} {t u : S} → Quiet M s n t → step_refusal M t ≡ None → M.step t ≡ Some (u, None) → Quiet M s (suc n) u
 
 abbrev pub advanced : ℕ → Why → Advanced
 advanced steps reason = record { steps = steps; why = reason }
@@ -39,6 +35,12 @@ pub data Advances {S : Type 0} (M : Machine S) (s : S) (log : Log) (turns : ℕ)
       → Advances M s log turns (advanced n why.Spent) t log
   WantsMemory : {n : ℕ} {t : S} → n < turns → Quiet M s n t → step_refusal M t ≡ None
       → Advances M s log turns (advanced n why.Memory) t log
+
+-- why a guest stops that is refused a step
+abbrev pub why_of : Fault → Why
+why_of Idle = why.Idle
+why_of Spent = why.Spent
+why_of _ = why.Memory
 
 -- the log's refusal comes before the guest's
 abbrev pub refusal_behind : Result (Unit {0}) Fault → Option Fault → Option Fault

@@ -2,5 +2,6 @@ pub mod Fronts
 pub mod Standing
 pub mod Below
 pub mod OneMove
+pub mod Stretches
 pub mod Runs
 pub mod EchoTrace

@@ -1,32 +1,32 @@
--- What the code of one move meets. Where the first entry stands at a later count, a step can be made and only memory
--- can refuse it; where it stands at the machine's count, its input, if it has one, is accepted.
-use Rattle.std.proofs.Common.{◌≡◌, ◌<◌, true, false, List, [], ◌∷◌, ◌++◌, Option, Some, None, Ok, Err, refl, sym, ap, subst, ◌∙◌, arith, drop, slice_get, cond, is_none}
+-- What the first entry that is held allows. Where it stands at a later count, a step can be made, and nothing but want
+-- of memory can refuse it; it never stands at an earlier one; where it stands at the machine's count, its input, if it
+-- has one, is accepted, and it is popped with that move.
+use Rattle.std.proofs.Common.{◌≡◌, ℕ, ◌<◌, ◌≤◌, true, false, List, [], ◌∷◌, ◌++◌, Option, Some, None, Ok, Err, refl, sym, ap, subst, ◌∙◌, arith, drop, slice_get, cond, is_none}
 use Rattle.event_callbacks.specs.declared.operations.Operation.{Operation}
-use Rattle.guest_board.specs.Lockstep.{Executes, StepsUnless, Takes as TakesInput, given_by, step_refusal}
+use Rattle.guest_board.specs.Lockstep.{Takes as TakesInput, step_refusal}
 use Rattle.guest_board.specs.Machine.{Machine}
 use Rattle.guest_board.specs.Recorded.{Counts, Accepts}
-use Rattle.guest_board.specs.declared.executed.Executed.{Executed}
 use Rattle.guest_board.specs.declared.input.Input.{Input}
 use Rattle.i8080_words.specs.declared.refusal.Fault.{Fault}
-use Rattle.i8080_words.specs.declared.refusal.Fault.TheVariants.{OutOfMemory, Spent, Idle}
+use Rattle.i8080_words.specs.declared.refusal.Fault.TheVariants.{Spent, Idle}
 use Rattle.log_entry.specs.Entries.{count_of, entries, input_of}
 use Rattle.log_entry.specs.Standing.{owed, IsOnTrace}
 use Rattle.log_entry.specs.declared.entry.Entry.{Entry}
-use Rattle.replayer.specs.Replaying.{Moves, Steps, Passes, Takes, Begin, Then, IsBehind, AnswersOne}
+use Rattle.replayer.specs.Replaying.{Moves, Passes, Takes, Replays}
 use Rattle.replayer.specs.Standing.{StaysOn}
 use Rattle.replayer.proofs.Fronts.{same_value, not_behind, NextDoes, next_does, NextTakes, next_takes}
 use Rattle.replayer.proofs.Standing.{stays_on}
 
-front_is : (held : List Entry) (e : Entry) → slice_get held 0 ≡ Some e → held ≡ e ∷ drop 1 held
+pub front_is : (held : List Entry) (e : Entry) → slice_get held 0 ≡ Some e → held ≡ e ∷ drop 1 held
 front_is [] e h = absurd cc
 front_is (x ∷ xs) e h = ap (λ x. x ∷ xs) (same_value x e h)
 
--- a move by the entries that are held keeps to the run
-pub still_on : {S : Type 0} (M : Machine S) (s t : S) (held left : List Entry) → Counts M → IsOnTrace M s held
-    → Moves M s held t left → IsOnTrace M t left
-still_on M s t held left counts on one =
+-- moves by the entries that are held keep to the run
+pub still_on : {S : Type 0} (M : Machine S) (s t : S) (held left : List Entry) (n : ℕ) → Counts M → IsOnTrace M s held
+    → Replays M s held n t left → IsOnTrace M t left
+still_on M s t held left n counts on moves =
     let x : StaysOn M s held on.owes on.moves on.last t left =
-    stays_on M s held t on.last left 1 on.owes on.moves counts (Then Begin one) on.stands in
+    stays_on M s held t on.last left n on.owes on.moves counts moves on.stands in
     record { owes = x.owes_still; moves = x.rest; last = on.last; stands = x.stands }
 
 -- the entries from the first that is held on
@@ -67,34 +67,16 @@ may_step M s held e counts on first later =
       allowed = step_allowed M s next.t next.gives counts next.made;
     }
 
-pub steps : {S : Type 0} (M : Machine S) (s t : S) (held : List Entry) (e : Entry) (executed : Executed) → Counts M
-    → IsOnTrace M s held → slice_get held 0 ≡ Some e → M.count s < count_of e → Executes M s (Ok executed) t
-    → Moves M s held t held
-steps M s t held e executed counts on first later did =
-    let may : MayStep M s = may_step M s held e counts on first later in
-    let made : M.step s ≡ Some (t, given_by executed) =
-    subst (λ refusal. StepsUnless M s refusal (Ok executed) t) may.allowed did in
-    Steps (front_is held e first) later made
-
-pub wants_memory : {S : Type 0} (M : Machine S) (s t : S) (held : List Entry) (e : Entry) (fault : Fault) → Counts M
-    → IsOnTrace M s held → slice_get held 0 ≡ Some e → M.count s < count_of e → Executes M s (Err fault) t
-    → AnswersOne M s held (Err fault) t held
-wants_memory M s t held e fault counts on first later did =
-    let may : MayStep M s = may_step M s held e counts on first later in
-    let refused : (fault ≡ OutOfMemory) × (t ≡ s) =
-    subst (λ refusal. StepsUnless M s refusal (Err fault) t) may.allowed did in
-    let behind : IsBehind M s held =
-    record { first = e; rest = drop 1 held; held_are = front_is held e first; later = later } in
-    (refused.0, behind, refused.1, refl)
-
 -- ---- an entry
+
+pub not_before : {S : Type 0} (M : Machine S) (s : S) (held : List Entry) (e : Entry) → IsOnTrace M s held
+    → slice_get held 0 ≡ Some e → M.count s ≤ count_of e
+not_before M s held e on first =
+    not_behind (M.count s) e (drop 1 held ++ on.stands.later) on.owes on.moves (next_ones M s held e on first)
 
 stands_at : {S : Type 0} (M : Machine S) (s : S) (held : List Entry) (e : Entry) → IsOnTrace M s held
     → slice_get held 0 ≡ Some e → (M.count s < count_of e → ⊥) → M.count s ≡ count_of e
-stands_at M s held e on first no_later =
-    let le = not_behind (M.count s) e (drop 1 held ++ on.stands.later) on.owes on.moves
-    (next_ones M s held e on first) in
-    omega arith
+stands_at M s held e on first no_later = let le = not_before M s held e on first in omega arith
 
 pub record MayTake {S : Type 0} (M : Machine S) (s : S) (input : Input) : Type 0 where
   pub t : S
@@ -113,15 +95,18 @@ pub no_refusal : {S : Type 0} (M : Machine S) (s t : S) (input : Input) (fault :
     → TakesInput M s input (Err fault) t → ⊥
 no_refusal M s t input fault may did = let none = may.accepts.allowed in let some = did.0 in cc
 
-pub takes : {S : Type 0} (M : Machine S) (s t : S) (held : List Entry) (e : Entry) (input : Input)
+pub takes : {S : Type 0} (M : Machine S) (s t : S) (held left : List Entry) (e : Entry) (input : Input)
     → IsOnTrace M s held → slice_get held 0 ≡ Some e → (M.count s < count_of e → ⊥) → input_of e ≡ Some input
-    → TakesInput M s input (Ok tt) t → Moves M s held t (drop 1 held)
-takes M s t held e input on first no_later has did =
+    → TakesInput M s input (Ok tt) t → left ≡ drop 1 held → Moves M s held t left
+takes M s t held left e input on first no_later has did popped =
     let may : MayTake M s input = may_take M s held e input on first no_later has in
-    Takes (front_is held e first) (stands_at M s held e on first no_later) has
-    (record { is_input = may.accepts.is_input; room = may.accepts.room; allowed = did.0; taken = did.1 })
+    subst (λ left. Moves M s held t left) (sym popped)
+    (Takes (front_is held e first) (stands_at M s held e on first no_later) has
+    (record { is_input = may.accepts.is_input; room = may.accepts.room; allowed = did.0; taken = did.1 }))
 
-pub passes : {S : Type 0} (M : Machine S) (s : S) (held : List Entry) (e : Entry) → IsOnTrace M s held
-    → slice_get held 0 ≡ Some e → (M.count s < count_of e → ⊥) → input_of e ≡ None → Moves M s held s (drop 1 held)
-passes M s held e on first no_later has =
-    Passes (front_is held e first) (stands_at M s held e on first no_later) has
+pub passes : {S : Type 0} (M : Machine S) (s : S) (held left : List Entry) (e : Entry) → IsOnTrace M s held
+    → slice_get held 0 ≡ Some e → (M.count s < count_of e → ⊥) → input_of e ≡ None → left ≡ drop 1 held
+    → Moves M s held s left
+passes M s held left e on first no_later has popped =
+    subst (λ left. Moves M s held s left) (sym popped)
+    (Passes (front_is held e first) (stands_at M s held e on first no_later) has)

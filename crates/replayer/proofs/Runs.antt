@@ -8,16 +8,20 @@ use Rattle.i8080_words.specs.declared.refusal.Fault.{Fault}
 use Rattle.log_entry.specs.Entries.{last_count}
 use Rattle.log_entry.specs.Standing.{IsOnTrace}
 use Rattle.log_entry.specs.declared.entry.Entry.{Entry}
-use Rattle.replayer.specs.Replaying.{Moves, Replays, Begin, Then, IsBehind, Ends, AllTurns, AtEnd, WantsMemory, Answers, AnswersOne}
-use Rattle.replayer.specs.Standing.{StaysOnEach, StaysOn}
+use Rattle.replayer.specs.Replaying.{Replays, Begin, Then, IsBehind, Ends, AllTurns, AtEnd, WantsMemory, Answers, AnswersStretch}
+use Rattle.replayer.specs.Standing.{StaysOnEach}
 use Rattle.replayer.specs.declared.replayer.Replayed.{Replayed}
 use Rattle.replayer.proofs.Below.{stays_below}
+use Rattle.replayer.proofs.OneMove.{still_on}
 use Rattle.replayer.proofs.Standing.{stays_on}
 
-pub goes_on : {S : Type 0} (M : Machine S) (s t u : S) (held now left : List Entry) (n : ℕ) → Replays M s held n t now
-    → Moves M t now u left → Replays M s held (n + 1) u left
-goes_on M s t u held now left n before one =
-    let e : suc n ≡ n + 1 = omega arith in subst (λ n. Replays M s held n u left) e (Then before one)
+pub goes_on : {S : Type 0} (M : Machine S) (s t : S) (held now : List Entry) (n : ℕ) (u : S) (left : List Entry)
+    (k : ℕ) → Replays M s held n t now → Replays M t now k u left → Replays M s held (n + k) u left
+goes_on M s t held now n u left k before Begin =
+    let e : n ≡ n + 0 = omega arith in subst (λ n. Replays M s held n t now) e before
+goes_on M s t held now n u left k before (Then {n = m} {t = v} {now = later} after one) =
+    let e : suc (n + m) ≡ n + suc m = omega arith in
+    subst (λ n. Replays M s held n u left) e (Then (goes_on M s t held now n v later m before after) one)
 
 -- what an answer says was replayed
 pub replayed : {S : Type 0} (M : Machine S) (s t : S) (held left : List Entry) (turns : ℕ) (r : Result Replayed Fault)
@@ -34,35 +38,31 @@ nothing_done M s held t left n e (Then before one) = absurd (omega arith)
 
 -- ---- the ways in which a replay ends
 
-pub at_end : {S : Type 0} (M : Machine S) (s v t : S) (held now left : List Entry) (turns n : ℕ) → n < turns
-    → Replays M s held n v now → AnswersOne M v now (Ok false) t left
+pub at_end : {S : Type 0} (M : Machine S) (s t : S) (held left : List Entry) (turns n : ℕ) → n < turns
+    → Replays M s held n t left → left ≡ []
     → Answers M s held turns (Ok (record { moves = n; at_end = true })) t left
-at_end M s v t held now left turns n lt before none =
-    let left_none : left ≡ [] = none.2 ∙ none.0 in
-    record {
-      replays =
-          subst (λ t. Replays M s held n t left) (sym none.1)
-          (subst (λ l. Replays M s held n v l) (sym none.2) before);
-      ends = subst (λ l. Ends M turns n t l) (sym left_none) (AtEnd lt);
-      at_end = (λ yes. left_none, λ nothing. refl);
-    }
+at_end M s t held left turns n lt before none = record {
+  replays = before;
+  ends = subst (λ l. Ends M turns n t l) (sym none) (AtEnd lt);
+  at_end = (λ yes. none, λ nothing. refl);
+}
 
 behind_still : {S : Type 0} (M : Machine S) (v t : S) (now left : List Entry) → t ≡ v → left ≡ now → IsBehind M v now
     → IsBehind M t left
 behind_still M v t now left same_state same_left behind =
     subst (λ t. IsBehind M t left) (sym same_state) (subst (λ l. IsBehind M v l) (sym same_left) behind)
 
-pub refused : {S : Type 0} (M : Machine S) (s v t : S) (held now left : List Entry) (turns n : ℕ) (fault : Fault)
-    → n < turns → n ≡ 0 → Replays M s held n v now → AnswersOne M v now (Err fault) t left
+pub refused : {S : Type 0} (M : Machine S) (s v t : S) (held now left : List Entry) (turns most n : ℕ) (fault : Fault)
+    → n < turns → n ≡ 0 → Replays M s held n v now → AnswersStretch M v now most (Err fault) t left
     → Answers M s held turns (Err fault) t left
-refused M s v t held now left turns n fault lt none before a =
+refused M s v t held now left turns most n fault lt none before a =
     let here : (v ≡ s) × (now ≡ held) = nothing_done M s held v now n none before in
     (a.0, omega arith, behind_still M v s now held (sym here.0) (sym here.1) a.1, a.2 ∙ here.0, a.3 ∙ here.1)
 
-pub stopped : {S : Type 0} (M : Machine S) (s v t : S) (held now left : List Entry) (turns n : ℕ) (fault : Fault)
-    → n < turns → 0 < n → Replays M s held n v now → AnswersOne M v now (Err fault) t left
+pub stopped : {S : Type 0} (M : Machine S) (s v t : S) (held now left : List Entry) (turns most n : ℕ) (fault : Fault)
+    → n < turns → 0 < n → Replays M s held n v now → AnswersStretch M v now most (Err fault) t left
     → Answers M s held turns (Ok (record { moves = n; at_end = false })) t left
-stopped M s v t held now left turns n fault lt some before a =
+stopped M s v t held now left turns most n fault lt some before a =
     let behind : IsBehind M t left = behind_still M v t now left a.2 a.3 a.1 in
     let left_are = behind.held_are in
     record {
@@ -78,10 +78,10 @@ stopped M s v t held now left turns n fault lt some before a =
 
 pub all_turns : {S : Type 0} (M : Machine S) (s t : S) (held left : List Entry) (turns n : ℕ) (none_held : Bool)
     → n ≡ turns → Replays M s held n t left → IsTrue none_held ↔ (left ≡ [])
-    → Answers M s held turns (Ok (record { moves = turns; at_end = none_held })) t left
+    → Answers M s held turns (Ok (record { moves = n; at_end = none_held })) t left
 all_turns M s t held left turns n none_held all before at = record {
-  replays = subst (λ n. Replays M s held n t left) all before;
-  ends = AllTurns;
+  replays = before;
+  ends = subst (λ n. Ends M turns n t left) (sym all) AllTurns;
   at_end = at;
 }
 
@@ -96,9 +96,7 @@ stays_on_each M s t held left turns r counts a = λ owes moves last stands.
 pub still_on_trace : {S : Type 0} (M : Machine S) (s t : S) (held left : List Entry) (turns : ℕ)
     (r : Result Replayed Fault) → Counts M → Answers M s held turns r t left → IsOnTrace M s held → IsOnTrace M t left
 still_on_trace M s t held left turns r counts a on =
-    let x : StaysOn M s held on.owes on.moves on.last t left =
-    stays_on_each M s t held left turns r counts a on.owes on.moves on.last on.stands in
-    record { owes = x.owes_still; moves = x.rest; last = on.last; stands = x.stands }
+    let before = replayed M s t held left turns r a in still_on M s t held left before.0 counts on before.1
 
 pub below_last : {S : Type 0} (M : Machine S) (s t : S) (held left : List Entry) (turns : ℕ)
     (r : Result Replayed Fault) → Counts M → Answers M s held turns r t left → IsOnTrace M s held

@@ -1,5 +1,5 @@
 -- What a replayer does with the entries that are held: how far it comes, and why no further.
-use Rattle.std.specs.Prelude.{◌≡◌, ℕ, suc, ◌<◌, ◌↔◌, IsTrue, List, [], ◌∷◌, Option, Some, None, Bool, true, false, Result, Ok, Err}
+use Rattle.std.specs.Prelude.{◌≡◌, ℕ, suc, ◌<◌, ◌≤◌, ◌↔◌, IsTrue, List, [], ◌∷◌, Option, Some, None, Result, Ok, Err}
 use Rattle.event_callbacks.specs.declared.operations.Operation.{Operation}
 use Rattle.guest_board.specs.Machine.{Machine}
 use Rattle.guest_board.specs.Recorded.{Accepts}
@@ -51,8 +51,8 @@ Answers M s held turns (Ok r) t left = Came M s held turns r t left
 Answers M s held turns (Err fault) t left =
     (fault ≡ OutOfMemory) × (0 < turns) × IsBehind M s held × (t ≡ s) × (left ≡ held)
 
--- what one move answers and leaves: whether it was made
-abbrev pub AnswersOne : {S : Type 0} → Machine S → S → List Entry → Result Bool Fault → S → List Entry → Type 0
-AnswersOne M s held (Ok true) t left = Moves M s held t left
-AnswersOne M s held (Ok false) t left = (held ≡ []) × (t ≡ s) × (left ≡ held)
-AnswersOne M s held (Err fault) t left = (fault ≡ OutOfMemory) × IsBehind M s held × (t ≡ s) × (left ≡ held)
+-- what a stretch of at most so many moves answers and leaves: how many were made, or that its first wants memory
+abbrev pub AnswersStretch : {S : Type 0} → Machine S → S → List Entry → ℕ → Result ℕ Fault → S → List Entry → Type 0
+AnswersStretch M s held turns (Ok made) t left = (0 < made) × (made ≤ turns) × Replays M s held made t left
+AnswersStretch M s held turns (Err fault) t left =
+    (fault ≡ OutOfMemory) × IsBehind M s held × (t ≡ s) × (left ≡ held)

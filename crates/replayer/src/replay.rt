@@ -1,11 +1,11 @@
 //! The moves of a guest by the entries that are held.
-ghost use Rattle.std.specs.Prelude.{◌≡◌};
+ghost use Rattle.std.specs.Prelude.{◌≡◌, ◌≢◌, ◌<◌, []};
 ghost use Rattle.guest_board.specs.Recorded.{Counts};
 ghost use Rattle.log_entry.specs.Standing.{IsOnTrace};
-ghost use Rattle.replayer.specs.Replaying.{Answers, AnswersOne};
+ghost use Rattle.replayer.specs.Replaying.{Answers, AnswersStretch};
 
 use crate::replayer::Replayed;
-use guest_board::Lockstep;
+use guest_board::{Lockstep, StopReason};
 use i8080_words::R;
 use log_channel::Receiver;
 
@@ -17,15 +17,16 @@ pub(crate) fn run<B: Lockstep>(board: &mut B, receiver: &mut Receiver, turns: u6
         receiver.new.entries }
     ensures held { receiver.new ≡ record receiver.old { entries = receiver.new.entries } }
 {
-    for moves in 0..turns {
-        match one_move(board, receiver) {
-            Ok(true) => {}
-            Ok(false) => {
-                return Ok(Replayed {
-                    moves,
-                    at_end: true,
-                });
-            }
+    let mut moves = 0;
+    while moves < turns {
+        if receiver.is_empty() {
+            return Ok(Replayed {
+                moves,
+                at_end: true,
+            });
+        }
+        match stretch(board, receiver, turns - moves) {
+            Ok(made) => moves += made,
             Err(fault) if moves == 0 => return Err(fault),
             Err(_) => {
                 return Ok(Replayed {
@@ -36,40 +37,47 @@ pub(crate) fn run<B: Lockstep>(board: &mut B, receiver: &mut Receiver, turns: u6
         }
     }
     Ok(Replayed {
-        moves: turns,
+        moves,
         at_end: receiver.is_empty(),
     })
 }
 
-// One move, and whether it was made: none is where no entry is held.
-fn one_move<B: Lockstep>(board: &mut B, receiver: &mut Receiver) -> R<bool>
+// Steps up to the first entry that is held, or that entry at its count: how many moves were made, of at most so many.
+fn stretch<B: Lockstep>(board: &mut B, receiver: &mut Receiver, turns: u64) -> R<u64>
     requires counts { Counts B.machine }
     requires on_trace { IsOnTrace B.machine (B.state board.old) receiver.old.entries }
-    ensures answers { AnswersOne B.machine (B.state board.old) receiver.old.entries result (B.state board.new)
-        receiver.new.entries }
+    requires some { 0 < turns }
+    requires entry { receiver.old.entries ≢ [] }
+    ensures answers { AnswersStretch B.machine (B.state board.old) receiver.old.entries turns result
+        (B.state board.new) receiver.new.entries }
     ensures on_trace { IsOnTrace B.machine (B.state board.new) receiver.new.entries }
     ensures held { receiver.new ≡ record receiver.old { entries = receiver.new.entries } }
 {
     let Some(front) = receiver.front() else {
-        return Ok(false);
+        unreachable!()
     };
-    if board.count() < front.count() {
-        return match board.exec() {
-            Ok(_) => Ok(true),
-            Err(fault) => Err(fault),
+    let ahead = front.count() - board.count();
+    if ahead > 0 {
+        let stopped = guest_board::run(board, turns.min(ahead));
+        if stopped.steps > 0 {
+            return Ok(stopped.steps);
+        }
+        let StopReason::Refused(fault) = stopped.reason else {
+            unreachable!()
         };
+        return Err(fault);
     }
     match front.input() {
         Some(input) => match board.take(input) {
             Ok(()) => {
                 receiver.pop();
-                Ok(true)
+                Ok(1)
             }
             Err(_) => unreachable!(),
         },
         None => {
             receiver.pop();
-            Ok(true)
+            Ok(1)
         }
     }
 }

@@ -7,7 +7,7 @@ use crate::tests::lines::{
     Line, ack, acked, arrive, gave, log, message, ran, release, send, sent, step,
 };
 use crate::tests::rows::{End, Sent, boot, check, node, sector, stands};
-use event_callbacks::{Completes, OpId, SECTOR, SENT, WRITTEN, plain_completions};
+use event_callbacks::{Completes, OpId, plain_completions};
 use i8080_words::{Fault, R};
 use pair_events::{Reply, Role, Why};
 use std::alloc::Global;

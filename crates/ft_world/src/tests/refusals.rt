@@ -8,8 +8,8 @@ use crate::tests::lines::{
     step, stop, suspect, told, type_byte, under,
 };
 use crate::tests::outputs::{FIRST_BYTE, after_first_byte, first_byte};
-use crate::tests::rows::{End, Sent, boot, callbacks, check, happen, node, sector};
-use event_callbacks::{Completes, OpId, SECTOR, SENT, WRITTEN, plain_completions};
+use crate::tests::rows::{End, Sent, boot, check, happen, node, sector};
+use event_callbacks::{Callbacks, Completes, OpId, plain_completions};
 use i8080_words::{Fault, R};
 use pair_events::{Reply, Role};
 use std::alloc::Global;
@@ -131,7 +131,7 @@ fn spare_hosts<T: Completes + Drop + Copy, S: Completes + Drop + Copy, W: Comple
 {
     let mut world = boot(alloc, &[], sent, sector, written)?;
     for number in 2..5 {
-        let came = match world.host(callbacks(sent, sector, written)) {
+        let came = match world.host(Callbacks::of(sent, sector, written)) {
             Err((means, Fault::OutOfMemory)) => world.host(means),
             came => came,
         };

@@ -7,7 +7,7 @@ ghost use Rattle.event_callbacks.specs.Keeping.{Keeps};
 use crate::tests::lines::Line;
 use crate::{Message, NodeStatus, World};
 use disk_dcdd::{SECTOR_BYTES, SectorAddress, SectorWrite};
-use event_callbacks::{Callbacks, Completes, Kept, SECTOR, SENT, WRITTEN, plain_completions};
+use event_callbacks::{Callbacks, Completes, plain_completions};
 use guest_board::{Board, Lockstep, Setup};
 use i8080_words::{Fault, R};
 use pair_events::Role;
@@ -87,22 +87,6 @@ fn memory(alloc: Global, program: &[u8]) -> R<Vec<u8>>
     Ok(memory)
 }
 
-/// The callbacks of one node.
-pub(crate) fn callbacks<T: Completes, S: Completes, W: Completes>(
-    sent: T,
-    sector: S,
-    written: W,
-) -> Callbacks<T, S, W>
-    requires sent { Keeps (T.may sent) (T.gives sent) SENT }
-    requires sector { Keeps (S.may sector) (S.gives sector) SECTOR }
-    requires written { Keeps (W.may written) (W.gives written) WRITTEN }
-{
-    let sent = Kept::<T, SENT>::new(sent);
-    let sector = Kept::<S, SECTOR>::new(sector);
-    let written = Kept::<W, WRITTEN>::new(written);
-    Callbacks::new(sent, sector, written)
-}
-
 /// A pair of Altairs in memory.
 pub(crate) type Altairs<T, S, W> = World<Board<T, S, W>, MemoryStore, Callbacks<T, S, W>>;
 
@@ -137,12 +121,12 @@ pub(crate) fn boot<
     requires sector { Keeps (S.may sector) (S.gives sector) SECTOR }
     requires written { Keeps (W.may written) (W.gives written) WRITTEN }
 {
-    let primary = callbacks(sent, sector, written);
-    let backup = callbacks(sent, sector, written);
+    let primary = Callbacks::of(sent, sector, written);
+    let backup = Callbacks::of(sent, sector, written);
     match boot_once(alloc, program, primary, backup) {
         Err(Fault::OutOfMemory) => {
-            let primary = callbacks(sent, sector, written);
-            let backup = callbacks(sent, sector, written);
+            let primary = Callbacks::of(sent, sector, written);
+            let backup = Callbacks::of(sent, sector, written);
             boot_once(alloc, program, primary, backup)
         }
         booted => booted,

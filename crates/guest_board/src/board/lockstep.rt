@@ -1,6 +1,6 @@
 //! A board as the layers of a pair see it.
 use super::Board;
-use crate::executed::Executed;
+use crate::executed::Step;
 use crate::input::Input;
 use crate::lockstep::Lockstep;
 use disk_dcdd::SectorAddress;
@@ -18,8 +18,12 @@ impl<T: Completes, S: Completes, W: Completes> Lockstep for Board<T, S, W> {
     ghost machine = { some_altair };
 
     #[inline(always)]
-    fn exec(&mut self) -> R<Executed> {
-        self.exec()
+    fn step(&mut self) -> R<Option<OpId>> {
+        match self.make_step() {
+            Ok(Step::Ran(name)) => Ok(name),
+            Ok(Step::Accepted) => Ok(None),
+            Err(fault) => Err(fault),
+        }
     }
 
     fn check(&self, input: &Input) -> R<()> {

@@ -3,14 +3,12 @@
 ghost use Rattle.event_callbacks.specs.declared.devices.TheConstants.{SENT, SECTOR, WRITTEN};
 ghost use Rattle.event_callbacks.specs.Keeping.{Keeps};
 
-use super::{accept_a_byte, memory, old_bytes, step, store, wait_for_a_key};
+use super::{accept_a_byte, memory, old_bytes, step, wait_for_a_key};
 use crate::{Board, BoardParts, Input};
 use disk_dcdd::{
     Controller, ControllerImage, DRIVE_SECTORS, DRIVES, Drive, GREATEST_NUMBER, Place, SectorWrite,
 };
-use event_callbacks::{
-    Callbacks, Completes, Devices, OpId, Operation, PORTS, SECTOR, SENT, WRITTEN, plain_completions,
-};
+use event_callbacks::{Callbacks, Completes, Devices, OpId, Operation, PORTS, plain_completions};
 use i8080_core::Cpu;
 use i8080_words::{AddressRegister, Fault, R};
 use serial_2sio::{Acia, Receiver, WINDOW};
@@ -208,9 +206,9 @@ fn rebuild_each<T: Completes + Drop + Copy, S: Completes + Drop + Copy, W: Compl
     requires sector { Keeps (S.may sector) (S.gives sector) SECTOR }
     requires written { Keeps (W.may written) (W.gives written) WRITTEN }
 {
-    wake(rt, store(sent, sector, written))?;
-    stop(rt, store(sent, sector, written))?;
-    wait_for_both(rt, store(sent, sector, written))
+    wake(rt, Callbacks::of(sent, sector, written))?;
+    stop(rt, Callbacks::of(sent, sector, written))?;
+    wait_for_both(rt, Callbacks::of(sent, sector, written))
 }
 
 #[test]

@@ -1,33 +1,30 @@
-use Rattle.std.proofs.Common.{refl, arith}
-use Rattle.recorder.specs.Recording.{Begin}
-use Rattle.recorder.proofs.Runs.{all_turns, goes_on, gives, stops}
+-- What stands at each way out of the steps, by the lemmas of `Runs`.
+use Rattle.std.proofs.Common.{ap, ◌∙◌, arith}
+use Rattle.log_buffer.specs.Log.{pushed}
+use Rattle.log_entry.specs.declared.entry.Entry.TheVariants.{Mark}
+use Rattle.recorder.proofs.Runs.{all_turns, gives, stops, refused}
 use Rattle.recorder.proofs.run.run.Goals as goal
 
-pub loop-steps-init : goal.loop-steps-init
-loop-steps-init g c = (Begin, refl)
+pub returns-in-Turns : goal.returns-in-Turns
+returns-in-Turns g c =
+    all_turns g.B.Lockstep.machine (g.B.Lockstep.state c.args.board.now) (g.B.Lockstep.state c.run-steps.new.guest)
+    c.args.log.now c.args.turns c.run-steps.result c.requires.some c.run-steps.ensures c.in-Turns.is
 
-pub returns-in-Ok-Some : goal.returns-in-Ok-Some
-returns-in-Ok-Some g c =
-    gives g.B.Lockstep.machine (g.B.Lockstep.state c.args.board.now) (g.B.Lockstep.state c.loop-steps.board)
-    (g.B.Lockstep.state c.step.new.board) c.args.log.now c.loop-steps.log c.step.new.log c.args.turns
-    c.loop-steps.steps c.in-Ok-Some.id c.in-Ok-Some.index (omega arith) c.loop-steps.invariant.0
-    c.loop-steps.invariant.1 (rw c.in-Ok-Some.field-0-is at c.in-Ok-Some.ensures)
+pub returns-in-Operation : goal.returns-in-Operation
+returns-in-Operation g c =
+    gives g.B.Lockstep.machine (g.B.Lockstep.state c.args.board.now) (g.B.Lockstep.state c.run-steps.new.guest)
+    c.args.log.now c.push_mark-index.new.log c.args.turns c.run-steps.result c.in-Operation.name
+    c.push_mark-index.result c.run-steps.ensures c.in-Operation.is c.push_mark-index.ensures.index
+    (c.push_mark-index.ensures.log ∙ ap (λ count. pushed c.args.log.now (Mark count)) c.count.ensures.value)
 
-pub returns-in-Err-2 : goal.returns-in-Err-2
-returns-in-Err-2 g c =
-    stops g.B.Lockstep.machine (g.B.Lockstep.state c.args.board.now) (g.B.Lockstep.state c.loop-steps.board)
-    (g.B.Lockstep.state c.step.new.board) c.args.log.now c.loop-steps.log c.step.new.log c.args.turns
-    c.loop-steps.steps c.in-Err.fault c.why_of.result (omega arith) (omega arith) c.loop-steps.invariant.0
-    c.loop-steps.invariant.1 c.why_of.ensures c.in-Err.ensures
+pub returns-in-Refused : goal.returns-in-Refused
+returns-in-Refused g c =
+    refused g.B.Lockstep.machine (g.B.Lockstep.state c.args.board.now) (g.B.Lockstep.state c.run-steps.new.guest)
+    c.args.log.now c.args.turns c.run-steps.result c.in-Refused.fault c.requires.some c.run-steps.ensures
+    c.in-Refused.is c.if-steps-eq0.true
 
-pub loop-steps-preserved : goal.loop-steps-preserved
-loop-steps-preserved g c =
-    goes_on g.B.Lockstep.machine (g.B.Lockstep.state c.args.board.now) (g.B.Lockstep.state c.loop-steps.board)
-    (g.B.Lockstep.state c.step.new.board) c.args.log.now c.loop-steps.log c.step.new.log c.loop-steps.steps
-    c.loop-steps.invariant.0 c.loop-steps.invariant.1 (rw c.in-Ok-None.field-0-is at c.in-Ok-None.ensures)
-
-pub returns : goal.returns
-returns g c =
-    all_turns g.B.Lockstep.machine (g.B.Lockstep.state c.args.board.now) (g.B.Lockstep.state c.loop-steps.board)
-    c.args.log.now c.loop-steps.log c.args.turns c.loop-steps.steps c.requires.some (omega arith)
-    c.loop-steps.invariant.0 c.loop-steps.invariant.1
+pub returns-in-Refused-2 : goal.returns-in-Refused-2
+returns-in-Refused-2 g c =
+    stops g.B.Lockstep.machine (g.B.Lockstep.state c.args.board.now) (g.B.Lockstep.state c.run-steps.new.guest)
+    c.args.log.now c.args.turns c.run-steps.result c.in-Refused-2.fault c.why_of.result c.run-steps.ensures
+    c.in-Refused-2.is (omega arith) c.why_of.ensures

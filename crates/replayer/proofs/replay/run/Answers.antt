@@ -1,47 +1,52 @@
 -- What stands at each way out of a replay, by the lemmas of `Runs`.
-use Rattle.std.proofs.Common.{refl, ap, ◌∙◌, arith}
+use Rattle.std.proofs.Common.{◌-◌, refl, ap, ◌∙◌, arith}
 use Rattle.log_channel.specs.Channel.{Receiving}
 use Rattle.replayer.specs.Replaying.{Begin}
 use Rattle.replayer.proofs.Runs.{goes_on, at_end, refused, stopped, all_turns}
 use Rattle.replayer.proofs.replay.run.Goals as goal
 
 pub loop-moves-init : goal.loop-moves-init
-loop-moves-init g c = (Begin, c.requires.on_trace, refl)
+loop-moves-init g c = record { replays = Begin; on_trace = c.requires.on_trace; within = omega arith; held = refl }
 
 pub loop-moves-preserved : goal.loop-moves-preserved
-loop-moves-preserved g c = (
-  goes_on g.B.Lockstep.machine (g.B.Lockstep.state c.args.board.now) (g.B.Lockstep.state c.loop-moves.board)
-      (g.B.Lockstep.state c.one_move.new.board) c.args.receiver.now.entries c.loop-moves.receiver.entries
-      c.one_move.new.receiver.entries c.loop-moves.moves c.loop-moves.invariant.0
-      (rw c.in-Ok-true.field-0-test at c.in-Ok-true.ensures.answers),
-  c.one_move.ensures.on_trace,
-  c.one_move.ensures.held
-      ∙ ap (λ (r : Receiving). record r { entries = c.one_move.new.receiver.entries }) c.loop-moves.invariant.2,
-)
+loop-moves-preserved g c = record {
+  replays =
+      goes_on g.B.Lockstep.machine (g.B.Lockstep.state c.args.board.now) (g.B.Lockstep.state c.loop-moves.board)
+      c.args.receiver.now.entries c.loop-moves.receiver.entries c.loop-moves.moves
+      (g.B.Lockstep.state c.stretch.new.board) c.stretch.new.receiver.entries c.in-Ok.made
+      c.loop-moves.invariant.replays c.in-Ok.ensures.answers.2;
+  on_trace = c.stretch.ensures.on_trace;
+  within = let made = c.in-Ok.ensures.answers.1 in let within = c.loop-moves.invariant.within in omega arith;
+  held =
+      c.stretch.ensures.held
+      ∙ ap (λ (r : Receiving). record r { entries = c.stretch.new.receiver.entries }) c.loop-moves.invariant.held;
+}
 
-pub returns-in-Ok-false-clause-answers : goal.returns-in-Ok-false-clause-answers
-returns-in-Ok-false-clause-answers g c =
+pub returns-then-is_empty-clause-answers : goal.returns-then-is_empty-clause-answers
+returns-then-is_empty-clause-answers g c =
     at_end g.B.Lockstep.machine (g.B.Lockstep.state c.args.board.now) (g.B.Lockstep.state c.loop-moves.board)
-    (g.B.Lockstep.state c.one_move.new.board) c.args.receiver.now.entries c.loop-moves.receiver.entries
-    c.one_move.new.receiver.entries c.args.turns c.loop-moves.moves (omega arith) c.loop-moves.invariant.0
-    (rw c.in-Ok-false.field-0-test at c.in-Ok-false.ensures.answers)
+    c.args.receiver.now.entries c.loop-moves.receiver.entries c.args.turns c.loop-moves.moves c.loop-moves-test.true
+    c.loop-moves.invariant.replays (c.is_empty.ensures.0 c.if-is_empty.true)
 
 pub returns-in-Err-clause-answers : goal.returns-in-Err-clause-answers
 returns-in-Err-clause-answers g c =
     refused g.B.Lockstep.machine (g.B.Lockstep.state c.args.board.now) (g.B.Lockstep.state c.loop-moves.board)
-    (g.B.Lockstep.state c.one_move.new.board) c.args.receiver.now.entries c.loop-moves.receiver.entries
-    c.one_move.new.receiver.entries c.args.turns c.loop-moves.moves c.in-Err.fault (omega arith) (omega arith)
-    c.loop-moves.invariant.0 c.in-Err.ensures.answers
+    (g.B.Lockstep.state c.stretch.new.board) c.args.receiver.now.entries c.loop-moves.receiver.entries
+    c.stretch.new.receiver.entries c.args.turns (c.args.turns - c.loop-moves.moves) c.loop-moves.moves c.in-Err.fault
+    c.loop-moves-test.true c.if-moves-eq0.true c.loop-moves.invariant.replays c.in-Err.ensures.answers
 
 pub returns-in-Err-2-clause-answers : goal.returns-in-Err-2-clause-answers
 returns-in-Err-2-clause-answers g c =
+    let test = c.if-moves-eq0.false in
     stopped g.B.Lockstep.machine (g.B.Lockstep.state c.args.board.now) (g.B.Lockstep.state c.loop-moves.board)
-    (g.B.Lockstep.state c.one_move.new.board) c.args.receiver.now.entries c.loop-moves.receiver.entries
-    c.one_move.new.receiver.entries c.args.turns c.loop-moves.moves c.in-Err.fault (omega arith) (omega arith)
-    c.loop-moves.invariant.0 c.in-Err.ensures.answers
+    (g.B.Lockstep.state c.stretch.new.board) c.args.receiver.now.entries c.loop-moves.receiver.entries
+    c.stretch.new.receiver.entries c.args.turns (c.args.turns - c.loop-moves.moves) c.loop-moves.moves c.in-Err.fault
+    c.loop-moves-test.true (omega arith) c.loop-moves.invariant.replays c.in-Err.ensures.answers
 
 pub returns-clause-answers : goal.returns-clause-answers
 returns-clause-answers g c =
+    let within = c.loop-moves.invariant.within in
+    let test = c.loop-moves-test.false in
     all_turns g.B.Lockstep.machine (g.B.Lockstep.state c.args.board.now) (g.B.Lockstep.state c.loop-moves.board)
-    c.args.receiver.now.entries c.loop-moves.receiver.entries c.args.turns c.loop-moves.moves c.is_empty.result
-    (omega arith) c.loop-moves.invariant.0 c.is_empty.ensures
+    c.args.receiver.now.entries c.loop-moves.receiver.entries c.args.turns c.loop-moves.moves c.is_empty-2.result
+    (omega arith) c.loop-moves.invariant.replays c.is_empty-2.ensures

@@ -10,15 +10,15 @@ use Rattle.ft_world.proofs.Applying.{handed_on}
 use Rattle.ft_world.proofs.AtLog.{hears_applies, hears_refused, hears_unknown}
 use Rattle.ft_world.proofs.pair.Pair.deliver_acknowledgement.Goals as goal
 
-pub returns-in_default : goal.returns-in_default
-returns-in_default g c = λ course h.
+pub returns-in_default-clause-row : goal.returns-in_default-clause-row
+returns-in_default-clause-row g c = λ course h.
     let e : option_and_then ack_of (slice_get c.args.self.now.messages.items c.args.message) ≡ None =
     sym c.in_default.ensures in
     hears_unknown g.B.Lockstep.state g.B.Lockstep.machine g.D.SectorStore.records (running_of c.args.self.now) course
     c.args.message c.args.node e h
 
-pub returns-in_err-held : goal.returns-in_err-held
-returns-in_err-held g c = λ course h.
+pub returns-in_err-held-clause-row : goal.returns-in_err-held-clause-row
+returns-in_err-held-clause-row g c = λ course h.
     let e : option_and_then ack_of (slice_get c.args.self.now.messages.items c.args.message)
     ≡ Some c.in-Some.packet.now = sym c.in-Some.ensures in
     let is : c.from_residual.result ≡ Err c.in_err-held.field-0.0 =
@@ -31,8 +31,8 @@ returns-in_err-held g c = λ course h.
     course c.args.message c.args.node c.in-Some.packet.now c.in_err-held.field-0.0 c.on_ack.new.hosts.items e h
     (c.in_err-held.ensures course.world.nodes h.parts.hosts))
 
-pub returns : goal.returns
-returns g c = λ course h.
+pub returns-clause-row : goal.returns-clause-row
+returns-clause-row g c = λ course h.
     let e : option_and_then ack_of (slice_get c.args.self.now.messages.items c.args.message)
     ≡ Some c.in-Some.packet.now = sym c.in-Some.ensures in
     hears_applies g.B.Lockstep.state g.B.Lockstep.machine g.D.SectorStore.records (running_of c.args.self.now)

@@ -11,15 +11,15 @@ use Rattle.ft_world.proofs.Applying.{handed_on}
 use Rattle.ft_world.proofs.AtLog.{delivers_applies, delivers_refused, delivers_unknown}
 use Rattle.ft_world.proofs.pair.Pair.deliver_log.Goals as goal
 
-pub returns-in_default : goal.returns-in_default
-returns-in_default g c = λ course h.
+pub returns-in_default-clause-row : goal.returns-in_default-clause-row
+returns-in_default-clause-row g c = λ course h.
     let e : option_and_then log_of (slice_get c.args.self.now.messages.items c.args.message) ≡ None =
     sym c.in_default.ensures in
     delivers_unknown g.B.Lockstep.state g.B.Lockstep.machine g.D.SectorStore.records (running_of c.args.self.now) course
     c.args.message c.args.node e h
 
-pub returns-in_err-on_log : goal.returns-in_err-on_log
-returns-in_err-on_log g c = λ course h.
+pub returns-in_err-on_log-clause-row : goal.returns-in_err-on_log-clause-row
+returns-in_err-on_log-clause-row g c = λ course h.
     let e : option_and_then log_of (slice_get c.args.self.now.messages.items c.args.message)
     ≡ Some c.in-Some.packet.now = sym c.in-Some.ensures in
     let is : c.from_residual.result ≡ Err c.in_err-on_log.field-0.0 =
@@ -32,8 +32,8 @@ returns-in_err-on_log g c = λ course h.
     course c.args.message c.args.node c.in-Some.packet.now c.in_err-on_log.field-0.0 c.on_log.new.hosts.items e h
     (c.in_err-on_log.ensures course.world.nodes h.parts.hosts))
 
-pub returns-then-branch : goal.returns-then-branch
-returns-then-branch g c = λ course h.
+pub returns-then-branch-clause-row : goal.returns-then-branch-clause-row
+returns-then-branch-clause-row g c = λ course h.
     let e : option_and_then log_of (slice_get c.args.self.now.messages.items c.args.message)
     ≡ Some c.in-Some.packet.now = sym c.in-Some.ensures in
     subst
@@ -44,8 +44,8 @@ returns-then-branch g c = λ course h.
     course c.args.message c.args.node c.in-Some.packet.now c.in_ok-on_log.field-0 c.on_log.new.hosts.items e h
     (c.in_ok-on_log.ensures course.world.nodes h.parts.hosts))
 
-pub returns-else-branch : goal.returns-else-branch
-returns-else-branch g c = λ course h.
+pub returns-else-branch-clause-row : goal.returns-else-branch-clause-row
+returns-else-branch-clause-row g c = λ course h.
     let e : option_and_then log_of (slice_get c.args.self.now.messages.items c.args.message)
     ≡ Some c.in-Some.packet.now = sym c.in-Some.ensures in
     subst

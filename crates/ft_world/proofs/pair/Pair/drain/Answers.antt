@@ -13,8 +13,8 @@ drain-requires-clause-on_trace g c =
     all_may_replay g.B.Lockstep.state g.B.Lockstep.machine g.D.SectorStore.records (running_of c.args.self.now)
     c.requires.shown
 
-pub returns-in_err-drained : goal.returns-in_err-drained
-returns-in_err-drained g c = λ course h.
+pub returns-in_err-drained-clause-row : goal.returns-in_err-drained-clause-row
+returns-in_err-drained-clause-row g c = λ course h.
     let e : c.from_residual.result ≡ Err c.in_err-drained.field-0.0 =
     handed_on c.from_residual.result c.in_err-drained.field-0.0 c.from_residual.ensures.1 in
     subst
@@ -25,8 +25,8 @@ returns-in_err-drained g c = λ course h.
     course c.args.node c.args.turns c.in_err-drained.field-0.0 c.drain.new.hosts.items h
     (c.in_err-drained.ensures course.world.nodes h.parts.hosts))
 
-pub returns-then-drained : goal.returns-then-drained
-returns-then-drained g c = λ course h.
+pub returns-then-drained-clause-row : goal.returns-then-drained-clause-row
+returns-then-drained-clause-row g c = λ course h.
     let d = c.in_ok-drained.drained in
     subst
     (λ b. Applies g.B.Lockstep.state g.B.Lockstep.machine g.D.SectorStore.records course
@@ -36,8 +36,8 @@ returns-then-drained g c = λ course h.
     c.args.node c.args.turns d c.drain.new.hosts.items h
     (c.in_ok-drained.ensures course.world.nodes h.parts.hosts))
 
-pub returns-else-drained : goal.returns-else-drained
-returns-else-drained g c = λ course h.
+pub returns-else-drained-clause-row : goal.returns-else-drained-clause-row
+returns-else-drained-clause-row g c = λ course h.
     let d = c.in_ok-drained.drained in
     subst
     (λ b. Applies g.B.Lockstep.state g.B.Lockstep.machine g.D.SectorStore.records course

@@ -10,14 +10,14 @@ use Rattle.ft_world.proofs.Applying.{handed_on}
 use Rattle.ft_world.proofs.DiskAnswers.{read_applies, read_refused, read_unknown}
 use Rattle.ft_world.proofs.pair.Pair.get_reply.Goals as goal
 
-pub returns-in_default : goal.returns-in_default
-returns-in_default g c = λ course h.
+pub returns-in_default-clause-row : goal.returns-in_default-clause-row
+returns-in_default-clause-row g c = λ course h.
     let brings : option_and_then sector_of (slice_get c.args.self.now.messages.items c.args.message) ≡ None = (cc) in
     read_unknown g.B.Lockstep.state g.B.Lockstep.machine g.D.SectorStore.records (running_of c.args.self.now) course
     c.args.message c.args.node brings h
 
-pub returns-in_err-under : goal.returns-in_err-under
-returns-in_err-under g c = λ course h.
+pub returns-in_err-under-clause-row : goal.returns-in_err-under-clause-row
+returns-in_err-under-clause-row g c = λ course h.
     let brings : option_and_then sector_of (slice_get c.args.self.now.messages.items c.args.message)
     ≡ Some c.in-Some.read = (cc) in
     let e : c.from_residual.result ≡ Err c.in_err-under.field-0.0 =
@@ -31,8 +31,8 @@ returns-in_err-under g c = λ course h.
     c.args.message c.args.node c.in-Some.read c.in_err-under.field-0.0 c.under.new.hosts.items brings h
     (c.in_err-under.ensures course.world.nodes h.parts.hosts))
 
-pub returns : goal.returns
-returns g c = λ course h.
+pub returns-clause-row : goal.returns-clause-row
+returns-clause-row g c = λ course h.
     let brings : option_and_then sector_of (slice_get c.args.self.now.messages.items c.args.message)
     ≡ Some c.in-Some.read = (cc) in
     read_applies g.B.Lockstep.state g.B.Lockstep.machine g.D.SectorStore.records (running_of c.args.self.now) course

@@ -10,14 +10,14 @@ use Rattle.ft_world.proofs.Applying.{handed_on}
 use Rattle.ft_world.proofs.DiskAnswers.{done_applies, done_refused, done_unknown}
 use Rattle.ft_world.proofs.pair.Pair.put_reply.Goals as goal
 
-pub returns-in_default : goal.returns-in_default
-returns-in_default g c = λ course h.
+pub returns-in_default-clause-row : goal.returns-in_default-clause-row
+returns-in_default-clause-row g c = λ course h.
     let brings : option_and_then written_of (slice_get c.args.self.now.messages.items c.args.message) ≡ None = (cc) in
     done_unknown g.B.Lockstep.state g.B.Lockstep.machine g.D.SectorStore.records (running_of c.args.self.now) course
     c.args.message c.args.node brings h
 
-pub returns-in_err-done : goal.returns-in_err-done
-returns-in_err-done g c = λ course h.
+pub returns-in_err-done-clause-row : goal.returns-in_err-done-clause-row
+returns-in_err-done-clause-row g c = λ course h.
     let brings : option_and_then written_of (slice_get c.args.self.now.messages.items c.args.message)
     ≡ Some c.in-Some.number = (cc) in
     let e : c.from_residual.result ≡ Err c.in_err-done.field-0.0 =
@@ -31,8 +31,8 @@ returns-in_err-done g c = λ course h.
     c.args.message c.args.node c.in-Some.number c.in_err-done.field-0.0 c.done.new.hosts.items brings h
     (c.in_err-done.ensures course.world.nodes h.parts.hosts))
 
-pub returns : goal.returns
-returns g c = λ course h.
+pub returns-clause-row : goal.returns-clause-row
+returns-clause-row g c = λ course h.
     let brings : option_and_then written_of (slice_get c.args.self.now.messages.items c.args.message)
     ≡ Some c.in-Some.number = (cc) in
     done_applies g.B.Lockstep.state g.B.Lockstep.machine g.D.SectorStore.records (running_of c.args.self.now) course

@@ -12,8 +12,8 @@ replay-requires-clause-on_trace g c =
     all_may_replay g.B.Lockstep.state g.B.Lockstep.machine g.D.SectorStore.records (running_of c.args.self.now)
     c.requires.shown
 
-pub returns-in_err-replayed : goal.returns-in_err-replayed
-returns-in_err-replayed g c = λ course h.
+pub returns-in_err-replayed-clause-row : goal.returns-in_err-replayed-clause-row
+returns-in_err-replayed-clause-row g c = λ course h.
     let e : c.from_residual.result ≡ Err c.in_err-replayed.field-0.0 =
     handed_on c.from_residual.result c.in_err-replayed.field-0.0 c.from_residual.ensures.1 in
     subst
@@ -24,8 +24,8 @@ returns-in_err-replayed g c = λ course h.
     course c.args.node c.args.turns c.in_err-replayed.field-0.0 c.replay.new.hosts.items h
     (c.in_err-replayed.ensures course.world.nodes h.parts.hosts))
 
-pub returns : goal.returns
-returns g c = λ course h.
+pub returns-clause-row : goal.returns-clause-row
+returns-clause-row g c = λ course h.
     replays_applies g.B.Lockstep.state g.B.Lockstep.machine g.D.SectorStore.records (running_of c.args.self.now) course
     c.args.node c.args.turns c.in_ok-replayed.replayed c.replay.new.hosts.items h
     (c.in_ok-replayed.ensures course.world.nodes h.parts.hosts)

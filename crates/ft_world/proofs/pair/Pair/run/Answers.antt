@@ -27,12 +27,13 @@ loop-event-preserved g c = record {
   shown = goes_on g.B.Lockstep.state g.B.Lockstep.machine g.D.SectorStore.records (running_of c.loop-event.self)
       (running_of c.apply-answer.new.self)
       (get_or c.args.events.now c.loop-event.event-index (event.Step 0 0)) c.apply-answer.result
-      c.loop-event.invariant.shown c.apply-answer.ensures;
+      c.loop-event.invariant.shown c.apply-answer.ensures.row;
   runs = λ course h.
-      runs_on g.B.Lockstep.state g.B.Lockstep.machine g.D.SectorStore.records (running_of c.loop-event.self)
-      (running_of c.apply-answer.new.self) course c.args.events.now c.loop-event.event-index (event.Step 0 0)
-      c.loop-event.answers.items c.push.new.self.items c.apply-answer.result c.loop-event-test.true
-      c.in-Ok.ensures.items (c.loop-event.invariant.runs course h) c.apply-answer.ensures;
+      runs_on g.B.Lockstep.state g.B.Lockstep.machine g.D.SectorStore.records (running_of c.args.self.now)
+      (running_of c.loop-event.self) (running_of c.apply-answer.new.self) course c.args.events.now
+      c.loop-event.event-index (event.Step 0 0) c.loop-event.answers.items c.push.new.self.items
+      c.apply-answer.result h c.loop-event-test.true
+      c.in-Ok.ensures.items (c.loop-event.invariant.runs course h) c.apply-answer.ensures.row;
   many = c.in-Ok.ensures.len ∙ ap (λ n. n + 1) c.loop-event.invariant.many;
   room = omega (arith, c.loop-event.invariant.room, c.in-Ok.ensures.capacity);
 }

@@ -13,8 +13,8 @@ step-requires-clause-few g c =
     all_may_run g.B.Lockstep.state g.B.Lockstep.machine g.D.SectorStore.records (running_of c.args.self.now)
     c.requires.shown
 
-pub returns-in_err-ran : goal.returns-in_err-ran
-returns-in_err-ran g c = λ course h.
+pub returns-in_err-ran-clause-row : goal.returns-in_err-ran-clause-row
+returns-in_err-ran-clause-row g c = λ course h.
     let e : c.from_residual.result ≡ Err c.in_err-ran.field-0.0 =
     handed_on c.from_residual.result c.in_err-ran.field-0.0 c.from_residual.ensures.1 in
     subst
@@ -25,8 +25,8 @@ returns-in_err-ran g c = λ course h.
     course c.args.node c.args.turns c.in_err-ran.field-0.0 c.step.new.hosts.items h
     (c.in_err-ran.ensures course.world.nodes h.parts.hosts))
 
-pub returns : goal.returns
-returns g c = λ course h.
+pub returns-clause-row : goal.returns-clause-row
+returns-clause-row g c = λ course h.
     steps_applies g.B.Lockstep.state g.B.Lockstep.machine g.D.SectorStore.records (running_of c.args.self.now) course
     c.args.node c.args.turns c.in_ok-ran.ran c.step.new.hosts.items h
     (c.in_ok-ran.ensures course.world.nodes h.parts.hosts)

@@ -13,8 +13,8 @@ use Rattle.ft_world.proofs.Applying.{handed_on}
 use Rattle.ft_world.proofs.AtOneNode.{node_applies, node_refused_surely}
 use Rattle.ft_world.proofs.pair.Pair.stop.Goals as goal
 
-pub returns-in_err-stop : goal.returns-in_err-stop
-returns-in_err-stop g c = λ course h.
+pub returns-in_err-stop-clause-row : goal.returns-in_err-stop-clause-row
+returns-in_err-stop-clause-row g c = λ course h.
     let e : c.from_residual.result ≡ Err c.in_err-stop.field-0.0 =
     handed_on c.from_residual.result c.in_err-stop.field-0.0 c.from_residual.ensures.1 in
     subst
@@ -26,8 +26,8 @@ returns-in_err-stop g c = λ course h.
     c.in_err-stop.field-0.0 c.stop.new.hosts.items h refl refl
     (c.in_err-stop.ensures course.world.nodes h.parts.hosts))
 
-pub returns : goal.returns
-returns g c = λ course h.
+pub returns-clause-row : goal.returns-clause-row
+returns-clause-row g c = λ course h.
     node_applies g.B.Lockstep.state g.B.Lockstep.machine g.D.SectorStore.records (running_of c.args.self.now) course
     (event.Stop c.args.node) c.args.node stop_refusal Halted tt reply.Stopped c.stop.new.hosts.items h refl
     (λ x y there halted. record {

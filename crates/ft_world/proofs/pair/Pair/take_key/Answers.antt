@@ -7,8 +7,8 @@ use Rattle.ft_world.proofs.Applying.{handed_on}
 use Rattle.ft_world.proofs.AtInputs.{key_applies, key_refused, key_unknown}
 use Rattle.ft_world.proofs.pair.Pair.take_key.Goals as goal
 
-pub returns-in_err-byte : goal.returns-in_err-byte
-returns-in_err-byte g c = λ course h.
+pub returns-in_err-byte-clause-row : goal.returns-in_err-byte-clause-row
+returns-in_err-byte-clause-row g c = λ course h.
     let e : c.from_residual.result ≡ Err c.in_err-byte.field-0.0 =
     handed_on c.from_residual.result c.in_err-byte.field-0.0 c.from_residual.ensures.1 in
     subst
@@ -18,8 +18,8 @@ returns-in_err-byte g c = λ course h.
     (key_unknown g.B.Lockstep.state g.B.Lockstep.machine g.D.SectorStore.records (running_of c.args.self.now) course
     c.args.node c.args.port c.args.index c.in_err-byte.field-0.0 h c.in_err-byte.ensures.answer)
 
-pub returns-in_err-key : goal.returns-in_err-key
-returns-in_err-key g c = λ course h.
+pub returns-in_err-key-clause-row : goal.returns-in_err-key-clause-row
+returns-in_err-key-clause-row g c = λ course h.
     let e : c.from_residual-in_err-key.result ≡ Err c.in_err-key.field-0.0 =
     handed_on c.from_residual-in_err-key.result c.in_err-key.field-0.0 c.from_residual-in_err-key.ensures.1 in
     subst
@@ -31,8 +31,8 @@ returns-in_err-key g c = λ course h.
     c.args.node c.args.port c.args.index c.in_ok-byte.byte c.in_err-key.field-0.0 c.key.new.hosts.items h
     c.in_ok-byte.ensures.answer (c.in_err-key.ensures course.world.nodes h.parts.hosts))
 
-pub returns : goal.returns
-returns g c = λ course h.
+pub returns-clause-row : goal.returns-clause-row
+returns-clause-row g c = λ course h.
     key_applies g.B.Lockstep.state g.B.Lockstep.machine g.D.SectorStore.records (running_of c.args.self.now) course
     c.args.node c.args.port c.args.index c.in_ok-byte.byte c.key.new.hosts.items h c.in_ok-byte.ensures.answer
     (c.in_ok-key.ensures course.world.nodes h.parts.hosts)

@@ -9,14 +9,14 @@ use Rattle.ft_world.proofs.Applying.{handed_on}
 use Rattle.ft_world.proofs.Releasing.{tells_applies, tells_nowhere, tells_refused}
 use Rattle.ft_world.proofs.pair.Pair.tell.Goals as goal
 
-pub returns-then-port-ge-PORTS : goal.returns-then-port-ge-PORTS
-returns-then-port-ge-PORTS g c = λ course h.
+pub returns-then-port-ge-PORTS-clause-row : goal.returns-then-port-ge-PORTS-clause-row
+returns-then-port-ge-PORTS-clause-row g c = λ course h.
     let high : PORTS ≤ c.args.port = omega arith in
     tells_nowhere g.B.Lockstep.state g.B.Lockstep.machine g.D.SectorStore.records (running_of c.args.self.now) course
     c.args.node c.args.port h high
 
-pub returns-in_err-keys : goal.returns-in_err-keys
-returns-in_err-keys g c = λ course h.
+pub returns-in_err-keys-clause-row : goal.returns-in_err-keys-clause-row
+returns-in_err-keys-clause-row g c = λ course h.
     let low : c.args.port < PORTS = omega arith in
     let e : c.from_residual.result ≡ Err c.in_err-keys.field-0.0 =
     handed_on c.from_residual.result c.in_err-keys.field-0.0 c.from_residual.ensures.1 in
@@ -29,8 +29,8 @@ returns-in_err-keys g c = λ course h.
     (subst (λ hs. AreHosts g.B.Lockstep.state g.B.Lockstep.machine hs course.world.nodes)
     (sym c.deref.ensures.value) h.parts.hosts)))
 
-pub returns : goal.returns
-returns g c = λ course h.
+pub returns-clause-row : goal.returns-clause-row
+returns-clause-row g c = λ course h.
     let low : c.args.port < PORTS = omega arith in
     tells_applies g.B.Lockstep.state g.B.Lockstep.machine g.D.SectorStore.records (running_of c.args.self.now) course
     c.args.node c.args.port c.in_ok-keys.keys c.tell.new.terminals h low

@@ -7,8 +7,8 @@ use Rattle.ft_world.proofs.Applying.{handed_on}
 use Rattle.ft_world.proofs.AtInputs.{sent_applies, sent_refused, sent_unknown}
 use Rattle.ft_world.proofs.pair.Pair.tell_sent.Goals as goal
 
-pub returns-in_err-check_accepted : goal.returns-in_err-check_accepted
-returns-in_err-check_accepted g c = λ course h.
+pub returns-in_err-check_accepted-clause-row : goal.returns-in_err-check_accepted-clause-row
+returns-in_err-check_accepted-clause-row g c = λ course h.
     let e : c.from_residual.result ≡ Err c.in_err-check_accepted.field-0.0 =
     handed_on c.from_residual.result c.in_err-check_accepted.field-0.0 c.from_residual.ensures.1 in
     subst
@@ -18,8 +18,8 @@ returns-in_err-check_accepted g c = λ course h.
     (sent_unknown g.B.Lockstep.state g.B.Lockstep.machine g.D.SectorStore.records (running_of c.args.self.now) course
     c.args.node c.args.port c.args.number c.in_err-check_accepted.field-0.0 h c.in_err-check_accepted.ensures.answer)
 
-pub returns-in_err-sent : goal.returns-in_err-sent
-returns-in_err-sent g c = λ course h.
+pub returns-in_err-sent-clause-row : goal.returns-in_err-sent-clause-row
+returns-in_err-sent-clause-row g c = λ course h.
     let e : c.from_residual-in_err-sent.result ≡ Err c.in_err-sent.field-0.0 =
     handed_on c.from_residual-in_err-sent.result c.in_err-sent.field-0.0 c.from_residual-in_err-sent.ensures.1 in
     subst
@@ -31,8 +31,8 @@ returns-in_err-sent g c = λ course h.
     c.args.node c.args.port c.args.number c.in_err-sent.field-0.0 c.sent.new.hosts.items h
     c.in_ok-check_accepted.ensures.answer (c.in_err-sent.ensures course.world.nodes h.parts.hosts))
 
-pub returns : goal.returns
-returns g c = λ course h.
+pub returns-clause-row : goal.returns-clause-row
+returns-clause-row g c = λ course h.
     sent_applies g.B.Lockstep.state g.B.Lockstep.machine g.D.SectorStore.records (running_of c.args.self.now) course
     c.args.node c.args.port c.args.number c.sent.new.hosts.items h c.in_ok-check_accepted.ensures.answer
     (c.in_ok-sent.ensures course.world.nodes h.parts.hosts)
