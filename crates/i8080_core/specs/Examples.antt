@@ -1,6 +1,6 @@
 -- What the tests wire a processor to: 256 bytes of memory and the byte that was last sent to a port, or a memory of any
 -- size and ports that give their own numbers changed.
-use Rattle.std.specs.Prelude.{ℕ, ◌%◌, List, slice_index, slice_index_or, slice_set}
+use Rattle.std.specs.Prelude.{ℕ, ◌%◌, bit_xor, List, slice_index, slice_index_or, slice_set}
 use Rattle.i8080_words.specs.Effects.{Access}
 use Rattle.i8080_words.specs.Effects.Access.{Write, Input, Output}
 
@@ -27,7 +27,7 @@ byte_in bytes address = slice_index_or bytes address 0
 
 -- a port gives its number, its bits 6, 4, 3 and 1 turned
 abbrev pub input_at : List ℕ → ℕ → ℕ
-input_at bytes port = xor 8 port 0x5A
+input_at bytes port = bit_xor port 0x5A
 
 -- a port keeps nothing
 abbrev pub access_of : Access → List ℕ → List ℕ
