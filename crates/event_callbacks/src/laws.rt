@@ -17,7 +17,7 @@ pub fn operations_come_and_go()
     ensures goes { (m : Operations) (i : OpId) → Goes m (without_operation m i) i }
 {}
 
-/// Each number that definitions cite by its name in the code is this one.
+/// Each number that definitions cite by its name in the code is the one stated.
 pub fn limits()
     ensures { Limits }
 {}

@@ -31,7 +31,7 @@ pub fn pages_join_to_memory()
     ensures { (memory : Pages) → IsWhole memory → JoinsItsPages memory }
 {}
 
-/// Each number that definitions cite by its name in the code is this one.
+/// Each number that definitions cite by its name in the code is the one stated.
 pub fn limits()
     ensures { Limits }
 {}

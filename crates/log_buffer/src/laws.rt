@@ -8,7 +8,7 @@ pub fn entries_keep_their_indexes()
     ensures { (log : Log) → KeepsIndexes log }
 {}
 
-/// Each number that definitions cite by its name in the code is this one.
+/// Each number that definitions cite by its name in the code is the one stated.
 pub fn limits()
     ensures { Limits }
 {}

@@ -43,7 +43,7 @@ pub fn told_keys_are_acknowledged()
         → Tells image entries (after_acknowledge c (log first (drop first entries)) held) }
 {}
 
-/// The number that definitions cite by its name in the code is this one.
+/// The number that definitions cite by its name in the code is the one stated.
 pub fn limits()
     ensures { Limits }
 {}

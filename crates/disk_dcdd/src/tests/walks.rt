@@ -141,24 +141,28 @@ impl Walk {
     }
 }
 
+// What a walk has folded in the end.
+fn folded_by(rt: &impl Abort, number: u8) -> u32 {
+    let mut walk = Walk {
+        drawn: u32::from(number),
+        folded: 2166136261,
+        disk: Controller::new(number % 4 + 1),
+    };
+    for _ in 0..2000 {
+        let kind = walk.byte() % 16;
+        let drawn = walk.byte();
+        walk.call(rt, kind, drawn);
+        let status = walk.disk.status();
+        walk.fold(status);
+        let line = walk.disk.line();
+        walk.fold(u8::from(line));
+    }
+    walk.folded
+}
+
 #[test]
 fn walks_fold_to_the_numbers_of_another_program(rt: HostRuntime) {
     for (number, folded) in FOLDED.iter().enumerate() {
-        let number = number as u8;
-        let mut walk = Walk {
-            drawn: u32::from(number),
-            folded: 2166136261,
-            disk: Controller::new(number % 4 + 1),
-        };
-        for _ in 0..2000 {
-            let kind = walk.byte() % 16;
-            let drawn = walk.byte();
-            walk.call(&rt, kind, drawn);
-            let status = walk.disk.status();
-            walk.fold(status);
-            let line = walk.disk.line();
-            walk.fold(u8::from(line));
-        }
-        assert_eq!(rt; walk.folded, *folded, "walk {number}");
+        assert_eq!(rt; folded_by(&rt, number as u8), *folded, "walk {number}");
     }
 }

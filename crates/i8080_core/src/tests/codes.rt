@@ -144,21 +144,30 @@ impl Machine {
         }
     }
 
-    // Folds what was written, and takes it back.
-    fn fold_writes(&mut self, fold: &mut Fold, before: &[u8]) {
+    // Puts back what stood at an address.
+    fn restore(&mut self, address: u16, before: &[u8]) {
+        let byte = before.get(address as usize).copied().unwrap_or(0);
+        self.put(address, byte);
+    }
+
+    // What is folded of what was written.
+    fn written_sum(&self) -> u32 {
         let mut sum = 0u32;
         for address in self.written.iter().flatten() {
             let content = u32::from(*address) * 256 + u32::from(self.read(*address));
             sum = sum.wrapping_add(content.wrapping_mul(2654435761));
         }
-        for address in self.written.iter().flatten() {
-            let byte = before.get(*address as usize).copied().unwrap_or(0);
-            if let Some(place) = self.bytes.get_mut(*address as usize) {
-                *place = byte;
-            }
+        sum
+    }
+
+    // Puts back what stood where a step wrote, and forgets the step.
+    fn take_back(&mut self, before: &[u8]) {
+        let written = self.written;
+        for address in written.iter().flatten() {
+            self.restore(*address, before);
         }
         self.written = [None; 2];
-        fold.bytes(&sum.to_be_bytes());
+        self.port = None;
     }
 }
 
@@ -223,6 +232,13 @@ fn fold_port(fold: &mut Fold, access: Option<PortAccess>) {
     }
 }
 
+// The processor after a step.
+fn stepped(processor: Processor, machine: &mut Machine) -> Processor {
+    let mut cpu = Cpu::resume(processor);
+    let _ran = cpu.step(machine, None);
+    *cpu.processor()
+}
+
 // One round of a code.
 fn round(code: u8, draw: &mut Draw, fold: &mut Fold, machine: &mut Machine, before: &[u8]) {
     let processor = drawn_processor(draw);
@@ -231,15 +247,14 @@ fn round(code: u8, draw: &mut Draw, fold: &mut Fold, machine: &mut Machine, befo
     for (place, byte) in places.iter().zip(&[code, draw.byte(), draw.byte()]) {
         machine.put(*place, *byte);
     }
-    let mut cpu = Cpu::resume(processor);
-    let _ran = cpu.step(machine, None);
-    fold_processor(fold, cpu.processor());
-    fold_port(fold, machine.port);
-    machine.port = None;
-    machine.fold_writes(fold, before);
+    let after = stepped(processor, machine);
+    fold_processor(fold, &after);
+    let port = machine.port;
+    fold_port(fold, port);
+    fold.bytes(&machine.written_sum().to_be_bytes());
+    machine.take_back(before);
     for place in &places {
-        let byte = before.get(*place as usize).copied().unwrap_or(0);
-        machine.put(*place, byte);
+        machine.restore(*place, before);
     }
 }
 

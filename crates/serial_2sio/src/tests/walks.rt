@@ -73,21 +73,26 @@ impl Walk {
     }
 }
 
+// What a walk has folded in the end.
+fn folded_by(number: u32) -> u32 {
+    let mut walk = Walk {
+        drawn: number,
+        folded: 2166136261,
+        port: Acia::new(),
+    };
+    for _ in 0..2000 {
+        let kind = walk.byte() % 8;
+        let drawn = walk.byte();
+        walk.call(kind, drawn);
+        let line = walk.port.line();
+        walk.fold(u8::from(line));
+    }
+    walk.folded
+}
+
 #[test]
 fn walks_fold_to_the_numbers_of_another_program(rt: HostRuntime) {
     for (number, folded) in FOLDED.iter().enumerate() {
-        let mut walk = Walk {
-            drawn: number as u32,
-            folded: 2166136261,
-            port: Acia::new(),
-        };
-        for _ in 0..2000 {
-            let kind = walk.byte() % 8;
-            let drawn = walk.byte();
-            walk.call(kind, drawn);
-            let line = walk.port.line();
-            walk.fold(u8::from(line));
-        }
-        assert_eq!(rt; walk.folded, *folded, "walk {number}");
+        assert_eq!(rt; folded_by(number as u32), *folded, "walk {number}");
     }
 }
