@@ -1,6 +1,5 @@
 -- The bits of OUT 08h and OUT 09h, and what they do to a drive, the sector under its head and the interrupt enable.
 use Rattle.std.specs.Prelude.{ℕ, ◌+◌, ◌-◌, ◌/◌, ◌%◌, ◌^◌, Bool, true, false, not, ◌==◌, nat_lt, min, if◌then◌else◌, ◌&&◌, ◌||◌, Option, Some, None}
-use Rattle.disk_dcdd.specs.declared.commands.TheConstants.{DESELECT, STEP_IN, STEP_OUT, HEAD_LOAD, HEAD_UNLOAD, INTERRUPT_ENABLE, INTERRUPT_DISABLE, WRITE_ENABLE}
 use Rattle.disk_dcdd.specs.declared.drive.TheConstants.{TRACKS}
 use Rattle.disk_dcdd.specs.declared.drive.Drive.{Drive}
 use Rattle.disk_dcdd.specs.declared.sector.CurrentSector.{CurrentSector}
@@ -10,6 +9,38 @@ use Rattle.disk_dcdd.specs.Sector.{is_written}
 abbrev pub drive_at_boot : Drive
 drive_at_boot = record { track = 0; loaded = false }
 
+-- OUT 08h bit 7, no drive
+abbrev pub deselect : ℕ
+deselect = 7
+
+-- OUT 09h bit 0, step in
+abbrev pub step_in : ℕ
+step_in = 0
+
+-- OUT 09h bit 1, step out
+abbrev pub step_out : ℕ
+step_out = 1
+
+-- OUT 09h bit 2, head load
+abbrev pub head_load : ℕ
+head_load = 2
+
+-- OUT 09h bit 3, head unload
+abbrev pub head_unload : ℕ
+head_unload = 3
+
+-- OUT 09h bit 4, interrupt enable
+abbrev pub interrupt_enable : ℕ
+interrupt_enable = 4
+
+-- OUT 09h bit 5, interrupt disable
+abbrev pub interrupt_disable : ℕ
+interrupt_disable = 5
+
+-- OUT 09h bit 7, write enable; bit 6 switches the head's current, which changes nothing that a program sees
+abbrev pub write_enable : ℕ
+write_enable = 7
+
 -- a bit of a byte
 abbrev pub has_bit : ℕ → ℕ → Bool
 has_bit byte bit = byte / 2 ^ bit % 2 == 1
@@ -18,7 +49,7 @@ has_bit byte bit = byte / 2 ^ bit % 2 == 1
 abbrev pub selected_by : ℕ → ℕ → Option ℕ
 selected_by byte attached =
     let drive = byte % 16 in
-    if not (has_bit byte DESELECT) && nat_lt drive attached then Some drive else None
+    if not (has_bit byte deselect) && nat_lt drive attached then Some drive else None
 
 -- the head one track inwards, at most to the last track
 abbrev pub stepped_in : Drive → Drive
@@ -43,27 +74,27 @@ where_set command bit change drive = if has_bit command bit then change drive el
 -- OUT 09h on the selected drive, bits 0 upwards
 abbrev pub commanded_drive : ℕ → Drive → Drive
 commanded_drive command drive =
-    let after_in = where_set command STEP_IN stepped_in drive in
-    let after_out = where_set command STEP_OUT stepped_out after_in in
-    let after_load = where_set command HEAD_LOAD loaded after_out in
-    where_set command HEAD_UNLOAD unloaded after_load
+    let after_in = where_set command step_in stepped_in drive in
+    let after_out = where_set command step_out stepped_out after_in in
+    let after_load = where_set command head_load loaded after_out in
+    where_set command head_unload unloaded after_load
 
--- OUT 09h on the interrupt enable: bit 4 sets it, and then bit 5 clears it
+-- OUT 09h on the interrupt enable: it is set, and then cleared
 abbrev pub commanded_interrupts : ℕ → Bool → Bool
 commanded_interrupts command enabled =
-    (enabled || has_bit command INTERRUPT_ENABLE) && not (has_bit command INTERRUPT_DISABLE)
+    (enabled || has_bit command interrupt_enable) && not (has_bit command interrupt_disable)
 
 -- a step or an unload takes the head off the sector
 abbrev pub moves_head : ℕ → Bool
-moves_head command = has_bit command STEP_IN || has_bit command STEP_OUT || has_bit command HEAD_UNLOAD
+moves_head command = has_bit command step_in || has_bit command step_out || has_bit command head_unload
 
 -- a write of the sector starts, with no byte filled in
 abbrev pub started : CurrentSector → CurrentSector
 started s = record s { filled = Some 0 }
 
--- OUT 09h on the sector under the head: it leaves where it is being written or the head moves off it, and bit 7 starts
--- a write of one that stays
+-- OUT 09h on the sector under the head: it leaves where it is being written or the head moves off it, and a write may
+-- start of one that stays
 abbrev pub commanded_sector : ℕ → Option CurrentSector → Option CurrentSector
 commanded_sector command None = None
 commanded_sector command (Some s) =
-    if is_written s || moves_head command then None else Some (if has_bit command WRITE_ENABLE then started s else s)
+    if is_written s || moves_head command then None else Some (if has_bit command write_enable then started s else s)

@@ -1,13 +1,12 @@
 -- The drive table: what the ports of the controller show, and what each access does.
-use Rattle.std.specs.Prelude.{ℕ, ◌+◌, Bool, false, ◌==◌, nat_lt, if◌then◌else◌, ◌&&◌, Option, Some, None, is_some, option_and_then, List, [], ◌∷◌, ◌++◌, length, slice_index_or, slice_set, replicate}
+use Rattle.std.specs.Prelude.{ℕ, ◌+◌, ◌^◌, Bool, true, false, ◌==◌, nat_lt, if◌then◌else◌, ◌&&◌, Option, Some, None, is_some, option_and_then, List, [], ◌∷◌, ◌++◌, length, slice_index_or, slice_set, replicate}
 use Rattle.std.specs.Option.{option_map_or}
-use Rattle.disk_dcdd.specs.declared.controller.TheConstants.{DRIVES, OUTSTANDING, ENTER_NEW_WRITE_DATA, HEAD_STATUS, INTERRUPTS_ENABLED, TRACK_ZERO, NEW_READ_DATA_AVAILABLE}
-use Rattle.disk_dcdd.specs.declared.sector.TheConstants.{LAST_BYTE, NOTHING}
+use Rattle.disk_dcdd.specs.declared.controller.TheConstants.{DRIVES, OUTSTANDING}
 use Rattle.disk_dcdd.specs.declared.drive.Drive.{Drive}
 use Rattle.disk_dcdd.specs.declared.sector.CurrentSector.{CurrentSector}
 use Rattle.disk_dcdd.specs.declared.sector.Place.{Place}
 use Rattle.disk_dcdd.specs.declared.sector.SectorWrite.{SectorWrite}
-use Rattle.disk_dcdd.specs.Sector.{place_of, has_new_data, enters_new_data, may_fill, shown_position, after_showing, next_byte, after_reading, with_byte_filled}
+use Rattle.disk_dcdd.specs.Sector.{last_byte, nothing, place_of, has_new_data, enters_new_data, may_fill, shown_position, after_showing, next_byte, after_reading, with_byte_filled}
 use Rattle.disk_dcdd.specs.Command.{drive_at_boot, selected_by, commanded_drive, commanded_interrupts, commanded_sector}
 
 -- the controller: how many drives are attached, which is selected, the track and the head of each, the interrupt
@@ -45,22 +44,43 @@ has_room d = nat_lt (length d.outstanding) OUTSTANDING
 abbrev pub after_select : Drives → ℕ → Drives
 after_select d byte = record d { selected = selected_by byte d.attached; current = None }
 
--- a status bit is 0 where its fact holds
-abbrev pub low : Bool → ℕ → ℕ
-low holds bit = if holds then 0 else bit
+-- status bit 0, ENWD, enter new write data
+abbrev pub enwd : ℕ
+enwd = 0
 
--- IN 08h of this drive, bits 0 upwards; bit 1, that the head may move, is 0, and so are bits 3 and 4
+-- status bit 2, head status
+abbrev pub head_status : ℕ
+head_status = 2
+
+-- status bit 5, interrupts enabled
+abbrev pub interrupts_enabled : ℕ
+interrupts_enabled = 5
+
+-- status bit 6, track 0
+abbrev pub track_zero : ℕ
+track_zero = 6
+
+-- status bit 7, NRDA, new read data available
+abbrev pub nrda : ℕ
+nrda = 7
+
+-- a status bit is 0 where its fact holds
+abbrev pub low : ℕ → Bool → ℕ
+low bit true = 0
+low bit false = 2 ^ bit
+
+-- IN 08h of this drive; bit 1, that the head may move, is 0, and so are bits 3 and 4
 abbrev pub status_with : Drives → ℕ → ℕ
 status_with d drive =
-    low (enters_new_data (has_room d) d.current) ENTER_NEW_WRITE_DATA
-    + low (drive_of d drive).loaded HEAD_STATUS
-    + low d.interrupts INTERRUPTS_ENABLED
-    + low ((drive_of d drive).track == 0) TRACK_ZERO
-    + low (has_new_data d.current) NEW_READ_DATA_AVAILABLE
+    low enwd (enters_new_data (has_room d) d.current)
+    + low head_status (drive_of d drive).loaded
+    + low interrupts_enabled d.interrupts
+    + low track_zero ((drive_of d drive).track == 0)
+    + low nrda (has_new_data d.current)
 
 -- IN 08h of the selected drive
 abbrev pub status_of : Drives → ℕ
-status_of d = option_map_or (status_with d) d.selected NOTHING
+status_of d = option_map_or (status_with d) d.selected nothing
 
 -- OUT 09h on this drive, the interrupt enable and the sector under the head
 abbrev pub commanded : Drives → ℕ → ℕ → Drives
@@ -103,7 +123,7 @@ write_of d s drive = record {
 -- OUT 0Ah, where this many bytes of the sector are filled in: byte 137 issues the write if there is room for one
 abbrev pub issued_at : Drives → ℕ → ℕ → CurrentSector → ℕ → Option SectorWrite
 issued_at d byte drive s filled =
-    if filled == LAST_BYTE && has_room d then Some (write_of d (with_byte_filled s filled byte) drive) else None
+    if filled == last_byte && has_room d then Some (write_of d (with_byte_filled s filled byte) drive) else None
 
 -- the write that OUT 0Ah issues, if any
 abbrev pub issued_by : Drives → ℕ → Option SectorWrite

@@ -1,10 +1,22 @@
 -- A sector: where its writes go, and what of it is shown, read and filled in while it is under the head.
 use Rattle.std.specs.Prelude.{ℕ, ◌+◌, ◌*◌, ◌<◌, Bool, false, true, not, ◌==◌, nat_lt, if◌then◌else◌, ◌&&◌, ◌||◌, Option, Some, None, is_some, IfSome, List, slice_index, slice_set}
 use Rattle.std.specs.Option.{option_map_or}
-use Rattle.disk_dcdd.specs.declared.sector.TheConstants.{SECTOR_BYTES, LAST_BYTE, NOTHING, SECTOR_TRUE}
+use Rattle.disk_dcdd.specs.declared.sector.TheConstants.{SECTOR_BYTES}
 use Rattle.disk_dcdd.specs.declared.sector.CurrentSector.{CurrentSector}
 use Rattle.disk_dcdd.specs.declared.sector.Place.{Place}
 use Rattle.disk_dcdd.specs.declared.sector.SectorWrite.{SectorWrite}
+
+-- the place of byte 137, a sector's last
+abbrev pub last_byte : ℕ
+last_byte = 136
+
+-- what a port gives that has nothing to show
+abbrev pub nothing : ℕ
+nothing = 0xFF
+
+-- IN 09h bits 7 and 6 are 1, bits 5 to 1 number the sector, and bit 0 is 0 while one is there
+abbrev pub position_at : ℕ → ℕ
+position_at sector = 0xC0 + 2 * sector
 
 -- where a write goes
 abbrev pub place_of : SectorWrite → Place
@@ -38,7 +50,7 @@ has_new_data (Some s) = may_read s
 
 -- fewer than 137 bytes are filled in, and byte 137 waits until there is room for the write
 abbrev pub may_fill : Bool → ℕ → Bool
-may_fill has_room filled = nat_lt filled SECTOR_BYTES && (has_room || not (filled == LAST_BYTE))
+may_fill has_room filled = nat_lt filled SECTOR_BYTES && (has_room || not (filled == last_byte))
 
 -- ENWD, enter new write data: the sector is being written, and its next byte may be filled in
 abbrev pub enters_new_data : Bool → Option CurrentSector → Bool
@@ -51,8 +63,8 @@ is_shown_now s = is_written s || not s.shown
 
 -- the position that IN 09h gives
 abbrev pub shown_position : Option CurrentSector → ℕ
-shown_position None = NOTHING
-shown_position (Some s) = if is_shown_now s then SECTOR_TRUE + 2 * s.sector else NOTHING
+shown_position None = nothing
+shown_position (Some s) = if is_shown_now s then position_at s.sector else nothing
 
 -- the sector after IN 09h; one that is not shown leaves
 abbrev pub after_showing : Option CurrentSector → Option CurrentSector
@@ -61,12 +73,12 @@ after_showing (Some s) = if is_shown_now s then Some (record s { shown = true })
 
 -- the byte that IN 0Ah gives: the next one where new read data is available
 abbrev pub next_byte : Option CurrentSector → ℕ
-next_byte None = NOTHING
-next_byte (Some s) = if may_read s then slice_index s.bytes s.read else NOTHING
+next_byte None = nothing
+next_byte (Some s) = if may_read s then slice_index s.bytes s.read else nothing
 
 -- one more byte is read; after byte 137 the sector leaves
 abbrev pub with_byte_read : CurrentSector → Option CurrentSector
-with_byte_read s = if s.read == LAST_BYTE then None else Some (record s { read = s.read + 1 })
+with_byte_read s = if s.read == last_byte then None else Some (record s { read = s.read + 1 })
 
 -- the sector after IN 0Ah
 abbrev pub after_reading : Option CurrentSector → Option CurrentSector

@@ -1,5 +1,5 @@
 //! The controller: its state, its ports and its interrupt line.
-ghost use Rattle.std.specs.Prelude.{◌≡◌, ◌<◌, ◌≤◌};
+ghost use Rattle.std.specs.Prelude.{◌≡◌, ◌<◌, ◌≤◌, if◌then◌else◌};
 ghost use Rattle.disk_dcdd.specs.Drive as table;
 
 mod completions;
@@ -174,7 +174,7 @@ impl Controller {
 
 // A status bit, which is 0 while its fact holds.
 fn low(holds: bool, bit: u8) -> u8
-    ensures value { result ≡ table.low holds bit }
+    ensures value { result ≡ (if holds then 0 else bit) }
     ensures within { result ≤ bit }
 {
     if holds { 0 } else { bit }

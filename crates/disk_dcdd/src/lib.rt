@@ -6,6 +6,7 @@ mod address;
 mod commands;
 mod controller;
 mod drive;
+mod laws;
 mod sector;
 #[cfg(test)]
 mod tests;
@@ -13,4 +14,5 @@ mod tests;
 pub use address::{DRIVE_SECTORS, SectorAddress, sectors_stand_apart};
 pub use controller::{Controller, ControllerImage, DRIVES, GREATEST_NUMBER, OUTSTANDING};
 pub use drive::{Drive, TRACKS};
+pub use laws::limits;
 pub use sector::{CurrentSector, Place, SECTOR_BYTES, SECTORS, SectorWrite};

@@ -1,4 +1,7 @@
 //! The controller as a guest and a disk use it, and as an image holds it.
+mod rows;
+mod walks;
+
 use crate::*;
 use i8080_words::Fault;
 use std::process::Abort;

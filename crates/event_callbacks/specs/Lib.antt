@@ -1,3 +1,4 @@
+pub mod Limits
 pub mod Completions
 pub mod Keeping
 pub mod Callbacks

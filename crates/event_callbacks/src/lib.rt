@@ -12,6 +12,6 @@ mod tests;
 
 pub use callbacks::{Callbacks, Completes, Kept};
 pub use devices::{Devices, Done, PORTS, SECTOR, SENT, WRITTEN};
-pub use laws::operations_come_and_go;
+pub use laws::{limits, operations_come_and_go, plain_completions_may_be_stored};
 pub use operations::{OpId, Operation};
 pub use pending::Pending;

@@ -117,6 +117,7 @@ fn store_twice<T: Completes + Copy>(sent: T)
 
 #[test]
 fn a_closure_serves_two_holders() {
+    plain_completions_may_be_stored();
     store_twice(plain_completions::sent);
     let holder = 3u8;
     store_twice(

@@ -6,6 +6,7 @@ ghost use Rattle.event_callbacks.specs.Completions.{is_due, done_of};
 ghost use Rattle.event_callbacks.specs.Keeping.{Keeps, kind_of};
 ghost use Rattle.guest_memory.specs.declared.memory.TheConstants.{BYTES};
 
+mod devices;
 mod rebuilt;
 
 use crate::{Board, Executed, Input, Setup};

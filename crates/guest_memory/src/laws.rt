@@ -3,6 +3,7 @@
 ghost use Rattle.std.specs.Prelude.{◌≡◌, ℕ, ◌^◌, ◌<◌, List, length, slice_index};
 ghost use Rattle.guest_memory.specs.declared.memory.TheConstants.{BYTES};
 ghost use Rattle.guest_memory.specs.Laws.{CountsWrites, JoinsItsPages, ReadsBack};
+ghost use Rattle.guest_memory.specs.Limits.{Limits};
 ghost use Rattle.guest_memory.specs.Pages.{IsWhole, Pages, byte_at, cleared, unwritten, version_at};
 
 /// What is written at an address is read there, and nowhere else.
@@ -28,4 +29,9 @@ pub fn new_memory_is_unwritten()
 #[tactic(auto, using(crate::proofs::JoinedPages::pages_join))]
 pub fn pages_join_to_memory()
     ensures { (memory : Pages) → IsWhole memory → JoinsItsPages memory }
+{}
+
+/// Each number that definitions cite by its name in the code is the one stated.
+pub fn limits()
+    ensures { Limits }
 {}

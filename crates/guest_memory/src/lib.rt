@@ -7,6 +7,6 @@ mod memory;
 mod tests;
 
 pub use laws::{
-    new_memory_is_unwritten, pages_join_to_memory, versions_count_writes, writes_read_back,
+    limits, new_memory_is_unwritten, pages_join_to_memory, versions_count_writes, writes_read_back,
 };
 pub use memory::{BYTES, Memory, PAGE_BYTES, PAGES};

@@ -1,5 +1,6 @@
--- What the tests wire a processor to: 256 bytes of memory, and the byte that was last sent to a port.
-use Rattle.std.specs.Prelude.{ℕ, ◌%◌, List, slice_index, slice_set}
+-- What the tests wire a processor to: 256 bytes of memory and the byte that was last sent to a port, or a memory of any
+-- size and ports that give their own numbers changed.
+use Rattle.std.specs.Prelude.{ℕ, ◌%◌, bit_xor, List, slice_index, slice_index_or, slice_set}
 use Rattle.i8080_words.specs.Effects.{Access}
 use Rattle.i8080_words.specs.Effects.Access.{Write, Input, Output}
 
@@ -19,3 +20,17 @@ abbrev pub access : Access → Wires → Wires
 access (Write address byte) w = record w { bytes = slice_set w.bytes (address % 256) byte }
 access (Input port) w = w
 access (Output port byte) w = record w { sent = byte }
+
+-- the byte at an address, 00 past the end
+abbrev pub byte_in : List ℕ → ℕ → ℕ
+byte_in bytes address = slice_index_or bytes address 0
+
+-- a port gives its number, its bits 6, 4, 3 and 1 turned
+abbrev pub input_at : List ℕ → ℕ → ℕ
+input_at bytes port = bit_xor port 0x5A
+
+-- a port keeps nothing
+abbrev pub access_of : Access → List ℕ → List ℕ
+access_of (Write address byte) bytes = slice_set bytes address byte
+access_of (Input port) bytes = bytes
+access_of (Output port byte) bytes = bytes

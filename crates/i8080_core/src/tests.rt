@@ -2,6 +2,8 @@
 ghost use Rattle.std.specs.Prelude.{◌≡◌};
 ghost use Rattle.i8080_core.specs.Examples.{Wires, byte_at as byte_of_wires, input_byte as input_of_wires, access};
 
+mod codes;
+
 use crate::{Bus, Cpu};
 use i8080_words::{AddressRegister, Processor, Regs, Stepped};
 use std::process::Abort;

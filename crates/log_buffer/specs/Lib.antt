@@ -1,3 +1,4 @@
 pub mod Log
 pub mod Buffer
 pub mod Laws
+pub mod Limits

@@ -7,4 +7,4 @@ mod laws;
 mod tests;
 
 pub use buffer::{CAPACITY, GREATEST_NEXT, LogBuffer};
-pub use laws::entries_keep_their_indexes;
+pub use laws::{entries_keep_their_indexes, limits};

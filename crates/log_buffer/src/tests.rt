@@ -43,3 +43,14 @@ fn entries_are_kept_until_they_are_dropped(rt: HostRuntime) -> R<()> {
     assert_eq!(rt; log.get(299), Some(&mark(299)));
     Ok(())
 }
+
+#[test]
+fn a_full_log_is_full_before_it_is_spent(rt: HostRuntime) -> R<()> {
+    let mut log = LogBuffer::new(rt.alloc(), 0x3fff_ffff_ffff_feff)?;
+    for count in 0..256 {
+        assert!(rt; log.push(mark(count)).is_ok());
+    }
+    assert_eq!(rt; log.next(), GREATEST_NEXT);
+    assert_eq!(rt; log.push(mark(256)), Err(Fault::LogFull));
+    Ok(())
+}

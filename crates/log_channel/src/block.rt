@@ -17,13 +17,14 @@ pub(crate) struct Block {
 }
 
 impl Model for Block {
-    ghost use Rattle.std.specs.Prelude.{ℕ, List, ◌≤◌, length, drop};
+    ghost use Rattle.std.specs.Prelude.{ℕ, List, ◌*◌, ◌≤◌, length, drop};
 
     ghost Value = { List ℕ };
 
     ghost view = { λ b. drop b.start b.bytes.items };
 
-    ghost invariant = { λ b. b.start ≤ length b.bytes.items };
+    // What was taken is at most half of what is kept.
+    ghost invariant = { λ b. 2 * b.start ≤ length b.bytes.items };
 }
 
 impl Block {

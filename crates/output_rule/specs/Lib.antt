@@ -3,3 +3,4 @@ pub mod Keys
 pub mod Covering
 pub mod Coverage
 pub mod Laws
+pub mod Limits

@@ -5,6 +5,7 @@ ghost use Rattle.log_buffer.specs.Log.{log};
 ghost use Rattle.log_entry.specs.declared.entry.Entry.{Entry};
 ghost use Rattle.output_rule.specs.Covering.{Covering, after_acknowledge, nothing_acknowledged};
 ghost use Rattle.output_rule.specs.Laws.{AreNotesOf, Comes, Goes, NeverFalls, Tells};
+ghost use Rattle.output_rule.specs.Limits.{Limits};
 ghost use Rattle.output_rule.specs.Notes.{AreApart};
 ghost use Rattle.output_rule.specs.declared.notes.Note.{Note};
 
@@ -40,4 +41,9 @@ pub fn told_keys_are_acknowledged()
     ensures acknowledged { (image : List ℕ) (entries : List Entry) (c : Covering) (first held : ℕ)
         → Tells image entries c → c.all ≡ false → first ≤ c.acknowledged → held ≤ length entries
         → Tells image entries (after_acknowledge c (log first (drop first entries)) held) }
+{}
+
+/// The number that definitions cite by its name in the code is the one stated.
+pub fn limits()
+    ensures { Limits }
 {}

@@ -10,7 +10,7 @@ mod tests;
 
 pub use coverage::Coverage;
 pub use laws::{
-    coverage_never_falls, notes_are_as_few_as_operations, notes_come_and_go,
+    coverage_never_falls, limits, notes_are_as_few_as_operations, notes_come_and_go,
     told_keys_are_acknowledged,
 };
 pub use notes::{Note, PLACES};

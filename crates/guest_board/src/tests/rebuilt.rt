@@ -16,7 +16,7 @@ use std::alloc::Global;
 use std::process::Abort;
 
 // What a guest with one drive and this program has at boot.
-fn parts(alloc: Global, program: &[u8]) -> R<BoardParts> {
+pub(super) fn parts(alloc: Global, program: &[u8]) -> R<BoardParts> {
     let memory = memory(alloc, program)?;
     let completed = vec![in alloc; 0; DRIVE_SECTORS]?;
     Ok(BoardParts {
@@ -35,7 +35,7 @@ fn parts(alloc: Global, program: &[u8]) -> R<BoardParts> {
 }
 
 // A board of these parts.
-fn rebuild<T: Completes + Drop, S: Completes + Drop, W: Completes + Drop>(
+pub(super) fn rebuild<T: Completes + Drop, S: Completes + Drop, W: Completes + Drop>(
     alloc: Global,
     parts: BoardParts,
     callbacks: Callbacks<T, S, W>,

@@ -62,36 +62,30 @@ fn keeps_an_address(rt: HostRuntime) {
 }
 
 #[test]
-fn numbers_its_refusals(rt: HostRuntime) {
-    assert_eq!(rt; Fault::OutOfMemory.number(), 1);
-    assert_eq!(rt; Fault::NotCovered.number(), 12);
-    assert_eq!(rt; Fault::BadScript(7).number(), 19);
-}
-
-#[test]
-fn tells_its_refusals(rt: HostRuntime) -> Result<(), std::test::Fail> {
-    let texts = [
-        (Fault::OutOfMemory, "out of memory"),
-        (Fault::Spent, "the range of numbers is spent"),
-        (Fault::LogFull, "the log is full"),
-        (Fault::NotDue, "not due"),
-        (Fault::WrongNumber, "wrong number"),
-        (Fault::StaleRead, "stale read"),
-        (Fault::SectorBusy, "the sector is busy"),
-        (Fault::WrongRole, "wrong role"),
-        (Fault::WrongGeneration, "wrong generation"),
-        (Fault::Malformed, "malformed"),
-        (Fault::NotWhole, "not whole"),
-        (Fault::NotCovered, "not covered"),
-        (Fault::DeviceFault, "device fault"),
-        (Fault::Lost, "lost"),
-        (Fault::Unknown, "unknown"),
-        (Fault::BadAck, "bad acknowledgement"),
-        (Fault::Stalled, "stalled"),
-        (Fault::Idle, "idle"),
-        (Fault::BadScript(7), "bad script at line 7"),
+fn numbers_and_tells_its_refusals(rt: HostRuntime) -> Result<(), std::test::Fail> {
+    let refusals = [
+        (1, Fault::OutOfMemory, "out of memory"),
+        (2, Fault::Spent, "the range of numbers is spent"),
+        (3, Fault::LogFull, "the log is full"),
+        (4, Fault::NotDue, "not due"),
+        (5, Fault::WrongNumber, "wrong number"),
+        (6, Fault::StaleRead, "stale read"),
+        (7, Fault::SectorBusy, "the sector is busy"),
+        (8, Fault::WrongRole, "wrong role"),
+        (9, Fault::WrongGeneration, "wrong generation"),
+        (10, Fault::Malformed, "malformed"),
+        (11, Fault::NotWhole, "not whole"),
+        (12, Fault::NotCovered, "not covered"),
+        (13, Fault::DeviceFault, "device fault"),
+        (14, Fault::Lost, "lost"),
+        (15, Fault::Unknown, "unknown"),
+        (16, Fault::BadAck, "bad acknowledgement"),
+        (17, Fault::Stalled, "stalled"),
+        (18, Fault::Idle, "idle"),
+        (19, Fault::BadScript(7), "bad script at line 7"),
     ];
-    for (fault, expected) in texts {
+    for (number, fault, expected) in refusals {
+        assert_eq!(rt; fault.number(), number);
         let text = format!(in rt.alloc(); "{fault}")?;
         assert_eq!(rt; text.as_str(), expected);
     }

@@ -1,0 +1,7 @@
+-- The number that the definitions call by the name of the code.
+use Rattle.std.specs.Prelude.{◌≡◌, ◌+◌, ◌*◌}
+use Rattle.output_rule.specs.declared.notes.TheConstants.{PLACES}
+
+-- sixteen bytes of each of two ports and eight writes may have notes
+pub record Limits : Type 0 where
+  pub places : PLACES ≡ 2 * 16 + 8
