@@ -1,5 +1,5 @@
 //! A guest with what it has still to replay.
-ghost use Rattle.std.specs.Prelude.{◌≡◌, ◌≤◌, ◌↔◌, [], IfOk, IfErr, IsOk};
+ghost use Rattle.std.specs.Prelude.{◌≡◌, ◌≤◌, ◌↔◌, [], IfOk, IfErr, IsOk, OnErr};
 ghost use Rattle.i8080_words.specs.declared.refusal.Fault.TheVariants.{WrongRole};
 ghost use Rattle.guest_board.specs.Recorded.{Counts};
 ghost use Rattle.log_entry.specs.Entries.{last_count};
@@ -56,6 +56,7 @@ impl<B: Lockstep> Draining<B> {
         ensures below { B.machine.count (B.state self.new.replayer.board)
             ≤ last_count (B.machine.count (B.state self.old.replayer.board)) self.old.receiver.entries }
         ensures held { self.new.receiver ≡ record self.old.receiver { entries = self.new.receiver.entries } }
+        ensures unchanged { OnErr result (self.new ≡ self.old) }
     {
         self.replayer.replay(&mut self.receiver, turns)
     }

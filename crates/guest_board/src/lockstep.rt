@@ -1,5 +1,5 @@
 //! What the layers of a pair ask of a guest, so that they are proved for any.
-ghost use Rattle.std.specs.Prelude.{◌≡◌, ◌<◌, ◌≤◌, ℕ, IfSome, OnOk, option_copied};
+ghost use Rattle.std.specs.Prelude.{◌≡◌, ◌<◌, ◌≤◌, ℕ, IfSome, OnErr, OnOk, option_copied};
 ghost use Rattle.guest_board.specs.Machine.{Machine, refusal_of};
 ghost use Rattle.guest_board.specs.Lockstep.{Executes, Takes, IsInput, IsNumbered, HasRoom};
 ghost use Rattle.disk_dcdd.specs.Completion.{answered};
@@ -25,7 +25,8 @@ pub trait Lockstep: Sized {
     /// Makes one step, and gives the name of its operation. `Spent` where a number stands at its greatest, `Idle` where the
     /// guest waits for an interrupt, `OutOfMemory` where an operation could not be kept; each changes nothing.
     fn step(&mut self) -> R<Option<OpId>>
-        ensures { Executes machine (state self.old) result (state self.new) };
+        ensures answer { Executes machine (state self.old) result (state self.new) }
+        ensures unchanged { OnErr result (self.new ≡ self.old) };
 
     /// Whether an input would be taken now: the answer that `take` would give. No number of a write that would be taken
     /// is past the greatest.
@@ -38,7 +39,8 @@ pub trait Lockstep: Sized {
     fn take(&mut self, input: Input) -> R<()>
         requires input { IsInput input }
         requires room { HasRoom machine (state self.old) input }
-        ensures { Takes machine (state self.old) input result (state self.new) };
+        ensures answer { Takes machine (state self.old) input result (state self.new) }
+        ensures unchanged { OnErr result (self.new ≡ self.old) };
 
     /// How many steps were made.
     fn count(&self) -> u64

@@ -1,4 +1,5 @@
 //! A guest that runs by itself until it gives an operation.
+ghost use Rattle.std.specs.Prelude.{◌≡◌};
 ghost use Rattle.guest_board.specs.Running as table;
 
 use crate::lockstep::Lockstep;
@@ -27,7 +28,8 @@ pub struct Stopped {
 /// the refusals of a step, which the guest's `step` gives.
 #[inline(never)]
 pub fn run<B: Lockstep>(guest: &mut B, turns: u64) -> Stopped
-    ensures { table.RunsOn B.machine (B.state guest.old) turns result (B.state guest.new) }
+    ensures runs { table.RunsOn B.machine (B.state guest.old) turns result (B.state guest.new) }
+    ensures unchanged { result.steps ≡ 0 → guest.new ≡ guest.old }
 {
     for steps in 0..turns {
         match guest.step() {

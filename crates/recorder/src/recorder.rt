@@ -1,5 +1,5 @@
 //! A guest with the log of its moves.
-ghost use Rattle.std.specs.Prelude.{◌≡◌, OnOk};
+ghost use Rattle.std.specs.Prelude.{◌≡◌, OnErr, OnOk};
 ghost use Rattle.guest_board.specs.Lockstep.{HasRoom, IsInput};
 ghost use Rattle.guest_board.specs.Machine.{refusal_of};
 ghost use Rattle.log_buffer.specs.contracts.buffer.LogBuffer as buffer;
@@ -67,9 +67,10 @@ impl<B: Lockstep> Recorder<B> {
     /// refused only where no step is made: `LogFull` and `Spent` by the log, `Spent` and `Idle` by the guest, and
     /// `OutOfMemory`.
     pub fn advance(&mut self, turns: u64) -> R<Advanced>
-        ensures { table.AdvancesUnless B.machine (B.state self.old.board) self.old.log turns
+        ensures answer { table.AdvancesUnless B.machine (B.state self.old.board) self.old.log turns
             (table.advance_refusal B.machine (B.state self.old.board) self.old.log turns) result
             (B.state self.new.board) self.new.log }
+        ensures unchanged { OnErr result (self.new ≡ self.old) }
     {
         if turns == 0 {
             return Ok(Advanced {
@@ -90,6 +91,7 @@ impl<B: Lockstep> Recorder<B> {
             ≡ table.offer_answer (refusal_of B.machine (B.state self.old.board) input) self.old.log }
         ensures after { table.Offers B.machine (B.state self.old.board) self.old.log input result
             (B.state self.new.board) self.new.log }
+        ensures unchanged { OnErr result (self.new ≡ self.old) }
         ensures entry { OnOk result
             (IsEntry (entry_of (B.machine.count (B.state self.old.board)) input)) }
     {

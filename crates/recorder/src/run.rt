@@ -1,5 +1,5 @@
 //! Steps of a guest whose log has room for one entry.
-ghost use Rattle.std.specs.Prelude.{◌≡◌, ◌<◌, Ok};
+ghost use Rattle.std.specs.Prelude.{◌≡◌, ◌<◌, Ok, OnErr};
 ghost use Rattle.guest_board.specs.Lockstep.{step_refusal};
 ghost use Rattle.log_buffer.specs.Log.{room_answer, pushed, next_of};
 ghost use Rattle.log_entry.specs.declared.entry.Entry.TheVariants.{Mark};
@@ -15,8 +15,9 @@ use log_entry::Entry;
 pub(crate) fn run<B: Lockstep>(board: &mut B, log: &mut LogBuffer, turns: u64) -> R<Advanced>
     requires some { 0 < turns }
     requires room { room_answer log.old ≡ Ok tt }
-    ensures { table.AdvancesUnless B.machine (B.state board.old) log.old turns
+    ensures answer { table.AdvancesUnless B.machine (B.state board.old) log.old turns
         (step_refusal B.machine (B.state board.old)) result (B.state board.new) log.new }
+    ensures unchanged { OnErr result ((board.new ≡ board.old) × (log.new ≡ log.old)) }
 {
     let Stopped { steps, reason } = guest_board::run(board, turns);
     match reason {

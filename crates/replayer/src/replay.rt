@@ -1,5 +1,5 @@
 //! The moves of a guest by the entries that are held.
-ghost use Rattle.std.specs.Prelude.{◌≡◌, ◌≢◌, ◌<◌, []};
+ghost use Rattle.std.specs.Prelude.{◌≡◌, ◌≢◌, ◌<◌, [], OnErr};
 ghost use Rattle.guest_board.specs.Recorded.{Counts};
 ghost use Rattle.log_entry.specs.Standing.{IsOnTrace};
 ghost use Rattle.replayer.specs.Replaying.{Answers, AnswersStretch};
@@ -16,6 +16,7 @@ pub(crate) fn run<B: Lockstep>(board: &mut B, receiver: &mut Receiver, turns: u6
     ensures answers { Answers B.machine (B.state board.old) receiver.old.entries turns result (B.state board.new)
         receiver.new.entries }
     ensures held { receiver.new ≡ record receiver.old { entries = receiver.new.entries } }
+    ensures unchanged { OnErr result ((board.new ≡ board.old) × (receiver.new ≡ receiver.old)) }
 {
     let mut moves = 0;
     while moves < turns {
@@ -52,6 +53,7 @@ fn stretch<B: Lockstep>(board: &mut B, receiver: &mut Receiver, turns: u64) -> R
         (B.state board.new) receiver.new.entries }
     ensures on_trace { IsOnTrace B.machine (B.state board.new) receiver.new.entries }
     ensures held { receiver.new ≡ record receiver.old { entries = receiver.new.entries } }
+    ensures unchanged { OnErr result ((board.new ≡ board.old) × (receiver.new ≡ receiver.old)) }
 {
     let Some(front) = receiver.front() else {
         unreachable!()

@@ -1,5 +1,5 @@
 //! A guest that repeats the moves of another.
-ghost use Rattle.std.specs.Prelude.{◌≡◌, ◌≤◌};
+ghost use Rattle.std.specs.Prelude.{◌≡◌, ◌≤◌, OnErr};
 ghost use Rattle.guest_board.specs.Recorded.{Counts};
 ghost use Rattle.log_entry.specs.Entries.{last_count};
 ghost use Rattle.log_entry.specs.Standing.{IsOnTrace};
@@ -61,6 +61,7 @@ impl<B: Lockstep> Replayer<B> {
         ensures below { B.machine.count (B.state self.new.board)
             ≤ last_count (B.machine.count (B.state self.old.board)) receiver.old.entries }
         ensures held { receiver.new ≡ record receiver.old { entries = receiver.new.entries } }
+        ensures unchanged { OnErr result ((self.new ≡ self.old) × (receiver.new ≡ receiver.old)) }
     {
         run(&mut self.board, receiver, turns)
     }

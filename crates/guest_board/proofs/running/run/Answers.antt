@@ -1,31 +1,37 @@
 -- What stands at each way out of the steps, by the lemmas of `QuietSteps`.
-use Rattle.std.proofs.Common.{arith}
+use Rattle.std.proofs.Common.{◌∙◌, arith, refl}
 use Rattle.guest_board.specs.Running.{Begin}
 use Rattle.guest_board.proofs.QuietSteps.{all_turns, gives, goes_on, is_refused}
 use Rattle.guest_board.proofs.running.run.Goals as goal
 
 pub loop-steps-init : goal.loop-steps-init
-loop-steps-init g c = Begin
-
-pub returns-in-Ok-Some : goal.returns-in-Ok-Some
-returns-in-Ok-Some g c =
-    gives g.B.Lockstep.machine (g.B.Lockstep.state c.args.guest.now) (g.B.Lockstep.state c.loop-steps.guest)
-    (g.B.Lockstep.state c.step.new.self) c.args.turns c.loop-steps.steps c.in-Ok-Some.name (omega arith)
-    c.loop-steps.invariant (rw c.in-Ok-Some.field-0-is at c.in-Ok-Some.ensures)
-
-pub returns-in-Err : goal.returns-in-Err
-returns-in-Err g c =
-    is_refused g.B.Lockstep.machine (g.B.Lockstep.state c.args.guest.now) (g.B.Lockstep.state c.loop-steps.guest)
-    (g.B.Lockstep.state c.step.new.self) c.args.turns c.loop-steps.steps c.in-Err.fault (omega arith)
-    c.loop-steps.invariant c.in-Err.ensures
+loop-steps-init g c = record { quiet = Begin; unchanged = λ none. refl }
 
 pub loop-steps-preserved : goal.loop-steps-preserved
-loop-steps-preserved g c =
-    goes_on g.B.Lockstep.machine (g.B.Lockstep.state c.args.guest.now) (g.B.Lockstep.state c.loop-steps.guest)
-    (g.B.Lockstep.state c.step.new.self) c.loop-steps.steps c.loop-steps.invariant
-    (rw c.in-Ok-None.field-0-is at c.in-Ok-None.ensures)
+loop-steps-preserved g c = record {
+  quiet =
+      goes_on g.B.Lockstep.machine (g.B.Lockstep.state c.args.guest.now) (g.B.Lockstep.state c.loop-steps.guest)
+      (g.B.Lockstep.state c.step.new.self) c.loop-steps.steps c.loop-steps.invariant.quiet
+      (rw c.in-Ok-None.field-0-is at c.in-Ok-None.ensures.answer);
+  unchanged = λ none. absurd (omega arith);
+}
 
-pub returns : goal.returns
-returns g c =
+pub returns-in-Ok-Some-clause-runs : goal.returns-in-Ok-Some-clause-runs
+returns-in-Ok-Some-clause-runs g c =
+    gives g.B.Lockstep.machine (g.B.Lockstep.state c.args.guest.now) (g.B.Lockstep.state c.loop-steps.guest)
+    (g.B.Lockstep.state c.step.new.self) c.args.turns c.loop-steps.steps c.in-Ok-Some.name (omega arith)
+    c.loop-steps.invariant.quiet (rw c.in-Ok-Some.field-0-is at c.in-Ok-Some.ensures.answer)
+
+pub returns-in-Err-clause-runs : goal.returns-in-Err-clause-runs
+returns-in-Err-clause-runs g c =
+    is_refused g.B.Lockstep.machine (g.B.Lockstep.state c.args.guest.now) (g.B.Lockstep.state c.loop-steps.guest)
+    (g.B.Lockstep.state c.step.new.self) c.args.turns c.loop-steps.steps c.in-Err.fault (omega arith)
+    c.loop-steps.invariant.quiet c.in-Err.ensures.answer
+
+pub returns-in-Err-clause-unchanged : goal.returns-in-Err-clause-unchanged
+returns-in-Err-clause-unchanged g c = λ none. c.in-Err.ensures.unchanged ∙ c.loop-steps.invariant.unchanged none
+
+pub returns-clause-runs : goal.returns-clause-runs
+returns-clause-runs g c =
     all_turns g.B.Lockstep.machine (g.B.Lockstep.state c.args.guest.now) (g.B.Lockstep.state c.loop-steps.guest)
-    c.args.turns c.loop-steps.steps (omega arith) c.loop-steps.invariant
+    c.args.turns c.loop-steps.steps (omega arith) c.loop-steps.invariant.quiet

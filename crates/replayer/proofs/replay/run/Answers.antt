@@ -6,7 +6,13 @@ use Rattle.replayer.proofs.Runs.{goes_on, at_end, refused, stopped, all_turns}
 use Rattle.replayer.proofs.replay.run.Goals as goal
 
 pub loop-moves-init : goal.loop-moves-init
-loop-moves-init g c = record { replays = Begin; on_trace = c.requires.on_trace; within = omega arith; held = refl }
+loop-moves-init g c = record {
+  replays = Begin;
+  on_trace = c.requires.on_trace;
+  within = omega arith;
+  held = refl;
+  unchanged = λ none. (refl, refl);
+}
 
 pub loop-moves-preserved : goal.loop-moves-preserved
 loop-moves-preserved g c = record {
@@ -20,6 +26,7 @@ loop-moves-preserved g c = record {
   held =
       c.stretch.ensures.held
       ∙ ap (λ (r : Receiving). record r { entries = c.stretch.new.receiver.entries }) c.loop-moves.invariant.held;
+  unchanged = λ none. absurd (let made = c.in-Ok.ensures.answers.0 in omega arith);
 }
 
 pub returns-then-is_empty-clause-answers : goal.returns-then-is_empty-clause-answers
@@ -34,6 +41,12 @@ returns-in-Err-clause-answers g c =
     (g.B.Lockstep.state c.stretch.new.board) c.args.receiver.now.entries c.loop-moves.receiver.entries
     c.stretch.new.receiver.entries c.args.turns (c.args.turns - c.loop-moves.moves) c.loop-moves.moves c.in-Err.fault
     c.loop-moves-test.true c.if-moves-eq0.true c.loop-moves.invariant.replays c.in-Err.ensures.answers
+
+pub returns-in-Err-clause-unchanged : goal.returns-in-Err-clause-unchanged
+returns-in-Err-clause-unchanged g c =
+    let here = c.in-Err.ensures.unchanged in
+    let before = c.loop-moves.invariant.unchanged c.if-moves-eq0.true in
+    (here.0 ∙ before.0, here.1 ∙ before.1)
 
 pub returns-in-Err-2-clause-answers : goal.returns-in-Err-2-clause-answers
 returns-in-Err-2-clause-answers g c =

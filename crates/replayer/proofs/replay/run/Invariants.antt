@@ -10,6 +10,7 @@ invariant-loop-moves g l = record {
   on_trace : IsOnTrace g.B.Lockstep.machine (g.B.Lockstep.state l.board) l.receiver.entries;
   within : l.moves ≤ l.turns;
   held : l.receiver ≡ record l.initial.receiver { entries = l.receiver.entries };
+  unchanged : l.moves ≡ 0 → (l.board ≡ l.initial.board) × (l.receiver ≡ l.initial.receiver);
 }
 
 abbrev pub decreases-loop-moves : goal.decreases-loop-moves

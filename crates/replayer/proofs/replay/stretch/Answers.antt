@@ -27,7 +27,7 @@ returns-then-stopped-gt0-clause-answers g c =
     let most = c.min.ensures in
     steps_made g.B.Lockstep.machine (g.B.Lockstep.state c.args.board.now) (g.B.Lockstep.state c.run-stopped.new.guest)
     c.args.receiver.now.entries c.in-Some.front.now c.args.turns c.min.result c.run-stopped.result c.requires.counts
-    (sym c.in-Some.ensures.entry) (omega arith) (omega arith) c.run-stopped.ensures c.if-stopped-gt0.true
+    (sym c.in-Some.ensures.entry) (omega arith) (omega arith) c.run-stopped.ensures.runs c.if-stopped-gt0.true
 
 pub returns-then-stopped-gt0-clause-on_trace : goal.returns-then-stopped-gt0-clause-on_trace
 returns-then-stopped-gt0-clause-on_trace g c =
@@ -46,7 +46,7 @@ returns-then-ahead-gt0-clause-answers g c =
     wants_memory g.B.Lockstep.machine (g.B.Lockstep.state c.args.board.now) (g.B.Lockstep.state c.run-stopped.new.guest)
     c.args.receiver.now.entries c.in-Some.front.now c.args.turns c.min.result c.run-stopped.result c.in-Refused.fault
     c.requires.counts c.requires.on_trace (sym c.in-Some.ensures.entry) (omega arith) (omega arith)
-    c.run-stopped.ensures c.in-Refused.is (omega arith)
+    c.run-stopped.ensures.runs c.in-Refused.is (omega arith)
 
 pub returns-then-ahead-gt0-clause-on_trace : goal.returns-then-ahead-gt0-clause-on_trace
 returns-then-ahead-gt0-clause-on_trace g c =
@@ -72,7 +72,7 @@ unreachable-requires-in-Err g c =
     (λ lt. let at = c.count-2.ensures.value in let first = c.count.ensures in let test = c.if-ahead-gt0.false in
     omega arith)
     (sym c.input.ensures ∙ c.in-Some-input.is))
-    (rw c.in-Err.is at c.take.ensures)
+    (rw c.in-Err.is at c.take.ensures.answer)
 
 pub returns-in-Ok-clause-answers : goal.returns-in-Ok-clause-answers
 returns-in-Ok-clause-answers g c =
@@ -83,7 +83,7 @@ returns-in-Ok-clause-answers g c =
     (sym c.in-Some.ensures.entry)
     (λ lt. let at = c.count-2.ensures.value in let first = c.count.ensures in let test = c.if-ahead-gt0.false in
     omega arith)
-    (sym c.input.ensures ∙ c.in-Some-input.is) (rw c.in-Ok.is at c.take.ensures)
+    (sym c.input.ensures ∙ c.in-Some-input.is) (rw c.in-Ok.is at c.take.ensures.answer)
     (ap (λ r. r.entries) c.pop.ensures.after))
 
 pub returns-in-Ok-clause-on_trace : goal.returns-in-Ok-clause-on_trace
