@@ -16,10 +16,11 @@ use hex::FromHex;
 use i8080_core::Cpu;
 use i8080_words::Regs;
 use std::alloc::Global;
-use std::env;
+use std::env::{self, Args};
+use std::iter::Skip;
 
 // A memory that begins with these bytes, each of two hex digits.
-fn loaded(alloc: Global, words: Args<Global>) -> Result<Vec<u8>> {
+fn loaded(alloc: Global, words: Skip<Args<Global>>) -> Result<Vec<u8>> {
     let mut bytes = vec![in alloc; 0u8; 65536]?;
     for (place, word) in bytes.iter_mut().zip(words) {
         let [byte] = <[u8; 1]>::from_hex(word.as_str())?;
@@ -35,13 +36,14 @@ fn run_processor(bytes: Vec<u8>, steps: u64) -> Result<Regs> {
     }
     let mut memory = FlatMemory { bytes };
     let mut cpu = Cpu::reset();
-    let mut made = 0;
-    while made < steps {
-        made += cpu.run_quietly(&mut memory, steps - made);
-        if made < steps {
-            let _ = cpu.step(&mut memory, None);
-            made += 1;
+    let mut left = steps;
+    for _ in 0..steps {
+        left -= cpu.run_quietly(&mut memory, left);
+        if left == 0 {
+            break;
         }
+        let _ = cpu.step(&mut memory, None);
+        left -= 1;
     }
     Ok(cpu.processor().regs)
 }
