@@ -139,4 +139,8 @@ impl Lockstep for Echo {
             sector: 0,
         }
     }
+
+    fn step_quietly(&mut self, _turns: u64) -> u64 {
+        0
+    }
 }

@@ -3,11 +3,11 @@ ghost use Rattle.event_callbacks.specs.declared.devices.TheConstants.{SENT, SECT
 ghost use Rattle.event_callbacks.specs.Keeping.{Keeps};
 
 use event_callbacks::{Callbacks, Completes};
-use guest_board::{Board, Setup};
+use guest_board::{Board, Setup, StopReason};
 use i8080_words::{R, Regs};
 use std::alloc::Global;
 
-/// Runs a board with these closures for a number of steps, or until it is refused one.
+/// Runs a board with these closures for a number of steps, or until it gives an operation or is refused a step.
 pub fn run<T: Completes + Drop, S: Completes + Drop, W: Completes + Drop>(
     alloc: Global,
     setup: &Setup,
@@ -25,8 +25,8 @@ pub fn run<T: Completes + Drop, S: Completes + Drop, W: Completes + Drop>(
         Ok(board) => board,
         Err((_callbacks, fault)) => return Err(fault),
     };
-    for _ in 0..steps {
-        board.exec()?;
+    match guest_board::run(&mut board, steps).reason {
+        StopReason::Refused(fault) => Err(fault),
+        StopReason::Turns | StopReason::Operation(_) => Ok(board.processor().regs),
     }
-    Ok(board.processor().regs)
 }

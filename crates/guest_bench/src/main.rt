@@ -1,10 +1,9 @@
-//! Runs one of two guest programs for a number of steps on one of three executors, and prints where it stands: the bare
-//! processor over a flat memory, the whole board, or the single machine.
+//! Runs a guest program for a number of steps on one of three executors, and prints where it stands: the bare processor
+//! over a flat memory, the whole board, or the single machine.
 #![tactic(auto)]
 
 mod board;
 mod flat_memory;
-mod guests;
 mod single;
 #[cfg(test)]
 mod tests;
@@ -13,16 +12,19 @@ use anyhow::{Result, bail};
 use event_callbacks::plain_completions;
 use flat_memory::FlatMemory;
 use guest_board::Setup;
+use hex::FromHex;
 use i8080_core::Cpu;
 use i8080_words::Regs;
 use std::alloc::Global;
-use std::env;
+use std::env::{self, Args};
+use std::iter::Skip;
 
-// A memory that begins with these bytes.
-fn loaded(alloc: Global, program: &[u8]) -> Result<Vec<u8>> {
+// A memory that begins with these bytes, each of two hex digits.
+fn loaded(alloc: Global, words: Skip<Args<Global>>) -> Result<Vec<u8>> {
     let mut bytes = vec![in alloc; 0u8; 65536]?;
-    for (place, byte) in bytes.iter_mut().zip(program) {
-        *place = *byte;
+    for (place, word) in bytes.iter_mut().zip(words) {
+        let [byte] = <[u8; 1]>::from_hex(word.as_str())?;
+        *place = byte;
     }
     Ok(bytes)
 }
@@ -34,8 +36,14 @@ fn run_processor(bytes: Vec<u8>, steps: u64) -> Result<Regs> {
     }
     let mut memory = FlatMemory { bytes };
     let mut cpu = Cpu::reset();
+    let mut left = steps;
     for _ in 0..steps {
+        left -= cpu.run_quietly(&mut memory, left);
+        if left == 0 {
+            break;
+        }
         let _ = cpu.step(&mut memory, None);
+        left -= 1;
     }
     Ok(cpu.processor().regs)
 }
@@ -74,21 +82,14 @@ fn run_single(alloc: Global, bytes: Vec<u8>, steps: u64) -> Result<Regs> {
     Ok(regs)
 }
 
-// Arguments: the executor, the name of the guest program, `count` or `copy`, and the number of steps.
+// Arguments: the executor, the number of steps, and the bytes of the guest program in hex.
 fn main(rt: HostRuntime) -> Result<()> {
     let mut arguments = env::args(&rt)?.skip(1);
-    let (Some(executor), Some(name), Some(number)) = (
-        arguments.next(),
-        arguments.next(),
-        arguments.next(),
-    ) else {
-        bail!("usage: guest_bench processor|board|single count|copy STEPS");
-    };
-    let Some(program) = guests::program(name.as_str()) else {
-        bail!("no guest program {name:?}");
+    let (Some(executor), Some(number)) = (arguments.next(), arguments.next()) else {
+        bail!("usage: guest_bench processor|board|single STEPS BYTE..");
     };
     let steps = number.as_str().parse::<u64>()?;
-    let bytes = loaded(rt.alloc(), program)?;
+    let bytes = loaded(rt.alloc(), arguments)?;
     let regs = match executor.as_str() {
         "processor" => run_processor(bytes, steps)?,
         "board" => run_board(rt.alloc(), bytes, steps)?,

@@ -8,7 +8,7 @@ ghost use Rattle.plain_single.specs.Reaching.{NeverFall};
 
 use disk_dcdd::{GREATEST_NUMBER, SECTOR_BYTES, SectorAddress, SectorWrite};
 use event_callbacks::{Callbacks, Completes, Operation, plain_completions};
-use guest_board::{Board, Input, Setup};
+use guest_board::{Board, Input, Setup, StopReason};
 use i8080_words::{Fault, R};
 use plain_single::{Bare, Single, Timed};
 use rand_core::utils::NextWord;
@@ -162,20 +162,28 @@ fn offer<T: Completes, S: Completes, W: Completes>(
 fn advance<T: Completes, S: Completes, W: Completes>(
     board: &mut Board<T, S, W>,
     course: &mut Course,
-    steps: u32,
+    steps: u64,
 ) -> R<()> {
+    let mut left = steps;
     for _ in 0..steps {
-        let executed = match board.exec() {
-            Ok(executed) => executed,
-            Err(Fault::Idle) => return Ok(()),
-            Err(fault) => return Err(fault),
-        };
-        match executed.given() {
-            Some(Operation::Byte { port: 0, byte, .. }) => course.first.push(byte)?,
-            Some(Operation::Byte { byte, .. }) => course.second.push(byte)?,
-            Some(Operation::Write(write)) => course.writes.push(write)?,
-            None => {}
+        let stopped = guest_board::run(board, left);
+        left = left.saturating_sub(stopped.steps);
+        match stopped.reason {
+            StopReason::Turns | StopReason::Refused(Fault::Idle) => return Ok(()),
+            StopReason::Refused(fault) => return Err(fault),
+            StopReason::Operation(name) => note(course, board.outstanding(name))?,
         }
+    }
+    Ok(())
+}
+
+// Notes an operation.
+fn note(course: &mut Course, given: Option<&Operation>) -> R<()> {
+    match given {
+        Some(Operation::Byte { port: 0, byte, .. }) => course.first.push(*byte)?,
+        Some(Operation::Byte { byte, .. }) => course.second.push(*byte)?,
+        Some(Operation::Write(write)) => course.writes.push(*write)?,
+        None => {}
     }
     Ok(())
 }
@@ -268,7 +276,7 @@ fn run_program<T: Completes + Drop, S: Completes + Drop, W: Completes + Drop>(
         done: Vec::new(rt.alloc()),
     };
     for _ in 0..INPUTS {
-        let steps = random.next_word() % 100;
+        let steps = u64::from(random.next_word() % 100);
         advance(&mut board, &mut course, steps)?;
         offer(&mut board, &mut course, &mut random)?;
     }

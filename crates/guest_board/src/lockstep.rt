@@ -1,6 +1,7 @@
 //! What the layers of a pair ask of a guest, so that they are proved for any.
 ghost use Rattle.std.specs.Prelude.{◌≡◌, ◌<◌, ◌≤◌, ℕ, IfSome, OnErr, OnOk, option_copied};
 ghost use Rattle.guest_board.specs.Machine.{Machine, refusal_of};
+ghost use Rattle.guest_board.specs.Running.{Quiet};
 ghost use Rattle.guest_board.specs.Lockstep.{Executes, Takes, IsInput, IsNumbered, HasRoom};
 ghost use Rattle.disk_dcdd.specs.Completion.{answered};
 ghost use Rattle.disk_dcdd.specs.declared.controller.TheConstants.{DRIVES, GREATEST_NUMBER};
@@ -71,4 +72,11 @@ pub trait Lockstep: Sized {
     fn sector_under(&self, drive: u8, sector: u8) -> SectorAddress
         requires { drive < DRIVES }
         ensures { result ≡ machine.address (state self.now) drive sector };
+
+    /// Makes at most `turns` steps that give no operation, as many as it can make in one go. Answers how many it made, which
+    /// may be none; then nothing changes.
+    fn step_quietly(&mut self, turns: u64) -> u64
+        ensures few { result ≤ turns }
+        ensures steps { Quiet machine (state self.old) result (state self.new) }
+        ensures unchanged { result ≡ 0 → self.new ≡ self.old };
 }

@@ -115,3 +115,75 @@ fn a_program_sums_five_to_one(rt: HostRuntime) {
         (0x0f, 0x00, 0x00fe, 0x0012)
     );
 }
+
+// Each kind of instruction but HLT, DI, EI and IN, up to OUT 10 at 004C; subroutines at 0038 and 0040.
+const EACH_KIND: [u8; 80] = [
+    0x31, 0x00, 0x01, // LXI SP,0100
+    0x21, 0x80, 0x00, // LXI H,0080
+    0x36, 0x7f, // MVI M,7F
+    0x34, // INR M
+    0x7e, // MOV A,M
+    0x87, // ADD A
+    0xce, 0x05, // ACI 05
+    0x1f, // RAR
+    0x27, // DAA
+    0x47, // MOV B,A
+    0x11, 0x90, 0x00, // LXI D,0090
+    0x12, // STAX D
+    0x1a, // LDAX D
+    0x19, // DAD D
+    0x23, // INX H
+    0x1b, // DCX D
+    0xeb, // XCHG
+    0x22, 0xa0, 0x00, // SHLD 00A0
+    0x2a, 0xa0, 0x00, // LHLD 00A0
+    0x32, 0xa2, 0x00, // STA 00A2
+    0x3a, 0xa2, 0x00, // LDA 00A2
+    0x05, // DCR B
+    0xc5, // PUSH B
+    0xe3, // XTHL
+    0xe1, // POP H
+    0xcd, 0x40, 0x00, // CALL 0040
+    0xcc, 0x40, 0x00, // CZ 0040, which does not call
+    0xc2, 0x33, 0x00, // JNZ 0033
+    0x00, // passed over
+    0xff, // RST 7
+    0xc3, 0x3a, 0x00, // JMP 003A
+    0x00, // passed over
+    0xc9, // 0038: RET
+    0x00, // passed over
+    0x21, 0x48, 0x00, // LXI H,0048
+    0xe9, // PCHL
+    0x00, 0x00, // passed over
+    0x3c, // 0040: INR A
+    0xfa, 0x44, 0x00, // JM 0044
+    0xd8, // RC
+    0xb7, // ORA A
+    0xc9, // RET
+    0x00, // passed over
+    0x21, 0x00, 0x01, // LXI H,0100
+    0xf9, // SPHL
+    0xd3, 0x10, // OUT 10
+    0x76, // HLT
+    0x00,
+];
+
+#[test]
+fn steps_made_in_place_are_as_many_steps(rt: HostRuntime) {
+    let (mut in_place, mut first) = load(&EACH_KIND);
+    let (mut one_by_one, mut second) = load(&EACH_KIND);
+    assert_eq!(rt; in_place.run_quietly(&mut first, 13), 13);
+    assert_eq!(rt; in_place.run_quietly(&mut first, 1000), 27);
+    for _ in 0..40 {
+        assert_eq!(rt; one_by_one.step(&mut second, None), Stepped::Ran);
+    }
+    assert_eq!(rt; in_place.processor(), one_by_one.processor());
+    for address in 0..=255 {
+        assert_eq!(rt; first.read(address), second.read(address));
+    }
+    let regs = in_place.processor().regs;
+    assert_eq!(rt;
+        (regs.a, regs.b, regs.d, regs.e, regs.pc.get()),
+        (0x04, 0x02, 0x01, 0x11, 0x004c)
+    );
+}

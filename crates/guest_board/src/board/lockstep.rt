@@ -61,4 +61,9 @@ impl<T: Completes, S: Completes, W: Completes> Lockstep for Board<T, S, W> {
             sector,
         }
     }
+
+    #[inline(always)]
+    fn step_quietly(&mut self, turns: u64) -> u64 {
+        self.make_quiet_steps(turns)
+    }
 }

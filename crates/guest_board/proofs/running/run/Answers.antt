@@ -1,37 +1,61 @@
 -- What stands at each way out of the steps, by the lemmas of `QuietSteps`.
-use Rattle.std.proofs.Common.{◌∙◌, arith, refl}
-use Rattle.guest_board.specs.Running.{Begin}
-use Rattle.guest_board.proofs.QuietSteps.{all_turns, gives, goes_on, is_refused}
+use Rattle.std.proofs.Common.{◌∙◌, ◌+◌, arith, refl}
+use Rattle.guest_board.specs.Running.{Quiet, Begin}
+use Rattle.guest_board.proofs.QuietSteps.{all_turns, gives, goes_on, is_refused, joined_steps}
 use Rattle.guest_board.proofs.running.run.Goals as goal
 
 pub loop-steps-init : goal.loop-steps-init
-loop-steps-init g c = record { quiet = Begin; unchanged = λ none. refl }
+loop-steps-init g c = record { within = omega arith; quiet = Begin; unchanged = λ none. refl }
 
-pub loop-steps-preserved : goal.loop-steps-preserved
-loop-steps-preserved g c = record {
+pub loop-steps-preserved-in-Ok-None : goal.loop-steps-preserved-in-Ok-None
+loop-steps-preserved-in-Ok-None g c = record {
+  within = omega arith;
   quiet =
-      goes_on g.B.Lockstep.machine (g.B.Lockstep.state c.args.guest.now) (g.B.Lockstep.state c.loop-steps.guest)
-      (g.B.Lockstep.state c.step.new.self) c.loop-steps.steps c.loop-steps.invariant.quiet
+      goes_on g.B.Lockstep.machine (g.B.Lockstep.state c.args.guest.now) (g.B.Lockstep.state c.step_quietly-steps.new.self)
+      (g.B.Lockstep.state c.step.new.self) (c.loop-steps.steps + c.step_quietly-steps.result)
+      (joined_steps g.B.Lockstep.machine (g.B.Lockstep.state c.args.guest.now) (g.B.Lockstep.state c.loop-steps.guest)
+      (g.B.Lockstep.state c.step_quietly-steps.new.self) c.loop-steps.steps c.step_quietly-steps.result
+      (c.loop-steps.steps + c.step_quietly-steps.result) refl c.loop-steps.invariant.quiet c.step_quietly-steps.ensures.steps)
       (rw c.in-Ok-None.field-0-is at c.in-Ok-None.ensures.answer);
   unchanged = λ none. absurd (omega arith);
 }
 
 pub returns-in-Ok-Some-clause-runs : goal.returns-in-Ok-Some-clause-runs
 returns-in-Ok-Some-clause-runs g c =
-    gives g.B.Lockstep.machine (g.B.Lockstep.state c.args.guest.now) (g.B.Lockstep.state c.loop-steps.guest)
-    (g.B.Lockstep.state c.step.new.self) c.args.turns c.loop-steps.steps c.in-Ok-Some.name (omega arith)
-    c.loop-steps.invariant.quiet (rw c.in-Ok-Some.field-0-is at c.in-Ok-Some.ensures.answer)
+    gives g.B.Lockstep.machine (g.B.Lockstep.state c.args.guest.now) (g.B.Lockstep.state c.step_quietly-steps.new.self)
+    (g.B.Lockstep.state c.step.new.self) c.args.turns (c.loop-steps.steps + c.step_quietly-steps.result) c.in-Ok-Some.name
+    (omega arith)
+    (joined_steps g.B.Lockstep.machine (g.B.Lockstep.state c.args.guest.now) (g.B.Lockstep.state c.loop-steps.guest)
+    (g.B.Lockstep.state c.step_quietly-steps.new.self) c.loop-steps.steps c.step_quietly-steps.result
+    (c.loop-steps.steps + c.step_quietly-steps.result) refl c.loop-steps.invariant.quiet c.step_quietly-steps.ensures.steps)
+    (rw c.in-Ok-Some.field-0-is at c.in-Ok-Some.ensures.answer)
 
 pub returns-in-Err-clause-runs : goal.returns-in-Err-clause-runs
 returns-in-Err-clause-runs g c =
-    is_refused g.B.Lockstep.machine (g.B.Lockstep.state c.args.guest.now) (g.B.Lockstep.state c.loop-steps.guest)
-    (g.B.Lockstep.state c.step.new.self) c.args.turns c.loop-steps.steps c.in-Err.fault (omega arith)
-    c.loop-steps.invariant.quiet c.in-Err.ensures.answer
+    is_refused g.B.Lockstep.machine (g.B.Lockstep.state c.args.guest.now) (g.B.Lockstep.state c.step_quietly-steps.new.self)
+    (g.B.Lockstep.state c.step.new.self) c.args.turns (c.loop-steps.steps + c.step_quietly-steps.result) c.in-Err.fault
+    (omega arith)
+    (joined_steps g.B.Lockstep.machine (g.B.Lockstep.state c.args.guest.now) (g.B.Lockstep.state c.loop-steps.guest)
+    (g.B.Lockstep.state c.step_quietly-steps.new.self) c.loop-steps.steps c.step_quietly-steps.result
+    (c.loop-steps.steps + c.step_quietly-steps.result) refl c.loop-steps.invariant.quiet c.step_quietly-steps.ensures.steps)
+    c.in-Err.ensures.answer
 
 pub returns-in-Err-clause-unchanged : goal.returns-in-Err-clause-unchanged
-returns-in-Err-clause-unchanged g c = λ none. c.in-Err.ensures.unchanged ∙ c.loop-steps.invariant.unchanged none
+returns-in-Err-clause-unchanged g c = λ none.
+    c.in-Err.ensures.unchanged
+    ∙ (c.step_quietly-steps.ensures.unchanged (omega arith) ∙ c.loop-steps.invariant.unchanged (omega arith))
+
+pub loop-steps-preserved : goal.loop-steps-preserved
+loop-steps-preserved g c = record {
+  within = omega arith;
+  quiet =
+      joined_steps g.B.Lockstep.machine (g.B.Lockstep.state c.args.guest.now) (g.B.Lockstep.state c.loop-steps.guest)
+      (g.B.Lockstep.state c.step_quietly-steps.new.self) c.loop-steps.steps c.step_quietly-steps.result
+      (c.loop-steps.steps + c.step_quietly-steps.result) refl c.loop-steps.invariant.quiet c.step_quietly-steps.ensures.steps;
+  unchanged = λ none. c.step_quietly-steps.ensures.unchanged (omega arith) ∙ c.loop-steps.invariant.unchanged (omega arith);
+}
 
 pub returns-clause-runs : goal.returns-clause-runs
 returns-clause-runs g c =
     all_turns g.B.Lockstep.machine (g.B.Lockstep.state c.args.guest.now) (g.B.Lockstep.state c.loop-steps.guest)
-    c.args.turns c.loop-steps.steps (omega arith) c.loop-steps.invariant.quiet
+    c.args.turns c.loop-steps.steps (omega (arith, c.loop-steps.invariant.within)) c.loop-steps.invariant.quiet
