@@ -32,6 +32,12 @@ static WRITES_A_SECTOR: [u8; 39] = [
     0x0a, 0x05, 0xc2, 0x17, 0x00, 0xfb, 0x00,
 ];
 
+// What is asked of the selected drive: steps in and out, the head loaded and unloaded, interrupts enabled and disabled, a
+// write started; some of them together.
+static COMMANDS: [u8; 16] = [
+    0x01, 0x01, 0x01, 0x02, 0x03, 0x04, 0x04, 0x04, 0x05, 0x08, 0x0c, 0x10, 0x14, 0x20, 0x30, 0x80,
+];
+
 // What a board was given and what it gave.
 #[derive(Drop)]
 struct Course {
@@ -64,12 +70,48 @@ fn random_memory(alloc: Global, random: &mut Pcg32, program: u64) -> R<Vec<u8>> 
             *operand = port;
         }
     }
-    if program % 2 == 0 {
-        for (place, byte) in memory.iter_mut().zip(&WRITES_A_SECTOR) {
-            *place = *byte;
-        }
+    match program % 4 {
+        0 | 2 => put_program(&mut memory, &WRITES_A_SECTOR),
+        1 => put_program(&mut memory, &drive_program(alloc, random)?),
+        _ => {}
     }
     Ok(memory)
+}
+
+// Puts a program at address 0.
+fn put_program(memory: &mut [u8], program: &[u8]) {
+    for (place, byte) in memory.iter_mut().zip(program) {
+        *place = *byte;
+    }
+}
+
+// A program that operates the drives at random: it selects and commands them, looks at their ports and stores at E000 and
+// up what it sees, writes whole sectors, enables interrupts, and begins again.
+fn drive_program(alloc: Global, random: &mut Pcg32) -> R<Vec<u8>> {
+    let mut program = Vec::from_slice(alloc, &[0x31, 0x00, 0xd0])?;
+    for place in 0..=255u8 {
+        let [kind, choice, value, _] = random.next_word().to_be_bytes();
+        let command = COMMANDS[(choice % 16) as usize];
+        match kind % 16 {
+            0 => program.extend_from_slice(&[0x3e, choice % 5, 0xd3, 0x08])?,
+            1 => program.extend_from_slice(&[0x3e, value, 0xd3, 0x08])?,
+            2..=8 => program.extend_from_slice(&[0x3e, command, 0xd3, 0x09])?,
+            9..=12 => program.extend_from_slice(&[0xdb, 0x08 + choice % 3, 0x32, place, 0xe0])?,
+            13 => put_sector_write(&mut program, value)?,
+            14 => program.extend_from_slice(&[0x3e, value, 0xd3, 0x0a])?,
+            _ => program.push(0xfb)?,
+        }
+    }
+    program.extend_from_slice(&[0xc3, 0x03, 0x00])?;
+    Ok(program)
+}
+
+// Puts a program behind another that starts a write and fills in this byte 137 times.
+fn put_sector_write(program: &mut Vec<u8>, value: u8) -> R<()> {
+    let [.., high, low] = program.len().wrapping_add(6).to_be_bytes();
+    program.extend_from_slice(&[0x3e, 0x80, 0xd3, 0x09, 0x06, 0x89])?;
+    program.extend_from_slice(&[0x3e, value, 0xd3, 0x0a, 0x05, 0xc2, low, high])?;
+    Ok(())
 }
 
 // What the disk has in a sector: the last write of it that is done, or zeros.
@@ -93,10 +135,10 @@ fn random_input<T: Completes, S: Completes, W: Completes>(
         0..=2 => (Bare::Rx(port, byte), Input::Rx(port, byte)),
         3..=4 => (Bare::Sent(port), Input::Sent(port)),
         5..=6 => {
-            let drive = place % 2;
-            let track = match board.place() {
-                Some((_, track)) => track,
-                None => 0,
+            let (drive, track) = match board.place() {
+                Some((drive, track)) if place < 192 => (drive, track),
+                Some((_, track)) => (place % 4, track),
+                None => (place % 4, 0),
             };
             let address = SectorAddress {
                 drive,
@@ -240,14 +282,14 @@ fn compare<T: Completes, S: Completes, W: Completes>(
 }
 
 // Runs a random program on a board, and then on the single machine. Gives how many steps it made, how many inputs it
-// took and how many writes were done.
+// took, how many writes were done, and how many were issued on tracks above 0.
 fn run_program<T: Completes + Drop, S: Completes + Drop, W: Completes + Drop>(
     rt: &(impl Abort + AllocGlobal),
     program: u64,
     sent: T,
     sector: S,
     written: W,
-) -> R<(u64, usize, usize)>
+) -> R<(u64, usize, usize, usize)>
     requires sent { Keeps (T.may sent) (T.gives sent) SENT }
     requires sector { Keeps (S.may sector) (S.gives sector) SECTOR }
     requires written { Keeps (W.may written) (W.gives written) WRITTEN }
@@ -259,7 +301,7 @@ fn run_program<T: Completes + Drop, S: Completes + Drop, W: Completes + Drop>(
     }
     let setup = Setup {
         memory,
-        drives: 1,
+        drives: 1 + (program / 4 % 4) as u8,
         levels: [7, 6, 5],
         sense: 0x5a,
     };
@@ -281,14 +323,15 @@ fn run_program<T: Completes + Drop, S: Completes + Drop, W: Completes + Drop>(
         offer(&mut board, &mut course, &mut random)?;
     }
     compare(rt, &board, &course, &setup, program)?;
-    Ok((board.count(), course.inputs.len(), course.done.len()))
+    let moved = course.writes.iter().filter(|write| write.track > 0).count();
+    Ok((board.count(), course.inputs.len(), course.done.len(), moved))
 }
 
 #[test]
 fn both_executors_agree_on_random_programs(rt: HostRuntime) -> R<()> {
-    let (mut steps, mut inputs, mut done) = (0u64, 0usize, 0usize);
+    let (mut steps, mut inputs, mut done, mut moved) = (0u64, 0usize, 0usize, 0usize);
     for program in 0..PROGRAMS {
-        let (count, taken, completed) = run_program(
+        let (count, taken, completed, elsewhere) = run_program(
             &rt,
             program,
             plain_completions::sent,
@@ -298,9 +341,11 @@ fn both_executors_agree_on_random_programs(rt: HostRuntime) -> R<()> {
         steps = steps.saturating_add(count);
         inputs = inputs.saturating_add(taken);
         done = done.saturating_add(completed);
+        moved = moved.saturating_add(elsewhere);
     }
     assert!(rt; steps > 300_000, "{steps} steps");
     assert!(rt; inputs > 5_000, "{inputs} inputs");
     assert!(rt; done > 20, "{done} writes");
+    assert!(rt; moved > 20, "{moved} writes above track 0");
     Ok(())
 }

@@ -5,3 +5,6 @@ pub mod Standing
 pub mod Taking
 pub mod Refusing
 pub mod Boot
+pub mod Heads
+pub mod Writes
+pub mod Tracing

@@ -9,6 +9,7 @@ use Rattle.event_callbacks.specs.declared.operations.Operation.{Operation}
 use Rattle.event_callbacks.specs.declared.operations.Operation.TheVariants.{Byte, Write}
 use Rattle.guest_board.specs.Ports.{Wired}
 use Rattle.guest_board.specs.declared.setup.Setup.{Setup}
+use Rattle.plain_single.specs.Drives.{drives_of}
 use Rattle.plain_single.specs.Serial.{Line, line_of, line_at_boot}
 use Rattle.plain_single.specs.declared.wires.Wires.{Wires}
 
@@ -27,8 +28,8 @@ behind_of w = record {
   memory = w.memory.bytes.items;
   first = line_of w.first;
   second = line_of w.second;
-  disk = w.disk;
-  writes = w.writes.items;
+  disk = drives_of w.drives;
+  writes = w.drives.writes.items;
   sense = w.sense;
 }
 

@@ -1,7 +1,11 @@
 pub mod Alone
+pub mod Awaited
 pub mod Behind
+pub mod Drives
 pub mod Executor
 pub mod Image
+pub mod Passing
 pub mod Reach
 pub mod Reaching
 pub mod Serial
+pub mod Tracks

@@ -1,6 +1,7 @@
 //! The machine's own disk: the bytes of every sector that drives can have.
 ghost use Rattle.std.specs.Prelude.{◌≡◌, ℕ, ◌*◌, IfOk, IfErr, List, vec_len, reverse};
 ghost use Rattle.std.specs.Option.{option_map_or, option_copied};
+ghost use Rattle.disk_dcdd.specs.Address.{index_of};
 ghost use Rattle.disk_dcdd.specs.declared.address.SectorAddress.{SectorAddress};
 ghost use Rattle.disk_dcdd.specs.declared.address.TheConstants.{DRIVE_SECTORS};
 ghost use Rattle.disk_dcdd.specs.declared.controller.TheConstants.{DRIVES};
@@ -8,16 +9,20 @@ ghost use Rattle.i8080_words.specs.declared.refusal.Fault.TheVariants.{OutOfMemo
 ghost use Rattle.plain_single.specs.Image.{IsSector, zero_sector, sector_at, bytes_with, boot_sectors};
 ghost use Rattle.plain_single.specs.Reach.{bytes_after};
 
-use disk_dcdd::{
-    DRIVE_SECTORS, DRIVES, SECTOR_BYTES, SectorAddress, SectorWrite, sectors_stand_apart,
-};
+use disk_dcdd::{SECTOR_BYTES, SectorAddress, SectorWrite, sectors_stand_apart};
 use i8080_words::R;
 use std::alloc::Global;
 
-// How many sectors there are.
-const PLACES: usize = DRIVES * DRIVE_SECTORS;
+// How many tracks a disk has.
+const TRACKS: usize = 77;
 
-/// A table of sectors, by `SectorAddress::index`.
+// How many sectors a track has.
+const SECTORS: usize = 32;
+
+// How many sectors four drives have.
+const PLACES: usize = 4 * TRACKS * SECTORS;
+
+/// A table of sectors, by drive, track and number.
 #[derive(Drop)]
 pub(crate) struct DiskImage {
     pub(crate) sectors: Vec<[u8; SECTOR_BYTES]>,
@@ -65,7 +70,7 @@ impl DiskImage {
     pub(crate) fn get(&self, address: SectorAddress) -> [u8; SECTOR_BYTES]
         ensures { result ≡ sector_at self.now.sectors.items address }
     {
-        match address.index() {
+        match place_of(address) {
             Some(index) if index < PLACES => self.sectors[index],
             _ => [0; SECTOR_BYTES],
         }
@@ -77,7 +82,12 @@ impl DiskImage {
             → sector_at self.new.sectors.items a ≡ bytes_with write.now a (sector_at self.old.sectors.items a) }
     {
         sectors_stand_apart();
-        if let Some(index) = write.address().index() {
+        let address = SectorAddress {
+            drive: write.drive,
+            track: write.track,
+            sector: write.sector,
+        };
+        if let Some(index) = place_of(address) {
             if index < PLACES {
                 self.sectors[index] = write.bytes;
             }
@@ -92,6 +102,18 @@ impl DiskImage {
         if let Some(write) = latest(writes, number) {
             self.put(write);
         }
+    }
+}
+
+// The place of a sector in the table. `None` where no drive has a track or a sector of this number.
+fn place_of(address: SectorAddress) -> Option<usize>
+    ensures { result ≡ index_of address }
+{
+    let (track, sector) = (address.track as usize, address.sector as usize);
+    if track < TRACKS && sector < SECTORS {
+        Some((address.drive as usize * TRACKS + track) * SECTORS + sector)
+    } else {
+        None
     }
 }
 

@@ -1,6 +1,7 @@
 //! The single machine, run by itself from a list of timed inputs: a second executor that shares no code with the first.
 #![tactic(auto)]
 
+mod drives;
 mod executor;
 mod image;
 mod machine;

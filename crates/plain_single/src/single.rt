@@ -1,12 +1,14 @@
 //! The single machine: at boot, and after a list of inputs.
-ghost use Rattle.std.specs.Prelude.{◌≡◌, ℕ, ◌<◌, IfOk, IfErr, List, slice_index};
+ghost use Rattle.std.specs.Prelude.{◌≡◌, ℕ, ◌<◌, IfOk, IfErr, IsOkUnless, List, slice_index};
 ghost use Rattle.disk_dcdd.specs.declared.address.SectorAddress.{SectorAddress};
 ghost use Rattle.guest_board.specs.Guest.{altair};
+ghost use Rattle.guest_board.specs.Machine.{Move};
 ghost use Rattle.guest_board.specs.declared.setup.Setup.{Setup};
 ghost use Rattle.i8080_words.specs.declared.refusal.Fault.TheVariants.{OutOfMemory};
 ghost use Rattle.plain_single.specs.Alone.{output_of};
 ghost use Rattle.plain_single.specs.Executor.{byte_at};
 ghost use Rattle.plain_single.specs.Image.{boot_sectors, sector_at};
+ghost use Rattle.plain_single.specs.Reach.{Reach};
 ghost use Rattle.plain_single.specs.Reaching.{NeverFall, IsAtBoot, RunsTo, Fails};
 
 use crate::machine::Machine;
@@ -49,7 +51,7 @@ impl Single {
     /// `NotDue` and `SectorBusy` where the machine comes to an input that it refuses, a port that is not there
     /// included; else `Spent` where the count is past 2^62 - 1 or a number of the machine is spent before it; else
     /// `Idle` where the machine idles before the count, or an input stands behind it. `OutOfMemory` is the
-    /// allocator's refusal.
+    /// allocator's refusal, and the only one where the trace of the inputs reaches the count.
     pub fn run(&self, alloc: Global, inputs: &[Timed], count: u64) -> R<Single>
         requires boot { self.now.count ≡ 0 }
         requires rising { NeverFall 0 inputs.now }
@@ -59,6 +61,9 @@ impl Single {
         ensures refused { IfErr result (λ fault. (setup : Setup) (sectors : SectorAddress → List ℕ)
             → IsAtBoot (altair setup sectors) self.now
             → Fails (altair setup sectors) inputs.now count fault) }
+        ensures reaches { (setup : Setup) (sectors : SectorAddress → List ℕ) (moves : List Move)
+            → IsAtBoot (altair setup sectors) self.now → Reach (altair setup sectors) inputs.now count moves
+            → IsOkUnless result OutOfMemory }
     {
         let mut machine = self.machine.copy(alloc)?;
         machine.follow(inputs, count)?;
@@ -80,7 +85,7 @@ impl Single {
     pub fn writes(&self) -> &[SectorWrite]
         ensures { result.now ≡ self.now.behind.writes }
     {
-        &self.machine.wires.writes
+        &self.machine.wires.drives.writes
     }
 
     /// What the machine's disk has in a sector: the bytes of the last write of it that is done, or those at boot. Zeros

@@ -2,6 +2,10 @@
 ghost use Rattle.std.specs.Prelude.{◌≡◌, IfOk};
 ghost use Rattle.plain_single.specs.Reaching.{NeverFall};
 
+mod folds;
+mod states;
+mod walks;
+
 use crate::{Bare, Single, Timed};
 use disk_dcdd::{SECTOR_BYTES, SectorAddress, SectorWrite};
 use guest_board::Setup;

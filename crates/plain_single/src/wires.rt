@@ -9,10 +9,11 @@ ghost use Rattle.i8080_words.specs.declared.refusal.Fault.TheVariants.{OutOfMemo
 ghost use Rattle.plain_single.specs.Behind.{behind_of, behind_at_boot, devices_of, wired_of, after_wired, is_full};
 ghost use Rattle.plain_single.specs.Executor.{accesses_of};
 
+use crate::drives::DiskDrives;
 use crate::executor::Stores;
 use crate::memory::Memory;
 use crate::serial::SerialLine;
-use disk_dcdd::{Controller, GREATEST_NUMBER, SectorWrite};
+use disk_dcdd::GREATEST_NUMBER;
 use guest_board::Setup;
 use i8080_words::R;
 use std::alloc::Global;
@@ -37,14 +38,13 @@ const SENSE_SWITCHES: u8 = 0xff;
 // What IN gives where nothing answers.
 const NOTHING: u8 = 0xff;
 
-/// Memory, the ports, the drives, all writes that they issued, and the sense switches.
+/// Memory, the ports, the drives, and the sense switches.
 #[derive(Drop)]
 pub(crate) struct Wires {
     pub(crate) memory: Memory,
     pub(crate) first: SerialLine,
     pub(crate) second: SerialLine,
-    pub(crate) disk: Controller,
-    pub(crate) writes: Vec<SectorWrite>,
+    pub(crate) drives: DiskDrives,
     pub(crate) sense: u8,
 }
 
@@ -59,8 +59,7 @@ impl Wires {
             memory: Memory { bytes },
             first: SerialLine::new(alloc),
             second: SerialLine::new(alloc),
-            disk: Controller::new(setup.drives),
-            writes: Vec::new(alloc),
+            drives: DiskDrives::new(alloc, setup.drives),
             sense: setup.sense,
         })
     }
@@ -71,13 +70,11 @@ impl Wires {
         ensures only_memory { IfErr result (λ fault. fault ≡ OutOfMemory) }
     {
         let bytes = Vec::from_slice(alloc, &self.memory.bytes)?;
-        let writes = Vec::from_slice(alloc, &self.writes)?;
         Ok(Wires {
             memory: Memory { bytes },
             first: self.first.copy(alloc)?,
             second: self.second.copy(alloc)?,
-            disk: self.disk.copy(),
-            writes,
+            drives: self.drives.copy(alloc)?,
             sense: self.sense,
         })
     }
@@ -88,7 +85,7 @@ impl Wires {
     {
         self.first.output.len() as u64 >= GREATEST_NUMBER
             || self.second.output.len() as u64 >= GREATEST_NUMBER
-            || self.disk.issued() >= GREATEST_NUMBER
+            || self.drives.writes.len() as u64 >= GREATEST_NUMBER
     }
 
     /// The interrupt line: the level of the first device that asks, of port 0, port 1 and the disk.
@@ -100,7 +97,7 @@ impl Wires {
             Some(first)
         } else if self.second.asks() {
             Some(second)
-        } else if self.disk.line() {
+        } else if self.drives.asks() {
             Some(disk)
         } else {
             None
@@ -126,9 +123,9 @@ impl Wires {
             FIRST_BYTES => self.first.read(),
             SECOND_CONTROL => self.second.status(),
             SECOND_BYTES => self.second.read(),
-            DISK_SELECT => self.disk.status(),
-            DISK_CONTROL => self.disk.position(),
-            DISK_BYTES => self.disk.data_in(),
+            DISK_SELECT => self.drives.status(),
+            DISK_CONTROL => self.drives.position(),
+            DISK_BYTES => self.drives.read(),
             SENSE_SWITCHES => self.sense,
             _ => NOTHING,
         }
@@ -146,8 +143,8 @@ impl Wires {
             FIRST_BYTES => self.first.send(byte)?,
             SECOND_CONTROL => self.second.control(byte),
             SECOND_BYTES => self.second.send(byte)?,
-            DISK_SELECT => self.disk.select(byte),
-            DISK_CONTROL => self.disk.command(byte),
+            DISK_SELECT => self.drives.select(byte),
+            DISK_CONTROL => self.drives.command(byte),
             DISK_BYTES => self.fill(byte)?,
             _ => {}
         }
@@ -161,9 +158,6 @@ impl Wires {
             (ports.after_disk_data (wired_of (behind_of self.old)) byte)) }
         ensures only_memory { IfErr result (λ fault. fault ≡ OutOfMemory) }
     {
-        if let Some(write) = self.disk.data_out(byte) {
-            self.writes.push(write)?;
-        }
-        Ok(())
+        self.drives.fill(byte)
     }
 }

@@ -30,8 +30,8 @@ impl Machine {
             Bare::Sent(port) => self.wires.accept(port),
             Bare::Sector(drive, sector) => self.bring(drive, sector),
             Bare::Written(number) => {
-                self.wires.disk.written(number)?;
-                self.disk.complete(&self.wires.writes, number);
+                self.wires.drives.finish(number)?;
+                self.disk.complete(&self.wires.drives.writes, number);
                 Ok(())
             }
         }
@@ -48,17 +48,15 @@ impl Machine {
         ensures disk { self.new.disk ≡ self.old.disk }
         ensures sector { OnOk result (ReadsSector (alone_of self.old) (Bare.Sector drive sector)) }
     {
-        self.wires.disk.stands();
-        if self.wires.disk.selected() != Some(drive) {
+        let Some(track) = self.wires.drives.track_of(drive) else {
             return Err(Fault::NotDue);
-        }
-        let track = self.wires.disk.track(drive);
+        };
         let bytes = self.disk.get(SectorAddress {
             drive,
             track,
             sector,
         });
-        self.wires.disk.sector(sector, bytes)
+        self.wires.drives.arrive(sector, bytes)
     }
 }
 
