@@ -1,10 +1,12 @@
 //! What happens in a world of pairs, one event for each line of a script, and what is answered.
 #![tactic(auto)]
 
+mod answer;
 mod event;
 mod reply;
 #[cfg(test)]
 mod tests;
 
+pub use answer::Answer;
 pub use event::Event;
 pub use reply::{Reply, Role, Why};

@@ -1,5 +1,8 @@
 //! What is answered to an event, and what a node is; each shows itself in the words of a script's output.
 
+ghost use Rattle.std.specs.Prelude.{Some};
+ghost use Rattle.pair_events.specs.Printed.{reply_text, role_text, why_text};
+
 use event_callbacks::OpId;
 use std::fmt;
 
@@ -67,6 +70,8 @@ pub enum Reply {
 }
 
 impl fmt::Display for Role {
+    ghost output = { λ role. Some (role_text role) };
+
     fn fmt<W: fmt::Write>(&self, f: &mut fmt::Formatter<W>) -> fmt::Result {
         match self {
             Role::Primary => write!(f, "primary"),
@@ -79,6 +84,8 @@ impl fmt::Display for Role {
 }
 
 impl fmt::Display for Why {
+    ghost output = { λ why. Some (why_text why) };
+
     fn fmt<W: fmt::Write>(&self, f: &mut fmt::Formatter<W>) -> fmt::Result {
         match self {
             Why::Turns => write!(f, "turns"),
@@ -92,6 +99,8 @@ impl fmt::Display for Why {
 }
 
 impl fmt::Display for Reply {
+    ghost output = { λ reply. Some (reply_text reply) };
+
     fn fmt<W: fmt::Write>(&self, f: &mut fmt::Formatter<W>) -> fmt::Result {
         match self {
             Reply::Ran { steps, count, why } => write!(f, "ran {steps} count {count} {why}"),

@@ -1,0 +1,93 @@
+-- What a script prints: a line for each reply, each refusal and each query, as docs/SCRIPTS.md has them.
+use Rattle.std.specs.Prelude.{ℕ, ◌/◌, ◌%◌, Bool, true, false, List, [], ◌∷◌, ◌++◌, codes}
+use Rattle.std.specs.List.{flat_map}
+use Rattle.std.specs.Fmt.{decimal, digit_glyph}
+use Rattle.event_callbacks.specs.declared.operations.OpId.TheVariants as id
+use Rattle.i8080_words.specs.declared.refusal.Fault.{Fault}
+use Rattle.i8080_words.specs.Refusals.{number_of}
+use Rattle.pair_events.specs.declared.reply.Reply.{Reply}
+use Rattle.pair_events.specs.declared.reply.Reply.TheVariants as reply
+use Rattle.pair_events.specs.declared.reply.Role.{Role}
+use Rattle.pair_events.specs.declared.reply.Role.TheVariants as role
+use Rattle.pair_events.specs.declared.reply.Why.{Why}
+use Rattle.pair_events.specs.declared.reply.Why.TheVariants as why
+use Rattle.pair_events.specs.declared.answer.Answer.{Answer}
+use Rattle.pair_events.specs.declared.answer.Answer.TheVariants as answer
+
+-- one text, a space, and another
+infixr 10 ◌␣◌
+abbrev pub ◌␣◌ : List ℕ → List ℕ → List ℕ
+first ␣ second = first ++ (32 ∷ second)
+
+-- W: why no more steps were made
+abbrev pub why_text : Why → List ℕ
+why_text why.Turns = codes "turns"
+why_text why.Idle = codes "idle"
+why_text why.Spent = codes "spent"
+why_text why.Memory = codes "memory"
+why_text (why.Operation (id.Byte port x)) = codes "byte" ␣ decimal port ␣ decimal x
+why_text (why.Operation (id.Write x)) = codes "write" ␣ decimal x
+
+-- moves that were made, and whether that was the end
+abbrev pub moved_text : ℕ → Bool → List ℕ
+moved_text i false = codes "moved" ␣ decimal i
+moved_text i true = codes "moved" ␣ decimal i ␣ codes "end"
+
+-- The replies to events.
+abbrev pub reply_text : Reply → List ℕ
+reply_text (reply.Ran i c w) = codes "ran" ␣ decimal i ␣ codes "count" ␣ decimal c ␣ why_text w
+reply_text (reply.Typed i) = codes "typed" ␣ decimal i
+reply_text reply.Taken = codes "taken"
+reply_text (reply.Message m) = codes "message" ␣ decimal m
+reply_text reply.New = codes "new"
+reply_text reply.Old = codes "old"
+reply_text (reply.Held h) = codes "held" ␣ decimal h
+reply_text (reply.Moved i ended) = moved_text i ended
+reply_text (reply.MovedAlone i) = codes "moved" ␣ decimal i ␣ codes "alone"
+reply_text reply.Accepted = codes "accepted"
+reply_text reply.Dropped = codes "dropped"
+reply_text (reply.Told k) = codes "told" ␣ decimal k
+reply_text reply.Won = codes "won"
+reply_text reply.Stopped = codes "stopped"
+
+-- A refusal: its number.
+abbrev pub refusal_text : Fault → List ℕ
+refusal_text fault = codes "refused" ␣ decimal (number_of fault)
+
+-- HH: a byte as two hexadecimal digits, in upper case
+abbrev pub byte_text : ℕ → List ℕ
+byte_text byte = digit_glyph true (byte / 16) ∷ digit_glyph true (byte % 16) ∷ []
+
+-- each byte after a space
+abbrev pub bytes_text : List ℕ → List ℕ
+bytes_text bytes = flat_map (λ (byte : ℕ). 32 ∷ byte_text byte) bytes
+
+-- `show P`: the bytes that a terminal has accepted
+abbrev pub accepted_text : ℕ → List ℕ → List ℕ
+accepted_text port bytes = codes "port" ␣ decimal port ++ (codes ":" ++ bytes_text bytes)
+
+-- `packet M`: the bytes of a message
+abbrev pub packet_text : List ℕ → List ℕ
+packet_text [] = []
+packet_text (byte ∷ bytes) = byte_text byte ++ bytes_text bytes
+
+-- a role
+abbrev pub role_text : Role → List ℕ
+role_text role.Primary = codes "primary"
+role_text role.Backup = codes "backup"
+role_text role.Draining = codes "draining"
+role_text role.Alone = codes "alone"
+role_text role.Halted = codes "halted"
+
+-- `node N`: its role, generation and count
+abbrev pub node_text : Role → ℕ → ℕ → List ℕ
+node_text role.Halted g c = role_text role.Halted
+node_text other g c = role_text other ␣ decimal g ␣ codes "count" ␣ decimal c
+
+-- What is printed for a line.
+abbrev pub answer_text : Answer → List ℕ
+answer_text (answer.Reply reply) = reply_text reply
+answer_text (answer.Refused fault) = refusal_text fault
+answer_text (answer.Accepted port bytes) = accepted_text port bytes.now
+answer_text (answer.Packet bytes) = packet_text bytes.now
+answer_text (answer.Node role g c) = node_text role g c

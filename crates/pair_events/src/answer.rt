@@ -1,0 +1,91 @@
+//! What a line of a script answers, in the words of its output.
+ghost use Rattle.std.specs.Prelude.{Some};
+ghost use Rattle.std.specs.Fmt.{WritesOnOk};
+ghost use Rattle.pair_events.specs.Printed.{answer_text, byte_text, bytes_text};
+
+use crate::reply::{Reply, Role};
+use i8080_words::Fault;
+use std::fmt;
+
+/// The answer to an event or a query.
+#[derive(Clone, Copy)]
+pub enum Answer<'a> {
+    /// An event happened.
+    Reply(Reply),
+    /// An event was refused, or what was asked for is not there.
+    Refused(Fault),
+    /// The bytes that the terminal of a port has accepted.
+    Accepted {
+        port: u8,
+        bytes: &'a [u8],
+    },
+    /// The bytes of a message of the log.
+    Packet(&'a [u8]),
+    /// What a node shows of itself: what it is, of which generation, from 1, and how many steps its machine has made.
+    Node {
+        role: Role,
+        generation: u32,
+        count: u64,
+    },
+}
+
+// A byte that prints as two hexadecimal digits.
+#[derive(Clone, Copy)]
+struct Hexadecimal(u8);
+
+impl fmt::Display for Hexadecimal {
+    ghost output = { λ byte. Some (byte_text byte.0) };
+
+    fn fmt<W: fmt::Write>(&self, f: &mut fmt::Formatter<W>) -> fmt::Result {
+        write_byte(f, self.0)
+    }
+}
+
+fn write_byte<W: fmt::Write>(f: &mut fmt::Formatter<W>, byte: u8) -> fmt::Result
+    ensures { WritesOnOk W.write_str_gives f.old result (byte_text byte) f.new }
+{
+    write!(f, "{byte:02X}")
+}
+
+// Bytes that print so, each after a space.
+#[derive(Clone, Copy)]
+struct Spaced<'a>(&'a [u8]);
+
+impl fmt::Display for Spaced<'_> {
+    ghost output = { λ spaced. Some (bytes_text spaced.0.now) };
+
+    fn fmt<W: fmt::Write>(&self, f: &mut fmt::Formatter<W>) -> fmt::Result {
+        for byte in self.0 {
+            write!(f, " {}", Hexadecimal(*byte))?;
+        }
+        Ok(())
+    }
+}
+
+impl fmt::Display for Answer<'_> {
+    ghost output = { λ answer. Some (answer_text answer) };
+
+    fn fmt<W: fmt::Write>(&self, f: &mut fmt::Formatter<W>) -> fmt::Result {
+        match self {
+            Answer::Reply(reply) => write!(f, "{reply}"),
+            Answer::Refused(fault) => write!(f, "refused {}", fault.number()),
+            Answer::Accepted { port, bytes } => write!(f, "port {port}:{}", Spaced(bytes)),
+            Answer::Packet([]) => Ok(()),
+            Answer::Packet([first, rest @ ..]) => write!(
+                f,
+                "{}{}",
+                Hexadecimal(*first),
+                Spaced(rest)
+            ),
+            Answer::Node {
+                role: Role::Halted,
+                ..
+            } => write!(f, "{}", Role::Halted),
+            Answer::Node {
+                role,
+                generation,
+                count,
+            } => write!(f, "{role} {generation} count {count}"),
+        }
+    }
+}
