@@ -14,7 +14,7 @@ changed step_in step_out load unload d =
     if unload then table.unloaded after_load else after_load
 
 by_bits : (i o l u on : Bool) (track : ℕ)
-    → record {track = track_after i o track; loaded = not u && (l || on)} ≡ changed i o l u (record {track = track; loaded = on})
+    → record { track = track_after i o track; loaded = not u && (l || on) } ≡ changed i o l u (record { track = track; loaded = on })
 by_bits true true true true on track = refl
 by_bits true true true false on track = refl
 by_bits true true false true on track = refl
@@ -36,6 +36,6 @@ pub commanded : (byte track : ℕ) (on : Bool)
     → record {
       track = track_after (table.has_bit byte 0) (table.has_bit byte 1) track;
       loaded = not (table.has_bit byte 3) && (table.has_bit byte 2 || on);
-    } ≡ table.commanded_drive byte (record {track = track; loaded = on})
+    } ≡ table.commanded_drive byte (record { track = track; loaded = on })
 commanded byte track on =
     by_bits (table.has_bit byte 0) (table.has_bit byte 1) (table.has_bit byte 2) (table.has_bit byte 3) on track

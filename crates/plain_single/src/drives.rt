@@ -3,7 +3,6 @@
 ghost use Rattle.std.specs.Prelude.{◌≡◌, ◌<◌, ◌≤◌, ◌^◌, ℕ, [], ◌∷◌, ◌++◌, Some, if◌then◌else◌, IfOk, IfErr, OnOk, vec_len};
 ghost use Rattle.disk_dcdd.specs.Command as commands;
 ghost use Rattle.disk_dcdd.specs.Drive as table;
-ghost use Rattle.disk_dcdd.specs.Completion as completion;
 ghost use Rattle.i8080_words.specs.declared.refusal.Fault.TheVariants.{OutOfMemory};
 ghost use Rattle.plain_single.specs.Passing.{selected_of};
 
@@ -14,7 +13,7 @@ mod passing;
 use disk_dcdd::{GREATEST_NUMBER, SectorWrite};
 use head::{Head, bits};
 use i8080_words::R;
-use passing::{Passing, Selection, Stage};
+use passing::{LAST_BYTE, NOTHING, SECTOR_BYTES, Selection, Stage};
 use std::alloc::Global;
 
 // How many drives a controller has at most.
@@ -22,9 +21,6 @@ const DRIVES: usize = 4;
 
 // How many writes may wait to be done.
 const AWAITED: usize = 8;
-
-// The place of a sector's last byte.
-const LAST_BYTE: u8 = 136;
 
 // The places of the status bits. Bit 1, that the head may move, is always 0, and so are bits 3 and 4, which are not used.
 const ENTER_NEW_WRITE_DATA: u8 = 0;
@@ -36,9 +32,6 @@ const INTERRUPTS_ENABLED: u8 = 5;
 const TRACK_ZERO: u8 = 6;
 
 const NEW_READ_DATA: u8 = 7;
-
-// What IN 08h gives with no drive selected.
-const NOTHING: u8 = 0xff;
 
 /// A write that is not done yet: its number, and the sector to which it goes.
 #[derive(Clone, Copy)]
@@ -112,15 +105,16 @@ impl DiskDrives {
         ensures drives { drives_of self.new ≡ table.after_select (drives_of self.old) byte }
         ensures writes { self.new.writes ≡ self.old.writes }
     {
+        // Bit 7 selects none, and bits 3 to 0 name a drive.
         let drive = byte % 16;
-        self.selection = if byte < 128 && drive < self.attached {
+        self.selection = if byte < 0x80 && drive < self.attached {
             Selection::Waiting(drive)
         } else {
             Selection::Nothing
         };
     }
 
-    /// IN 08h: the status of the selected drive, each bit 0 where its fact holds.
+    /// IN 08h: the status of the selected drive, each bit 0 while its fact holds.
     pub(crate) fn status(&self) -> u8
         ensures { result ≡ table.status_of (drives_of self.now) }
     {
@@ -195,7 +189,7 @@ impl DiskDrives {
     }
 
     // A write of a sector of the selected drive is issued, and the sector leaves.
-    fn issue(&mut self, drive: u8, sector: u8, bytes: [u8; 137]) -> R<()>
+    fn issue(&mut self, drive: u8, sector: u8, bytes: [u8; SECTOR_BYTES]) -> R<()>
         requires selected { selected_of self.old.selection ≡ Some drive }
         requires numbers { vec_len self.old.writes < GREATEST_NUMBER }
         ensures drives { IfOk result (λ _. drives_of self.new ≡ table.after_issue (drives_of self.old)

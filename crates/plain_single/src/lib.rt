@@ -1,4 +1,5 @@
-//! The single machine, run by itself from a list of timed inputs: a second executor that shares no code with the first.
+//! The single machine, run by itself from a list of timed inputs: a second executor, with its own fetch, dispatch, memory,
+//! serial lines and drives; with the board it shares the words of the 8080 and plain data alone.
 #![tactic(auto)]
 
 mod drives;

@@ -6,7 +6,7 @@ ghost use Rattle.disk_dcdd.specs.Sector.{is_at};
 ghost use Rattle.plain_single.specs.Awaited.{place_with};
 ghost use Rattle.std.specs.List.{list_any};
 
-use super::passing::{Passing, Selection, Stage};
+use super::passing::{Passing, SECTOR_BYTES, Selection, Stage};
 use super::{Awaited, DiskDrives};
 use i8080_words::{Fault, R};
 
@@ -29,9 +29,9 @@ impl DiskDrives {
         }
     }
 
-    /// A sector of this number comes under the head, with these bytes. `NotDue` where the head waits for no sector, or no
-    /// track has one of this number; else `SectorBusy` where a write of it is not done.
-    pub(crate) fn arrive(&mut self, number: u8, bytes: [u8; 137]) -> R<()>
+    /// A sector of this number comes under the head, with these bytes. `NotDue` if the head waits for no sector, or no
+    /// track has one of this number; else `SectorBusy` if a write of it is not done.
+    pub(crate) fn arrive(&mut self, number: u8, bytes: [u8; SECTOR_BYTES]) -> R<()>
         ensures answer { result ≡ table.answered (table.sector_refusal (drives_of self.old) number) }
         ensures drives { OnOk result (drives_of self.new ≡ table.after_sector (drives_of self.old) number bytes) }
         ensures writes { self.new.writes ≡ self.old.writes }
@@ -57,7 +57,7 @@ impl DiskDrives {
         Ok(())
     }
 
-    /// The write of this number is done. `NotDue` where it is done already, or was never issued.
+    /// The write of this number is done. `NotDue` if it is done already, or was never issued.
     pub(crate) fn finish(&mut self, number: u64) -> R<()>
         ensures answer { result ≡ table.answered (table.written_refusal (drives_of self.old) number) }
         ensures drives { OnOk result (drives_of self.new ≡ table.after_written (drives_of self.old) number) }
@@ -97,9 +97,9 @@ impl DiskDrives {
 fn has_write_at(awaited: &[Awaited], drive: u8, track: u8, sector: u8) -> bool
     ensures { result ≡ list_any (λ write. is_at drive track sector (place_with write)) awaited.now }
 {
-    awaited
-        .iter()
-        .any(|write| write.drive == drive && write.track == track && write.sector == sector)
+    awaited.iter().any(|write| write.drive == drive
+        && write.track == track
+        && write.sector == sector)
 }
 
 // Whether one of these writes has this number.

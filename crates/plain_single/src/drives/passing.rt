@@ -5,16 +5,16 @@ ghost use Rattle.disk_dcdd.specs.Sector as table;
 
 use super::head::bits;
 
-// How many bytes a sector has.
-const SECTOR_BYTES: u8 = 137;
+/// How many bytes a sector has.
+pub(crate) const SECTOR_BYTES: usize = 137;
 
-// The place of its last byte.
-const LAST_BYTE: u8 = 136;
+/// The place of its last byte.
+pub(crate) const LAST_BYTE: u8 = 136;
 
-// What a port gives that has nothing to show.
-const NOTHING: u8 = 0xff;
+/// What a port gives that has nothing to show.
+pub(crate) const NOTHING: u8 = 0xff;
 
-// The sector position of sector 0: bits 7 and 6 are 1, bits 5 to 1 have the number, and bit 0 is 0 for a sector that is there.
+// The position of sector 0: bits 7 and 6 are 1, bits 5 to 1 have the sector's number, and bit 0 is 0.
 const SECTOR_ZERO: u8 = 0xc0;
 
 /// What becomes of a sector: its bytes are read, or it is written, and this many bytes are filled in.
@@ -28,7 +28,7 @@ pub(crate) enum Stage {
 #[derive(Clone, Copy)]
 pub(crate) struct Passing {
     pub(crate) number: u8,
-    pub(crate) bytes: [u8; 137],
+    pub(crate) bytes: [u8; SECTOR_BYTES],
     pub(crate) read: u8,
     pub(crate) shown: bool,
     pub(crate) stage: Stage,
@@ -73,7 +73,7 @@ impl Selection {
         }
     }
 
-    /// OUT 09h: the sector leaves where it is being written, or the head moves off it; a write of one that stays may start.
+    /// OUT 09h: the sector leaves if it is being written or the head moves off it, and else a write of it may start.
     pub(crate) fn command(&mut self, byte: u8)
         ensures after { current_of self.new ≡ commands.commanded_sector byte (current_of self.old) }
         ensures drive { selected_of self.new ≡ selected_of self.old }
@@ -99,7 +99,7 @@ impl Selection {
         }
     }
 
-    /// Whether the next byte of the sector may be filled in, where there is room for one more write or not.
+    /// Whether the next byte of the sector may be filled in.
     pub(crate) fn enters_new_data(&self, has_room: bool) -> bool
         ensures { result ≡ table.enters_new_data has_room (current_of self.now) }
     {
@@ -109,7 +109,7 @@ impl Selection {
         }
     }
 
-    /// IN 09h: the position of the sector, which leaves where it was shown already.
+    /// IN 09h: the position of the sector, which leaves if it was shown already.
     pub(crate) fn look(&mut self) -> u8
         ensures value { result ≡ table.shown_position (current_of self.old) }
         ensures after { current_of self.new ≡ table.after_showing (current_of self.old) }
@@ -126,7 +126,7 @@ impl Selection {
         SECTOR_ZERO + 2 * passing.number
     }
 
-    /// IN 0Ah: the next byte of the sector, which leaves behind its last one.
+    /// IN 0Ah: the next byte of the sector, which leaves after its last one.
     pub(crate) fn read(&mut self) -> u8
         ensures value { result ≡ table.next_byte (current_of self.old) }
         ensures after { current_of self.new ≡ table.after_reading (current_of self.old) }
@@ -140,7 +140,7 @@ impl Selection {
         }
         let byte = passing.bytes[passing.read as usize];
         passing.read += 1;
-        if passing.read == SECTOR_BYTES {
+        if passing.read > LAST_BYTE {
             self.leave();
         }
         byte
@@ -172,7 +172,7 @@ impl Passing {
         ensures { result ≡ table.may_read (sector_of self.now) }
     {
         match self.stage {
-            Stage::Reading => self.read < SECTOR_BYTES,
+            Stage::Reading => self.read <= LAST_BYTE,
             Stage::Filling(_) => false,
         }
     }

@@ -1,6 +1,7 @@
 //! Numbers that random walks are folded to, as the independent program did that made the numbers in these tests.
 
 /// Random bytes: the high bytes of x = 1664525 x + 1013904223 modulo 2^32.
+#[derive(Clone, Copy)]
 pub(crate) struct Random {
     pub(crate) x: u32,
 }
@@ -22,6 +23,7 @@ impl Random {
 }
 
 /// Bytes folded to one number: the number and the byte are combined by exclusive or, times 16777619 modulo 2^32.
+#[derive(Clone, Copy)]
 pub(crate) struct Fold {
     pub(crate) number: u32,
 }
