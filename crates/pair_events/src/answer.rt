@@ -15,13 +15,16 @@ pub enum Answer<'a> {
     /// An event was refused, or what was asked for is not there.
     Refused(Fault),
     /// The bytes that the terminal of a port has accepted.
-    Accepted { port: u8, bytes: &'a [u8] },
+    Accepted {
+        port: u8,
+        bytes: &'a [u8],
+    },
     /// The bytes of a message of the log.
     Packet(&'a [u8]),
-    /// What a node shows of itself.
+    /// What a node shows of itself: what it is, of which generation, from 1, and how many steps its machine has made.
     Node {
         role: Role,
-        generation: u64,
+        generation: u32,
         count: u64,
     },
 }
@@ -68,9 +71,15 @@ impl fmt::Display for Answer<'_> {
             Answer::Refused(fault) => write!(f, "refused {}", fault.number()),
             Answer::Accepted { port, bytes } => write!(f, "port {port}:{}", Spaced(bytes)),
             Answer::Packet([]) => Ok(()),
-            Answer::Packet([first, rest @ ..]) => write!(f, "{}{}", Hexadecimal(*first), Spaced(rest)),
+            Answer::Packet([first, rest @ ..]) => write!(
+                f,
+                "{}{}",
+                Hexadecimal(*first),
+                Spaced(rest)
+            ),
             Answer::Node {
-                role: Role::Halted, ..
+                role: Role::Halted,
+                ..
             } => write!(f, "{}", Role::Halted),
             Answer::Node {
                 role,

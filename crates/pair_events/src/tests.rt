@@ -1,6 +1,7 @@
 //! The words of a script's output.
-use crate::{Event, Reply, Role, Why};
+use crate::{Answer, Event, Reply, Role, Why};
 use event_callbacks::OpId;
+use i8080_words::Fault;
 use std::test::Fail;
 
 #[test]
@@ -51,6 +52,33 @@ fn replies_show_as_words(rt: HostRuntime) -> Result<(), Fail> {
     ];
     for (role, text) in roles {
         assert_eq!(rt; format!(in rt.alloc(); "{role}")?.as_str(), text);
+    }
+    Ok(())
+}
+
+#[test]
+fn queries_and_refusals_show_as_words(rt: HostRuntime) -> Result<(), Fail> {
+    let node = |role| Answer::Node {
+        role,
+        generation: 1,
+        count: 20,
+    };
+    let accepted = |port, bytes| Answer::Accepted { port, bytes };
+    let answers = [
+        (Answer::Reply(Reply::Won), "won"),
+        (Answer::Refused(Fault::NotCovered), "refused 12"),
+        (accepted(0, b"HI".as_slice()), "port 0: 48 49"),
+        (accepted(1, b"".as_slice()), "port 1:"),
+        (Answer::Packet(b"\x41\x00\xff\x0a"), "41 00 FF 0A"),
+        (Answer::Packet(b""), ""),
+        (node(Role::Primary), "primary 1 count 20"),
+        (node(Role::Backup), "backup 1 count 20"),
+        (node(Role::Draining), "draining 1 count 20"),
+        (node(Role::Alone), "alone 1 count 20"),
+        (node(Role::Halted), "halted"),
+    ];
+    for (answer, text) in answers {
+        assert_eq!(rt; format!(in rt.alloc(); "{answer}")?.as_str(), text);
     }
     Ok(())
 }

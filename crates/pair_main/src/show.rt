@@ -1,8 +1,11 @@
 //! What a line of a script answers, in words.
+ghost use Rattle.std.specs.Prelude.{Some};
+ghost use Rattle.pair_events.specs.Printed.{accepted_text, node_text, packet_text, refusal_text, reply_text};
+ghost use Rattle.pair_main.specs.declared.show.Answer.TheVariants as answer;
 
 use ft_world::NodeStatus;
 use i8080_words::Fault;
-use pair_events::{Reply, Role};
+use pair_events::{Answer as Printed, Reply};
 use std::fmt;
 
 /// The answer to a line.
@@ -21,41 +24,33 @@ pub enum Answer<'a> {
 }
 
 impl<'a> fmt::Display for Answer<'a> {
+    ghost output = { λ shown. Some (elim shown [
+      | answer.Reply reply ↦ reply_text reply
+      | answer.Refused fault ↦ refusal_text fault
+      | answer.Accepted port bytes ↦ accepted_text port bytes.now
+      | answer.Packet bytes ↦ packet_text bytes.now
+      | answer.Node status ↦ node_text status.role status.generation status.count
+    ]) };
+
     fn fmt<W: fmt::Write>(&self, f: &mut fmt::Formatter<W>) -> fmt::Result {
-        match self {
-            Answer::Reply(reply) => write!(f, "{reply}"),
-            Answer::Refused(fault) => write!(f, "refused {}", fault.number()),
-            Answer::Accepted { port, bytes } => {
-                write!(f, "port {port}:")?;
-                write_bytes(f, bytes)
+        match *self {
+            Answer::Reply(reply) => write!(f, "{}", Printed::Reply(reply)),
+            Answer::Refused(fault) => write!(f, "{}", Printed::Refused(fault)),
+            Answer::Accepted { port, bytes } => write!(f, "{}", Printed::Accepted { port, bytes }),
+            Answer::Packet(bytes) => write!(f, "{}", Printed::Packet(bytes)),
+            Answer::Node(status) => {
+                let NodeStatus {
+                    role,
+                    generation,
+                    count,
+                } = status;
+                let node = Printed::Node {
+                    role,
+                    generation,
+                    count,
+                };
+                write!(f, "{node}")
             }
-            Answer::Packet([]) => Ok(()),
-            Answer::Packet([first, rest @ ..]) => {
-                write!(f, "{first:02X}")?;
-                write_bytes(f, rest)
-            }
-            Answer::Node(status) => write_node(f, *status),
         }
-    }
-}
-
-// Each byte behind a space.
-fn write_bytes<W: fmt::Write>(f: &mut fmt::Formatter<W>, bytes: &[u8]) -> fmt::Result {
-    for byte in bytes {
-        write!(f, " {byte:02X}")?;
-    }
-    Ok(())
-}
-
-// A halted node has no generation and no count to show.
-fn write_node<W: fmt::Write>(f: &mut fmt::Formatter<W>, status: NodeStatus) -> fmt::Result {
-    let NodeStatus {
-        role,
-        generation,
-        count,
-    } = status;
-    match role {
-        Role::Halted => write!(f, "{role}"),
-        _ => write!(f, "{role} {generation} count {count}"),
     }
 }

@@ -1,4 +1,4 @@
-use Rattle.std.proofs.Common.{rules, arith, true, ◌<◌, ◌^◌}
+use Rattle.std.proofs.Common.{rules, true}
 use Rattle.std.proofs.lemmas.Fmt.{hex_byte}
 use Rattle.std.proofs.Output.{has_written_of_eq}
 use Rattle.pair_events.proofs.answer.write_byte.Goals as goal
