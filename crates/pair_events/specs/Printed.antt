@@ -30,23 +30,23 @@ why_text (why.Operation (id.Write x)) = codes "write" ␣ decimal x
 
 -- moves that were made, and whether that was the end
 abbrev pub moved_text : ℕ → Bool → List ℕ
-moved_text i false = codes "moved" ␣ decimal i
-moved_text i true = codes "moved" ␣ decimal i ␣ codes "end"
+moved_text moves false = codes "moved" ␣ decimal moves
+moved_text moves true = codes "moved" ␣ decimal moves ␣ codes "end"
 
 -- The replies to events.
 abbrev pub reply_text : Reply → List ℕ
-reply_text (reply.Ran i c w) = codes "ran" ␣ decimal i ␣ codes "count" ␣ decimal c ␣ why_text w
-reply_text (reply.Typed i) = codes "typed" ␣ decimal i
+reply_text (reply.Ran steps count reason) = codes "ran" ␣ decimal steps ␣ codes "count" ␣ decimal count ␣ why_text reason
+reply_text (reply.Typed index) = codes "typed" ␣ decimal index
 reply_text reply.Taken = codes "taken"
-reply_text (reply.Message m) = codes "message" ␣ decimal m
+reply_text (reply.Message message) = codes "message" ␣ decimal message
 reply_text reply.New = codes "new"
 reply_text reply.Old = codes "old"
-reply_text (reply.Held h) = codes "held" ␣ decimal h
-reply_text (reply.Moved i ended) = moved_text i ended
-reply_text (reply.MovedAlone i) = codes "moved" ␣ decimal i ␣ codes "alone"
+reply_text (reply.Held held) = codes "held" ␣ decimal held
+reply_text (reply.Moved moves at_end) = moved_text moves at_end
+reply_text (reply.MovedAlone moves) = codes "moved" ␣ decimal moves ␣ codes "alone"
 reply_text reply.Accepted = codes "accepted"
 reply_text reply.Dropped = codes "dropped"
-reply_text (reply.Told k) = codes "told" ␣ decimal k
+reply_text (reply.Told keys) = codes "told" ␣ decimal keys
 reply_text reply.Won = codes "won"
 reply_text reply.Stopped = codes "stopped"
 
@@ -64,7 +64,7 @@ bytes_text bytes = flat_map (λ (byte : ℕ). 32 ∷ byte_text byte) bytes
 
 -- `show P`: the bytes that a terminal has accepted
 abbrev pub accepted_text : ℕ → List ℕ → List ℕ
-accepted_text port bytes = codes "port" ␣ decimal port ++ (codes ":" ++ bytes_text bytes)
+accepted_text port bytes = codes "port" ␣ (decimal port ++ (codes ":" ++ bytes_text bytes))
 
 -- `packet M`: the bytes of a message
 abbrev pub packet_text : List ℕ → List ℕ
@@ -81,13 +81,13 @@ role_text role.Halted = codes "halted"
 
 -- `node N`: its role, generation and count
 abbrev pub node_text : Role → ℕ → ℕ → List ℕ
-node_text role.Halted g c = role_text role.Halted
-node_text other g c = role_text other ␣ decimal g ␣ codes "count" ␣ decimal c
+node_text role.Halted generation count = role_text role.Halted
+node_text other generation count = role_text other ␣ decimal generation ␣ codes "count" ␣ decimal count
 
 -- What is printed for a line.
 abbrev pub answer_text : Answer → List ℕ
-answer_text (answer.Reply reply) = reply_text reply
+answer_text (answer.Reply happened) = reply_text happened
 answer_text (answer.Refused fault) = refusal_text fault
 answer_text (answer.Accepted port bytes) = accepted_text port bytes.now
 answer_text (answer.Packet bytes) = packet_text bytes.now
-answer_text (answer.Node role g c) = node_text role g c
+answer_text (answer.Node what generation count) = node_text what generation count

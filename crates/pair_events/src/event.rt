@@ -6,7 +6,7 @@ use event_callbacks::OpId;
 /// to be one that is there: an event that names what is not there is refused as unknown.
 #[derive(Clone, Copy, Debug, PartialEq, Eq)]
 pub enum Event {
-    /// The machine of a node makes at most so many steps, and stops behind the first operation that it gives.
+    /// The machine of a node makes at most so many steps, and stops after the first operation that it gives.
     Step { node: u64, turns: u64 },
     /// A user types a byte at the terminal of a port.
     TypeByte { port: u8, byte: u8 },

@@ -25,11 +25,12 @@ pub enum Answer<'a> {
 
 impl<'a> fmt::Display for Answer<'a> {
     ghost output = { λ shown. Some (elim shown [
-        answer.Reply reply ↦ reply_text reply
+      | answer.Reply reply ↦ reply_text reply
       | answer.Refused fault ↦ refusal_text fault
       | answer.Accepted port bytes ↦ accepted_text port bytes.now
       | answer.Packet bytes ↦ packet_text bytes.now
-      | answer.Node status ↦ node_text status.role status.generation status.count ]) };
+      | answer.Node status ↦ node_text status.role status.generation status.count
+    ]) };
 
     fn fmt<W: fmt::Write>(&self, f: &mut fmt::Formatter<W>) -> fmt::Result {
         match *self {
@@ -37,19 +38,19 @@ impl<'a> fmt::Display for Answer<'a> {
             Answer::Refused(fault) => write!(f, "{}", Printed::Refused(fault)),
             Answer::Accepted { port, bytes } => write!(f, "{}", Printed::Accepted { port, bytes }),
             Answer::Packet(bytes) => write!(f, "{}", Printed::Packet(bytes)),
-            Answer::Node(NodeStatus {
-                role,
-                generation,
-                count,
-            }) => write!(
-                f,
-                "{}",
-                Printed::Node {
+            Answer::Node(status) => {
+                let NodeStatus {
                     role,
                     generation,
-                    count
-                }
-            ),
+                    count,
+                } = status;
+                let node = Printed::Node {
+                    role,
+                    generation,
+                    count,
+                };
+                write!(f, "{node}")
+            }
         }
     }
 }

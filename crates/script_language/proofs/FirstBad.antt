@@ -73,13 +73,13 @@ pub bad_stays : (lines : List (List ℕ)) (room number : ℕ) (said : Said) (k :
 bad_stays [] room number said k h = ap (λ (s : Said). s.bad) (read_nothing room number said) ∙ h
 bad_stays (line ∷ lines) room number said k h =
     bad_stays-at line lines room number said k (nat_lt room (length line)) refl h
-      (bad_stays lines (room - length line) (number + 1) (next_said number line said) k (bad_stays_in_next number line said k h))
+    (bad_stays lines (room - length line) (number + 1) (next_said number line said) k (bad_stays_in_next number line said k h))
 
 -- a line after one that fits
 after_one-none : (room number : ℕ) (said : Said) (line : List ℕ) (before : List (List ℕ)) (found : List ℕ) (bad : ℕ)
     → nat_lt room (length line) ≡ false
     → ((room - length line < bytes_in before + length found)
-      ⊎ (with_line bad (text_of found) (read (room - length line) (number + 1) before (next_said number line said)) ≡ None))
+    ⊎ (with_line bad (text_of found) (read (room - length line) (number + 1) before (next_said number line said)) ≡ None))
     → (room < bytes_in (line ∷ before) + length found) ⊎ (with_line bad (text_of found) (read room number (line ∷ before) said) ≡ None)
 after_one-none room number said line before found bad e (inl far) = inl (let fits = lt_false room (length line) e in omega (arith, far, fits))
 after_one-none room number said line before found bad e (inr none) =
@@ -93,7 +93,8 @@ after_one room number said line lines bad e h = record {
   after = h.after;
   all = ap (λ (rest : List (List ℕ)). line ∷ rest) h.all;
   counted = let c = h.counted in omega (arith, c);
-  none = after_one-none room number said line h.before h.line bad e h.none }
+  none = after_one-none room number said line h.before h.line bad e h.none;
+}
 
 pub some_is : (a b : ℕ) → Some a ≡ Some b → a ≡ b
 some_is a b e = cc
@@ -106,7 +107,7 @@ named-far : (room number : ℕ) (said : Said) (line : List ℕ) (lines : List (L
     → said.bad ≡ None → (read room number (line ∷ lines) said).bad ≡ Some k → NoLineIn room number said (line ∷ lines) k
 named-far room number said line lines k e none h =
     let is : number ≡ k = some_is number k (sym (ap (λ (bad : Option ℕ). option_or bad (Some number)) none)
-        ∙ sym (ap (λ (s : Said). s.bad) (read_no_more room number line lines said e)) ∙ h) in
+    ∙ sym (ap (λ (s : Said). s.bad) (read_no_more room number line lines said e)) ∙ h) in
     let far : room < length line = lt_true room (length line) e in
     record { before = []; line = line; after = lines; all = refl; counted = omega (arith, is); none = inl (omega (arith, far)) }
 
@@ -115,12 +116,18 @@ named-here : (room number : ℕ) (said : Said) (line : List ℕ) (lines : List (
     → (read (room - length line) (number + 1) lines (next_said number line said)).bad ≡ Some k → NoLineIn room number said (line ∷ lines) k
 named-here room number said line lines k none e h =
     let bad : (next_said number line said).bad ≡ Some number
-          = ap (λ (s : Said). s.bad) (next_bad number line said e) ∙ ap (λ (b : Option ℕ). option_or b (Some number)) none in
+    = ap (λ (s : Said). s.bad) (next_bad number line said e) ∙ ap (λ (b : Option ℕ). option_or b (Some number)) none in
     let is : number ≡ k = some_is number k
-          (sym (bad_stays lines (room - length line) (number + 1) (next_said number line said) number bad) ∙ h) in
-    record { before = []; line = line; after = lines; all = refl; counted = omega (arith, is);
+    (sym (bad_stays lines (room - length line) (number + 1) (next_said number line said) number bad) ∙ h) in
+    record {
+      before = [];
+      line = line;
+      after = lines;
+      all = refl;
+      counted = omega (arith, is);
       none = inr (subst (λ (n : ℕ). with_line n (text_of line) (read room number [] said) ≡ None) is
-        (subst (λ (s : Said). with_line number (text_of line) s ≡ None) (sym (read_nothing room number said)) e)) }
+          (subst (λ (s : Said). with_line number (text_of line) s ≡ None) (sym (read_nothing room number said)) e));
+    }
 
 named-on : (room number : ℕ) (said : Said) (line : List ℕ) (lines : List (List ℕ)) (k : ℕ) (more : Option Said)
     → nat_lt room (length line) ≡ false → said.bad ≡ None → with_line number (text_of line) said ≡ more
@@ -129,17 +136,17 @@ named-on : (room number : ℕ) (said : Said) (line : List ℕ) (lines : List (Li
 named-on room number said line lines k None fits none e rest h = named-here room number said line lines k none e h
 named-on room number said line lines k (Some more) fits none e rest h =
     after_one room number said line lines k fits (rest
-      (ap (λ (s : Said). s.bad) (next_taken number line said more e) ∙ (taken_keeps number (text_of line) said more e).bad ∙ none))
+    (ap (λ (s : Said). s.bad) (next_taken number line said more e) ∙ (taken_keeps number (text_of line) said more e).bad ∙ none))
 
 named-at : (room number : ℕ) (said : Said) (line : List ℕ) (lines : List (List ℕ)) (k : ℕ) (test : Bool) → nat_lt room (length line) ≡ test
     → said.bad ≡ None
     → ((next_said number line said).bad ≡ None → (read (room - length line) (number + 1) lines (next_said number line said)).bad ≡ Some k
-      → NoLineIn (room - length line) (number + 1) (next_said number line said) lines k)
+    → NoLineIn (room - length line) (number + 1) (next_said number line said) lines k)
     → (read room number (line ∷ lines) said).bad ≡ Some k → NoLineIn room number said (line ∷ lines) k
 named-at room number said line lines k true e none rest h = named-far room number said line lines k e none h
 named-at room number said line lines k false e none rest h =
     let on : (read (room - length line) (number + 1) lines (next_said number line said)).bad ≡ Some k
-          = sym (ap (λ (s : Said). s.bad) (read_on room number line lines said e)) ∙ h in
+    = sym (ap (λ (s : Said). s.bad) (read_on room number line lines said e)) ∙ h in
     named-on room number said line lines k (with_line number (text_of line) said) e none refl (λ b. rest b on) on
 
 pub named : (lines : List (List ℕ)) (room number : ℕ) (said : Said) (k : ℕ) → said.bad ≡ None
@@ -148,7 +155,7 @@ named [] room number said k none h =
     absurd (none_is_not_some k (sym none ∙ sym (ap (λ (s : Said). s.bad) (read_nothing room number said)) ∙ h))
 named (line ∷ lines) room number said k none h =
     named-at room number said line lines k (nat_lt room (length line)) refl none
-      (λ b on. named lines (room - length line) (number + 1) (next_said number line said) k b on) h
+    (λ b on. named lines (room - length line) (number + 1) (next_said number line said) k b on) h
 
 -- a line is named that is not after this one
 pub record NamesBy (said : Said) (bad : ℕ) : Type 0 where
@@ -163,16 +170,18 @@ names_far : (room number : ℕ) (said : Said) (line : List ℕ) (lines : List (L
 names_far room number said line lines bad e none within = record {
   line = number;
   named = ap (λ (s : Said). s.bad) (read_no_more room number line lines said e) ∙ ap (λ (b : Option ℕ). option_or b (Some number)) none;
-  first = within }
+  first = within;
+}
 
 names_here : (room number : ℕ) (said : Said) (line : List ℕ) (lines : List (List ℕ)) (bad : ℕ) → nat_lt room (length line) ≡ false
     → said.bad ≡ None → with_line number (text_of line) said ≡ None → number ≤ bad → NamesBy (read room number (line ∷ lines) said) bad
 names_here room number said line lines bad e none h within = record {
   line = number;
   named = ap (λ (s : Said). s.bad) (read_on room number line lines said e)
-    ∙ bad_stays lines (room - length line) (number + 1) (next_said number line said) number
+      ∙ bad_stays lines (room - length line) (number + 1) (next_said number line said) number
       (ap (λ (s : Said). s.bad) (next_bad number line said h) ∙ ap (λ (b : Option ℕ). option_or b (Some number)) none);
-  first = within }
+  first = within;
+}
 
 names_last : (room number : ℕ) (said : Said) (line : List ℕ) (after : List (List ℕ)) (bad : ℕ) (test : Bool) → nat_lt room (length line) ≡ test
     → said.bad ≡ None → bad ≡ number
@@ -191,13 +200,13 @@ names_on : (room number : ℕ) (said : Said) (line : List ℕ) (lines : List (Li
 names_on room number said line lines bad None fits none within e rest = names_here room number said line lines bad fits none e within
 names_on room number said line lines bad (Some more) fits none within e rest =
     subst (λ (s : Said). NamesBy s bad) (sym (read_on room number line lines said fits)) (rest
-      (ap (λ (s : Said). s.bad) (next_taken number line said more e) ∙ (taken_keeps number (text_of line) said more e).bad ∙ none))
+    (ap (λ (s : Said). s.bad) (next_taken number line said more e) ∙ (taken_keeps number (text_of line) said more e).bad ∙ none))
 
 before_one : (room number : ℕ) (said : Said) (line : List ℕ) (before : List (List ℕ)) (found : List ℕ) (bad : ℕ)
     → nat_lt room (length line) ≡ false
     → (room < bytes_in (line ∷ before) + length found) ⊎ (with_line bad (text_of found) (read room number (line ∷ before) said) ≡ None)
     → (room - length line < bytes_in before + length found)
-      ⊎ (with_line bad (text_of found) (read (room - length line) (number + 1) before (next_said number line said)) ≡ None)
+    ⊎ (with_line bad (text_of found) (read (room - length line) (number + 1) before (next_said number line said)) ≡ None)
 before_one room number said line before found bad e (inl far) = inl (let fits = lt_false room (length line) e in omega (arith, far, fits))
 before_one room number said line before found bad e (inr none) =
     inr (subst (λ (s : Said). with_line bad (text_of found) s ≡ None) (read_on room number line before said e) none)
@@ -206,15 +215,15 @@ names_at : (room number : ℕ) (said : Said) (line : List ℕ) (before : List (L
     → nat_lt room (length line) ≡ test → said.bad ≡ None → number ≤ bad
     → ((room < bytes_in (line ∷ before) + length found) ⊎ (with_line bad (text_of found) (read room number (line ∷ before) said) ≡ None))
     → ((next_said number line said).bad ≡ None
-      → ((room - length line < bytes_in before + length found)
-        ⊎ (with_line bad (text_of found) (read (room - length line) (number + 1) before (next_said number line said)) ≡ None))
-      → NamesBy (read (room - length line) (number + 1) (before ++ (found ∷ after)) (next_said number line said)) bad)
+    → ((room - length line < bytes_in before + length found)
+    ⊎ (with_line bad (text_of found) (read (room - length line) (number + 1) before (next_said number line said)) ≡ None))
+    → NamesBy (read (room - length line) (number + 1) (before ++ (found ∷ after)) (next_said number line said)) bad)
     → NamesBy (read room number (line ∷ (before ++ (found ∷ after))) said) bad
 names_at room number said line before found after bad true e none within h rest =
     names_far room number said line (before ++ (found ∷ after)) bad e none within
 names_at room number said line before found after bad false e none within h rest =
     names_on room number said line (before ++ (found ∷ after)) bad (with_line number (text_of line) said) e none within refl
-      (λ b. rest b (before_one room number said line before found bad e h))
+    (λ b. rest b (before_one room number said line before found bad e h))
 
 none_first : (room number : ℕ) (said : Said) (line : List ℕ) (bad : ℕ)
     → (room < 0 + length line) ⊎ (with_line bad (text_of line) (read room number [] said) ≡ None)
@@ -230,4 +239,4 @@ names [] line after room number said bad none counted h =
     names_last room number said line after bad (nat_lt room (length line)) refl none (omega (arith, counted)) (none_first room number said line bad h)
 names (first ∷ before) line after room number said bad none counted h =
     names_at room number said first before line after bad (nat_lt room (length first)) refl none (omega (arith, counted)) h
-      (λ b g. names before line after (room - length first) (number + 1) (next_said number first said) bad b (omega (arith, counted)) g)
+    (λ b g. names before line after (room - length first) (number + 1) (next_said number first said) bad b (omega (arith, counted)) g)

@@ -75,7 +75,10 @@ change_places keyword.Sector =
     gives_of_kind Places (between_of 0 76) (λ (t : ℕ). between 0 31 (λ (s : ℕ). byte (λ (b : ℕ). says (sector_is d t s b)))) (λ t.
     gives_of_kind Places (between_of 0 31) (λ (s : ℕ). byte (λ (b : ℕ). says (sector_is d t s b))) (λ s.
     gives_of_kind Places (hexadecimal_of 2) (λ (b : ℕ). says (sector_is d t s b)) (λ b words line boot. inr (record {
-      filled = record { line = line; drive = d; track = t; sector = s; byte = b }; numbered = refl; all = refl })))))
+      filled = record { line = line; drive = d; track = t; sector = s; byte = b };
+      numbered = refl;
+      all = refl;
+    })))))
 change_places other = λ words. tt
 
 -- what a further line leaves
@@ -107,8 +110,8 @@ boot_keeps-whole number said value false p = tt
 
 boot_keeps-at : (number : ℕ) (said : Said) (found : Option (Change × List (List ℕ))) → OnFound Places found
     → KeepsIfAny number said (with_boot said
-        ((found >>= λ (value : Change × List (List ℕ)). if length value.1 == 0 then Some value.0 else None)
-        >>= λ (change : Change). Some (change number said.boot)))
+    ((found >>= λ (value : Change × List (List ℕ)). if length value.1 == 0 then Some value.0 else None)
+    >>= λ (change : Change). Some (change number said.boot)))
 boot_keeps-at number said None p = tt
 boot_keeps-at number said (Some value) p = boot_keeps-whole number said value (length value.1 == 0) p
 
@@ -124,11 +127,11 @@ keyword_keeps : (word : Keyword) (number : ℕ) (words : List (List ℕ)) (said 
     → KeepsIfAny number said (with_keyword word number words said)
 keyword_keeps word number words said =
     keeps_if number said (is_setup word)
-      (if length said.lines == 0 then with_boot said (boot_after word number words said.boot) else None)
-      (with_more said (whole (line_of word) words))
-      (keeps_if number said (length said.lines == 0) (with_boot said (boot_after word number words said.boot)) None
-        (boot_keeps word number words said) tt)
-      (more_keeps number said (whole (line_of word) words))
+    (if length said.lines == 0 then with_boot said (boot_after word number words said.boot) else None)
+    (with_more said (whole (line_of word) words))
+    (keeps_if number said (length said.lines == 0) (with_boot said (boot_after word number words said.boot)) None
+    (boot_keeps word number words said) tt)
+    (more_keeps number said (whole (line_of word) words))
 
 words_keep : (number : ℕ) (words : List (List ℕ)) (said : Said) → KeepsIfAny number said (with_words number words said)
 words_keep number [] said = tt
@@ -139,7 +142,7 @@ line_keeps : (number : ℕ) (text : List ℕ) (said : Said) → KeepsIfAny numbe
 line_keeps number [] said = nothing_changed number said
 line_keeps number (byte ∷ text) said =
     keeps_if number said (byte == 35) (Some said) (with_words number (words_of (byte ∷ text)) said)
-      (nothing_changed number said) (words_keep number (words_of (byte ∷ text)) said)
+    (nothing_changed number said) (words_keep number (words_of (byte ∷ text)) said)
 
 -- a line that is taken
 pub taken_keeps : (number : ℕ) (text : List ℕ) (said more : Said) → with_line number text said ≡ Some more → Keeps number said more

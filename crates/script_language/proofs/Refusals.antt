@@ -89,13 +89,12 @@ first_is : (drives least : ℕ) (sectors : List Filled) (bound number other : �
 first_is drives least [] bound number other rising e h = absurd h
 first_is drives least (sector ∷ sectors) bound number other rising e h =
     first_is-at drives least sector sectors bound number other (nat_le drives sector.drive) refl rising
-      (first_is drives (sector.line + 1) sectors bound number other rising.1) e h
+    (first_is drives (sector.line + 1) sectors bound number other rising.1) e h
 
 -- what was read has its sectors in order
 record IsOrdered (said : Said) : Type 0 where
   bound : ℕ
   rising : Rising 1 said.boot.sectors bound
-
 
 ordered-at : (line : List ℕ) (lines : List (List ℕ)) (room number : ℕ) (said : Said) (test : Bool) → nat_lt room (length line) ≡ test
     → Rising 1 said.boot.sectors number
@@ -113,7 +112,7 @@ ordered : (lines : List (List ℕ)) (room number : ℕ) (said : Said) → Rising
 ordered [] room number said rising = subst IsOrdered (sym (read_nothing room number said)) (record { bound = number; rising = rising })
 ordered (line ∷ lines) room number said rising =
     ordered-at line lines room number said (nat_lt room (length line)) refl rising
-      (ordered lines (room - length line) (number + 1) (next_said number line said) (ordered_next number line said rising))
+    (ordered lines (room - length line) (number + 1) (next_said number line said) (ordered_next number line said rising))
 
 in_order : (text : List ℕ) → IsOrdered (said_in text)
 in_order text = ordered (lines_of text) 1048576 1 nothing_said (omega arith)
@@ -127,7 +126,7 @@ no_line text number e =
 by_then : (text : List ℕ) (number : ℕ) → IsNoLine text number → NamesBy (said_in text) number
 by_then text number h =
     subst (λ (lines : List (List ℕ)). NamesBy (read 1048576 1 lines nothing_said) number) (sym h.all)
-      (names h.before h.line h.after 1048576 1 nothing_said number refl h.counted h.none)
+    (names h.before h.line h.after 1048576 1 nothing_said number refl h.counted h.none)
 
 no_line_is_none : (text : List ℕ) (number : ℕ) → (said_in text).bad ≡ None → IsNoLine text number → ⊥
 no_line_is_none text number e h =
@@ -168,21 +167,31 @@ lower_right line sector other h = grind (arith, nat_tests)
 by_parts : (text : List ℕ) (bad astray : Option ℕ) → (said_in text).bad ≡ bad → first_astray (said_in text).boot ≡ astray
     → NamesFirstBad text (script_unless (lower_of bad astray) (said_in text))
 by_parts text None None e a = λ number is_bad. elim is_bad [
-    inl h ↦ no_line_is_none text number e h
-  | inr h ↦ none_astray (said_in text).boot.drives (said_in text).boot.sectors number a h ]
-by_parts text (Some line) None e a = (inl (no_line text line e), λ other is_bad. elim is_bad [
-    inl h ↦ no_line_first text line other e h
-  | inr h ↦ absurd (none_astray (said_in text).boot.drives (said_in text).boot.sectors other a h) ])
-by_parts text None (Some sector) e a =
-    (inr (named_astray (said_in text).boot.drives (said_in text).boot.sectors sector a), λ other is_bad. elim is_bad [
-    inl h ↦ absurd (no_line_is_none text other e h)
-  | inr h ↦ astray_first text sector other a h ])
-by_parts text (Some line) (Some sector) e a =
-    (lower_is_bad text line sector (nat_le line sector) refl (inl (no_line text line e))
+  | inl h ↦ no_line_is_none text number e h
+  | inr h ↦ none_astray (said_in text).boot.drives (said_in text).boot.sectors number a h
+]
+by_parts text (Some line) None e a = (
+  inl (no_line text line e),
+  λ other is_bad. elim is_bad [
+    | inl h ↦ no_line_first text line other e h
+    | inr h ↦ absurd (none_astray (said_in text).boot.drives (said_in text).boot.sectors other a h)
+  ],
+)
+by_parts text None (Some sector) e a = (
+  inr (named_astray (said_in text).boot.drives (said_in text).boot.sectors sector a),
+  λ other is_bad. elim is_bad [
+    | inl h ↦ absurd (no_line_is_none text other e h)
+    | inr h ↦ astray_first text sector other a h
+  ],
+)
+by_parts text (Some line) (Some sector) e a = (
+  lower_is_bad text line sector (nat_le line sector) refl (inl (no_line text line e))
       (inr (named_astray (said_in text).boot.drives (said_in text).boot.sectors sector a)),
-    λ other is_bad. elim is_bad [
-    inl h ↦ lower_left line sector other (no_line_first text line other e h)
-  | inr h ↦ lower_right line sector other (astray_first text sector other a h) ])
+  λ other is_bad. elim is_bad [
+    | inl h ↦ lower_left line sector other (no_line_first text line other e h)
+    | inr h ↦ lower_right line sector other (astray_first text sector other a h)
+  ],
+)
 
 pub first_bad_is_named : (text : List ℕ) → NamesFirstBad text (script_of text)
 unfolding script_of

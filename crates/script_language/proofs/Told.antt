@@ -38,7 +38,7 @@ keyword_tells-at said false first boot line = more_tells said line
 
 words_tell-at : (number : ℕ) (words : List (List ℕ)) (said : Said) (keyword : Option Keyword)
     → Tells said (keyword >>= λ (word : Keyword). if is_setup word then None else whole (line_of word) words)
-        (keyword >>= λ (word : Keyword). with_keyword word number words said)
+    (keyword >>= λ (word : Keyword). with_keyword word number words said)
 words_tell-at number words said None = tt
 words_tell-at number words said (Some word) =
     keyword_tells-at said (is_setup word) (length said.lines == 0) (boot_after word number words said.boot) (whole (line_of word) words)
@@ -71,7 +71,7 @@ said_far : (room number : ℕ) (said : Said) (line : List ℕ) (lines : List (Li
     → IsSaid said (line ∷ lines) (read room number (line ∷ lines) said)
 said_far room number said line lines e none good =
     absurd (some_is_no_none number (sym (ap (λ (bad : Option ℕ). option_or bad (Some number)) none)
-      ∙ sym (ap (λ (s : Said). s.bad) (read_no_more room number line lines said e)) ∙ good))
+    ∙ sym (ap (λ (s : Said). s.bad) (read_no_more room number line lines said e)) ∙ good))
 
 said_next : (said next : Said) (line : List ℕ) (lines : List (List ℕ)) (after : Said)
     → next.lines ≡ said.lines ++ list_of (line_said (text_of line)) → after.lines ≡ next.lines ++ lines_said lines
@@ -86,31 +86,31 @@ said_on : (room number : ℕ) (said : Said) (line : List ℕ) (lines : List (Lis
     → IsSaid said (line ∷ lines) (read room (number + 1) lines (next_said number line said))
 said_on room number said line lines None e none rest good =
     let bad : (next_said number line said).bad ≡ Some number
-          = ap (λ (s : Said). s.bad) (next_bad number line said e) ∙ ap (λ (b : Option ℕ). option_or b (Some number)) none in
+    = ap (λ (s : Said). s.bad) (next_bad number line said e) ∙ ap (λ (b : Option ℕ). option_or b (Some number)) none in
     absurd (some_is_no_none number (sym (bad_stays lines room (number + 1) (next_said number line said) number bad) ∙ good))
 said_on room number said line lines (Some more) e none rest good =
     let taken : next_said number line said ≡ more = next_taken number line said more e in
     let still : (next_said number line said).bad ≡ None
-          = ap (λ (s : Said). s.bad) taken ∙ (taken_keeps number (text_of line) said more e).bad ∙ none in
+    = ap (λ (s : Said). s.bad) taken ∙ (taken_keeps number (text_of line) said more e).bad ∙ none in
     let told : (next_said number line said).lines ≡ said.lines ++ list_of (line_said (text_of line))
-          = ap (λ (s : Said). s.lines) taken ∙ taken_tells number (text_of line) said more e in
+    = ap (λ (s : Said). s.lines) taken ∙ taken_tells number (text_of line) said more e in
     said_next said (next_said number line said) line lines (read room (number + 1) lines (next_said number line said)) told (rest still good)
 
 said_at : (room number : ℕ) (said : Said) (line : List ℕ) (lines : List (List ℕ)) (test : Bool) → nat_lt room (length line) ≡ test
     → said.bad ≡ None
     → ((next_said number line said).bad ≡ None → IsSaid (next_said number line said) lines
-        (read (room - length line) (number + 1) lines (next_said number line said)))
+    (read (room - length line) (number + 1) lines (next_said number line said)))
     → IsSaid said (line ∷ lines) (read room number (line ∷ lines) said)
 said_at room number said line lines true e none rest = said_far room number said line lines e none
 said_at room number said line lines false e none rest =
     subst (IsSaid said (line ∷ lines)) (sym (read_on room number line lines said e))
-      (said_on (room - length line) number said line lines (with_line number (text_of line) said) refl none rest)
+    (said_on (room - length line) number said line lines (with_line number (text_of line) said) refl none rest)
 
 all_said : (lines : List (List ℕ)) (room number : ℕ) (said : Said) → said.bad ≡ None → IsSaid said lines (read room number lines said)
 all_said [] room number said none = λ good. ap (λ (s : Said). s.lines) (read_nothing room number said) ∙ sym (append-nil said.lines)
 all_said (line ∷ lines) room number said none =
     said_at room number said line lines (nat_lt room (length line)) refl none
-      (all_said lines (room - length line) (number + 1) (next_said number line said))
+    (all_said lines (room - length line) (number + 1) (next_said number line said))
 
 by_parts : (text : List ℕ) (bad astray : Option ℕ) → (said_in text).bad ≡ bad
     → HasItsLines text (script_unless (lower_of bad astray) (said_in text))

@@ -18,7 +18,7 @@ pub record IsNoLine (text : List ℕ) (number : ℕ) : Type 0 where
   pub all : lines_of text ≡ before ++ (line ∷ after)
   pub counted : number ≡ 1 + length before
   pub none : (1048576 < bytes_in before + length line)
-    ⊎ (with_line number (text_of line) (read 1048576 1 before nothing_said) ≡ None)
+      ⊎ (with_line number (text_of line) (read 1048576 1 before nothing_said) ≡ None)
 
 -- the line of this number says one of these sectors, and its drive is not attached
 abbrev pub IsAstray : ℕ → ℕ → List Filled → Type 0
