@@ -12,7 +12,7 @@ ghost use Rattle.i8080_core.specs.Examples.{byte_in, input_at, access_of};
 
 use crate::{Bus, Cpu};
 use i8080_words::{AddressRegister, Interrupts, Processor, Regs, of_psw, psw};
-use std::alloc::AllocError;
+use std::alloc::{AllocError, Global};
 
 #[rattlefmt::skip]
 const FOLDED: [u32; 256] = [
@@ -233,55 +233,85 @@ fn fold_port(fold: &mut Fold, access: Option<PortAccess>) {
 }
 
 // The processor after a step.
-fn stepped(processor: Processor, machine: &mut Machine) -> Processor {
-    let mut cpu = Cpu::resume(processor);
+fn stepped(processor: &Processor, machine: &mut Machine) -> Processor {
+    let mut cpu = Cpu::resume(*processor);
     let _ran = cpu.step(machine, None);
     *cpu.processor()
+}
+
+// Puts a code and its data at an address.
+fn load(code: u8, draw: &mut Draw, machine: &mut Machine, address: u16) {
+    machine.put(address, code);
+    let low = draw.byte();
+    machine.put(address.wrapping_add(1), low);
+    let high = draw.byte();
+    machine.put(address.wrapping_add(2), high);
+}
+
+// Folds what a step did.
+fn fold_step(fold: &mut Fold, processor: &Processor, machine: &Machine) {
+    fold_processor(fold, processor);
+    let port = machine.port;
+    fold_port(fold, port);
+    let sum = machine.written_sum();
+    fold.bytes(&sum.to_be_bytes());
 }
 
 // One round of a code.
 fn round(code: u8, draw: &mut Draw, fold: &mut Fold, machine: &mut Machine, before: &[u8]) {
     let processor = drawn_processor(draw);
-    let pc = processor.regs.pc.get();
-    let places = [pc, pc.wrapping_add(1), pc.wrapping_add(2)];
-    for (place, byte) in places.iter().zip(&[code, draw.byte(), draw.byte()]) {
-        machine.put(*place, *byte);
-    }
-    let after = stepped(processor, machine);
-    fold_processor(fold, &after);
-    let port = machine.port;
-    fold_port(fold, port);
-    fold.bytes(&machine.written_sum().to_be_bytes());
+    let regs = processor.regs;
+    let address = regs.pc.get();
+    load(code, draw, machine, address);
+    let after = stepped(&processor, machine);
+    fold_step(fold, &after, machine);
     machine.take_back(before);
-    for place in &places {
-        machine.restore(*place, before);
+    for offset in 0..3 {
+        machine.restore(address.wrapping_add(offset), before);
     }
 }
 
-#[test]
-fn codes_fold_to_the_numbers_of_another_program(rt: HostRuntime) -> Result<(), AllocError> {
-    let mut bytes = vec![in rt.alloc(); 0u8; 65536]?;
+// What a code has folded after 256 rounds.
+fn folded_by(code: u8, machine: &mut Machine, before: &[u8]) -> u32 {
+    let mut draw = Draw {
+        drawn: u32::from(code),
+    };
+    let mut fold = Fold { folded: 2166136261 };
+    for _ in 0..256 {
+        round(code, &mut draw, &mut fold, machine, before);
+    }
+    fold.folded
+}
+
+// The first 65,536 bytes that are drawn from 8080.
+fn drawn_memory(alloc: Global) -> Result<Vec<u8>, AllocError> {
+    let mut bytes = vec![in alloc; 0u8; 65536]?;
     let mut draw = Draw { drawn: 8080 };
     for byte in bytes.iter_mut() {
         *byte = draw.byte();
     }
+    Ok(bytes)
+}
+
+#[test]
+fn codes_fold_to_the_numbers_of_another_program(rt: HostRuntime) -> Result<(), AllocError> {
+    let before = drawn_memory(rt.alloc())?;
     assert_eq!(rt;
-        bytes.first_chunk(),
+        before.first_chunk(),
         Some(&[0x5e, 0x2a, 0x43, 0xc2, 0x6e, 0x20, 0x1f, 0x27])
     );
-    let before = bytes.clone()?;
     let mut machine = Machine {
-        bytes,
+        bytes: before.clone()?,
         written: [None; 2],
         port: None,
     };
     for (code, folded) in FOLDED.iter().enumerate() {
-        let mut draw = Draw { drawn: code as u32 };
-        let mut fold = Fold { folded: 2166136261 };
-        for _ in 0..256 {
-            round(code as u8, &mut draw, &mut fold, &mut machine, &before);
-        }
-        assert_eq!(rt; fold.folded, *folded, "code {code}");
+        let code = code as u8;
+        assert_eq!(rt;
+            folded_by(code, &mut machine, &before),
+            *folded,
+            "code {code}"
+        );
     }
     Ok(())
 }
