@@ -33,5 +33,9 @@ impl Bus for FlatMemory {
         0xff
     }
 
+    fn input_leaves_all(&self, _port: u8) -> bool {
+        true
+    }
+
     fn output(&mut self, _port: u8, _byte: u8) {}
 }

@@ -122,6 +122,16 @@ impl Bus for Wiring {
         }
     }
 
+    fn input_leaves_all(&self, port: u8) -> bool {
+        match Device::at(port) {
+            Device::SerialControl(_)
+            | Device::DiskSelect
+            | Device::SenseSwitches
+            | Device::Nothing => true,
+            Device::SerialData(_) | Device::DiskControl | Device::DiskData => false,
+        }
+    }
+
     fn output(&mut self, port: u8, byte: u8) {
         if self.given.is_some() {
             return;

@@ -1,5 +1,5 @@
 //! What the processor is wired to.
-ghost use Rattle.std.specs.Prelude.{◌≡◌, ℕ};
+ghost use Rattle.std.specs.Prelude.{◌≡◌, ℕ, IsTrue};
 ghost use Rattle.i8080_words.specs.Effects.{Access};
 ghost use Rattle.i8080_words.specs.Effects.Access.{Write, Input, Output};
 
@@ -33,6 +33,10 @@ pub trait Bus {
     fn input(&mut self, port: u8) -> u8
         ensures byte { result ≡ input_byte (state self.old) port }
         ensures state { state self.new ≡ after (Input port) (state self.old) };
+
+    /// Whether a read from this port would leave all as it is.
+    fn input_leaves_all(&self, port: u8) -> bool
+        ensures { IsTrue result → after (Input port) (state self.now) ≡ state self.now };
 
     /// Sends a byte to a port (OUT).
     fn output(&mut self, port: u8, byte: u8)

@@ -37,6 +37,10 @@ impl Bus for Board {
         self.sent
     }
 
+    fn input_leaves_all(&self, _port: u8) -> bool {
+        true
+    }
+
     fn output(&mut self, _port: u8, byte: u8) {
         self.sent = byte;
     }
