@@ -4,6 +4,7 @@ pub mod PrimaryInputs
 pub mod PrimaryPlaces
 pub mod PrimarySteps
 pub mod PrimaryAcknowledged
+pub mod PrimaryReleases
 pub mod AloneInputs
 pub mod AloneSteps
 pub mod FollowerMoves

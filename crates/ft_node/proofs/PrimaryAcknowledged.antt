@@ -95,23 +95,24 @@ no_less covered held = omega arith
 
 covers_heard : {S : Type 0} (M : Machine S) (c : Covering) (l : Log) (x : Node S) (held : ℕ) → Covers M c x
     → l ≡ log x.covered (drop x.covered x.log) → x.covered ≤ length x.log → max x.covered held ≤ length x.log
-    → Covers M (after_acknowledge c l (max x.covered held)) (hears x held)
+    → Covers M (after_acknowledge c l (max x.covered held)) (hears x held 0)
 covers_heard M c l x held covers kept within bound =
     let most : max c.acknowledged (max x.covered held) ≡ max x.covered held =
     (let e = covers.acknowledged in omega arith) in
-    subst (λ l. Covers M (after_acknowledge c l (max x.covered held)) (hears x held)) (sym kept)
+    subst (λ l. Covers M (after_acknowledge c l (max x.covered held)) (hears x held 0)) (sym kept)
     (record {
       acknowledged = most;
       waits = covers.waits;
       keys = λ port is. keys_after M c x (max x.covered held) port covers within bound is most;
       noted = covers.noted;
+      for_mark = covers.for_mark;
       outstanding = covers.outstanding;
     })
 
 primary_heard : {S : Type 0} (M : Machine S) (s : S) (l : Log) (sd : Sending) (c : Covering) (x : Node S) (held : ℕ)
     → IsPrimary M s l sd c x → held ≤ length x.log
     → IsPrimary M s (dropped_to l (max x.covered held)) (acknowledged sd (Ok (max x.covered held)))
-    (after_acknowledge c l (max x.covered held)) (hears x held)
+    (after_acknowledge c l (max x.covered held)) (hears x held 0)
 primary_heard M s l sd c x held p order =
     let within = p.within in
     let bound : max x.covered held ≤ length x.log = omega arith in
@@ -169,6 +170,6 @@ ack_heard M s l sd c x (Some (packet.Ack generation held)) covered p answer =
     allowed ℕ _ (Ok covered) _ _ (acked_by M s l sd c x generation held p ∙ passed.0) (
       sym is,
       subst
-          (λ n. IsPrimary M s (dropped_to l n) (acknowledged sd (Ok n)) (after_acknowledge c l n) (hears x held)) is
+          (λ n. IsPrimary M s (dropped_to l n) (acknowledged sd (Ok n)) (after_acknowledge c l n) (hears x held 0)) is
           (primary_heard M s l sd c x held p bound),
     )

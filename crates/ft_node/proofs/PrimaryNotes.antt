@@ -1,7 +1,7 @@
 -- What a coverage knows of a primary as its machine moves. An operation that comes has its note, one that goes has none
 -- any more, and every other is found and noted as it was: so the notes are those of the protocol, and of outstanding
 -- operations alone, of which there are few.
-use Rattle.std.proofs.Common.{◌≡◌, ◌≢◌, ℕ, zero, suc, ◌<◌, ◌≤◌, ◌⊎◌, inl, inr, ⊎_elim, false, cond, Some, None, List, [], ◌∷◌, ◌++◌, length, take, get_or, length-append, refl, sym, ap, ◌∙◌, arith}
+use Rattle.std.proofs.Common.{◌≡◌, ◌≢◌, ℕ, zero, suc, ◌<◌, ◌≤◌, ◌⊎◌, inl, inr, ⊎_elim, Bool, true, false, cond, Option, Some, None, List, [], ◌∷◌, ◌++◌, length, take, get_or, length-append, refl, sym, ap, ◌∙◌, arith}
 use Rattle.std.specs.Prelude.{AllPairs}
 use Rattle.std.proofs.lemmas.Bool.{cases_Bool}
 use Rattle.std.proofs.lemmas.List.{take-append-le}
@@ -22,12 +22,14 @@ use Rattle.output_rule.proofs.FewNotes.{few_notes}
 use Rattle.output_rule.proofs.Names.{equal_from_same, same_name-itself}
 use Rattle.output_rule.proofs.NoteLists.{apart-with_note, note_comes, note_goes}
 use Rattle.pair_protocol.specs.Node as protocol
-use Rattle.pair_protocol.specs.Node.{Node, Primary, note_of, notes_after, primary_steps, primary_takes}
+use Rattle.pair_protocol.specs.Node.{Node, note_of, notes_after, primary_steps}
+use Rattle.pair_protocol.specs.Waiting.{waits_for}
 use Rattle.pair_protocol.proofs.LeadMoves.{same_name-refl}
+use Rattle.pair_protocol.proofs.Waiting.{waits_for_none}
 use Rattle.plain_single.specs.declared.timed.Timed.{Timed}
 use Rattle.plain_single.specs.Reach as reach
 use Rattle.guest_board.specs.Outstanding.{ComesAndGoes, AreFew}
-use Rattle.ft_node.specs.Roles.{AreOfOutstanding, Covers}
+use Rattle.ft_node.specs.Roles.{AreOfOutstanding, Covers, index_in}
 
 -- ---- names
 
@@ -86,7 +88,7 @@ kept_noted : {S : Type 0} (M : Machine S) (x : Node S) (c : Covering) (t : S) (l
     (o : Operation)
     → ((M.find t name ≡ None) × (index_of left name ≡ None))
     ⊎ ((M.find t name ≡ M.find x.machine name) × (index_of left name ≡ index_of c.notes name))
-    → Covers M c x → M.find t name ≡ Some o → index_of left name ≡ note_of x.notes name
+    → Covers M c x → M.find t name ≡ Some o → index_of left name ≡ index_in (note_of x.notes name)
 kept_noted M x c t left name o (inl gone) covers there = let none = gone.0 in absurd (cc)
 kept_noted M x c t left name o (inr same) covers there = same.1 ∙ covers.noted name o (sym same.0 ∙ there)
 
@@ -107,6 +109,7 @@ Covers-kept M x c t left list more covers within keeps = record {
   waits = covers.waits;
   keys = λ port is. covers.keys port is ∙ same_keys x more port within;
   noted = λ name o there. kept_noted M x c t left name o (keeps name) covers there;
+  for_mark = covers.for_mark;
   outstanding = λ name index is.
       kept_outstanding M x.machine t c.notes left name index (keeps name) covers.outstanding is;
 }
@@ -140,21 +143,32 @@ AreOfOutstanding-noted M s t c given index laws made before = λ name at is.
     (there.0, comes.1 name differs ∙ there.1))
     (name_cases name (id_of given))
 
+-- the note that the protocol makes of it
+abbrev note_from : {S : Type 0} → Node S → Operation → protocol.Note
+note_from x given = record { name = id_of given; index = length x.log; after = waits_for given x.log }
+
+-- it waits for no read, as no operation does
+new_for_mark : (same : Bool) (new : protocol.Note) (old : Option protocol.Note) (note : protocol.Note) → new.after ≡ 0
+    → (old ≡ Some note → note.after ≡ 0) → cond same (Some new) old ≡ Some note → note.after ≡ 0
+new_for_mark true new old note none before is =
+    let e : new ≡ note = cc in sym (ap (λ (n : protocol.Note). n.after) e) ∙ none
+new_for_mark false new old note none before is = before is
+
 new_noted : {S : Type 0} (M : Machine S) (x : Node S) (c : Covering) (t : S) (given : Operation) (name : OpId)
     (o : Operation) → (M.find t (id_of given) ≡ Some given)
     × ((other : OpId) → other ≢ id_of given → M.find t other ≡ M.find x.machine other) → Covers M c x
     → M.find t name ≡ Some o → (name ≡ id_of given) ⊎ (name ≢ id_of given)
     → index_of (noted_after c (id_of given) (length x.log)).notes name
-    ≡ note_of (notes_after x.notes (length x.log) (Some given)) name
+    ≡ index_in (note_of (notes_after x.notes x.log (Some given)) name)
 new_noted M x c t given name o comes covers there (inl same) =
     ap (index_of (noted_after c (id_of given) (length x.log)).notes) same
     ∙ new_note c.notes (id_of given) (length x.log)
-    ∙ ap (λ b. cond b (Some (length x.log)) (note_of x.notes name))
+    ∙ ap (λ b. index_in (cond b (Some (note_from x given)) (note_of x.notes name)))
     (sym (ap (λ n. protocol.same_name n (id_of given)) same ∙ same_name-refl (id_of given)))
 new_noted M x c t given name o comes covers there (inr differs) =
     other_notes c.notes (id_of given) name (length x.log) differs
     ∙ covers.noted name o (sym (comes.1 name differs) ∙ there)
-    ∙ ap (λ b. cond b (Some (length x.log)) (note_of x.notes name))
+    ∙ ap (λ b. index_in (cond b (Some (note_from x given)) (note_of x.notes name)))
     (sym (same_name-alike name (id_of given) differs))
 
 pub Covers-noted : {S : Type 0} (M : Machine S) (x : Node S) (c : Covering) (t : S) (given : Operation)
@@ -166,6 +180,9 @@ Covers-noted M x c t given laws made covers within = record {
   keys = λ port is. covers.keys port is ∙ same_keys x (marks (M.count t) (Some given)) port within;
   noted = λ name o there.
       new_noted M x c t given name o (laws.comes x.machine t given made) covers there (name_cases name (id_of given));
+  for_mark = λ name note is.
+      new_for_mark (protocol.same_name name (id_of given)) (note_from x given) (note_of x.notes name) note
+      (waits_for_none given x.log) (covers.for_mark name note) is;
   outstanding =
       AreOfOutstanding-noted M x.machine t c given (length x.log) laws made covers.outstanding;
 }

@@ -120,17 +120,17 @@ Expects (Some (Log generation index e)) x result =
 Expects _ x result =
     Unless (refusals.first_of (refusals.role_refusal (Backup ∷ []) x ∷ Some Malformed ∷ [])) result (Unit {0}) ⊥
 
--- the packet that acknowledges all that is held
+-- the packet that acknowledges all that is held; it tells nothing of what is replayed
 abbrev pub Acknowledges : {S : Type 0} → Node S → Result (Vec ℕ) Fault → Type 0
 Acknowledges x result =
     Unless (refusals.ack_refusal x) result (Unit {0})
     (Gives result (Unit {0}) (IsSpelled (Ack x.generation (length x.held))))
 
--- an acknowledgement comes
+-- an acknowledgement comes, which tells nothing of what is replayed
 abbrev pub Hears : {S : Type 0} → Option Packet → Node S → Result ℕ Fault → (Node S → Type 0) → Type 0
 Hears (Some (Ack generation held)) x result Is =
     Unless (refusals.acked_refusal generation held x) result (Is x)
-    (Always result (λ covered. (covered ≡ (hears x held).covered) × Is (hears x held)))
+    (Always result (λ covered. (covered ≡ (hears x held 0).covered) × Is (hears x held 0)))
 Hears _ x result Is =
     Unless (refusals.first_of (refusals.role_refusal (Primary ∷ []) x ∷ Some Malformed ∷ [])) result (Is x) ⊥
 

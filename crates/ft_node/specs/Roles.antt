@@ -1,5 +1,6 @@
 -- What the fields of a node in each role say of the protocol's node that it is.
-use Rattle.std.specs.Prelude.{◌≡◌, ℕ, ◌<◌, ◌≤◌, true, false, Some, All, length, drop, slice_index}
+use Rattle.std.specs.Option.{option_map}
+use Rattle.std.specs.Prelude.{◌≡◌, ℕ, ◌<◌, ◌≤◌, true, false, Option, Some, All, length, drop, slice_index}
 use Rattle.event_callbacks.specs.declared.devices.TheConstants.{PORTS}
 use Rattle.event_callbacks.specs.declared.operations.OpId.{OpId}
 use Rattle.event_callbacks.specs.declared.operations.Operation.{Operation}
@@ -9,21 +10,26 @@ use Rattle.log_buffer.specs.Log.{Log, log}
 use Rattle.log_channel.specs.Channel.{Receiving, Sending}
 use Rattle.output_rule.specs.Covering.{Covering}
 use Rattle.output_rule.specs.Notes.{index_of}
-use Rattle.pair_protocol.specs.Node.{Node, Role, Primary, Alone, note_of, keys_covered}
+use Rattle.pair_protocol.specs.Node.{Node, Note, Role, Primary, Alone, note_of, keys_covered}
 
 -- only operations that are outstanding have notes
 abbrev pub AreOfOutstanding : {S : Type 0} → Machine S → S → Covering → Type 0
 AreOfOutstanding M s c =
     (name : OpId) (index : ℕ) → index_of c.notes name ≡ Some index → (o : Operation) × (M.find s name ≡ Some o)
 
+-- the index that is noted
+abbrev pub index_in : Option Note → Option ℕ
+index_in note = option_map (λ (n : Note). n.index) note
+
 -- what a coverage knows of a primary: how far its log is acknowledged, the keys that are covered so, and the notes of
--- exactly those outstanding operations that have one
+-- exactly those outstanding operations that have one, each of which waits for its mark alone
 pub record Covers {S : Type 0} (M : Machine S) (c : Covering) (x : Node S) : Type 0 where
   pub acknowledged : c.acknowledged ≡ x.covered
   pub waits : c.all ≡ false
   pub keys : (port : ℕ) → port < PORTS → slice_index c.keys port ≡ keys_covered M x port Primary
   pub noted : (name : OpId) (o : Operation) → M.find x.machine name ≡ Some o
-      → index_of c.notes name ≡ note_of x.notes name
+      → index_of c.notes name ≡ index_in (note_of x.notes name)
+  pub for_mark : (name : OpId) (note : Note) → note_of x.notes name ≡ Some note → note.after ≡ 0
   pub outstanding : AreOfOutstanding M x.machine c
 
 -- a primary with this guest, this log, its end of the channel and its coverage: the log keeps the entries that are not

@@ -267,6 +267,7 @@ impl<B: Lockstep> Primary<B> {
     }
 
     /// The outstanding operation of a name, where its mark is acknowledged.
+    #[tactic(auto, using(crate::proofs::PrimaryReleases::release_refused))]
     pub(crate) fn release(&self, id: OpId) -> R<Operation>
         ensures { (x : Node B.State)
             → IsPrimary B.machine (B.state self.now.recorder.board) self.now.recorder.log self.now.sender

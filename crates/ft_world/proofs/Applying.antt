@@ -24,7 +24,7 @@ use Rattle.pair_events.specs.declared.event.Event.{Event}
 use Rattle.pair_events.specs.declared.reply.Reply.{Reply}
 
 pub no_copies_copy : {S : Type 0} (M : Machine S) → IsCopying M no_copies
-no_copies_copy M = record { counted = λ moves s reaches. refl; again = λ moves s t reaches e. (cc) }
+no_copies_copy M = record { counted = λ moves s reaches. refl; again = λ moves s t reaches owns e. (cc) }
 
 pub applies : {B H D S : Type 0} (state : B → S) (M : Machine S) (records : D → List Record) (old : Running B H D)
     (c : Course S) (e : Event) (answer : Result Reply Fault) (after : World S) (new : Running B H D) →

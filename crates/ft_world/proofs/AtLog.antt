@@ -67,7 +67,7 @@ no_entry : {S : Type 0} (o : Option Message) (q : Option world.Message) (here : 
 no_entry None None here a e = refl
 no_entry None (Some y) here a e = absurd a
 no_entry (Some (message.Log b)) q here a e = (cc)
-no_entry (Some (message.Ack b)) (Some (world.Acknowledgement g h)) here a e = refl
+no_entry (Some (message.Ack b)) (Some (world.Acknowledgement g h r)) here a e = refl
 no_entry (Some (message.Ack b)) q here a e = absurd a
 no_entry (Some (message.Byte p n b)) (Some (world.Released x)) here a e = refl
 no_entry (Some (message.Byte p n b)) q here a e = absurd a
@@ -154,16 +154,16 @@ delivers_applies state M records old c m n bytes new hosts brings h a =
 pub record BringsAcknowledgement (q : Option world.Message) (bytes : List ℕ) : Type 0 where
   pub generation : ℕ
   pub held : ℕ
-  pub message : q ≡ Some (world.Acknowledgement generation held)
+  pub message : q ≡ Some (world.Acknowledgement generation held 0)
   pub spelled : packet_at bytes ≡ Some (packet.Ack generation held)
 
 brings_acknowledgement : (o : Option Message) (q : Option world.Message) (bytes : List ℕ) → Agree IsMessage o q →
     option_and_then ack_of o ≡ Some bytes → BringsAcknowledgement q bytes
-brings_acknowledgement (Some (message.Ack b)) (Some (world.Acknowledgement g k)) bytes a e = record {
+brings_acknowledgement (Some (message.Ack b)) (Some (world.Acknowledgement g k r)) bytes a e = record {
   generation = g;
   held = k;
-  message = refl;
-  spelled = subst (λ l. packet_at l ≡ Some (packet.Ack g k)) (same_some b.items bytes (Some b.items) refl e) a;
+  message = ap (λ n. Some (world.Acknowledgement g k n)) a.1;
+  spelled = subst (λ l. packet_at l ≡ Some (packet.Ack g k)) (same_some b.items bytes (Some b.items) refl e) a.0;
 }
 brings_acknowledgement (Some (message.Ack b)) q bytes a e = absurd a
 brings_acknowledgement (Some (message.Log b)) q bytes a e = (cc)
@@ -234,6 +234,7 @@ hears_applies {S = S} state M records old c m n bytes covered hosts brings h a =
         there = there;
         generation = b.generation;
         held = b.held;
+        replayed = 0;
         message = b.message;
         reply = ap protocol.HeldIs heard.0;
         after = ap (λ (z : Node S). with_node c.world n z) heard.1;

@@ -160,6 +160,6 @@ acknowledges_applies state M records old c n bytes answer ms h a said =
     (λ bytes. host.Says c.world.nodes n (does.Acknowledges bytes)) a in
     let x = k.1.x in
     says_applies state M records old c (event.Acknowledge n) (message.Ack bytes)
-    (sent.Acknowledgement x.generation (length x.held)) answer ms h
-    (is_only bytes.items (packet.Ack x.generation (length x.held)) k.1.said.0 k.1.said.1) k.0 refl
+    (sent.Acknowledgement x.generation (length x.held) 0) answer ms h
+    (is_only bytes.items (packet.Ack x.generation (length x.held)) k.1.said.0 k.1.said.1, refl) k.0 refl
     (record { x = x; there = k.1.there; says = record { reply = refl; after = refl } }) said

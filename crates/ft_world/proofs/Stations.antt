@@ -171,17 +171,17 @@ hears_on {B} {S} state M p h node r x i d = go p d
     none None E d = absurd d
     none (Some m) E d = (d.0, unmoved state M h node x i d.1)
 
-    same : (held : ℕ) → Kept x (hears x held)
+    same : (held : ℕ) → Kept x (hears x held 0)
     same held = record { role = refl; generation = refl; list = refl; copy = refl; start = refl; held = refl }
 
     makes : (generation held : ℕ) (q : Result ℕ Fault)
-        → calls.Always q (λ v. (v ≡ (hears x held).covered) × IsNode state M node (hears x held))
+        → calls.Always q (λ v. (v ≡ (hears x held 0).covered) × IsNode state M node (hears x held 0))
         → calls.Always q (λ v. Makes x After (does.Heard (Some (Ack generation held)) v))
     makes generation held (Ok v) s = record {
-      y = hears x held;
+      y = hears x held 0;
       done = (s.0, refl);
-      after = stays_on state M h node x (hears x held) i (same held)
-          (same_count M x (hears x held) x.role (same held) refl) s.1;
+      after = stays_on state M h node x (hears x held 0) i (same held)
+          (same_count M x (hears x held 0) x.role (same held) refl) s.1;
     }
     makes generation held (Err fault) s = absurd s
 
@@ -191,7 +191,7 @@ hears_on {B} {S} state M p h node r x i d = go p d
     go (Some (Log generation index e)) d = none _ _ d
     go (Some (Ack generation held)) d =
         unless (refusals.acked_refusal generation held x) r (IsNode state M node x) (After x)
-        (calls.Always r (λ v. (v ≡ (hears x held).covered) × IsNode state M node (hears x held)))
+        (calls.Always r (λ v. (v ≡ (hears x held 0).covered) × IsNode state M node (hears x held 0)))
         (calls.Always r (λ v. Makes x After (does.Heard (Some (Ack generation held)) v)))
         (unmoved state M h node x i) (λ s. makes generation held r s) d
 

@@ -64,9 +64,9 @@ abbrev pub Held : {S : Type 0} → Option Packet → Bool → Node S → Node S 
 Held (Some (Log generation index e)) new x y = HeldNext index e new x y
 Held _ new x y = ⊥
 
--- an acknowledgement is heard
+-- an acknowledgement is heard, which tells nothing of what is replayed
 abbrev pub Heard : {S : Type 0} → Option Packet → ℕ → Node S → Node S → Type 0
-Heard (Some (Ack generation held)) covered x y = (covered ≡ (hears x held).covered) × (y ≡ hears x held)
+Heard (Some (Ack generation held)) covered x y = (covered ≡ (hears x held 0).covered) × (y ≡ hears x held 0)
 Heard _ covered x y = ⊥
 
 -- a node halts

@@ -65,12 +65,12 @@ answer_of (Err fault) = protocol.Refused fault
 abbrev pub read_address : SectorRead → SectorAddress
 read_address r = record { drive = r.drive; track = r.track; sector = r.sector }
 
--- a message is this one of the protocol: packets by their spelling
+-- a message is this one of the protocol: packets by their spelling, of which none tells what is replayed
 abbrev pub IsMessage : Message → sent.Message → Type 0
 IsMessage (message.Log bytes) (sent.LogEntry generation index e) =
     packet_at bytes.items ≡ Some (packet.Log generation index e)
-IsMessage (message.Ack bytes) (sent.Acknowledgement generation held) =
-    packet_at bytes.items ≡ Some (packet.Ack generation held)
+IsMessage (message.Ack bytes) (sent.Acknowledgement generation held replayed) =
+    (packet_at bytes.items ≡ Some (packet.Ack generation held)) × (replayed ≡ 0)
 IsMessage (message.Byte port number byte) (sent.Released o) = o ≡ operation.Byte port number byte
 IsMessage (message.Write write) (sent.Released o) = o ≡ operation.Write write
 IsMessage (message.Written number) (sent.WriteDone done) = done ≡ number

@@ -14,15 +14,15 @@ use Rattle.pair_protocol.specs.Faithful.{IsPrefix}
 use Rattle.pair_protocol.specs.Lawful.{Among, Lawful}
 use Rattle.pair_protocol.specs.Node.{Alone, Backup, Draining, Joining, Node, Primary, Role, Spare, alone_takes, gets_part, goes_live, halts, hears, joins, keys_covered, passes_input, passes_mark, plainly_steps, primary_steps, primary_takes}
 use Rattle.pair_protocol.specs.World.{Acknowledgement, Arrival, ImagePart, LogEntry, Released, World, sector_record, terminal, winner_in, with_node}
-use Rattle.pair_protocol.proofs.Moves.{among-split, count-does, count-takes, prefix-append, prefix-length, prefix-refl, runs-append}
+use Rattle.pair_protocol.proofs.Moves.{among-split, count-does, count-takes, owns-front, prefix-append, prefix-length, prefix-refl, runs-append, same_some}
 use Rattle.pair_protocol.proofs.Generations.{AsAlone, AsBackup, AsDraining, AsJoining, BackState, Follows, Stage}
 use Rattle.pair_protocol.proofs.LeadInputs.{leads-steps, leads-steps_alone, leads-takes, leads-takes_alone}
 use Rattle.pair_protocol.proofs.Replay.{follow-mark, follow-steps, follow-takes}
-use Rattle.pair_protocol.proofs.Lines.{Inv, Line, Next}
+use Rattle.pair_protocol.proofs.Lines.{Inv, Line, Next, Repeats}
 use Rattle.pair_protocol.proofs.Frames.{Acting, IsBack, IsLead, acting}
-use Rattle.pair_protocol.proofs.Leading.{lead-stays}
+use Rattle.pair_protocol.proofs.Leading.{lead-stays, hears-same}
 use Rattle.pair_protocol.proofs.Serving.{lead-accepts, lead-does, lead-runs}
-use Rattle.pair_protocol.proofs.Backing.{back-accepts, back-does, back-stays}
+use Rattle.pair_protocol.proofs.Backing.{back-accepts, back-does, back-stays, back-later}
 use Rattle.pair_protocol.proofs.Holding.{back-holds}
 use Rattle.pair_protocol.proofs.NodeChanges.{follower, gets-part, leads-halts, leads-hears, refollow, state-finishes, state-halts, state-joins}
 use Rattle.pair_protocol.proofs.Contests.{back-wins, lead-wins, won_by}
@@ -30,6 +30,7 @@ use Rattle.pair_protocol.proofs.Messages.{keep-message, keep-puts, keep-reads}
 use Rattle.pair_protocol.proofs.Disk.{record_is}
 use Rattle.pair_protocol.proofs.Terminals.{accepted-longer, keep-hosts, keep-terminal}
 use Rattle.pair_protocol.proofs.Beginnings.{keep-begins}
+use Rattle.pair_protocol.proofs.Freeing.{alone_frees, frees}
 use Rattle.pair_protocol.proofs.Actors.{IsBackRole, alone, backing, leading, not_spare, released, told_any}
 
 only_spare : (r q : Role) → r ≡ q → (q ≡ Spare → ⊥) → r ≡ Spare → ⊥
@@ -45,6 +46,7 @@ primary_steps_keep M C laws w i n x s o acts h =
     lead-does M C w i n x (primary_steps M x s o) o acts.there ns ns refl q.spot q.place q.leads
     (leads-steps M l.stage l.base l.own l.mid (length l.held) x s o acts.role_is h
     (count-does M laws _ x.machine s o (lead-runs M C w i x q.leads) h) q.leads)
+    (hears-same M C w i n x (primary_steps M x s o) acts.there q.spot (λ r. r) refl)
 
 primary_takes_keep : {S : Type 0} (M : Machine S) (C : Copying S) (laws : Lawful M) (w : World S) (i : Inv M C w)
     (n : ℕ) (x : Node S) (s : S) (v : Input) → Acts w n x Primary → MayTake M w x v →
@@ -57,6 +59,7 @@ primary_takes_keep M C laws w i n x s v acts may ok h =
     lead-accepts M C laws w i n x (primary_takes M x s v) v may ok acts.there ns ns refl q.spot q.place q.leads
     (leads-takes M l.stage l.base l.own l.mid (length l.held) x s v acts.role_is h
     (count-takes M laws _ x.machine s v (lead-runs M C w i x q.leads) h) q.leads)
+    (hears-same M C w i n x (primary_takes M x s v) acts.there q.spot (λ r. r) refl)
 
 alone_steps_keep : {S : Type 0} (M : Machine S) (C : Copying S) (laws : Lawful M) (w : World S) (i : Inv M C w)
     (n : ℕ) (x : Node S) (s : S) (o : Option Operation) → Acts w n x Alone → M.step x.machine ≡ Some (s, o) →
@@ -74,6 +77,7 @@ alone_steps_keep {S} M C laws w i n x s o acts h =
     go (IsLead e leads p) = lead-does M C w i n x (plainly_steps x s) o acts.there ns ns refl e p leads
         (leads-steps_alone M l.stage l.base l.own l.mid (length l.held) x s o acts.role_is h
         (count-does M laws _ x.machine s o (lead-runs M C w i x leads) h) leads)
+        (hears-same M C w i n x (plainly_steps x s) acts.there e (λ r. r) refl)
     go (IsBack e held b p) = back-does M C w i n x s o acts.there acts.role_is e p held b h
         (count-does M laws i.trace x.machine s o (alone M C w i n x acts).runs h)
 
@@ -94,6 +98,7 @@ alone_takes_keep {S} M C laws w i n x s v acts may ok h =
     go (IsLead e leads p) = lead-accepts M C laws w i n x (alone_takes M x s v) v may ok acts.there ns ns refl e p leads
         (leads-takes_alone M l.stage l.base l.own l.mid (length l.held) x s v acts.role_is h
         (count-takes M laws _ x.machine s v (lead-runs M C w i x leads) h) leads)
+        (hears-same M C w i n x (alone_takes M x s v) acts.there e (λ r. r) refl)
     go (IsBack e held b p) = back-accepts M C laws w i n x s v acts.there acts.role_is e p held b may ok h
         (count-takes M laws i.trace x.machine s v (alone M C w i n x acts).runs h)
 
@@ -107,6 +112,7 @@ stops_keep {S} M C w i n x h ns = go (acting M C w i.top i.trace n x (i.each x.g
     go : Acting M C w i.top i.trace n x (i.each x.generation) → Next M C i.trace (with_node w n (halts x))
     go (IsLead e leads p) = lead-stays M C w i n x (halts x) h ns ns refl e p
         (leads-halts M l.stage l.base l.own l.mid (length l.held) x leads)
+        (hears-same M C w i n x (halts x) h e (λ r. r) refl)
     go (IsBack e held b p) = back-stays M C w i n x (halts x) h ns ns refl e p held
         (record {
           state = state-halts M C l.stage l.base l.own l.more l.mid x b.state;
@@ -114,6 +120,7 @@ stops_keep {S} M C w i n x h ns = go (acting M C w i.top i.trace n x (i.each x.g
           start = b.start;
           held = b.held;
         })
+        (back-later M C w i n x (halts x) l.stage h ns e (omega arith) refl (inl (λ k. k)) (λ z. z))
 
 wins_keep : {S : Type 0} (M : Machine S) (C : Copying S) (w : World S) (i : Inv M C w) (n : ℕ) (x : Node S)
     (r : Role) → Acts w n x r → (r ≡ Joining → ⊥) → (r ≡ Spare → ⊥) → winner_in w.winners x.generation ≡ None →
@@ -125,25 +132,32 @@ wins_keep {S} M C w i n x r acts nj ns none =
     go (IsLead e leads p) = lead-wins M C w i n x acts.there none e p leads
     go (IsBack e held b p) = back-wins M C w i n x acts.there (λ k. nj (sym acts.role_is ∙ k)) none e p held b
 
-hears_keep : {S : Type 0} (M : Machine S) (C : Copying S) (w : World S) (i : Inv M C w) (n : ℕ) (x : Node S) (h : ℕ) →
-    Acts w n x Primary → h ≤ length (i.each x.generation).line.held → Next M C i.trace (with_node w n (hears x h))
-hears_keep M C w i n x h acts k =
+hears_keep : {S : Type 0} (M : Machine S) (C : Copying S) (w : World S) (i : Inv M C w) (n : ℕ) (x : Node S) (h r : ℕ) →
+    Acts w n x Primary → h ≤ length (i.each x.generation).line.held →
+    ((b : Node S) → slice_get w.nodes (i.each x.generation).line.back ≡ Some b → b.generation ≡ x.generation →
+    (b.role ≡ Spare → ⊥) → r ≤ b.replayed) →
+    Next M C i.trace (with_node w n (hears x h r))
+hears_keep M C w i n x h r acts k told =
     let q = leading M C w i n x acts in
     let l = (i.each x.generation).line in
     let ns = not_spare w n x Primary acts (λ k. (cc)) in
-    lead-stays M C w i n x (hears x h) acts.there ns ns refl q.spot q.place
-    (leads-hears M l.stage l.base l.own l.mid (length l.held) x h k q.leads)
+    lead-stays M C w i n x (hears x h r) acts.there ns ns refl q.spot q.place
+    (leads-hears M l.stage l.base l.own l.mid (length l.held) x h r k q.leads)
+    (λ b u gb role nb. (let a = (i.each x.generation).reads.heard x b
+    (subst (λ j. slice_get w.nodes j ≡ Some x) q.spot acts.there) u refl gb acts.role_is nb in
+    let c = told b u gb nb in omega (arith, a, c)))
 
 -- the back, otherwise as before, in another state
 back_keep : {S : Type 0} (M : Machine S) (C : Copying S) (w : World S) (i : Inv M C w) (n : ℕ) (x y : Node S)
     (r : Role) → Acts w n x r → IsBackRole r → (y.role ≡ Spare → ⊥) → y.generation ≡ x.generation → y.held ≡ x.held →
     y.copy ≡ x.copy → y.start ≡ x.start →
+    x.replayed ≤ y.replayed → (Repeats y.role → Repeats x.role) ⊎ (y.held ≡ []) →
     (BackState M C (i.each x.generation).line.stage (i.each x.generation).line.base (i.each x.generation).line.own
     (i.each x.generation).line.more (i.each x.generation).line.mid x →
     BackState M C (i.each x.generation).line.stage (i.each x.generation).line.base (i.each x.generation).line.own
     (i.each x.generation).line.more (i.each x.generation).line.mid y) →
     Next M C i.trace (with_node w n y)
-back_keep M C w i n x y r acts role ny gy hy cy sy state =
+back_keep M C w i n x y r acts role ny gy hy cy sy later roles state =
     let q = backing M C w i n x r acts role in
     let l = (i.each x.generation).line in
     back-stays M C w i n x y acts.there (not_spare w n x r acts (λ k. subst IsBackRole k role)) ny gy q.spot q.place
@@ -154,6 +168,8 @@ back_keep M C w i n x y r acts role ny gy hy cy sy state =
       start = sy ∙ q.backs.start;
       held = subst (λ es. IsPrefix es (entries (steps l.base) l.own)) (sym hy) q.backs.held;
     })
+    (back-later M C w i n x y l.stage acts.there (not_spare w n x r acts (λ k. subst IsBackRole k role)) q.spot later hy
+    roles (λ z. z))
 
 -- replay
 back_role : (r : Role) → (r ≡ Backup) ⊎ (r ≡ Draining) → IsBackRole r
@@ -162,18 +178,19 @@ back_role r (inr h) = subst IsBackRole (sym h) tt
 
 replays : {S : Type 0} (M : Machine S) (C : Copying S) (w : World S) (i : Inv M C w) (n : ℕ) (x y : Node S)
     (r : Role) → Acts w n x r → (r ≡ Backup) ⊎ (r ≡ Draining) → y.role ≡ x.role → y.generation ≡ x.generation →
-    y.held ≡ x.held → y.copy ≡ x.copy → y.start ≡ x.start →
+    y.held ≡ x.held → y.copy ≡ x.copy → y.start ≡ x.start → x.replayed ≤ y.replayed →
     ((last : S) → IsPrefix x.held (entries (steps (i.each x.generation).line.base) (i.each x.generation).line.own) →
     Recorded M (i.each x.generation).line.mid (i.each x.generation).line.own last →
     Follows M (i.each x.generation).line.base (i.each x.generation).line.own (i.each x.generation).line.mid x →
     Follows M (i.each x.generation).line.base (i.each x.generation).line.own (i.each x.generation).line.mid y) →
     Next M C i.trace (with_node w n y)
-replays M C w i n x y r acts which ry gy hy cy sy follows =
+replays M C w i n x y r acts which ry gy hy cy sy later follows =
     let o = i.each x.generation in
     let l = o.line in
     let q = backing M C w i n x r acts (back_role r which) in
     back_keep M C w i n x y r acts (back_role r which)
-    (λ k. not_spare w n x r acts (λ z. subst IsBackRole z (back_role r which)) (sym ry ∙ k)) gy hy cy sy
+    (λ k. not_spare w n x r acts (λ z. subst IsBackRole z (back_role r which)) (sym ry ∙ k)) gy hy cy sy later
+    (inl (λ k. subst Repeats ry k))
     (λ s. refollow M C l.stage l.base l.own l.more l.mid x y r acts.role_is which ry
     (follows o.led.0 q.backs.held o.led.1
     (follower M C l.stage l.base l.own l.more l.mid x r acts.role_is which s)) s)
@@ -194,6 +211,13 @@ receives_state M C stage base own more mid x k p role h (AsBackup r s f) = (cc)
 receives_state M C stage base own more mid x k p role h (AsDraining r s m f) = (cc)
 receives_state M C stage base own more mid x k p role h (AsAlone r s u c l) = (cc)
 
+joining_empty : {S : Type 0} (M : Machine S) (C : Copying S) (stage : Stage) (base own more : List Move) (mid : S)
+    (x : Node S) → x.role ≡ Joining → BackState M C stage base own more mid x → x.held ≡ []
+joining_empty M C stage base own more mid x role (AsJoining r s g) = g.empty
+joining_empty M C stage base own more mid x role (AsBackup r s f) = (cc)
+joining_empty M C stage base own more mid x role (AsDraining r s m f) = (cc)
+joining_empty M C stage base own more mid x role (AsAlone r s u c l) = (cc)
+
 pub keep : {S : Type 0} (M : Machine S) (C : Copying S) → Lawful M → IsCopying M C →
     (w new : World S) (i : Inv M C w) → Change M C w new → Next M C i.trace new
 keep M C laws copies w new i (PrimarySteps n x s o acts h) = primary_steps_keep M C laws w i n x s o acts h
@@ -209,34 +233,43 @@ keep M C laws copies w new i (Sends n x k e acts h) =
     let q = leading M C w i n x acts in
     keep-message M C w i n x (LogEntry x.generation k e) acts.there (not_spare w n x Primary acts (λ k. (cc)))
     (λ j d. d) (λ j. subst (λ es. slice_get es k ≡ Some e) (q.leads.log acts.role_is) h) (λ o z. (cc))
-    (λ j z. (cc)) (λ q j b z. (cc))
+    (λ j z. (cc)) (λ q j b z. (cc)) (λ k t s b u gb role v z. absurd (cc))
 keep M C laws copies w new i (Holds n x m e acts h) =
     let q = backing M C w i n x Backup acts tt in
     back-holds M C w i n x e acts.there acts.role_is q.spot q.place q.held q.backs
     ((i.each x.generation).logs (length x.held) e
     (among_get w.messages m (LogEntry x.generation (length x.held) e) h))
-keep M C laws copies w new i (Acknowledges n x acts) =
+keep {S} M C laws copies w new i (Acknowledges n x replayed acts few) =
     let q = backing M C w i n x Backup acts tt in
     let e = ap length q.held in
-    keep-message M C w i n x (Acknowledgement x.generation (length x.held)) acts.there
-    (not_spare w n x Backup acts (λ k. (cc))) (λ j d. d) (λ j. (omega arith)) (λ o z. (cc)) (λ j z. (cc))
-    (λ q j b z. (cc))
-keep M C laws copies w new i (Hears n x m h acts k) =
-    hears_keep M C w i n x h acts ((i.each x.generation).acks h
-    (among_get w.messages m (Acknowledgement x.generation h) k))
+    let most = (follower M C _ _ _ _ _ x Backup acts.role_is (inl refl) q.backs.state).few in
+    keep-message M C w i n x (Acknowledgement x.generation (length x.held) replayed) acts.there
+    (not_spare w n x Backup acts (λ k. (cc))) (λ j d. d)
+    (λ j. (
+      omega arith,
+      omega (arith, few, most),
+      λ b u gb. (let z = ap (λ (v : Node S). v.replayed)
+          (same_some x b (slice_get w.nodes (i.each x.generation).line.back)
+          (subst (λ j. slice_get w.nodes j ≡ Some x) q.spot acts.there) u) in omega (arith, few, z)),
+    )) (λ o z. (cc)) (λ j z. (cc))
+    (λ q j b z. (cc)) (λ k t s b u gb role v z. absurd (cc))
+keep M C laws copies w new i (Hears n x m h r acts k) =
+    let a = among_get w.messages m (Acknowledgement x.generation h r) k in
+    hears_keep M C w i n x h r acts ((i.each x.generation).acks h r a).0
+    (λ b u gb nb. (i.each x.generation).reads.told h r b a u gb nb)
 keep M C laws copies w new i (ReplaysStep n x r e s o acts which g c h) =
     let l = (i.each x.generation).line in
-    replays M C w i n x (plainly_steps x s) r acts which refl refl refl refl refl
+    replays M C w i n x (plainly_steps x s) r acts which refl refl refl refl refl (omega arith)
     (λ last p run f. follow-steps M l.base l.own l.mid last x e s o p run g c h
     (count-does M laws (l.base ++ f.ms) x.machine s o
     (runs-append M M.boot l.mid x.machine l.base f.ms (i.each x.generation).based f.runs) h) f)
 keep M C laws copies w new i (ReplaysMark n x r e acts which g c h) =
     let l = (i.each x.generation).line in
-    replays M C w i n x (passes_mark x) r acts which refl refl refl refl refl
+    replays M C w i n x (passes_mark x) r acts which refl refl refl refl refl (omega arith)
     (λ last p run f. follow-mark M l.base l.own l.mid last x e p run g c h f)
 keep M C laws copies w new i (ReplaysInput n x r e v s acts which g c h k) =
     let l = (i.each x.generation).line in
-    replays M C w i n x (passes_input x s) r acts which refl refl refl refl refl
+    replays M C w i n x (passes_input x s) r acts which refl refl refl refl refl (omega arith)
     (λ last p run f. follow-takes M l.base l.own l.mid last x e v s p run g c h k
     (count-takes M laws (l.base ++ f.ms) x.machine s v
     (runs-append M M.boot l.mid x.machine l.base f.ms (i.each x.generation).based f.runs) k) f)
@@ -244,11 +277,13 @@ keep M C laws copies w new i (PrimaryReleases n x name o acts h c) =
     let r = released M C laws w i n x name o acts h c in
     keep-message M C w i n x (Released o) acts.there (not_spare w n x Primary acts (λ k. (cc))) (λ j d. tt) tt
     (λ v z. subst (λ u. Among u (operations i.trace)) (same_send o v z) r) (λ j z. (cc)) (λ q j b z. (cc))
+    (λ k t s b u gb role v z. frees M C laws w i n x name o acts h c k t s b u gb role v (same_send o (Write v) z))
 keep M C laws copies w new i (AloneReleases n x name o acts h) =
     let a = alone M C w i n x acts in
     let r = laws.given i.trace x.machine name o a.runs h in
     keep-message M C w i n x (Released o) acts.there (not_spare w n x Alone acts (λ k. (cc))) (λ j d. tt) tt
     (λ v z. subst (λ u. Among u (operations i.trace)) (same_send o v z) r) (λ j z. (cc)) (λ q j b z. (cc))
+    (λ k t s b u gb role v z. absurd (alone_frees M C w i n x acts a.at_top k t s b u gb role))
 keep M C laws copies w new i (Arrives m p k b h) =
     let v = i.global.sends (Byte p k b) (among_get w.messages m (Released (Byte p k b)) h) in
     keep-terminal M C w i p (record (terminal w p) {
@@ -279,7 +314,8 @@ keep M C laws copies w new i (Wins n x r acts nj ns none) = wins_keep M C w i n 
 keep M C laws copies w new i (GoesLive n x acts h) =
     let q = backing M C w i n x Draining acts tt in
     let l = (i.each x.generation).line in
-    back_keep M C w i n x (goes_live x) Draining acts tt (λ k. (cc)) refl refl refl refl
+    back_keep M C w i n x (goes_live x) Draining acts tt (λ k. (cc)) refl refl refl refl (omega arith)
+    (inl (λ k. elim k [ inl z ↦ (cc) | inr z ↦ (cc) ]))
     (λ s. state-finishes M C l.stage l.base l.own l.more l.mid x acts.role_is h q.backs.copy q.backs.held s)
 keep M C laws copies w new i (Begins n h x y acts there spare_is) =
     keep-begins M C copies w i n h x y acts there spare_is
@@ -287,23 +323,26 @@ keep M C laws copies w new i (SendsPart n x s k p acts im h) =
     let q = leading M C w i n x acts in
     keep-message M C w i n x (ImagePart x.generation k p) acts.there (not_spare w n x Primary acts (λ k. (cc)))
     (λ j d. d) (λ j. subst (λ z. slice_get (C.parts z) k ≡ Some p) (q.leads.image s im) h) (λ o z. (cc))
-    (λ j z. (cc)) (λ q j b z. (cc))
+    (λ j z. (cc)) (λ q j b z. (cc)) (λ k t s b u gb role v z. absurd (cc))
 keep M C laws copies w new i (GetsPart n x m k p acts h) =
     let q = backing M C w i n x Joining acts tt in
     let o = i.each x.generation in
     let l = o.line in
     back_keep M C w i n x (gets_part x k p) Joining acts tt
-    (not_spare w n x Joining acts (λ z. (cc))) refl refl refl refl
+    (not_spare w n x Joining acts (λ z. (cc))) refl refl refl refl (omega arith) (inl (λ k. k))
     (λ s. receives_state M C l.stage l.base l.own l.more l.mid x k p acts.role_is
     (o.parts k p (among_get w.messages m (ImagePart x.generation k p) h)) s)
 keep M C laws copies w new i (Joins n x ps s acts got made) =
     let q = backing M C w i n x Joining acts tt in
     let l = (i.each x.generation).line in
-    back_keep M C w i n x (joins x s) Joining acts tt (λ k. (cc)) refl refl refl refl
+    back_keep M C w i n x (joins x s) Joining acts tt (λ k. (cc)) refl refl refl refl (omega arith)
+    (inr (joining_empty M C l.stage l.base l.own l.more l.mid x acts.role_is q.backs.state))
     (λ z. state-joins M C laws copies l.stage l.base l.own l.more l.mid s x ps acts.role_is got made q.backs.copy
-    q.backs.start (i.each x.generation).based z)
+    q.backs.start (i.each x.generation).based
+    (λ h. owns-front M [] M.boot l.base l.own ((i.each x.generation).owns h)) z)
 keep M C laws copies w new i HostComes = keep-hosts M C w i
 keep M C laws copies w new i (Puts m v h) =
     keep-puts M C w i v (i.global.sends (Write v) (among_get w.messages m (Released (Write v)) h))
+    (among_get w.messages m (Released (Write v)) h)
 keep M C laws copies w new i (Reads q) =
     keep-reads M C w i q (sector_record M w.puts q).number (sector_record M w.puts q).bytes (record_is M C w i q)

@@ -1,6 +1,6 @@
 -- Every action keeps what holds.
-use Rattle.std.proofs.Common.{◌≡◌, ◌+◌, ◌≤◌, ◌<◌, [], ◌∷◌, ◌++◌, ◌⊎◌, ◌∙◌, List, Some, ap, append-nil, arith, inl, inr, length, ltb-true, refl, subst, suc, sym, take, true, zero, ℕ}
-use Rattle.std.specs.Prelude.{slice_get}
+use Rattle.std.proofs.Common.{◌≡◌, ◌+◌, ◌≤◌, ◌<◌, [], ◌∷◌, ◌++◌, ◌⊎◌, ◌∙◌, Bool, List, Some, ap, append-nil, arith, false, inl, inr, length, ltb-true, refl, subst, suc, sym, take, true, zero, ℕ}
+use Rattle.std.specs.Prelude.{slice_get, nat_lt, nat_le, ◌&&◌}
 use Rattle.event_callbacks.specs.Operations.{id_of}
 use Rattle.event_callbacks.specs.declared.operations.OpId.{OpId}
 use Rattle.event_callbacks.specs.declared.operations.Operation.{Operation}
@@ -86,7 +86,7 @@ backing {S} M C w i n x r acts role =
     go (IsLead e l p) = absurd (lead_is_no_back M _ _ _ _ _ x l (subst IsBackRole (sym acts.role_is) role))
 
 -- The settled moves have the front of each generation that was held.
-covers-below : (stage : Stage) (base own more : List Move) (k n : ℕ) → k ≤ n →
+pub covers-below : (stage : Stage) (base own more : List Move) (k n : ℕ) → k ≤ n →
     IsPrefix (base ++ cut k own) (settled_moves stage base own more n)
 covers-below Undecided base own more k n h = prefix-under base (cut k own) (cut n own) (cut-more k n own h)
 covers-below LeadWon base own more k n h = prefix-under base (cut k own) own (cut-prefix k own)
@@ -100,9 +100,13 @@ covered M C w i g k h = let l = (i.each g).line in
     prefix-trans (l.base ++ cut k l.own) (settled l) i.trace
     (covers-below l.stage l.base l.own l.more k (length l.held) h) (i.each g).below
 
+and-first : (a b : Bool) → (a && b) ≡ true → a ≡ true
+and-first true b h = refl
+and-first false b h = (cc)
+
 pub released : {S : Type 0} (M : Machine S) (C : Copying S) (laws : Lawful M) (w : World S) (i : Inv M C w) (n : ℕ)
     (x : Node S) (name : OpId) (o : Operation) → Acts w n x Primary → M.find x.machine name ≡ Some o →
-    covers x.covered (note_of x.notes name) ≡ true → Among o (operations i.trace)
+    covers x.covered x.reported (note_of x.notes name) ≡ true → Among o (operations i.trace)
 released {S} M C laws w i n x name o acts pending cover =
     go (among-split o (operations l.base) (operations l.own)
     (subst (λ zs. Among o zs) (operations-append l.base l.own)
@@ -121,15 +125,52 @@ released {S} M C laws w i n x name o acts pending cover =
     go (inr h) =
         let r = q.leads.notes acts.role_is o h in
         let e : id_of o ≡ name = laws.named (l.base ++ l.own) x.machine name o (lead-runs M C w i x q.leads) pending in
-        let c : r.0 < x.covered = ltb-true r.0 x.covered
-        (subst (λ z. covers x.covered z ≡ true) r.1
-        (subst (λ z. covers x.covered (note_of x.notes z) ≡ true) (sym e) cover)) in
+        let c : r.note.index < x.covered = ltb-true r.note.index x.covered
+        (and-first (nat_lt r.note.index x.covered) (nat_le r.note.after x.reported)
+        (subst (λ z. covers x.covered x.reported z ≡ true) r.found
+        (subst (λ z. covers x.covered x.reported (note_of x.notes z) ≡ true) (sym e) cover))) in
         let d = q.leads.covered in
-        let k : suc r.0 ≤ length l.held = omega arith in
-        among-prefix o (operations (l.base ++ cut (suc r.0) l.own)) (operations i.trace)
-        (operations-prefix (l.base ++ cut (suc r.0) l.own) i.trace (covered M C w i x.generation (suc r.0) k))
-        (subst (λ zs. Among o zs) (sym (operations-append l.base (cut (suc r.0) l.own)))
-        (among-right o (operations l.base) (operations (cut (suc r.0) l.own)) r.2))
+        let k : suc r.note.index ≤ length l.held = omega arith in
+        among-prefix o (operations (l.base ++ cut (suc r.note.index) l.own)) (operations i.trace)
+        (operations-prefix (l.base ++ cut (suc r.note.index) l.own) i.trace
+        (covered M C w i x.generation (suc r.note.index) k))
+        (subst (λ zs. Among o zs) (sym (operations-append l.base (cut (suc r.note.index) l.own)))
+        (among-right o (operations l.base) (operations (cut (suc r.note.index) l.own)) r.given))
+
+-- in its own line
+pub released_here : {S : Type 0} (M : Machine S) (C : Copying S) (laws : Lawful M) (w : World S) (i : Inv M C w) (n : ℕ)
+    (x : Node S) (name : OpId) (o : Operation) → Acts w n x Primary → M.find x.machine name ≡ Some o →
+    covers x.covered x.reported (note_of x.notes name) ≡ true → Among o (operations (settled (i.each x.generation).line))
+released_here {S} M C laws w i n x name o acts pending cover =
+    go (among-split o (operations l.base) (operations l.own)
+    (subst (λ zs. Among o zs) (operations-append l.base l.own)
+    (laws.given (l.base ++ l.own) x.machine name o (lead-runs M C w i x q.leads) pending)))
+  where
+    l : Line S
+    l = (i.each x.generation).line
+
+    q : Leading M C w i n x
+    q = leading M C w i n x acts
+
+    go : Among o (operations l.base) ⊎ Among o (operations l.own) → Among o (operations (settled l))
+    go (inl h) = among-prefix o (operations l.base) (operations (settled l))
+        (operations-prefix l.base (settled l)
+        (subst (λ zs. IsPrefix zs (settled l)) (append-nil l.base)
+        (covers-below l.stage l.base l.own l.more 0 (length l.held) (omega arith)))) h
+    go (inr h) =
+        let r = q.leads.notes acts.role_is o h in
+        let e : id_of o ≡ name = laws.named (l.base ++ l.own) x.machine name o (lead-runs M C w i x q.leads) pending in
+        let c : r.note.index < x.covered = ltb-true r.note.index x.covered
+        (and-first (nat_lt r.note.index x.covered) (nat_le r.note.after x.reported)
+        (subst (λ z. covers x.covered x.reported z ≡ true) r.found
+        (subst (λ z. covers x.covered x.reported (note_of x.notes z) ≡ true) (sym e) cover))) in
+        let d = q.leads.covered in
+        let k : suc r.note.index ≤ length l.held = omega arith in
+        among-prefix o (operations (l.base ++ cut (suc r.note.index) l.own)) (operations (settled l))
+        (operations-prefix (l.base ++ cut (suc r.note.index) l.own) (settled l)
+        (covers-below l.stage l.base l.own l.more (suc r.note.index) (length l.held) k))
+        (subst (λ zs. Among o zs) (sym (operations-append l.base (cut (suc r.note.index) l.own)))
+        (among-right o (operations l.base) (operations (cut (suc r.note.index) l.own)) r.given))
 
 pub alone : {S : Type 0} (M : Machine S) (C : Copying S) (w : World S) (i : Inv M C w) (n : ℕ) (x : Node S) →
     Acts w n x Alone → AloneAt M C w i x
@@ -184,9 +225,11 @@ at_boot {S} M C laws = record {
     reads = λ q n b m. absurd m;
     written = λ n m. absurd m;
     put = λ n m. absurd m;
+    put_sent = λ v m. absurd m;
     owns = tt;
   };
   spares = λ n x h s. absurd (no_spare n x h s);
+  earlier = λ g lt. nothing (settled (each g).line) (each 1).line.base (each g).below;
 }
   where
     nodes : List (Node S)
@@ -235,14 +278,26 @@ at_boot {S} M C laws = record {
       held = ([], refl);
       members = λ n x h s e. elim (which n x h) [ inl q ↦ inl q.0 | inr q ↦ inr q.0 ];
       logs = λ j e m. absurd m;
-      acks = λ h m. absurd m;
+      acks = λ h r m. absurd m;
       parts = λ j p m. absurd m;
       done = λ p. omega arith;
       typed = λ p. ((terminal_in (no_terminal ∷ no_terminal ∷ []) p).typed, refl);
       put = λ n m. absurd m;
       owns = λ h. tt;
       below = ([], refl);
+      reads = record {
+        heard = λ a b t u ga gb role ns.
+            (let z : 0 ≡ a.reported =
+            ap (λ (v : Node S). v.reported) (same_some (first_node M Primary) a (Some a) (sym t) refl) in
+            omega (arith, z));
+        told = λ j r b m u gb ns. absurd m;
+        waits = λ t s b u gb role v m. absurd m;
+      };
     }
+
+    nothing : (xs ys : List Move) → IsPrefix xs [] → IsPrefix xs ys
+    nothing [] ys h = (ys, refl)
+    nothing (x ∷ xs) ys h = let e = h.1 in (cc)
 
     each : (g : ℕ) → LineOf M C (opening M) 1 [] g
     each g = elim (same_or_not g 1) [
@@ -286,7 +341,7 @@ at_boot {S} M C laws = record {
       | inr d ↦ made g (Unused d (record {
         nobody = λ n x h s e. d (sym e ∙ one n x h);
         no_log = λ j e m. m;
-        no_ack = λ h m. m;
+        no_ack = λ h r m. m;
         no_part = λ j p m. m;
         no_winner = refl;
       }))

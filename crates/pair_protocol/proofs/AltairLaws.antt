@@ -1,5 +1,5 @@
 -- The laws of a pair's machine hold of the Altair, each from one of the invariants of its traces.
-use Rattle.std.proofs.Common.{◌≡◌, ℕ, true, cond, List, Some, None, ◌⊎◌, inl, inr, ap}
+use Rattle.std.proofs.Common.{◌≡◌, ℕ, true, cond, List, Some, None, ◌⊎◌, inl, inr, refl, ap}
 use Rattle.std.specs.Prelude.{◌||◌}
 use Rattle.disk_dcdd.specs.declared.address.SectorAddress.{SectorAddress}
 use Rattle.guest_board.specs.Guest.{Guest, altair, step_from, is_spent, is_idle, next, wired_after}
@@ -10,11 +10,13 @@ use Rattle.pair_protocol.proofs.AltairImages.{Apart}
 use Rattle.pair_protocol.proofs.AltairCounts.{counts_after, keys_taken}
 use Rattle.pair_protocol.proofs.AltairLimits.{within_after}
 use Rattle.pair_protocol.proofs.AltairBytes.{bytes_after, window_is, due_is, numbered_is}
+use Rattle.pair_protocol.proofs.AltairBusy.{busy_is}
 use Rattle.pair_protocol.proofs.AltairFew.{few_is}
 use Rattle.pair_protocol.proofs.AltairInputs.{accepts_is}
 use Rattle.pair_protocol.proofs.AltairWindows.{bytes_pending}
 use Rattle.pair_protocol.proofs.AltairWrites.{OwnIs}
 use Rattle.pair_protocol.proofs.AltairCompletions.{writes_after}
+use Rattle.pair_protocol.proofs.AltairStanding.{stands}
 
 -- a guest that is spent makes no step
 spent_stays : (g : Guest) → is_spent g ≡ true → step_from g ≡ None
@@ -44,6 +46,9 @@ lawful apart setup sectors = record {
   own_disk = λ moves s address r. own_is setup sectors moves s address
       ((writes_after apart setup sectors moves s r).own address);
   write_is = λ moves s w r h. (writes_after apart setup sectors moves s r).settled w h;
+  placed = λ s drive sector. refl;
+  busy = λ moves s w drive sector r found there.
+      busy_is s w drive sector (stands apart setup sectors moves s r).writes found there;
   few = λ moves s r. few_is setup sectors moves s (bytes_after setup sectors moves s r)
       (bytes_pending setup sectors moves s r) (writes_after apart setup sectors moves s r);
   accepts = λ moves s t input r allowed taken.

@@ -1,5 +1,5 @@
 -- The backup of a generation: it changes otherwise and its moves stay; or it is alone and makes a move.
-use Rattle.std.proofs.Common.{◌≡◌, ◌+◌, ◌≤◌, [], ◌∷◌, ◌++◌, ◌∙◌, List, None, Option, Some, ap, append_assoc, arith, inl, inr, length, refl, subst, suc, sym, take, ℕ}
+use Rattle.std.proofs.Common.{◌≡◌, ◌+◌, ◌≤◌, [], ◌∷◌, ◌++◌, ◌∙◌, List, None, Option, Some, ap, append_assoc, arith, inl, inr, length, refl, subst, suc, sym, take, ℕ, ◌⊎◌}
 use Rattle.std.specs.Prelude.{slice_get, slice_set}
 use Rattle.event_callbacks.specs.declared.operations.Operation.{Operation}
 use Rattle.guest_board.specs.Machine.{Do, Machine, Move, Runs, Take, refusal_of}
@@ -19,7 +19,7 @@ use Rattle.pair_protocol.proofs.Moves.{ArePut, owns-append, prefix-append, prefi
 use Rattle.pair_protocol.proofs.Generations.{AsAlone, AsBackup, AsDraining, AsJoining, BackState, BackWon, Backs, LeadWon, Stage, Undecided, same_prefix, settled_moves, winner_at}
 use Rattle.pair_protocol.proofs.LeadMoves.{steps-do, steps-take, whole-do, whole-take}
 use Rattle.pair_protocol.proofs.LeadInputs.{done-take, put-take, typed-take}
-use Rattle.pair_protocol.proofs.Lines.{AtTop, BackHere, Gone, Inv, LeadLeft, Line, LineOf, Next, Presence, get_set_cases, get_set_other, settled}
+use Rattle.pair_protocol.proofs.Lines.{AtTop, BackHere, Gone, Inv, LeadLeft, Line, LineOf, Next, Presence, get_set_cases, get_set_other, settled, BackReads, WaitsAt, Repeats}
 use Rattle.pair_protocol.proofs.Frames.{BackOld, BackPlace, BackTop, relined}
 use Rattle.pair_protocol.proofs.Leading.{global-grows, lead_there}
 use Rattle.pair_protocol.proofs.Serving.{own-take}
@@ -36,7 +36,7 @@ backed l more stage held = record {
   held = held;
 }
 
-pub back-line : {S : Type 0} (M : Machine S) (C : Copying S) (w : World S) (high n : ℕ) (T new : List Move)
+unfoldable pub back-line : {S : Type 0} (M : Machine S) (C : Copying S) (w : World S) (high n : ℕ) (T new : List Move)
     (x y : Node S) (o : LineOf M C w high T x.generation) (more : List Move) (stage : Stage) (held : List Entry)
     (ws : List Winner) →
     n ≡ o.line.back →
@@ -45,6 +45,8 @@ pub back-line : {S : Type 0} (M : Machine S) (C : Copying S) (w : World S) (high
     length o.line.held ≤ length held → IsPrefix held (entries (steps o.line.base) o.line.own) →
     ((stage ≡ BackWon → ⊥) → o.line.stage ≡ BackWon → ⊥) →
     IsPrefix (settled (backed o.line more stage held)) new →
+    BackReads w.nodes w.messages high x.generation o.line stage y →
+    ((stage ≡ LeadWon → ⊥) → o.line.stage ≡ LeadWon → ⊥) →
     LineOf M C (record {
       nodes = slice_set w.nodes n y;
       messages = w.messages;
@@ -52,7 +54,7 @@ pub back-line : {S : Type 0} (M : Machine S) (C : Copying S) (w : World S) (high
       winners = ws;
       puts = w.puts;
     }) high new x.generation
-back-line M C w high n T new x y o more stage held ws e presence tied few prefix stays below = record {
+back-line {S} M C w high n T new x y o more stage held ws e presence tied few prefix stays below ry same_stage = record {
   line = backed o.line more stage held;
   presence = presence;
   based = o.based;
@@ -62,14 +64,56 @@ back-line M C w high n T new x y o more stage held ws e presence tied few prefix
   held = prefix;
   members = λ m z t s g. elim (get_set_cases w.nodes n m y z t) [ inl q ↦ inr (q.0 ∙ e) | inr q ↦ o.members m z q s g ];
   logs = o.logs;
-  acks = λ h k. (let a = o.acks h k in omega arith);
+  acks = λ h r k. (let a = o.acks h r k in let b : h ≤ length o.line.held = a.0 in (omega arith, a.1));
   parts = o.parts;
   done = o.done;
   typed = o.typed;
   put = o.put;
   owns = λ h. o.owns (stays h);
   below = below;
+  reads = record {
+    heard = λ a b t u ga gb role ns. elim (get_set_cases w.nodes n o.line.back y b u) [
+      | inl q ↦ subst (λ z. a.reported ≤ z.replayed) (sym q.1) (ry.heard a (old a t) ga role)
+      | inr q ↦ o.reads.heard a b (old a t) q ga gb role ns
+    ];
+    told = λ j r b m u gb ns. elim (get_set_cases w.nodes n o.line.back y b u) [
+      | inl q ↦ subst (λ z. r ≤ z.replayed) (sym q.1) (ry.told j r m)
+      | inr q ↦ o.reads.told j r b m q gb ns
+    ];
+    waits = λ t s b u gb role v m. elim (get_set_cases w.nodes n o.line.back y b u) [
+      | inl q ↦ subst (λ z. WaitsAt o.line z v) (sym q.1) (ry.waits t s (subst (λ z. Repeats z.role) q.1 role) v m)
+      | inr q ↦ o.reads.waits t (same_stage s) b q gb role v m
+    ];
+  };
 }
+  where
+    old : (a : Node S) → slice_get (slice_set w.nodes n y) o.line.lead ≡ Some a → slice_get w.nodes o.line.lead ≡ Some a
+    old a t = elim (get_set_cases w.nodes n o.line.lead y a t) [
+      | inl q ↦ absurd (o.apart (q.0 ∙ e))
+      | inr q ↦ q
+    ]
+
+-- a node that has replayed no less of the same entries
+pub back-later : {S : Type 0} (M : Machine S) (C : Copying S) (w : World S) (i : Inv M C w) (n : ℕ) (x y : Node S)
+    (stage : Stage) → slice_get w.nodes n ≡ Some x → (x.role ≡ Spare → ⊥) → n ≡ (i.each x.generation).line.back →
+    x.replayed ≤ y.replayed → y.held ≡ x.held → (Repeats y.role → Repeats x.role) ⊎ (y.held ≡ []) →
+    ((stage ≡ LeadWon → ⊥) → (i.each x.generation).line.stage ≡ LeadWon → ⊥) →
+    BackReads w.nodes w.messages i.top x.generation (i.each x.generation).line stage y
+back-later {S} M C w i n x y stage h nx e later same roles stages = record {
+  heard = λ a t ga role. (let k = o.reads.heard a x t there ga refl role nx in omega (arith, k, later));
+  told = λ j r m. (let k = o.reads.told j r x m there refl nx in omega (arith, k, later));
+  waits = λ t s role v m k en low got read. elim roles [
+    | inl z ↦ o.reads.waits t (stages s) x there refl (z role) v m k en (omega (arith, low, later))
+        (subst (λ es. slice_get es k ≡ Some en) same got) read
+    | inr z ↦ absurd (let g : slice_get [] k ≡ Some en = subst (λ es. slice_get es k ≡ Some en) z got in (cc))
+  ];
+}
+  where
+    o : LineOf M C w i.top i.trace x.generation
+    o = i.each x.generation
+
+    there : slice_get w.nodes o.line.back ≡ Some x
+    there = subst (λ j. slice_get w.nodes j ≡ Some x) e h
 
 pub front_there : {S : Type 0} (M : Machine S) (C : Copying S) (w : World S) (high n : ℕ) (T : List Move)
     (x y : Node S) (o : LineOf M C w high T x.generation) → n ≡ o.line.back →
@@ -88,13 +132,15 @@ pub back-stays : {S : Type 0} (M : Machine S) (C : Copying S) (w : World S) (i :
     y.held ≡ (i.each x.generation).line.held →
     Backs M C (i.each x.generation).line.stage (i.each x.generation).line.base (i.each x.generation).line.own
     (i.each x.generation).line.more (i.each x.generation).line.mid y →
+    BackReads w.nodes w.messages i.top x.generation (i.each x.generation).line (i.each x.generation).line.stage y →
     Next M C i.trace (with_node w n y)
-back-stays {S} M C w i n x y h nx ny gy e place held backs =
+unfolding back-line
+back-stays {S} M C w i n x y h nx ny gy e place held backs ry =
     relined M C w i x.generation n x y w.winners i.trace h nx ny refl gy (λ k d. refl) (prefix-refl i.trace)
     (inl refl)
     (back-line M C w i.top n i.trace i.trace x y o l.more l.stage l.held w.winners e (presence place) o.tied
-    (omega arith) o.held (λ z. z) o.below)
-    i.global
+    (omega arith) o.held (λ z. z) o.below ry (λ z. z))
+    (λ lt. refl) refl i.global
   where
     o : LineOf M C w i.top i.trace x.generation
     o = i.each x.generation
@@ -147,6 +193,7 @@ pub back-moves : {S : Type 0} (M : Machine S) (C : Copying S) (w : World S) (i :
     ((i.each x.generation).line.base ++
     (cut (length x.held) (i.each x.generation).line.own ++ ((i.each x.generation).line.more ++ m ∷ []))) →
     Next M C i.trace (with_node w n (moved x s ts))
+unfolding back-line
 back-moves {S} M C w i n x m s ts h role e place held won copy start runs count list done typed put owns = go place
   where
     o : LineOf M C w i.top i.trace x.generation
@@ -199,7 +246,9 @@ back-moves {S} M C w i n x m s ts h role e place held won copy start runs count 
           generation = a.generation;
           leads = a.leads;
         }) back_here) o.tied (omega arith) o.held (λ z. z)
-        (prefix-refl new))
+        (prefix-refl new)
+        (back-later M C w i n x y l.stage h nx e (omega arith) refl (inl (λ k. k)) (λ z. z)) (λ z. z))
+        (λ lt. absurd (omega (arith, lt, g))) refl
         (global-grows M w.messages w.terminals w.puts i.trace new grows
         (λ p. subst (λ us. acceptances p us ≤ length (accepted w p)) whole (done p))
         (λ p. subst (λ us. IsPrefix (keys p us) (terminal w p).typed) whole (typed p))

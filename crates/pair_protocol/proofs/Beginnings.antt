@@ -7,12 +7,12 @@ use Rattle.plain_single.specs.Reach.{Owns, acceptances, inputs, keys, steps}
 use Rattle.pair_protocol.specs.Change.{Acts}
 use Rattle.pair_protocol.specs.Copying.{Copying, IsCopying}
 use Rattle.pair_protocol.specs.Faithful.{IsPrefix}
-use Rattle.pair_protocol.specs.Node.{Alone, Node, Primary, Spare, begun, joiner}
+use Rattle.pair_protocol.specs.Node.{Alone, Joining, Node, Primary, Spare, begun, joiner}
 use Rattle.pair_protocol.specs.Traces.{cut}
 use Rattle.pair_protocol.specs.World.{World, accepted, terminal, with_node, with_pair}
 use Rattle.pair_protocol.proofs.Moves.{ArePut, prefix-refl, runs-append, same_some, steps-append}
 use Rattle.pair_protocol.proofs.Generations.{AsJoining, LeadWon, Undecided, same_prefix, settled_moves}
-use Rattle.pair_protocol.proofs.Lines.{AtTop, BackLeft, Gone, Inv, LeadLeft, Line, LineOf, Next, Presence, Unseen, Unused, get_set, get_set_cases, get_set_other, same_or_not}
+use Rattle.pair_protocol.proofs.Lines.{AtTop, BackLeft, Gone, Inv, LeadLeft, Line, LineOf, Next, Presence, Unseen, Unused, get_set, get_set_cases, get_set_other, line_over, same_or_not, settled}
 use Rattle.pair_protocol.proofs.Frames.{Acting, BackOld, BackPlace, BackTop, IsBack, IsLead, LeadOld, LeadPlace, LeadTop, acting, back_no_spare, lead_no_spare, line-other, line-retop}
 use Rattle.pair_protocol.proofs.Serving.{lead-runs}
 use Rattle.pair_protocol.proofs.Backing.{BackAlone, alone-trace, back-alone}
@@ -94,6 +94,8 @@ keep-begins {S} M C copies w i n h x y acts there spare_is = record {
         | inr r ↦ i.spares m z r s
       ]
     ];
+    earlier = λ g lt. subst (λ zs. IsPrefix (settled (each g).line) zs)
+        (sym (based (same_or_not (suc x.generation) (suc x.generation)))) (each g).below;
   };
   grows = prefix-refl i.trace;
 }
@@ -187,6 +189,12 @@ keep-begins {S} M C copies w i n h x y acts there spare_is = record {
       put = o.put;
       owns = o.owns;
       below = o.below;
+      reads = record {
+        heard = λ a b t u ga gb role ns.
+            o.reads.heard a b (old_members o.line.lead a t ga) (old_members o.line.back b u gb) ga gb role ns;
+        told = λ j r b m u gb ns. o.reads.told j r b m (old_members o.line.back b u gb) gb ns;
+        waits = λ t. absurd (omega (arith, t));
+      };
     }
       where
         o : LineOf M C w i.top i.trace x.generation
@@ -295,7 +303,7 @@ keep-begins {S} M C copies w i n h x y acts there spare_is = record {
         | inr (inr q) ↦ absurd (unknown.nobody m z q s e)
       ];
       logs = λ j e k. absurd (unknown.no_log j e k);
-      acks = λ j k. absurd (unknown.no_ack j k);
+      acks = λ j r k. absurd (unknown.no_ack j r k);
       parts = λ j p k. absurd (unknown.no_part j p k);
       done = λ p. subst (λ zs. acceptances p (inputs 0 zs) ≤ length (accepted w p)) (sym same_trace) (i.global.done p);
       typed = λ p. subst (λ zs. IsPrefix (keys p (inputs 0 zs)) (terminal w p).typed) (sym same_trace)
@@ -303,18 +311,43 @@ keep-begins {S} M C copies w i n h x y acts there spare_is = record {
       put = subst (λ zs. ArePut w.puts (inputs 0 zs)) (sym same_trace) i.global.put;
       owns = λ h. subst (λ zs. Owns M [] M.boot zs) (sym same_trace) i.global.owns;
       below = same_prefix (i.trace ++ []) i.trace same_trace;
+      reads = record {
+        heard = λ q b t u ga gb role ns.
+            (let z : 0 ≡ q.reported = ap (λ (v : Node S). v.reported) (same_some bx q (slice_get nodes n) at_n t) in
+            omega (arith, z));
+        told = λ j r b m u gb ns. absurd (unknown.no_ack j r m);
+        waits = λ t s b u gb role v m.
+            absurd (let z : Joining ≡ b.role = ap (λ (v : Node S). v.role) (same_some jx b (slice_get nodes h) at_h u) in
+            elim role [ inl q ↦ (cc) | inr q ↦ (cc) ]);
+      };
     }
 
+    other : (k : ℕ) → (k ≡ suc x.generation → ⊥) → (k ≡ x.generation → ⊥) →
+        LineOf M C new (suc x.generation) i.trace k
+    other k d c =
+        line-retop M C new i.top (suc x.generation) k i.trace (λ e. c (e ∙ sym a.at_top)) (let q =
+        a.at_top in omega arith) d
+        (line-other M C (with_node w n bx) i.top k h i.trace i.trace y jx w.winners there1 (λ e. spare_is)
+        (λ e. d (sym e)) refl (prefix-refl i.trace) (λ e. refl)
+        (line-other M C w i.top k n i.trace i.trace x bx w.winners acts.there (λ e. absurd (c (sym e)))
+        (λ e. d (sym e)) refl (prefix-refl i.trace) (λ e. refl) (i.each k)))
+
+    pick_old : (k : ℕ) → (k ≡ suc x.generation → ⊥) → (k ≡ x.generation) ⊎ (k ≡ x.generation → ⊥) →
+        LineOf M C new (suc x.generation) i.trace k
+    pick_old k d (inl e) = subst (λ j. LineOf M C new (suc x.generation) i.trace j) (sym e) old_line
+    pick_old k d (inr c) = other k d c
+
+    pick : (k : ℕ) → (k ≡ suc x.generation) ⊎ (k ≡ suc x.generation → ⊥) →
+        LineOf M C new (suc x.generation) i.trace k
+    pick k (inl e) = subst (λ j. LineOf M C new (suc x.generation) i.trace j) (sym e) new_line
+    pick k (inr d) = pick_old k d (same_or_not k x.generation)
+
     each : (k : ℕ) → LineOf M C new (suc x.generation) i.trace k
-    each k = elim (same_or_not k (suc x.generation)) [
-      | inl e ↦ subst (λ j. LineOf M C new (suc x.generation) i.trace j) (sym e) new_line
-      | inr d ↦ elim (same_or_not k x.generation) [
-        | inl e ↦ subst (λ j. LineOf M C new (suc x.generation) i.trace j) (sym e) old_line
-        | inr c ↦ line-retop M C new i.top (suc x.generation) k i.trace (λ e. c (e ∙ sym a.at_top)) (let q =
-            a.at_top in omega arith) d
-            (line-other M C (with_node w n bx) i.top k h i.trace i.trace y jx w.winners there1 (λ e. spare_is)
-            (λ e. d (sym e)) refl (prefix-refl i.trace) (λ e. refl)
-            (line-other M C w i.top k n i.trace i.trace x bx w.winners acts.there (λ e. absurd (c (sym e)))
-            (λ e. d (sym e)) refl (prefix-refl i.trace) (λ e. refl) (i.each k)))
-      ]
-    ]
+    each k = pick k (same_or_not k (suc x.generation))
+
+    -- the generation that begins does so with all that is settled
+    based : (s : (suc x.generation ≡ suc x.generation) ⊎ (suc x.generation ≡ suc x.generation → ⊥)) →
+        (pick (suc x.generation) s).line.base ≡ i.trace
+    based (inl e) = ap (λ (l : Line S). l.base)
+        (line_over M C new (suc x.generation) i.trace (suc x.generation) (suc x.generation) (sym e) new_line)
+    based (inr d) = absurd (d refl)

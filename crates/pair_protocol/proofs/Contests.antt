@@ -4,7 +4,7 @@ use Rattle.std.specs.Prelude.{slice_get, slice_set, ◌==◌}
 use Rattle.guest_board.specs.Machine.{Machine, Move}
 use Rattle.pair_protocol.specs.Copying.{Copying}
 use Rattle.pair_protocol.specs.Faithful.{IsPrefix}
-use Rattle.pair_protocol.specs.Node.{Alone, Joining, Node, Primary, wins, won_role}
+use Rattle.pair_protocol.specs.Node.{Primary, Alone, Joining, Node, Primary, wins, won_role}
 use Rattle.pair_protocol.specs.Traces.{cut}
 use Rattle.pair_protocol.specs.World.{Winner, World, winner_in}
 use Rattle.pair_protocol.proofs.Moves.{prefix-refl, prefix-under}
@@ -14,7 +14,7 @@ use Rattle.pair_protocol.proofs.LeadMoves.{bool_cases}
 use Rattle.pair_protocol.proofs.Lines.{AtTop, Inv, Line, LineOf, Next, settled}
 use Rattle.pair_protocol.proofs.Frames.{BackOld, BackPlace, BackTop, LeadOld, LeadPlace, LeadTop, relined}
 use Rattle.pair_protocol.proofs.Leading.{back_there, global-grows, lead-line, lead_there}
-use Rattle.pair_protocol.proofs.Backing.{back-line, front_there}
+use Rattle.pair_protocol.proofs.Backing.{back-line, front_there, back-later}
 
 -- The contest.
 
@@ -72,6 +72,7 @@ pub lead-wins : {S : Type 0} (M : Machine S) (C : Copying S) (w : World S) (i : 
     Leads M (i.each x.generation).line.stage (i.each x.generation).line.base (i.each x.generation).line.own
     (i.each x.generation).line.mid (length (i.each x.generation).line.held) x →
     Next M C i.trace (won_by w n x)
+unfolding lead-line
 lead-wins {S} M C w i n x h none e place leads = by_role leads.role place
   where
     o : LineOf M C w i.top i.trace x.generation
@@ -143,7 +144,10 @@ lead-wins {S} M C w i n x h none e place leads = by_role leads.role place
         }))
         (winner-push w.winners x.generation n none
         ∙ ap Some e) o.led (prefix-refl l.own) o.done o.typed o.put
-        (λ z. o.owns (λ k. not_both l.stage stage_is (inl k))) (prefix-refl new))
+        (λ z. o.owns (λ k. not_both l.stage stage_is (inl k))) (prefix-refl new)
+        (λ b u gb role ns. absurd (let k : won_role x.role ≡ Primary = role in let z = sym alone ∙ k in (cc)))
+        (λ z. absurd (z refl)))
+        (λ lt. absurd (omega (arith, lt, g))) refl
         (global-grows M w.messages w.terminals w.puts i.trace new grows o.done o.typed o.put
         (o.owns (λ k. not_both l.stage stage_is (inl k))) i.global)
 
@@ -154,6 +158,7 @@ pub back-wins : {S : Type 0} (M : Machine S) (C : Copying S) (w : World S) (i : 
     Backs M C (i.each x.generation).line.stage (i.each x.generation).line.base (i.each x.generation).line.own
     (i.each x.generation).line.more (i.each x.generation).line.mid x →
     Next M C i.trace (won_by w n x)
+unfolding back-line
 back-wins {S} M C w i n x h not_joining none e place held b = by_state b.state place
   where
     o : LineOf M C w i.top i.trace x.generation
@@ -228,5 +233,8 @@ back-wins {S} M C w i n x h not_joining none e place held b = by_state b.state p
           };
         }))
         (winner-push w.winners x.generation n none
-        ∙ ap Some e) (omega arith) o.held (λ h. absurd (h refl)) (same_prefix _ _ (sym same_moves ∙ q)))
-        i.global
+        ∙ ap Some e) (omega arith) o.held (λ h. absurd (h refl)) (same_prefix _ _ (sym same_moves ∙ q))
+        (back-later M C w i n x y BackWon h (λ k. (cc)) e (omega arith) refl (inl (λ k. inl r))
+        (λ z k. not_both l.stage stage_is (inr k)))
+        (λ z k. not_both l.stage stage_is (inr k)))
+        (λ lt. absurd (omega (arith, lt, g))) refl i.global

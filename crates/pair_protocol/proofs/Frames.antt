@@ -8,7 +8,7 @@ use Rattle.pair_protocol.specs.Node.{Node, Spare, wins}
 use Rattle.pair_protocol.specs.World.{Winner, World, winner_in}
 use Rattle.pair_protocol.proofs.Moves.{prefix-trans, same_some}
 use Rattle.pair_protocol.proofs.Generations.{AsAlone, AsBackup, AsDraining, AsJoining, BackState, BackWon, Backs, LeadWon, Leads, Stage}
-use Rattle.pair_protocol.proofs.Lines.{AtTop, BackHere, BackLeft, Global, Gone, Inv, LeadHere, LeadLeft, Line, LineOf, Next, Presence, Unused, get_set_cases, get_set_other, same_or_not, settled}
+use Rattle.pair_protocol.proofs.Lines.{AtTop, BackHere, BackLeft, Global, Gone, Inv, LeadHere, LeadLeft, Line, LineOf, Next, Presence, Unused, get_set_cases, get_set_other, line_over, same_or_not, settled}
 
 -- Another generation than the one that acts.
 
@@ -75,8 +75,20 @@ line-other {S} M C w top k n T new x y ws h no_x no_y same_win grows at_top o = 
   put = o.put;
   owns = o.owns;
   below = prefix-trans (settled o.line) T new o.below grows;
+  reads = record {
+    heard = λ a b t u ga gb role ns. o.reads.heard a b (old o.line.lead a t ga) (old o.line.back b u gb) ga gb role ns;
+    told = λ j r b m u gb ns. o.reads.told j r b m (old o.line.back b u gb) gb ns;
+    waits = λ t s b u gb role v m. o.reads.waits t s b (old o.line.back b u gb) gb role v m;
+  };
 }
   where
+    old : (j : ℕ) (z : Node S) → slice_get (slice_set w.nodes n y) j ≡ Some z → z.generation ≡ k →
+        slice_get w.nodes j ≡ Some z
+    old j z t gz = elim (get_set_cases w.nodes n j y z t) [
+      | inl q ↦ absurd (no_y (ap (λ (v : Node S). v.generation) (sym q.1) ∙ gz))
+      | inr q ↦ q
+    ]
+
     lead_here : LeadHere M w.nodes k o.line → LeadHere M (slice_set w.nodes n y) k o.line
     lead_here l = record {
       a = l.a;
@@ -134,6 +146,11 @@ line-retop {S} M C w top higher k T not_top le not_higher o = record {
   put = o.put;
   owns = o.owns;
   below = o.below;
+  reads = record {
+    heard = o.reads.heard;
+    told = o.reads.told;
+    waits = λ t. absurd (not_higher t);
+  };
 }
   where
     presence : Presence M C w.nodes w.messages w.winners top T k o.line →
@@ -149,13 +166,14 @@ pub relined : {S : Type 0} (M : Machine S) (C : Copying S) (w : World S) (i : In
     slice_get w.nodes n ≡ Some x → (x.role ≡ Spare → ⊥) → (y.role ≡ Spare → ⊥) → x.generation ≡ g → y.generation ≡ g →
     ((k : ℕ) → (k ≡ g → ⊥) → winner_in ws k ≡ winner_in w.winners k) →
     IsPrefix i.trace new → (new ≡ i.trace) ⊎ (g ≡ i.top) →
-    LineOf M C (record {
+    (line : LineOf M C (record {
       nodes = slice_set w.nodes n y;
       messages = w.messages;
       terminals = w.terminals;
       winners = ws;
       puts = w.puts;
-    }) i.top new g →
+    }) i.top new g) →
+    (g < i.top → settled line.line ≡ settled (i.each g).line) → line.line.base ≡ (i.each g).line.base →
     Global M w.messages w.terminals w.puts new →
     Next M C i.trace (record {
       nodes = slice_set w.nodes n y;
@@ -164,31 +182,63 @@ pub relined : {S : Type 0} (M : Machine S) (C : Copying S) (w : World S) (i : In
       winners = ws;
       puts = w.puts;
     })
-relined {S} M C w i g n x y ws new h nx ny gx gy wins grows which line global = record {
+unfolding line-other
+relined {S} M C w i g n x y ws new h nx ny gx gy wins grows which line kept based global = record {
   inv = record {
     top = i.top;
     trace = new;
-    each = λ k. elim (same_or_not k g) [
-      | inl e ↦ subst (λ j. LineOf M C
-          (record {
-            nodes = slice_set w.nodes n y;
-            messages = w.messages;
-            terminals = w.terminals;
-            winners = ws;
-            puts = w.puts;
-          }) i.top new j) (sym e) line
-      | inr d ↦ line-other M C w i.top k n i.trace new x y ws h (λ e. absurd (d (sym e ∙ gx))) (λ e. d (sym e ∙ gy))
-          (wins k d) grows
-          (λ t. elim which [ inl e ↦ e | inr e ↦ absurd (d (t ∙ sym e)) ]) (i.each k)
-    ];
+    each = each;
     global = global;
     spares = λ m z t s. elim (get_set_cases w.nodes n m y z t) [
       | inl q ↦ absurd (ny (ap (λ v. v.role) (sym q.1) ∙ s))
       | inr q ↦ i.spares m z q s
     ];
+    earlier = λ k lt. by k lt (is k (same_or_not k g)) (is i.top (same_or_not i.top g));
   };
   grows = grows;
 }
+  where
+    then_world : World S
+    then_world = record {
+      nodes = slice_set w.nodes n y;
+      messages = w.messages;
+      terminals = w.terminals;
+      winners = ws;
+      puts = w.puts;
+    }
+
+    pick : (k : ℕ) → (k ≡ g) ⊎ (k ≡ g → ⊥) → LineOf M C then_world i.top new k
+    pick k (inl e) = subst (λ j. LineOf M C then_world i.top new j) (sym e) line
+    pick k (inr d) = line-other M C w i.top k n i.trace new x y ws h (λ e. absurd (d (sym e ∙ gx))) (λ e. d (sym e ∙ gy))
+        (wins k d) grows
+        (λ t. elim which [ inl e ↦ e | inr e ↦ absurd (d (t ∙ sym e)) ]) (i.each k)
+
+    each : (k : ℕ) → LineOf M C then_world i.top new k
+    each k = pick k (same_or_not k g)
+
+    Is : (k : ℕ) → Line S → Type 0
+    Is k l = ((k ≡ g) × (l ≡ line.line)) ⊎ ((k ≡ g → ⊥) × (l ≡ (i.each k).line))
+
+    is : (k : ℕ) (s : (k ≡ g) ⊎ (k ≡ g → ⊥)) → Is k (pick k s).line
+    is k (inl e) = inl (e, line_over M C then_world i.top new g k (sym e) line)
+    is k (inr d) = inr (d, refl)
+
+    by : (k : ℕ) → k < i.top → Is k (each k).line → Is i.top (each i.top).line →
+        IsPrefix (settled (each k).line) (each i.top).line.base
+    by k lt (inl a) (inl b) = absurd (let e : k ≡ g = a.0 in let f : i.top ≡ g = b.0 in omega (arith, lt, e, f))
+    by k lt (inl a) (inr b) =
+        subst (λ z. IsPrefix (settled z) (each i.top).line.base) (sym a.1)
+        (subst (λ z. IsPrefix (settled line.line) z.base) (sym b.1)
+        (subst (λ z. IsPrefix z (i.each i.top).line.base) (sym (kept (subst (λ z. z < i.top) a.0 lt)))
+        (i.earlier g (subst (λ z. z < i.top) a.0 lt))))
+    by k lt (inr a) (inl b) =
+        subst (λ z. IsPrefix (settled z) (each i.top).line.base) (sym a.1)
+        (subst (λ z. IsPrefix (settled (i.each k).line) z.base) (sym b.1)
+        (subst (λ z. IsPrefix (settled (i.each k).line) z) (sym based)
+        (subst (λ z. IsPrefix (settled (i.each k).line) (i.each z).line.base) b.0 (i.earlier k lt))))
+    by k lt (inr a) (inr b) =
+        subst (λ z. IsPrefix (settled z) (each i.top).line.base) (sym a.1)
+        (subst (λ z. IsPrefix (settled (i.each k).line) z.base) (sym b.1) (i.earlier k lt))
 
 -- The node that acts, and its part in its generation.
 pub data LeadPlace {S : Type 0} (M : Machine S) (C : Copying S) (nodes : List (Node S)) (top : ℕ) (T : List Move)

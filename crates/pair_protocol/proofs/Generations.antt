@@ -1,8 +1,10 @@
 -- What holds of every world that the actions reach: the promises, made strong enough to last.
-use Rattle.std.proofs.Common.{◌≡◌, ◌+◌, ◌≤◌, ◌<◌, [], ◌∷◌, ◌++◌, ◌⊎◌, ◌∙◌, List, None, Option, Some, ap, append-nil, inl, inr, length, refl, suc, sym, take, ℕ}
+use Rattle.std.proofs.Common.{◌≡◌, ◌+◌, ◌≤◌, ◌<◌, [], ◌∷◌, ◌++◌, ◌⊎◌, ◌∙◌, List, None, Option, Some, ap, append-nil, inl, inr, length, refl, suc, sym, take, true, ℕ}
 use Rattle.std.specs.Prelude.{slice_get}
 use Rattle.event_callbacks.specs.Operations.{id_of}
+use Rattle.disk_dcdd.specs.declared.sector.SectorWrite.{SectorWrite}
 use Rattle.event_callbacks.specs.declared.operations.Operation.{Operation}
+use Rattle.event_callbacks.specs.declared.operations.Operation.TheVariants.{Write}
 use Rattle.guest_board.specs.Machine.{Do, Machine, Move, Runs}
 use Rattle.log_entry.specs.Entries.{entries}
 use Rattle.log_entry.specs.declared.entry.Entry.{Entry}
@@ -10,7 +12,8 @@ use Rattle.plain_single.specs.Reach.{inputs, operations, steps}
 use Rattle.pair_protocol.specs.Copying.{Copying}
 use Rattle.pair_protocol.specs.Faithful.{IsPrefix}
 use Rattle.pair_protocol.specs.Lawful.{Among}
-use Rattle.pair_protocol.specs.Node.{Alone, Backup, Draining, Joining, Node, Primary, note_of}
+use Rattle.pair_protocol.specs.Node.{Alone, Backup, Draining, Joining, Node, Note, Primary, note_of}
+use Rattle.pair_protocol.specs.Waiting.{is_read}
 use Rattle.pair_protocol.specs.Traces.{cut}
 use Rattle.pair_protocol.proofs.Moves.{prefix-append, prefix-under}
 
@@ -31,6 +34,15 @@ winner_at Undecided lead back = None
 winner_at LeadWon lead back = Some lead
 winner_at BackWon lead back = Some back
 
+-- The note of an operation: it was given by its entry, and a write waits for each read up to there.
+pub record IsNoted (c : ℕ) (own : List Move) (notes : List Note) (o : Operation) : Type 0 where
+  pub note : Note
+  pub found : note_of notes (id_of o) ≡ Some note
+  pub given : Among o (operations (cut (suc note.index) own))
+  pub inside : note.index < length (entries c own)
+  pub reads : (write : SectorWrite) → o ≡ Write write → (k : ℕ) (e : Entry) → k ≤ note.index →
+      slice_get (entries c own) k ≡ Some e → is_read e ≡ true → k < note.after
+
 -- The node that began the generation as its primary.
 pub record Leads {S : Type 0} (M : Machine S) (stage : Stage) (base own : List Move) (mid : S) (n : ℕ)
     (a : Node S) : Type 0 where
@@ -43,8 +55,7 @@ pub record Leads {S : Type 0} (M : Machine S) (stage : Stage) (base own : List M
   pub covered : a.covered ≤ n
   pub image : (s : S) → a.image ≡ Some s → s ≡ mid
   -- each operation of the generation is noted, at its mark or a later one
-  pub notes : a.role ≡ Primary → (o : Operation) → Among o (operations own) →
-      (i : ℕ) × (note_of a.notes (id_of o) ≡ Some i) × Among o (operations (cut (suc i) own))
+  pub notes : a.role ≡ Primary → (o : Operation) → Among o (operations own) → IsNoted (steps base) own a.notes o
 
 -- the moves have the replayed entries, or one mark more
 abbrev pub AtPlace : ℕ → List Move → List Entry → ℕ → Type 0

@@ -1,21 +1,26 @@
 -- A backup holds one more entry: what is settled goes on up to it, while nobody has won.
-use Rattle.std.proofs.Common.{◌≡◌, ◌≤◌, [], ◌∷◌, ◌++◌, ◌∙◌, List, Some, ap, arith, inl, inr, length, length-append, refl, subst, sym, ℕ}
+use Rattle.pair_protocol.specs.Lawful.{Among}
+use Rattle.event_callbacks.specs.declared.operations.Operation.TheVariants.{Write}
+use Rattle.disk_dcdd.specs.declared.sector.SectorWrite.{SectorWrite}
+use Rattle.std.proofs.lemmas.Option.{slice_get_within}
+use Rattle.std.proofs.Common.{◌≡◌, ◌≤◌, [], ◌∷◌, ◌++◌, ◌∙◌, List, Some, ap, arith, inl, inr, length, length-append, refl, subst, sym, ℕ, ◌<◌, ◌⊎◌, true}
 use Rattle.std.specs.Prelude.{slice_get, slice_set}
 use Rattle.guest_board.specs.Machine.{Machine, Move}
 use Rattle.log_entry.specs.Entries.{entries}
 use Rattle.log_entry.specs.declared.entry.Entry.{Entry}
-use Rattle.plain_single.specs.Reach.{inputs, keys, steps}
+use Rattle.plain_single.specs.Reach.{inputs, keys, steps, operations}
 use Rattle.pair_protocol.specs.Copying.{Copying}
 use Rattle.pair_protocol.specs.Faithful.{IsPrefix}
 use Rattle.pair_protocol.specs.Node.{Backup, Node, Spare, holds}
+use Rattle.pair_protocol.specs.Waiting.{is_read}
 use Rattle.pair_protocol.specs.Traces.{cut}
-use Rattle.pair_protocol.specs.World.{World, terminal, with_node}
+use Rattle.pair_protocol.specs.World.{World, terminal, with_node, Released}
 use Rattle.pair_protocol.proofs.Moves.{acceptances-prefix, keys-prefix, owns-prefix, prefix-refl, prefix-trans, prefix-under, put-prefix}
 use Rattle.pair_protocol.proofs.Cuts.{cut-more, cut-prefix}
 use Rattle.pair_protocol.proofs.Generations.{AsAlone, AsBackup, AsDraining, AsJoining, BackState, BackWon, Backs, LeadWon, Leads, Stage, Undecided, settled_moves}
-use Rattle.pair_protocol.proofs.LeadMoves.{prefix_next}
+use Rattle.pair_protocol.proofs.LeadMoves.{prefix_next, front_same, le_cases}
 use Rattle.pair_protocol.proofs.Replay.{follow-holds}
-use Rattle.pair_protocol.proofs.Lines.{AtTop, BackHere, Inv, LeadLeft, Line, LineOf, Next, settled}
+use Rattle.pair_protocol.proofs.Lines.{AtTop, BackHere, Inv, LeadLeft, Line, LineOf, Next, settled, BackReads}
 use Rattle.pair_protocol.proofs.Frames.{BackOld, BackPlace, BackTop, relined}
 use Rattle.pair_protocol.proofs.Leading.{global-grows, lead_there}
 use Rattle.pair_protocol.proofs.Backing.{back-line, backed, front_gone, front_there}
@@ -63,6 +68,7 @@ pub back-holds : {S : Type 0} (M : Machine S) (C : Copying S) (w : World S) (i :
     slice_get (entries (steps (i.each x.generation).line.base) (i.each x.generation).line.own)
     (length x.held) ≡ Some en →
     Next M C i.trace (with_node w n (holds x en))
+unfolding back-line
 back-holds {S} M C w i n x en h role e place held b there = by_state b.state place
   where
     o : LineOf M C w i.top i.trace x.generation
@@ -82,6 +88,40 @@ back-holds {S} M C w i n x en h role e place held b there = by_state b.state pla
 
     longer : IsPrefix (x.held ++ en ∷ []) (entries (steps l.base) l.own)
     longer = prefix_next x.held (entries (steps l.base) l.own) en b.held there
+
+    here : slice_get w.nodes l.back ≡ Some x
+    here = subst (λ j. slice_get w.nodes j ≡ Some x) e h
+
+    -- the settled moves end with what is held
+    top_moves : settled l ≡ i.trace → x.role ≡ Backup → (l.stage ≡ BackWon → ⊥) → (l.stage ≡ LeadWon → ⊥) →
+        i.trace ≡ l.base ++ cut (length x.held) l.own
+    top_moves q k s z = sym q ∙ by l.stage s z ∙ ap (λ es. l.base ++ cut (length es) l.own) (sym held)
+      where
+        by : (stage : Stage) → (stage ≡ BackWon → ⊥) → (stage ≡ LeadWon → ⊥) →
+            settled_moves stage l.base l.own l.more (length l.held) ≡ l.base ++ cut (length l.held) l.own
+        by Undecided s z = refl
+        by LeadWon s z = absurd (z refl)
+        by BackWon s z = absurd (s refl)
+
+    -- what was released is settled, so it was issued before the entry that comes
+    reads : (x.generation ≡ i.top → (l.stage ≡ LeadWon → ⊥) → i.trace ≡ l.base ++ cut (length x.held) l.own) →
+        BackReads w.nodes w.messages i.top x.generation l l.stage y
+    reads moves = record {
+      heard = λ a t ga r. o.reads.heard a x t here ga refl r nx;
+      told = λ j r m. o.reads.told j r x m here refl nx;
+      waits = λ t s r v m k d low got read. by k d low got read t s v m (le_cases k (length x.held)
+          (let f = slice_get_within (x.held ++ en ∷ []) k d got in let g = length-append x.held (en ∷ []) in
+          omega (arith, f, g)));
+    }
+      where
+        by : (k : ℕ) (d : Entry) → x.replayed ≤ k → slice_get (x.held ++ en ∷ []) k ≡ Some d → is_read d ≡ true →
+            x.generation ≡ i.top → (l.stage ≡ LeadWon → ⊥) → (v : SectorWrite) → Among (Released (Write v)) w.messages →
+            (k < length x.held) ⊎ (k ≡ length x.held) → Among (Write v) (operations (l.base ++ cut k l.own))
+        by k d low got read t s v m (inl few) =
+            o.reads.waits t s x here refl (inl role) v m k d low (front_same x.held (en ∷ []) k d few got) read
+        by k d low got read t s v m (inr q) =
+            subst (λ j. Among (Write v) (operations (l.base ++ cut j l.own))) (sym q)
+            (subst (λ zs. Among (Write v) (operations zs)) (moves t s) (i.global.sends (Write v) m))
 
     by_state : BackState M C l.stage l.base l.own l.more l.mid x → BackPlace M w.nodes i.top i.trace x.generation l →
         Next M C i.trace (with_node w n y)
@@ -121,7 +161,8 @@ back-holds {S} M C w i n x en h role e place held b there = by_state b.state pla
                   leads-held M l.stage l.base l.own l.mid (length l.held)
                   (length (x.held ++ en ∷ [])) a.a few a.leads;
             }) back_here) o.tied few longer (λ z. z)
-            (prefix-refl new))
+            (prefix-refl new) (reads (λ t z. top_moves q k s z)) (λ z. z))
+            (λ lt. absurd (omega (arith, lt, g))) refl
             (global-grows M w.messages w.terminals w.puts i.trace new grows
             (λ v. let c = acceptances-prefix v 0 new (l.base ++ l.own) p.1 in let d = o.done v in omega arith)
             (λ v. prefix-trans (keys v (inputs 0 new)) (keys v (inputs 0 (l.base ++ l.own))) (terminal w v).typed
@@ -136,5 +177,5 @@ back-holds {S} M C w i n x en h role e place held b there = by_state b.state pla
             (inl refl)
             (back-line M C w i.top n i.trace i.trace x y o l.more l.stage (x.held ++ en ∷ []) w.winners e
             (LeadLeft g q (front_gone M C w i.top n i.trace x y o e a) back_here) o.tied few longer (λ z. z)
-            (subst (λ z. IsPrefix z i.trace) (sym same) o.below))
-            i.global
+            (subst (λ z. IsPrefix z i.trace) (sym same) o.below) (reads (λ t z. absurd (omega (arith, g, t)))) (λ z. z))
+            (λ lt. same) refl i.global

@@ -131,7 +131,7 @@ leads-takes M stage base own mid n a s i r h e l = record {
       ∙ sym (entries-append (steps base) own (Take i ∷ []));
   covered = l.covered;
   image = l.image;
-  notes = λ k o m. notes-more a.notes own (Take i ∷ []) o
+  notes = λ k o m. notes-more (steps base) a.notes own (Take i ∷ []) o
       (l.notes r o (subst (λ zs. Among o zs) (operations-append own (Take i ∷ []) ∙ append-nil (operations own)) m));
 }
 

@@ -1,9 +1,11 @@
 -- A primary's line after one more move: what its backup holds stays, and its log and notes go on.
-use Rattle.std.proofs.Common.{◌≡◌, ◌+◌, ◌≤◌, [], ◌∷◌, ◌++◌, ◌⊎◌, ◌∙◌, Bool, List, None, Option, Some, ap, append-nil, append_assoc, arith, cond, eq-eqb, false, inl, inr, length, length-append, refl, subst, suc, sym, true, zero, ℕ}
+use Rattle.std.proofs.Common.{◌≡◌, ◌+◌, ◌≤◌, ◌<◌, [], ◌∷◌, ◌++◌, ◌⊎◌, ◌∙◌, Bool, List, None, Option, Some, ap, append-nil, append_assoc, arith, cond, eq-eqb, false, inl, inr, length, length-append, refl, subst, suc, sym, true, zero, ℕ}
 use Rattle.std.specs.Prelude.{slice_get, ◌==◌, ◌&&◌}
 use Rattle.event_callbacks.specs.Operations.{id_of}
 use Rattle.event_callbacks.specs.declared.operations.OpId.{OpId}
+use Rattle.disk_dcdd.specs.declared.sector.SectorWrite.{SectorWrite}
 use Rattle.event_callbacks.specs.declared.operations.Operation.{Operation}
+use Rattle.event_callbacks.specs.declared.operations.Operation.TheVariants.{Byte, Write}
 use Rattle.guest_board.specs.Machine.{Do, Machine, Move, Runs, Take}
 use Rattle.guest_board.specs.declared.input.Input.{Input}
 use Rattle.log_entry.specs.Entries.{entries, marks}
@@ -14,11 +16,12 @@ use Rattle.pair_protocol.specs.Copying.{Copying}
 use Rattle.pair_protocol.specs.Faithful.{IsPrefix}
 use Rattle.pair_protocol.specs.Lawful.{Among}
 use Rattle.pair_protocol.specs.Node.{Node, Note, note_of, notes_after, same_name}
+use Rattle.pair_protocol.specs.Waiting.{is_read, reads_in, up_to_read, waits_for}
 use Rattle.pair_protocol.specs.Traces.{cut}
 use Rattle.event_callbacks.specs.declared.operations.OpId.TheVariants as id
 use Rattle.pair_protocol.proofs.Moves.{among-prefix, among-split, entries-append, inputs-append, operations-append, operations-prefix, prefix-trans, steps-append}
 use Rattle.pair_protocol.proofs.Cuts.{among-cut, cut-both}
-use Rattle.pair_protocol.proofs.Generations.{AsAlone, AsBackup, AsDraining, AsJoining, BackState, Backs, Follows, Stage}
+use Rattle.pair_protocol.proofs.Generations.{AsAlone, AsBackup, AsDraining, AsJoining, BackState, Backs, Follows, IsNoted, Stage}
 
 pub slice_get_longer : {A : Type 0} (xs ys : List A) (i : ℕ) (x : A) → slice_get xs i ≡ Some x →
     slice_get (xs ++ ys) i ≡ Some x
@@ -127,44 +130,130 @@ log-do c k own log None h e = append-nil log ∙ h
 log-do c k own log (Some o) h e = ap (λ j. log ++ Mark j ∷ []) e ∙ ap (λ es. es ++ Mark (suc (c + steps own)) ∷ []) h
     ∙ sym (entries-append c own (Do (Some o) ∷ []))
 
-abbrev pub AreNoted : List Note → List Move → Type 0
-AreNoted notes own = (o : Operation) → Among o (operations own) →
-    (i : ℕ) × (note_of notes (id_of o) ≡ Some i) × Among o (operations (cut (suc i) own))
+abbrev pub AreNoted : ℕ → List Note → List Move → Type 0
+AreNoted c notes own = (o : Operation) → Among o (operations own) → IsNoted c own notes o
 
-pub notes-more : (notes : List Note) (own xs : List Move) (o : Operation) →
-    (i : ℕ) × (note_of notes (id_of o) ≡ Some i) × Among o (operations (cut (suc i) own)) →
-    (i : ℕ) × (note_of notes (id_of o) ≡ Some i) × Among o (operations (cut (suc i) (own ++ xs)))
-notes-more notes own xs o h = (
-  h.0,
-  h.1,
-  among-prefix o (operations (cut (suc h.0) own))
-      (operations (cut (suc h.0) (own ++ xs)))
-      (operations-prefix (cut (suc h.0) own) (cut (suc h.0) (own ++ xs)) (cut-both (suc h.0) own xs)) h.2,
-)
+up_to-more : (b : Bool) (n k : ℕ) → k < n → suc k < up_to_read b n
+up_to-more b zero k h = absurd (omega (arith, h))
+up_to-more b (suc n) k h = omega (arith, h)
+
+up_to-some : (n : ℕ) → 0 < up_to_read true n
+up_to-some zero = omega arith
+up_to-some (suc n) = omega arith
+
+-- each read of a log is among those that a write behind it waits for
+pub reads_before : (log : List Entry) (k : ℕ) (e : Entry) → slice_get log k ≡ Some e → is_read e ≡ true →
+    k < reads_in log
+reads_before [] k e h read = (cc)
+reads_before (x ∷ log) zero e h read =
+    let same : x ≡ e = (cc) in
+    subst (λ b. 0 < up_to_read b (reads_in log)) (sym (ap is_read same ∙ read)) (up_to-some (reads_in log))
+reads_before (x ∷ log) (suc k) e h read = up_to-more (is_read x) (reads_in log) k (reads_before log k e h read)
+
+-- an entry below the length of a log is that of the longer log
+pub front_same : {A : Type 0} (xs ys : List A) (k : ℕ) (e : A) → k < length xs → slice_get (xs ++ ys) k ≡ Some e →
+    slice_get xs k ≡ Some e
+front_same [] ys k e l h = absurd (omega (arith, l))
+front_same (x ∷ xs) ys zero e l h = h
+front_same (x ∷ xs) ys (suc k) e l h = front_same xs ys k e (omega (arith, l)) h
+
+pub notes-more : (c : ℕ) (notes : List Note) (own xs : List Move) (o : Operation) → IsNoted c own notes o →
+    IsNoted c (own ++ xs) notes o
+notes-more c notes own xs o h = record {
+  note = h.note;
+  found = h.found;
+  given = among-prefix o (operations (cut (suc h.note.index) own))
+      (operations (cut (suc h.note.index) (own ++ xs)))
+      (operations-prefix (cut (suc h.note.index) own) (cut (suc h.note.index) (own ++ xs))
+      (cut-both (suc h.note.index) own xs)) h.given;
+  inside = (let e = ap length (entries-append c own xs) in
+      let f = length-append (entries c own) (entries (c + steps own) xs) in
+      let i = h.inside in omega (arith, e, f, i));
+  reads = λ w q k e few there read. (let i = h.inside in
+      h.reads w q k e few (front_same (entries c own) (entries (c + steps own) xs) k e (omega (arith, few, i))
+      (subst (λ es. slice_get es k ≡ Some e) (entries-append c own xs) there)) read);
+}
+
+pub le_cases : (a b : ℕ) → a ≤ b → (a < b) ⊎ (a ≡ b)
+le_cases zero zero l = inr refl
+le_cases zero (suc b) l = inl (omega arith)
+le_cases (suc a) zero l = absurd (omega (arith, l))
+le_cases (suc a) (suc b) l = elim (le_cases a b (omega (arith, l))) [
+  | inl s ↦ inl (omega (arith, s))
+  | inr s ↦ inr (ap suc s)
+]
+
+mark_no_read : (n : ℕ) (e : Entry) (more : List Entry) → Mark n ∷ [] ≡ e ∷ more → is_read e ≡ true → ⊥
+unfolding is_read
+mark_no_read n e more h read = let same : Mark n ≡ e = (cc) in let f : false ≡ true = ap is_read same ∙ read in (cc)
+
+-- the reads up to a mark that comes are those of the log before it
+reads_to_mark : (log : List Entry) (n k : ℕ) (e : Entry) → k ≤ length log → slice_get (log ++ Mark n ∷ []) k ≡ Some e →
+    is_read e ≡ true → k < reads_in log
+reads_to_mark log n k e few there read = elim (le_cases k (length log) few) [
+  | inl l ↦ reads_before log k e (front_same log (Mark n ∷ []) k e l there) read
+  | inr q ↦ (let r = slice_get_behind log (Mark n ∷ []) e
+      (subst (λ j. slice_get (log ++ Mark n ∷ []) j ≡ Some e) q there) in
+      absurd (mark_no_read n e r.0 r.1 read))
+]
 
 pub notes-do : (c : ℕ) (own : List Move) (log : List Entry) (notes : List Note) (o : Option Operation) →
-    log ≡ entries c own → AreNoted notes own → AreNoted (notes_after notes (length log) o) (own ++ Do o ∷ [])
+    log ≡ entries c own → AreNoted c notes own → AreNoted c (notes_after notes log o) (own ++ Do o ∷ [])
 notes-do c own log notes None h k y m =
     elim (among-split y (operations own) [] (subst (λ zs. Among y zs) (operations-append own (Do None ∷ [])) m))
-    [ inl l ↦ notes-more notes own (Do None ∷ []) y (k y l) | inr l ↦ absurd l ]
+    [ inl l ↦ notes-more c notes own (Do None ∷ []) y (k y l) | inr l ↦ absurd l ]
 notes-do c own log notes (Some o) h k y m = go (bool_cases (same_name (id_of y) (id_of o)))
   where
-    all : Among y (operations (cut (suc (length log)) (own ++ Do (Some o) ∷ [])))
-    all =
+    come : Note
+    come = record { name = id_of o; index = length log; after = waits_for o log }
+
+    longer : length (entries c (own ++ Do (Some o) ∷ [])) ≡ suc (length log)
+    longer =
         let e = ap length (entries-append c own (Do (Some o) ∷ [])) in
         let f = length-append (entries c own) (Mark (suc (c + steps own)) ∷ []) in
         let d = ap length h in
-        let l : length (entries c (own ++ Do (Some o) ∷ [])) ≤ suc (length log) = omega arith in
-        among-cut (suc (length log)) c y (own ++ Do (Some o) ∷ []) l m
+        omega (arith, e, f, d)
+
+    all : Among y (operations (cut (suc (length log)) (own ++ Do (Some o) ∷ [])))
+    all = let l = longer in
+        among-cut (suc (length log)) c y (own ++ Do (Some o) ∷ []) (omega (arith, l)) m
+
+    there : (k : ℕ) (e : Entry) → slice_get (entries c (own ++ Do (Some o) ∷ [])) k ≡ Some e →
+        slice_get (log ++ Mark (suc (c + steps own)) ∷ []) k ≡ Some e
+    there k e t = subst (λ es. slice_get (es ++ Mark (suc (c + steps own)) ∷ []) k ≡ Some e) (sym h)
+        (subst (λ es. slice_get es k ≡ Some e) (entries-append c own (Do (Some o) ∷ [])) t)
+
+    -- of an operation of this name, the note is the one that comes
+    named : same_name (id_of y) (id_of o) ≡ true → ((w : SectorWrite) → y ≡ Write w → waits_for o log ≡ reads_in log) →
+        IsNoted c (own ++ Do (Some o) ∷ []) (come ∷ notes) y
+    named t waits = record {
+      note = come;
+      found = ap (λ b. cond b (Some come) (note_of notes (id_of y))) t;
+      given = all;
+      inside = (let l = longer in omega (arith, l));
+      reads = λ w q k e few t read. (let r = reads_to_mark log (suc (c + steps own)) k e few (there k e t) read in
+          let z = waits w q in omega (arith, r, z));
+    }
+
+    write_waits : (o y : Operation) → same_name (id_of y) (id_of o) ≡ true → (w : SectorWrite) → y ≡ Write w →
+        waits_for o log ≡ reads_in log
+    write_waits (Write v) y t w q = refl
+    write_waits (Byte port number byte) y t w q =
+        let f : same_name (id_of (Write w)) (id_of (Byte port number byte)) ≡ true =
+        subst (λ z. same_name (id_of z) (id_of (Byte port number byte)) ≡ true) q t in (cc)
 
     go : (same_name (id_of y) (id_of o) ≡ true) ⊎ (same_name (id_of y) (id_of o) ≡ false) →
-        (i : ℕ) × (note_of (record { name = id_of o; index = length log } ∷ notes) (id_of y) ≡ Some i)
-        × Among y (operations (cut (suc i) (own ++ Do (Some o) ∷ [])))
-    go (inl t) = (length log, ap (λ b. cond b (Some (length log)) (note_of notes (id_of y))) t, all)
+        IsNoted c (own ++ Do (Some o) ∷ []) (come ∷ notes) y
+    go (inl t) = named t (write_waits o y t)
     go (inr f) = elim (among-split y (operations own) (o ∷ [])
         (subst (λ zs. Among y zs) (operations-append own (Do (Some o) ∷ [])) m)) [
-          | inl l ↦ (let r = notes-more notes own (Do (Some o) ∷ []) y (k y l) in
-              (r.0, ap (λ b. cond b (Some (length log)) (note_of notes (id_of y))) f ∙ r.1, r.2))
+          | inl l ↦ (let r = notes-more c notes own (Do (Some o) ∷ []) y (k y l) in record {
+            note = r.note;
+            found = ap (λ b. cond b (Some come) (note_of notes (id_of y))) f ∙ r.found;
+            given = r.given;
+            inside = r.inside;
+            reads = r.reads;
+          })
           | inr (inl l) ↦ (let t : same_name (id_of y) (id_of o) ≡ true = ap (λ z. same_name (id_of y) (id_of z)) (sym l)
               ∙ same_name-refl (id_of y) in (cc))
           | inr (inr l) ↦ absurd l

@@ -10,12 +10,12 @@ use Rattle.log_entry.specs.Entries.{entries}
 use Rattle.plain_single.specs.Reach.{Owns, acceptances, inputs, keys, operations, steps}
 use Rattle.pair_protocol.specs.Copying.{Copying}
 use Rattle.pair_protocol.specs.Faithful.{IsPrefix}
-use Rattle.pair_protocol.specs.Node.{Node, Spare}
+use Rattle.pair_protocol.specs.Node.{Node, Primary, Spare}
 use Rattle.pair_protocol.specs.Traces.{cut}
 use Rattle.pair_protocol.specs.World.{Message, Terminal, Winner, World, accepted, accepted_in, terminal, terminal_in, winner_in, with_node}
-use Rattle.pair_protocol.proofs.Moves.{ArePut, among-prefix, keys-prefix, operations-prefix, prefix-append, prefix-length, prefix-refl, prefix-trans}
-use Rattle.pair_protocol.proofs.Cuts.{cut-longer}
-use Rattle.pair_protocol.proofs.Generations.{BackWon, Leads, Stage, settled-grows, settled-longer, settled_moves, winner_at}
+use Rattle.pair_protocol.proofs.Moves.{ArePut, among-prefix, keys-prefix, operations-prefix, prefix-append, prefix-length, prefix-refl, prefix-trans, prefix-under}
+use Rattle.pair_protocol.proofs.Cuts.{cut-both, cut-longer}
+use Rattle.pair_protocol.proofs.Generations.{BackWon, LeadWon, Leads, Stage, settled-grows, settled-longer, settled_moves, winner_at}
 use Rattle.pair_protocol.proofs.LeadMoves.{back-longer, entries-longer, slice_get_prefix}
 use Rattle.pair_protocol.proofs.Lines.{AtStart, AtTop, BackHere, BackLeft, Global, Gone, Inv, IsRecord, LeadHere, Line, LineOf, Next, OfWrite, Presence, get_set, get_set_cases, get_set_other, settled}
 use Rattle.pair_protocol.proofs.Frames.{LeadOld, LeadPlace, LeadTop, relined}
@@ -36,6 +36,7 @@ global-grows M messages terminals puts T new grows done typed put owns h = recor
   puts = λ v k. among-prefix (Write v) (operations T) (operations new) (operations-prefix T new grows) (h.puts v k);
   reads = λ q n bytes k. record-grows M q n bytes T new grows (h.reads q n bytes k);
   written = h.written;
+  put_sent = h.put_sent;
   put = put;
   owns = owns;
   sends = λ o k. among-prefix o (operations T) (operations new) (operations-prefix T new grows) (h.sends o k);
@@ -47,6 +48,19 @@ global-grows M messages terminals puts T new grows done typed put owns h = recor
       let l = prefix-length (keys p (inputs 0 T)) (keys p (inputs 0 new)) (keys-prefix p 0 T new grows) in
       omega arith;
 }
+
+-- a primary was told no more than its backup has replayed
+abbrev pub Hears : {S : Type 0} → World S → Line S → ℕ → Node S → Type 0
+Hears {S} w l g y = (b : Node S) → slice_get w.nodes l.back ≡ Some b → b.generation ≡ g → y.role ≡ Primary →
+    (b.role ≡ Spare → ⊥) → y.reported ≤ b.replayed
+
+-- it was told what it was told before
+pub hears-same : {S : Type 0} (M : Machine S) (C : Copying S) (w : World S) (i : Inv M C w) (n : ℕ) (x y : Node S) →
+    slice_get w.nodes n ≡ Some x → n ≡ (i.each x.generation).line.lead → (y.role ≡ Primary → x.role ≡ Primary) →
+    y.reported ≡ x.reported → Hears w (i.each x.generation).line x.generation y
+hears-same {S} M C w i n x y h e roles same b u gb role ns =
+    subst (λ k. k ≤ b.replayed) (sym same)
+    ((i.each x.generation).reads.heard x b (subst (λ j. slice_get w.nodes j ≡ Some x) e h) u refl gb (roles role) ns)
 
 -- the line with other moves of its lead, or another stage
 abbrev pub led : {S : Type 0} → Line S → List Move → Stage → Line S
@@ -61,7 +75,7 @@ led l own stage = record {
   held = l.held;
 }
 
-pub lead-line : {S : Type 0} (M : Machine S) (C : Copying S) (w : World S) (high n : ℕ) (T new : List Move)
+unfoldable pub lead-line : {S : Type 0} (M : Machine S) (C : Copying S) (w : World S) (high n : ℕ) (T new : List Move)
     (x y : Node S) (o : LineOf M C w high T x.generation) (own : List Move) (stage : Stage) (ws : List Winner) →
     n ≡ o.line.lead →
     Presence M C (slice_set w.nodes n y) w.messages ws high new x.generation (led o.line own stage) →
@@ -72,6 +86,8 @@ pub lead-line : {S : Type 0} (M : Machine S) (C : Copying S) (w : World S) (high
     ((p : ℕ) → IsPrefix (keys p (inputs 0 (o.line.base ++ own))) (terminal w p).typed) →
     ArePut w.puts (inputs 0 (o.line.base ++ own)) → ((stage ≡ BackWon → ⊥) → Owns M [] M.boot (o.line.base ++ own)) →
     IsPrefix (settled (led o.line own stage)) new →
+    ((b : Node S) → slice_get w.nodes o.line.back ≡ Some b → b.generation ≡ x.generation → y.role ≡ Primary →
+    (b.role ≡ Spare → ⊥) → y.reported ≤ b.replayed) → ((stage ≡ LeadWon → ⊥) → o.line.stage ≡ LeadWon → ⊥) →
     LineOf M C (record {
       nodes = slice_set w.nodes n y;
       messages = w.messages;
@@ -79,7 +95,7 @@ pub lead-line : {S : Type 0} (M : Machine S) (C : Copying S) (w : World S) (high
       winners = ws;
       puts = w.puts;
     }) high new x.generation
-lead-line M C w high n T new x y o own stage ws e presence tied run longer done typed put owns below =
+lead-line {S} M C w high n T new x y o own stage ws e presence tied run longer done typed put owns below hy same_stage =
     let c = steps o.line.base in
     let more : IsPrefix (entries c o.line.own) (entries c own) =
     subst (λ zs. IsPrefix (entries c o.line.own) (entries c zs)) longer.1
@@ -104,7 +120,27 @@ lead-line M C w high n T new x y o own stage ws e presence tied run longer done 
       put = put;
       owns = owns;
       below = below;
+      reads = record {
+        heard = λ a b t u ga gb role ns. elim (get_set_cases w.nodes n o.line.lead y a t) [
+          | inl q ↦ subst (λ z. z.reported ≤ b.replayed) (sym q.1)
+              (hy b (old b u) gb (ap (λ (v : Node S). v.role) (sym q.1) ∙ role) ns)
+          | inr q ↦ o.reads.heard a b q (old b u) ga gb role ns
+        ];
+        told = λ j r b m u gb ns. o.reads.told j r b m (old b u) gb ns;
+        waits = λ t s b u gb role v m k en low there read.
+            among-prefix (Write v) (operations (o.line.base ++ cut k o.line.own)) (operations (o.line.base ++ cut k own))
+            (operations-prefix (o.line.base ++ cut k o.line.own) (o.line.base ++ cut k own)
+            (prefix-under o.line.base (cut k o.line.own) (cut k own)
+            (subst (λ zs. IsPrefix (cut k o.line.own) (cut k zs)) longer.1 (cut-both k o.line.own longer.0))))
+            (o.reads.waits t (same_stage s) b (old b u) gb role v m k en low there read);
+      };
     }
+  where
+    old : (b : Node S) → slice_get (slice_set w.nodes n y) o.line.back ≡ Some b → slice_get w.nodes o.line.back ≡ Some b
+    old b u = elim (get_set_cases w.nodes n o.line.back y b u) [
+      | inl q ↦ absurd (o.apart (sym e ∙ sym q.0))
+      | inr q ↦ q
+    ]
 
 -- the other node of the generation is as it was
 pub back_there : {S : Type 0} (M : Machine S) (C : Copying S) (w : World S) (high n : ℕ) (T : List Move)
@@ -143,8 +179,10 @@ pub lead-moves : {S : Type 0} (M : Machine S) (C : Copying S) (w : World S) (i :
     ArePut w.puts (inputs 0 ((i.each x.generation).line.base ++ ((i.each x.generation).line.own ++ m ∷ []))) →
     (((i.each x.generation).line.stage ≡ BackWon → ⊥) →
     Owns M [] M.boot ((i.each x.generation).line.base ++ ((i.each x.generation).line.own ++ m ∷ []))) →
+    Hears w (i.each x.generation).line x.generation y →
     Next M C i.trace (with_node w n y)
-lead-moves {S} M C w i n x y m h nx ny gy e place leads run done typed put owns = go place
+unfolding lead-line
+lead-moves {S} M C w i n x y m h nx ny gy e place leads run done typed put owns hy = go place
   where
     o : LineOf M C w i.top i.trace x.generation
     o = i.each x.generation
@@ -182,7 +220,8 @@ lead-moves {S} M C w i n x y m h nx ny gy e place leads run done typed put owns 
         let which = settled-longer l.stage l.base l.own l.more (m ∷ []) (length l.held) same_cut in
         relined M C w i x.generation n x y w.winners new h nx ny refl gy (λ k d. refl) grows (inr g)
         (lead-line M C w i.top n i.trace new x y o own l.stage w.winners e (AtTop g refl lead_here back) o.tied
-        run (prefix-append l.own (m ∷ [])) done typed put owns (prefix-refl new))
+        run (prefix-append l.own (m ∷ [])) done typed put owns (prefix-refl new) hy (λ z. z))
+        (λ lt. absurd (omega (arith, lt, g))) refl
         (global-grows M w.messages w.terminals w.puts i.trace new grows
         (λ p. elim which [
           | inl q ↦ subst (λ zs. acceptances p (inputs 0 zs) ≤ length (accepted w p)) (sym (q ∙ s))
@@ -212,8 +251,9 @@ lead-moves {S} M C w i n x y m h nx ny gy e place leads run done typed put owns 
         (inl refl)
         (lead-line M C w i.top n i.trace i.trace x y o own l.stage w.winners e
         (BackLeft g s (back_gone M C w i.top n i.trace x y o e b) lead_here) o.tied run
-        (prefix-append l.own (m ∷ [])) done typed put owns (subst (λ z. IsPrefix z i.trace) (sym same) o.below))
-        i.global
+        (prefix-append l.own (m ∷ [])) done typed put owns (subst (λ z. IsPrefix z i.trace) (sym same) o.below) hy
+        (λ z. z))
+        (λ lt. same) refl i.global
 
 -- The lead changes, its moves stay.
 pub lead-stays : {S : Type 0} (M : Machine S) (C : Copying S) (w : World S) (i : Inv M C w) (n : ℕ) (x y : Node S) →
@@ -221,13 +261,15 @@ pub lead-stays : {S : Type 0} (M : Machine S) (C : Copying S) (w : World S) (i :
     n ≡ (i.each x.generation).line.lead → LeadPlace M C w.nodes i.top i.trace x.generation (i.each x.generation).line →
     Leads M (i.each x.generation).line.stage (i.each x.generation).line.base (i.each x.generation).line.own
     (i.each x.generation).line.mid (length (i.each x.generation).line.held) y →
+    Hears w (i.each x.generation).line x.generation y →
     Next M C i.trace (with_node w n y)
-lead-stays {S} M C w i n x y h nx ny gy e place leads =
+unfolding lead-line
+lead-stays {S} M C w i n x y h nx ny gy e place leads hy =
     relined M C w i x.generation n x y w.winners i.trace h nx ny refl gy (λ k d. refl) (prefix-refl i.trace)
     (inl refl)
     (lead-line M C w i.top n i.trace i.trace x y o l.own l.stage w.winners e (presence place) o.tied o.led
-    (prefix-refl l.own) o.done o.typed o.put o.owns o.below)
-    i.global
+    (prefix-refl l.own) o.done o.typed o.put o.owns o.below hy (λ z. z))
+    (λ lt. refl) refl i.global
   where
     o : LineOf M C w i.top i.trace x.generation
     o = i.each x.generation

@@ -3,6 +3,7 @@ pub mod Cuts
 pub mod Traces
 pub mod Recorded
 pub mod Generations
+pub mod Waiting
 pub mod LeadMoves
 pub mod LeadInputs
 pub mod Replay
@@ -19,6 +20,7 @@ pub mod Disk
 pub mod Terminals
 pub mod Beginnings
 pub mod Actors
+pub mod Freeing
 pub mod Actions
 pub mod Passed
 pub mod OneNode
@@ -28,6 +30,8 @@ pub mod Outputs
 pub mod Settling
 pub mod Promises
 pub mod NodeStands
+pub mod ReadsKept
+pub mod Given
 pub mod OneMore
 pub mod Runs
 pub mod Growth
@@ -48,6 +52,7 @@ pub mod AltairWrites
 pub mod AltairIssues
 pub mod AltairCompletions
 pub mod AltairStanding
+pub mod AltairBusy
 pub mod AltairFew
 pub mod AltairInputs
 pub mod AltairOnDisk

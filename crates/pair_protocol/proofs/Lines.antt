@@ -1,5 +1,6 @@
 -- What holds of every world: a line of moves for each generation, and the settled moves, which all lines lead to.
-use Rattle.std.proofs.Common.{◌≡◌, ◌≤◌, ◌<◌, [], ◌∷◌, ◌++◌, ◌⊎◌, List, None, Some, ap, eq-eqb, eqb-true, inl, inr, length, refl, suc, zero, ℕ}
+use Rattle.std.proofs.Common.{◌≡◌, ◌≤◌, ◌<◌, [], ◌∷◌, ◌++◌, ◌⊎◌, List, None, Some, ap, eq-eqb, eqb-true, true, inl, inr, length, refl, subst, suc, zero, ℕ}
+use Rattle.std.proofs.Math.Path.{path_j, subst_refl}
 use Rattle.std.specs.Prelude.{slice_get, slice_set, ◌==◌}
 use Rattle.disk_dcdd.specs.Address.{address_of}
 use Rattle.disk_dcdd.specs.declared.address.SectorAddress.{SectorAddress}
@@ -14,7 +15,9 @@ use Rattle.plain_single.specs.Reach.{Owns, acceptances, inputs, keys, operations
 use Rattle.pair_protocol.specs.Copying.{Copying}
 use Rattle.pair_protocol.specs.Faithful.{IsPrefix}
 use Rattle.pair_protocol.specs.Lawful.{Among}
-use Rattle.pair_protocol.specs.Node.{Node, Spare}
+use Rattle.pair_protocol.specs.Node.{Backup, Draining, Node, Primary, Role, Spare}
+use Rattle.pair_protocol.specs.Waiting.{is_read}
+use Rattle.pair_protocol.specs.Traces.{cut}
 use Rattle.pair_protocol.specs.World.{Acknowledgement, Arrival, ImagePart, LogEntry, Message, Released, SectorRead, Terminal, Winner, World, WriteDone, accepted_in, terminal_in, winner_in}
 use Rattle.pair_protocol.proofs.Moves.{ArePut, HasPut}
 use Rattle.pair_protocol.proofs.Generations.{BackWon, Backs, LeadWon, Leads, Stage, settled_moves, winner_at}
@@ -89,7 +92,7 @@ pub record Unseen {S : Type 0} (nodes : List (Node S)) (messages : List Message)
     (g : ℕ) : Type 0 where
   pub nobody : (n : ℕ) (x : Node S) → slice_get nodes n ≡ Some x → (x.role ≡ Spare → ⊥) → x.generation ≡ g → ⊥
   pub no_log : (i : ℕ) (e : Entry) → Among (LogEntry g i e) messages → ⊥
-  pub no_ack : (h : ℕ) → Among (Acknowledgement g h) messages → ⊥
+  pub no_ack : (h r : ℕ) → Among (Acknowledgement g h r) messages → ⊥
   pub no_part : (i : ℕ) (p : List ℕ) → Among (ImagePart g i p) messages → ⊥
   pub no_winner : winner_in winners g ≡ None
 
@@ -104,6 +107,32 @@ pub data Presence {S : Type 0} (M : Machine S) (C : Copying S) (nodes : List (No
       Presence M C nodes messages winners top T g l
   Unused : (g ≡ top → ⊥) → Unseen nodes messages winners g → Presence M C nodes messages winners top T g l
 
+-- a write was issued before each read that a node holds and has not replayed
+abbrev pub WaitsAt : {S : Type 0} → Line S → Node S → SectorWrite → Type 0
+WaitsAt l b v = (k : ℕ) (e : Entry) → b.replayed ≤ k → slice_get b.held k ≡ Some e → is_read e ≡ true →
+    Among (Write v) (operations (l.base ++ cut k l.own))
+
+abbrev pub Repeats : Role → Type 0
+Repeats role = (role ≡ Backup) ⊎ (role ≡ Draining)
+
+-- what was told of the back's replay is so; and while it replays, each write that was released waits for its reads
+pub record ReadsOf {S : Type 0} (nodes : List (Node S)) (messages : List Message) (top g : ℕ) (l : Line S) : Type 0 where
+  pub heard : (a b : Node S) → slice_get nodes l.lead ≡ Some a → slice_get nodes l.back ≡ Some b →
+      a.generation ≡ g → b.generation ≡ g → a.role ≡ Primary → (b.role ≡ Spare → ⊥) → a.reported ≤ b.replayed
+  pub told : (h r : ℕ) (b : Node S) → Among (Acknowledgement g h r) messages → slice_get nodes l.back ≡ Some b →
+      b.generation ≡ g → (b.role ≡ Spare → ⊥) → r ≤ b.replayed
+  pub waits : g ≡ top → (l.stage ≡ LeadWon → ⊥) → (b : Node S) → slice_get nodes l.back ≡ Some b → b.generation ≡ g →
+      Repeats b.role → (v : SectorWrite) → Among (Released (Write v)) messages → WaitsAt l b v
+
+-- the same of one node that takes the back's place
+pub record BackReads {S : Type 0} (nodes : List (Node S)) (messages : List Message) (top g : ℕ) (l : Line S)
+    (stage : Stage) (y : Node S) : Type 0 where
+  pub heard : (a : Node S) → slice_get nodes l.lead ≡ Some a → a.generation ≡ g → a.role ≡ Primary →
+      a.reported ≤ y.replayed
+  pub told : (h r : ℕ) → Among (Acknowledgement g h r) messages → r ≤ y.replayed
+  pub waits : g ≡ top → (stage ≡ LeadWon → ⊥) → Repeats y.role → (v : SectorWrite) →
+      Among (Released (Write v)) messages → WaitsAt l y v
+
 pub record LineOf {S : Type 0} (M : Machine S) (C : Copying S) (w : World S) (top : ℕ) (T : List Move)
     (g : ℕ) : Type 0 where
   pub line : Line S
@@ -117,13 +146,14 @@ pub record LineOf {S : Type 0} (M : Machine S) (C : Copying S) (w : World S) (to
       (n ≡ line.lead) ⊎ (n ≡ line.back)
   pub logs : (i : ℕ) (e : Entry) → Among (LogEntry g i e) w.messages →
       slice_get (entries (steps line.base) line.own) i ≡ Some e
-  pub acks : (h : ℕ) → Among (Acknowledgement g h) w.messages → h ≤ length line.held
+  pub acks : (h r : ℕ) → Among (Acknowledgement g h r) w.messages → (h ≤ length line.held) × (r ≤ h)
   pub parts : (i : ℕ) (p : List ℕ) → Among (ImagePart g i p) w.messages → slice_get (C.parts line.mid) i ≡ Some p
   pub done : (p : ℕ) → acceptances p (inputs 0 (line.base ++ line.own)) ≤ length (accepted_in w.terminals p)
   pub typed : (p : ℕ) → IsPrefix (keys p (inputs 0 (line.base ++ line.own))) (terminal_in w.terminals p).typed
   pub put : ArePut w.puts (inputs 0 (line.base ++ line.own))
   pub owns : (line.stage ≡ BackWon → ⊥) → Owns M [] M.boot (line.base ++ line.own)
   pub below : IsPrefix (settled line) T
+  pub reads : ReadsOf w.nodes w.messages top g line
 
 -- the bytes of a sector at boot, or those of a settled write of it
 pub data IsRecord {S : Type 0} (M : Machine S) (q : SectorAddress) (n : ℕ) (bytes : List ℕ)
@@ -139,6 +169,7 @@ pub record Global {S : Type 0} (M : Machine S) (messages : List Message) (termin
       IsRecord M q n bytes T
   pub written : (n : ℕ) → Among (WriteDone n) messages → HasPut arrived_writes n
   pub put : ArePut arrived_writes (inputs 0 T)
+  pub put_sent : (v : SectorWrite) → Among v arrived_writes → Among (Released (Write v)) messages
   pub owns : Owns M [] M.boot T
   pub sends : (o : Operation) → Among (Released o) messages → Among o (operations T)
   pub arrived : (p : ℕ) (a : Arrival) → Among a (terminal_in terminals p).arrivals →
@@ -153,6 +184,15 @@ pub record Inv {S : Type 0} (M : Machine S) (C : Copying S) (w : World S) : Type
   pub each : (g : ℕ) → LineOf M C w top trace g
   pub global : Global M w.messages w.terminals w.puts trace
   pub spares : (n : ℕ) (x : Node S) → slice_get w.nodes n ≡ Some x → x.role ≡ Spare → x.generation ≡ 0
+  -- the highest generation began with all that was settled before
+  pub earlier : (g : ℕ) → g < top → IsPrefix (settled (each g).line) (each top).line.base
+
+-- the line at a number that is another one's
+pub line_over : {S : Type 0} (M : Machine S) (C : Copying S) (w : World S) (top : ℕ) (T : List Move) (j k : ℕ)
+    (e : j ≡ k) (o : LineOf M C w top T j) → (subst (λ z. LineOf M C w top T z) e o).line ≡ o.line
+line_over M C w top T j k e o =
+    path_j (λ z p. (subst (λ v. LineOf M C w top T v) p o).line ≡ o.line)
+    (ap (λ q. q.line) (subst_refl (λ v. LineOf M C w top T v) o)) e
 
 pub record Next {S : Type 0} (M : Machine S) (C : Copying S) (T : List Move) (w : World S) : Type 0 where
   pub inv : Inv M C w

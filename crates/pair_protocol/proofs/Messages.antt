@@ -14,34 +14,41 @@ use Rattle.pair_protocol.specs.Node.{Node, Spare}
 use Rattle.pair_protocol.specs.Refusals.{no_sector}
 use Rattle.pair_protocol.specs.World.{Acknowledgement, ImagePart, LogEntry, Message, Released, SectorRead, World, WriteDone, with_message}
 use Rattle.pair_protocol.proofs.Moves.{HasPut, among-left, among-right, among-split, prefix-refl}
-use Rattle.pair_protocol.proofs.Lines.{AtTop, BackLeft, Inv, IsRecord, LeadLeft, Line, LineOf, Next, Presence, Unseen, Unused, same_or_not}
+use Rattle.pair_protocol.proofs.Generations.{LeadWon}
+use Rattle.pair_protocol.proofs.Lines.{AtTop, BackLeft, Inv, Repeats, WaitsAt, IsRecord, LeadLeft, Line, LineOf, Next, Presence, Unseen, Unused, same_or_not}
 
 -- A message more.
 
 abbrev pub NotOf : ℕ → Message → Type 0
 NotOf k (LogEntry g i e) = k ≡ g → ⊥
-NotOf k (Acknowledgement g h) = k ≡ g → ⊥
+NotOf k (Acknowledgement g h r) = k ≡ g → ⊥
 NotOf k (Released o) = Unit {0}
 NotOf k (ImagePart g i p) = k ≡ g → ⊥
 NotOf k (WriteDone n) = Unit {0}
 NotOf k (SectorRead q n bytes) = Unit {0}
 
-abbrev pub IsTrueAt : {S : Type 0} → Machine S → Copying S → Line S → ℕ → Message → Type 0
-IsTrueAt M C l k (LogEntry g i e) = k ≡ g → slice_get (entries (steps l.base) l.own) i ≡ Some e
-IsTrueAt M C l k (Acknowledgement g h) = k ≡ g → h ≤ length l.held
-IsTrueAt M C l k (Released o) = Unit {0}
-IsTrueAt M C l k (ImagePart g i p) = k ≡ g → slice_get (C.parts l.mid) i ≡ Some p
-IsTrueAt M C l k (WriteDone n) = Unit {0}
-IsTrueAt M C l k (SectorRead q n bytes) = Unit {0}
+abbrev pub IsTrueAt : {S : Type 0} → Machine S → Copying S → List (Node S) → Line S → ℕ → Message → Type 0
+IsTrueAt M C nodes l k (LogEntry g i e) = k ≡ g → slice_get (entries (steps l.base) l.own) i ≡ Some e
+IsTrueAt {S} M C nodes l k (Acknowledgement g h r) = k ≡ g → (h ≤ length l.held) × (r ≤ h)
+    × ((b : Node S) → slice_get nodes l.back ≡ Some b → b.generation ≡ k → r ≤ b.replayed)
+IsTrueAt M C nodes l k (Released o) = Unit {0}
+IsTrueAt M C nodes l k (ImagePart g i p) = k ≡ g → slice_get (C.parts l.mid) i ≡ Some p
+IsTrueAt M C nodes l k (WriteDone n) = Unit {0}
+IsTrueAt M C nodes l k (SectorRead q n bytes) = Unit {0}
 
-pub not_of : {S : Type 0} (M : Machine S) (C : Copying S) (l : Line S) (k : ℕ) (m : Message) → NotOf k m →
-    IsTrueAt M C l k m
-not_of M C l k (LogEntry g i e) h = λ q. absurd (h q)
-not_of M C l k (Acknowledgement g j) h = λ q. absurd (h q)
-not_of M C l k (Released o) h = tt
-not_of M C l k (ImagePart g i p) h = λ q. absurd (h q)
-not_of M C l k (WriteDone n) h = tt
-not_of M C l k (SectorRead q n bytes) h = tt
+pub not_of : {S : Type 0} (M : Machine S) (C : Copying S) (nodes : List (Node S)) (l : Line S) (k : ℕ) (m : Message) →
+    NotOf k m → IsTrueAt M C nodes l k m
+not_of M C nodes l k (LogEntry g i e) h = λ q. absurd (h q)
+not_of M C nodes l k (Acknowledgement g j r) h = λ q. absurd (h q)
+not_of M C nodes l k (Released o) h = tt
+not_of M C nodes l k (ImagePart g i p) h = λ q. absurd (h q)
+not_of M C nodes l k (WriteDone n) h = tt
+not_of M C nodes l k (SectorRead q n bytes) h = tt
+
+-- a write of this message waits for each read that the back of this line holds and has not replayed
+abbrev pub Frees : {S : Type 0} → World S → ℕ → ℕ → Line S → Message → Type 0
+Frees {S} w top k l m = k ≡ top → (l.stage ≡ LeadWon → ⊥) → (b : Node S) → slice_get w.nodes l.back ≡ Some b →
+    b.generation ≡ k → Repeats b.role → (v : SectorWrite) → m ≡ Released (Write v) → WaitsAt l b v
 
 pub message-split : (x m : Message) (ms : List Message) → Among x (ms ++ m ∷ []) → Among x ms ⊎ (x ≡ m)
 message-split x m ms h = go (among-split x ms (m ∷ []) h)
@@ -52,9 +59,9 @@ message-split x m ms h = go (among-split x ms (m ∷ []) h)
     go (inr (inr k)) = absurd k
 
 pub line-message : {S : Type 0} (M : Machine S) (C : Copying S) (w : World S) (top k : ℕ) (T : List Move) (m : Message)
-    (o : LineOf M C w top T k) → IsTrueAt M C o.line k m → (Unseen w.nodes w.messages w.winners k → NotOf k m) →
-    LineOf M C (with_message w m) top T k
-line-message {S} M C w top k T m o true_at unused = record {
+    (o : LineOf M C w top T k) → IsTrueAt M C w.nodes o.line k m → (Unseen w.nodes w.messages w.winners k → NotOf k m) →
+    Frees w top k o.line m → LineOf M C (with_message w m) top T k
+line-message {S} M C w top k T m o true_at unused frees = record {
   line = o.line;
   presence = presence o.presence;
   based = o.based;
@@ -65,21 +72,32 @@ line-message {S} M C w top k T m o true_at unused = record {
   members = o.members;
   logs = λ i e h. elim (message-split (LogEntry k i e) m w.messages h) [
     | inl q ↦ o.logs i e q
-    | inr q ↦ subst (IsTrueAt M C o.line k) (sym q) true_at refl
+    | inr q ↦ subst (IsTrueAt M C w.nodes o.line k) (sym q) true_at refl
   ];
-  acks = λ j h. elim (message-split (Acknowledgement k j) m w.messages h) [
-    | inl q ↦ o.acks j q
-    | inr q ↦ subst (IsTrueAt M C o.line k) (sym q) true_at refl
+  acks = λ j r h. elim (message-split (Acknowledgement k j r) m w.messages h) [
+    | inl q ↦ o.acks j r q
+    | inr q ↦ (let t = subst (IsTrueAt M C w.nodes o.line k) (sym q) true_at refl in (t.0, t.1))
   ];
   parts = λ i p h. elim (message-split (ImagePart k i p) m w.messages h) [
     | inl q ↦ o.parts i p q
-    | inr q ↦ subst (IsTrueAt M C o.line k) (sym q) true_at refl
+    | inr q ↦ subst (IsTrueAt M C w.nodes o.line k) (sym q) true_at refl
   ];
   done = o.done;
   typed = o.typed;
   put = o.put;
   owns = o.owns;
   below = o.below;
+  reads = record {
+    heard = o.reads.heard;
+    told = λ j r b h u gb ns. elim (message-split (Acknowledgement k j r) m w.messages h) [
+      | inl q ↦ o.reads.told j r b q u gb ns
+      | inr q ↦ (subst (IsTrueAt M C w.nodes o.line k) (sym q) true_at refl).2 b u gb
+    ];
+    waits = λ t s b u gb role v h. elim (message-split (Released (Write v)) m w.messages h) [
+      | inl q ↦ o.reads.waits t s b u gb role v q
+      | inr q ↦ frees t s b u gb role v (sym q)
+    ];
+  };
 }
   where
     presence : Presence M C w.nodes w.messages w.winners top T k o.line →
@@ -93,8 +111,8 @@ line-message {S} M C w top k T m o true_at unused = record {
         | inl q ↦ u.no_log i e q
         | inr q ↦ subst (NotOf k) (sym q) (unused u) refl
       ];
-      no_ack = λ j h. elim (message-split (Acknowledgement k j) m w.messages h) [
-        | inl q ↦ u.no_ack j q
+      no_ack = λ j r h. elim (message-split (Acknowledgement k j r) m w.messages h) [
+        | inl q ↦ u.no_ack j r q
         | inr q ↦ subst (NotOf k) (sym q) (unused u) refl
       ];
       no_part = λ i p h. elim (message-split (ImagePart k i p) m w.messages h) [
@@ -104,23 +122,26 @@ line-message {S} M C w top k T m o true_at unused = record {
       no_winner = u.no_winner;
     })
 
--- of a message of a node's generation, it is true there
+-- of a message of a node's generation, it is true there; a write that is released waits for the reads of the highest
 pub keep-message : {S : Type 0} (M : Machine S) (C : Copying S) (w : World S) (i : Inv M C w) (n : ℕ) (x : Node S)
     (m : Message) → slice_get w.nodes n ≡ Some x → (x.role ≡ Spare → ⊥) →
-    ((k : ℕ) → (k ≡ x.generation → ⊥) → NotOf k m) → IsTrueAt M C (i.each x.generation).line x.generation m →
+    ((k : ℕ) → (k ≡ x.generation → ⊥) → NotOf k m) → IsTrueAt M C w.nodes (i.each x.generation).line x.generation m →
     ((o : Operation) → m ≡ Released o → Among o (operations i.trace)) → ((n : ℕ) → m ≡ WriteDone n → ⊥) →
     ((q : SectorAddress) (n : ℕ) (bytes : List ℕ) → m ≡ SectorRead q n bytes → ⊥) →
+    ((k : ℕ) → Frees w i.top k (i.each k).line m) →
     Next M C i.trace (with_message w m)
-keep-message {S} M C w i n x m h nx others here sends no_written no_sector = record {
+unfolding line-message
+keep-message {S} M C w i n x m h nx others here sends no_written no_sector frees = record {
   inv = record {
     top = i.top;
     trace = i.trace;
     each = λ k. line-message M C w i.top k i.trace m (i.each k)
         (elim (same_or_not k x.generation) [
-          | inl e ↦ subst (λ j. IsTrueAt M C (i.each j).line j m) (sym e) here
-          | inr d ↦ not_of M C (i.each k).line k m (others k d)
+          | inl e ↦ subst (λ j. IsTrueAt M C w.nodes (i.each j).line j m) (sym e) here
+          | inr d ↦ not_of M C w.nodes (i.each k).line k m (others k d)
         ])
-        (λ u. elim (same_or_not k x.generation) [ inl e ↦ absurd (u.nobody n x h nx (sym e)) | inr d ↦ others k d ]);
+        (λ u. elim (same_or_not k x.generation) [ inl e ↦ absurd (u.nobody n x h nx (sym e)) | inr d ↦ others k d ])
+        (frees k);
     global = record {
       sends = λ o k. elim (message-split (Released o) m w.messages k) [
         | inl q ↦ i.global.sends o q
@@ -132,6 +153,7 @@ keep-message {S} M C w i n x m h nx others here sends no_written no_sector = rec
       told = i.global.told;
       puts = i.global.puts;
       put = i.global.put;
+      put_sent = λ v k. among-left (Released (Write v)) w.messages (m ∷ []) (i.global.put_sent v k);
       owns = i.global.owns;
       reads = λ q j bytes k. elim (message-split (SectorRead q j bytes) m w.messages k)
           [ inl e ↦ i.global.reads q j bytes e | inr e ↦ absurd (no_sector q j bytes (sym e)) ];
@@ -141,6 +163,7 @@ keep-message {S} M C w i n x m h nx others here sends no_written no_sector = rec
       ];
     };
     spares = i.spares;
+    earlier = i.earlier;
   };
   grows = prefix-refl i.trace;
 }
@@ -151,30 +174,33 @@ pub put-more : (ws : List SectorWrite) (v : SectorWrite) (n : ℕ) → HasPut ws
 put-more ws v n h = (h.0, among-left h.0 ws (v ∷ []) h.1, h.2)
 
 pub keep-puts : {S : Type 0} (M : Machine S) (C : Copying S) (w : World S) (i : Inv M C w) (v : SectorWrite) →
-    Among (Write v) (operations i.trace) →
+    Among (Write v) (operations i.trace) → Among (Released (Write v)) w.messages →
     Next M C i.trace (record w { messages = w.messages ++ WriteDone v.number ∷ []; puts = w.puts ++ v ∷ [] })
-keep-puts {S} M C w i v h = record {
+unfolding line-message
+keep-puts {S} M C w i v h sent = record {
   inv = record {
     top = i.top;
     trace = i.trace;
-    each = λ k. (let o = line-message M C w i.top k i.trace (WriteDone v.number) (i.each k) tt (λ u. tt) in record {
-      line = o.line;
-      presence = o.presence;
-      based = o.based;
-      led = o.led;
-      tied = o.tied;
-      apart = o.apart;
-      held = o.held;
-      members = o.members;
-      logs = o.logs;
-      acks = o.acks;
-      parts = o.parts;
-      done = o.done;
-      typed = o.typed;
-      put = λ n q. put-more w.puts v n (o.put n q);
-      owns = o.owns;
-      below = o.below;
-    });
+    each = λ k. (let o = line-message M C w i.top k i.trace (WriteDone v.number) (i.each k) tt (λ u. tt)
+        (λ t s b u gb role z e. absurd (cc)) in record {
+          line = o.line;
+          presence = o.presence;
+          based = o.based;
+          led = o.led;
+          tied = o.tied;
+          apart = o.apart;
+          held = o.held;
+          members = o.members;
+          logs = o.logs;
+          acks = o.acks;
+          parts = o.parts;
+          done = o.done;
+          typed = o.typed;
+          put = λ n q. put-more w.puts v n (o.put n q);
+          owns = o.owns;
+          below = o.below;
+          reads = o.reads;
+        });
     global = record {
       sends = λ o k. elim (message-split (Released o) (WriteDone v.number) w.messages k) [
         | inl q ↦ i.global.sends o q
@@ -192,6 +218,14 @@ keep-puts {S} M C w i v h = record {
         ]
       ];
       put = λ n q. put-more w.puts v n (i.global.put n q);
+      put_sent = λ u k. among-left (Released (Write u)) w.messages (WriteDone v.number ∷ [])
+          (elim (among-split u w.puts (v ∷ []) k) [
+            | inl q ↦ i.global.put_sent u q
+            | inr q ↦ elim q [
+              | inl e ↦ subst (λ z. Among (Released (Write z)) w.messages) (sym e) sent
+              | inr e ↦ absurd e
+            ]
+          ]);
       owns = i.global.owns;
       reads = λ q j bytes k. elim (message-split (SectorRead q j bytes) (WriteDone v.number) w.messages k)
           [ inl e ↦ i.global.reads q j bytes e | inr e ↦ absurd (cc) ];
@@ -201,17 +235,20 @@ keep-puts {S} M C w i v h = record {
       ];
     };
     spares = i.spares;
+    earlier = i.earlier;
   };
   grows = prefix-refl i.trace;
 }
 
 pub keep-reads : {S : Type 0} (M : Machine S) (C : Copying S) (w : World S) (i : Inv M C w) (q : SectorAddress)
     (n : ℕ) (bytes : List ℕ) → IsRecord M q n bytes i.trace → Next M C i.trace (with_message w (SectorRead q n bytes))
+unfolding line-message
 keep-reads {S} M C w i q n bytes h = record {
   inv = record {
     top = i.top;
     trace = i.trace;
-    each = λ k. line-message M C w i.top k i.trace (SectorRead q n bytes) (i.each k) tt (λ u. tt);
+    each = λ k. line-message M C w i.top k i.trace (SectorRead q n bytes) (i.each k) tt (λ u. tt)
+        (λ t s b u gb role z e. absurd (cc));
     global = record {
       sends = λ o k. elim (message-split (Released o) (SectorRead q n bytes) w.messages k)
           [ inl e ↦ i.global.sends o e | inr e ↦ absurd (cc) ];
@@ -221,6 +258,7 @@ keep-reads {S} M C w i q n bytes h = record {
       told = i.global.told;
       puts = i.global.puts;
       put = i.global.put;
+      put_sent = λ v k. among-left (Released (Write v)) w.messages (SectorRead q n bytes ∷ []) (i.global.put_sent v k);
       owns = i.global.owns;
       reads = λ r j bs k. elim (message-split (SectorRead r j bs) (SectorRead q n bytes) w.messages k)
           [ inl e ↦ i.global.reads r j bs e | inr e ↦ same_read r j bs e ];
@@ -228,6 +266,7 @@ keep-reads {S} M C w i q n bytes h = record {
           [ inl e ↦ i.global.written j e | inr e ↦ absurd (cc) ];
     };
     spares = i.spares;
+    earlier = i.earlier;
   };
   grows = prefix-refl i.trace;
 }

@@ -3,14 +3,14 @@ use Rattle.std.proofs.Common.{◌≡◌, ◌+◌, ◌≤◌, [], ◌∷◌, ◌+
 use Rattle.std.specs.Prelude.{slice_get, slice_set}
 use Rattle.guest_board.specs.Machine.{Machine, Move, Runs}
 use Rattle.log_entry.specs.Entries.{entries}
-use Rattle.plain_single.specs.Reach.{inputs, steps}
+use Rattle.plain_single.specs.Reach.{Owns, inputs, steps}
 use Rattle.pair_protocol.specs.Copying.{Copying, IsCopying}
 use Rattle.pair_protocol.specs.Faithful.{IsPrefix}
 use Rattle.pair_protocol.specs.Lawful.{Lawful}
 use Rattle.pair_protocol.specs.Node.{Backup, Draining, Joining, Node, Role, gathered, gets_part, goes_live, halts, hears, joins, with_first}
 use Rattle.pair_protocol.specs.Traces.{cut}
 use Rattle.pair_protocol.proofs.Moves.{same_some}
-use Rattle.pair_protocol.proofs.Generations.{AsAlone, AsBackup, AsDraining, AsJoining, BackState, Follows, Gets, Leads, Stage}
+use Rattle.pair_protocol.proofs.Generations.{AsAlone, AsBackup, AsDraining, AsJoining, BackState, BackWon, Follows, Gets, Leads, Stage}
 use Rattle.pair_protocol.proofs.Replay.{follow-ends, settled_list}
 use Rattle.pair_protocol.proofs.Lines.{get_set_cases}
 
@@ -67,8 +67,8 @@ state-halts M C stage base own more mid b (AsAlone r s u c l) = AsAlone r s u c 
 
 -- Hearing.
 pub leads-hears : {S : Type 0} (M : Machine S) (stage : Stage) (base own : List Move) (mid : S) (n : ℕ) (a : Node S)
-    (h : ℕ) → h ≤ n → Leads M stage base own mid n a → Leads M stage base own mid n (hears a h)
-leads-hears M stage base own mid n a h k l = let c = l.covered in
+    (h r : ℕ) → h ≤ n → Leads M stage base own mid n a → Leads M stage base own mid n (hears a h r)
+leads-hears M stage base own mid n a h r k l = let c = l.covered in
     record {
       role = l.role;
       runs = l.runs;
@@ -148,14 +148,14 @@ gathered_is (Some p ∷ slots) (w ∷ whole) ps l h k =
 pub state-joins : {S : Type 0} (M : Machine S) (C : Copying S) (laws : Lawful M) (copies : IsCopying M C)
     (stage : Stage) (base own more : List Move) (mid s : S) (b : Node S) (ps : List (List ℕ)) → b.role ≡ Joining →
     gathered b.parts ≡ Some ps → C.assemble ps ≡ Some s → b.copy ≡ inputs 0 base → b.start ≡ steps base →
-    Runs M M.boot base mid → BackState M C stage base own more mid b →
+    Runs M M.boot base mid → ((stage ≡ BackWon → ⊥) → Owns M [] M.boot base) → BackState M C stage base own more mid b →
     BackState M C stage base own more mid (joins b s)
-state-joins M C laws copies stage base own more mid s b ps role got made copy start based (AsBackup k t f) = (cc)
-state-joins M C laws copies stage base own more mid s b ps role got made copy start based (AsDraining k t m f) = (cc)
-state-joins M C laws copies stage base own more mid s b ps role got made copy start based (AsAlone k t u c l) = (cc)
-state-joins M C laws copies stage base own more mid s b ps role got made copy start based (AsJoining k t g) =
+state-joins M C laws copies stage base own more mid s b ps role got made copy start based owns (AsBackup k t f) = (cc)
+state-joins M C laws copies stage base own more mid s b ps role got made copy start based owns (AsDraining k t m f) = (cc)
+state-joins M C laws copies stage base own more mid s b ps role got made copy start based owns (AsAlone k t u c l) = (cc)
+state-joins M C laws copies stage base own more mid s b ps role got made copy start based owns (AsJoining k t g) =
     let e : ps ≡ C.parts mid = gathered_is b.parts (C.parts mid) ps g.long g.each got in
-    let m : mid ≡ s = sym (copies.again base mid s based (ap C.assemble (sym e) ∙ made)) in
+    let m : mid ≡ s = sym (copies.again base mid s based (owns t) (ap C.assemble (sym e) ∙ made)) in
     let l = ap length g.empty in
     let r = g.none in
     AsBackup refl t (record {

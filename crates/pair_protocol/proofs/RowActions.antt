@@ -1,5 +1,5 @@
 -- A row is some actions, one after another: what the refusals leave possible is what the actions ask for.
-use Rattle.std.proofs.Common.{◌≡◌, [], ◌∷◌, ◌∙◌, Bool, None, Some, ap, eqb-true, false, inl, inr, length, not, refl, subst, suc, true, zero, ℕ}
+use Rattle.std.proofs.Common.{◌≡◌, [], ◌∷◌, ◌∙◌, Bool, None, Some, ap, arith, eqb-true, false, inl, inr, length, not, refl, subst, suc, true, zero, ℕ}
 use Rattle.std.specs.Prelude.{is_none, slice_get, ◌&&◌}
 use Rattle.event_callbacks.specs.declared.operations.OpId.{OpId}
 use Rattle.event_callbacks.specs.declared.operations.Operation.{Operation}
@@ -9,7 +9,7 @@ use Rattle.i8080_words.specs.declared.refusal.Fault.TheVariants.{Lost, NotCovere
 use Rattle.pair_protocol.specs.Change.{Acts, AloneReleases, Begins, Change, Changes, GoesLive, Joins, PrimaryReleases, Reads, Serving, Stays, Then, Wins}
 use Rattle.pair_protocol.specs.Copying.{Copying}
 use Rattle.pair_protocol.specs.Event.{Ack, Arrive, BeginPair, DeliverAck, DeliverLog, Drain, Event, Get, GetReply, PartComes, Put, PutReply, Release, Replay, Reply, Send, SendPart, Step, Stop, Suspect, TakeKey, TellSent, Told, TypeByte}
-use Rattle.pair_protocol.specs.Node.{Alone, Backup, Draining, Joining, Node, Primary, Role, Spare, acts_as, covers, gets_part, is_role, joins, note_of}
+use Rattle.pair_protocol.specs.Node.{Alone, Backup, Draining, Joining, Node, Primary, Role, Spare, acts_as, covers, gets_part, is_role, joins, note_of, replay_told}
 use Rattle.pair_protocol.specs.Refusals.{ack_refusal, acked_refusal, ask_refusal, at_acked, at_host, at_log, at_part, drain_refusal, fault_if, first_of, generation_refusal, log_refusal, no_port, no_such, pair_refusal, part_refusal, refusal, release_refusal, replay_refusal, role_refusal, send_part_refusal, send_refusal, serves, step_refusal, stop_refusal, suspect_refusal, told_refusal}
 use Rattle.pair_protocol.specs.Row.{Accepts, DeviceFails, Leaves, Refuses, Row, WantsMemory}
 use Rattle.pair_protocol.specs.Rows.{Again, Asks, BeginsPair, Comes, Completes, Delivers, Does, Drains, PartDoes, Steps, after_drain, at_end}
@@ -61,7 +61,8 @@ pub does_ack : {S : Type 0} (M : Machine S) (C : Copying S) (w : World S) (n : �
     refusal M C w (Ack n) ≡ None → row.Acknowledges w n r new → Changes M C w new
 does_ack M C w n r new p d =
     let q = (node-passed (slice_get w.nodes n) d.x ack_refusal d.there p).1 in
-    changed M C w new _ d.says.after (Change.Acknowledges n d.x (acts-in w n d.x Backup d.there q))
+    changed M C w new _ d.says.after
+    (Change.Acknowledges n d.x (replay_told d.x) (acts-in w n d.x Backup d.there q) (omega arith))
 
 pub does_acked : {S : Type 0} (M : Machine S) (C : Copying S) (w : World S) (m n : ℕ) (r : Reply) (new : World S) →
     refusal M C w (DeliverAck m n) ≡ None → row.Hears w m n r new → Changes M C w new
@@ -72,8 +73,8 @@ does_acked M C w m n r new p d =
     let g : d.generation ≡ d.x.generation =
     eqb-true d.generation d.x.generation
     (passes-if _ WrongGeneration (first-passed (generation_refusal d.generation d.x) _ f.1).0) in
-    changed M C w new _ d.after (Change.Hears n d.x m d.held (acts-in w n d.x Primary d.there f.0) (d.message
-    ∙ ap (λ z. Some (Acknowledgement z d.held)) g))
+    changed M C w new _ d.after (Change.Hears n d.x m d.held d.replayed (acts-in w n d.x Primary d.there f.0) (d.message
+    ∙ ap (λ z. Some (Acknowledgement z d.held d.replayed)) g))
 
 pub does_replay : {S : Type 0} (M : Machine S) (C : Copying S) (w : World S) (n turns : ℕ) (r : Reply) (new : World S) →
     refusal M C w (Replay n turns) ≡ None → row.Replaying M w n turns r new → Changes M C w new
@@ -85,7 +86,7 @@ does_replay M C w n turns r new p d =
 
 pub releases : {S : Type 0} (M : Machine S) (C : Copying S) (w : World S) (n : ℕ) (x : Node S) (name : OpId)
     (o : Operation) (r : Role) → Serving r → Acts w n x r → M.find x.machine name ≡ Some o →
-    (is_role x.role Primary && not (covers x.covered (note_of x.notes name))) ≡ false →
+    (is_role x.role Primary && not (covers x.covered x.reported (note_of x.notes name))) ≡ false →
     Change M C w (with_message w (Released o))
 releases M C w n x name o r (inl e) a h c =
     PrimaryReleases n x name o (record { there = a.there; up = a.up; role_is = a.role_is ∙ e }) h

@@ -11,6 +11,7 @@ use Rattle.pair_protocol.specs.Examples.{TakesOver, WritesDisk, letter, sector_w
 use Rattle.pair_protocol.specs.Node.{Alone, Node, Primary}
 use Rattle.pair_protocol.specs.Row.{Accepts, First, Nothing, Refuses, Run}
 use Rattle.pair_protocol.specs.Rows.{AtEnd, Gives, Goes, NoneLeft, OneMark, OneStep}
+use Rattle.pair_protocol.specs.Waiting.{is_read}
 use Rattle.pair_protocol.specs.World.{Acknowledgement, LogEntry, World, accepted, opening, with_host}
 use Rattle.event_callbacks.specs.declared.operations.OpId.TheVariants as id
 
@@ -68,7 +69,8 @@ stopped = record {
   replayed = 0;
   log = Mark 6 ∷ [];
   covered = 0;
-  notes = record { name = id.Byte 0 1; index = 0 } ∷ [];
+  reported = 0;
+  notes = record { name = id.Byte 0 1; index = 0; after = 0 } ∷ [];
   image = None;
   parts = [];
 }
@@ -86,6 +88,7 @@ live = record {
   replayed = 1;
   log = [];
   covered = 0;
+  reported = 0;
   notes = [];
   image = None;
   parts = [];
@@ -94,7 +97,7 @@ live = record {
 abbrev drained : World ℕ
 drained = record {
   nodes = stopped ∷ live ∷ [];
-  messages = LogEntry 1 0 (Mark 6) ∷ Acknowledgement 1 1 ∷ [];
+  messages = LogEntry 1 0 (Mark 6) ∷ Acknowledgement 1 1 0 ∷ [];
   terminals = record { arrivals = []; typed = 65 ∷ []; told = 0 } ∷ record { arrivals = []; typed = []; told = 0 } ∷ [];
   winners = record { generation = 1; node = 1 } ∷ [];
   puts = [];
@@ -193,7 +196,7 @@ takes_over = (
 )
 
 pub writes_disk : WritesDisk
-unfolding top
+unfolding top is_read
 writes_disk = (
   _,
   First (Accepts refl (record {
@@ -264,6 +267,7 @@ writes_disk = (
         there = refl;
         generation = _;
         held = _;
+        replayed = _;
         message = refl;
         reply = refl;
         after = refl;

@@ -27,7 +27,7 @@ use Rattle.pair_protocol.proofs.Traces.{one_end}
 use Rattle.pair_protocol.proofs.LeadInputs.{done-take, put-take, typed-take}
 use Rattle.pair_protocol.proofs.Lines.{AtStart, Inv, IsRecord, Line, Next, OfWrite}
 use Rattle.pair_protocol.proofs.Frames.{LeadOld, LeadPlace, LeadTop}
-use Rattle.pair_protocol.proofs.Leading.{lead-moves}
+use Rattle.pair_protocol.proofs.Leading.{Hears, lead-moves}
 
 -- What is read of the disk is what the machine's own disk has.
 
@@ -120,8 +120,9 @@ pub lead-does : {S : Type 0} (M : Machine S) (C : Copying S) (w : World S) (i : 
     Leads M (i.each x.generation).line.stage (i.each x.generation).line.base
     ((i.each x.generation).line.own ++ Do v ∷ []) (i.each x.generation).line.mid
     (length (i.each x.generation).line.held) y →
+    Hears w (i.each x.generation).line x.generation y →
     Next M C i.trace (with_node w n y)
-lead-does M C w i n x y v h nx ny gy e place old leads =
+lead-does M C w i n x y v h nx ny gy e place old leads hy =
     let o = i.each x.generation in
     lead-moves M C w i n x y (Do v) h nx ny gy e place leads
     (y.machine, recorded-does M o.line.mid o.led.0 y.machine o.line.own v o.led.1 leads.runs)
@@ -130,7 +131,7 @@ lead-does M C w i n x y v h nx ny gy e place old leads =
     (subst (λ ts. ArePut w.puts ts) (sym (whole-do o.line.base o.line.own v)) o.put)
     (λ z. subst (λ zs. Owns M [] M.boot zs) (append_assoc o.line.base o.line.own (Do v ∷ []))
     (owns-append M [] M.boot x.machine (o.line.base ++ o.line.own) (Do v ∷ []) (lead-runs M C w i x old)
-    (o.owns z) (λ u k. tt)))
+    (o.owns z) (λ u k. tt))) hy
 
 pub lead-accepts : {S : Type 0} (M : Machine S) (C : Copying S) (laws : Lawful M) (w : World S) (i : Inv M C w)
     (n : ℕ) (x y : Node S) (inp : Input) → MayTake M w x inp → refusal_of M x.machine inp ≡ None →
@@ -141,8 +142,9 @@ pub lead-accepts : {S : Type 0} (M : Machine S) (C : Copying S) (laws : Lawful M
     Leads M (i.each x.generation).line.stage (i.each x.generation).line.base
     ((i.each x.generation).line.own ++ Take inp ∷ []) (i.each x.generation).line.mid
     (length (i.each x.generation).line.held) y →
+    Hears w (i.each x.generation).line x.generation y →
     Next M C i.trace (with_node w n y)
-lead-accepts {S} M C laws w i n x y inp may ok h nx ny gy e place old leads =
+lead-accepts {S} M C laws w i n x y inp may ok h nx ny gy e place old leads hy =
     let o = i.each x.generation in
     let q : x.list ++ timed ((M.count x.machine)) inp ∷ [] ≡ inputs 0 (o.line.base ++ (o.line.own ++ Take inp ∷ [])) =
     ap (λ ts. ts ++ timed ((M.count x.machine)) inp ∷ []) old.list
@@ -180,4 +182,4 @@ lead-accepts {S} M C laws w i n x y inp may ok h nx ny gy e place old leads =
       own-take M laws w x inp (o.line.base ++ o.line.own) i.trace (lead-runs M C w i x old) may ok
           (lead-below M C w i x place z) i.global.reads,
       λ u k. tt,
-    )))
+    ))) hy

@@ -7,7 +7,7 @@ use Rattle.plain_single.specs.Reach.{inputs, keys, operations}
 use Rattle.pair_protocol.specs.Copying.{Copying}
 use Rattle.pair_protocol.specs.Faithful.{IsPrefix}
 use Rattle.pair_protocol.specs.Lawful.{Among}
-use Rattle.pair_protocol.specs.Node.{Node, spare}
+use Rattle.pair_protocol.specs.Node.{Node, spare, Spare}
 use Rattle.pair_protocol.specs.World.{Arrival, Terminal, World, accepted_after, terminal, terminal_in, with_host, with_terminal}
 use Rattle.pair_protocol.proofs.Moves.{prefix-refl, prefix-trans}
 use Rattle.pair_protocol.proofs.LeadMoves.{slice_get_longer}
@@ -62,6 +62,7 @@ keep-terminal {S} M C w i p t better arrived told = record {
       put = o.put;
       owns = o.owns;
       below = o.below;
+      reads = o.reads;
     });
     global = record {
       sends = i.global.sends;
@@ -69,6 +70,7 @@ keep-terminal {S} M C w i p t better arrived told = record {
       reads = i.global.reads;
       written = i.global.written;
       put = i.global.put;
+      put_sent = i.global.put_sent;
       owns = i.global.owns;
       arrived = λ q a. elim (at_set w.terminals p t q) [
         | inl e ↦ subst (λ z. Among a z.arrivals →
@@ -87,6 +89,7 @@ keep-terminal {S} M C w i p t better arrived told = record {
       ];
     };
     spares = i.spares;
+    earlier = i.earlier;
   };
   grows = prefix-refl i.trace;
 }
@@ -147,16 +150,31 @@ keep-hosts {S} M C w i = record {
       put = o.put;
       owns = o.owns;
       below = o.below;
+      reads = record {
+        heard = λ a b t u ga gb role ns.
+            o.reads.heard a b (was o.line.lead a t (λ k. (cc))) (was o.line.back b u ns) ga gb role ns;
+        told = λ j r b m u gb ns. o.reads.told j r b m (was o.line.back b u ns) gb ns;
+        waits = λ t s b u gb role v m.
+            o.reads.waits t s b (was o.line.back b u (λ k. elim role [ inl q ↦ (cc) | inr q ↦ (cc) ])) gb role v m;
+      };
     });
     global = i.global;
     spares = λ m z t r. elim (last-get w.nodes (spare M) z m t) [
       | inl q ↦ i.spares m z q r
       | inr q ↦ ap (λ (v : Node S). v.generation) q
     ];
+    earlier = i.earlier;
   };
   grows = prefix-refl i.trace;
 }
   where
+    was : (m : ℕ) (z : Node S) → slice_get (w.nodes ++ spare M ∷ []) m ≡ Some z → (z.role ≡ Spare → ⊥) →
+        slice_get w.nodes m ≡ Some z
+    was m z t ns = elim (last-get w.nodes (spare M) z m t) [
+      | inl q ↦ q
+      | inr q ↦ absurd (ns (ap (λ (v : Node S). v.role) q))
+    ]
+
     lead_here : (k : ℕ) (l : Line S) → LeadHere M w.nodes k l → LeadHere M (w.nodes ++ spare M ∷ []) k l
     lead_here k l a = record {
       a = a.a;

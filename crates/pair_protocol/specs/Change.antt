@@ -62,13 +62,14 @@ pub data Change {S : Type 0} (M : Machine S) (C : Copying S) (w : World S) : Wor
   Holds : (n : ℕ) (x : Node S) (m : ℕ) (e : Entry) →
       Acts w n x Backup → slice_get w.messages m ≡ Some (LogEntry x.generation (length x.held) e) →
       Change M C w (with_node w n (holds x e))
-  -- it acknowledges as many entries as it holds
-  Acknowledges : (n : ℕ) (x : Node S) →
-      Acts w n x Backup → Change M C w (with_message w (Acknowledgement x.generation (length x.held)))
+  -- it acknowledges as many entries as it holds, and may tell that it has replayed as many as it has, or fewer
+  Acknowledges : (n : ℕ) (x : Node S) (replayed : ℕ) →
+      Acts w n x Backup → replayed ≤ x.replayed →
+      Change M C w (with_message w (Acknowledgement x.generation (length x.held) replayed))
   -- a primary hears an acknowledgement
-  Hears : (n : ℕ) (x : Node S) (m held : ℕ) →
-      Acts w n x Primary → slice_get w.messages m ≡ Some (Acknowledgement x.generation held) →
-      Change M C w (with_node w n (hears x held))
+  Hears : (n : ℕ) (x : Node S) (m held replayed : ℕ) →
+      Acts w n x Primary → slice_get w.messages m ≡ Some (Acknowledgement x.generation held replayed) →
+      Change M C w (with_node w n (hears x held replayed))
   -- a node replays a step below the count of the next entry, or at its count the entry
   ReplaysStep : (n : ℕ) (x : Node S) (role : Role) (e : Entry) (s : S) (gives : Option Operation) →
       Acts w n x role → Replaying role → slice_get x.held x.replayed ≡ Some e → M.count x.machine < count_of e →
@@ -81,7 +82,7 @@ pub data Change {S : Type 0} (M : Machine S) (C : Copying S) (w : World S) : Wor
       input_of e ≡ Some i → M.take x.machine i ≡ Some s → Change M C w (with_node w n (passes_input x s))
   -- output rule: a primary releases an outstanding operation only where it is covered
   PrimaryReleases : (n : ℕ) (x : Node S) (name : OpId) (o : Operation) →
-      Acts w n x Primary → M.find x.machine name ≡ Some o → covers x.covered (note_of x.notes name) ≡ true →
+      Acts w n x Primary → M.find x.machine name ≡ Some o → covers x.covered x.reported (note_of x.notes name) ≡ true →
       Change M C w (with_message w (Released o))
   -- an alone node is live: it releases any that is outstanding
   AloneReleases : (n : ℕ) (x : Node S) (name : OpId) (o : Operation) →

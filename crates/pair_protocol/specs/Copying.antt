@@ -1,6 +1,7 @@
 -- The copy of a machine: the parts that an image of it has, and the machine that parts make.
 use Rattle.std.specs.Prelude.{◌≡◌, ℕ, Option, Some, None, List, [], length}
 use Rattle.guest_board.specs.Machine.{Machine, Move}
+use Rattle.plain_single.specs.Reach.{Owns}
 use Rattle.pair_protocol.specs.Lawful.{Reaches}
 
 pub record Copying (S : Type 0) : Type 0 where
@@ -14,8 +15,14 @@ pub record Copying (S : Type 0) : Type 0 where
 pub record IsCopying {S : Type 0} (M : Machine S) (C : Copying S) : Type 0 where
   -- each image has that many parts
   pub counted : (moves : List Move) (s : S) → Reaches M moves s → length (C.parts s) ≡ C.part_count
-  -- whatever the parts of a machine make is that machine
-  pub again : (moves : List Move) (s t : S) → Reaches M moves s → C.assemble (C.parts s) ≡ Some t → t ≡ s
+  -- whatever the parts of a machine make is that machine, where each sector that it took had its own disk's bytes
+  pub again : (moves : List Move) (s t : S) → Reaches M moves s → Owns M [] M.boot moves
+      → C.assemble (C.parts s) ≡ Some t → t ≡ s
+
+-- and the parts of a machine make one
+abbrev pub Makes : {S : Type 0} → Machine S → Copying S → Type 0
+Makes {S} M C = (moves : List Move) (s : S) → Reaches M moves s → Owns M [] M.boot moves
+    → C.assemble (C.parts s) ≡ Some s
 
 -- no copies: an image has no parts, and nothing is made of them
 abbrev pub no_copies : {S : Type 0} → Copying S

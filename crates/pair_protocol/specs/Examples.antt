@@ -161,7 +161,7 @@ disk_write_replies =
 abbrev pub disk_write_messages : List Message
 disk_write_messages =
     SectorRead (address_of sector_write) 0 (0 ∷ 0 ∷ []) ∷ LogEntry 1 0 (Sector 2 0 0 0 (0 ∷ 0 ∷ []))
-    ∷ LogEntry 1 1 (Mark 3) ∷ Acknowledgement 1 2 ∷ Released (Write sector_write) ∷ WriteDone 1
+    ∷ LogEntry 1 1 (Mark 3) ∷ Acknowledgement 1 2 0 ∷ Released (Write sector_write) ∷ WriteDone 1
     ∷ SectorRead (address_of sector_write) 1 (72 ∷ 105 ∷ []) ∷ []
 
 abbrev pub WritesDisk : Type 0

@@ -79,6 +79,12 @@ pub record Lawful {S : Type 0} (M : Machine S) : Type 0 where
   pub write_is : (moves : List Move) (s : S) (w : SectorWrite) → Reaches M moves s
       → Among (Write w) (operations moves)
       → (w.number ≤ M.done s (address_of w)) ⊎ (M.find s (id.Write w.number) ≡ Some (Write w))
+  -- a sector has the drive and the number that it is asked for by, and is busy while a write to it is outstanding
+  pub placed : (s : S) (drive sector : ℕ)
+      → M.address s drive sector ≡ record (M.address s drive sector) { drive = drive; sector = sector }
+  pub busy : (moves : List Move) (s : S) (w : SectorWrite) (drive sector : ℕ) → Reaches M moves s
+      → M.find s (id.Write w.number) ≡ Some (Write w) → address_of w ≡ M.address s drive sector
+      → M.busy s (M.address s drive sector) ≡ true
   -- few operations are outstanding at once
   pub few : (moves : List Move) (s : S) → Reaches M moves s → AreFew M s
   -- an input that is not refused and is taken is one of a port or a sector that is there, and there was room for it

@@ -2,6 +2,7 @@ pub mod Lawful
 pub mod AltairStands
 pub mod OnDisk
 pub mod Copying
+pub mod Waiting
 pub mod Node
 pub mod World
 pub mod Change
@@ -11,6 +12,8 @@ pub mod Rows
 pub mod Row
 pub mod Settled
 pub mod NodeStands
+pub mod ReadsKept
+pub mod Joining
 pub mod Faithful
 pub mod Grows
 pub mod Traces

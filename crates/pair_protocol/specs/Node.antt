@@ -1,5 +1,5 @@
 -- A node of a pair: its role, its machine, and what it keeps of its generation.
-use Rattle.std.specs.Prelude.{ℕ, suc, max, nat_lt, Bool, true, false, ◌==◌, ◌&&◌, ◌||◌, if◌then◌else◌, Option, Some, None, List, [], ◌∷◌, ◌++◌, length, take, replicate, slice_set}
+use Rattle.std.specs.Prelude.{ℕ, suc, max, nat_lt, nat_le, Bool, true, false, ◌==◌, ◌&&◌, ◌||◌, if◌then◌else◌, Option, Some, None, List, [], ◌∷◌, ◌++◌, length, take, replicate, slice_set}
 use Rattle.event_callbacks.specs.Operations.{id_of}
 use Rattle.event_callbacks.specs.declared.operations.OpId.{OpId}
 use Rattle.event_callbacks.specs.declared.operations.OpId.TheVariants as id
@@ -11,6 +11,7 @@ use Rattle.log_entry.specs.declared.entry.Entry.{Entry}
 use Rattle.plain_single.specs.Reach.{timed, keys}
 use Rattle.plain_single.specs.declared.timed.Timed.{Timed}
 use Rattle.pair_protocol.specs.Copying.{Copying}
+use Rattle.pair_protocol.specs.Waiting.{waits_for}
 
 -- what a node is in its generation
 pub data Role : Type 0 where
@@ -27,10 +28,11 @@ pub data Role : Type 0 where
   -- a host that has no role yet
   Spare : Role
 
--- the entry at whose acknowledgement an operation is covered
+-- when an operation is covered: its entry is acknowledged, and the backup has told that it has replayed so many entries
 pub record Note : Type 0 where
   pub name : OpId
   pub index : ℕ
+  pub after : ℕ
 
 -- A halted node keeps its role and all that it had.
 pub record Node (S : Type 0) : Type 0 where
@@ -46,9 +48,11 @@ pub record Node (S : Type 0) : Type 0 where
   -- of a backup: the entries that it holds, and how many of them it has replayed
   pub held : List Entry
   pub replayed : ℕ
-  -- of a primary: its log, how many entries of it are acknowledged, and the entry that each operation waits for
+  -- of a primary: its log, how many entries of it are acknowledged, how many the backup has told that it has replayed,
+  -- and what each operation waits for
   pub log : List Entry
   pub covered : ℕ
+  pub reported : ℕ
   pub notes : List Note
   -- of a primary: the machine that it gives copies of; of a joining node: the parts that came
   pub image : Option S
@@ -95,6 +99,7 @@ first_node M role = record {
   replayed = 0;
   log = [];
   covered = 0;
+  reported = 0;
   notes = [];
   image = None;
   parts = [];
@@ -114,6 +119,7 @@ spare M = record {
   replayed = 0;
   log = [];
   covered = 0;
+  reported = 0;
   notes = [];
   image = None;
   parts = [];
@@ -133,6 +139,7 @@ begun M x = record {
   replayed = 0;
   log = [];
   covered = 0;
+  reported = 0;
   notes = [];
   image = Some x.machine;
   parts = [];
@@ -152,6 +159,7 @@ joiner M C x = record {
   replayed = 0;
   log = [];
   covered = 0;
+  reported = 0;
   notes = [];
   image = None;
   parts = replicate C.part_count None;
@@ -159,16 +167,17 @@ joiner M C x = record {
 
 -- ---- the machine's moves at a node
 
--- a primary logs a mark for an operation, and notes that the operation waits for it
-abbrev pub notes_after : List Note → ℕ → Option Operation → List Note
-notes_after notes index None = notes
-notes_after notes index (Some operation) = record { name = id_of operation; index = index } ∷ notes
+-- a primary logs a mark for an operation, and notes that the operation waits for it and for what else
+abbrev pub notes_after : List Note → List Entry → Option Operation → List Note
+notes_after notes log None = notes
+notes_after notes log (Some operation) =
+    record { name = id_of operation; index = length log; after = waits_for operation log } ∷ notes
 
 abbrev pub primary_steps : {S : Type 0} → Machine S → Node S → S → Option Operation → Node S
 primary_steps M x s gives = record x {
   machine = s;
   log = x.log ++ marks (M.count s) gives;
-  notes = notes_after x.notes (length x.log) gives;
+  notes = notes_after x.notes x.log gives;
 }
 
 -- every other node logs nothing
@@ -198,9 +207,15 @@ passes_mark x = record x { replayed = suc x.replayed }
 abbrev pub passes_input : {S : Type 0} → Node S → S → Node S
 passes_input x s = record x { machine = s; replayed = suc x.replayed }
 
+-- how many entries a backup tells that it has replayed: none, as long as no entry counts as a read and so no operation
+-- waits for it
+abbrev pub replay_told : {S : Type 0} → Node S → ℕ
+replay_told x = 0
+
 -- an acknowledgement comes: one of fewer entries covers no more, and the image is needed no longer
-abbrev pub hears : {S : Type 0} → Node S → ℕ → Node S
-hears x held = record x { covered = max x.covered held; image = None }
+abbrev pub hears : {S : Type 0} → Node S → ℕ → ℕ → Node S
+hears x held replayed =
+    record x { covered = max x.covered held; reported = max x.reported replayed; image = None }
 
 abbrev pub halts : {S : Type 0} → Node S → Node S
 halts x = record x { running = false }
@@ -238,15 +253,15 @@ same_name (id.Write number) (id.Write other) = number == other
 same_name (id.Byte port number) (id.Write other) = false
 same_name (id.Write number) (id.Byte to other) = false
 
--- the entry that an operation waits for; none where it was outstanding in the image already
-abbrev pub note_of : List Note → OpId → Option ℕ
+-- what an operation waits for; nothing where it was outstanding in the image already
+abbrev pub note_of : List Note → OpId → Option Note
 note_of [] name = None
-note_of (note ∷ notes) name = if same_name name note.name then Some note.index else note_of notes name
+note_of (note ∷ notes) name = if same_name name note.name then Some note else note_of notes name
 
--- output rule: an operation is covered where the backup has acknowledged its entry
-abbrev pub covers : ℕ → Option ℕ → Bool
-covers acknowledged None = true
-covers acknowledged (Some index) = nat_lt index acknowledged
+-- output rule: an operation is covered if its entry is acknowledged and the reads that it waits for are replayed
+abbrev pub covers : ℕ → ℕ → Option Note → Bool
+covers acknowledged reported None = true
+covers acknowledged reported (Some note) = nat_lt note.index acknowledged && nat_le note.after reported
 
 -- how many keys of a port are covered: at a primary those of the copy and of the acknowledged entries, at an alone
 -- node all that its machine has taken

@@ -113,7 +113,7 @@ abbrev pub release_refusal : {S : Type 0} → Machine S → OpId → Node S → 
 release_refusal M name x =
     first_of
     (serves x ∷ fault_if (is_none (M.find x.machine name)) NotDue
-    ∷ fault_if (is_role x.role Primary && not (covers x.covered (note_of x.notes name))) NotCovered ∷ [])
+    ∷ fault_if (is_role x.role Primary && not (covers x.covered x.reported (note_of x.notes name))) NotCovered ∷ [])
 
 abbrev pub told_refusal : {S : Type 0} → Node S → Option Fault
 told_refusal x = serves x
@@ -163,7 +163,7 @@ at_log here (Some (LogEntry generation index e)) = at_node here (log_refusal gen
 at_log here _ = Some Unknown
 
 abbrev pub at_acked : {S : Type 0} → Option (Node S) → Option Message → Option Fault
-at_acked here (Some (Acknowledgement generation held)) = at_node here (acked_refusal generation held)
+at_acked here (Some (Acknowledgement generation held replayed)) = at_node here (acked_refusal generation held)
 at_acked here _ = Some Unknown
 
 abbrev pub at_done : {S : Type 0} → Machine S → Option (Node S) → Option Message → Option Fault

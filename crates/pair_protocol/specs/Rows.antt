@@ -12,7 +12,7 @@ use Rattle.guest_board.specs.declared.input.Input.TheVariants as input
 use Rattle.log_entry.specs.Entries.{count_of, input_of}
 use Rattle.log_entry.specs.declared.entry.Entry.{Entry}
 use Rattle.pair_protocol.specs.Copying.{Copying}
-use Rattle.pair_protocol.specs.Node.{Node, Role, Primary, Backup, Joining, Draining, Alone, Spare, primary_steps, plainly_steps, primary_takes, alone_takes, holds, passes_mark, passes_input, hears, halts, goes_live, gets_part, joins, gathered, keys_covered}
+use Rattle.pair_protocol.specs.Node.{Node, Role, Primary, Backup, Joining, Draining, Alone, Spare, primary_steps, plainly_steps, primary_takes, alone_takes, holds, passes_mark, passes_input, replay_told, hears, halts, goes_live, gets_part, joins, gathered, keys_covered}
 use Rattle.pair_protocol.specs.World.{World, Message, LogEntry, Acknowledgement, ImagePart, Released, WriteDone, SectorRead, terminal, accepted, winner_in, with_node, with_message, with_key, with_arrival, with_told, with_winner, with_put, with_read, with_pair}
 use Rattle.pair_protocol.specs.Event.{Event, Step, TypeByte, TakeKey, Send, DeliverLog, Ack, DeliverAck, Replay, Release, Arrive, TellSent, Told, Stop, Suspect, Drain, Put, PutReply, Get, GetReply, BeginPair, SendPart, PartComes, Reply, Ran, TypedAt, Taken, New, Old, Whole, Accepted, Dropped, Won, Stopped, MessageIs, HeldIs, Moved, MovedAlone, ToldIs, GenerationIs, Why, Turns, Idles, IsSpent, Memory, Gave}
 
@@ -131,16 +131,17 @@ pub record Delivers {S : Type 0} (w : World S) (m n : ℕ) (r : Reply) (new : Wo
 pub record Acknowledges {S : Type 0} (w : World S) (n : ℕ) (r : Reply) (new : World S) : Type 0 where
   pub x : Node S
   pub there : slice_get w.nodes n ≡ Some x
-  pub says : Says w (Acknowledgement x.generation (length x.held)) r new
+  pub says : Says w (Acknowledgement x.generation (length x.held) (replay_told x)) r new
 
 pub record Hears {S : Type 0} (w : World S) (m n : ℕ) (r : Reply) (new : World S) : Type 0 where
   pub x : Node S
   pub there : slice_get w.nodes n ≡ Some x
   pub generation : ℕ
   pub held : ℕ
-  pub message : slice_get w.messages m ≡ Some (Acknowledgement generation held)
-  pub reply : r ≡ HeldIs (hears x held).covered
-  pub after : new ≡ with_node w n (hears x held)
+  pub replayed : ℕ
+  pub message : slice_get w.messages m ≡ Some (Acknowledgement generation held replayed)
+  pub reply : r ≡ HeldIs (hears x held replayed).covered
+  pub after : new ≡ with_node w n (hears x held replayed)
 
 pub record Replaying {S : Type 0} (M : Machine S) (w : World S) (n turns : ℕ) (r : Reply) (new : World S) : Type 0 where
   pub x : Node S

@@ -13,8 +13,8 @@ use Rattle.pair_protocol.specs.Node.{Node, Primary, Backup, first_node, spare, b
 pub data Message : Type 0 where
   -- a log entry of a generation, with its index
   LogEntry : (generation index : ℕ) (entry : Entry) → Message
-  -- a backup of a generation holds this many entries
-  Acknowledgement : (generation held : ℕ) → Message
+  -- a backup of a generation holds this many entries, and has replayed at least so many of them
+  Acknowledgement : (generation held replayed : ℕ) → Message
   -- a part of the image that a generation began with
   ImagePart : (generation index : ℕ) (part : List ℕ) → Message
   -- an operation that a node released

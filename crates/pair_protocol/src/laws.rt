@@ -1,5 +1,7 @@
 //! What the rules of a pair promise, for any machine that is lawful and any copy of it. Nothing here runs.
 ghost use Rattle.pair_protocol.specs.Examples.{TakesOver, WritesDisk};
+ghost use Rattle.pair_protocol.specs.Joining.{JoiningIsGiven};
+ghost use Rattle.pair_protocol.specs.ReadsKept.{ReachedKeepsReads};
 ghost use Rattle.pair_protocol.specs.Laws.{ReachedIsFaithful, NodesStand, NeedsNoCopies, ReachedGrows, RowIsChanges, ChangesReach, RunReaches, RunIsFaithful, RunGrows, RunReplies};
 ghost use Rattle.pair_protocol.specs.Traces.{OneTrace, OneEnd, FirstEntries, QuietMoves, QuietEntries};
 
@@ -13,6 +15,19 @@ pub fn actions_are_faithful<S>()
 /// replay are the next entries of a recorded run.
 pub fn nodes_stand<S>()
     ensures stand { NodesStand S }
+{}
+
+/// In every world that actions reach, what a joining node is given are the parts of one machine that was run from boot,
+/// and all of them make that machine.
+pub fn joining_nodes_are_given<S>()
+    ensures given { JoiningIsGiven S }
+{}
+
+/// In every world that actions reach, the disk still has the bytes of each read that the backup, or a draining winner,
+/// holds and has not replayed. No entry counts as a read yet, since that of a sector carries its bytes; so this says
+/// nothing of today's logs, and takes effect with the first entry that does.
+pub fn reads_are_kept<S>()
+    ensures kept { ReachedKeepsReads S }
 {}
 
 /// A pair may make no copies at all: that meets what is asked of a copy, whatever machine the pair runs.

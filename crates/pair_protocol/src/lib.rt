@@ -9,5 +9,6 @@ pub use altair::{
 };
 pub use laws::{
     actions_are_faithful, events_are_actions, events_are_faithful, events_grow,
-    every_event_is_answered, nodes_stand, pairs_without_copies, scripts_run, traces_are_determined,
+    every_event_is_answered, joining_nodes_are_given, nodes_stand, pairs_without_copies,
+    reads_are_kept, scripts_run, traces_are_determined,
 };

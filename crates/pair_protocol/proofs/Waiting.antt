@@ -1,0 +1,15 @@
+-- As long as no entry counts as a read, no operation waits for one.
+use Rattle.std.proofs.Common.{◌≡◌, List, [], ◌∷◌, refl, ap}
+use Rattle.event_callbacks.specs.declared.operations.Operation.{Operation}
+use Rattle.event_callbacks.specs.declared.operations.Operation.TheVariants.{Byte, Write}
+use Rattle.log_entry.specs.declared.entry.Entry.{Entry}
+use Rattle.pair_protocol.specs.Waiting.{is_read, reads_in, up_to_read, waits_for}
+
+no_reads : (log : List Entry) → reads_in log ≡ 0
+unfolding is_read
+no_reads [] = refl
+no_reads (e ∷ es) = ap (up_to_read (is_read e)) (no_reads es)
+
+pub waits_for_none : (o : Operation) (log : List Entry) → waits_for o log ≡ 0
+waits_for_none (Write write) log = no_reads log
+waits_for_none (Byte port number byte) log = refl

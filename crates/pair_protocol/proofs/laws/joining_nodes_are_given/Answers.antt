@@ -1,0 +1,6 @@
+-- The law is that of the invariant.
+use Rattle.pair_protocol.proofs.Given.{joining_is_given}
+use Rattle.pair_protocol.proofs.laws.joining_nodes_are_given.Goals as goal
+
+pub returns : goal.returns
+returns g c = record { given = joining_is_given }

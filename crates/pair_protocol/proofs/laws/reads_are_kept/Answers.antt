@@ -1,0 +1,6 @@
+-- The law is that of the invariant.
+use Rattle.pair_protocol.proofs.ReadsKept.{reached_keeps_reads}
+use Rattle.pair_protocol.proofs.laws.reads_are_kept.Goals as goal
+
+pub returns : goal.returns
+returns g c = record { kept = reached_keeps_reads }
