@@ -14,7 +14,7 @@ mod setup;
 mod tests;
 mod wiring;
 
-pub use board::Board;
+pub use board::{Board, BoardMemory};
 pub use executed::Executed;
 pub use input::Input;
 pub use laws::{boards_count, boards_issue_and_complete, the_machine_refuses_alike};
