@@ -392,7 +392,8 @@ fn round(
 ) -> R<()> {
     let mut processor = random_processor(random);
     let bytes = [code, random.byte(), random.byte()];
-    let pc = processor.regs.pc.get();
+    let regs = processor.regs;
+    let pc = regs.pc.get();
     let places = [pc, pc.wrapping_add(1), pc.wrapping_add(2)];
     for (place, byte) in places.iter().zip(&bytes) {
         wires.memory.write(*place, *byte);
@@ -400,7 +401,7 @@ fn round(
     let op = decode(bytes);
     let behind = Regs {
         pc: AddressRegister::new(pc.wrapping_add(length(code) as u16)),
-        ..processor.regs
+        ..regs
     };
     let written = stored_at(op, &behind, wires);
     execute(op, &mut processor, wires, fold)?;

@@ -101,7 +101,8 @@ impl Walk {
             return Ok(());
         }
         self.drives.fill(byte)?;
-        match self.drives.writes.get(issued) {
+        let write = self.drives.writes.get(issued).copied();
+        match write {
             None => self.fold.byte(0),
             Some(write) => {
                 let [.., number] = write.number.to_be_bytes();
