@@ -178,12 +178,12 @@ all_turns M x s t generation turns _ a (running.AllTurns q) is =
 
 -- ---- the first step is refused
 
-refused_by : {S : Type 0} (x : Node S) (t : S) (generation : ℕ) (refusal : Option Fault) (fault : Fault)
-    (Does : Ran → Type 0) → IsAlone t generation x → fault_of refusal ≡ fault
+refused_by : {S : Type 0} (x : Node S) (t : S) (generation turns : ℕ) (refusal : Option Fault) (fault : Fault)
+    (Does : Ran → Type 0) → 0 < turns → IsAlone t generation x → fault_of refusal ≡ fault
     → calls.Unless {A = Ran} refusal (Err fault) (IsAlone t generation x)
-    (calls.Gives (Err fault) (IsAlone t generation x) Does)
-refused_by x t generation (Some other) fault Does a e = (ap (λ f. Err f) (sym e), a)
-refused_by x t generation None fault Does a e = (sym e, a)
+    (calls.Gives (Err fault) ((0 < turns) × IsAlone t generation x) Does)
+refused_by x t generation turns (Some other) fault Does some a e = (ap (λ f. Err f) (sym e), a)
+refused_by x t generation turns None fault Does some a e = (sym e, (some, a))
 
 pub refused : {S : Type 0} (M : Machine S) (x : Node S) (s t : S) (generation turns : ℕ) (r : Stopped) (fault : Fault)
     → IsAlone s generation x → RunsOn M s turns r t → r.reason ≡ reason.Refused fault → r.steps ≡ 0
@@ -196,7 +196,8 @@ refused M x s t generation turns _ fault a (running.IsRefused {n = n} lt q) is n
     let same : lockstep.step_refusal M s ≡ lockstep.step_refusal M t = ap (λ s. lockstep.step_refusal M s) (sym here) in
     let alone : IsAlone t generation x = subst (λ s. IsAlone s generation x) (sym here) a in
     subst (λ r. calls.Unless {A = Ran} r (Err fault) (IsAlone t generation x)
-    (calls.Gives (Err fault) (IsAlone t generation x) (calls.Stepped M turns x (IsAlone t generation))))
+    (calls.Gives (Err fault) ((0 < turns) × IsAlone t generation x)
+    (calls.Stepped M turns x (IsAlone t generation))))
     (sym (step_refusal M x s generation turns a (omega arith) ∙ same))
-    (refused_by x t generation (lockstep.step_refusal M t) fault (calls.Stepped M turns x (IsAlone t generation))
-    alone fault_is)
+    (refused_by x t generation turns (lockstep.step_refusal M t) fault
+    (calls.Stepped M turns x (IsAlone t generation)) (omega arith) alone fault_is)

@@ -1,7 +1,7 @@
 -- How a follower moves. A replayer's moves come one behind another over the entries that are held, while the protocol
 -- counts them from the first and knows only how many entries were replayed; those held are the ones behind them. So the
 -- moves of a replayer stand in front of whatever ends them.
-use Rattle.std.proofs.Common.{◌≡◌, ℕ, zero, suc, ◌+◌, ◌-◌, ◌≤◌, inl, inr, Bool, true, false, eqb, Some, None, List, [], ◌∷◌, length, drop, Result, Ok, Err, IsTrue, refl, sym, ap, subst, ◌∙◌, arith, length-drop}
+use Rattle.std.proofs.Common.{◌≡◌, ℕ, zero, suc, ◌+◌, ◌-◌, ◌<◌, ◌≤◌, inl, inr, Bool, true, false, eqb, Some, None, List, [], ◌∷◌, length, drop, Result, Ok, Err, IsTrue, refl, sym, ap, subst, ◌∙◌, arith, length-drop}
 use Rattle.std.specs.Prelude.{◌↔◌, slice_get}
 use Rattle.std.proofs.lemmas.Bool.{eq-eqb, eqb-true}
 use Rattle.std.proofs.lemmas.List.{drop_all}
@@ -136,6 +136,24 @@ at_end_by false true xs left now h e within is =
     let yes : IsTrue false = h.1 (sym e ∙ drop_all now xs (omega arith)) in
     absurd cc
 
+-- it is behind where the replayer is
+behind : {S : Type 0} (M : Machine S) (x : Node S) (s : S) (left : List Entry) → x.machine ≡ s
+    → drop x.replayed x.held ≡ left → replaying.IsBehind M s left → calls.IsBehind M x
+behind M x s left same e b = record {
+  next = b.first;
+  held = (first_left x.held b.rest b.first x.replayed (e ∙ b.held_are)).0;
+  later = rw same b.later;
+}
+
+stops_at : {S : Type 0} (M : Machine S) (x : Node S) (t : S) (turns n now : ℕ) (left : List Entry)
+    → drop now x.held ≡ left → now ≤ length x.held → replaying.Ends M turns n t left
+    → calls.StopsAt M turns n (at x t now)
+stops_at M x t turns n now left e within replaying.AllTurns = inl refl
+stops_at M x t turns n now left e within (replaying.AtEnd lt) =
+    inr (inl (eq-eqb now (length x.held) (nothing_left x.held now within e)))
+stops_at M x t turns n now left e within (replaying.WantsMemory some lt late) =
+    inr (inr (behind M (at x t now) t left refl e late))
+
 -- ---- what the call says
 
 follows : {S : Type 0} (role : Role) (x : Node S) (s t : S) (r new : Receiving) (now : ℕ) → IsFollower role s r x
@@ -166,8 +184,10 @@ still role x s t r new f held same_state same_left = record {
 pub repeats : {S : Type 0} (M : Machine S) (role : Role) (x : Node S) (s t : S) (r new : Receiving) (turns : ℕ)
     (result : Result Replayed Fault) → IsFollower role s r x → new ≡ record r { entries = new.entries }
     → replaying.Answers M s r.entries turns result t new.entries
-    → calls.Gives result (IsFollower role t new x) (calls.Repeats M turns x (IsFollower role t new))
-repeats M role x s t r new turns (Err fault) f held a = (a.0, still role x s t r new f held a.3 a.4)
+    → calls.Gives result ((0 < turns) × calls.IsBehind M x × IsFollower role t new x)
+    (calls.Repeats M turns x (IsFollower role t new))
+repeats M role x s t r new turns (Err fault) f held a =
+    (a.0, (a.1, behind M x s r.entries f.machine (sym f.left) a.2, still role x s t r new f held a.3 a.4))
 repeats M role x s t r new turns (Ok q) f held a =
     let so_far = reached M x s x.replayed r.entries q.moves t new.entries (sym f.left) f.within a.replays in
     let now = so_far.now in
@@ -180,6 +200,7 @@ repeats M role x s t r new turns (Ok q) f held a =
       moves = subst (λ s. Replays M (at x s x.replayed) turns (at x t now) q.moves) (sym f.machine) moves;
       some = moves_some M x t turns q.moves new.entries f.within
           (λ none. none_made M s r.entries q.moves t new.entries none a.replays ∙ f.left) a.ends;
+      stops = stops_at M x t turns q.moves now new.entries so_far.left_are so_far.within a.ends;
       ends = at_end_by q.at_end (eqb now (length x.held)) x.held new.entries now a.at_end so_far.left_are so_far.within
           refl;
       after = follows role x s t r new now f held so_far.left_are so_far.within;
@@ -196,5 +217,6 @@ pub backup_replays : {S : Type 0} (M : Machine S) (x : Node S) (s t : S) (r new 
     → calls.Replaying M turns x result (IsFollower Backup t new)
 backup_replays M x s t r new turns result f held a =
     subst (λ refusal. calls.Unless {A = Replayed} refusal result (IsFollower Backup t new x)
-    (calls.Gives result (IsFollower Backup t new x) (calls.Repeats M turns x (IsFollower Backup t new))))
+    (calls.Gives result ((0 < turns) × calls.IsBehind M x × IsFollower Backup t new x)
+    (calls.Repeats M turns x (IsFollower Backup t new))))
     (sym (in_role Backup x s r f refl)) (repeats M Backup x s t r new turns result f held a)

@@ -1,7 +1,8 @@
 -- How a node drains. Its moves are those of a replay, so where they leave entries it drains on; and where they leave
 -- none it is what an alone node is.
-use Rattle.std.proofs.Common.{◌≡◌, ℕ, true, false, Ok, refl, sym, subst, ◌∙◌}
+use Rattle.std.proofs.Common.{◌≡◌, ℕ, ◌<◌, true, false, Ok, Err, refl, sym, subst, ◌∙◌}
 use Rattle.guest_board.specs.Machine.{Machine}
+use Rattle.i8080_words.specs.declared.refusal.Fault.{Fault}
 use Rattle.log_channel.specs.Channel.{Receiving}
 use Rattle.pair_protocol.specs.Node.{Node, Draining, goes_live}
 use Rattle.pair_protocol.specs.Rows.{after_drain, at_end}
@@ -23,6 +24,17 @@ allowed M x s r turns d Is f empties =
     subst (λ refusal. calls.Unless {A = Drained} refusal (Ok d) (Is x) (calls.Empties M turns x Is d))
     (sym (in_role Draining x s r f refl)) empties
 
+pub not_drained : {S : Type 0} (M : Machine S) (x : Node S) (s t : S) (r new : Receiving) (turns : ℕ) (fault : Fault)
+    → IsFollower Draining s r x → new ≡ record r { entries = new.entries }
+    → replaying.Answers M s r.entries turns (Err fault) t new.entries
+    → calls.Draining M turns x (Err fault) (IsFollower Draining t new)
+not_drained M x s t r new turns fault f held answers =
+    subst
+    (λ refusal. calls.Unless {A = Drained} refusal (Err fault) (IsFollower Draining t new x)
+    (calls.Gives (Err fault) ((0 < turns) × calls.IsBehind M x × IsFollower Draining t new x)
+    (calls.Empties M turns x (IsFollower Draining t new))))
+    (sym (in_role Draining x s r f refl)) (repeats M Draining x s t r new turns (Err fault) f held answers)
+
 pub drains_on : {S : Type 0} (M : Machine S) (x : Node S) (s t : S) (r new : Receiving) (turns : ℕ) (a : Replayed)
     → IsFollower Draining s r x → new ≡ record r { entries = new.entries }
     → replaying.Answers M s r.entries turns (Ok a) t new.entries → a.at_end ≡ false
@@ -34,6 +46,7 @@ drains_on M x s t r new turns a f held answers left =
       y = h.y;
       moves = h.moves;
       some = h.some;
+      stops = h.stops;
       ends = h.ends;
       after = subst (λ all. IsFollower Draining t new (after_drain h.y all)) (sym more) h.after;
     })
@@ -50,6 +63,7 @@ drained M x s t r new turns a Is f held answers all lives =
       y = h.y;
       moves = h.moves;
       some = h.some;
+      stops = h.stops;
       ends = h.ends;
       after = subst (λ all. Is (after_drain h.y all)) (sym none) (lives h.y h.after.role_is none h.after);
     })

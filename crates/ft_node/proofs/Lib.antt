@@ -9,5 +9,6 @@ pub mod AloneInputs
 pub mod AloneSteps
 pub mod FollowerMoves
 pub mod LastMoves
+pub mod EchoNodes
 pub mod PrimaryChecks
 pub mod PassedChecks

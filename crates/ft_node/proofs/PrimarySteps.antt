@@ -233,8 +233,8 @@ steps_made M s t l new sd c later x turns a ran laws p k made steps_are why_is c
 not_made : {S : Type 0} (M : Machine S) (s t : S) (l new : Log) (turns : ℕ) (fault : Fault) (r : Option Fault)
     (stays : Type 0) (does : Ran → Type 0) → AdvancesUnless M s l turns r (Err fault) t new
     → ((t ≡ s) → (new ≡ l) → stays)
-    → Unless {A = Ran} r (Err fault) stays (calls.Gives {A = Ran} (Err fault) stays does)
-not_made M s t l new turns fault None stays does made same = (made.0, same made.2 made.3)
+    → Unless {A = Ran} r (Err fault) stays (calls.Gives {A = Ran} (Err fault) ((0 < turns) × stays) does)
+not_made M s t l new turns fault None stays does made same = (made.0, (made.1, same made.2 made.3))
 not_made M s t l new turns fault (Some first) stays does made same =
     let answer = made.0 in
     let is : fault ≡ first = cc in
@@ -248,7 +248,8 @@ pub steps_not_made : {S : Type 0} (M : Machine S) (s t : S) (l new : Log) (sd : 
 steps_not_made M s t l new sd c x turns fault p k made =
     subst
     (λ r. Unless {A = Ran} r (Err fault) (IsPrimary M t new sd c x)
-    (calls.Gives {A = Ran} (Err fault) (IsPrimary M t new sd c x) (calls.Stepped M turns x (IsPrimary M t new sd c))))
+    (calls.Gives {A = Ran} (Err fault) ((0 < turns) × IsPrimary M t new sd c x)
+    (calls.Stepped M turns x (IsPrimary M t new sd c))))
     (sym (steps_refused M x l turns k ∙ ap (λ s. advance_refusal M s l turns) p.machine))
     (not_made M s t l new turns fault (advance_refusal M s l turns) (IsPrimary M t new sd c x)
     (calls.Stepped M turns x (IsPrimary M t new sd c)) made

@@ -1,6 +1,6 @@
 -- What each call of a node answers and leaves, by the node of the protocol that it is before the call: the refusal of the
 -- event's node part, or what its row says of the node.
-use Rattle.std.specs.Prelude.{◌≡◌, ◌≢◌, ℕ, ◌≤◌, ◌⊎◌, Bool, true, false, Option, Some, None, List, [], ◌∷◌, length, slice_get, ◌==◌, if◌then◌else◌, Result, Ok, Err}
+use Rattle.std.specs.Prelude.{◌≡◌, ◌≢◌, ℕ, ◌<◌, ◌≤◌, ◌⊎◌, Bool, true, false, Option, Some, None, List, [], ◌∷◌, length, slice_get, ◌==◌, if◌then◌else◌, Result, Ok, Err}
 use Rattle.std.specs.Global.{Vec}
 use Rattle.disk_dcdd.specs.declared.address.SectorAddress.{SectorAddress}
 use Rattle.event_callbacks.specs.declared.operations.OpId.{OpId}
@@ -9,6 +9,7 @@ use Rattle.guest_board.specs.Machine.{Machine}
 use Rattle.guest_board.specs.declared.input.Input.{Input}
 use Rattle.i8080_words.specs.declared.refusal.Fault.{Fault}
 use Rattle.i8080_words.specs.declared.refusal.Fault.TheVariants.{OutOfMemory, Malformed, Lost}
+use Rattle.log_entry.specs.Entries.{count_of}
 use Rattle.log_entry.specs.declared.entry.Entry.{Entry}
 use Rattle.log_channel.specs.Packet.{packet_bytes, IsPacket}
 use Rattle.log_channel.specs.declared.packet.Packet.{Packet}
@@ -31,10 +32,10 @@ abbrev pub Unless : {A : Type 0} → Option Fault → Result A Fault → Type 0 
 Unless (Some fault) result stays does = (result ≡ Err fault) × stays
 Unless None result stays does = does
 
--- what a call gives where memory is there; else it wants memory, and the node stays
+-- what a call gives where memory is there; else it wants memory, and then this holds
 abbrev pub Gives : {A : Type 0} → Result A Fault → Type 0 → (A → Type 0) → Type 0
-Gives (Ok value) stays does = does value
-Gives (Err fault) stays does = (fault ≡ OutOfMemory) × stays
+Gives (Ok value) wants does = does value
+Gives (Err fault) wants does = (fault ≡ OutOfMemory) × wants
 
 -- what a call gives that takes no memory
 abbrev pub Always : {A : Type 0} → Result A Fault → (A → Type 0) → Type 0
@@ -75,7 +76,8 @@ pub record Stepped {S : Type 0} (M : Machine S) (turns : ℕ) (x : Node S) (Is :
 
 abbrev pub Steps : {S : Type 0} → Machine S → ℕ → Node S → Result Ran Fault → (Node S → Type 0) → Type 0
 Steps M turns x result Is =
-    Unless (refusals.step_refusal M turns x) result (Is x) (Gives result (Is x) (Stepped M turns x Is))
+    Unless (refusals.step_refusal M turns x) result (Is x)
+    (Gives result ((0 < turns) × Is x) (Stepped M turns x Is))
 
 -- an input that is taken; it takes no memory
 pub record Took {S : Type 0} (M : Machine S) (i : Input) (x : Node S) (Is : Node S → Type 0) : Type 0 where
@@ -106,9 +108,14 @@ abbrev pub Delivered : {S : Type 0} → ℕ → Entry → Node S → (Node S →
 Delivered index e x Is true = (index ≡ length x.held) × Is (holds x e)
 Delivered index e x Is false = (index ≢ length x.held) × Is x
 
+-- the entry that comes next wants memory where another one is held and not replayed
+abbrev pub WantsRoom : {S : Type 0} → ℕ → Node S → Type 0
+WantsRoom index x = (index ≡ length x.held) × (x.replayed < length x.held)
+
 abbrev pub Delivers : {S : Type 0} → Option Packet → Node S → Result Bool Fault → (Node S → Type 0) → Type 0
 Delivers (Some (Log generation index e)) x result Is =
-    Unless (refusals.log_refusal generation x) result (Is x) (Gives result (Is x) (Delivered index e x Is))
+    Unless (refusals.log_refusal generation x) result (Is x)
+    (Gives result (WantsRoom index x × Is x) (Delivered index e x Is))
 Delivers _ x result Is =
     Unless (refusals.first_of (refusals.role_refusal (Backup ∷ []) x ∷ Some Malformed ∷ [])) result (Is x) ⊥
 
@@ -134,18 +141,31 @@ Hears (Some (Ack generation held)) x result Is =
 Hears _ x result Is =
     Unless (refusals.first_of (refusals.role_refusal (Primary ∷ []) x ∷ Some Malformed ∷ [])) result (Is x) ⊥
 
+-- its next move is a step: the entry that comes next is at a later count
+pub record IsBehind {S : Type 0} (M : Machine S) (x : Node S) : Type 0 where
+  pub next : Entry
+  pub held : slice_get x.held x.replayed ≡ Some next
+  pub later : M.count x.machine < count_of next
+
+-- why no more moves were made: as many as were asked for are made, none is left, or the next is a step, which wants
+-- memory
+abbrev pub StopsAt : {S : Type 0} → Machine S → ℕ → ℕ → Node S → Type 0
+StopsAt M turns made y = (made ≡ turns) ⊎ (at_end y ≡ true) ⊎ IsBehind M y
+
 -- moves of a backup by what it holds
 pub record Repeats {S : Type 0} (M : Machine S) (turns : ℕ) (x : Node S) (Is : Node S → Type 0) (r : Replayed)
     : Type 0 where
   pub y : Node S
   pub moves : Replays M x turns y r.moves
   pub some : MovesSome x turns r.moves
+  pub stops : StopsAt M turns r.moves y
   pub ends : r.at_end ≡ at_end y
   pub after : Is y
 
 abbrev pub Replaying : {S : Type 0} → Machine S → ℕ → Node S → Result Replayed Fault → (Node S → Type 0) → Type 0
 Replaying M turns x result Is =
-    Unless (refusals.replay_refusal x) result (Is x) (Gives result (Is x) (Repeats M turns x Is))
+    Unless (refusals.replay_refusal x) result (Is x)
+    (Gives result ((0 < turns) × IsBehind M x × Is x) (Repeats M turns x Is))
 
 -- moves of a node that drains; with nothing left to replay it is alone
 pub record Empties {S : Type 0} (M : Machine S) (turns : ℕ) (x : Node S) (Is : Node S → Type 0) (d : Drained)
@@ -153,12 +173,14 @@ pub record Empties {S : Type 0} (M : Machine S) (turns : ℕ) (x : Node S) (Is :
   pub y : Node S
   pub moves : Replays M x turns y d.moves
   pub some : MovesSome x turns d.moves
+  pub stops : StopsAt M turns d.moves y
   pub ends : d.alone ≡ at_end y
   pub after : Is (after_drain y (at_end y))
 
 abbrev pub Draining : {S : Type 0} → Machine S → ℕ → Node S → Result Drained Fault → (Node S → Type 0) → Type 0
 Draining M turns x result Is =
-    Unless (refusals.drain_refusal x) result (Is x) (Gives result (Is x) (Empties M turns x Is))
+    Unless (refusals.drain_refusal x) result (Is x)
+    (Gives result ((0 < turns) × IsBehind M x × Is x) (Empties M turns x Is))
 
 -- an outstanding operation is released
 abbrev pub Releases : {S : Type 0} → Machine S → OpId → Node S → Result Operation Fault → Type 0

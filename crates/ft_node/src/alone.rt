@@ -1,5 +1,5 @@
 //! A node that is live.
-ghost use Rattle.std.specs.Prelude.{◌≡◌, ◌≢◌, ◌<◌, Ok, ok_or};
+ghost use Rattle.std.specs.Prelude.{◌≡◌, ◌≢◌, ◌<◌, Ok, OnErr, ok_or};
 ghost use Rattle.i8080_words.specs.declared.refusal.Fault.TheVariants.{NotDue, Spent, Idle};
 ghost use Rattle.disk_dcdd.specs.declared.controller.TheConstants.{DRIVES};
 ghost use Rattle.disk_dcdd.specs.declared.sector.TheConstants.{SECTORS};
@@ -31,9 +31,10 @@ pub struct Alone<B> {
 impl<B: Lockstep> Alone<B> {
     /// Makes at most `turns` steps, and stops after the first that gives an operation.
     pub(crate) fn step(&mut self, turns: u64) -> R<Ran>
-        ensures { (x : Node B.State)
+        ensures answer { (x : Node B.State)
             → IsAlone (B.state self.old.board) self.old.generation x
             → calls.Steps B.machine turns x result (IsAlone (B.state self.new.board) self.new.generation) }
+        ensures unchanged { OnErr result (self.new ≡ self.old) }
     {
         let Stopped { steps, reason } = guest_board::run(&mut self.board, turns);
         match reason {
@@ -121,10 +122,11 @@ impl<B: Lockstep> Alone<B> {
     /// Takes the key of an index.
     pub(crate) fn key(&mut self, port: u8, index: u64, byte: u8) -> R<()>
         requires { port < PORTS }
-        ensures { (x : Node B.State)
+        ensures answer { (x : Node B.State)
             → IsAlone (B.state self.old.board) self.old.generation x
             → calls.Takes B.machine (input.Rx port byte) (refusals.key_refusal B.machine port index x) x result
             (IsAlone (B.state self.new.board) self.new.generation) }
+        ensures unchanged { OnErr result (self.new ≡ self.old) }
     {
         self.check_key(port, index)?;
         self.board.take(Input::Rx(port, byte))
@@ -133,10 +135,11 @@ impl<B: Lockstep> Alone<B> {
     /// Takes the acceptance of the byte of a number, which has to be the oldest that is not accepted.
     pub(crate) fn sent(&mut self, port: u8, number: u64) -> R<()>
         requires { port < PORTS }
-        ensures { (x : Node B.State)
+        ensures answer { (x : Node B.State)
             → IsAlone (B.state self.old.board) self.old.generation x
             → calls.Takes B.machine (input.Sent port) (refusals.sent_refusal B.machine port number x) x result
             (IsAlone (B.state self.new.board) self.new.generation) }
+        ensures unchanged { OnErr result (self.new ≡ self.old) }
     {
         self.check_sent(port, number)?;
         self.board.take(Input::Sent(port))
@@ -144,10 +147,11 @@ impl<B: Lockstep> Alone<B> {
 
     /// Takes the completion of a write.
     pub(crate) fn done(&mut self, number: u64) -> R<()>
-        ensures { (x : Node B.State)
+        ensures answer { (x : Node B.State)
             → IsAlone (B.state self.old.board) self.old.generation x
             → calls.Takes B.machine (input.Written number) (refusals.done_refusal B.machine number x) x result
             (IsAlone (B.state self.new.board) self.new.generation) }
+        ensures unchanged { OnErr result (self.new ≡ self.old) }
     {
         self.check_done(number)?;
         self.board.take(Input::Written(number))
@@ -162,11 +166,12 @@ impl<B: Lockstep> Alone<B> {
     ) -> R<()>
         requires drive { address.drive < DRIVES }
         requires sector { address.sector < SECTORS }
-        ensures { (x : Node B.State)
+        ensures answer { (x : Node B.State)
             → IsAlone (B.state self.old.board) self.old.generation x
             → calls.Takes B.machine (input.Sector address.drive address.sector number bytes)
             (refusals.under_refusal B.machine address number bytes x) x result
             (IsAlone (B.state self.new.board) self.new.generation) }
+        ensures unchanged { OnErr result (self.new ≡ self.old) }
     {
         self.check_under(address, number, bytes)?;
         self.board.take(Input::Sector {

@@ -1,5 +1,5 @@
 //! The backup of a generation.
-ghost use Rattle.std.specs.Prelude.{◌≡◌};
+ghost use Rattle.std.specs.Prelude.{◌≡◌, OnErr};
 ghost use Rattle.log_channel.specs.Packet.{packet_at};
 ghost use Rattle.pair_protocol.specs.Node as protocol;
 ghost use Rattle.guest_board.specs.Recorded.{Counts};
@@ -24,10 +24,11 @@ pub struct Backup<B> {
 impl<B: Lockstep> Backup<B> {
     /// Takes a packet of the log: true where its entry is the next one, and is held.
     pub(crate) fn on_log(&mut self, bytes: &[u8]) -> R<bool>
-        ensures { (x : protocol.Node B.State)
+        ensures answer { (x : protocol.Node B.State)
             → IsFollower protocol.Backup (B.state self.old.replayer.board) self.old.receiver x
             → calls.Delivers (packet_at bytes.now) x result
             (IsFollower protocol.Backup (B.state self.new.replayer.board) self.new.receiver) }
+        ensures unchanged { OnErr result (self.new ≡ self.old) }
     {
         self.receiver.on_log(bytes)
     }
@@ -67,10 +68,11 @@ impl<B: Lockstep> Backup<B> {
     pub(crate) fn replay(&mut self, turns: u64) -> R<Replayed>
         requires counts { Counts B.machine }
         requires on_trace { IsOnTrace B.machine (B.state self.old.replayer.board) self.old.receiver.entries }
-        ensures { (x : protocol.Node B.State)
+        ensures answer { (x : protocol.Node B.State)
             → IsFollower protocol.Backup (B.state self.old.replayer.board) self.old.receiver x
             → calls.Replaying B.machine turns x result
             (IsFollower protocol.Backup (B.state self.new.replayer.board) self.new.receiver) }
+        ensures unchanged { OnErr result (self.new ≡ self.old) }
     {
         self.replayer.replay(&mut self.receiver, turns)
     }

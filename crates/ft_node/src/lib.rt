@@ -7,6 +7,8 @@ mod halted;
 mod node;
 mod primary;
 mod ran;
+#[cfg(test)]
+mod tests;
 
 pub use alone::Alone;
 pub use backup::Backup;

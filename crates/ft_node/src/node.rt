@@ -1,6 +1,6 @@
 //! A node, in whatever role.
-ghost use Rattle.std.specs.Prelude.{◌≡◌, ◌<◌, true, IfOk, IfErr};
-ghost use Rattle.i8080_words.specs.declared.refusal.Fault.TheVariants.{OutOfMemory};
+ghost use Rattle.std.specs.Prelude.{◌≡◌, ◌≢◌, ◌<◌, true, IfOk, IfErr, OnErr};
+ghost use Rattle.i8080_words.specs.declared.refusal.Fault.TheVariants.{Lost, OutOfMemory};
 ghost use Rattle.pair_protocol.specs.Rows.{at_end};
 ghost use Rattle.pair_protocol.specs.Node.{goes_live, halts, wins};
 ghost use Rattle.disk_dcdd.specs.declared.controller.TheConstants.{DRIVES};
@@ -85,8 +85,9 @@ impl<B: Lockstep + Drop> Node<B> {
         requires counts { Counts B.machine }
         requires operations { ComesAndGoes B.machine }
         requires few { MayRun B.state B.machine self.old }
-        ensures { (x : protocol.Node B.State) → IsNode B.state B.machine self.old x
+        ensures answer { (x : protocol.Node B.State) → IsNode B.state B.machine self.old x
             → calls.Steps B.machine turns x result (IsNode B.state B.machine self.new) }
+        ensures unchanged { OnErr result (self.new ≡ self.old) }
     {
         match self {
             Node::Primary(primary) => primary.step(turns),
@@ -170,9 +171,10 @@ impl<B: Lockstep + Drop> Node<B> {
         requires counts { Counts B.machine }
         requires operations { ComesAndGoes B.machine }
         requires port { port < PORTS }
-        ensures { (x : protocol.Node B.State) → IsNode B.state B.machine self.old x
+        ensures answer { (x : protocol.Node B.State) → IsNode B.state B.machine self.old x
             → calls.Takes B.machine (input.Rx port byte) (refusals.key_refusal B.machine port index x) x
             result (IsNode B.state B.machine self.new) }
+        ensures unchanged { OnErr result (self.new ≡ self.old) }
     {
         match self {
             Node::Primary(primary) => primary.key(port, index, byte),
@@ -187,9 +189,10 @@ impl<B: Lockstep + Drop> Node<B> {
         requires counts { Counts B.machine }
         requires operations { ComesAndGoes B.machine }
         requires port { port < PORTS }
-        ensures { (x : protocol.Node B.State) → IsNode B.state B.machine self.old x
+        ensures answer { (x : protocol.Node B.State) → IsNode B.state B.machine self.old x
             → calls.Takes B.machine (input.Sent port) (refusals.sent_refusal B.machine port number x) x result
             (IsNode B.state B.machine self.new) }
+        ensures unchanged { OnErr result (self.new ≡ self.old) }
     {
         match self {
             Node::Primary(primary) => primary.sent(port, number),
@@ -202,9 +205,10 @@ impl<B: Lockstep + Drop> Node<B> {
     pub fn done(&mut self, number: u64) -> R<()>
         requires counts { Counts B.machine }
         requires operations { ComesAndGoes B.machine }
-        ensures { (x : protocol.Node B.State) → IsNode B.state B.machine self.old x
+        ensures answer { (x : protocol.Node B.State) → IsNode B.state B.machine self.old x
             → calls.Takes B.machine (input.Written number) (refusals.done_refusal B.machine number x) x result
             (IsNode B.state B.machine self.new) }
+        ensures unchanged { OnErr result (self.new ≡ self.old) }
     {
         match self {
             Node::Primary(primary) => primary.done(number),
@@ -234,9 +238,10 @@ impl<B: Lockstep + Drop> Node<B> {
         requires operations { ComesAndGoes B.machine }
         requires drive { address.drive < DRIVES }
         requires sector { address.sector < SECTORS }
-        ensures { (x : protocol.Node B.State) → IsNode B.state B.machine self.old x
+        ensures answer { (x : protocol.Node B.State) → IsNode B.state B.machine self.old x
             → calls.Takes B.machine (input.Sector address.drive address.sector number bytes)
             (refusals.under_refusal B.machine address number bytes x) x result (IsNode B.state B.machine self.new) }
+        ensures unchanged { OnErr result (self.new ≡ self.old) }
     {
         match self {
             Node::Primary(primary) => primary.under(address, number, bytes),
@@ -259,8 +264,9 @@ impl<B: Lockstep + Drop> Node<B> {
     /// Takes a packet of the log: true where its entry is the next one, and is held; a repeat, or one past a gap, is
     /// false and changes nothing. `Malformed` and `WrongGeneration` as the packet is.
     pub fn on_log(&mut self, bytes: &[u8]) -> R<bool>
-        ensures { (x : protocol.Node B.State) → IsNode B.state B.machine self.old x
+        ensures answer { (x : protocol.Node B.State) → IsNode B.state B.machine self.old x
             → calls.Delivers (packet_at bytes.now) x result (IsNode B.state B.machine self.new) }
+        ensures unchanged { OnErr result (self.new ≡ self.old) }
     {
         match self {
             Node::Backup(backup) => backup.on_log(bytes),
@@ -281,8 +287,9 @@ impl<B: Lockstep + Drop> Node<B> {
     /// Takes an acknowledgement, and gives how many entries are acknowledged then. `BadAck` where it is of more entries
     /// than the log has.
     pub fn on_ack(&mut self, bytes: &[u8]) -> R<u64>
-        ensures { (x : protocol.Node B.State) → IsNode B.state B.machine self.old x
+        ensures answer { (x : protocol.Node B.State) → IsNode B.state B.machine self.old x
             → calls.Hears (packet_at bytes.now) x result (IsNode B.state B.machine self.new) }
+        ensures unchanged { OnErr result (self.new ≡ self.old) }
     {
         match self {
             Node::Primary(primary) => primary.on_ack(bytes),
@@ -294,8 +301,9 @@ impl<B: Lockstep + Drop> Node<B> {
     pub fn replay(&mut self, turns: u64) -> R<Replayed>
         requires counts { Counts B.machine }
         requires on_trace { MayReplay B.state B.machine self.old }
-        ensures { (x : protocol.Node B.State) → IsNode B.state B.machine self.old x
+        ensures answer { (x : protocol.Node B.State) → IsNode B.state B.machine self.old x
             → calls.Replaying B.machine turns x result (IsNode B.state B.machine self.new) }
+        ensures unchanged { OnErr result (self.new ≡ self.old) }
     {
         match self {
             Node::Backup(backup) => backup.replay(turns),
@@ -334,8 +342,9 @@ impl<B: Lockstep + Drop> Node<B> {
     pub fn drain(&mut self, turns: u64) -> R<Drained>
         requires counts { Counts B.machine }
         requires on_trace { MayReplay B.state B.machine self.old }
-        ensures { (x : protocol.Node B.State) → IsNode B.state B.machine self.old x
+        ensures answer { (x : protocol.Node B.State) → IsNode B.state B.machine self.old x
             → calls.Draining B.machine turns x result (IsNode B.state B.machine self.new) }
+        ensures unchanged { OnErr result (self.new ≡ self.old) }
     {
         let Node::Draining(draining) = self else {
             return Err(Fault::WrongRole);
@@ -353,8 +362,10 @@ impl<B: Lockstep + Drop> Node<B> {
     /// Asks the arbiter for the generation: whoever asks first goes on alone, a backup once it is drained. `Lost` where
     /// the other node has asked before, and then this one is halted; `OutOfMemory` where the arbiter has no room.
     pub fn suspect(&mut self, id: u64, arbiter: &mut Arbiter) -> R<Won>
-        ensures { (x : protocol.Node B.State) → IsNode B.state B.machine self.old x
+        ensures answer { (x : protocol.Node B.State) → IsNode B.state B.machine self.old x
             → calls.Asks arbiter.old id x result arbiter.new (IsNode B.state B.machine self.new) }
+        ensures unchanged { IfErr result (λ fault. fault ≢ Lost → self.new ≡ self.old) }
+        ensures arbiter { OnErr result (arbiter.new ≡ arbiter.old) }
     {
         let generation = self.generation();
         if let Node::Halted(_) = self {
@@ -378,8 +389,9 @@ impl<B: Lockstep + Drop> Node<B> {
 
     /// Halts. `WrongRole` where it was halted before.
     pub fn stop(&mut self) -> R<()>
-        ensures { (x : protocol.Node B.State) → IsNode B.state B.machine self.old x
+        ensures answer { (x : protocol.Node B.State) → IsNode B.state B.machine self.old x
             → calls.Stops x result (IsNode B.state B.machine self.new) }
+        ensures unchanged { OnErr result (self.new ≡ self.old) }
     {
         if let Node::Halted(_) = self {
             return Err(Fault::WrongRole);

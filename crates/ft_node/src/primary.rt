@@ -1,5 +1,5 @@
 //! The primary of a generation.
-ghost use Rattle.std.specs.Prelude.{◌≡◌, ◌<◌, ◌≤◌, Ok, OnOk, ok_or};
+ghost use Rattle.std.specs.Prelude.{◌≡◌, ◌<◌, ◌≤◌, Ok, OnErr, OnOk, ok_or};
 ghost use Rattle.i8080_words.specs.declared.refusal.Fault.TheVariants.{NotDue};
 ghost use Rattle.disk_dcdd.specs.declared.controller.TheConstants.{DRIVES, GREATEST_NUMBER};
 ghost use Rattle.disk_dcdd.specs.declared.sector.TheConstants.{SECTORS};
@@ -49,12 +49,13 @@ impl<B: Lockstep> Primary<B> {
         requires operations { ComesAndGoes B.machine }
         requires few { IsFrugal B.machine (B.state self.old.recorder.board) }
         requires notes { AreOfOutstanding B.machine (B.state self.old.recorder.board) self.old.coverage }
-        ensures { (x : Node B.State)
+        ensures answer { (x : Node B.State)
             → IsPrimary B.machine (B.state self.old.recorder.board) self.old.recorder.log self.old.sender
             self.old.coverage x
             → calls.Steps B.machine turns x result
             (IsPrimary B.machine (B.state self.new.recorder.board) self.new.recorder.log self.new.sender
             self.new.coverage) }
+        ensures unchanged { OnErr result (self.new ≡ self.old) }
     {
         self.recorder.log().stands();
         self.coverage.stands();
@@ -152,12 +153,13 @@ impl<B: Lockstep> Primary<B> {
         requires counts { Counts B.machine }
         requires operations { ComesAndGoes B.machine }
         requires port { port < PORTS }
-        ensures { (x : Node B.State)
+        ensures answer { (x : Node B.State)
             → IsPrimary B.machine (B.state self.old.recorder.board) self.old.recorder.log self.old.sender
             self.old.coverage x
             → calls.Takes B.machine (input.Rx port byte) (refusals.key_refusal B.machine port index x) x result
             (IsPrimary B.machine (B.state self.new.recorder.board) self.new.recorder.log self.new.sender
             self.new.coverage) }
+        ensures unchanged { OnErr result (self.new ≡ self.old) }
     {
         self.check_key(port, index)?;
         self.recorder.offer(Input::Rx(port, byte))?;
@@ -169,12 +171,13 @@ impl<B: Lockstep> Primary<B> {
         requires counts { Counts B.machine }
         requires operations { ComesAndGoes B.machine }
         requires port { port < PORTS }
-        ensures { (x : Node B.State)
+        ensures answer { (x : Node B.State)
             → IsPrimary B.machine (B.state self.old.recorder.board) self.old.recorder.log self.old.sender
             self.old.coverage x
             → calls.Takes B.machine (input.Sent port) (refusals.sent_refusal B.machine port number x) x result
             (IsPrimary B.machine (B.state self.new.recorder.board) self.new.recorder.log self.new.sender
             self.new.coverage) }
+        ensures unchanged { OnErr result (self.new ≡ self.old) }
     {
         self.check_sent(port, number)?;
         self.recorder.offer(Input::Sent(port))?;
@@ -186,12 +189,13 @@ impl<B: Lockstep> Primary<B> {
     pub(crate) fn done(&mut self, number: u64) -> R<()>
         requires counts { Counts B.machine }
         requires operations { ComesAndGoes B.machine }
-        ensures { (x : Node B.State)
+        ensures answer { (x : Node B.State)
             → IsPrimary B.machine (B.state self.old.recorder.board) self.old.recorder.log self.old.sender
             self.old.coverage x
             → calls.Takes B.machine (input.Written number) (refusals.done_refusal B.machine number x) x result
             (IsPrimary B.machine (B.state self.new.recorder.board) self.new.recorder.log self.new.sender
             self.new.coverage) }
+        ensures unchanged { OnErr result (self.new ≡ self.old) }
     {
         self.check_done(number)?;
         self.recorder.offer(Input::Written(number))?;
@@ -210,13 +214,14 @@ impl<B: Lockstep> Primary<B> {
         requires operations { ComesAndGoes B.machine }
         requires drive { address.drive < DRIVES }
         requires sector { address.sector < SECTORS }
-        ensures { (x : Node B.State)
+        ensures answer { (x : Node B.State)
             → IsPrimary B.machine (B.state self.old.recorder.board) self.old.recorder.log self.old.sender
             self.old.coverage x
             → calls.Takes B.machine (input.Sector address.drive address.sector number bytes)
             (refusals.under_refusal B.machine address number bytes x) x result
             (IsPrimary B.machine (B.state self.new.recorder.board) self.new.recorder.log self.new.sender
             self.new.coverage) }
+        ensures unchanged { OnErr result (self.new ≡ self.old) }
     {
         self.check_under(address, number, bytes)?;
         self.recorder.offer(Input::Sector {
@@ -242,12 +247,13 @@ impl<B: Lockstep> Primary<B> {
 
     /// Takes an acknowledgement, and gives how many entries are acknowledged then.
     pub(crate) fn on_ack(&mut self, bytes: &[u8]) -> R<u64>
-        ensures { (x : Node B.State)
+        ensures answer { (x : Node B.State)
             → IsPrimary B.machine (B.state self.old.recorder.board) self.old.recorder.log self.old.sender
             self.old.coverage x
             → calls.Hears (packet_at bytes.now) x result
             (IsPrimary B.machine (B.state self.new.recorder.board) self.new.recorder.log self.new.sender
             self.new.coverage) }
+        ensures unchanged { OnErr result (self.new ≡ self.old) }
     {
         let covered = self.sender.on_ack(self.recorder.log(), bytes)?;
         self.coverage.acknowledge(self.recorder.log(), covered);

@@ -4,9 +4,9 @@ use Rattle.ft_node.proofs.AloneInputs.{takes}
 use Rattle.ft_node.proofs.PassedChecks.{done_passes}
 use Rattle.ft_node.proofs.alone.Alone.done.Goals as goal
 
-pub returns : goal.returns
-returns g c = λ x a.
+pub returns-clause-answer : goal.returns-clause-answer
+returns-clause-answer g c = λ x a.
     let M = g.B.Lockstep.machine in
     takes M (input.Written c.args.number) x (g.B.Lockstep.state c.args.self.now.board)
     (g.B.Lockstep.state c.take.new.self) c.args.self.now.generation (done_refusal M c.args.number x) c.take.result a
-    (done_passes M c.args.number x c.in_ok-check_done.field-0 (c.in_ok-check_done.ensures x a)) c.take.ensures
+    (done_passes M c.args.number x c.in_ok-check_done.field-0 (c.in_ok-check_done.ensures x a)) c.take.ensures.answer

@@ -9,11 +9,11 @@ take-requires-clause-room g c =
     key_room g.B.Lockstep.machine (g.B.Lockstep.state c.args.self.now.board) c.args.self.now.generation c.args.port
     c.args.index c.args.byte c.in_ok-check_key.field-0 c.in_ok-check_key.ensures
 
-pub returns : goal.returns
-returns g c = λ x a.
+pub returns-clause-answer : goal.returns-clause-answer
+returns-clause-answer g c = λ x a.
     let M = g.B.Lockstep.machine in
     takes M (input.Rx c.args.port c.args.byte) x (g.B.Lockstep.state c.args.self.now.board)
     (g.B.Lockstep.state c.take.new.self) c.args.self.now.generation (key_refusal M c.args.port c.args.index x)
     c.take.result a
     (key_passes M c.args.port c.args.index c.args.byte x c.in_ok-check_key.field-0 (c.in_ok-check_key.ensures x a)).0
-    c.take.ensures
+    c.take.ensures.answer

@@ -5,8 +5,8 @@ use Rattle.ft_node.proofs.PassedChecks.{done_passes}
 use Rattle.ft_node.proofs.PrimaryInputs.{offer_stands, offer_done}
 use Rattle.ft_node.proofs.primary.Primary.done.Goals as goal
 
-pub returns-in_err-offer : goal.returns-in_err-offer
-returns-in_err-offer g c = λ x p.
+pub returns-in_err-offer-clause-answer : goal.returns-in_err-offer-clause-answer
+returns-in_err-offer-clause-answer g c = λ x p.
     let M = g.B.Lockstep.machine in
     let passes =
     done_passes M c.args.number x c.in_ok-check_done.field-0 (c.in_ok-check_done.ensures x p) in
@@ -14,8 +14,8 @@ returns-in_err-offer g c = λ x p.
     c.args.self.now.sender c.args.self.now.coverage x (input.Written c.args.number) (done_refusal M c.args.number x)
     c.in_err-offer.field-0.0 p passes c.in_err-offer.ensures.answer)
 
-pub returns : goal.returns
-returns g c = λ x p.
+pub returns-clause-answer : goal.returns-clause-answer
+returns-clause-answer g c = λ x p.
     let M = g.B.Lockstep.machine in
     let passes =
     done_passes M c.args.number x c.in_ok-check_done.field-0 (c.in_ok-check_done.ensures x p) in

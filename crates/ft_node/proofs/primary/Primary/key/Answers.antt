@@ -5,8 +5,8 @@ use Rattle.ft_node.proofs.PassedChecks.{key_passes}
 use Rattle.ft_node.proofs.PrimaryInputs.{offer_stands, offer_done}
 use Rattle.ft_node.proofs.primary.Primary.key.Goals as goal
 
-pub returns-in_err-offer : goal.returns-in_err-offer
-returns-in_err-offer g c = λ x p.
+pub returns-in_err-offer-clause-answer : goal.returns-in_err-offer-clause-answer
+returns-in_err-offer-clause-answer g c = λ x p.
     let M = g.B.Lockstep.machine in
     let passes =
     key_passes M c.args.port c.args.index c.args.byte x c.in_ok-check_key.field-0
@@ -15,8 +15,8 @@ returns-in_err-offer g c = λ x p.
     c.args.self.now.sender c.args.self.now.coverage x (input.Rx c.args.port c.args.byte)
     (key_refusal M c.args.port c.args.index x) c.in_err-offer.field-0.0 p passes.0 c.in_err-offer.ensures.answer)
 
-pub returns : goal.returns
-returns g c = λ x p.
+pub returns-clause-answer : goal.returns-clause-answer
+returns-clause-answer g c = λ x p.
     let M = g.B.Lockstep.machine in
     let passes =
     key_passes M c.args.port c.args.index c.args.byte x c.in_ok-check_key.field-0

@@ -6,8 +6,8 @@ use Rattle.log_channel.specs.Packet.{packet_at}
 use Rattle.ft_node.proofs.PrimaryAcknowledged.{ack_heard}
 use Rattle.ft_node.proofs.primary.Primary.on_ack.Goals as goal
 
-pub returns : goal.returns
-returns g c = λ x p.
+pub returns-clause-answer : goal.returns-clause-answer
+returns-clause-answer g c = λ x p.
     let l = c.args.self.now.recorder.log in
     let sender = c.args.self.now.sender in
     rw

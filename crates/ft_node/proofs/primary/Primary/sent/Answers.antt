@@ -11,8 +11,8 @@ use Rattle.ft_node.proofs.PassedChecks.{sent_passes}
 use Rattle.ft_node.proofs.PrimaryInputs.{notes_left, offer_stands, offer_done}
 use Rattle.ft_node.proofs.primary.Primary.sent.Goals as goal
 
-pub returns-in_err-offer : goal.returns-in_err-offer
-returns-in_err-offer g c = λ x p.
+pub returns-in_err-offer-clause-answer : goal.returns-in_err-offer-clause-answer
+returns-in_err-offer-clause-answer g c = λ x p.
     let M = g.B.Lockstep.machine in
     let passes =
     sent_passes M c.args.port c.args.number x c.in_ok-check_sent.field-0 (c.in_ok-check_sent.ensures x p) in
@@ -20,8 +20,8 @@ returns-in_err-offer g c = λ x p.
     c.args.self.now.sender c.args.self.now.coverage x (input.Sent c.args.port)
     (sent_refusal M c.args.port c.args.number x) c.in_err-offer.field-0.0 p passes.0 c.in_err-offer.ensures.answer)
 
-pub returns : goal.returns
-returns g c = λ x p.
+pub returns-clause-answer : goal.returns-clause-answer
+returns-clause-answer g c = λ x p.
     let M = g.B.Lockstep.machine in
     let s = g.B.Lockstep.state c.args.self.now.recorder.board in
     let t = g.B.Lockstep.state c.offer.new.self.board in

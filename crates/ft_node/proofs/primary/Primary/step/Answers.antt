@@ -8,8 +8,8 @@ use Rattle.ft_node.proofs.PrimaryPlaces.{log_grows, noted_acknowledged, place_fo
 use Rattle.ft_node.proofs.PrimarySteps.{steps_made, steps_not_made}
 use Rattle.ft_node.proofs.primary.Primary.step.Goals as goal
 
-pub returns-in_err-advanced : goal.returns-in_err-advanced
-returns-in_err-advanced g c = λ x p.
+pub returns-in_err-advanced-clause-answer : goal.returns-in_err-advanced-clause-answer
+returns-in_err-advanced-clause-answer g c = λ x p.
     let M = g.B.Lockstep.machine in
     let s = g.B.Lockstep.state c.args.self.now.recorder.board in
     let t = g.B.Lockstep.state c.advance.new.self.board in
@@ -20,7 +20,7 @@ returns-in_err-advanced g c = λ x p.
     c.in_err-advanced.field-0.0 p
     (keeps_log M s l c.args.self.now.sender c.args.self.now.coverage x p
     (subst IsWithinLimits c.log.ensures c.stands.ensures))
-    c.in_err-advanced.ensures)
+    c.in_err-advanced.ensures.answer)
 
 pub noted-why-requires : goal.noted-why-requires
 noted-why-requires g c = record {
@@ -28,7 +28,7 @@ noted-why-requires g c = record {
       place_for_note g.B.Lockstep.machine (g.B.Lockstep.state c.args.self.now.recorder.board)
       (g.B.Lockstep.state c.advance.new.self.board) c.args.self.now.recorder.log c.advance.new.self.log c.args.turns
       c.in_ok-advanced.advanced c.args.self.now.coverage c.requires.counts c.requires.operations c.requires.few
-      c.requires.notes c.stands-2.ensures c.in_ok-advanced.ensures;
+      c.requires.notes c.stands-2.ensures c.in_ok-advanced.ensures.answer;
 }
 
 pub invariant_of-self-2 : goal.invariant_of-self-2
@@ -37,7 +37,7 @@ invariant_of-self-2 g c =
     let grows =
     log_grows g.B.Lockstep.machine (g.B.Lockstep.state c.args.self.now.recorder.board)
     (g.B.Lockstep.state c.advance.new.self.board) l c.advance.new.self.log c.args.turns c.args.self.now.sender.held
-    c.in_ok-advanced.advanced c.in_ok-advanced.ensures c.args.self.now.within in
+    c.in_ok-advanced.advanced c.in_ok-advanced.ensures.answer c.args.self.now.within in
     record {
       first = grows.0 ∙ c.args.self.now.first;
       acknowledged =
@@ -47,8 +47,8 @@ invariant_of-self-2 g c =
       within = grows.1;
     }
 
-pub returns : goal.returns
-returns g c = λ x p.
+pub returns-clause-answer : goal.returns-clause-answer
+returns-clause-answer g c = λ x p.
     let M = g.B.Lockstep.machine in
     let s = g.B.Lockstep.state c.args.self.now.recorder.board in
     let t = g.B.Lockstep.state c.advance.new.self.board in
@@ -59,6 +59,6 @@ returns g c = λ x p.
     c.requires.operations p
     (keeps_log M s l c.args.self.now.sender c.args.self.now.coverage x p
     (subst IsWithinLimits c.log.ensures c.stands.ensures))
-    c.in_ok-advanced.ensures refl c.noted-why.ensures.why
+    c.in_ok-advanced.ensures.answer refl c.noted-why.ensures.why
     (c.count.ensures.value ∙ ap (λ board. M.count (g.B.Lockstep.state board)) c.board.ensures)
     c.count.ensures.within c.noted-why.ensures.coverage

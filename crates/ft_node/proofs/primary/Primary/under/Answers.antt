@@ -5,8 +5,8 @@ use Rattle.ft_node.proofs.PassedChecks.{under_passes}
 use Rattle.ft_node.proofs.PrimaryInputs.{offer_stands, offer_done}
 use Rattle.ft_node.proofs.primary.Primary.under.Goals as goal
 
-pub returns-in_err-offer : goal.returns-in_err-offer
-returns-in_err-offer g c = λ x p.
+pub returns-in_err-offer-clause-answer : goal.returns-in_err-offer-clause-answer
+returns-in_err-offer-clause-answer g c = λ x p.
     let M = g.B.Lockstep.machine in
     let a = c.args.address in
     let passes =
@@ -15,8 +15,8 @@ returns-in_err-offer g c = λ x p.
     c.args.self.now.sender c.args.self.now.coverage x (input.Sector a.drive a.sector c.args.number c.args.bytes)
     (under_refusal M a c.args.number c.args.bytes x) c.in_err-offer.field-0.0 p passes c.in_err-offer.ensures.answer)
 
-pub returns : goal.returns
-returns g c = λ x p.
+pub returns-clause-answer : goal.returns-clause-answer
+returns-clause-answer g c = λ x p.
     let M = g.B.Lockstep.machine in
     let a = c.args.address in
     let passes =

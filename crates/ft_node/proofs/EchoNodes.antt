@@ -1,0 +1,91 @@
+-- Nodes of the small guest that hold nothing: they have nothing to replay, also after they asked the arbiter.
+use Rattle.std.proofs.Common.{◌≡◌, ℕ, zero, suc, true, false, Option, Some, None, List, [], ◌∷◌, drop, Result, Ok, Err, refl, sym, ap, subst, ◌∙◌}
+use Rattle.arbiter_core.specs.Winners.{winner_of}
+use Rattle.arbiter_core.specs.declared.arbiter.Asking.{Asking}
+use Rattle.arbiter_core.specs.declared.arbiter.Won.{Won}
+use Rattle.echo_guest.specs.Echo.{Echo, echo}
+use Rattle.i8080_words.specs.declared.refusal.Fault.{Fault}
+use Rattle.log_entry.specs.Standing.{IsOnTrace}
+use Rattle.log_entry.specs.declared.entry.Entry.{Entry}
+use Rattle.pair_protocol.specs.Node.{Node, Role, halts, wins}
+use Rattle.ft_node.specs.Calls as calls
+use Rattle.ft_node.specs.Seats.{IsNode, MayReplay}
+use Rattle.ft_node.specs.declared.node.Node as code
+use Rattle.ft_node.specs.declared.node.Node.TheVariants as seat
+
+-- a node of the protocol that begins with this guest
+abbrev pub begun : Role → ℕ → Echo → Node Echo
+begun role generation s = record {
+  role = role;
+  running = true;
+  generation = generation;
+  machine = s;
+  list = [];
+  copy = [];
+  start = 0;
+  held = [];
+  replayed = 0;
+  log = [];
+  covered = 0;
+  notes = [];
+  image = None;
+  parts = [];
+}
+
+pub begins : (role : Role) (generation : ℕ) (s : Echo) → calls.Begins echo role generation s (begun role generation s)
+begins role generation s = record {
+  role_is = refl;
+  up = refl;
+  generation_is = refl;
+  machine = refl;
+  no_log = refl;
+  covered = refl;
+  notes = refl;
+  no_held = refl;
+  replayed = refl;
+  no_copy = refl;
+}
+
+-- ---- nothing to replay
+
+nothing_left : (held : List Entry) (replayed : ℕ) → held ≡ [] → drop replayed held ≡ []
+nothing_left held zero none = none
+nothing_left [] (suc k) none = refl
+nothing_left (e ∷ es) (suc k) none = absurd cc
+
+on_trace : (s : Echo) (entries : List Entry) → entries ≡ [] → IsOnTrace echo s entries
+on_trace s entries none =
+    subst (λ entries. IsOnTrace echo s entries) (sym none) (record {
+      owes = false;
+      moves = [];
+      last = s;
+      stands = record { runs = refl; later = []; next_ones = refl };
+    })
+
+pub may_replay : (node : code.Node Echo) (x : Node Echo) → x.held ≡ [] → IsNode (λ e. e) echo node x
+    → MayReplay (λ e. e) echo node
+may_replay (seat.Primary p) x none is = tt
+may_replay (seat.Backup b) x none is =
+    on_trace b.replayer.board b.receiver.entries (is.left ∙ nothing_left x.held x.replayed none)
+may_replay (seat.Draining d) x none is =
+    on_trace d.replayer.board d.receiver.entries (is.left ∙ nothing_left x.held x.replayed none)
+may_replay (seat.Alone a) x none is = tt
+may_replay (seat.Halted h) x none is = tt
+
+-- ---- after the arbiter was asked
+
+by_answer : (refusal : Option Fault) (winner : Option ℕ) (old new : List Asking) (n : ℕ) (x : Node Echo)
+    (result : Result Won Fault) (Is : Node Echo → Type 0)
+    → calls.Unless refusal result (Is x × (new ≡ old)) (calls.AskedOf winner old n x result new Is)
+    → (y : Node Echo) × (y.held ≡ x.held) × Is y
+by_answer (Some fault) winner old new n x result Is h = (x, refl, h.1.0)
+by_answer None None old new n x (Ok won) Is h = (wins x, refl, h.1)
+by_answer None None old new n x (Err fault) Is h = (x, refl, h.2)
+by_answer None (Some winner) old new n x (Ok won) Is h = (x, refl, h.2)
+by_answer None (Some winner) old new n x (Err fault) Is h = (halts x, refl, h.3)
+
+pub may_drain : (node : code.Node Echo) (x : Node Echo) (old new : List Asking) (n : ℕ) (result : Result Won Fault)
+    → x.held ≡ [] → calls.Asks old n x result new (IsNode (λ e. e) echo node) → MayReplay (λ e. e) echo node
+may_drain node x old new n result none asks =
+    let y = by_answer _ (winner_of old x.generation) old new n x result (IsNode (λ e. e) echo node) asks in
+    may_replay node y.0 (y.1 ∙ none) y.2
