@@ -1,5 +1,5 @@
 -- The places of the writes that are kept are the places that are kept.
-use Rattle.std.proofs.Common.{◌≡◌, not, ◌==◌, ◌∙◌, ap, map}
+use Rattle.std.proofs.Common.{not, ◌==◌, ◌∙◌, ap, map}
 use Rattle.plain_single.specs.Awaited.{place_with}
 use Rattle.plain_single.specs.Drives.{drives_of}
 use Rattle.plain_single.proofs.Writes.{map-filter}
