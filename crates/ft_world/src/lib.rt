@@ -18,6 +18,6 @@ mod tests;
 mod world;
 
 pub use hosts::NodeStatus;
-pub use laws::disks_keep_the_greatest_write;
+pub use laws::{disks_keep_the_greatest_write, terminals_accept_the_longest_list};
 pub use message::Message;
 pub use world::World;
