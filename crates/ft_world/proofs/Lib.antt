@@ -29,3 +29,4 @@ pub mod Settling
 pub mod Generations
 pub mod Growing
 pub mod Running
+pub mod Choices

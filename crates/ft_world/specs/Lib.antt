@@ -9,3 +9,4 @@ pub mod Devices
 pub mod Pairs
 pub mod Applies
 pub mod Beginning
+pub mod Choices

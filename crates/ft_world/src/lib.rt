@@ -6,6 +6,7 @@ mod device_events;
 mod devices;
 mod host;
 mod hosts;
+mod laws;
 mod message;
 mod messages;
 mod node_events;
@@ -17,5 +18,6 @@ mod tests;
 mod world;
 
 pub use hosts::NodeStatus;
+pub use laws::{disks_keep_the_greatest_write, terminals_accept_the_longest_list};
 pub use message::Message;
 pub use world::World;
