@@ -7,5 +7,6 @@ pub mod AtHost
 pub mod Messages
 pub mod Devices
 pub mod Pairs
+pub mod Staying
 pub mod Applies
 pub mod Beginning
