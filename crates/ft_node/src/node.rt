@@ -1,6 +1,6 @@
 //! A node, in whatever role.
-ghost use Rattle.std.specs.Prelude.{◌≡◌, ◌≢◌, ◌<◌, true, IfOk, IfErr, OnErr};
-ghost use Rattle.i8080_words.specs.declared.refusal.Fault.TheVariants.{Lost, OutOfMemory};
+ghost use Rattle.std.specs.Prelude.{◌≡◌, ◌≢◌, ◌<◌, [], true, IfErr, OnErr};
+ghost use Rattle.i8080_words.specs.declared.refusal.Fault.TheVariants.{Lost};
 ghost use Rattle.pair_protocol.specs.Rows.{at_end};
 ghost use Rattle.pair_protocol.specs.Node.{goes_live, halts, wins};
 ghost use Rattle.disk_dcdd.specs.declared.controller.TheConstants.{DRIVES};
@@ -8,6 +8,7 @@ ghost use Rattle.disk_dcdd.specs.declared.sector.TheConstants.{SECTORS};
 ghost use Rattle.event_callbacks.specs.declared.devices.TheConstants.{PORTS};
 ghost use Rattle.guest_board.specs.declared.input.Input.TheVariants as input;
 ghost use Rattle.disk_dcdd.specs.Completion.{answered};
+ghost use Rattle.log_buffer.specs.Log as logs;
 ghost use Rattle.log_channel.specs.Packet.{packet_at};
 ghost use Rattle.pair_protocol.specs.Node as protocol;
 ghost use Rattle.pair_protocol.specs.Refusals as refusals;
@@ -50,21 +51,18 @@ pub enum Node<B> {
 }
 
 impl<B: Lockstep + Drop> Node<B> {
-    /// The primary of a generation, with an empty log. `OutOfMemory` hands the guest back.
-    pub fn primary(alloc: Global, board: B, generation: u32) -> Result<Node<B>, (B, Fault)>
-        requires { 0 < generation }
-        ensures ok { IfOk result (λ node. (x : protocol.Node B.State)
-            → calls.Begins B.machine protocol.Primary generation (B.state board) x → IsNode B.state B.machine node x) }
-        ensures full { IfErr result (λ refused. (refused.0 ≡ board) × (refused.1 ≡ OutOfMemory)) }
+    /// The primary of a generation, with a log in which nothing was put yet.
+    pub fn primary(board: B, log: LogBuffer, generation: u32) -> Node<B>
+        requires generation { 0 < generation }
+        requires unused { log ≡ logs.log 0 [] }
+        ensures { (x : protocol.Node B.State)
+            → calls.Begins B.machine protocol.Primary generation (B.state board) x → IsNode B.state B.machine result x }
     {
-        match LogBuffer::new(alloc, 0) {
-            Ok(log) => Ok(Node::Primary(Primary {
-                recorder: Recorder::new(board, log),
-                sender: Sender::new(generation),
-                coverage: Coverage::new([0; PORTS]),
-            })),
-            Err(fault) => Err((board, fault)),
-        }
+        Node::Primary(Primary {
+            recorder: Recorder::new(board, log),
+            sender: Sender::new(generation),
+            coverage: Coverage::new([0; PORTS]),
+        })
     }
 
     /// The backup of a generation, which holds nothing yet.

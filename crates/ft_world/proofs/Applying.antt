@@ -16,7 +16,7 @@ use Rattle.pair_protocol.specs.World.{World}
 use Rattle.pair_protocol.proofs.Growth.{row_grows}
 use Rattle.pair_protocol.proofs.RowActions.{row_changes}
 use Rattle.pair_protocol.proofs.Runs.{always_faithful, changes_reach}
-use Rattle.ft_world.specs.Applies.{Applies, Shows, ShowsParts, ShowsSome}
+use Rattle.ft_world.specs.Applies.{Applies, IsFaithful, Shows, ShowsParts, ShowsSome}
 use Rattle.ft_world.specs.Running.{Running}
 use Rattle.ft_world.specs.Standing.{Course, machine_of}
 use Rattle.ft_world.specs.Words.{answer_of, event_of}
@@ -25,6 +25,13 @@ use Rattle.pair_events.specs.declared.reply.Reply.{Reply}
 
 pub no_copies_copy : {S : Type 0} (M : Machine S) → IsCopying M no_copies
 no_copies_copy M = record { counted = λ moves s reaches. refl; again = λ moves s t reaches owns e. (cc) }
+
+-- a world that is shown is faithful, since actions reach it
+pub shown_is_faithful : {B H D S : Type 0} (state : B → S) (M : Machine S) (records : D → List Record)
+    (v : Running B H D) (c : Course S) → Shows state M records v c → IsFaithful M c
+shown_is_faithful state M records v c h =
+    let N = machine_of M c in
+    always_faithful N no_copies h.machine.lawful (no_copies_copy N) c.world h.reached
 
 pub applies : {B H D S : Type 0} (state : B → S) (M : Machine S) (records : D → List Record) (old : Running B H D)
     (c : Course S) (e : Event) (answer : Result Reply Fault) (after : World S) (new : Running B H D) →

@@ -195,13 +195,13 @@ reads_host {A} {B} {H} {S} state M hosts nodes n h part result says are at answe
 
 asks_spare : {B H S : Type 0} (A : Type 0) (state : B → S) (M : Machine S) (hosts : List (Host B H)) (nodes : List
     (Node S))
-    (n : ℕ) (means : H) (part : Node S → Option Fault) (D : Type 0) → AreHosts state M hosts nodes
-    → slice_get hosts n ≡ Some (host.Spare means)
+    (n : ℕ) (resources : H) (part : Node S → Option Fault) (D : Type 0) → AreHosts state M hosts nodes
+    → slice_get hosts n ≡ Some (host.Spare resources)
     → Unless {A = A} (at_node (slice_get nodes n) part) (Err Unknown) (Unit {0}) D
-asks_spare {B} {H} {S} A state M hosts nodes n means part D are at =
+asks_spare {B} {H} {S} A state M hosts nodes n resources part D are at =
     go (slice_get nodes n) (subst (λ o. Agree (IsHost {H = H} state M) o (slice_get nodes n)) at (are n))
   where
-    go : (o : Option (Node S)) → Agree (IsHost {H = H} state M) (Some (host.Spare means)) o
+    go : (o : Option (Node S)) → Agree (IsHost {H = H} state M) (Some (host.Spare resources)) o
         → Unless {A = A} (at_node o part) (Err Unknown) (Unit {0}) D
     go None is = absurd is
     go (Some x) is =
@@ -233,7 +233,7 @@ asks_none {A} {B} {H} {S} state M hosts nodes n part (Err k) fault D at e none a
         → Unless {A = A} (at_node (slice_get nodes n) part) (Err Unknown) (Unit {0}) D
     go None h = asks_nobody A state M hosts nodes n part D are h
     go (Some (host.Node a)) h = absurd (none a h)
-    go (Some (host.Spare means)) h = asks_spare A state M hosts nodes n means part D are h
+    go (Some (host.Spare resources)) h = asks_spare A state M hosts nodes n resources part D are h
 
 -- ---- a node asks the arbiter
 

@@ -73,7 +73,7 @@ host_may_replay : {B H D S : Type 0} (state : B → S) (M : Machine S) (records 
     slice_get c.world.nodes n ≡ Some x → IsHost state M here x → HostMayReplay state M here
 host_may_replay state M records old c n x (host.Node station) h there is =
     may_replay state M records old c n x station.node h there is.node
-host_may_replay state M records old c n x (host.Spare means) h there is = tt
+host_may_replay state M records old c n x (host.Spare resources) h there is = tt
 
 pub all_may_replay : {B H D S : Type 0} (state : B → S) (M : Machine S) (records : D → List Record)
     (old : Running B H D) → ShowsSome state M records old → AllMayReplay state M old.hosts

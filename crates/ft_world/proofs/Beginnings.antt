@@ -64,7 +64,7 @@ begins_as state M c role s node begins from = begins (first_node (machine_of M c
 
 pub primary_station : {B S : Type 0} (state : B → S) (M : Machine S) (c : Course S) (s : S) (node : code.Node B)
     (h : Station B) → ((x : Node S) → Begins M Primary 1 s x → IsNode state M node x) → h.node ≡ node →
-    h.inputs.items ≡ [] → ((x : Node S) → IsNode state M node x → h.count ≡ M.count x.machine) → s ≡ c.boot →
+    h.inputs ≡ [] → ((x : Node S) → IsNode state M node x → h.count ≡ M.count x.machine) → s ≡ c.boot →
     IsStation state M h (first_node (machine_of M c) Primary)
 primary_station state M c s node h begins is inputs count from =
     let first = begins_as state M c Primary s node begins from in record {
@@ -76,7 +76,7 @@ primary_station state M c s node h begins is inputs count from =
 
 pub backup_station : {B S : Type 0} (state : B → S) (M : Machine S) (c : Course S) (s : S) (node : code.Node B)
     (h : Station B) → ((x : Node S) → Begins M Backup 1 s x → IsNode state M node x) → h.node ≡ node →
-    h.inputs.items ≡ [] → ((x : Node S) → IsNode state M node x → h.count ≡ M.count x.machine) → s ≡ c.boot →
+    h.inputs ≡ [] → ((x : Node S) → IsNode state M node x → h.count ≡ M.count x.machine) → s ≡ c.boot →
     M.count c.boot ≡ 0 → IsStation state M h (first_node (machine_of M c) Backup)
 backup_station state M c s node h begins is inputs count from none =
     let first = begins_as state M c Backup s node begins from in record {

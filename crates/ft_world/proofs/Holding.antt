@@ -92,7 +92,7 @@ passes_by {B} {S} state M (Some (Log generation index en)) h node r x e is d = g
 
 held_station : {B S : Type 0} (state : B → S) (M : Machine S) (h new : Station B) (e : Entry) (x : Node S)
     → x.role ≡ Backup → IsStation state M h x → IsNode state M new.node (holds x e)
-    → new.inputs.items ≡ h.inputs.items ++ timed_in (timed_of e) → new.count ≡ count_of e
+    → new.inputs ≡ h.inputs ++ timed_in (timed_of e) → new.count ≡ count_of e
     → IsStation state M new (holds x e)
 held_station state M h new e x role is now same c = record {
   node = now;
@@ -107,7 +107,7 @@ held_station state M h new e x role is now same c = record {
 pub holds_on : {B S : Type 0} (state : B → S) (M : Machine S) (p : Option Packet) (h : Station B)
     (node : code.Node B) (new : Station B) (next : Entry) (v : Bool) (x : Node S)
     → calls.Expects p x (Ok (Some next)) → IsStation state M h x → calls.Delivers p x (Ok v) (IsNode state M node)
-    → new.node ≡ node → new.inputs.items ≡ h.inputs.items ++ timed_in (timed_of next) → new.count ≡ count_of next
+    → new.node ≡ node → new.inputs ≡ h.inputs ++ timed_in (timed_of next) → new.count ≡ count_of next
     → AtStation (does.log_packet_refusal p x) (Ok v) x (IsStation state M new) (does.Held p)
 holds_on {B} {S} state M None h node new next v x e is d en same c = absurd (not_refused _ x (Some next) ⊥ e).1
 holds_on {B} {S} state M (Some (Ack generation held)) h node new next v x e is d en same c =

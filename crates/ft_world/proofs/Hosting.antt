@@ -37,15 +37,15 @@ backup_push {S} nodes x generation backup none only k z here is role = elim (pus
 ]
 
 pub host_comes : {B H D S : Type 0} (state : B → S) (M : Machine S) (records : D → List Record) (old : Running B H D)
-    (c : Course S) (means : H) → Shows state M records old c →
-    Shows state M records (record old { hosts = old.hosts ++ host.Spare means ∷ [] })
+    (c : Course S) (resources : H) → Shows state M records old c →
+    Shows state M records (record old { hosts = old.hosts ++ host.Spare resources ∷ [] })
     (record c { world = with_host (machine_of M c) c.world })
-host_comes state M records old c means h = record {
+host_comes state M records old c resources h = record {
   drives = h.drives;
   machine = h.machine;
   reached = After h.reached HostComes;
   parts = record {
-    hosts = agree-push (IsHost state M) old.hosts c.world.nodes (host.Spare means) (spare (machine_of M c)) refl
+    hosts = agree-push (IsHost state M) old.hosts c.world.nodes (host.Spare resources) (spare (machine_of M c)) refl
         h.parts.hosts;
     messages = h.parts.messages;
     terminals = h.parts.terminals;

@@ -43,7 +43,7 @@ takes M i x s counts e Spare (inr v) = (cc)
 
 took_station : {B S : Type 0} (state : B → S) (M : Machine S) (i : Input) (h new : Station B) (x y : Node S)
     → Serving x.role → Takes M i x y → IsStation state M h x → IsNode state M new.node y
-    → new.inputs.items ≡ h.inputs.items ++ timed h.count i ∷ [] → new.count ≡ h.count → IsStation state M new y
+    → new.inputs ≡ h.inputs ++ timed h.count i ∷ [] → new.count ≡ h.count → IsStation state M new y
 took_station state M i h new x y serve t is now e c =
     let later : Serving y.role = subst (λ q. Serving q) (sym t.role) serve in
     let count : h.count ≡ M.count x.machine = is.count ∙ machine_count M x serve in
@@ -58,7 +58,7 @@ took_station state M i h new x y serve t is now e c =
 pub takes_on : {B S : Type 0} (state : B → S) (M : Machine S) (i : Input) (o : Option Fault) (h : Station B)
     (node : code.Node B) (new : Station B) (x : Node S) → Counts M → (o ≡ None → serves x ≡ None)
     → IsStation state M h x → calls.Takes M i o x (Ok tt) (IsNode state M node) → new.node ≡ node
-    → new.inputs.items ≡ h.inputs.items ++ timed h.count i ∷ [] → new.count ≡ h.count
+    → new.inputs ≡ h.inputs ++ timed h.count i ∷ [] → new.count ≡ h.count
     → AtStation o (Ok tt) x (IsStation state M new) (does.Took M i)
 takes_on state M i None h node new x counts serve is t en e c =
     let role : Serving x.role = serving_role x (serve refl) in

@@ -29,4 +29,7 @@ pub mod Settling
 pub mod Generations
 pub mod Growing
 pub mod Running
+pub mod Spares
+pub mod Refusing
+pub mod Counting
 pub mod Choices

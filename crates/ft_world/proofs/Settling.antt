@@ -34,14 +34,14 @@ at_station : {B H S : Type 0} (state : B → S) (M : Machine S) (here : Option (
     (x : Node S) (list : List Timed) (count : ℕ) → Agree (IsHost state M) here there → there ≡ Some x →
     (x.role ≡ Spare → ⊥) →
     ((station : Station B) → here ≡ Some (host.Node station) →
-    (list ≡ station.inputs.items) × (count ≡ station.count)) →
+    (list ≡ station.inputs) × (count ≡ station.count)) →
     (list_of x x.role ≡ list) × (count_in M x x.role ≡ count)
 at_station {B} {H} state M (Some (host.Node station)) there x list count agree e a_node tells =
     let is = subst (λ q. Agree (IsHost {B = B} {H = H} state M) (Some (host.Node station)) q) e agree in
     let told = tells station refl in
     (sym is.inputs ∙ sym told.0, sym is.count ∙ sym told.1)
-at_station {B} {H} state M (Some (host.Spare means)) there x list count agree e a_node tells =
-    absurd (a_node (subst (λ q. Agree (IsHost {B = B} {H = H} state M) (Some (host.Spare means)) q) e agree))
+at_station {B} {H} state M (Some (host.Spare resources)) there x list count agree e a_node tells =
+    absurd (a_node (subst (λ q. Agree (IsHost {B = B} {H = H} state M) (Some (host.Spare resources)) q) e agree))
 at_station {B} {H} state M None there x list count agree e a_node tells =
     absurd (subst (λ q. Agree (IsHost {B = B} {H = H} state M) None q) e agree)
 
@@ -63,7 +63,7 @@ pub settled_is : {B H D S : Type 0} (state : B → S) (M : Machine S) (records :
     (c : Course S) (node : ℕ) (list : List Timed) (count : ℕ) → Shows state M records old c →
     node ≡ unwrap_or (winner_of old.askings old.generation) old.backup →
     ((station : Station B) → slice_get old.hosts node ≡ Some (host.Node station) →
-    (list ≡ station.inputs.items) × (count ≡ station.count)) →
+    (list ≡ station.inputs) × (count ≡ station.count)) →
     Settled (machine_of M c) c.world list count
 settled_is {B} state M records old c node list count h found tells =
     let N = machine_of M c in

@@ -63,11 +63,20 @@ abbrev pub Happens : {B H D S : Type 0} → (B → S) → Machine S → (D → L
 Happens {S = S} state M records old e answer new =
     (c : Course S) → Shows state M records old c → Applies state M records c e answer new
 
--- an event at the disk is refused by a device fault exactly where the device failed; no other event touches the disk
-abbrev pub CountsFailures : Event → ℕ → Result Reply Fault → ℕ → Type 0
-CountsFailures (event.Put message) before answer after = after ≡ before + faults_in answer
-CountsFailures (event.Get node sector) before answer after = after ≡ before + faults_in answer
-CountsFailures _ before answer after = after ≡ before
+-- the world of a course is faithful
+abbrev pub IsFaithful : {S : Type 0} → Machine S → Course S → Type 0
+IsFaithful M c = Faithful (machine_of M c) no_copies c.world
+
+-- how many device failures an event's answer tells of; only a put and a get come to the device
+abbrev pub failures_told : Event → Result Reply Fault → ℕ
+failures_told (event.Put message) answer = faults_in answer
+failures_told (event.Get node sector) answer = faults_in answer
+failures_told _ answer = 0
+
+-- the sum of them over the answers to a list of events
+abbrev pub failures_over : List Event → List (Result Reply Fault) → ℕ
+failures_over (e ∷ events) (answer ∷ answers) = failures_told e answer + failures_over events answers
+failures_over _ _ = 0
 
 -- rows of events, one after another; no host comes meanwhile
 pub data Rows {S : Type 0} (M : Machine S) : World S → List protocol.Event → List protocol.Reply → World S

@@ -19,11 +19,11 @@ use Rattle.ft_world.specs.declared.hosts.Station.{Station}
 -- a node has room for its notes, and what it holds is of a recorded run
 abbrev pub HostMayRun : {B H S : Type 0} → (B → S) → Machine S → Host B H → Type 0
 HostMayRun state M (host.Node h) = MayRun state M h.node
-HostMayRun state M (host.Spare means) = Unit {0}
+HostMayRun state M (host.Spare resources) = Unit {0}
 
 abbrev pub HostMayReplay : {B H S : Type 0} → (B → S) → Machine S → Host B H → Type 0
 HostMayReplay state M (host.Node h) = MayReplay state M h.node
-HostMayReplay state M (host.Spare means) = Unit {0}
+HostMayReplay state M (host.Spare resources) = Unit {0}
 
 -- so it is at every host
 abbrev pub AllMayRun : {B H S : Type 0} → (B → S) → Machine S → List (Host B H) → Type 0

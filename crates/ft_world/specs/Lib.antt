@@ -7,6 +7,7 @@ pub mod AtHost
 pub mod Messages
 pub mod Devices
 pub mod Pairs
+pub mod Staying
 pub mod Applies
 pub mod Beginning
 pub mod Choices

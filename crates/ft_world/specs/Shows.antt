@@ -24,14 +24,14 @@ use Rattle.ft_world.specs.declared.message.Message.{Message}
 -- a node beside its list of inputs and its count, by which it settles
 pub record IsStation {B S : Type 0} (state : B → S) (M : Machine S) (h : Station B) (x : Node S) : Type 0 where
   pub node : IsNode state M h.node x
-  pub inputs : h.inputs.items ≡ list_of x x.role
+  pub inputs : h.inputs ≡ list_of x x.role
   pub count : h.count ≡ count_in M x x.role
   pub a_node : x.role ≡ Spare → ⊥
 
 -- a host: a node, or one that has no role yet
 abbrev pub IsHost : {B H S : Type 0} → (B → S) → Machine S → Host B H → Node S → Type 0
 IsHost state M (host.Node h) x = IsStation state M h x
-IsHost state M (host.Spare means) x = x.role ≡ Spare
+IsHost state M (host.Spare resources) x = x.role ≡ Spare
 
 -- two lists agree place by place
 abbrev pub Agree : {A B : Type 0} → (A → B → Type 0) → Option A → Option B → Type 0

@@ -3,6 +3,7 @@ ghost use Rattle.std.specs.Prelude.{◌≡◌, ◌+◌};
 ghost use Rattle.shared_disk.specs.Records.{faults_in};
 ghost use Rattle.ft_world.specs.Applies.{Happens, ShowsSome};
 ghost use Rattle.ft_world.specs.Pairs.{running_of};
+ghost use Rattle.ft_world.specs.Staying.{SpareHostsStay};
 ghost use Rattle.pair_events.specs.declared.event.Event.TheVariants as happens;
 
 use crate::message::Message;
@@ -21,6 +22,7 @@ impl<B: Lockstep + Drop, D: SectorStore, H: Drop> Pair<B, D, H> {
         ensures row { Happens B.state B.machine D.records (running_of self.old) (happens.TypeByte port byte) result
             (running_of self.new) }
         ensures disk { self.new.disk ≡ self.old.disk }
+        ensures spares { SpareHostsStay self.old.hosts.items self.new.hosts.items }
     {
         devices::type_byte(&mut self.terminals, port, byte)
     }
@@ -30,6 +32,7 @@ impl<B: Lockstep + Drop, D: SectorStore, H: Drop> Pair<B, D, H> {
         ensures row { Happens B.state B.machine D.records (running_of self.old) (happens.Release node id) result
             (running_of self.new) }
         ensures disk { self.new.disk ≡ self.old.disk }
+        ensures spares { SpareHostsStay self.old.hosts.items self.new.hosts.items }
     {
         devices::check_device(id)?;
         let operation = hosts::release(&self.hosts, node, id)?;
@@ -41,6 +44,7 @@ impl<B: Lockstep + Drop, D: SectorStore, H: Drop> Pair<B, D, H> {
         ensures row { Happens B.state B.machine D.records (running_of self.old) (happens.Arrive message) result
             (running_of self.new) }
         ensures disk { self.new.disk ≡ self.old.disk }
+        ensures spares { SpareHostsStay self.old.hosts.items self.new.hosts.items }
     {
         let Some((port, number, byte)) = messages::byte_in(&self.messages, message) else {
             return Err(Fault::Unknown);
@@ -54,6 +58,7 @@ impl<B: Lockstep + Drop, D: SectorStore, H: Drop> Pair<B, D, H> {
         ensures row { Happens B.state B.machine D.records (running_of self.old) (happens.TellSent node port number)
             result (running_of self.new) }
         ensures disk { self.new.disk ≡ self.old.disk }
+        ensures spares { SpareHostsStay self.old.hosts.items self.new.hosts.items }
     {
         devices::check_accepted(&self.terminals, port, number)?;
         hosts::sent(&mut self.hosts, node, port, number)?;
@@ -65,6 +70,7 @@ impl<B: Lockstep + Drop, D: SectorStore, H: Drop> Pair<B, D, H> {
         ensures row { Happens B.state B.machine D.records (running_of self.old) (happens.Told node port) result
             (running_of self.new) }
         ensures disk { self.new.disk ≡ self.old.disk }
+        ensures spares { SpareHostsStay self.old.hosts.items self.new.hosts.items }
     {
         if port as usize >= PORTS {
             return Err(Fault::Unknown);
@@ -79,6 +85,7 @@ impl<B: Lockstep + Drop, D: SectorStore, H: Drop> Pair<B, D, H> {
         ensures row { Happens B.state B.machine D.records (running_of self.old) (happens.Put message) result
             (running_of self.new) }
         ensures counted { D.failures self.new.disk ≡ D.failures self.old.disk + faults_in result }
+        ensures spares { SpareHostsStay self.old.hosts.items self.new.hosts.items }
     {
         let Some(write) = messages::write_in(&self.messages, message) else {
             return Err(Fault::Unknown);
@@ -92,6 +99,7 @@ impl<B: Lockstep + Drop, D: SectorStore, H: Drop> Pair<B, D, H> {
         ensures row { Happens B.state B.machine D.records (running_of self.old) (happens.PutReply message node) result
             (running_of self.new) }
         ensures disk { self.new.disk ≡ self.old.disk }
+        ensures spares { SpareHostsStay self.old.hosts.items self.new.hosts.items }
     {
         let Some(number) = messages::written_in(&self.messages, message) else {
             return Err(Fault::Unknown);
@@ -106,6 +114,7 @@ impl<B: Lockstep + Drop, D: SectorStore, H: Drop> Pair<B, D, H> {
             (running_of self.new) }
         ensures counted { ShowsSome B.state B.machine D.records (running_of self.old)
             → D.failures self.new.disk ≡ D.failures self.old.disk + faults_in result }
+        ensures spares { SpareHostsStay self.old.hosts.items self.new.hosts.items }
     {
         if sector >= SECTORS {
             return Err(Fault::Unknown);
@@ -120,6 +129,7 @@ impl<B: Lockstep + Drop, D: SectorStore, H: Drop> Pair<B, D, H> {
         ensures row { Happens B.state B.machine D.records (running_of self.old) (happens.GetReply message node) result
             (running_of self.new) }
         ensures disk { self.new.disk ≡ self.old.disk }
+        ensures spares { SpareHostsStay self.old.hosts.items self.new.hosts.items }
     {
         let Some(read) = messages::sector_in(&self.messages, message) else {
             return Err(Fault::Unknown);

@@ -1,5 +1,5 @@
 //! What an event does at one host: a spare one has no part in any.
-ghost use Rattle.std.specs.Prelude.{◌<◌, Some};
+ghost use Rattle.std.specs.Prelude.{◌≡◌, ◌<◌, Some};
 ghost use Rattle.disk_dcdd.specs.declared.controller.TheConstants.{DRIVES};
 ghost use Rattle.disk_dcdd.specs.declared.sector.TheConstants.{SECTORS};
 ghost use Rattle.event_callbacks.specs.declared.devices.TheConstants.{PORTS};
@@ -12,6 +12,7 @@ ghost use Rattle.pair_protocol.specs.Refusals as refusals;
 ghost use Rattle.ft_world.specs.AtHost.{AsksStation, AtStation, DoesAtStation, HostMayReplay, HostMayRun};
 ghost use Rattle.ft_world.specs.Does as does;
 ghost use Rattle.ft_world.specs.Shows.{IsHost};
+ghost use Rattle.ft_world.specs.Staying.{spare_of};
 
 use crate::hosts::Host;
 use arbiter_core::{Arbiter, Won};
@@ -26,9 +27,10 @@ impl<B: Lockstep + Drop, H: Drop> Host<B, H> {
         requires counts { Counts B.machine }
         requires operations { ComesAndGoes B.machine }
         requires few { HostMayRun B.state B.machine self.old }
-        ensures { (x : protocol.Node B.State) → IsHost B.state B.machine self.old x
+        ensures answer { (x : protocol.Node B.State) → IsHost B.state B.machine self.old x
             → AtStation (refusals.at_node (Some x) (refusals.step_refusal B.machine turns)) result x
             (IsHost B.state B.machine self.new) (does.Stepped B.machine turns) }
+        ensures spare { spare_of self.new ≡ spare_of self.old }
     {
         match self {
             Host::Node(station) => station.step(turns),
@@ -40,9 +42,10 @@ impl<B: Lockstep + Drop, H: Drop> Host<B, H> {
         requires counts { Counts B.machine }
         requires operations { ComesAndGoes B.machine }
         requires port { port < PORTS }
-        ensures { (x : protocol.Node B.State) → IsHost B.state B.machine self.old x
+        ensures answer { (x : protocol.Node B.State) → IsHost B.state B.machine self.old x
             → AtStation (refusals.at_node (Some x) (refusals.key_refusal B.machine port index)) result x
             (IsHost B.state B.machine self.new) (does.Took B.machine (input.Rx port byte)) }
+        ensures spare { spare_of self.new ≡ spare_of self.old }
     {
         match self {
             Host::Node(station) => station.key(port, index, byte),
@@ -54,9 +57,10 @@ impl<B: Lockstep + Drop, H: Drop> Host<B, H> {
         requires counts { Counts B.machine }
         requires operations { ComesAndGoes B.machine }
         requires port { port < PORTS }
-        ensures { (x : protocol.Node B.State) → IsHost B.state B.machine self.old x
+        ensures answer { (x : protocol.Node B.State) → IsHost B.state B.machine self.old x
             → AtStation (refusals.at_node (Some x) (refusals.sent_refusal B.machine port number)) result x
             (IsHost B.state B.machine self.new) (does.Took B.machine (input.Sent port)) }
+        ensures spare { spare_of self.new ≡ spare_of self.old }
     {
         match self {
             Host::Node(station) => station.sent(port, number),
@@ -67,9 +71,10 @@ impl<B: Lockstep + Drop, H: Drop> Host<B, H> {
     pub(crate) fn done(&mut self, number: u64) -> R<()>
         requires counts { Counts B.machine }
         requires operations { ComesAndGoes B.machine }
-        ensures { (x : protocol.Node B.State) → IsHost B.state B.machine self.old x
+        ensures answer { (x : protocol.Node B.State) → IsHost B.state B.machine self.old x
             → AtStation (refusals.at_node (Some x) (refusals.done_refusal B.machine number)) result x
             (IsHost B.state B.machine self.new) (does.Took B.machine (input.Written number)) }
+        ensures spare { spare_of self.new ≡ spare_of self.old }
     {
         match self {
             Host::Node(station) => station.done(number),
@@ -87,10 +92,11 @@ impl<B: Lockstep + Drop, H: Drop> Host<B, H> {
         requires operations { ComesAndGoes B.machine }
         requires drive { address.drive < DRIVES }
         requires sector { address.sector < SECTORS }
-        ensures { (x : protocol.Node B.State) → IsHost B.state B.machine self.old x
+        ensures answer { (x : protocol.Node B.State) → IsHost B.state B.machine self.old x
             → AtStation (refusals.at_node (Some x) (refusals.under_refusal B.machine address number bytes)) result x
             (IsHost B.state B.machine self.new)
             (does.Took B.machine (input.Sector address.drive address.sector number bytes)) }
+        ensures spare { spare_of self.new ≡ spare_of self.old }
     {
         match self {
             Host::Node(station) => station.under(address, number, bytes),
@@ -99,9 +105,10 @@ impl<B: Lockstep + Drop, H: Drop> Host<B, H> {
     }
 
     pub(crate) fn on_log(&mut self, bytes: &[u8]) -> R<bool>
-        ensures { (x : protocol.Node B.State) → IsHost B.state B.machine self.old x
+        ensures answer { (x : protocol.Node B.State) → IsHost B.state B.machine self.old x
             → AtStation (refusals.at_node (Some x) (does.log_packet_refusal (packet_at bytes.now))) result x
             (IsHost B.state B.machine self.new) (does.Held (packet_at bytes.now)) }
+        ensures spare { spare_of self.new ≡ spare_of self.old }
     {
         match self {
             Host::Node(station) => station.on_log(bytes),
@@ -110,9 +117,10 @@ impl<B: Lockstep + Drop, H: Drop> Host<B, H> {
     }
 
     pub(crate) fn on_ack(&mut self, bytes: &[u8]) -> R<u64>
-        ensures { (x : protocol.Node B.State) → IsHost B.state B.machine self.old x
+        ensures answer { (x : protocol.Node B.State) → IsHost B.state B.machine self.old x
             → DoesAtStation (refusals.at_node (Some x) (does.ack_packet_refusal (packet_at bytes.now))) result x
             (IsHost B.state B.machine self.new) (does.Heard (packet_at bytes.now)) }
+        ensures spare { spare_of self.new ≡ spare_of self.old }
     {
         match self {
             Host::Node(station) => station.on_ack(bytes),
@@ -123,9 +131,10 @@ impl<B: Lockstep + Drop, H: Drop> Host<B, H> {
     pub(crate) fn replay(&mut self, turns: u64) -> R<Replayed>
         requires counts { Counts B.machine }
         requires on_trace { HostMayReplay B.state B.machine self.old }
-        ensures { (x : protocol.Node B.State) → IsHost B.state B.machine self.old x
+        ensures answer { (x : protocol.Node B.State) → IsHost B.state B.machine self.old x
             → AtStation (refusals.at_node (Some x) refusals.replay_refusal) result x
             (IsHost B.state B.machine self.new) (does.Repeated B.machine turns) }
+        ensures spare { spare_of self.new ≡ spare_of self.old }
     {
         match self {
             Host::Node(station) => station.replay(turns),
@@ -136,9 +145,10 @@ impl<B: Lockstep + Drop, H: Drop> Host<B, H> {
     pub(crate) fn drain(&mut self, turns: u64) -> R<Drained>
         requires counts { Counts B.machine }
         requires on_trace { HostMayReplay B.state B.machine self.old }
-        ensures { (x : protocol.Node B.State) → IsHost B.state B.machine self.old x
+        ensures answer { (x : protocol.Node B.State) → IsHost B.state B.machine self.old x
             → AtStation (refusals.at_node (Some x) refusals.drain_refusal) result x
             (IsHost B.state B.machine self.new) (does.Emptied B.machine turns) }
+        ensures spare { spare_of self.new ≡ spare_of self.old }
     {
         match self {
             Host::Node(station) => station.drain(turns),
@@ -147,9 +157,10 @@ impl<B: Lockstep + Drop, H: Drop> Host<B, H> {
     }
 
     pub(crate) fn stop(&mut self) -> R<()>
-        ensures { (x : protocol.Node B.State) → IsHost B.state B.machine self.old x
+        ensures answer { (x : protocol.Node B.State) → IsHost B.state B.machine self.old x
             → DoesAtStation (refusals.at_node (Some x) refusals.stop_refusal) result x
             (IsHost B.state B.machine self.new) does.Halted }
+        ensures spare { spare_of self.new ≡ spare_of self.old }
     {
         match self {
             Host::Node(station) => station.stop(),
@@ -158,8 +169,9 @@ impl<B: Lockstep + Drop, H: Drop> Host<B, H> {
     }
 
     pub(crate) fn suspect(&mut self, id: u64, arbiter: &mut Arbiter) -> R<Won>
-        ensures { (x : protocol.Node B.State) → IsHost B.state B.machine self.old x
+        ensures answer { (x : protocol.Node B.State) → IsHost B.state B.machine self.old x
             → AsksStation arbiter.old id x result arbiter.new (IsHost B.state B.machine self.new) }
+        ensures spare { spare_of self.new ≡ spare_of self.old }
     {
         match self {
             Host::Node(station) => station.suspect(id, arbiter),

@@ -15,9 +15,9 @@ ghost use Rattle.i8080_words.specs.declared.refusal.Fault.TheVariants.{OutOfMemo
 ghost use Rattle.ft_world.specs.declared.hosts.Host.TheVariants as host;
 ghost use Rattle.ft_world.specs.Does as does;
 ghost use Rattle.ft_world.specs.Shows.{AreHosts, IsStatusAt};
-ghost use Rattle.ft_world.specs.Standing.{Course, machine_of};
-ghost use Rattle.pair_protocol.specs.World.{opening};
+ghost use Rattle.ft_world.specs.Staying.{SpareHostsStay};
 
+use crate::input_list::Inputs;
 use arbiter_core::{Arbiter, Won};
 use disk_dcdd::{SECTOR_BYTES, SectorAddress};
 use event_callbacks::{OpId, Operation};
@@ -34,7 +34,7 @@ use std::alloc::Global;
 #[derive(Drop)]
 pub struct Station<B> {
     pub(crate) node: Node<B>,
-    pub(crate) inputs: Vec<Timed>,
+    pub(crate) inputs: Inputs,
     pub(crate) count: u64,
 }
 
@@ -55,26 +55,6 @@ pub enum Host<B, H> {
     Spare(H),
 }
 
-/// The primary and the backup of generation 1, with these guests.
-pub(crate) fn opening<B: Lockstep + Drop, H: Drop>(
-    alloc: Global,
-    primary: B,
-    backup: B,
-) -> R<Vec<Host<B, H>>>
-    ensures ok { IfOk result (λ hosts. (c : Course B.State) → B.state primary ≡ c.boot → B.state backup ≡ c.boot
-        → B.machine.count c.boot ≡ 0 → AreHosts B.state B.machine hosts.items (opening (machine_of B.machine c)).nodes) }
-    ensures full { IfErr result (λ fault. fault ≡ OutOfMemory) }
-{
-    let mut hosts = Vec::with_capacity(alloc, 2)?;
-    let primary = match Node::primary(alloc, primary, 1) {
-        Ok(primary) => primary,
-        Err((_, fault)) => return Err(fault),
-    };
-    hosts.push(Host::Node(Station::new(alloc, primary)))?;
-    hosts.push(Host::Node(Station::new(alloc, Node::backup(alloc, backup, 1))))?;
-    Ok(hosts)
-}
-
 /// The machine of a node makes at most `turns` steps, up to the first that gives an operation. `Unknown` where
 /// there is no node of that number; else as the node refuses it.
 pub(crate) fn step<B: Lockstep + Drop, H: Drop>(
@@ -85,9 +65,10 @@ pub(crate) fn step<B: Lockstep + Drop, H: Drop>(
     requires counts { Counts B.machine }
     requires operations { ComesAndGoes B.machine }
     requires few { AllMayRun B.state B.machine hosts.old.items }
-    ensures { (nodes : List (protocol.Node B.State)) → AreHosts B.state B.machine hosts.old.items nodes
+    ensures answer { (nodes : List (protocol.Node B.State)) → AreHosts B.state B.machine hosts.old.items nodes
         → AtHost B.state B.machine nodes node (refusals.step_refusal B.machine turns) result hosts.new.items
         (does.Stepped B.machine turns) }
+    ensures spares { SpareHostsStay hosts.old.items hosts.new.items }
 {
     match hosts.get_mut(node as usize) {
         Some(host) => host.step(turns),
@@ -107,9 +88,10 @@ pub(crate) fn key<B: Lockstep + Drop, H: Drop>(
     requires counts { Counts B.machine }
     requires operations { ComesAndGoes B.machine }
     requires port { port < PORTS }
-    ensures { (nodes : List (protocol.Node B.State)) → AreHosts B.state B.machine hosts.old.items nodes
+    ensures answer { (nodes : List (protocol.Node B.State)) → AreHosts B.state B.machine hosts.old.items nodes
         → AtHost B.state B.machine nodes node (refusals.key_refusal B.machine port index) result hosts.new.items
         (does.Took B.machine (input.Rx port byte)) }
+    ensures spares { SpareHostsStay hosts.old.items hosts.new.items }
 {
     match hosts.get_mut(node as usize) {
         Some(host) => host.key(port, index, byte),
@@ -128,9 +110,10 @@ pub(crate) fn sent<B: Lockstep + Drop, H: Drop>(
     requires counts { Counts B.machine }
     requires operations { ComesAndGoes B.machine }
     requires port { port < PORTS }
-    ensures { (nodes : List (protocol.Node B.State)) → AreHosts B.state B.machine hosts.old.items nodes
+    ensures answer { (nodes : List (protocol.Node B.State)) → AreHosts B.state B.machine hosts.old.items nodes
         → AtHost B.state B.machine nodes node (refusals.sent_refusal B.machine port number) result hosts.new.items
         (does.Took B.machine (input.Sent port)) }
+    ensures spares { SpareHostsStay hosts.old.items hosts.new.items }
 {
     match hosts.get_mut(node as usize) {
         Some(host) => host.sent(port, number),
@@ -147,9 +130,10 @@ pub(crate) fn done<B: Lockstep + Drop, H: Drop>(
 ) -> R<()>
     requires counts { Counts B.machine }
     requires operations { ComesAndGoes B.machine }
-    ensures { (nodes : List (protocol.Node B.State)) → AreHosts B.state B.machine hosts.old.items nodes
+    ensures answer { (nodes : List (protocol.Node B.State)) → AreHosts B.state B.machine hosts.old.items nodes
         → AtHost B.state B.machine nodes node (refusals.done_refusal B.machine number) result hosts.new.items
         (does.Took B.machine (input.Written number)) }
+    ensures spares { SpareHostsStay hosts.old.items hosts.new.items }
 {
     match hosts.get_mut(node as usize) {
         Some(host) => host.done(number),
@@ -170,9 +154,10 @@ pub(crate) fn under<B: Lockstep + Drop, H: Drop>(
     requires operations { ComesAndGoes B.machine }
     requires drive { address.drive < DRIVES }
     requires sector { address.sector < SECTORS }
-    ensures { (nodes : List (protocol.Node B.State)) → AreHosts B.state B.machine hosts.old.items nodes
+    ensures answer { (nodes : List (protocol.Node B.State)) → AreHosts B.state B.machine hosts.old.items nodes
         → AtHost B.state B.machine nodes node (refusals.under_refusal B.machine address number bytes) result
         hosts.new.items (does.Took B.machine (input.Sector address.drive address.sector number bytes)) }
+    ensures spares { SpareHostsStay hosts.old.items hosts.new.items }
 {
     match hosts.get_mut(node as usize) {
         Some(host) => host.under(address, number, bytes),
@@ -187,9 +172,10 @@ pub(crate) fn on_log<B: Lockstep + Drop, H: Drop>(
     node: u64,
     bytes: &[u8],
 ) -> R<bool>
-    ensures { (nodes : List (protocol.Node B.State)) → AreHosts B.state B.machine hosts.old.items nodes
+    ensures answer { (nodes : List (protocol.Node B.State)) → AreHosts B.state B.machine hosts.old.items nodes
         → AtHost B.state B.machine nodes node (does.log_packet_refusal (packet_at bytes.now)) result hosts.new.items
         (does.Held (packet_at bytes.now)) }
+    ensures spares { SpareHostsStay hosts.old.items hosts.new.items }
 {
     match hosts.get_mut(node as usize) {
         Some(host) => host.on_log(bytes),
@@ -204,9 +190,10 @@ pub(crate) fn on_ack<B: Lockstep + Drop, H: Drop>(
     node: u64,
     bytes: &[u8],
 ) -> R<u64>
-    ensures { (nodes : List (protocol.Node B.State)) → AreHosts B.state B.machine hosts.old.items nodes
+    ensures answer { (nodes : List (protocol.Node B.State)) → AreHosts B.state B.machine hosts.old.items nodes
         → DoesAtHost B.state B.machine nodes node (does.ack_packet_refusal (packet_at bytes.now)) result hosts.new.items
         (does.Heard (packet_at bytes.now)) }
+    ensures spares { SpareHostsStay hosts.old.items hosts.new.items }
 {
     match hosts.get_mut(node as usize) {
         Some(host) => host.on_ack(bytes),
@@ -223,9 +210,10 @@ pub(crate) fn replay<B: Lockstep + Drop, H: Drop>(
 ) -> R<Replayed>
     requires counts { Counts B.machine }
     requires on_trace { AllMayReplay B.state B.machine hosts.old.items }
-    ensures { (nodes : List (protocol.Node B.State)) → AreHosts B.state B.machine hosts.old.items nodes
+    ensures answer { (nodes : List (protocol.Node B.State)) → AreHosts B.state B.machine hosts.old.items nodes
         → AtHost B.state B.machine nodes node refusals.replay_refusal result hosts.new.items
         (does.Repeated B.machine turns) }
+    ensures spares { SpareHostsStay hosts.old.items hosts.new.items }
 {
     match hosts.get_mut(node as usize) {
         Some(host) => host.replay(turns),
@@ -242,9 +230,10 @@ pub(crate) fn drain<B: Lockstep + Drop, H: Drop>(
 ) -> R<Drained>
     requires counts { Counts B.machine }
     requires on_trace { AllMayReplay B.state B.machine hosts.old.items }
-    ensures { (nodes : List (protocol.Node B.State)) → AreHosts B.state B.machine hosts.old.items nodes
+    ensures answer { (nodes : List (protocol.Node B.State)) → AreHosts B.state B.machine hosts.old.items nodes
         → AtHost B.state B.machine nodes node refusals.drain_refusal result hosts.new.items
         (does.Emptied B.machine turns) }
+    ensures spares { SpareHostsStay hosts.old.items hosts.new.items }
 {
     match hosts.get_mut(node as usize) {
         Some(host) => host.drain(turns),
@@ -254,9 +243,10 @@ pub(crate) fn drain<B: Lockstep + Drop, H: Drop>(
 
 /// A node halts. `Unknown` where there is no node of that number; else as the node refuses it.
 pub(crate) fn stop<B: Lockstep + Drop, H: Drop>(hosts: &mut Vec<Host<B, H>>, node: u64) -> R<()>
-    ensures { (nodes : List (protocol.Node B.State)) → AreHosts B.state B.machine hosts.old.items nodes
+    ensures answer { (nodes : List (protocol.Node B.State)) → AreHosts B.state B.machine hosts.old.items nodes
         → DoesAtHost B.state B.machine nodes node refusals.stop_refusal result hosts.new.items
         does.Halted }
+    ensures spares { SpareHostsStay hosts.old.items hosts.new.items }
 {
     match hosts.get_mut(node as usize) {
         Some(host) => host.stop(),
@@ -271,8 +261,9 @@ pub(crate) fn suspect<B: Lockstep + Drop, H: Drop>(
     node: u64,
     arbiter: &mut Arbiter,
 ) -> R<Won>
-    ensures { (nodes : List (protocol.Node B.State)) → AreHosts B.state B.machine hosts.old.items nodes
+    ensures answer { (nodes : List (protocol.Node B.State)) → AreHosts B.state B.machine hosts.old.items nodes
         → AsksHost B.state B.machine nodes node arbiter.old result hosts.new.items arbiter.new }
+    ensures spares { SpareHostsStay hosts.old.items hosts.new.items }
 {
     match hosts.get_mut(node as usize) {
         Some(host) => host.suspect(node, arbiter),
@@ -383,10 +374,10 @@ pub(crate) fn settled<B: Lockstep + Drop, H: Drop>(
     node: u64,
 ) -> (&[Timed], u64)
     ensures { (station : Station B) → slice_get hosts.now node ≡ Some (host.Node station)
-        → (result.0.now ≡ station.inputs.items) × (result.1 ≡ station.count) }
+        → (result.0.now ≡ station.inputs) × (result.1 ≡ station.count) }
 {
     match hosts.get(node as usize) {
-        Some(Host::Node(station)) => (&station.inputs, station.count),
+        Some(Host::Node(station)) => (station.inputs.as_slice(), station.count),
         Some(Host::Spare(_)) => (&[], 0),
         None => (&[], 0),
     }

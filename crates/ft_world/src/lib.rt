@@ -6,12 +6,14 @@ mod device_events;
 mod devices;
 mod host;
 mod hosts;
+mod input_list;
 mod laws;
 mod message;
 mod messages;
 mod node_events;
 mod pair;
 mod readers;
+mod room;
 mod station;
 #[cfg(test)]
 mod tests;

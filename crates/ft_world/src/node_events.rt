@@ -2,6 +2,7 @@
 ghost use Rattle.std.specs.Prelude.{◌≡◌};
 ghost use Rattle.ft_world.specs.Applies.{Happens, ShowsSome};
 ghost use Rattle.ft_world.specs.Pairs.{running_of};
+ghost use Rattle.ft_world.specs.Staying.{SpareHostsStay};
 ghost use Rattle.pair_events.specs.declared.event.Event.TheVariants as happens;
 
 use crate::message::Message;
@@ -20,6 +21,7 @@ impl<B: Lockstep + Drop, D: SectorStore, H: Drop> Pair<B, D, H> {
         ensures row { Happens B.state B.machine D.records (running_of self.old) (happens.Step node turns) result
             (running_of self.new) }
         ensures disk { self.new.disk ≡ self.old.disk }
+        ensures spares { SpareHostsStay self.old.hosts.items self.new.hosts.items }
     {
         let ran = hosts::step(&mut self.hosts, node, turns)?;
         Ok(Reply::Ran {
@@ -35,6 +37,7 @@ impl<B: Lockstep + Drop, D: SectorStore, H: Drop> Pair<B, D, H> {
         ensures row { Happens B.state B.machine D.records (running_of self.old) (happens.TakeKey node port index) result
             (running_of self.new) }
         ensures disk { self.new.disk ≡ self.old.disk }
+        ensures spares { SpareHostsStay self.old.hosts.items self.new.hosts.items }
     {
         let byte = devices::key_at(&self.terminals, port, index)?;
         hosts::key(&mut self.hosts, node, port, index, byte)?;
@@ -46,6 +49,7 @@ impl<B: Lockstep + Drop, D: SectorStore, H: Drop> Pair<B, D, H> {
         ensures row { Happens B.state B.machine D.records (running_of self.old) (happens.Send node index) result
             (running_of self.new) }
         ensures disk { self.new.disk ≡ self.old.disk }
+        ensures spares { SpareHostsStay self.old.hosts.items self.new.hosts.items }
     {
         let bytes = hosts::packet(alloc, &self.hosts, node, index)?;
         messages::say(&mut self.messages, Message::Log(bytes))
@@ -56,6 +60,7 @@ impl<B: Lockstep + Drop, D: SectorStore, H: Drop> Pair<B, D, H> {
         ensures row { Happens B.state B.machine D.records (running_of self.old) (happens.DeliverLog message node) result
             (running_of self.new) }
         ensures disk { self.new.disk ≡ self.old.disk }
+        ensures spares { SpareHostsStay self.old.hosts.items self.new.hosts.items }
     {
         let Some(packet) = messages::log_in(&self.messages, message) else {
             return Err(Fault::Unknown);
@@ -72,6 +77,7 @@ impl<B: Lockstep + Drop, D: SectorStore, H: Drop> Pair<B, D, H> {
         ensures row { Happens B.state B.machine D.records (running_of self.old) (happens.Acknowledge node) result
             (running_of self.new) }
         ensures disk { self.new.disk ≡ self.old.disk }
+        ensures spares { SpareHostsStay self.old.hosts.items self.new.hosts.items }
     {
         let bytes = hosts::ack(alloc, &self.hosts, node)?;
         messages::say(&mut self.messages, Message::Ack(bytes))
@@ -82,6 +88,7 @@ impl<B: Lockstep + Drop, D: SectorStore, H: Drop> Pair<B, D, H> {
         ensures row { Happens B.state B.machine D.records (running_of self.old)
             (happens.DeliverAcknowledgement message node) result (running_of self.new) }
         ensures disk { self.new.disk ≡ self.old.disk }
+        ensures spares { SpareHostsStay self.old.hosts.items self.new.hosts.items }
     {
         let Some(packet) = messages::ack_in(&self.messages, message) else {
             return Err(Fault::Unknown);
@@ -96,6 +103,7 @@ impl<B: Lockstep + Drop, D: SectorStore, H: Drop> Pair<B, D, H> {
         ensures row { Happens B.state B.machine D.records (running_of self.old) (happens.Replay node turns) result
             (running_of self.new) }
         ensures disk { self.new.disk ≡ self.old.disk }
+        ensures spares { SpareHostsStay self.old.hosts.items self.new.hosts.items }
     {
         let replayed = hosts::replay(&mut self.hosts, node, turns)?;
         Ok(Reply::Moved {
@@ -109,6 +117,7 @@ impl<B: Lockstep + Drop, D: SectorStore, H: Drop> Pair<B, D, H> {
         ensures row { Happens B.state B.machine D.records (running_of self.old) (happens.Suspect node) result
             (running_of self.new) }
         ensures disk { self.new.disk ≡ self.old.disk }
+        ensures spares { SpareHostsStay self.old.hosts.items self.new.hosts.items }
     {
         hosts::suspect(&mut self.hosts, node, &mut self.arbiter)?;
         Ok(Reply::Won)
@@ -120,6 +129,7 @@ impl<B: Lockstep + Drop, D: SectorStore, H: Drop> Pair<B, D, H> {
         ensures row { Happens B.state B.machine D.records (running_of self.old) (happens.Drain node turns) result
             (running_of self.new) }
         ensures disk { self.new.disk ≡ self.old.disk }
+        ensures spares { SpareHostsStay self.old.hosts.items self.new.hosts.items }
     {
         let drained = hosts::drain(&mut self.hosts, node, turns)?;
         let moves = drained.moves;
@@ -138,6 +148,7 @@ impl<B: Lockstep + Drop, D: SectorStore, H: Drop> Pair<B, D, H> {
         ensures row { Happens B.state B.machine D.records (running_of self.old) (happens.Stop node) result
             (running_of self.new) }
         ensures disk { self.new.disk ≡ self.old.disk }
+        ensures spares { SpareHostsStay self.old.hosts.items self.new.hosts.items }
     {
         hosts::stop(&mut self.hosts, node)?;
         Ok(Reply::Stopped)

@@ -1,15 +1,18 @@
 //! A pair with all that it shares, how it begins, and the events that come to it.
-ghost use Rattle.std.specs.Prelude.{◌≡◌, length, IfErr, IfOk, OnErr, OnOk};
+ghost use Rattle.std.specs.Prelude.{◌≡◌, ◌+◌, [], ◌∷◌, ◌++◌, length, IfErr, IfOk, OnErr, OnOk};
 ghost use Rattle.i8080_words.specs.declared.refusal.Fault.TheVariants.{OutOfMemory};
 ghost use Rattle.pair_protocol.specs.World.{with_host};
-ghost use Rattle.ft_world.specs.Applies.{CountsFailures, Happens, Runs, Shows, ShowsSome};
+ghost use Rattle.ft_world.specs.Applies.{Happens, IsFaithful, Runs, Shows, ShowsSome};
+ghost use Rattle.ft_world.specs.Applies.{failures_over, failures_told};
 ghost use Rattle.ft_world.specs.Beginning.{MayBegin, beginning};
 ghost use Rattle.ft_world.specs.Standing.{Course, machine_of};
 ghost use Rattle.ft_world.specs.Pairs.{running_of};
+ghost use Rattle.ft_world.specs.Staying.{SpareHostsStay};
+ghost use Rattle.ft_world.specs.declared.hosts.Host.TheVariants as host;
 
-use crate::hosts;
 use crate::hosts::Host;
 use crate::message::Message;
+use crate::room::Room;
 use arbiter_core::Arbiter;
 use event_callbacks::PORTS;
 use guest_board::Lockstep;
@@ -33,29 +36,26 @@ pub(crate) struct Pair<B: Lockstep + Drop, D: SectorStore, H: Drop> {
 }
 
 impl<B: Lockstep + Drop, D: SectorStore, H: Drop> Pair<B, D, H> {
-    /// A pair with these guests and this disk. `OutOfMemory` hands the disk's store back.
+    /// A pair with these guests and this disk. It takes no further memory.
     pub(crate) fn begin(
         alloc: Global,
+        room: Room<B, H>,
         primary: B,
         backup: B,
         store: D,
-    ) -> Result<Pair<B, D, H>, (D, Fault)>
+    ) -> Pair<B, D, H>
         requires may { MayBegin B.state B.machine D.records primary backup store }
-        ensures ok { IfOk result (λ pair. Shows B.state B.machine D.records (running_of pair)
-            (beginning B.machine (B.state primary) (D.records store))) }
-        ensures full { IfErr result (λ refused. (refused.0 ≡ store) × (refused.1 ≡ OutOfMemory)) }
+        ensures { Shows B.state B.machine D.records (running_of result)
+            (beginning B.machine (B.state primary) (D.records store)) }
     {
-        match hosts::opening(alloc, primary, backup) {
-            Ok(hosts) => Ok(Pair {
-                hosts,
-                messages: Vec::new(alloc),
-                terminals: [Terminal::new(alloc), Terminal::new(alloc)],
-                arbiter: Arbiter::new(alloc),
-                disk: SharedDisk::new(store),
-                generation: 1,
-                backup: 1,
-            }),
-            Err(fault) => Err((store, fault)),
+        Pair {
+            hosts: room.begin(alloc, primary, backup),
+            messages: Vec::new(alloc),
+            terminals: [Terminal::new(alloc), Terminal::new(alloc)],
+            arbiter: Arbiter::new(alloc),
+            disk: SharedDisk::new(store),
+            generation: 1,
+            backup: 1,
         }
     }
 
@@ -63,7 +63,8 @@ impl<B: Lockstep + Drop, D: SectorStore, H: Drop> Pair<B, D, H> {
     pub(crate) fn apply(&mut self, alloc: Global, event: Event) -> R<Reply>
         requires shown { ShowsSome B.state B.machine D.records (running_of self.old) }
         ensures row { Happens B.state B.machine D.records (running_of self.old) event result (running_of self.new) }
-        ensures counted { CountsFailures event (D.failures self.old.disk) result (D.failures self.new.disk) }
+        ensures counted { D.failures self.new.disk ≡ D.failures self.old.disk + failures_told event result }
+        ensures spares { SpareHostsStay self.old.hosts.items self.new.hosts.items }
     {
         match event {
             Event::Step { node, turns } => self.step(node, turns),
@@ -96,6 +97,9 @@ impl<B: Lockstep + Drop, D: SectorStore, H: Drop> Pair<B, D, H> {
         ensures ok { IfOk result (λ answers. (c : Course B.State)
             → Shows B.state B.machine D.records (running_of self.old) c
             → Runs B.state B.machine D.records c events.now answers.items (running_of self.new)) }
+        ensures counted { IfOk result (λ answers. D.failures self.new.disk
+            ≡ D.failures self.old.disk + failures_over events.now answers.items) }
+        ensures spares { SpareHostsStay self.old.hosts.items self.new.hosts.items }
         ensures full { IfErr result (λ fault. fault ≡ OutOfMemory) }
         ensures unchanged { OnErr result (running_of self.new ≡ running_of self.old) }
     {
@@ -110,21 +114,26 @@ impl<B: Lockstep + Drop, D: SectorStore, H: Drop> Pair<B, D, H> {
         Ok(answers)
     }
 
-    /// A host without a role comes; the answer is its number. `OutOfMemory` hands its means back.
-    pub(crate) fn host(&mut self, means: H) -> Result<u64, (H, Fault)>
+    /// A host without a role comes; the answer is its number. `OutOfMemory` hands its resources back.
+    pub(crate) fn host(&mut self, resources: H) -> Result<u64, (H, Fault)>
         ensures ok { OnOk result ((c : Course B.State) → Shows B.state B.machine D.records (running_of self.old) c
             → Shows B.state B.machine D.records (running_of self.new)
             (record c { world = with_host (machine_of B.machine c) c.world })) }
+        ensures faithful { OnOk result ((c : Course B.State)
+            → Shows B.state B.machine D.records (running_of self.old) c
+            → IsFaithful B.machine (record c { world = with_host (machine_of B.machine c) c.world })) }
+        ensures others { OnOk result (running_of self.new
+            ≡ record (running_of self.old) { hosts = self.old.hosts.items ++ host.Spare resources ∷ [] }) }
         ensures number { IfOk result (λ number. number ≡ length self.old.hosts.items) }
-        ensures refused { IfErr result (λ refusal. (refusal.0 ≡ means) × (refusal.1 ≡ OutOfMemory)) }
+        ensures refused { IfErr result (λ refusal. (refusal.0 ≡ resources) × (refusal.1 ≡ OutOfMemory)) }
         ensures unchanged { OnErr result (running_of self.new ≡ running_of self.old) }
     {
         match self.hosts.reserve(1) {
-            Ok(()) => {}
-            Err(_) => return Err((means, Fault::OutOfMemory)),
+            Ok(()) => (),
+            Err(_) => return Err((resources, Fault::OutOfMemory)),
         }
         let number = self.hosts.len() as u64;
-        match self.hosts.push(Host::Spare(means)) {
+        match self.hosts.push(Host::Spare(resources)) {
             Ok(()) => Ok(number),
             Err(_) => unreachable!(),
         }

@@ -1,12 +1,10 @@
 //! What an event does at a station.
-ghost use Rattle.std.specs.Prelude.{◌≡◌, ◌+◌, ◌<◌, ◌≤◌, [], ◌∷◌, ◌++◌, vec_capacity, vec_len};
-ghost use Rattle.std.specs.Prelude.{if◌then◌else◌};
+ghost use Rattle.std.specs.Prelude.{◌≡◌, ◌<◌, [], if◌then◌else◌};
 ghost use Rattle.disk_dcdd.specs.declared.controller.TheConstants.{DRIVES};
 ghost use Rattle.disk_dcdd.specs.declared.sector.TheConstants.{SECTORS};
 ghost use Rattle.event_callbacks.specs.declared.devices.TheConstants.{PORTS};
 ghost use Rattle.guest_board.specs.declared.input.Input.TheVariants as input;
 ghost use Rattle.log_channel.specs.Packet.{packet_at};
-ghost use Rattle.log_entry.specs.Entries.{count_of, timed_in, timed_of};
 ghost use Rattle.pair_protocol.specs.Node as protocol;
 ghost use Rattle.pair_protocol.specs.Refusals as refusals;
 ghost use Rattle.guest_board.specs.Recorded.{Counts};
@@ -18,12 +16,12 @@ ghost use Rattle.ft_world.specs.Does as does;
 ghost use Rattle.ft_world.specs.Shows.{IsStation};
 
 use crate::hosts::Station;
+use crate::input_list::Inputs;
 use arbiter_core::{Arbiter, Won};
 use disk_dcdd::{SECTOR_BYTES, SectorAddress};
 use ft_node::{Drained, Node, Ran};
 use guest_board::Lockstep;
 use i8080_words::R;
-use log_entry::Entry;
 use plain_single::{Bare, Timed};
 use replayer::Replayed;
 use std::alloc::Global;
@@ -32,50 +30,15 @@ impl<B: Lockstep + Drop> Station<B> {
     // A node that begins, with no inputs yet, settled by the count of its machine.
     pub(crate) fn new(alloc: Global, node: Node<B>) -> Station<B>
         ensures node { result.node ≡ node }
-        ensures inputs { result.inputs.items ≡ [] }
+        ensures inputs { result.inputs ≡ [] }
         ensures count { (x : protocol.Node B.State) → IsNode B.state B.machine node x
             → result.count ≡ B.machine.count x.machine }
     {
         let count = node.count();
         Station {
             node,
-            inputs: Vec::new(alloc),
+            inputs: Inputs::new(alloc),
             count,
-        }
-    }
-
-    // Puts an input at the end of the list, at the count at which the station settles. There is room.
-    fn keep(&mut self, input: Bare)
-        requires room { vec_len self.old.inputs < vec_capacity self.old.inputs }
-        ensures inputs { self.new.inputs.items
-            ≡ self.old.inputs.items ++ record { count = self.old.count; input = input } ∷ [] }
-        ensures node { self.new.node ≡ self.old.node }
-        ensures count { self.new.count ≡ self.old.count }
-    {
-        let timed = Timed {
-            count: self.count,
-            input,
-        };
-        match self.inputs.push(timed) {
-            Ok(()) => (),
-            Err(_) => unreachable!(),
-        }
-    }
-
-    // Puts the input of a held entry at the end of the list, and settles up to the entry. There is room.
-    fn hold(&mut self, entry: Entry)
-        requires room { vec_len self.old.inputs < vec_capacity self.old.inputs }
-        ensures inputs { self.new.inputs.items ≡ self.old.inputs.items ++ timed_in (timed_of entry) }
-        ensures node { self.new.node ≡ self.old.node }
-        ensures count { self.new.count ≡ count_of entry }
-    {
-        self.count = entry.count();
-        let Some(timed) = entry.timed() else {
-            return;
-        };
-        match self.inputs.push(timed) {
-            Ok(()) => (),
-            Err(_) => unreachable!(),
         }
     }
 
@@ -111,10 +74,18 @@ impl<B: Lockstep + Drop> Station<B> {
             (IsStation B.state B.machine self.new) (does.Took B.machine (input.Rx port byte)) }
     {
         self.node.check_key(port, index)?;
-        self.inputs.reserve(1)?;
-        self.node.key(port, index, byte)?;
-        self.keep(Bare::Rx(port, byte));
-        Ok(())
+        let before = self.inputs.len();
+        self.inputs.push(Timed {
+            count: self.count,
+            input: Bare::Rx(port, byte),
+        })?;
+        match self.node.key(port, index, byte) {
+            Ok(()) => Ok(()),
+            Err(fault) => {
+                self.inputs.truncate(before);
+                Err(fault)
+            }
+        }
     }
 
     /// A node takes the acceptance of the byte of a number, from 1.
@@ -127,10 +98,18 @@ impl<B: Lockstep + Drop> Station<B> {
             (IsStation B.state B.machine self.new) (does.Took B.machine (input.Sent port)) }
     {
         self.node.check_sent(port, number)?;
-        self.inputs.reserve(1)?;
-        self.node.sent(port, number)?;
-        self.keep(Bare::Sent(port));
-        Ok(())
+        let before = self.inputs.len();
+        self.inputs.push(Timed {
+            count: self.count,
+            input: Bare::Sent(port),
+        })?;
+        match self.node.sent(port, number) {
+            Ok(()) => Ok(()),
+            Err(fault) => {
+                self.inputs.truncate(before);
+                Err(fault)
+            }
+        }
     }
 
     /// A node takes the completion of the write of a number.
@@ -142,10 +121,18 @@ impl<B: Lockstep + Drop> Station<B> {
             (IsStation B.state B.machine self.new) (does.Took B.machine (input.Written number)) }
     {
         self.node.check_done(number)?;
-        self.inputs.reserve(1)?;
-        self.node.done(number)?;
-        self.keep(Bare::Written(number));
-        Ok(())
+        let before = self.inputs.len();
+        self.inputs.push(Timed {
+            count: self.count,
+            input: Bare::Written(number),
+        })?;
+        match self.node.done(number) {
+            Ok(()) => Ok(()),
+            Err(fault) => {
+                self.inputs.truncate(before);
+                Err(fault)
+            }
+        }
     }
 
     /// A node takes a sector that was read, with the number of the write that brought its bytes.
@@ -165,10 +152,18 @@ impl<B: Lockstep + Drop> Station<B> {
             (does.Took B.machine (input.Sector address.drive address.sector number bytes)) }
     {
         self.node.check_under(address, number, bytes)?;
-        self.inputs.reserve(1)?;
-        self.node.under(address, number, bytes)?;
-        self.keep(Bare::Sector(address.drive, address.sector));
-        Ok(())
+        let before = self.inputs.len();
+        self.inputs.push(Timed {
+            count: self.count,
+            input: Bare::Sector(address.drive, address.sector),
+        })?;
+        match self.node.under(address, number, bytes) {
+            Ok(()) => Ok(()),
+            Err(fault) => {
+                self.inputs.truncate(before);
+                Err(fault)
+            }
+        }
     }
 
     /// A node takes a packet of the log: true where its entry comes next, and is held; a repeat, or one past a gap,
@@ -182,10 +177,18 @@ impl<B: Lockstep + Drop> Station<B> {
         match next {
             None => self.node.on_log(bytes),
             Some(entry) => {
-                self.inputs.reserve(1)?;
-                let held = self.node.on_log(bytes)?;
-                self.hold(entry);
-                Ok(held)
+                let before = self.inputs.len();
+                self.inputs.hold(&entry)?;
+                match self.node.on_log(bytes) {
+                    Ok(held) => {
+                        self.count = entry.count();
+                        Ok(held)
+                    }
+                    Err(fault) => {
+                        self.inputs.truncate(before);
+                        Err(fault)
+                    }
+                }
             }
         }
     }

@@ -3,6 +3,7 @@
 use crate::hosts::NodeStatus;
 use crate::message::Message;
 use crate::pair::Pair;
+use crate::room::Room;
 use disk_dcdd::SectorAddress;
 use guest_board::Lockstep;
 use i8080_words::{Fault, R};
@@ -31,35 +32,55 @@ impl<B: Lockstep + Drop, D: SectorStore, H: Drop> Model for World<B, D, H> {
 }
 
 impl<B: Lockstep + Drop, D: SectorStore, H: Drop> World<B, D, H> {
-    ghost use Rattle.std.specs.Prelude.{◌≡◌, ◌+◌, length, IfErr, IfOk, OnErr, OnOk, option_map, slice_get};
+    ghost use Rattle.std.specs.Prelude.{◌≡◌, ◌+◌, [], ◌∷◌, ◌++◌, length, IfErr, IfOk, OnErr, OnOk, option_map, slice_get};
     ghost use Rattle.disk_dcdd.specs.declared.address.SectorAddress.{SectorAddress};
     ghost use Rattle.i8080_words.specs.declared.refusal.Fault.TheVariants.{OutOfMemory};
     ghost use Rattle.pair_protocol.specs.World.{accepted, terminal, winner_in, with_host};
-    ghost use Rattle.pair_protocol.specs.Settled.{Settled};
+    ghost use Rattle.pair_protocol.specs.Settled.{Settled, highest};
     ghost use Rattle.shared_disk.specs.Records.{faults_in, refusal_at};
-    ghost use Rattle.ft_world.specs.Applies.{CountsFailures, Happens, IsSectorOf, Runs, Shows};
+    ghost use Rattle.ft_world.specs.Applies.{Happens, IsFaithful, IsSectorOf, Runs, Shows};
+    ghost use Rattle.ft_world.specs.Applies.{failures_over, failures_told};
     ghost use Rattle.ft_world.specs.Beginning.{MayBegin, beginning};
     ghost use Rattle.ft_world.specs.Shows.{Agree, IsStatusAt};
     ghost use Rattle.ft_world.specs.Standing.{Course, machine_of};
+    ghost use Rattle.ft_world.specs.Staying.{SpareHostsStay};
     ghost use Rattle.ft_world.specs.Words.{IsMessage};
+    ghost use Rattle.ft_world.specs.declared.hosts.Host.TheVariants as host;
 
     /// A pair begins: nodes 0 and 1 are primary and backup of generation 1, and both guests stand alike. `OutOfMemory`
-    /// hands the disk's store back.
-    pub fn begin(alloc: Global, primary: B, backup: B, store: D) -> Result<Self, (D, Fault)>
+    /// hands the guests and the disk's store back.
+    pub fn begin(alloc: Global, primary: B, backup: B, store: D) -> Result<Self, (B, B, D, Fault)>
         requires may { MayBegin B.state B.machine D.records primary backup store }
         ensures ok { IfOk result (λ world. Shows B.state B.machine D.records world
             (beginning B.machine (B.state primary) (D.records store))) }
-        ensures full { IfErr result (λ refused. (refused.0 ≡ store) × (refused.1 ≡ OutOfMemory)) }
+        ensures faithful { OnOk result (IsFaithful B.machine
+            (beginning B.machine (B.state primary) (D.records store))) }
+        ensures full { IfErr result (λ refused. refused ≡ (primary, backup, store, OutOfMemory)) }
     {
-        let pair = Pair::begin(alloc, primary, backup, store)?;
-        Ok(World { pair })
+        let Ok(room) = Room::new(alloc) else {
+            return Err((primary, backup, store, Fault::OutOfMemory));
+        };
+        Ok(World::begin_in(alloc, room, primary, backup, store))
+    }
+
+    // A pair begins, in memory that was taken for it.
+    pub(crate) fn begin_in(alloc: Global, room: Room<B, H>, primary: B, backup: B, store: D) -> Self
+        requires may { MayBegin B.state B.machine D.records primary backup store }
+        ensures shows { Shows B.state B.machine D.records result
+            (beginning B.machine (B.state primary) (D.records store)) }
+        ensures faithful { IsFaithful B.machine (beginning B.machine (B.state primary) (D.records store)) }
+    {
+        World {
+            pair: Pair::begin(alloc, room, primary, backup, store),
+        }
     }
 
     /// An event happens: the reply, or why it is refused, and the world after it are the event's row, whatever world of the
     /// protocol this one showed. A refused event changes nothing, but for a node that asked the arbiter and lost.
     pub fn apply(&mut self, alloc: Global, event: Event) -> R<Reply>
         ensures row { Happens B.state B.machine D.records self.old event result self.new }
-        ensures counted { CountsFailures event (D.failures self.old.disk) result (D.failures self.new.disk) }
+        ensures counted { D.failures self.new.disk ≡ D.failures self.old.disk + failures_told event result }
+        ensures spares { SpareHostsStay self.old.hosts self.new.hosts }
     {
         self.pair.apply(alloc, event)
     }
@@ -69,22 +90,29 @@ impl<B: Lockstep + Drop, D: SectorStore, H: Drop> World<B, D, H> {
     pub fn run(&mut self, alloc: Global, events: &[Event]) -> R<Vec<R<Reply>>>
         ensures ok { IfOk result (λ answers. (c : Course B.State) → Shows B.state B.machine D.records self.old c
             → Runs B.state B.machine D.records c events.now answers.items self.new) }
+        ensures counted { IfOk result (λ answers. D.failures self.new.disk
+            ≡ D.failures self.old.disk + failures_over events.now answers.items) }
+        ensures spares { SpareHostsStay self.old.hosts self.new.hosts }
         ensures full { IfErr result (λ fault. fault ≡ OutOfMemory) }
         ensures unchanged { OnErr result (self.new ≡ self.old) }
     {
         self.pair.run(alloc, events)
     }
 
-    /// A host without a role comes; the answer is its number. `OutOfMemory` hands its means back.
-    pub fn host(&mut self, means: H) -> Result<u64, (H, Fault)>
+    /// A host without a role comes; the answer is its number. `OutOfMemory` hands its resources back.
+    pub fn host(&mut self, resources: H) -> Result<u64, (H, Fault)>
         ensures ok { OnOk result ((c : Course B.State) → Shows B.state B.machine D.records self.old c
             → Shows B.state B.machine D.records self.new
             (record c { world = with_host (machine_of B.machine c) c.world })) }
+        ensures faithful { OnOk result ((c : Course B.State) → Shows B.state B.machine D.records self.old c
+            → IsFaithful B.machine (record c { world = with_host (machine_of B.machine c) c.world })) }
+        ensures others { OnOk result (self.new
+            ≡ record self.old { hosts = self.old.hosts ++ host.Spare resources ∷ [] }) }
         ensures number { IfOk result (λ number. number ≡ length self.old.hosts) }
-        ensures refused { IfErr result (λ refusal. (refusal.0 ≡ means) × (refusal.1 ≡ OutOfMemory)) }
+        ensures refused { IfErr result (λ refusal. (refusal.0 ≡ resources) × (refusal.1 ≡ OutOfMemory)) }
         ensures unchanged { OnErr result (self.new ≡ self.old) }
     {
-        self.pair.host(means)
+        self.pair.host(resources)
     }
 
     /// The bytes that the terminal of a port has accepted, in order; none where there is no such port.
@@ -149,7 +177,8 @@ impl<B: Lockstep + Drop, D: SectorStore, H: Drop> World<B, D, H> {
 
     /// The highest generation.
     pub fn generation(&self) -> u32
-        ensures { result ≡ self.now.generation }
+        ensures { (c : Course B.State) → Shows B.state B.machine D.records self.now c
+            → result ≡ highest c.world.nodes }
     {
         self.pair.generation
     }

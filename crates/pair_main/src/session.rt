@@ -86,10 +86,10 @@ fn boot<T: Completes + Drop + Copy, S: Completes + Drop + Copy, W: Completes + D
     let backup = Callbacks::of(sent, sector, written);
     let mut world = match World::boot(alloc, &setup.guest, disk, primary, backup) {
         Ok(world) => world,
-        Err((_disk, fault)) => return Err(fault),
+        Err((_, _, _, fault)) => return Err(fault),
     };
     for _ in 2..setup.hosts {
-        if let Err((_means, fault)) = world.host(Callbacks::of(sent, sector, written)) {
+        if let Err((_, fault)) = world.host(Callbacks::of(sent, sector, written)) {
             return Err(fault);
         }
     }

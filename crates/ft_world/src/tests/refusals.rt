@@ -132,7 +132,7 @@ fn spare_hosts<T: Completes + Drop + Copy, S: Completes + Drop + Copy, W: Comple
     let mut world = boot(alloc, &[], sent, sector, written)?;
     for number in 2..5 {
         let came = match world.host(Callbacks::of(sent, sector, written)) {
-            Err((means, Fault::OutOfMemory)) => world.host(means),
+            Err((resources, Fault::OutOfMemory)) => world.host(resources),
             came => came,
         };
         let Ok(came) = came else {

@@ -107,7 +107,7 @@ fn boot_once<T: Completes + Drop, S: Completes + Drop, W: Completes + Drop>(
     new_stores_are_unwritten();
     match World::boot(alloc, &setup, store, primary, backup) {
         Ok(world) => Ok(world),
-        Err((_, fault)) => Err(fault),
+        Err((_, _, _, fault)) => Err(fault),
     }
 }
 

@@ -3,18 +3,25 @@ use Rattle.std.proofs.lemmas.Option.{slice_get_past, slice_get_read}
 use Rattle.log_channel.specs.Packet.{packet_at}
 use Rattle.ft_world.specs.Does as does
 use Rattle.ft_world.proofs.AtHosts.{at_host, no_host}
+use Rattle.ft_world.proofs.Spares.{spares_set}
 use Rattle.ft_world.proofs.hosts.on_log.Goals as goal
 
-pub returns-in-Some : goal.returns-in-Some
-returns-in-Some g c = λ nodes are.
+pub returns-in-Some-clause-answer : goal.returns-in-Some-clause-answer
+returns-in-Some-clause-answer g c = λ nodes are.
     at_host g.B.Lockstep.state g.B.Lockstep.machine c.args.hosts.now.items nodes c.args.node c.in-Some.host.now
     c.on_log.new.self (does.log_packet_refusal (packet_at c.args.bytes.now)) c.on_log.result (does.Held (packet_at
     c.args.bytes.now)) are
     (slice_get_read c.args.hosts.now.items (length c.args.hosts.now.items) c.args.node c.in-Some.host.now refl
-    c.in-Some.ensures.item.3.0 c.in-Some.ensures.value) c.on_log.ensures
+    c.in-Some.ensures.item.3.0 c.in-Some.ensures.value) c.on_log.ensures.answer
 
-pub returns-in-None : goal.returns-in-None
-returns-in-None g c = λ nodes are.
+pub returns-in-Some-clause-spares : goal.returns-in-Some-clause-spares
+returns-in-Some-clause-spares g c =
+    spares_set c.args.hosts.now.items c.args.node c.in-Some.host.now c.on_log.new.self
+    (slice_get_read c.args.hosts.now.items (length c.args.hosts.now.items) c.args.node c.in-Some.host.now refl
+    c.in-Some.ensures.item.3.0 c.in-Some.ensures.value) c.on_log.ensures.spare
+
+pub returns-in-None-clause-answer : goal.returns-in-None-clause-answer
+returns-in-None-clause-answer g c = λ nodes are.
     no_host g.B.Lockstep.state g.B.Lockstep.machine c.args.hosts.now.items nodes c.args.node
     (does.log_packet_refusal (packet_at c.args.bytes.now)) (does.Held (packet_at c.args.bytes.now)) are
     (slice_get_past c.args.hosts.now.items c.args.node c.in-None.ensures.item.3)

@@ -1,16 +1,23 @@
 use Rattle.std.proofs.Common.{length, refl}
 use Rattle.std.proofs.lemmas.Option.{slice_get_past, slice_get_read}
 use Rattle.ft_world.proofs.AtHosts.{suspects_host, suspects_none}
+use Rattle.ft_world.proofs.Spares.{spares_set}
 use Rattle.ft_world.proofs.hosts.suspect.Goals as goal
 
-pub returns-in-Some : goal.returns-in-Some
-returns-in-Some g c = λ nodes are.
+pub returns-in-Some-clause-answer : goal.returns-in-Some-clause-answer
+returns-in-Some-clause-answer g c = λ nodes are.
     suspects_host g.B.Lockstep.state g.B.Lockstep.machine c.args.hosts.now.items nodes c.args.node c.in-Some.host.now
     c.suspect.new.self _ _ c.suspect.result are
     (slice_get_read c.args.hosts.now.items (length c.args.hosts.now.items) c.args.node c.in-Some.host.now refl
-    c.in-Some.ensures.item.3.0 c.in-Some.ensures.value) c.suspect.ensures
+    c.in-Some.ensures.item.3.0 c.in-Some.ensures.value) c.suspect.ensures.answer
 
-pub returns-in-None : goal.returns-in-None
-returns-in-None g c = λ nodes are.
+pub returns-in-Some-clause-spares : goal.returns-in-Some-clause-spares
+returns-in-Some-clause-spares g c =
+    spares_set c.args.hosts.now.items c.args.node c.in-Some.host.now c.suspect.new.self
+    (slice_get_read c.args.hosts.now.items (length c.args.hosts.now.items) c.args.node c.in-Some.host.now refl
+    c.in-Some.ensures.item.3.0 c.in-Some.ensures.value) c.suspect.ensures.spare
+
+pub returns-in-None-clause-answer : goal.returns-in-None-clause-answer
+returns-in-None-clause-answer g c = λ nodes are.
     suspects_none g.B.Lockstep.state g.B.Lockstep.machine c.args.hosts.now.items nodes c.args.node _ are
     (slice_get_past c.args.hosts.now.items c.args.node c.in-None.ensures.item.3)

@@ -4,10 +4,10 @@ use Rattle.guest_board.specs.Board.{OnBoard}
 use Rattle.ft_world.proofs.Beginnings.{altairs_may_begin}
 use Rattle.ft_world.proofs.altair.World+Board+T+S+W+D+Callbacks+T+S+W.boot.Goals as goal
 
-pub begin-requires : goal.begin-requires
-begin-requires g c = record {
-  may = altairs_may_begin (λ (board : OnBoard). board.guest) g.D.SectorStore.records c.args.setup.now c.in-Ok.primary
-      c.in-Ok-boot.backup c.args.store c.altairs_are_lawful.ensures c.altairs_stay_on_their_disks.ensures
-      c.args.setup.now.few (ap (λ (board : OnBoard). board.guest) c.in-Ok.ensures.ok)
-      (ap (λ (board : OnBoard). board.guest) c.in-Ok-boot.ensures.ok) c.requires.drives c.requires.unwritten;
+pub begin_in-requires : goal.begin_in-requires
+begin_in-requires g c = record {
+  may = altairs_may_begin (λ (board : OnBoard). board.guest) g.D.SectorStore.records c.args.setup.now c.boot_in-primary.result
+      c.boot_in-backup.result c.args.store c.altairs_are_lawful.ensures c.altairs_stay_on_their_disks.ensures
+      c.args.setup.now.few (ap (λ (board : OnBoard). board.guest) c.boot_in-primary.ensures)
+      (ap (λ (board : OnBoard). board.guest) c.boot_in-backup.ensures) c.requires.drives c.requires.unwritten;
 }

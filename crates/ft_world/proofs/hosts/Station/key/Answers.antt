@@ -1,16 +1,13 @@
-use Rattle.std.proofs.Common.{[], ◌∷◌, ◌++◌, ◌∙◌, ap}
+use Rattle.std.proofs.Common.{refl}
 use Rattle.guest_board.specs.declared.input.Input.TheVariants as input
-use Rattle.plain_single.specs.Reach.{timed}
 use Rattle.pair_protocol.specs.Refusals as refusals
 use Rattle.pair_protocol.proofs.Passed.{first-passed}
 use Rattle.ft_world.proofs.Inputs.{takes_on}
 use Rattle.ft_world.proofs.hosts.Station.key.Goals as goal
 
-pub returns : goal.returns
-returns g c = λ x is.
+pub returns-in-Ok : goal.returns-in-Ok
+returns-in-Ok g c = λ x is.
     takes_on g.B.Lockstep.state g.B.Lockstep.machine (input.Rx c.args.port c.args.byte)
     (refusals.key_refusal g.B.Lockstep.machine c.args.port c.args.index x) c.args.self.now c.key.new.self
-    c.keep.new.self x c.requires.counts (λ e. (first-passed (refusals.serves x) _ e).0) is
-    (c.in_ok-key.ensures x is.node) c.keep.ensures.node
-    (c.keep.ensures.inputs ∙ ap (λ ts. ts ++ timed c.args.self.now.count (input.Rx c.args.port c.args.byte) ∷ [])
-    c.reserve.ensures.items) c.keep.ensures.count
+    (record c.args.self.now { node = c.key.new.self; inputs = c.push.new.self }) x c.requires.counts
+    (λ e. (first-passed (refusals.serves x) _ e).0) is (c.in-Ok.ensures x is.node) refl c.in_ok-push.ensures.ok refl

@@ -1,6 +1,5 @@
-use Rattle.std.proofs.Common.{◌++◌, ◌∙◌, Ok, ap, subst}
+use Rattle.std.proofs.Common.{Ok, refl, subst}
 use Rattle.log_channel.specs.Packet.{packet_at}
-use Rattle.log_entry.specs.Entries.{timed_in, timed_of}
 use Rattle.ft_node.specs.Calls as calls
 use Rattle.ft_world.proofs.Holding.{expects_not, holds_on, passes_by}
 use Rattle.ft_world.proofs.hosts.Station.on_log.Goals as goal
@@ -17,11 +16,11 @@ returns-in-None g c = λ x is.
     (subst (λ o. calls.Expects (packet_at c.args.bytes.now) x (Ok o)) c.in-None.is (c.in_ok-next.ensures x is.node)) is
     (c.on_log.ensures x is.node)
 
-pub returns-in_ok-held-in-Some : goal.returns-in_ok-held-in-Some
-returns-in_ok-held-in-Some g c = λ x is.
+pub returns-in-Ok : goal.returns-in-Ok
+returns-in-Ok g c = λ x is.
     holds_on g.B.Lockstep.state g.B.Lockstep.machine (packet_at c.args.bytes.now) c.args.self.now
-    c.on_log-in-Some.new.self c.hold.new.self c.in-Some.entry c.in_ok-held-in-Some.held x
+    c.on_log-in-Some.new.self
+    (record { node = c.on_log-in-Some.new.self; inputs = c.hold.new.self; count = c.count.result }) c.in-Some.entry
+    c.in-Ok.held x
     (subst (λ o. calls.Expects (packet_at c.args.bytes.now) x (Ok o)) c.in-Some.is (c.in_ok-next.ensures x is.node)) is
-    (c.in_ok-held-in-Some.ensures x is.node) c.hold.ensures.node
-    (c.hold.ensures.inputs ∙ ap (λ ts. ts ++ timed_in (timed_of c.in-Some.entry)) c.reserve.ensures.items)
-    c.hold.ensures.count
+    (c.in-Ok.ensures x is.node) refl c.in_ok-hold.ensures.ok c.count.ensures

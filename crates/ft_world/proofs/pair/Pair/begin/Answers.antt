@@ -2,9 +2,9 @@
 use Rattle.ft_world.proofs.Beginnings.{shows_beginning}
 use Rattle.ft_world.proofs.pair.Pair.begin.Goals as goal
 
-pub returns-in-Ok-clause-ok : goal.returns-in-Ok-clause-ok
-returns-in-Ok-clause-ok g c =
+pub returns : goal.returns
+returns g c =
     shows_beginning g.B.Lockstep.state g.B.Lockstep.machine g.D.SectorStore.records c.args.primary c.args.backup
-    c.args.store c.new-in-Ok-4.result c.in-Ok.hosts.items c.new.result.items c.new-in-Ok.result c.new-in-Ok-2.result
-    c.new-in-Ok-3.result c.requires.may c.in-Ok.ensures.ok c.new.ensures.items c.new-in-Ok.ensures.blank
-    c.new-in-Ok-2.ensures.blank c.new-in-Ok-3.ensures c.new-in-Ok-4.ensures
+    c.args.store c.new-5.result c.begin.result.items c.new.result.items c.new-2.result c.new-3.result c.new-4.result
+    c.requires.may c.begin.ensures c.new.ensures.items c.new-2.ensures.blank c.new-3.ensures.blank c.new-4.ensures
+    c.new-5.ensures

@@ -29,7 +29,7 @@ returns-in_err-held-clause-row g c = λ course h.
     (record (running_of c.args.self.now) { hosts = c.on_ack.new.hosts.items })) (sym is)
     (hears_refused g.B.Lockstep.state g.B.Lockstep.machine g.D.SectorStore.records (running_of c.args.self.now)
     course c.args.message c.args.node c.in-Some.packet.now c.in_err-held.field-0.0 c.on_ack.new.hosts.items e h
-    (c.in_err-held.ensures course.world.nodes h.parts.hosts))
+    (c.in_err-held.ensures.answer course.world.nodes h.parts.hosts))
 
 pub returns-clause-row : goal.returns-clause-row
 returns-clause-row g c = λ course h.
@@ -37,4 +37,4 @@ returns-clause-row g c = λ course h.
     ≡ Some c.in-Some.packet.now = sym c.in-Some.ensures in
     hears_applies g.B.Lockstep.state g.B.Lockstep.machine g.D.SectorStore.records (running_of c.args.self.now)
     course c.args.message c.args.node c.in-Some.packet.now c.in_ok-held.held c.on_ack.new.hosts.items e h
-    (c.in_ok-held.ensures course.world.nodes h.parts.hosts)
+    (c.in_ok-held.ensures.answer course.world.nodes h.parts.hosts)

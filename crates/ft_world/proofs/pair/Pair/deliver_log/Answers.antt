@@ -30,7 +30,7 @@ returns-in_err-on_log-clause-row g c = λ course h.
     (record (running_of c.args.self.now) { hosts = c.on_log.new.hosts.items })) (sym is)
     (delivers_refused g.B.Lockstep.state g.B.Lockstep.machine g.D.SectorStore.records (running_of c.args.self.now)
     course c.args.message c.args.node c.in-Some.packet.now c.in_err-on_log.field-0.0 c.on_log.new.hosts.items e h
-    (c.in_err-on_log.ensures course.world.nodes h.parts.hosts))
+    (c.in_err-on_log.ensures.answer course.world.nodes h.parts.hosts))
 
 pub returns-then-branch-clause-row : goal.returns-then-branch-clause-row
 returns-then-branch-clause-row g c = λ course h.
@@ -42,7 +42,7 @@ returns-then-branch-clause-row g c = λ course h.
     (record (running_of c.args.self.now) { hosts = c.on_log.new.hosts.items })) c.if-branch.true
     (delivers_applies g.B.Lockstep.state g.B.Lockstep.machine g.D.SectorStore.records (running_of c.args.self.now)
     course c.args.message c.args.node c.in-Some.packet.now c.in_ok-on_log.field-0 c.on_log.new.hosts.items e h
-    (c.in_ok-on_log.ensures course.world.nodes h.parts.hosts))
+    (c.in_ok-on_log.ensures.answer course.world.nodes h.parts.hosts))
 
 pub returns-else-branch-clause-row : goal.returns-else-branch-clause-row
 returns-else-branch-clause-row g c = λ course h.
@@ -54,4 +54,4 @@ returns-else-branch-clause-row g c = λ course h.
     (record (running_of c.args.self.now) { hosts = c.on_log.new.hosts.items })) c.if-branch.false
     (delivers_applies g.B.Lockstep.state g.B.Lockstep.machine g.D.SectorStore.records (running_of c.args.self.now)
     course c.args.message c.args.node c.in-Some.packet.now c.in_ok-on_log.field-0 c.on_log.new.hosts.items e h
-    (c.in_ok-on_log.ensures course.world.nodes h.parts.hosts))
+    (c.in_ok-on_log.ensures.answer course.world.nodes h.parts.hosts))

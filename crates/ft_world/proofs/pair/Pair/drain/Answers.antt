@@ -23,7 +23,7 @@ returns-in_err-drained-clause-row g c = λ course h.
     (record (running_of c.args.self.now) { hosts = c.drain.new.hosts.items })) (sym e)
     (drains_refused g.B.Lockstep.state g.B.Lockstep.machine g.D.SectorStore.records (running_of c.args.self.now)
     course c.args.node c.args.turns c.in_err-drained.field-0.0 c.drain.new.hosts.items h
-    (c.in_err-drained.ensures course.world.nodes h.parts.hosts))
+    (c.in_err-drained.ensures.answer course.world.nodes h.parts.hosts))
 
 pub returns-then-drained-clause-row : goal.returns-then-drained-clause-row
 returns-then-drained-clause-row g c = λ course h.
@@ -34,7 +34,7 @@ returns-then-drained-clause-row g c = λ course h.
     (record (running_of c.args.self.now) { hosts = c.drain.new.hosts.items })) c.if-drained.true
     (drains_applies g.B.Lockstep.state g.B.Lockstep.machine g.D.SectorStore.records (running_of c.args.self.now) course
     c.args.node c.args.turns d c.drain.new.hosts.items h
-    (c.in_ok-drained.ensures course.world.nodes h.parts.hosts))
+    (c.in_ok-drained.ensures.answer course.world.nodes h.parts.hosts))
 
 pub returns-else-drained-clause-row : goal.returns-else-drained-clause-row
 returns-else-drained-clause-row g c = λ course h.
@@ -45,4 +45,4 @@ returns-else-drained-clause-row g c = λ course h.
     (record (running_of c.args.self.now) { hosts = c.drain.new.hosts.items })) c.if-drained.false
     (drains_applies g.B.Lockstep.state g.B.Lockstep.machine g.D.SectorStore.records (running_of c.args.self.now) course
     c.args.node c.args.turns d c.drain.new.hosts.items h
-    (c.in_ok-drained.ensures course.world.nodes h.parts.hosts))
+    (c.in_ok-drained.ensures.answer course.world.nodes h.parts.hosts))

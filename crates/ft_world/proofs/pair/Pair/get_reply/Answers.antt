@@ -29,7 +29,7 @@ returns-in_err-under-clause-row g c = λ course h.
     (sym e)
     (read_refused g.B.Lockstep.state g.B.Lockstep.machine g.D.SectorStore.records (running_of c.args.self.now) course
     c.args.message c.args.node c.in-Some.read c.in_err-under.field-0.0 c.under.new.hosts.items brings h
-    (c.in_err-under.ensures course.world.nodes h.parts.hosts))
+    (c.in_err-under.ensures.answer course.world.nodes h.parts.hosts))
 
 pub returns-clause-row : goal.returns-clause-row
 returns-clause-row g c = λ course h.
@@ -37,4 +37,4 @@ returns-clause-row g c = λ course h.
     ≡ Some c.in-Some.read = (cc) in
     read_applies g.B.Lockstep.state g.B.Lockstep.machine g.D.SectorStore.records (running_of c.args.self.now) course
     c.args.message c.args.node c.in-Some.read c.under.new.hosts.items brings h
-    (c.in_ok-under.ensures course.world.nodes h.parts.hosts)
+    (c.in_ok-under.ensures.answer course.world.nodes h.parts.hosts)

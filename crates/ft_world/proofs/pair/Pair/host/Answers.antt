@@ -1,20 +1,35 @@
 -- One more host stands behind the others, here and in the world.
-use Rattle.std.proofs.Common.{◌≡◌, [], ◌∷◌, ◌++◌, subst, sym}
+use Rattle.std.proofs.Common.{◌≡◌, [], ◌∷◌, ◌++◌, ap, subst, sym}
 use Rattle.pair_protocol.specs.World.{with_host}
 use Rattle.ft_world.specs.Applies.{Shows}
 use Rattle.ft_world.specs.Pairs.{running_of}
 use Rattle.ft_world.specs.Standing.{machine_of}
 use Rattle.ft_world.specs.declared.hosts.Host.TheVariants as host
+use Rattle.ft_world.proofs.Applying.{shown_is_faithful}
 use Rattle.ft_world.proofs.Hosting.{host_comes}
 use Rattle.ft_world.proofs.pair.Pair.host.Goals as goal
 
 pub returns-clause-ok : goal.returns-clause-ok
 returns-clause-ok g c = λ course h.
-    let e : c.push.new.self.items ≡ c.args.self.now.hosts.items ++ host.Spare c.args.means ∷ [] =
+    let e : c.push.new.self.items ≡ c.args.self.now.hosts.items ++ host.Spare c.args.resources ∷ [] =
     cc (c.in-Ok-push.ensures.items, c.reserve.ensures.items, c.in-Ok.ensures.items) in
     subst
     (λ hs. Shows g.B.Lockstep.state g.B.Lockstep.machine g.D.SectorStore.records
     (record (running_of c.args.self.now) { hosts = hs })
     (record course { world = with_host (machine_of g.B.Lockstep.machine course) course.world })) (sym e)
     (host_comes g.B.Lockstep.state g.B.Lockstep.machine g.D.SectorStore.records (running_of c.args.self.now) course
-    c.args.means h)
+    c.args.resources h)
+
+pub returns-clause-faithful : goal.returns-clause-faithful
+returns-clause-faithful g c = λ course h.
+    shown_is_faithful g.B.Lockstep.state g.B.Lockstep.machine g.D.SectorStore.records
+    (record (running_of c.args.self.now) { hosts = c.args.self.now.hosts.items ++ host.Spare c.args.resources ∷ [] })
+    (record course { world = with_host (machine_of g.B.Lockstep.machine course) course.world })
+    (host_comes g.B.Lockstep.state g.B.Lockstep.machine g.D.SectorStore.records (running_of c.args.self.now) course
+    c.args.resources h)
+
+pub returns-clause-others : goal.returns-clause-others
+returns-clause-others g c =
+    let e : c.push.new.self.items ≡ c.args.self.now.hosts.items ++ host.Spare c.args.resources ∷ [] =
+    cc (c.in-Ok-push.ensures.items, c.reserve.ensures.items, c.in-Ok.ensures.items) in
+    ap (λ hs. record (running_of c.args.self.now) { hosts = hs }) e

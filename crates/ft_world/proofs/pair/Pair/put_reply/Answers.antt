@@ -29,7 +29,7 @@ returns-in_err-done-clause-row g c = λ course h.
     (sym e)
     (done_refused g.B.Lockstep.state g.B.Lockstep.machine g.D.SectorStore.records (running_of c.args.self.now) course
     c.args.message c.args.node c.in-Some.number c.in_err-done.field-0.0 c.done.new.hosts.items brings h
-    (c.in_err-done.ensures course.world.nodes h.parts.hosts))
+    (c.in_err-done.ensures.answer course.world.nodes h.parts.hosts))
 
 pub returns-clause-row : goal.returns-clause-row
 returns-clause-row g c = λ course h.
@@ -37,4 +37,4 @@ returns-clause-row g c = λ course h.
     ≡ Some c.in-Some.number = (cc) in
     done_applies g.B.Lockstep.state g.B.Lockstep.machine g.D.SectorStore.records (running_of c.args.self.now) course
     c.args.message c.args.node c.in-Some.number c.done.new.hosts.items brings h
-    (c.in_ok-done.ensures course.world.nodes h.parts.hosts)
+    (c.in_ok-done.ensures.answer course.world.nodes h.parts.hosts)

@@ -22,10 +22,10 @@ returns-in_err-replayed-clause-row g c = λ course h.
     (record (running_of c.args.self.now) { hosts = c.replay.new.hosts.items })) (sym e)
     (replays_refused g.B.Lockstep.state g.B.Lockstep.machine g.D.SectorStore.records (running_of c.args.self.now)
     course c.args.node c.args.turns c.in_err-replayed.field-0.0 c.replay.new.hosts.items h
-    (c.in_err-replayed.ensures course.world.nodes h.parts.hosts))
+    (c.in_err-replayed.ensures.answer course.world.nodes h.parts.hosts))
 
 pub returns-clause-row : goal.returns-clause-row
 returns-clause-row g c = λ course h.
     replays_applies g.B.Lockstep.state g.B.Lockstep.machine g.D.SectorStore.records (running_of c.args.self.now) course
     c.args.node c.args.turns c.in_ok-replayed.replayed c.replay.new.hosts.items h
-    (c.in_ok-replayed.ensures course.world.nodes h.parts.hosts)
+    (c.in_ok-replayed.ensures.answer course.world.nodes h.parts.hosts)

@@ -1,10 +1,11 @@
 -- Each event's answer stands behind the others, as its row does in the run.
-use Rattle.std.proofs.Common.{◌+◌, ◌∙◌, [], ap, arith, get_or, subst, sym}
+use Rattle.std.proofs.Common.{◌≡◌, ◌+◌, ◌∙◌, [], ap, arith, get_or, refl, subst, sym}
 use Rattle.std.proofs.lemmas.List.{take_all}
-use Rattle.ft_world.specs.Applies.{Runs}
+use Rattle.ft_world.specs.Applies.{Runs, failures_over}
 use Rattle.ft_world.specs.Pairs.{running_of}
 use Rattle.pair_events.specs.declared.event.Event.TheVariants as event
 use Rattle.ft_world.proofs.Applying.{goes_on}
+use Rattle.ft_world.proofs.Counting.{counts_on}
 use Rattle.ft_world.proofs.Running.{runs_begin, runs_on}
 use Rattle.ft_world.proofs.pair.Pair.run.Goals as goal
 
@@ -18,6 +19,8 @@ loop-event-init g c = record {
       (sym c.in_ok-answers.ensures.items)
       (runs_begin g.B.Lockstep.state g.B.Lockstep.machine g.D.SectorStore.records (running_of c.args.self.now) course
       h);
+  counted = omega arith;
+  spares = refl;
   many = c.in_ok-answers.ensures.len;
   room = c.in_ok-answers.ensures.capacity;
 }
@@ -34,6 +37,12 @@ loop-event-preserved g c = record {
       c.loop-event.event-index (event.Step 0 0) c.loop-event.answers.items c.push.new.self.items
       c.apply-answer.result h c.loop-event-test.true
       c.in-Ok.ensures.items (c.loop-event.invariant.runs course h) c.apply-answer.ensures.row;
+  counted = counts_on c.args.events.now c.loop-event.event-index (event.Step 0 0) c.loop-event.answers.items
+      c.push.new.self.items c.apply-answer.result (g.D.SectorStore.failures c.args.self.now.disk)
+      (g.D.SectorStore.failures c.loop-event.self.disk) (g.D.SectorStore.failures c.apply-answer.new.self.disk)
+      c.loop-event-test.true (sym c.loop-event.answers.ok.0 ∙ c.loop-event.invariant.many) c.in-Ok.ensures.items c.loop-event.invariant.counted
+      c.apply-answer.ensures.counted;
+  spares = c.apply-answer.ensures.spares ∙ c.loop-event.invariant.spares;
   many = c.in-Ok.ensures.len ∙ ap (λ n. n + 1) c.loop-event.invariant.many;
   room = omega (arith, c.loop-event.invariant.room, c.in-Ok.ensures.capacity);
 }
@@ -45,3 +54,10 @@ returns-clause-ok g c = λ course h.
     c.loop-event.answers.items (running_of c.loop-event.self))
     (take_all c.loop-event.event-index c.args.events.now c.loop-event-test.false)
     (c.loop-event.invariant.runs course h)
+
+pub returns-clause-counted : goal.returns-clause-counted
+returns-clause-counted g c =
+    subst
+    (λ events. g.D.SectorStore.failures c.loop-event.self.disk
+    ≡ g.D.SectorStore.failures c.args.self.now.disk + failures_over events c.loop-event.answers.items)
+    (take_all c.loop-event.event-index c.args.events.now c.loop-event-test.false) c.loop-event.invariant.counted

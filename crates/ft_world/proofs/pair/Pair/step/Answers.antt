@@ -23,10 +23,10 @@ returns-in_err-ran-clause-row g c = λ course h.
     (sym e)
     (steps_refused g.B.Lockstep.state g.B.Lockstep.machine g.D.SectorStore.records (running_of c.args.self.now)
     course c.args.node c.args.turns c.in_err-ran.field-0.0 c.step.new.hosts.items h
-    (c.in_err-ran.ensures course.world.nodes h.parts.hosts))
+    (c.in_err-ran.ensures.answer course.world.nodes h.parts.hosts))
 
 pub returns-clause-row : goal.returns-clause-row
 returns-clause-row g c = λ course h.
     steps_applies g.B.Lockstep.state g.B.Lockstep.machine g.D.SectorStore.records (running_of c.args.self.now) course
     c.args.node c.args.turns c.in_ok-ran.ran c.step.new.hosts.items h
-    (c.in_ok-ran.ensures course.world.nodes h.parts.hosts)
+    (c.in_ok-ran.ensures.answer course.world.nodes h.parts.hosts)

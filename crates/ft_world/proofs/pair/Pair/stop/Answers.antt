@@ -24,7 +24,7 @@ returns-in_err-stop-clause-row g c = λ course h.
     (node_refused_surely (Unit {0}) g.B.Lockstep.state g.B.Lockstep.machine g.D.SectorStore.records
     (running_of c.args.self.now) course (event.Stop c.args.node) c.args.node stop_refusal Halted
     c.in_err-stop.field-0.0 c.stop.new.hosts.items h refl refl
-    (c.in_err-stop.ensures course.world.nodes h.parts.hosts))
+    (c.in_err-stop.ensures.answer course.world.nodes h.parts.hosts))
 
 pub returns-clause-row : goal.returns-clause-row
 returns-clause-row g c = λ course h.
@@ -35,4 +35,4 @@ returns-clause-row g c = λ course h.
       generation = ap (λ (u : Node g.B.Lockstep.State). u.generation) halted;
       backup = ap (λ (u : Node g.B.Lockstep.State). is_backup u.role) halted;
     })
-    (c.in_ok-stop.ensures course.world.nodes h.parts.hosts)
+    (c.in_ok-stop.ensures.answer course.world.nodes h.parts.hosts)

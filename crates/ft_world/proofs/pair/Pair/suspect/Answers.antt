@@ -18,10 +18,10 @@ returns-in_err-suspect-clause-row g c = λ course h.
     (sym e)
     (suspects_refused g.B.Lockstep.state g.B.Lockstep.machine g.D.SectorStore.records (running_of c.args.self.now)
     course c.args.node c.in_err-suspect.field-0.0 c.suspect.new.hosts.items c.suspect.new.arbiter h
-    (c.in_err-suspect.ensures course.world.nodes h.parts.hosts))
+    (c.in_err-suspect.ensures.answer course.world.nodes h.parts.hosts))
 
 pub returns-clause-row : goal.returns-clause-row
 returns-clause-row g c = λ course h.
     suspects_applies g.B.Lockstep.state g.B.Lockstep.machine g.D.SectorStore.records (running_of c.args.self.now) course
     c.args.node c.in_ok-suspect.field-0 c.suspect.new.hosts.items c.suspect.new.arbiter h
-    (c.in_ok-suspect.ensures course.world.nodes h.parts.hosts)
+    (c.in_ok-suspect.ensures.answer course.world.nodes h.parts.hosts)

@@ -29,10 +29,10 @@ returns-in_err-key-clause-row g c = λ course h.
     (sym e)
     (key_refused g.B.Lockstep.state g.B.Lockstep.machine g.D.SectorStore.records (running_of c.args.self.now) course
     c.args.node c.args.port c.args.index c.in_ok-byte.byte c.in_err-key.field-0.0 c.key.new.hosts.items h
-    c.in_ok-byte.ensures.answer (c.in_err-key.ensures course.world.nodes h.parts.hosts))
+    c.in_ok-byte.ensures.answer (c.in_err-key.ensures.answer course.world.nodes h.parts.hosts))
 
 pub returns-clause-row : goal.returns-clause-row
 returns-clause-row g c = λ course h.
     key_applies g.B.Lockstep.state g.B.Lockstep.machine g.D.SectorStore.records (running_of c.args.self.now) course
     c.args.node c.args.port c.args.index c.in_ok-byte.byte c.key.new.hosts.items h c.in_ok-byte.ensures.answer
-    (c.in_ok-key.ensures course.world.nodes h.parts.hosts)
+    (c.in_ok-key.ensures.answer course.world.nodes h.parts.hosts)

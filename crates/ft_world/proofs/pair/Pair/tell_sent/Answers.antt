@@ -29,10 +29,10 @@ returns-in_err-sent-clause-row g c = λ course h.
     (sym e)
     (sent_refused g.B.Lockstep.state g.B.Lockstep.machine g.D.SectorStore.records (running_of c.args.self.now) course
     c.args.node c.args.port c.args.number c.in_err-sent.field-0.0 c.sent.new.hosts.items h
-    c.in_ok-check_accepted.ensures.answer (c.in_err-sent.ensures course.world.nodes h.parts.hosts))
+    c.in_ok-check_accepted.ensures.answer (c.in_err-sent.ensures.answer course.world.nodes h.parts.hosts))
 
 pub returns-clause-row : goal.returns-clause-row
 returns-clause-row g c = λ course h.
     sent_applies g.B.Lockstep.state g.B.Lockstep.machine g.D.SectorStore.records (running_of c.args.self.now) course
     c.args.node c.args.port c.args.number c.sent.new.hosts.items h c.in_ok-check_accepted.ensures.answer
-    (c.in_ok-sent.ensures course.world.nodes h.parts.hosts)
+    (c.in_ok-sent.ensures.answer course.world.nodes h.parts.hosts)

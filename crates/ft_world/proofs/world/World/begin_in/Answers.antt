@@ -1,0 +1,11 @@
+-- What a pair begins with is shown, so it is faithful.
+use Rattle.ft_world.specs.Beginning.{beginning}
+use Rattle.ft_world.specs.Pairs.{running_of}
+use Rattle.ft_world.proofs.Applying.{shown_is_faithful}
+use Rattle.ft_world.proofs.world.World.begin_in.Goals as goal
+
+pub returns-clause-faithful : goal.returns-clause-faithful
+returns-clause-faithful g c =
+    shown_is_faithful g.B.Lockstep.state g.B.Lockstep.machine g.D.SectorStore.records (running_of c.begin.result)
+    (beginning g.B.Lockstep.machine (g.B.Lockstep.state c.args.primary) (g.D.SectorStore.records c.args.store))
+    c.begin.ensures

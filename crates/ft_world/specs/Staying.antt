@@ -1,0 +1,37 @@
+-- What an event leaves as it was.
+use Rattle.std.specs.Prelude.{◌≡◌, ℕ, ◌⊎◌, List, map, Option, Some, None, slice_set}
+use Rattle.i8080_words.specs.declared.refusal.Fault.{Fault}
+use Rattle.i8080_words.specs.declared.refusal.Fault.TheVariants.{DeviceFault, Lost}
+use Rattle.shared_disk.specs.declared.store.Record.{Record}
+use Rattle.pair_events.specs.declared.event.Event.{Event}
+use Rattle.pair_events.specs.declared.event.Event.TheVariants as event
+use Rattle.ft_world.specs.Running.{Running}
+use Rattle.ft_world.specs.declared.hosts.Host.{Host}
+use Rattle.ft_world.specs.declared.hosts.Host.TheVariants as host
+
+-- what a host has for a machine that is copied there, while it has no role
+abbrev pub spare_of : {B H : Type 0} → Host B H → Option H
+spare_of (host.Node h) = None
+spare_of (host.Spare resources) = Some resources
+
+-- no host comes, and each spare one is a spare one still, with the same resources
+abbrev pub SpareHostsStay : {B H : Type 0} → List (Host B H) → List (Host B H) → Type 0
+SpareHostsStay old new = map spare_of new ≡ map spare_of old
+
+-- another host stands in one place; all else is as it was
+pub record HostChanges {B H D : Type 0} (n : ℕ) (old new : Running B H D) : Type 0 where
+  pub changed : Host B H
+  pub rest : new ≡ record old { hosts = slice_set old.hosts n changed }
+
+-- the disk has the same records; all but the disk is as it was
+pub record DiskFails {B H D : Type 0} (records : D → List Record) (old new : Running B H D) : Type 0 where
+  pub kept : records new.disk ≡ records old.disk
+  pub rest : new ≡ record old { disk = new.disk }
+
+-- a refused event leaves all as it was: but one that asked the arbiter and lost is another host, and a disk that failed
+-- may have noted it
+abbrev pub Stays : {B H D : Type 0} → (D → List Record) → Event → Fault → Running B H D → Running B H D → Type 0
+Stays records (event.Suspect n) fault old new = ((fault ≡ Lost) × HostChanges n old new) ⊎ (new ≡ old)
+Stays records (event.Put m) fault old new = ((fault ≡ DeviceFault) × DiskFails records old new) ⊎ (new ≡ old)
+Stays records (event.Get n sector) fault old new = ((fault ≡ DeviceFault) × DiskFails records old new) ⊎ (new ≡ old)
+Stays records _ fault old new = new ≡ old

@@ -1,0 +1,79 @@
+//! The inputs beside a node.
+ghost use Rattle.std.specs.Prelude.{◌≡◌, [], ◌∷◌, ◌++◌, length, take, IfErr, OnErr, OnOk};
+ghost use Rattle.i8080_words.specs.declared.refusal.Fault.TheVariants.{OutOfMemory};
+ghost use Rattle.log_entry.specs.Entries.{timed_in, timed_of};
+
+use i8080_words::R;
+use log_entry::Entry;
+use plain_single::Timed;
+use std::alloc::Global;
+use std::marker::Model;
+
+/// Timed inputs, in order. How much room they have is not seen, so one that finds none changes nothing.
+#[derive(Drop)]
+pub struct Inputs {
+    list: Vec<Timed>,
+}
+
+impl Model for Inputs {
+    ghost use Rattle.std.specs.Prelude.{List};
+    ghost use Rattle.plain_single.specs.declared.timed.Timed.{Timed};
+
+    ghost Value = { List Timed };
+
+    ghost view = { λ inputs. inputs.list.items };
+}
+
+impl Inputs {
+    // No inputs yet.
+    pub(crate) fn new(alloc: Global) -> Inputs
+        ensures { result ≡ [] }
+    {
+        Inputs {
+            list: Vec::new(alloc),
+        }
+    }
+
+    // All of them.
+    pub(crate) fn as_slice(&self) -> &[Timed]
+        ensures { result.now ≡ self.now }
+    {
+        &self.list
+    }
+
+    // How many they are.
+    pub(crate) fn len(&self) -> usize
+        ensures { result ≡ length self.now }
+    {
+        self.list.len()
+    }
+
+    // One more, at the end.
+    pub(crate) fn push(&mut self, timed: Timed) -> R<()>
+        ensures ok { OnOk result (self.new ≡ self.old ++ timed ∷ []) }
+        ensures full { IfErr result (λ fault. fault ≡ OutOfMemory) }
+        ensures unchanged { OnErr result (self.new ≡ self.old) }
+    {
+        self.list.push(timed)?;
+        Ok(())
+    }
+
+    // The input of an entry, at the end; a mark has none.
+    pub(crate) fn hold(&mut self, entry: &Entry) -> R<()>
+        ensures ok { OnOk result (self.new ≡ self.old ++ timed_in (timed_of entry.now)) }
+        ensures full { IfErr result (λ fault. fault ≡ OutOfMemory) }
+        ensures unchanged { OnErr result (self.new ≡ self.old) }
+    {
+        match entry.timed() {
+            Some(timed) => self.push(timed),
+            None => Ok(()),
+        }
+    }
+
+    // The first so many.
+    pub(crate) fn truncate(&mut self, len: usize)
+        ensures { self.new ≡ take len self.old }
+    {
+        self.list.truncate(len);
+    }
+}

@@ -1,0 +1,47 @@
+//! How a pair begins: the memory that it takes, and its two nodes there.
+ghost use Rattle.std.specs.Prelude.{◌≡◌, ◌+◌, ◌≤◌, [], IsOkUnless, vec_capacity, vec_len};
+ghost use Rattle.i8080_words.specs.declared.refusal.Fault.TheVariants.{OutOfMemory};
+ghost use Rattle.log_buffer.specs.Log as logs;
+ghost use Rattle.pair_protocol.specs.World.{opening};
+ghost use Rattle.ft_world.specs.Shows.{AreHosts};
+ghost use Rattle.ft_world.specs.Standing.{Course, machine_of};
+
+use crate::hosts::{Host, Station};
+use ft_node::Node;
+use guest_board::Lockstep;
+use i8080_words::R;
+use log_buffer::LogBuffer;
+use std::alloc::Global;
+
+/// All the memory that a pair takes when it begins: places for its two nodes, and the primary's log.
+#[derive(Drop)]
+pub(crate) struct Room<B, H> {
+    hosts: Vec<Host<B, H>>,
+    log: LogBuffer,
+    ghost empty: { hosts.items ≡ [] },
+    ghost two: { vec_len hosts + 2 ≤ vec_capacity hosts },
+    ghost unused: { log ≡ logs.log 0 [] },
+}
+
+impl<B: Lockstep + Drop, H: Drop> Room<B, H> {
+    /// Takes that memory.
+    pub(crate) fn new(alloc: Global) -> R<Room<B, H>>
+        ensures { IsOkUnless result OutOfMemory }
+    {
+        let hosts = Vec::with_capacity(alloc, 2)?;
+        let log = LogBuffer::new(alloc, 0)?;
+        Ok(Room { hosts, log })
+    }
+
+    /// The primary and the backup of generation 1, with these guests. They take no further memory.
+    pub(crate) fn begin(self, alloc: Global, primary: B, backup: B) -> Vec<Host<B, H>>
+        ensures { (c : Course B.State) → B.state primary ≡ c.boot → B.state backup ≡ c.boot
+            → B.machine.count c.boot ≡ 0
+            → AreHosts B.state B.machine result.items (opening (machine_of B.machine c)).nodes }
+    {
+        let Room { mut hosts, log } = self;
+        hosts.push_reserved(Host::Node(Station::new(alloc, Node::primary(primary, log, 1))));
+        hosts.push_reserved(Host::Node(Station::new(alloc, Node::backup(alloc, backup, 1))));
+        hosts
+    }
+}
