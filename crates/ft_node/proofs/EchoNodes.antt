@@ -27,6 +27,7 @@ begun role generation s = record {
   replayed = 0;
   log = [];
   covered = 0;
+  reported = 0;
   notes = [];
   image = None;
   parts = [];

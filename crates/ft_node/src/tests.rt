@@ -5,6 +5,7 @@ use arbiter_core::{Arbiter, Won};
 use echo_guest::Echo;
 use event_callbacks::OpId;
 use i8080_words::{Fault, R};
+use log_buffer::LogBuffer;
 use log_channel::Packet;
 use log_entry::Entry;
 use pair_events::Role;
@@ -31,10 +32,7 @@ fn first_packet(alloc: Global) -> R<Vec<u8>> {
 }
 
 fn primary(alloc: Global) -> R<Node<Echo>> {
-    match Node::primary(alloc, Echo::new(1), 1) {
-        Ok(node) => Ok(node),
-        Err((_, fault)) => Err(fault),
-    }
+    Ok(Node::primary(Echo::new(1), LogBuffer::new(alloc, 0)?, 1))
 }
 
 #[test]
