@@ -19,6 +19,13 @@ pub unless : {A : Type 0} (o : Option Fault) (r : Result A Fault) (P Q D E : Typ
 unless None r P Q D E f g d = g d
 unless (Some m) r P Q D E f g d = (d.0, f d.1)
 
+-- of what holds if memory is wanting, this much may be said alone
+pub weaker : {A : Type 0} (o : Option Fault) (r : Result A Fault) (P W : Type 0) (D : A → Type 0) → (W → P)
+    → Unless o r P (Gives r W D) → Unless o r P (Gives r P D)
+weaker None (Ok v) P W D f d = d
+weaker None (Err k) P W D f d = (d.0, f d.1)
+weaker (Some m) r P W D f d = d
+
 -- a value is given
 pub gives : {A : Type 0} (o : Option Fault) (v : A) (P Q : Type 0) (D E : A → Type 0) → (o ≡ None → D v → E v)
     → Unless o (Ok v) P (Gives {A = A} (Ok v) P D) → Unless o (Ok v) Q (Gives {A = A} (Ok v) Q E)

@@ -22,6 +22,7 @@ use Rattle.ft_world.specs.AtHost.{AtStation, Makes}
 use Rattle.ft_world.specs.Does as does
 use Rattle.ft_world.specs.Shows.{IsStation}
 use Rattle.ft_world.specs.declared.hosts.Station.{Station}
+use Rattle.ft_world.proofs.Answering.{weaker}
 use Rattle.ft_world.proofs.Keeping.{acting_role}
 use Rattle.ft_world.proofs.Stations.{unmoved}
 
@@ -86,7 +87,10 @@ passes_by {B} {S} state M (Some (Log generation index en)) h node r x e is d = g
         → None ≡ (if index == length x.held then Some en else None)
         → calls.Delivers (Some (Log generation index en)) x r (IsNode state M node)
         → AtStation (refusals.log_refusal generation x) r x After (does.Held (Some (Log generation index en)))
-    go r n f d = into r (refusals.log_refusal generation x) n f d
+    go r n f d = into r (refusals.log_refusal generation x) n f
+        (weaker (refusals.log_refusal generation x) r (IsNode state M node x)
+        (calls.WantsRoom index x × IsNode state M node x) (calls.Delivered index en x (IsNode state M node))
+        (λ w. w.1) d)
 
 -- ---- a packet whose entry is held
 

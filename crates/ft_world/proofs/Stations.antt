@@ -1,6 +1,6 @@
 -- A station's node moves, and its inputs and its count go on with it.
 use Rattle.std.proofs.Common.{◌≡◌, ◌∙◌, ℕ, Bool, List, Err, None, Ok, Option, Result, Some, ap, false, refl, subst, sym, true}
-use Rattle.std.specs.Prelude.{if◌then◌else◌}
+use Rattle.std.specs.Prelude.{if◌then◌else◌, ◌<◌}
 use Rattle.std.specs.Result.{IsErrAnd}
 use Rattle.arbiter_core.specs.Winners.{winner_of}
 use Rattle.arbiter_core.specs.declared.arbiter.Asking.{Asking}
@@ -25,7 +25,7 @@ use Rattle.ft_world.specs.AtHost.{AtStation, DoesAtStation, Makes}
 use Rattle.ft_world.specs.Does as does
 use Rattle.ft_world.specs.Shows.{IsStation}
 use Rattle.ft_world.specs.declared.hosts.Station.{Station}
-use Rattle.ft_world.proofs.Answering.{asked, gives, hands_on, maps, unless}
+use Rattle.ft_world.proofs.Answering.{asked, gives, hands_on, maps, unless, weaker}
 use Rattle.ft_world.proofs.Keeping.{Kept, kept_here, advances_keep, replays_keep, same_list, same_count, serving_role, machine_count, acting_role, held_count, held_inputs}
 
 -- its node only moved, and this is the count by which it settles now
@@ -58,7 +58,9 @@ pub steps_on : {B S : Type 0} (state : B → S) (M : Machine S) (turns : ℕ) (h
     (IsStation state M (record h { node = node; count = ran.count })) (does.Stepped M turns)
 steps_on {B} {S} state M turns h node ran x i d =
     gives (refusals.step_refusal M turns x) ran (IsNode state M node x) (After x)
-    (calls.Stepped M turns x (IsNode state M node)) (λ v. Makes x After (does.Stepped M turns v)) (λ e s. made e s) d
+    (calls.Stepped M turns x (IsNode state M node)) (λ v. Makes x After (does.Stepped M turns v)) (λ e s. made e s)
+    (weaker (refusals.step_refusal M turns x) (Ok ran) (IsNode state M node x) ((0 < turns) × IsNode state M node x)
+    (calls.Stepped M turns x (IsNode state M node)) (λ w. w.1) d)
   where
     After : Node S → Type 0
     After y = IsStation state M (record h { node = node; count = ran.count }) y
@@ -84,7 +86,9 @@ steps_not state M turns h node r fault x at i d =
     hands_on (refusals.step_refusal M turns x) r fault (IsNode state M node x)
     (IsStation state M (record h { node = node }) x) (calls.Stepped M turns x (IsNode state M node))
     (λ v. Makes x (IsStation state M (record h { node = node })) (does.Stepped M turns v)) at
-    (unmoved state M h node x i) d
+    (unmoved state M h node x i)
+    (weaker {A = Ran} (refusals.step_refusal M turns x) (Err fault) (IsNode state M node x)
+    ((0 < turns) × IsNode state M node x) (calls.Stepped M turns x (IsNode state M node)) (λ w. w.1) d)
 
 -- ---- moves of a backup
 
@@ -94,7 +98,10 @@ pub repeats_on : {B S : Type 0} (state : B → S) (M : Machine S) (turns : ℕ) 
     → AtStation (refusals.replay_refusal x) r x (IsStation state M (record h { node = node })) (does.Repeated M turns)
 repeats_on {B} {S} state M turns h node r x i d =
     maps (refusals.replay_refusal x) r (IsNode state M node x) (After x) (calls.Repeats M turns x (IsNode state M node))
-    (λ v. Makes x After (does.Repeated M turns v)) (unmoved state M h node x i) (λ v e s. made v e s) d
+    (λ v. Makes x After (does.Repeated M turns v)) (unmoved state M h node x i) (λ v e s. made v e s)
+    (weaker (refusals.replay_refusal x) r (IsNode state M node x)
+    ((0 < turns) × calls.IsBehind M x × IsNode state M node x) (calls.Repeats M turns x (IsNode state M node))
+    (λ w. w.2) d)
   where
     After : Node S → Type 0
     After y = IsStation state M (record h { node = node }) y
@@ -135,7 +142,10 @@ pub drains_on : {B S : Type 0} (state : B → S) (M : Machine S) (turns : ℕ) (
     (does.Emptied M turns)
 drains_on {B} {S} state M turns h node d count x is r counted =
     gives (refusals.drain_refusal x) d (IsNode state M node x) (After x) (calls.Empties M turns x (IsNode state M node))
-    (λ v. Makes x After (does.Emptied M turns v)) (λ e s. made e s) r
+    (λ v. Makes x After (does.Emptied M turns v)) (λ e s. made e s)
+    (weaker (refusals.drain_refusal x) (Ok d) (IsNode state M node x)
+    ((0 < turns) × calls.IsBehind M x × IsNode state M node x) (calls.Empties M turns x (IsNode state M node))
+    (λ w. w.2) r)
   where
     After : Node S → Type 0
     After y = IsStation state M (record h { node = node; count = count }) y

@@ -10,4 +10,4 @@ returns-in-Ok g c = λ x is.
     takes_on g.B.Lockstep.state g.B.Lockstep.machine (input.Rx c.args.port c.args.byte)
     (refusals.key_refusal g.B.Lockstep.machine c.args.port c.args.index x) c.args.self.now c.key.new.self
     (record c.args.self.now { node = c.key.new.self; inputs = c.push.new.self }) x c.requires.counts
-    (λ e. (first-passed (refusals.serves x) _ e).0) is (c.in-Ok.ensures x is.node) refl c.in_ok-push.ensures.ok refl
+    (λ e. (first-passed (refusals.serves x) _ e).0) is (c.in-Ok.ensures.answer x is.node) refl c.in_ok-push.ensures.ok refl

@@ -14,7 +14,7 @@ returns-in-None g c = λ x is.
     passes_by g.B.Lockstep.state g.B.Lockstep.machine (packet_at c.args.bytes.now) c.args.self.now c.on_log.new.self
     c.on_log.result x
     (subst (λ o. calls.Expects (packet_at c.args.bytes.now) x (Ok o)) c.in-None.is (c.in_ok-next.ensures x is.node)) is
-    (c.on_log.ensures x is.node)
+    (c.on_log.ensures.answer x is.node)
 
 pub returns-in-Ok : goal.returns-in-Ok
 returns-in-Ok g c = λ x is.
@@ -23,4 +23,4 @@ returns-in-Ok g c = λ x is.
     (record { node = c.on_log-in-Some.new.self; inputs = c.hold.new.self; count = c.count.result }) c.in-Some.entry
     c.in-Ok.held x
     (subst (λ o. calls.Expects (packet_at c.args.bytes.now) x (Ok o)) c.in-Some.is (c.in_ok-next.ensures x is.node)) is
-    (c.in-Ok.ensures x is.node) refl c.in_ok-hold.ensures.ok c.count.ensures
+    (c.in-Ok.ensures.answer x is.node) refl c.in_ok-hold.ensures.ok c.count.ensures

@@ -4,9 +4,9 @@ use Rattle.ft_world.proofs.hosts.Station.step.Goals as goal
 pub returns-in_err-ran : goal.returns-in_err-ran
 returns-in_err-ran g c = λ x is.
     steps_not g.B.Lockstep.state g.B.Lockstep.machine c.args.turns c.args.self.now c.step.new.self
-    c.from_residual.result c.in_err-ran.field-0.0 x c.from_residual.ensures.1 is (c.in_err-ran.ensures x is.node)
+    c.from_residual.result c.in_err-ran.field-0.0 x c.from_residual.ensures.1 is (c.in_err-ran.ensures.answer x is.node)
 
 pub returns : goal.returns
 returns g c = λ x is.
     steps_on g.B.Lockstep.state g.B.Lockstep.machine c.args.turns c.args.self.now c.step.new.self c.in_ok-ran.ran x is
-    (c.in_ok-ran.ensures x is.node)
+    (c.in_ok-ran.ensures.answer x is.node)

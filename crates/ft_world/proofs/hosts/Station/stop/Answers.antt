@@ -4,4 +4,4 @@ use Rattle.ft_world.proofs.hosts.Station.stop.Goals as goal
 pub returns : goal.returns
 returns g c = λ x is.
     stops_on g.B.Lockstep.state g.B.Lockstep.machine c.args.self.now c.stop.new.self c.stop.result x is
-    (c.stop.ensures x is.node)
+    (c.stop.ensures.answer x is.node)

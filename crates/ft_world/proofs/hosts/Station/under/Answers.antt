@@ -18,4 +18,4 @@ returns-in-Ok g c = λ x is.
     takes_on g.B.Lockstep.state g.B.Lockstep.machine (input.Sector c.args.address.drive c.args.address.sector c.args.number c.args.bytes)
     (refusals.under_refusal g.B.Lockstep.machine c.args.address c.args.number c.args.bytes x) c.args.self.now c.under.new.self
     (record c.args.self.now { node = c.under.new.self; inputs = c.push.new.self }) x c.requires.counts
-    (λ e. (first-passed (refusals.serves x) _ e).0) is (c.in-Ok.ensures x is.node) refl c.in_ok-push.ensures.ok refl
+    (λ e. (first-passed (refusals.serves x) _ e).0) is (c.in-Ok.ensures.answer x is.node) refl c.in_ok-push.ensures.ok refl
