@@ -117,7 +117,9 @@ holds_on {B} {S} state M None h node new next v x e is d en same c = absurd (not
 holds_on {B} {S} state M (Some (Ack generation held)) h node new next v x e is d en same c =
     absurd (not_refused _ x (Some next) ⊥ e).1
 holds_on {B} {S} state M (Some (Log generation index en)) h node new next v x e is d enode same c =
-    into v (refusals.log_refusal generation x) o.0 d
+    into v (refusals.log_refusal generation x) o.0
+    (weaker {A = Bool} (refusals.log_refusal generation x) (Ok v) (IsNode state M node x)
+    (calls.WantsRoom index x × IsNode state M node x) (calls.Delivered index en x (IsNode state M node)) (λ w. w.1) d)
   where
     After : Node S → Type 0
     After y = IsStation state M new y

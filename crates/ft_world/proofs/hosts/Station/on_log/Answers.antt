@@ -20,7 +20,7 @@ pub returns-in-Ok : goal.returns-in-Ok
 returns-in-Ok g c = λ x is.
     holds_on g.B.Lockstep.state g.B.Lockstep.machine (packet_at c.args.bytes.now) c.args.self.now
     c.on_log-in-Some.new.self
-    (record { node = c.on_log-in-Some.new.self; inputs = c.hold.new.self; count = c.count.result }) c.in-Some.entry
+    (record { node = c.on_log-in-Some.new.self; inputs = c.hold.new.self; count = c.count-self.result }) c.in-Some.entry
     c.in-Ok.held x
     (subst (λ o. calls.Expects (packet_at c.args.bytes.now) x (Ok o)) c.in-Some.is (c.in_ok-next.ensures x is.node)) is
-    (c.in-Ok.ensures.answer x is.node) refl c.in_ok-hold.ensures.ok c.count.ensures
+    (c.in-Ok.ensures.answer x is.node) refl c.in_ok-hold-in-Some.ensures.ok c.count-self.ensures
