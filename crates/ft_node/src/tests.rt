@@ -38,24 +38,39 @@ fn primary(alloc: Global) -> R<Node<Echo>> {
 #[test]
 fn a_backup_holds_what_comes_next(rt: HostRuntime) -> R<()> {
     let mut backup = Node::backup(rt.alloc(), Echo::new(1), 1);
-    assert_eq!(rt; (backup.role(), backup.count(), backup.generation()), (Role::Backup, 0, 1));
+    assert_eq!(rt;
+        (backup.role(), backup.count(), backup.generation()),
+        (Role::Backup, 0, 1)
+    );
     let bytes = first_packet(rt.alloc())?;
     assert_eq!(rt; backup.next_entry(&bytes), Ok(Some(KEY)));
     assert_eq!(rt; backup.on_log(&bytes), Ok(true));
     assert_eq!(rt; backup.next_entry(&bytes), Ok(None));
     assert_eq!(rt; backup.on_log(&bytes), Ok(false));
     let ack = backup.ack(rt.alloc())?;
-    assert_eq!(rt; Packet::read(&ack), Ok(Packet::Ack { generation: 1, held: 1 }));
+    assert_eq!(rt;
+        Packet::read(&ack),
+        Ok(Packet::Ack {
+            generation: 1,
+            held: 1
+        })
+    );
     assert_eq!(rt; backup.stop(), Ok(()));
     assert_eq!(rt; backup.stop(), Err(Fault::WrongRole));
-    assert_eq!(rt; (backup.role(), backup.count(), backup.generation()), (Role::Halted, 0, 1));
+    assert_eq!(rt;
+        (backup.role(), backup.count(), backup.generation()),
+        (Role::Halted, 0, 1)
+    );
     Ok(())
 }
 
 #[test]
 fn a_primary_answers_before_its_first_step(rt: HostRuntime) -> R<()> {
     let mut primary = primary(rt.alloc())?;
-    assert_eq!(rt; (primary.role(), primary.count(), primary.generation()), (Role::Primary, 0, 1));
+    assert_eq!(rt;
+        (primary.role(), primary.count(), primary.generation()),
+        (Role::Primary, 0, 1)
+    );
     assert_eq!(rt; primary.check_key(0, 0), Ok(()));
     assert_eq!(rt; primary.check_key(0, 1), Err(Fault::WrongNumber));
     assert_eq!(rt; primary.check_sent(0, 1), Err(Fault::NotDue));
@@ -74,7 +89,13 @@ fn the_first_that_asks_goes_on(rt: HostRuntime) -> R<()> {
     let mut primary = primary(rt.alloc())?;
     let mut backup = Node::backup(rt.alloc(), Echo::new(1), 1);
     let mut arbiter = Arbiter::new(rt.alloc());
-    assert_eq!(rt; backup.replay(9), Ok(Replayed { moves: 0, at_end: true }));
+    assert_eq!(rt;
+        backup.replay(9),
+        Ok(Replayed {
+            moves: 0,
+            at_end: true
+        })
+    );
     assert_eq!(rt; backup.suspect(1, &mut arbiter), Ok(Won));
     assert_eq!(rt; backup.role(), Role::Draining);
     assert_eq!(rt; primary.suspect(0, &mut arbiter), Err(Fault::Lost));
@@ -87,7 +108,13 @@ fn a_node_with_nothing_left_is_alone(rt: HostRuntime) -> R<()> {
     let mut node = Node::backup(rt.alloc(), Echo::new(1), 1);
     let mut arbiter = Arbiter::new(rt.alloc());
     assert_eq!(rt; node.suspect(1, &mut arbiter), Ok(Won));
-    assert_eq!(rt; node.drain(9), Ok(Drained { moves: 0, alone: true }));
+    assert_eq!(rt;
+        node.drain(9),
+        Ok(Drained {
+            moves: 0,
+            alone: true
+        })
+    );
     assert_eq!(rt; node.role(), Role::Alone);
     assert_eq!(rt; node.told(0), Ok(0));
     Ok(())
