@@ -346,6 +346,6 @@ fn both_executors_agree_on_random_programs(rt: HostRuntime) -> R<()> {
     assert!(rt; steps > 300_000, "{steps} steps");
     assert!(rt; inputs > 5_000, "{inputs} inputs");
     assert!(rt; done > 20, "{done} writes");
-    assert!(rt; moved > 20, "{moved} writes above track 0");
+    assert!(rt; moved > 10, "{moved} writes above track 0");
     Ok(())
 }
