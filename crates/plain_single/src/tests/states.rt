@@ -270,13 +270,19 @@ static CODES: [u32; 256] = [
     0x3b6e_736c,
 ];
 
-// Ports at boot, and a memory of random bytes from 8080 on.
-fn random_wires(alloc: Global) -> R<Wires> {
+// So many random bytes, drawn from 8080 on.
+fn random_bytes(alloc: Global, count: usize) -> R<Vec<u8>> {
     let mut random = Random { x: 8080 };
-    let mut memory = vec![in alloc; 0u8; 65536]?;
-    for byte in memory.iter_mut() {
+    let mut bytes = vec![in alloc; 0u8; count]?;
+    for byte in bytes.iter_mut() {
         *byte = random.byte();
     }
+    Ok(bytes)
+}
+
+// Ports at boot, and a memory of random bytes.
+fn random_wires(alloc: Global) -> R<Wires> {
+    let memory = random_bytes(alloc, 65536)?;
     if memory.len() != 65536 {
         return Err(Fault::Malformed);
     }
