@@ -132,6 +132,10 @@ impl Bus for Machine {
         port ^ 0x5a
     }
 
+    fn input_leaves_all(&self, _port: u8) -> bool {
+        false
+    }
+
     fn output(&mut self, port: u8, byte: u8) {
         self.port = Some(PortAccess::Out(port, byte));
     }
