@@ -13,7 +13,6 @@ use Rattle.event_callbacks.specs.declared.operations.Operation.{Operation}
 use Rattle.event_callbacks.specs.declared.operations.Operation.TheVariants as operation
 use Rattle.guest_board.specs.declared.ports.Device.{Device}
 use Rattle.guest_board.specs.declared.ports.Device.TheVariants.{SerialControl, SerialData, DiskSelect, DiskControl, DiskData, SenseSwitches, Nothing}
-use Rattle.guest_board.specs.declared.ports.TheConstants.{OPEN_BUS}
 
 -- which device stands at a port number
 abbrev pub device_at : ℕ → Device
@@ -48,7 +47,7 @@ with_disk d disk = record d { disk = disk }
 abbrev pub with_port : Devices → ℕ → serial.Port → Devices
 with_port d number port = record d { ports = slice_set d.ports number port }
 
--- IN: the byte that a device gives
+-- IN: the byte that a device gives; where none stands, the bus floats high
 abbrev pub byte_from : Wired → Device → ℕ
 byte_from w (SerialControl port) = serial.status_of (port_of w.devices port)
 byte_from w (SerialData port) = serial.data_in_answer (port_of w.devices port)
@@ -56,7 +55,7 @@ byte_from w DiskSelect = drives.status_of w.devices.disk
 byte_from w DiskControl = drives.position_of w.devices.disk
 byte_from w DiskData = drives.byte_of w.devices.disk
 byte_from w SenseSwitches = w.sense
-byte_from w Nothing = OPEN_BUS
+byte_from w Nothing = 0xFF
 
 -- IN: the devices after it
 abbrev pub devices_after_in : Devices → Device → Devices
