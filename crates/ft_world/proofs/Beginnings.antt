@@ -15,7 +15,7 @@ use Rattle.guest_board.specs.Recorded.{Counts}
 use Rattle.guest_board.specs.declared.input.Input.{Input}
 use Rattle.guest_board.specs.declared.input.Input.TheVariants.{Rx, Sector, Sent, Written}
 use Rattle.guest_board.specs.declared.setup.Setup.{Setup}
-use Rattle.guest_board.proofs.Moves.{guests_count, guests_issue_and_complete}
+use Rattle.guest_board.specs.MoveLaws.{guests_count, guests_issue_and_complete}
 use Rattle.shared_disk.specs.Records.{HasDrives, IsUnwritten, record_at}
 use Rattle.shared_disk.specs.declared.store.Record.{Record}
 use Rattle.terminals.specs.Screen.{Screen, blank}

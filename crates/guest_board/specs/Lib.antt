@@ -11,3 +11,4 @@ pub mod Fields
 pub mod Recorded
 pub mod Outstanding
 pub mod Running
+pub mod MoveLaws

@@ -1,6 +1,8 @@
 //! What the layers of a pair ask of a guest, so that they are proved for any.
 ghost use Rattle.std.specs.Prelude.{◌≡◌, ◌<◌, ◌≤◌, ℕ, IfSome, OnErr, OnOk, option_copied};
 ghost use Rattle.guest_board.specs.Machine.{Machine, refusal_of};
+ghost use Rattle.guest_board.specs.Outstanding.{ComesAndGoes};
+ghost use Rattle.guest_board.specs.Recorded.{Counts};
 ghost use Rattle.guest_board.specs.Running.{Quiet};
 ghost use Rattle.guest_board.specs.Lockstep.{Executes, Takes, IsInput, IsNumbered, HasRoom};
 ghost use Rattle.disk_dcdd.specs.Completion.{answered};
@@ -79,4 +81,10 @@ pub trait Lockstep: Sized {
         ensures few { result ≤ turns }
         ensures steps { Quiet machine (state self.old) result (state self.new) }
         ensures unchanged { result ≡ 0 → self.new ≡ self.old };
+
+    /// A law: the machine counts its steps.
+    ghost counts: { Counts machine };
+
+    /// A law: how its outstanding operations come and go.
+    ghost operations: { ComesAndGoes machine };
 }

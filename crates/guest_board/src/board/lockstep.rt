@@ -10,12 +10,17 @@ use i8080_words::R;
 impl<T: Completes, S: Completes, W: Completes> Lockstep for Board<T, S, W> {
     ghost use Rattle.guest_board.specs.Guest.{Guest};
     ghost use Rattle.guest_board.specs.Inputs.{some_altair};
+    ghost use Rattle.guest_board.specs.MoveLaws.{guests_count, guests_issue_and_complete};
 
     ghost State = { Guest };
 
     ghost state = { λ board. board.guest };
 
     ghost machine = { some_altair };
+
+    ghost counts = { guests_count };
+
+    ghost operations = { guests_issue_and_complete };
 
     #[inline(always)]
     fn step(&mut self) -> R<Option<OpId>> {
