@@ -3,6 +3,8 @@
 use Rattle.std.specs.Prelude.{ℕ, suc, Bool, true, false, ◌==◌, nat_le, ◌&&◌, ◌||◌, if◌then◌else◌, Option, Some, None, is_none, []}
 use Rattle.disk_dcdd.specs.declared.address.SectorAddress.{SectorAddress}
 use Rattle.disk_dcdd.specs.declared.controller.TheConstants.{GREATEST_NUMBER}
+use Rattle.event_callbacks.specs.declared.operations.OpId.{OpId}
+use Rattle.event_callbacks.specs.declared.operations.OpId.TheVariants as id
 use Rattle.event_callbacks.specs.declared.operations.Operation.{Operation}
 use Rattle.event_callbacks.specs.declared.operations.Operation.TheVariants.{Byte}
 use Rattle.guest_board.specs.Machine.{Machine}
@@ -10,7 +12,7 @@ use Rattle.guest_board.specs.declared.input.Input.{Input}
 use Rattle.guest_board.specs.declared.input.Input.TheVariants.{Rx, Sent, Sector, Written}
 
 -- how many steps it made and how many keys it took, the key that is not read, the byte that was read and not sent, how
--- many bytes it has sent, and whether the last of them is not accepted
+-- many bytes it has sent, whether the last of them is not accepted, and that byte
 pub record Echo : Type 0 where
   pub count : ℕ
   pub keys : ℕ
@@ -18,14 +20,18 @@ pub record Echo : Type 0 where
   pub byte : Option ℕ
   pub sent : ℕ
   pub waits : Bool
+  pub outgoing : ℕ
 
 abbrev pub at_boot : Echo
-at_boot = record { count = 0; keys = 0; key = None; byte = None; sent = 0; waits = false }
+at_boot = record { count = 0; keys = 0; key = None; byte = None; sent = 0; waits = false; outgoing = 0 }
 
 -- a byte that was read is sent, while none waits; else the key is read
 abbrev pub sends : Echo → ℕ → Echo × Option Operation
 sends e byte =
-    (record e { count = suc e.count; byte = None; sent = suc e.sent; waits = true }, Some (Byte 0 (suc e.sent) byte))
+    (
+      record e { count = suc e.count; byte = None; sent = suc e.sent; waits = true; outgoing = byte },
+      Some (Byte 0 (suc e.sent) byte),
+    )
 
 abbrev pub reads : Echo → Echo × Option Operation
 reads e = (record e { count = suc e.count; key = None; byte = e.key }, None)
@@ -54,10 +60,15 @@ after e (Sent port) = if e.waits && port == 0 then Some (record e { waits = fals
 after e (Sector drive sector number bytes) = None
 after e (Written number) = None
 
+-- the byte that is not accepted is outstanding
+abbrev pub is_outgoing : Echo → OpId → Bool
+is_outgoing e (id.Byte port number) = e.waits && (port == 0 && number == e.sent)
+is_outgoing e (id.Write number) = false
+
 abbrev pub nowhere : SectorAddress
 nowhere = record { drive = 0; track = 0; sector = 0 }
 
--- as a pair sees it: a machine without drives, of which no operation is kept
+-- as a pair sees it: a machine without drives
 abbrev pub echo : Machine Echo
 echo = record {
   boot = at_boot;
@@ -68,7 +79,7 @@ echo = record {
   count = λ e. e.count;
   is_spent = is_spent;
   keys = λ e port. e.keys;
-  find = λ e name. None;
+  find = λ e name. if is_outgoing e name then Some (Byte 0 e.sent e.outgoing) else None;
   due_byte = due_byte;
   selected = λ e. None;
   address = λ e drive sector. nowhere;

@@ -1,5 +1,6 @@
 //! A guest of a few numbers.
 ghost use Rattle.std.specs.Prelude.{◌≡◌, false};
+ghost use Rattle.event_callbacks.specs.declared.operations.Operation.TheVariants.{Byte};
 
 use disk_dcdd::{GREATEST_NUMBER, SectorAddress};
 use event_callbacks::{OpId, Operation};
@@ -8,8 +9,8 @@ use i8080_words::{Fault, R};
 use std::marker::Model;
 
 /// A guest that reads the key that came last and sends it at the next step. It sends no byte while one is not accepted,
-/// and idles then where it has no key to read. It keeps as many operations as it has room for; the step that would give
-/// one more wants memory.
+/// and idles then if it has no key to read. It has room for a given number of operations in all; the step that would give
+/// one more is out of memory.
 #[derive(Drop)]
 pub struct Echo {
     count: u64,
@@ -18,11 +19,14 @@ pub struct Echo {
     byte: Option<u8>,
     sent: u64,
     waits: bool,
+    outgoing: u8,
+    operation: Operation,
     room: u64,
 }
 
 impl Model for Echo {
-    ghost use Rattle.std.specs.Prelude.{◌≤◌};
+    ghost use Rattle.std.specs.Prelude.{◌≡◌, ◌≤◌};
+    ghost use Rattle.event_callbacks.specs.declared.operations.Operation.TheVariants.{Byte};
     ghost use Rattle.disk_dcdd.specs.declared.controller.TheConstants.{GREATEST_NUMBER};
     ghost use Rattle.echo_guest.specs.Echo as echo;
 
@@ -35,9 +39,11 @@ impl Model for Echo {
       byte = e.byte;
       sent = e.sent;
       waits = e.waits;
+      outgoing = e.outgoing;
     } };
 
-    ghost invariant = { λ e. (e.count ≤ GREATEST_NUMBER) × (e.keys ≤ GREATEST_NUMBER) × (e.sent ≤ e.count) };
+    ghost invariant = { λ e. (e.count ≤ GREATEST_NUMBER) × (e.keys ≤ GREATEST_NUMBER) × (e.sent ≤ e.count)
+        × (e.operation ≡ Byte 0 e.sent e.outgoing) };
 }
 
 impl Echo {
@@ -52,12 +58,26 @@ impl Echo {
             byte: None,
             sent: 0,
             waits: false,
+            outgoing: 0,
+            operation: byte_of(0, 0),
             room,
         }
     }
 }
 
+// The operation that sends a byte.
+fn byte_of(number: u64, byte: u8) -> Operation
+    ensures { result ≡ Byte 0 number byte }
+{
+    Operation::Byte {
+        port: 0,
+        number,
+        byte,
+    }
+}
+
 ghost use Rattle.echo_guest.specs.Echo.{Echo, at_boot, echo};
+ghost use Rattle.echo_guest.specs.MoveLaws.{echo_counts, echo_issues_and_completes};
 
 impl Lockstep for Echo {
     ghost State = { Echo };
@@ -65,6 +85,10 @@ impl Lockstep for Echo {
     ghost state = { λ e. e };
 
     ghost machine = { echo };
+
+    ghost counts = { echo_counts };
+
+    ghost operations = { echo_issues_and_completes };
 
     fn step(&mut self) -> R<Option<OpId>> {
         if self.count >= GREATEST_NUMBER {
@@ -83,8 +107,9 @@ impl Lockstep for Echo {
         }
         self.room -= 1;
         self.count += 1;
-        self.byte = None;
+        self.outgoing = self.byte.take().unwrap_or(0);
         self.sent += 1;
+        self.operation = byte_of(self.sent, self.outgoing);
         self.waits = true;
         Ok(Some(OpId::Byte(0, self.sent)))
     }
@@ -124,7 +149,10 @@ impl Lockstep for Echo {
         None
     }
 
-    fn outstanding(&self, _id: OpId) -> Option<&Operation> {
+    fn outstanding(&self, id: OpId) -> Option<&Operation> {
+        if self.waits && id == OpId::Byte(0, self.sent) {
+            return Some(&self.operation);
+        }
         None
     }
 

@@ -18,39 +18,6 @@ use Rattle.log_entry.specs.declared.entry.Entry.{Entry}
 use Rattle.log_entry.specs.declared.entry.Entry.TheVariants.{Mark, Rx}
 use Rattle.replayer.proofs.Fronts.{same_value}
 
--- ---- its count
-
-step_counts : (none : Bool) (byte : Option ℕ) (e : Echo) (x : Echo × Option Operation)
-    → cond none None (Some (moved e byte)) ≡ Some x → x.0.count ≡ suc e.count
-step_counts true byte e x h = absurd cc
-step_counts false None e x h = sym (ap (λ (p : Echo × Option Operation). p.0.count) (same_value (reads e) x h))
-step_counts false (Some byte) e x h =
-    sym (ap (λ (p : Echo × Option Operation). p.0.count) (same_value (sends e byte) x h))
-
-accepted_counts : (due : Bool) (e t : Echo) → cond due (Some (record e { waits = false })) None ≡ Some t
-    → t.count ≡ e.count
-accepted_counts true e t h = sym (ap (λ (u : Echo). u.count) (same_value (record e { waits = false }) t h))
-accepted_counts false e t h = absurd cc
-
-input_counts : (e t : Echo) (i : Input) → after e i ≡ Some t → t.count ≡ e.count
-input_counts e t (input.Rx port byte) h =
-    sym (ap (λ (u : Echo). u.count) (same_value (record e { keys = suc e.keys; key = Some byte }) t h))
-input_counts e t (input.Sent port) h = accepted_counts _ e t h
-input_counts e t (input.Sector drive sector number bytes) h = absurd cc
-input_counts e t (input.Written number) h = absurd cc
-
-spent_steps : (spent idle : Bool) (x : Echo × Option Operation) → spent ≡ true
-    → cond (spent || idle) None (Some x) ≡ None
-spent_steps true idle x h = refl
-spent_steps false idle x h = absurd cc
-
-pub echo_counts : Counts echo
-echo_counts = record {
-  by_step = λ s t gives made. step_counts _ _ s (t, gives) made;
-  by_input = λ s t i taken. input_counts s t i taken;
-  spent = λ s spent. spent_steps (is_spent s) (is_idle s) _ spent;
-}
-
 -- ---- its run
 
 pub on_trace : (s : Echo) (held : List Entry) → s ≡ at_boot → held ≡ Rx 0 0 0x48 ∷ Mark 2 ∷ [] → IsOnTrace echo s held
@@ -59,15 +26,15 @@ on_trace s held at are =
     (subst (λ held. IsOnTrace echo at_boot held) (sym are) (record {
       owes = false;
       moves = Take (input.Rx 0 0x48) ∷ Do None ∷ Do (Some (Byte 0 1 0x48)) ∷ [];
-      last = record { count = 2; keys = 1; key = None; byte = None; sent = 1; waits = true };
+      last = record { count = 2; keys = 1; key = None; byte = None; sent = 1; waits = true; outgoing = 0x48 };
       stands = record {
         runs = (
-          record { count = 0; keys = 1; key = Some 0x48; byte = None; sent = 0; waits = false },
+          record { count = 0; keys = 1; key = Some 0x48; byte = None; sent = 0; waits = false; outgoing = 0 },
           record { is_input = omega arith; room = omega arith; allowed = refl; taken = refl },
           (
-            record { count = 1; keys = 1; key = None; byte = Some 0x48; sent = 0; waits = false },
+            record { count = 1; keys = 1; key = None; byte = Some 0x48; sent = 0; waits = false; outgoing = 0 },
             refl,
-            (record { count = 2; keys = 1; key = None; byte = None; sent = 1; waits = true }, refl, refl),
+            (record { count = 2; keys = 1; key = None; byte = None; sent = 1; waits = true; outgoing = 0x48 }, refl, refl),
           ),
         );
         later = [];
