@@ -1,7 +1,6 @@
 //! A guest with what it has still to replay.
 ghost use Rattle.std.specs.Prelude.{◌≡◌, ◌≤◌, ◌↔◌, [], IfOk, IfErr, IsOk, OnErr};
 ghost use Rattle.i8080_words.specs.declared.refusal.Fault.TheVariants.{WrongRole};
-ghost use Rattle.guest_board.specs.Recorded.{Counts};
 ghost use Rattle.log_entry.specs.Entries.{last_count};
 ghost use Rattle.log_entry.specs.Standing.{IsOnTrace};
 ghost use Rattle.replayer.specs.Replaying.{Answers};
@@ -46,7 +45,6 @@ impl<B: Lockstep> Draining<B> {
     /// Makes at most `turns` moves, each of them a step or an entry. It makes fewer only where no entry is held any
     /// more or a step wants memory; `OutOfMemory` comes only where no move was made.
     pub fn drain(&mut self, turns: u64) -> R<Replayed>
-        requires counts { Counts B.machine }
         requires on_trace { IsOnTrace B.machine (B.state self.old.replayer.board) self.old.receiver.entries }
         ensures answers { Answers B.machine (B.state self.old.replayer.board) self.old.receiver.entries turns result
             (B.state self.new.replayer.board) self.new.receiver.entries }

@@ -1,6 +1,5 @@
 //! The moves of a guest by the entries that are held.
 ghost use Rattle.std.specs.Prelude.{◌≡◌, ◌≢◌, ◌<◌, [], OnErr};
-ghost use Rattle.guest_board.specs.Recorded.{Counts};
 ghost use Rattle.log_entry.specs.Standing.{IsOnTrace};
 ghost use Rattle.replayer.specs.Replaying.{Answers, AnswersStretch};
 
@@ -11,7 +10,6 @@ use log_channel::Receiver;
 
 // At most so many moves. Refused where none is made and the first wants memory.
 pub(crate) fn run<B: Lockstep>(board: &mut B, receiver: &mut Receiver, turns: u64) -> R<Replayed>
-    requires counts { Counts B.machine }
     requires on_trace { IsOnTrace B.machine (B.state board.old) receiver.old.entries }
     ensures answers { Answers B.machine (B.state board.old) receiver.old.entries turns result (B.state board.new)
         receiver.new.entries }
@@ -45,7 +43,6 @@ pub(crate) fn run<B: Lockstep>(board: &mut B, receiver: &mut Receiver, turns: u6
 
 // Steps up to the first entry that is held, or that entry at its count: how many moves were made, of at most so many.
 fn stretch<B: Lockstep>(board: &mut B, receiver: &mut Receiver, turns: u64) -> R<u64>
-    requires counts { Counts B.machine }
     requires on_trace { IsOnTrace B.machine (B.state board.old) receiver.old.entries }
     requires some { 0 < turns }
     requires entry { receiver.old.entries ≢ [] }

@@ -1,6 +1,5 @@
 //! A guest that repeats the moves of another.
 ghost use Rattle.std.specs.Prelude.{◌≡◌, ◌≤◌, OnErr};
-ghost use Rattle.guest_board.specs.Recorded.{Counts};
 ghost use Rattle.log_entry.specs.Entries.{last_count};
 ghost use Rattle.log_entry.specs.Standing.{IsOnTrace};
 ghost use Rattle.replayer.specs.Replaying.{Answers};
@@ -51,7 +50,6 @@ impl<B: Lockstep> Replayer<B> {
     /// Makes at most `turns` moves, each of them a step or an entry. It makes fewer only where no entry is held any
     /// more or a step wants memory; `OutOfMemory` comes only where no move was made.
     pub fn replay(&mut self, receiver: &mut Receiver, turns: u64) -> R<Replayed>
-        requires counts { Counts B.machine }
         requires on_trace { IsOnTrace B.machine (B.state self.old.board) receiver.old.entries }
         ensures answers { Answers B.machine (B.state self.old.board) receiver.old.entries turns result
             (B.state self.new.board) receiver.new.entries }

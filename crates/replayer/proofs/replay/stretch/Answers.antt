@@ -26,13 +26,13 @@ returns-then-stopped-gt0-clause-answers g c =
     let ahead = c.if-ahead-gt0.true in
     let most = c.min.ensures in
     steps_made g.B.Lockstep.machine (g.B.Lockstep.state c.args.board.now) (g.B.Lockstep.state c.run-stopped.new.guest)
-    c.args.receiver.now.entries c.in-Some.front.now c.args.turns c.min.result c.run-stopped.result c.requires.counts
+    c.args.receiver.now.entries c.in-Some.front.now c.args.turns c.min.result c.run-stopped.result g.met.B.Lockstep.counts
     (sym c.in-Some.ensures.entry) (omega arith) (omega arith) c.run-stopped.ensures.runs c.if-stopped-gt0.true
 
 pub returns-then-stopped-gt0-clause-on_trace : goal.returns-then-stopped-gt0-clause-on_trace
 returns-then-stopped-gt0-clause-on_trace g c =
     still_on g.B.Lockstep.machine (g.B.Lockstep.state c.args.board.now) (g.B.Lockstep.state c.run-stopped.new.guest)
-    c.args.receiver.now.entries c.args.receiver.now.entries c.run-stopped.result.steps c.requires.counts
+    c.args.receiver.now.entries c.args.receiver.now.entries c.run-stopped.result.steps g.met.B.Lockstep.counts
     c.requires.on_trace (returns-then-stopped-gt0-clause-answers g c).2
 
 pub returns-then-ahead-gt0-clause-answers : goal.returns-then-ahead-gt0-clause-answers
@@ -45,7 +45,7 @@ returns-then-ahead-gt0-clause-answers g c =
     let none = c.if-stopped-gt0.false in
     wants_memory g.B.Lockstep.machine (g.B.Lockstep.state c.args.board.now) (g.B.Lockstep.state c.run-stopped.new.guest)
     c.args.receiver.now.entries c.in-Some.front.now c.args.turns c.min.result c.run-stopped.result c.in-Refused.fault
-    c.requires.counts c.requires.on_trace (sym c.in-Some.ensures.entry) (omega arith) (omega arith)
+    g.met.B.Lockstep.counts c.requires.on_trace (sym c.in-Some.ensures.entry) (omega arith) (omega arith)
     c.run-stopped.ensures.runs c.in-Refused.is (omega arith)
 
 pub returns-then-ahead-gt0-clause-on_trace : goal.returns-then-ahead-gt0-clause-on_trace
@@ -89,7 +89,7 @@ returns-in-Ok-clause-answers g c =
 pub returns-in-Ok-clause-on_trace : goal.returns-in-Ok-clause-on_trace
 returns-in-Ok-clause-on_trace g c =
     still_on g.B.Lockstep.machine (g.B.Lockstep.state c.args.board.now) (g.B.Lockstep.state c.take.new.self)
-    c.args.receiver.now.entries c.pop.new.self.entries 1 c.requires.counts c.requires.on_trace
+    c.args.receiver.now.entries c.pop.new.self.entries 1 g.met.B.Lockstep.counts c.requires.on_trace
     (returns-in-Ok-clause-answers g c).2
 
 -- ---- a mark
@@ -107,5 +107,5 @@ returns-in-None-clause-answers g c =
 pub returns-in-None-clause-on_trace : goal.returns-in-None-clause-on_trace
 returns-in-None-clause-on_trace g c =
     still_on g.B.Lockstep.machine (g.B.Lockstep.state c.args.board.now) (g.B.Lockstep.state c.args.board.now)
-    c.args.receiver.now.entries c.pop-in-None.new.self.entries 1 c.requires.counts c.requires.on_trace
+    c.args.receiver.now.entries c.pop-in-None.new.self.entries 1 g.met.B.Lockstep.counts c.requires.on_trace
     (returns-in-None-clause-answers g c).2
