@@ -18,4 +18,4 @@ pub mod Busy
 pub mod Few
 pub mod Inputs
 pub mod OnDisk
-pub mod Laws
+pub mod Lawful

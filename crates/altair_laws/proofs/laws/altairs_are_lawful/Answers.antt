@@ -1,4 +1,4 @@
-use Rattle.altair_laws.proofs.Laws.{lawful}
+use Rattle.altair_laws.proofs.Lawful.{lawful}
 use Rattle.altair_laws.proofs.laws.altairs_are_lawful.Goals as goal
 
 pub returns : goal.returns
