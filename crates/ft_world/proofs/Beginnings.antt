@@ -22,7 +22,7 @@ use Rattle.terminals.specs.Screen.{Screen, blank}
 use Rattle.pair_protocol.specs.Change.{AtBoot}
 use Rattle.pair_protocol.specs.Lawful.{Lawful}
 use Rattle.pair_protocol.specs.Node.{Backup, Node, Primary, Role, first_node}
-use Rattle.pair_protocol.specs.OnDisk.{StaysOnDisk}
+use Rattle.altair_laws.specs.OnDisk.{StaysOnDisk}
 use Rattle.pair_protocol.specs.Settled.{is_backup}
 use Rattle.pair_protocol.specs.World.{no_terminal, opening}
 use Rattle.pair_protocol.proofs.Moves.{same_some}

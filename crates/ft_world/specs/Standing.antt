@@ -4,7 +4,7 @@ use Rattle.disk_dcdd.specs.declared.address.SectorAddress.{SectorAddress}
 use Rattle.disk_dcdd.specs.declared.controller.TheConstants.{DRIVES}
 use Rattle.guest_board.specs.Machine.{Machine, Move}
 use Rattle.pair_protocol.specs.Lawful.{Lawful, Reaches}
-use Rattle.pair_protocol.specs.OnDisk.{StaysOnDisk}
+use Rattle.altair_laws.specs.OnDisk.{StaysOnDisk}
 use Rattle.pair_protocol.specs.World.{World}
 use Rattle.guest_board.specs.Recorded.{Counts}
 use Rattle.guest_board.specs.Outstanding.{ComesAndGoes, AreFew}

@@ -12,7 +12,7 @@ use crate::world::World;
 use event_callbacks::{Callbacks, Completes};
 use guest_board::{Board, BoardMemory, Setup};
 use i8080_words::Fault;
-use pair_protocol::{altairs_are_lawful, altairs_stay_on_their_disks};
+use altair_laws::{altairs_are_lawful, altairs_stay_on_their_disks};
 use shared_disk::SectorStore;
 use std::alloc::Global;
 

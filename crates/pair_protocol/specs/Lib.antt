@@ -1,6 +1,4 @@
 pub mod Lawful
-pub mod AltairStands
-pub mod OnDisk
 pub mod Copying
 pub mod Waiting
 pub mod Node
@@ -18,5 +16,4 @@ pub mod Faithful
 pub mod Grows
 pub mod Traces
 pub mod Laws
-pub mod AltairPairs
 pub mod Examples

@@ -1,12 +1,8 @@
 //! The protocol of a pair: worlds, events, what a faithful world is, and the law that every event keeps it. No code.
 #![tactic(auto)]
 
-mod altair;
 mod laws;
 
-pub use altair::{
-    altair_pairs_are_faithful, altairs_are_lawful, altairs_stay_on_their_disks, altairs_stay_within,
-};
 pub use laws::{
     actions_are_faithful, events_are_actions, events_are_faithful, events_grow,
     every_event_is_answered, joining_nodes_are_given, nodes_stand, pairs_without_copies,

@@ -1,0 +1,34 @@
+-- An Altair's sector is busy while a write to it is outstanding: the controller waits for each outstanding write.
+use Rattle.std.proofs.Common.{◌≡◌, ℕ, Bool, true, false, List, [], ◌∷◌, inl, inr, refl, sym, ap, ◌∙◌}
+use Rattle.std.specs.Prelude.{◌||◌}
+use Rattle.std.specs.List.{list_any}
+use Rattle.disk_dcdd.specs.Address.{address_of}
+use Rattle.disk_dcdd.specs.Completion.{is_busy_on}
+use Rattle.disk_dcdd.specs.Drive.{drive_of}
+use Rattle.disk_dcdd.specs.Sector.{is_at, place_of}
+use Rattle.disk_dcdd.specs.declared.sector.SectorWrite.{SectorWrite}
+use Rattle.guest_board.specs.Guest.{Guest, address_under}
+use Rattle.altair_laws.specs.Stands.{AreWrites, IsPending}
+use Rattle.pair_protocol.specs.Lawful.{Among}
+use Rattle.pair_protocol.proofs.Disk.{same_address-refl}
+
+some_is : {A : Type 0} (test : A → Bool) (xs : List A) (x : A) → Among x xs → test x ≡ true → list_any test xs ≡ true
+some_is test [] x m h = absurd m
+some_is test (y ∷ xs) x m h = elim m [
+  | inl e ↦ first (test y) (list_any test xs) (sym (ap test e) ∙ h)
+  | inr m ↦ second (test y) (list_any test xs) (some_is test xs x m h)
+]
+  where
+    first : (a b : Bool) → a ≡ true → (a || b) ≡ true
+    first true b e = refl
+    first false b e = cc
+
+    second : (a b : Bool) → b ≡ true → (a || b) ≡ true
+    second true b e = refl
+    second false b e = e
+
+pub busy_is : (g : Guest) (w : SectorWrite) (drive sector : ℕ) → AreWrites g → IsPending g w
+    → address_of w ≡ address_under g drive sector → is_busy_on g.devices.disk sector drive ≡ true
+busy_is g w drive sector writes found there =
+    some_is (is_at drive (drive_of g.devices.disk drive).track sector) g.devices.disk.outstanding (place_of w)
+    (writes.placed w found) (same_address-refl (address_of w) (address_under g drive sector) there)

@@ -1,0 +1,53 @@
+-- An input that an Altair takes is one of a port or a sector that is there, and the keys of its port have room for one
+-- more: a port takes what comes to it, and of the drives one that is attached is selected, if any.
+use Rattle.std.proofs.Common.{◌≡◌, ℕ, ◌<◌, true, false, List, Option, Some, None, refl, arith}
+use Rattle.std.specs.Prelude.{IfSome, not, slice_index, nat_lt, is_none, ◌==◌, ◌&&◌}
+use Rattle.std.specs.Option.{option_map_or}
+use Rattle.std.proofs.lemmas.Bool.{ltb-true, eqb-true, and_parts, both_ways}
+use Rattle.std.proofs.lemmas.Option.{cond_some}
+use Rattle.serial_2sio.specs.Port as serial
+use Rattle.disk_dcdd.specs.Completion.{is_selected, is_head_loaded, is_sector_due, is_sector_busy}
+use Rattle.disk_dcdd.specs.Drive.{Drives}
+use Rattle.disk_dcdd.specs.declared.address.SectorAddress.{SectorAddress}
+use Rattle.disk_dcdd.specs.declared.controller.TheConstants.{DRIVES, GREATEST_NUMBER}
+use Rattle.disk_dcdd.specs.declared.sector.TheConstants.{SECTORS}
+use Rattle.event_callbacks.specs.Completions.{port_of, is_due}
+use Rattle.event_callbacks.specs.declared.devices.Done.TheVariants as done
+use Rattle.event_callbacks.specs.declared.devices.TheConstants.{PORTS}
+use Rattle.guest_board.specs.Guest.{Guest, altair, take_from, after_rx, after_sent, after_sector, may_take_sector}
+use Rattle.guest_board.specs.Lockstep.{IsInput, HasRoom}
+use Rattle.guest_board.specs.declared.input.Input.{Input}
+use Rattle.guest_board.specs.declared.input.Input.TheVariants.{Rx, Sent, Sector, Written}
+use Rattle.guest_board.specs.declared.setup.Setup.{Setup}
+use Rattle.altair_laws.proofs.Drives.{Stands}
+
+-- a drive that is selected is one of those that a controller may have
+selected_there : (d : Drives) (drive : ℕ) → Stands d → is_selected d drive ≡ true → drive < DRIVES
+selected_there d drive h = of d.selected h.selected
+  where
+    of : (o : Option ℕ) → IfSome o (λ n. n < d.attached) → option_map_or (λ selected. selected == drive) o false ≡ true
+        → drive < DRIVES
+    of None below e = absurd (both_ways false refl e)
+    of (Some selected) below e =
+        let same = eqb-true selected drive e in
+        let few = h.few in
+        omega arith
+
+pub accepts_is : (setup : Setup) (sectors : SectorAddress → List ℕ) (g t : Guest) (input : Input)
+    → Stands g.devices.disk → take_from g input ≡ Some t → IsInput input × HasRoom (altair setup sectors) g input
+accepts_is setup sectors g t (Rx port byte) h e =
+    let may = (cond_some (nat_lt port PORTS && nat_lt (slice_index g.keys port) GREATEST_NUMBER)
+    (after_rx g port byte) t e).0 in
+    let both = and_parts (nat_lt port PORTS) (nat_lt (slice_index g.keys port) GREATEST_NUMBER) may in
+    (ltb-true port PORTS both.0, ltb-true (slice_index g.keys port) GREATEST_NUMBER both.1)
+accepts_is setup sectors g t (Sent port) h e =
+    let due = (cond_some (is_due g.devices (done.Sent port)) (after_sent g port) t e).0 in
+    (ltb-true port PORTS (and_parts (nat_lt port PORTS) (serial.is_sent_due (port_of g.devices port)) due).0, tt)
+accepts_is setup sectors g t (Sector drive sector number bytes) h e =
+    let disk = g.devices.disk in
+    let may = (cond_some (may_take_sector g drive sector bytes) (after_sector g sector bytes) t e).0 in
+    let both = and_parts (is_selected disk drive) (is_due g.devices (done.Sector sector bytes)) may in
+    let due = (and_parts (is_sector_due disk sector) (not (is_sector_busy disk sector)) both.1).0 in
+    let there = (and_parts (is_head_loaded disk && is_none disk.current) (nat_lt sector SECTORS) due).1 in
+    ((selected_there disk drive h both.0, ltb-true sector SECTORS there), tt)
+accepts_is setup sectors g t (Written number) h e = (tt, tt)
