@@ -35,6 +35,7 @@ pub mod Given
 pub mod OneMore
 pub mod Runs
 pub mod Growth
+pub mod Wanting
 pub mod Scripts
 pub mod AltairMoves
 pub mod AltairOperations

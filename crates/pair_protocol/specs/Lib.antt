@@ -18,5 +18,6 @@ pub mod Faithful
 pub mod Grows
 pub mod Traces
 pub mod Laws
+pub mod Wanting
 pub mod AltairPairs
 pub mod Examples
