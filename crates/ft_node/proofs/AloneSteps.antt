@@ -136,7 +136,7 @@ stop_by M x t turns fault named true idle when_idle when_spent else is none e =
 stop_by M x t turns fault named false true when_idle when_spent else is none e =
     for_reason M x t turns named _ (when_idle (sym e)) (Waits is (none_is (M.step t) none))
 stop_by M x t turns fault named false false when_idle when_spent else is none e =
-    for_reason M x t turns named _ (else (λ other. absurd cc) (λ other. absurd cc)) Short
+    for_reason M x t turns named _ (else (λ other. absurd cc) (λ other. absurd cc)) (Short is none)
 
 pub stops : {S : Type 0} (M : Machine S) (x : Node S) (s t : S) (generation turns : ℕ) (r : Stopped) (fault : Fault)
     (named : Why) → IsAlone s generation x → RunsOn M s turns r t → r.reason ≡ reason.Refused fault → 0 < r.steps

@@ -1,5 +1,5 @@
 -- Nodes of the small guest that hold nothing: they have nothing to replay, also after they asked the arbiter.
-use Rattle.std.proofs.Common.{◌≡◌, ℕ, zero, suc, true, false, Option, Some, None, List, [], ◌∷◌, drop, Result, Ok, Err, refl, sym, ap, subst, ◌∙◌}
+use Rattle.std.proofs.Common.{◌≡◌, ℕ, zero, suc, true, false, Option, Some, None, List, [], ◌∷◌, drop, Result, Ok, Err, refl, sym, subst, ◌∙◌}
 use Rattle.arbiter_core.specs.Winners.{winner_of}
 use Rattle.arbiter_core.specs.declared.arbiter.Asking.{Asking}
 use Rattle.arbiter_core.specs.declared.arbiter.Won.{Won}

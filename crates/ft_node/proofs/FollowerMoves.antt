@@ -11,7 +11,7 @@ use Rattle.log_channel.specs.Channel.{Receiving}
 use Rattle.log_entry.specs.declared.entry.Entry.{Entry}
 use Rattle.pair_protocol.specs.Node.{Node, Role, Backup, is_role}
 use Rattle.pair_protocol.specs.Refusals as refusals
-use Rattle.pair_protocol.specs.Rows.{Replays, NoTurns, AtEnd, NoMemory, OneStep, OneMark, OneInput, MovesSome}
+use Rattle.pair_protocol.specs.Rows.{IsBehind, Replays, NoTurns, AtEnd, NoMemory, OneStep, OneMark, OneInput, MovesSome}
 use Rattle.replayer.specs.Replaying as replaying
 use Rattle.replayer.specs.declared.replayer.Replayed.{Replayed}
 use Rattle.ft_node.specs.Calls as calls
@@ -99,14 +99,23 @@ reached M x s k held n t left e within (replaying.Then {n = m} {t = v} {now = no
 
 -- ---- the ends
 
+-- it is behind where the replayer is
+behind : {S : Type 0} (M : Machine S) (x : Node S) (s : S) (left : List Entry) → x.machine ≡ s
+    → drop x.replayed x.held ≡ left → replaying.IsBehind M s left → IsBehind M x
+behind M x s left same e b = record {
+  next = b.first;
+  held = (first_left x.held b.rest b.first x.replayed (e ∙ b.held_are)).0;
+  later = rw same b.later;
+}
+
 ended : {S : Type 0} (M : Machine S) (x : Node S) (t : S) (turns n now : ℕ) (left : List Entry)
     → drop now x.held ≡ left → now ≤ length x.held → replaying.Ends M turns n t left
     → (rest : ℕ) × (n + rest ≡ turns) × Replays M (at x t now) rest (at x t now) 0
 ended M x t turns n now left e within replaying.AllTurns = (0, omega arith, NoTurns)
 ended M x t turns n now left e within (replaying.AtEnd lt) =
     (suc (turns - suc n), omega arith, AtEnd (nothing_left x.held now within e))
-ended M x t turns n now left e within (replaying.WantsMemory some lt behind) =
-    (suc (turns - suc n), omega arith, NoMemory)
+ended M x t turns n now left e within (replaying.WantsMemory some lt late) =
+    (suc (turns - suc n), omega arith, NoMemory (behind M (at x t now) t left refl e late))
 
 none_made : {S : Type 0} (M : Machine S) (s : S) (held : List Entry) (n : ℕ) (t : S) (left : List Entry) → n ≡ 0
     → replaying.Replays M s held n t left → left ≡ held
@@ -135,24 +144,6 @@ at_end_by false true xs left now h e within is =
     let all : now ≡ length xs = eqb-true now (length xs) is in
     let yes : IsTrue false = h.1 (sym e ∙ drop_all now xs (omega arith)) in
     absurd cc
-
--- it is behind where the replayer is
-behind : {S : Type 0} (M : Machine S) (x : Node S) (s : S) (left : List Entry) → x.machine ≡ s
-    → drop x.replayed x.held ≡ left → replaying.IsBehind M s left → calls.IsBehind M x
-behind M x s left same e b = record {
-  next = b.first;
-  held = (first_left x.held b.rest b.first x.replayed (e ∙ b.held_are)).0;
-  later = rw same b.later;
-}
-
-stops_at : {S : Type 0} (M : Machine S) (x : Node S) (t : S) (turns n now : ℕ) (left : List Entry)
-    → drop now x.held ≡ left → now ≤ length x.held → replaying.Ends M turns n t left
-    → calls.StopsAt M turns n (at x t now)
-stops_at M x t turns n now left e within replaying.AllTurns = inl refl
-stops_at M x t turns n now left e within (replaying.AtEnd lt) =
-    inr (inl (eq-eqb now (length x.held) (nothing_left x.held now within e)))
-stops_at M x t turns n now left e within (replaying.WantsMemory some lt late) =
-    inr (inr (behind M (at x t now) t left refl e late))
 
 -- ---- what the call says
 
@@ -184,7 +175,7 @@ still role x s t r new f held same_state same_left = record {
 pub repeats : {S : Type 0} (M : Machine S) (role : Role) (x : Node S) (s t : S) (r new : Receiving) (turns : ℕ)
     (result : Result Replayed Fault) → IsFollower role s r x → new ≡ record r { entries = new.entries }
     → replaying.Answers M s r.entries turns result t new.entries
-    → calls.Gives result ((0 < turns) × calls.IsBehind M x × IsFollower role t new x)
+    → calls.Gives result ((0 < turns) × IsBehind M x × IsFollower role t new x)
     (calls.Repeats M turns x (IsFollower role t new))
 repeats M role x s t r new turns (Err fault) f held a =
     (a.0, (a.1, behind M x s r.entries f.machine (sym f.left) a.2, still role x s t r new f held a.3 a.4))
@@ -200,7 +191,6 @@ repeats M role x s t r new turns (Ok q) f held a =
       moves = subst (λ s. Replays M (at x s x.replayed) turns (at x t now) q.moves) (sym f.machine) moves;
       some = moves_some M x t turns q.moves new.entries f.within
           (λ none. none_made M s r.entries q.moves t new.entries none a.replays ∙ f.left) a.ends;
-      stops = stops_at M x t turns q.moves now new.entries so_far.left_are so_far.within a.ends;
       ends = at_end_by q.at_end (eqb now (length x.held)) x.held new.entries now a.at_end so_far.left_are so_far.within
           refl;
       after = follows role x s t r new now f held so_far.left_are so_far.within;
@@ -217,6 +207,6 @@ pub backup_replays : {S : Type 0} (M : Machine S) (x : Node S) (s t : S) (r new 
     → calls.Replaying M turns x result (IsFollower Backup t new)
 backup_replays M x s t r new turns result f held a =
     subst (λ refusal. calls.Unless {A = Replayed} refusal result (IsFollower Backup t new x)
-    (calls.Gives result ((0 < turns) × calls.IsBehind M x × IsFollower Backup t new x)
+    (calls.Gives result ((0 < turns) × IsBehind M x × IsFollower Backup t new x)
     (calls.Repeats M turns x (IsFollower Backup t new))))
     (sym (in_role Backup x s r f refl)) (repeats M Backup x s t r new turns result f held a)

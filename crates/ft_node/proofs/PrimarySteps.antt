@@ -151,6 +151,12 @@ spent_why true none is = refl
 spent_why false true is = cc
 spent_why false false is = cc
 
+nothing_why : (spent none : Bool) → cond spent (Some Spent) (cond none (Some Idle) None) ≡ None
+    → (spent ≡ false) × (none ≡ false)
+nothing_why true none is = cc
+nothing_why false true is = cc
+nothing_why false false is = (refl, refl)
+
 left_over : (turns n : ℕ) → n < turns → turns ≡ n + suc (turns - suc n)
 left_over turns n within = omega arith
 
@@ -196,10 +202,13 @@ steps_to M s t l new sd c x turns a laws p valid (table.IsSpent {n = n} lt q is)
     }
 steps_to M s t l new sd c x turns a laws p valid (table.WantsMemory {n = n} lt q is) =
     let r = quietly M s t l sd c x n laws p q in
+    let why = nothing_why (M.is_spent t) (is_none (M.step t)) is in
     record {
       y = r.y;
       advances =
-          r.ahead (suc (turns - suc n)) 0 turns n r.y event.Memory (left_over turns n lt) (omega arith) rows.Short;
+          r.ahead (suc (turns - suc n)) 0 turns n r.y event.Memory (left_over turns n lt) (omega arith)
+          (rows.Short (ap M.is_spent r.primary.machine ∙ why.0)
+          (ap (λ s. is_none (M.step s)) r.primary.machine ∙ why.1));
       primary = r.primary;
     }
 

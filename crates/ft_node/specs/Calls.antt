@@ -9,7 +9,6 @@ use Rattle.guest_board.specs.Machine.{Machine}
 use Rattle.guest_board.specs.declared.input.Input.{Input}
 use Rattle.i8080_words.specs.declared.refusal.Fault.{Fault}
 use Rattle.i8080_words.specs.declared.refusal.Fault.TheVariants.{OutOfMemory, Malformed, Lost}
-use Rattle.log_entry.specs.Entries.{count_of}
 use Rattle.log_entry.specs.declared.entry.Entry.{Entry}
 use Rattle.log_channel.specs.Packet.{packet_bytes, IsPacket}
 use Rattle.log_channel.specs.declared.packet.Packet.{Packet}
@@ -20,7 +19,7 @@ use Rattle.arbiter_core.specs.declared.arbiter.Won.{Won}
 use Rattle.pair_protocol.specs.Event as event
 use Rattle.pair_protocol.specs.Node.{Node, Role, Primary, Backup, holds, hears, halts, wins, keys_covered}
 use Rattle.pair_protocol.specs.Refusals as refusals
-use Rattle.pair_protocol.specs.Rows.{Advances, Replays, MovesSome, at_end, after_drain, took}
+use Rattle.pair_protocol.specs.Rows.{Advances, IsBehind, Replays, MovesSome, at_end, after_drain, took}
 use Rattle.ft_node.specs.declared.ran.Ran.{Ran}
 use Rattle.ft_node.specs.declared.ran.Drained.{Drained}
 use Rattle.pair_events.specs.declared.reply.Why.{Why}
@@ -141,24 +140,12 @@ Hears (Some (Ack generation held)) x result Is =
 Hears _ x result Is =
     Unless (refusals.first_of (refusals.role_refusal (Primary ∷ []) x ∷ Some Malformed ∷ [])) result (Is x) ⊥
 
--- its next move is a step: the entry that comes next is at a later count
-pub record IsBehind {S : Type 0} (M : Machine S) (x : Node S) : Type 0 where
-  pub next : Entry
-  pub held : slice_get x.held x.replayed ≡ Some next
-  pub later : M.count x.machine < count_of next
-
--- why no more moves were made: as many as were asked for are made, none is left, or the next is a step, which wants
--- memory
-abbrev pub StopsAt : {S : Type 0} → Machine S → ℕ → ℕ → Node S → Type 0
-StopsAt M turns made y = (made ≡ turns) ⊎ (at_end y ≡ true) ⊎ IsBehind M y
-
 -- moves of a backup by what it holds
 pub record Repeats {S : Type 0} (M : Machine S) (turns : ℕ) (x : Node S) (Is : Node S → Type 0) (r : Replayed)
     : Type 0 where
   pub y : Node S
   pub moves : Replays M x turns y r.moves
   pub some : MovesSome x turns r.moves
-  pub stops : StopsAt M turns r.moves y
   pub ends : r.at_end ≡ at_end y
   pub after : Is y
 
@@ -173,7 +160,6 @@ pub record Empties {S : Type 0} (M : Machine S) (turns : ℕ) (x : Node S) (Is :
   pub y : Node S
   pub moves : Replays M x turns y d.moves
   pub some : MovesSome x turns d.moves
-  pub stops : StopsAt M turns d.moves y
   pub ends : d.alone ≡ at_end y
   pub after : Is (after_drain y (at_end y))
 

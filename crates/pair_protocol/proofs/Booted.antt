@@ -10,7 +10,7 @@ use Rattle.log_entry.specs.declared.entry.Entry.{Entry}
 use Rattle.pair_protocol.specs.Event.{Why}
 use Rattle.pair_protocol.specs.Node.{Node, Role, keys_covered}
 use Rattle.pair_protocol.specs.Refusals.{step_refusal, key_refusal, sent_refusal, done_refusal, under_refusal, release_refusal, place_refusal}
-use Rattle.pair_protocol.specs.Rows.{Advances, NoneLeft, Ends, Waits, Short, Gives, Goes, Replays, NoTurns, AtEnd, NoMemory, OneStep, OneMark, OneInput}
+use Rattle.pair_protocol.specs.Rows.{Advances, NoneLeft, Ends, Waits, Short, Gives, Goes, IsBehind, Replays, NoTurns, AtEnd, NoMemory, OneStep, OneMark, OneInput}
 
 -- ---- to the machine that boots elsewhere
 
@@ -29,12 +29,15 @@ module _ {S : Type 0} (M : Machine S) (start : S) (sectors : SectorAddress → L
     stands = Stands-booted s held h.owes h.moves h.last h.stands;
   }
 
+  pub IsBehind-booted : (x : Node S) → IsBehind M x → IsBehind (booted_from M start sectors) x
+  IsBehind-booted x behind = record { next = behind.next; held = behind.held; later = behind.later }
+
   pub Advances-booted : {x y : Node S} {turns made : ℕ} {why : Why} → Advances M x turns y made why
       → Advances (booted_from M start sectors) x turns y made why
   Advances-booted NoneLeft = NoneLeft
   Advances-booted (Ends spent) = Ends spent
   Advances-booted (Waits unspent idle) = Waits unspent idle
-  Advances-booted Short = Short
+  Advances-booted (Short unspent goes) = Short unspent goes
   Advances-booted (Gives s o made) = Gives s o made
   Advances-booted (Goes s made rest) = Goes s made (Advances-booted rest)
 
@@ -42,7 +45,7 @@ module _ {S : Type 0} (M : Machine S) (start : S) (sectors : SectorAddress → L
       → Replays (booted_from M start sectors) x turns y made
   Replays-booted NoTurns = NoTurns
   Replays-booted (AtEnd none) = AtEnd none
-  Replays-booted NoMemory = NoMemory
+  Replays-booted (NoMemory behind) = NoMemory (IsBehind-booted _ behind)
   Replays-booted (OneStep e s gives next below made rest) = OneStep e s gives next below made (Replays-booted rest)
   Replays-booted (OneMark e next at mark rest) = OneMark e next at mark (Replays-booted rest)
   Replays-booted (OneInput e i s next at input taken rest) = OneInput e i s next at input taken (Replays-booted rest)

@@ -35,5 +35,6 @@ pub mod Given
 pub mod OneMore
 pub mod Runs
 pub mod Growth
+pub mod Wanting
 pub mod Scripts
 pub mod Booted

@@ -82,7 +82,7 @@ pub advance_changes : {S : Type 0} (M : Machine S) (C : Copying S) (w : World S)
 advance_changes M C w n x0 r h which NoneLeft u e = Stays
 advance_changes M C w n x0 r h which (Waits p q) u e = Stays
 advance_changes M C w n x0 r h which (Ends q) u e = Stays
-advance_changes M C w n x0 r h which Short u e = Stays
+advance_changes M C w n x0 r h which (Short unspent goes) u e = Stays
 advance_changes M C w n x0 r h which (Gives {x = x} s o q) u e =
     on M C w n x (stepped M x x.role s (Some o)) (stepped M x x.role s (Some o))
     (steps_once M C (with_node w n x) n x r s (Some o) which (moving w n x0 x r h u e) q) Stays
@@ -98,7 +98,7 @@ pub replay_changes : {S : Type 0} (M : Machine S) (C : Copying S) (w : World S) 
     Changes M C (with_node w n x) (with_node w n y) × (y.running ≡ true) × (y.role ≡ r)
 replay_changes M C w n x0 r h which NoTurns u e = (Stays, u, e)
 replay_changes M C w n x0 r h which (AtEnd q) u e = (Stays, u, e)
-replay_changes M C w n x0 r h which NoMemory u e = (Stays, u, e)
+replay_changes M C w n x0 r h which (NoMemory behind) u e = (Stays, u, e)
 replay_changes M C w n x0 r h which (OneStep {x = x} {y = y} en s o g c q rest) u e =
     let t = replay_changes M C w n x0 r h which rest u e in
     (on M C w n x (plainly_steps x s) y (ReplaysStep n x r en s o (moving w n x0 x r h u e) which g c q) t.0, t.1, t.2)

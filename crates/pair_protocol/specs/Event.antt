@@ -55,13 +55,6 @@ pub data Reply : Type 0 where
   GenerationIs : (generation : ℕ) → Reply
   Refused : (fault : Fault) → Reply
 
--- the events whose calls, or the lists of the world that they lengthen, take memory
-abbrev pub takes_memory : Event → Bool
-takes_memory (DeliverAck m n) = false
-takes_memory (Told n port) = false
-takes_memory (Stop n) = false
-takes_memory _ = true
-
 -- the events that use the disk
 abbrev pub is_disk : Event → Bool
 is_disk (Put m) = true

@@ -1,19 +1,23 @@
+-- To believe the promise: what the machine is, what a world is, what is settled, and what a faithful world has.
 pub mod Lawful
-pub mod Copying
 pub mod Waiting
 pub mod Node
 pub mod World
+pub mod Settled
+pub mod Faithful
+pub mod Grows
+-- What each event does: actions of single actors, events, their refusals, their rows.
+pub mod Copying
 pub mod Change
 pub mod Event
 pub mod Refusals
 pub mod Rows
 pub mod Row
-pub mod Settled
+-- For the layers above.
 pub mod NodeStands
 pub mod ReadsKept
 pub mod Joining
-pub mod Faithful
-pub mod Grows
 pub mod Traces
 pub mod Laws
+pub mod Wanting
 pub mod Examples

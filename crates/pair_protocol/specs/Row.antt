@@ -1,14 +1,55 @@
 -- One row: an event, its reply or refusal, and the world then. And whole runs.
-use Rattle.std.specs.Prelude.{◌≡◌, ℕ, IsTrue, Some, None, List, [], ◌∷◌, slice_get}
+use Rattle.std.specs.Prelude.{◌≡◌, ℕ, ◌<◌, IsTrue, Some, None, length, List, [], ◌∷◌, slice_get}
 use Rattle.guest_board.specs.Machine.{Machine}
 use Rattle.i8080_words.specs.declared.refusal.Fault.{Fault}
 use Rattle.i8080_words.specs.declared.refusal.Fault.TheVariants.{Lost, DeviceFault, OutOfMemory}
+use Rattle.log_entry.specs.declared.entry.Entry.{Entry}
 use Rattle.pair_protocol.specs.Copying.{Copying}
 use Rattle.pair_protocol.specs.Node.{Node, halts}
-use Rattle.pair_protocol.specs.World.{World, with_node, with_host}
-use Rattle.pair_protocol.specs.Event.{Event, Suspect, Reply, Refused, takes_memory, is_disk}
+use Rattle.pair_protocol.specs.World.{World, LogEntry, winner_in, with_node, with_host}
+use Rattle.pair_protocol.specs.Event.{Event, Step, DeliverLog, DeliverAck, Replay, Told, Stop, Suspect, Drain, Reply, Refused, is_disk}
 use Rattle.pair_protocol.specs.Refusals.{refusal}
-use Rattle.pair_protocol.specs.Rows.{Does}
+use Rattle.pair_protocol.specs.Rows.{Does, IsBehind}
+
+-- ---- which events may want memory
+
+-- a packet brings the entry that its node holds next
+pub record BringsNext {S : Type 0} (w : World S) (m n : ℕ) : Type 0 where
+  pub x : Node S
+  pub there : slice_get w.nodes n ≡ Some x
+  pub generation : ℕ
+  pub index : ℕ
+  pub e : Entry
+  pub message : slice_get w.messages m ≡ Some (LogEntry generation index e)
+  pub next : index ≡ length x.held
+
+-- a node is to make moves, and the first is a step
+pub record StepsFirst {S : Type 0} (M : Machine S) (w : World S) (n turns : ℕ) : Type 0 where
+  pub some : 0 < turns
+  pub x : Node S
+  pub there : slice_get w.nodes n ≡ Some x
+  pub behind : IsBehind M x
+
+-- nobody has won the generation of a node
+pub record AsksFirst {S : Type 0} (w : World S) (n : ℕ) : Type 0 where
+  pub x : Node S
+  pub there : slice_get w.nodes n ≡ Some x
+  pub nobody : winner_in w.winners x.generation ≡ None
+
+-- what holds if an event wants memory: no turns want none, and neither do moves of which the first is no step, a repeat
+-- or a packet past a gap, and a winner that asks again
+abbrev pub MayWantMemory : {S : Type 0} → Machine S → World S → Event → Type 0
+MayWantMemory M w (Step n turns) = 0 < turns
+MayWantMemory M w (DeliverLog m n) = BringsNext w m n
+MayWantMemory M w (DeliverAck m n) = ⊥
+MayWantMemory M w (Replay n turns) = StepsFirst M w n turns
+MayWantMemory M w (Told n port) = ⊥
+MayWantMemory M w (Stop n) = ⊥
+MayWantMemory M w (Suspect n) = AsksFirst w n
+MayWantMemory M w (Drain n turns) = StepsFirst M w n turns
+MayWantMemory M w e = Unit {0}
+
+-- ---- the row
 
 -- a node that asked the arbiter and lost is halted
 pub record Halts {S : Type 0} (w : World S) (n : ℕ) (new : World S) : Type 0 where
@@ -28,7 +69,7 @@ pub data Row {S : Type 0} (M : Machine S) (C : Copying S) (w : World S) (e : Eve
   -- the disk failed
   DeviceFails : refusal M C w e ≡ None → IsTrue (is_disk e) → Row M C w e (Refused DeviceFault) w
   -- a growth was refused
-  WantsMemory : refusal M C w e ≡ None → IsTrue (takes_memory e) → Row M C w e (Refused OutOfMemory) w
+  WantsMemory : refusal M C w e ≡ None → MayWantMemory M w e → Row M C w e (Refused OutOfMemory) w
 
 -- a whole run: one reply for each event, and hosts may come at any time
 pub data Run {S : Type 0} (M : Machine S) (C : Copying S) : World S → List Event → List Reply → World S → Type 0 where

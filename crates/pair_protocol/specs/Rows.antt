@@ -1,5 +1,5 @@
 -- What an event does that is not refused: the old world, the reply and the new world, one relation for each row.
-use Rattle.std.specs.Prelude.{◌≡◌, ◌≢◌, ℕ, suc, ◌≤◌, ◌<◌, Bool, true, false, ◌==◌, nat_lt, if◌then◌else◌, ◌⊎◌, Option, Some, None, List, length, slice_get}
+use Rattle.std.specs.Prelude.{◌≡◌, ◌≢◌, ℕ, suc, ◌≤◌, ◌<◌, Bool, true, false, ◌==◌, nat_lt, if◌then◌else◌, ◌⊎◌, Option, Some, None, is_none, List, length, slice_get}
 use Rattle.disk_dcdd.specs.declared.address.SectorAddress.{SectorAddress}
 use Rattle.disk_dcdd.specs.declared.sector.SectorWrite.{SectorWrite}
 use Rattle.event_callbacks.specs.Operations.{id_of}
@@ -41,17 +41,26 @@ pub data Advances {S : Type 0} (M : Machine S) : Node S → ℕ → Node S → �
   Ends : {x : Node S} {turns : ℕ} → M.is_spent x.machine ≡ true → Advances M x (suc turns) x 0 IsSpent
   Waits : {x : Node S} {turns : ℕ} → M.is_spent x.machine ≡ false → M.step x.machine ≡ None →
       Advances M x (suc turns) x 0 Idles
-  Short : {x : Node S} {turns : ℕ} → Advances M x (suc turns) x 0 Memory
+  -- a step that nothing refuses wants memory
+  Short : {x : Node S} {turns : ℕ} → M.is_spent x.machine ≡ false → is_none (M.step x.machine) ≡ false →
+      Advances M x (suc turns) x 0 Memory
   Gives : {x : Node S} {turns : ℕ} (s : S) (o : Operation) → M.step x.machine ≡ Some (s, Some o) →
       Advances M x (suc turns) (stepped M x x.role s (Some o)) 1 (Gave (id_of o))
   Goes : {x y : Node S} {turns made : ℕ} {why : Why} (s : S) → M.step x.machine ≡ Some (s, None) →
       Advances M (stepped M x x.role s None) turns y made why → Advances M x (suc turns) y (suc made) why
 
+-- its next move is a step: the entry that comes next is at a later count
+pub record IsBehind {S : Type 0} (M : Machine S) (x : Node S) : Type 0 where
+  pub next : Entry
+  pub held : slice_get x.held x.replayed ≡ Some next
+  pub later : M.count x.machine < count_of next
+
 -- x makes some of at most so many moves of what it holds, and is y then
 pub data Replays {S : Type 0} (M : Machine S) : Node S → ℕ → Node S → ℕ → Type 0 where
   NoTurns : {x : Node S} → Replays M x 0 x 0
   AtEnd : {x : Node S} {turns : ℕ} → x.replayed ≡ length x.held → Replays M x (suc turns) x 0
-  NoMemory : {x : Node S} {turns : ℕ} → Replays M x (suc turns) x 0
+  -- a step wants memory, and no other move does
+  NoMemory : {x : Node S} {turns : ℕ} → IsBehind M x → Replays M x (suc turns) x 0
   OneStep : {x y : Node S} {turns made : ℕ} (e : Entry) (s : S) (gives : Option Operation) →
       slice_get x.held x.replayed ≡ Some e → M.count x.machine < count_of e → M.step x.machine ≡ Some (s, gives) →
       Replays M (plainly_steps x s) turns y made → Replays M x (suc turns) y (suc made)

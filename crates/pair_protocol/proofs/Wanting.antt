@@ -1,0 +1,152 @@
+-- Out of memory is answered only if no refusal applies and the event may want memory.
+use Rattle.std.proofs.Common.{◌≡◌, ◌≢◌, [], ◌∷◌, ◌⊎◌, ◌∙◌, Bool, List, None, Option, Some, ap, cond, false, inl, inr, not, refl, subst, suc, sym, true, ℕ, arith}
+use Rattle.std.specs.Prelude.{length, slice_get, ◌<◌, ◌==◌}
+use Rattle.guest_board.specs.Machine.{Machine}
+use Rattle.i8080_words.specs.declared.refusal.Fault.{Fault}
+use Rattle.i8080_words.specs.declared.refusal.Fault.TheVariants.{Lost, NotWhole, OutOfMemory, Unknown, WrongGeneration, WrongRole}
+use Rattle.log_entry.specs.Entries.{count_of}
+use Rattle.log_entry.specs.declared.entry.Entry.{Entry}
+use Rattle.pair_protocol.specs.Copying.{Copying}
+use Rattle.pair_protocol.specs.Event.{DeliverLog, Drain, Event, Replay, Reply, Refused, Step, Suspect}
+use Rattle.pair_protocol.specs.Node.{Alone, Backup, Draining, Joining, Node, Primary, Spare, acts_as, is_role}
+use Rattle.pair_protocol.specs.Refusals.{ask_refusal, at_log, at_node, fault_if, first_of, is_other, log_refusal, refusal, role_refusal, step_refusal, suspect_refusal}
+use Rattle.pair_protocol.specs.Row.{Accepts, DeviceFails, MayWantMemory, Refuses, WantsMemory}
+use Rattle.pair_protocol.specs.Rows.{AtEnd, Does, NoMemory, NoTurns, OneInput, OneMark, OneStep, Replays, drain_reply}
+use Rattle.pair_protocol.specs.Wanting.{WantsNone}
+use Rattle.pair_protocol.specs.World.{LogEntry, Message, World, winner_in}
+use Rattle.pair_protocol.proofs.Moves.{same_some}
+
+-- ---- no refusal is want of memory
+
+-- a refusal for another reason, or none
+abbrev Other : Option Fault → Type 0
+Other refusal = refusal ≢ Some OutOfMemory
+
+other_if : (b : Bool) (fault : Fault) → fault ≢ OutOfMemory → Other (fault_if b fault)
+other_if true fault other is = other (same_some fault OutOfMemory (Some fault) refl is)
+other_if false fault other is = absurd (cc)
+
+other_first : (o : Option Fault) (rest : List (Option Fault)) → Other o → Other (first_of rest)
+    → Other (first_of (o ∷ rest))
+other_first None rest here later is = later is
+other_first (Some fault) rest here later is = here is
+
+other_at : {S : Type 0} (o : Option (Node S)) (part : Node S → Option Fault) → ((x : Node S) → Other (part x))
+    → Other (at_node o part)
+other_at None part other is = absurd (cc)
+other_at {S} (Some x) part other is = go (is_role x.role Spare) is
+  where
+    go : (b : Bool) → cond b (Some Unknown) (part x) ≡ Some OutOfMemory → ⊥
+    go true is = (cc)
+    go false is = other x is
+
+none_other : Other None
+none_other is = (cc)
+
+role_other : (b : Bool) → Other (fault_if b WrongRole)
+role_other b = other_if b WrongRole (λ is. (cc))
+
+log_other : {S : Type 0} (generation : ℕ) (x : Node S) → Other (log_refusal generation x)
+log_other generation x =
+    other_first (role_refusal (Backup ∷ []) x) (fault_if (not (generation == x.generation)) WrongGeneration ∷ [])
+    (role_other (not (acts_as x (Backup ∷ []))))
+    (other_first (fault_if (not (generation == x.generation)) WrongGeneration) []
+    (other_if (not (generation == x.generation)) WrongGeneration (λ is. (cc))) none_other)
+
+log_message_other : {S : Type 0} (here : Option (Node S)) (q : Option Message) (generation index : ℕ) (e : Entry)
+    → q ≡ Some (LogEntry generation index e) → Other (at_log here q)
+log_message_other here q generation index e is =
+    subst (λ q. Other (at_log here q)) (sym is)
+    (other_at here (log_refusal generation) (λ x. log_other generation x))
+
+ask_other : {S : Type 0} (w : World S) (n : ℕ) (x : Node S) → Other (ask_refusal w n x)
+ask_other w n x =
+    let lost = fault_if (is_other (winner_in w.winners x.generation) n) Lost in
+    other_first (suspect_refusal x) (lost ∷ [])
+    (other_first (fault_if (not x.running) WrongRole) (fault_if (is_role x.role Joining) NotWhole ∷ [])
+    (role_other (not x.running))
+    (other_first (fault_if (is_role x.role Joining) NotWhole) []
+    (other_if (is_role x.role Joining) NotWhole (λ is. (cc))) none_other))
+    (other_first lost [] (other_if (is_other (winner_in w.winners x.generation) n) Lost (λ is. (cc))) none_other)
+
+-- ---- so only an event that may want memory is answered that there is none
+
+wants_none : {S : Type 0} (M : Machine S) (C : Copying S) (w : World S) (e : Event) → Other (refusal M C w e)
+    → ((r : Reply) (new : World S) → Does M C w e r new → r ≢ Refused OutOfMemory) → (MayWantMemory M w e → ⊥)
+    → WantsNone M C w e
+wants_none M C w e other does wants new r (Accepts p d) is = does r new d is
+wants_none M C w e other does wants new r (Refuses {fault = fault} p d) is =
+    let same : fault ≡ OutOfMemory = cc in
+    other (p ∙ ap (λ f. Some f) same)
+wants_none M C w e other does wants new r (DeviceFails p d) is = (cc)
+wants_none M C w e other does wants new r (WantsMemory p d) is = wants d
+
+drain_other : (made : ℕ) (end : Bool) → drain_reply made end ≢ Refused OutOfMemory
+drain_other made true is = (cc)
+drain_other made false is = (cc)
+
+pub no_turns : {S : Type 0} (M : Machine S) (C : Copying S) (w : World S) (n : ℕ)
+    → WantsNone M C w (Step n 0) × WantsNone M C w (Replay n 0) × WantsNone M C w (Drain n 0)
+no_turns M C w n = (
+  wants_none M C w (Step n 0)
+      (other_at (slice_get w.nodes n) (step_refusal M 0) (λ x. role_other (not (acts_as x (Primary ∷ Alone ∷ [])))))
+      (λ r new d is. (let ran = sym is ∙ d.reply in (cc))) (λ some. omega (arith, some)),
+  wants_none M C w (Replay n 0)
+      (other_at (slice_get w.nodes n) (role_refusal (Backup ∷ []))
+      (λ x. role_other (not (acts_as x (Backup ∷ [])))))
+      (λ r new d is. (let moved = sym is ∙ d.reply in (cc))) (λ h. (let some = h.some in omega (arith, some))),
+  wants_none M C w (Drain n 0)
+      (other_at (slice_get w.nodes n) (role_refusal (Draining ∷ []))
+      (λ x. role_other (not (acts_as x (Draining ∷ [])))))
+      (λ r new d is. drain_other d.made _ (sym d.reply ∙ is)) (λ h. (let some = h.some in omega (arith, some))),
+)
+
+held_or_not : {S : Type 0} (M : Machine S) (C : Copying S) (w : World S) (m n : ℕ) (r : Reply) (new : World S)
+    → Does M C w (DeliverLog m n) r new → r ≢ Refused OutOfMemory
+held_or_not M C w m n r new d is = elim d.holds [
+  | inl next ↦ (let new_is = sym is ∙ next.1 in (cc))
+  | inr other ↦ (let old_is = sym is ∙ other.1 in (cc))
+]
+
+same_index : (q : Option Message) (g h i k : ℕ) (e d : Entry) → q ≡ Some (LogEntry g i e) → q ≡ Some (LogEntry h k d)
+    → i ≡ k
+same_index q g h i k e d is also = (cc)
+
+pub other_entries : {S : Type 0} (M : Machine S) (C : Copying S) (w : World S) (m n generation index : ℕ) (e : Entry)
+    (x : Node S) → slice_get w.messages m ≡ Some (LogEntry generation index e) → slice_get w.nodes n ≡ Some x
+    → index ≢ length x.held → WantsNone M C w (DeliverLog m n)
+other_entries {S} M C w m n generation index e x message there other =
+    wants_none M C w (DeliverLog m n)
+    (log_message_other (slice_get w.nodes n) (slice_get w.messages m) generation index e message)
+    (held_or_not M C w m n)
+    (λ h. other (same_index (slice_get w.messages m) generation h.generation index h.index e h.e message h.message
+    ∙ h.next ∙ ap (λ (y : Node S). length y.held) (same_some h.x x (slice_get w.nodes n) h.there there)))
+
+pub winners : {S : Type 0} (M : Machine S) (C : Copying S) (w : World S) (n : ℕ) (x : Node S)
+    → slice_get w.nodes n ≡ Some x → winner_in w.winners x.generation ≡ Some n → WantsNone M C w (Suspect n)
+winners {S} M C w n x there won =
+    wants_none M C w (Suspect n)
+    (other_at (slice_get w.nodes n) (ask_refusal w n) (λ x. ask_other w n x))
+    (λ r new d is. (let won = sym is ∙ d.reply in (cc)))
+    (λ h. (let same : h.x ≡ x = same_some h.x x (slice_get w.nodes n) h.there there in
+    let nobody = sym h.nobody ∙ ap (λ (y : Node S). winner_in w.winners y.generation) same ∙ won in (cc)))
+
+-- ---- where moves end
+
+-- one more is made of one more
+one_more : {A B : Type 0} (made turns : ℕ) → (made ≡ turns) ⊎ A ⊎ B → (suc made ≡ suc turns) ⊎ A ⊎ B
+one_more made turns (inl all) = inl (ap suc all)
+one_more made turns (inr rest) = inr rest
+
+pub stops_at_steps : {S : Type 0} (M : Machine S) (x y : Node S) (turns made : ℕ) → Replays M x turns y made
+    → (made ≡ turns) ⊎ (y.replayed ≡ length y.held)
+    ⊎ ((e : Entry) × (slice_get y.held y.replayed ≡ Some e) × (M.count y.machine < count_of e))
+stops_at_steps M x y turns made NoTurns = inl refl
+stops_at_steps M x y turns made (AtEnd none) = inr (inl none)
+stops_at_steps M x y turns made (NoMemory behind) = inr (inr (behind.next, behind.held, behind.later))
+stops_at_steps M x y turns made (OneStep {turns = t} {made = k} e s gives next later goes rest) =
+    one_more k t (stops_at_steps M _ y t k rest)
+stops_at_steps M x y turns made (OneMark {turns = t} {made = k} e next here mark rest) =
+    one_more k t (stops_at_steps M _ y t k rest)
+stops_at_steps M x y turns made (OneInput {turns = t} {made = k} e i s next here input taken rest) =
+    one_more k t (stops_at_steps M _ y t k rest)

@@ -1,0 +1,42 @@
+-- Which events are never refused for want of memory, and where a replay may stop for it.
+use Rattle.std.specs.Prelude.{◌≡◌, ◌≢◌, ℕ, ◌<◌, ◌⊎◌, Some, length, slice_get}
+use Rattle.guest_board.specs.Machine.{Machine}
+use Rattle.i8080_words.specs.declared.refusal.Fault.TheVariants.{OutOfMemory}
+use Rattle.log_entry.specs.Entries.{count_of}
+use Rattle.log_entry.specs.declared.entry.Entry.{Entry}
+use Rattle.pair_protocol.specs.Copying.{Copying}
+use Rattle.pair_protocol.specs.Node.{Node}
+use Rattle.pair_protocol.specs.World.{World, LogEntry, winner_in}
+use Rattle.pair_protocol.specs.Event.{Event, Step, DeliverLog, Replay, Suspect, Drain, Reply, Refused}
+use Rattle.pair_protocol.specs.Rows.{Replays}
+use Rattle.pair_protocol.specs.Row.{Row}
+
+-- an event is not answered that there is no memory
+abbrev pub WantsNone : {S : Type 0} → Machine S → Copying S → World S → Event → Type 0
+WantsNone {S} M C w e = (new : World S) (r : Reply) → Row M C w e r new → r ≢ Refused OutOfMemory
+
+-- a step, a replay or a drain of no turns
+abbrev pub NoTurnsWantNone : (S : Type 0) → Type 0
+NoTurnsWantNone S =
+    (M : Machine S) (C : Copying S) (w : World S) (n : ℕ) →
+    WantsNone M C w (Step n 0) × WantsNone M C w (Replay n 0) × WantsNone M C w (Drain n 0)
+
+-- a packet that is a repeat, or past a gap
+abbrev pub OtherEntriesWantNone : (S : Type 0) → Type 0
+OtherEntriesWantNone S =
+    (M : Machine S) (C : Copying S) (w : World S) (m n generation index : ℕ) (e : Entry) (x : Node S) →
+    slice_get w.messages m ≡ Some (LogEntry generation index e) → slice_get w.nodes n ≡ Some x →
+    index ≢ length x.held → WantsNone M C w (DeliverLog m n)
+
+-- a winner that asks again
+abbrev pub WinnersWantNone : (S : Type 0) → Type 0
+WinnersWantNone S =
+    (M : Machine S) (C : Copying S) (w : World S) (n : ℕ) (x : Node S) → slice_get w.nodes n ≡ Some x →
+    winner_in w.winners x.generation ≡ Some n → WantsNone M C w (Suspect n)
+
+-- moves end if all are made that were asked for, if nothing is left, or if the next one is a step
+abbrev pub StopsAtSteps : (S : Type 0) → Type 0
+StopsAtSteps S =
+    (M : Machine S) (x y : Node S) (turns made : ℕ) → Replays M x turns y made →
+    (made ≡ turns) ⊎ (y.replayed ≡ length y.held)
+    ⊎ ((e : Entry) × (slice_get y.held y.replayed ≡ Some e) × (M.count y.machine < count_of e))
