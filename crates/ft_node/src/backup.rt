@@ -2,7 +2,6 @@
 ghost use Rattle.std.specs.Prelude.{◌≡◌, OnErr};
 ghost use Rattle.log_channel.specs.Packet.{packet_at};
 ghost use Rattle.pair_protocol.specs.Node as protocol;
-ghost use Rattle.guest_board.specs.Recorded.{Counts};
 ghost use Rattle.log_entry.specs.Standing.{IsOnTrace};
 ghost use Rattle.ft_node.specs.Calls as calls;
 ghost use Rattle.ft_node.specs.Roles.{IsFollower};
@@ -66,7 +65,6 @@ impl<B: Lockstep> Backup<B> {
 
     /// Makes at most `turns` moves, each of them a step or an entry that is held.
     pub(crate) fn replay(&mut self, turns: u64) -> R<Replayed>
-        requires counts { Counts B.machine }
         requires on_trace { IsOnTrace B.machine (B.state self.old.replayer.board) self.old.receiver.entries }
         ensures answer { (x : protocol.Node B.State)
             → IsFollower protocol.Backup (B.state self.old.replayer.board) self.old.receiver x

@@ -12,9 +12,7 @@ ghost use Rattle.log_buffer.specs.Log as logs;
 ghost use Rattle.log_channel.specs.Packet.{packet_at};
 ghost use Rattle.pair_protocol.specs.Node as protocol;
 ghost use Rattle.pair_protocol.specs.Refusals as refusals;
-ghost use Rattle.guest_board.specs.Recorded.{Counts};
 ghost use Rattle.ft_node.specs.Calls as calls;
-ghost use Rattle.guest_board.specs.Outstanding.{ComesAndGoes};
 ghost use Rattle.ft_node.specs.Roles.{IsFollower, IsHalted};
 ghost use Rattle.ft_node.specs.Seats.{IsNode, MayRun, MayReplay, IsRole};
 
@@ -80,8 +78,6 @@ impl<B: Lockstep + Drop> Node<B> {
     /// Makes at most `turns` steps of a primary's or an alone node's machine, up to the first that gives an operation.
     /// `LogFull`, `Spent`, `Idle` and `OutOfMemory` come only where no step is made.
     pub fn step(&mut self, turns: u64) -> R<Ran>
-        requires counts { Counts B.machine }
-        requires operations { ComesAndGoes B.machine }
         requires few { MayRun B.state B.machine self.old }
         ensures answer { (x : protocol.Node B.State) → IsNode B.state B.machine self.old x
             → calls.Steps B.machine turns x result (IsNode B.state B.machine self.new) }
@@ -166,8 +162,6 @@ impl<B: Lockstep + Drop> Node<B> {
     /// Takes the key that was typed at an index, from 0. `WrongNumber` where it is not the next one; `LogFull` and
     /// `Spent` as the log and the number of keys say.
     pub fn key(&mut self, port: u8, index: u64, byte: u8) -> R<()>
-        requires counts { Counts B.machine }
-        requires operations { ComesAndGoes B.machine }
         requires port { port < PORTS }
         ensures answer { (x : protocol.Node B.State) → IsNode B.state B.machine self.old x
             → calls.Takes B.machine (input.Rx port byte) (refusals.key_refusal B.machine port index x) x
@@ -184,8 +178,6 @@ impl<B: Lockstep + Drop> Node<B> {
     /// Takes the acceptance of the byte of a number. `NotDue` where no byte of the port waits, `WrongNumber` where
     /// another one is the oldest.
     pub fn sent(&mut self, port: u8, number: u64) -> R<()>
-        requires counts { Counts B.machine }
-        requires operations { ComesAndGoes B.machine }
         requires port { port < PORTS }
         ensures answer { (x : protocol.Node B.State) → IsNode B.state B.machine self.old x
             → calls.Takes B.machine (input.Sent port) (refusals.sent_refusal B.machine port number x) x result
@@ -201,8 +193,6 @@ impl<B: Lockstep + Drop> Node<B> {
 
     /// Takes the completion of a write. `NotDue` where it is not outstanding.
     pub fn done(&mut self, number: u64) -> R<()>
-        requires counts { Counts B.machine }
-        requires operations { ComesAndGoes B.machine }
         ensures answer { (x : protocol.Node B.State) → IsNode B.state B.machine self.old x
             → calls.Takes B.machine (input.Written number) (refusals.done_refusal B.machine number x) x result
             (IsNode B.state B.machine self.new) }
@@ -232,8 +222,6 @@ impl<B: Lockstep + Drop> Node<B> {
     /// Takes a sector that was read, with the number of the write that brought its bytes. `NotDue` where the head is
     /// elsewhere by now, `SectorBusy` where a write of it is outstanding, `StaleRead` where it was read too early.
     pub fn under(&mut self, address: SectorAddress, number: u64, bytes: [u8; SECTOR_BYTES]) -> R<()>
-        requires counts { Counts B.machine }
-        requires operations { ComesAndGoes B.machine }
         requires drive { address.drive < DRIVES }
         requires sector { address.sector < SECTORS }
         ensures answer { (x : protocol.Node B.State) → IsNode B.state B.machine self.old x
@@ -297,7 +285,6 @@ impl<B: Lockstep + Drop> Node<B> {
 
     /// Makes at most `turns` moves of what a backup holds. `OutOfMemory` comes only where no move is made.
     pub fn replay(&mut self, turns: u64) -> R<Replayed>
-        requires counts { Counts B.machine }
         requires on_trace { MayReplay B.state B.machine self.old }
         ensures answer { (x : protocol.Node B.State) → IsNode B.state B.machine self.old x
             → calls.Replaying B.machine turns x result (IsNode B.state B.machine self.new) }
@@ -338,7 +325,6 @@ impl<B: Lockstep + Drop> Node<B> {
     /// Makes at most `turns` moves of what a node that won still holds; with nothing left it is alone. `OutOfMemory`
     /// comes only where no move is made.
     pub fn drain(&mut self, turns: u64) -> R<Drained>
-        requires counts { Counts B.machine }
         requires on_trace { MayReplay B.state B.machine self.old }
         ensures answer { (x : protocol.Node B.State) → IsNode B.state B.machine self.old x
             → calls.Draining B.machine turns x result (IsNode B.state B.machine self.new) }

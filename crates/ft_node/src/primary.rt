@@ -10,10 +10,9 @@ ghost use Rattle.disk_dcdd.specs.Completion.{answered};
 ghost use Rattle.log_channel.specs.Packet.{packet_at};
 ghost use Rattle.pair_protocol.specs.Node.{Node};
 ghost use Rattle.pair_protocol.specs.Refusals as refusals;
-ghost use Rattle.guest_board.specs.Recorded.{Counts};
 ghost use Rattle.ft_node.specs.Calls as calls;
 ghost use Rattle.ft_node.specs.Noting as noting;
-ghost use Rattle.guest_board.specs.Outstanding.{ComesAndGoes, IsFrugal};
+ghost use Rattle.guest_board.specs.Outstanding.{IsFrugal};
 ghost use Rattle.ft_node.specs.Roles.{AreOfOutstanding, IsPrimary};
 
 use crate::ran::Ran;
@@ -45,8 +44,6 @@ impl<B: Lockstep> Primary<B> {
     /// Makes at most `turns` steps, and stops after the first that gives an operation, which waits for its mark to be
     /// acknowledged.
     pub(crate) fn step(&mut self, turns: u64) -> R<Ran>
-        requires counts { Counts B.machine }
-        requires operations { ComesAndGoes B.machine }
         requires few { IsFrugal B.machine (B.state self.old.recorder.board) }
         requires notes { AreOfOutstanding B.machine (B.state self.old.recorder.board) self.old.coverage }
         ensures answer { (x : Node B.State)
@@ -150,8 +147,6 @@ impl<B: Lockstep> Primary<B> {
 
     /// Takes the key of an index.
     pub(crate) fn key(&mut self, port: u8, index: u64, byte: u8) -> R<()>
-        requires counts { Counts B.machine }
-        requires operations { ComesAndGoes B.machine }
         requires port { port < PORTS }
         ensures answer { (x : Node B.State)
             → IsPrimary B.machine (B.state self.old.recorder.board) self.old.recorder.log self.old.sender
@@ -168,8 +163,6 @@ impl<B: Lockstep> Primary<B> {
 
     /// Takes the acceptance of the byte of a number, which has to be the oldest that is not accepted.
     pub(crate) fn sent(&mut self, port: u8, number: u64) -> R<()>
-        requires counts { Counts B.machine }
-        requires operations { ComesAndGoes B.machine }
         requires port { port < PORTS }
         ensures answer { (x : Node B.State)
             → IsPrimary B.machine (B.state self.old.recorder.board) self.old.recorder.log self.old.sender
@@ -187,8 +180,6 @@ impl<B: Lockstep> Primary<B> {
 
     /// Takes the completion of a write.
     pub(crate) fn done(&mut self, number: u64) -> R<()>
-        requires counts { Counts B.machine }
-        requires operations { ComesAndGoes B.machine }
         ensures answer { (x : Node B.State)
             → IsPrimary B.machine (B.state self.old.recorder.board) self.old.recorder.log self.old.sender
             self.old.coverage x
@@ -210,8 +201,6 @@ impl<B: Lockstep> Primary<B> {
         number: u64,
         bytes: [u8; SECTOR_BYTES],
     ) -> R<()>
-        requires counts { Counts B.machine }
-        requires operations { ComesAndGoes B.machine }
         requires drive { address.drive < DRIVES }
         requires sector { address.sector < SECTORS }
         ensures answer { (x : Node B.State)

@@ -22,5 +22,5 @@ returns-clause-answer g c = λ x p.
     rw c.forget.ensures
     (offer_done M (g.B.Lockstep.state c.args.self.now.recorder.board) (g.B.Lockstep.state c.offer.new.self.board)
     c.args.self.now.recorder.log c.offer.new.self.log c.args.self.now.sender c.args.self.now.coverage x
-    (input.Written c.args.number) (done_refusal M c.args.number x) c.in_ok-offer.field-0 c.requires.operations p
+    (input.Written c.args.number) (done_refusal M c.args.number x) c.in_ok-offer.field-0 g.met.B.Lockstep.operations p
     passes.allowed c.in_ok-offer.ensures.after c.in_ok-offer.ensures.entry)

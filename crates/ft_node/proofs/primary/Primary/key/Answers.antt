@@ -24,4 +24,4 @@ returns-clause-answer g c = λ x p.
     offer_done M (g.B.Lockstep.state c.args.self.now.recorder.board) (g.B.Lockstep.state c.offer.new.self.board)
     c.args.self.now.recorder.log c.offer.new.self.log c.args.self.now.sender c.args.self.now.coverage x
     (input.Rx c.args.port c.args.byte) (key_refusal M c.args.port c.args.index x) c.in_ok-offer.field-0
-    c.requires.operations p passes.0.allowed c.in_ok-offer.ensures.after c.in_ok-offer.ensures.entry
+    g.met.B.Lockstep.operations p passes.0.allowed c.in_ok-offer.ensures.after c.in_ok-offer.ensures.entry

@@ -36,5 +36,5 @@ returns-clause-answer g c = λ x p.
     (ap (λ d. notes_left (option_map (λ number. id.Byte c.args.port number) d) c.args.self.now.coverage) due)
     (offer_done M s t c.args.self.now.recorder.log c.offer.new.self.log c.args.self.now.sender
     c.args.self.now.coverage x (input.Sent c.args.port) (sent_refusal M c.args.port c.args.number x)
-    c.in_ok-offer.field-0 c.requires.operations p passes.0.allowed c.in_ok-offer.ensures.after
+    c.in_ok-offer.field-0 g.met.B.Lockstep.operations p passes.0.allowed c.in_ok-offer.ensures.after
     c.in_ok-offer.ensures.entry))

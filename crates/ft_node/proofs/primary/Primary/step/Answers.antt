@@ -27,7 +27,7 @@ noted-why-requires g c = record {
   place =
       place_for_note g.B.Lockstep.machine (g.B.Lockstep.state c.args.self.now.recorder.board)
       (g.B.Lockstep.state c.advance.new.self.board) c.args.self.now.recorder.log c.advance.new.self.log c.args.turns
-      c.in_ok-advanced.advanced c.args.self.now.coverage c.requires.counts c.requires.operations c.requires.few
+      c.in_ok-advanced.advanced c.args.self.now.coverage g.met.B.Lockstep.counts g.met.B.Lockstep.operations c.requires.few
       c.requires.notes c.stands-2.ensures c.in_ok-advanced.ensures.answer;
 }
 
@@ -56,7 +56,7 @@ returns-clause-answer g c = λ x p.
     steps_made M s t l c.advance.new.self.log c.args.self.now.sender c.args.self.now.coverage c.noted-why.new.coverage x
     c.args.turns c.in_ok-advanced.advanced
     (record { steps = c.in_ok-advanced.advanced.steps; count = c.count.result; why = c.noted-why.result })
-    c.requires.operations p
+    g.met.B.Lockstep.operations p
     (keeps_log M s l c.args.self.now.sender c.args.self.now.coverage x p
     (subst IsWithinLimits c.log.ensures c.stands.ensures))
     c.in_ok-advanced.ensures.answer refl c.noted-why.ensures.why

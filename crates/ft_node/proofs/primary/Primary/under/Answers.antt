@@ -24,5 +24,5 @@ returns-clause-answer g c = λ x p.
     offer_done M (g.B.Lockstep.state c.args.self.now.recorder.board) (g.B.Lockstep.state c.offer.new.self.board)
     c.args.self.now.recorder.log c.offer.new.self.log c.args.self.now.sender c.args.self.now.coverage x
     (input.Sector a.drive a.sector c.args.number c.args.bytes) (under_refusal M a c.args.number c.args.bytes x)
-    c.in_ok-offer.field-0 c.requires.operations p passes.allowed c.in_ok-offer.ensures.after
+    c.in_ok-offer.field-0 g.met.B.Lockstep.operations p passes.allowed c.in_ok-offer.ensures.after
     c.in_ok-offer.ensures.entry
