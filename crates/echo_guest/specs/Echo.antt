@@ -1,5 +1,5 @@
--- A small machine: it reads the key that came last and sends it at the next step, one byte at a time, and it idles
--- where it waits for an acceptance and has no key to read.
+-- A small machine: it reads the key that arrived last and sends it at the next step, one byte at a time, and it idles
+-- if it waits for an acceptance and has no key to read.
 use Rattle.std.specs.Prelude.{ℕ, suc, Bool, true, false, ◌==◌, nat_le, ◌&&◌, ◌||◌, if◌then◌else◌, Option, Some, None, is_none, []}
 use Rattle.disk_dcdd.specs.declared.address.SectorAddress.{SectorAddress}
 use Rattle.disk_dcdd.specs.declared.controller.TheConstants.{GREATEST_NUMBER}
@@ -9,8 +9,8 @@ use Rattle.guest_board.specs.Machine.{Machine}
 use Rattle.guest_board.specs.declared.input.Input.{Input}
 use Rattle.guest_board.specs.declared.input.Input.TheVariants.{Rx, Sent, Sector, Written}
 
--- how many steps it made and how many keys it took, the key that is not read, the byte that was read and not sent, how
--- many bytes it has sent, and whether the last of them is not accepted
+-- how many steps it executed and how many keys it took, the key that is not read, the byte that was read and not sent,
+-- how many bytes it has sent, and whether the last of them is not accepted
 pub record Echo : Type 0 where
   pub count : ℕ
   pub keys : ℕ
@@ -22,7 +22,7 @@ pub record Echo : Type 0 where
 abbrev pub at_boot : Echo
 at_boot = record { count = 0; keys = 0; key = None; byte = None; sent = 0; waits = false }
 
--- a byte that was read is sent, while none waits; else the key is read
+-- a byte that was read is sent, while none waits; otherwise the key is read
 abbrev pub sends : Echo → ℕ → Echo × Option Operation
 sends e byte =
     (record e { count = suc e.count; byte = None; sent = suc e.sent; waits = true }, Some (Byte 0 (suc e.sent) byte))
@@ -47,7 +47,7 @@ step_of e =
 abbrev pub due_byte : Echo → ℕ → Option ℕ
 due_byte e port = if e.waits && port == 0 then Some e.sent else None
 
--- keys come at either port; the byte that was sent is accepted
+-- keys arrive at either port; the byte that was sent is accepted
 abbrev pub after : Echo → Input → Option Echo
 after e (Rx port byte) = Some (record e { keys = suc e.keys; key = Some byte })
 after e (Sent port) = if e.waits && port == 0 then Some (record e { waits = false }) else None
@@ -57,7 +57,7 @@ after e (Written number) = None
 abbrev pub nowhere : SectorAddress
 nowhere = record { drive = 0; track = 0; sector = 0 }
 
--- as a pair sees it: a machine without drives, of which no operation is kept
+-- as a pair sees it: a machine without drives, none of whose operations is kept
 abbrev pub echo : Machine Echo
 echo = record {
   boot = at_boot;
