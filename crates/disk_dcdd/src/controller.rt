@@ -117,7 +117,7 @@ impl Controller {
     }
 
     /// IN 09h returns the position of the sector under the head, C0h plus twice its number; FFh if there is none. A
-    /// sector that was shown, and is not being written, leaves at the next look.
+    /// sector that was shown, and is not being written, leaves at the next IN 09h.
     pub fn position(&mut self) -> u8
         ensures value { result ≡ table.position_of self.old }
         ensures after { self.new ≡ table.after_position self.old }

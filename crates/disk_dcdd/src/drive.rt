@@ -23,7 +23,7 @@ impl Drive {
         }
     }
 
-    // Whether the drive is as it was when it was switched on.
+    // Whether the drive is as it is when switched on.
     pub(crate) fn is_at_boot(&self) -> bool
         ensures { IsTrue result ↔ (self.now ≡ table.drive_at_boot) }
     {

@@ -34,7 +34,7 @@ impl Controller {
         self.attached
     }
 
-    /// A drive. One that is not attached is as it was when switched on.
+    /// A drive. One that is not attached is as it is when switched on.
     pub fn drive(&self, index: u8) -> Drive
         requires { index < DRIVES }
         ensures { result ≡ drive_of self.now index }
