@@ -1,4 +1,4 @@
-//! Closures of different types that complete alike, and operations that wait.
+//! Closures of different types that complete in the same way, and operations that wait.
 ghost use Rattle.std.specs.Prelude.{◌≡◌, IsTrue};
 ghost use Rattle.event_callbacks.specs.declared.devices.TheConstants.{SENT, SECTOR, WRITTEN};
 ghost use Rattle.event_callbacks.specs.Completions.{is_due, done_of};
@@ -30,7 +30,7 @@ fn write_sector(rt: &impl Abort, devices: &mut Devices) {
     }
 }
 
-// Completes each kind once by these closures.
+// Completes each kind once with these closures.
 fn complete_each<T: Completes + Drop, S: Completes + Drop, W: Completes + Drop>(
     rt: &impl Abort,
     sent: T,
