@@ -1,4 +1,4 @@
-//! A guest with what it has still to replay.
+//! A guest with what it still has to replay.
 ghost use Rattle.std.specs.Prelude.{◌≡◌, ◌≤◌, ◌↔◌, [], IfOk, IfErr, IsOk, OnErr};
 ghost use Rattle.i8080_words.specs.declared.refusal.Fault.TheVariants.{WrongRole};
 ghost use Rattle.guest_board.specs.Recorded.{Counts};
