@@ -122,7 +122,7 @@ fn sector_bytes(done: &[SectorWrite], address: SectorAddress) -> [u8; SECTOR_BYT
     }
 }
 
-// A random input, as this board might take it now, without what only the log carries and with it.
+// A random input that this board might take now, without what only the log carries and with it.
 fn random_input<T: Completes, S: Completes, W: Completes>(
     board: &Board<T, S, W>,
     course: &Course,
@@ -240,7 +240,7 @@ fn never_fall(from: u64, inputs: &[Timed]) -> bool
     }
 }
 
-// Checks that the single machine makes of the board's inputs what the board made.
+// Checks that the single machine does with the board's inputs what the board did.
 fn compare<T: Completes, S: Completes, W: Completes>(
     rt: &(impl Abort + AllocGlobal),
     board: &Board<T, S, W>,
