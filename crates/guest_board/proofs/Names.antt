@@ -27,7 +27,7 @@ no_write p k n e = cc
 pub no_byte : (p k n : ℕ) → Write n ≢ Byte p k
 no_byte p k n e = cc
 
--- each operation stands under its own name
+-- each operation is under its own name
 abbrev pub AreNamed : Operations → Type 0
 AreNamed operations = (name : OpId) → IfSome (operation_at operations name) (λ op. id_of op ≡ name)
 

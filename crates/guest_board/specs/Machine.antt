@@ -20,7 +20,7 @@ pub record Machine (S : Type 0) : Type 0 where
   pub step : S → Option (S × Option Operation)
   -- the open move: an input if it is due, a sector with the bytes that the input carries
   pub take : S → Input → Option S
-  -- how many steps it has made, whether a number has reached its limit, and how many keys of a port it has taken
+  -- how many steps it has executed, whether a number has reached its limit, and how many keys of a port it has taken
   pub count : S → ℕ
   pub is_spent : S → Bool
   pub keys : S → ℕ → ℕ
@@ -30,7 +30,7 @@ pub record Machine (S : Type 0) : Type 0 where
   -- the selected drive, and the sector of this number on the track that a drive's head is at
   pub selected : S → Option ℕ
   pub address : S → ℕ → ℕ → SectorAddress
-  -- the sector may come under the head unless a write of it is outstanding, and whether there is one
+  -- whether the sector may come under the head, apart from an outstanding write of it, and whether there is such a one
   pub ready : S → SectorAddress → Bool
   pub busy : S → SectorAddress → Bool
   -- the number of the last completed write of a sector, 0 if there is none

@@ -18,7 +18,7 @@ use i8080_words::Processor;
 use serial_2sio::Acia;
 
 impl<T: Completes, S: Completes, W: Completes> Board<T, S, W> {
-    /// How many steps the guest has made.
+    /// How many steps the guest has executed.
     pub fn count(&self) -> u64
         ensures value { result ≡ self.now.guest.count }
         ensures within { result ≤ GREATEST_NUMBER }

@@ -143,7 +143,7 @@ fn complete_five(parts: &mut BoardParts, number: u64) {
     }
 }
 
-// Parts of a board that has completed a write that is still outstanding, as none can.
+// Parts of a board that has completed a write that is still outstanding, which none can.
 fn completed_too_early(alloc: Global) -> R<BoardParts> {
     let mut parts = waits_for_both(alloc)?;
     complete_five(&mut parts, 1);
