@@ -125,7 +125,7 @@ impl Memory {
     }
 }
 
-// This many bytes 00.
+// This many bytes of 00.
 #[tactic(auto, unfolding(crate::specs::Pages::zeros))]
 fn zero_bytes(alloc: Global, count: usize) -> R<Vec<u8>>
     ensures ok { IfOk result (λ bytes. bytes.items ≡ zeros count) }
@@ -135,7 +135,7 @@ fn zero_bytes(alloc: Global, count: usize) -> R<Vec<u8>>
     Ok(bytes)
 }
 
-// This many versions 0.
+// This many versions of 0.
 #[tactic(auto, unfolding(crate::specs::Pages::zeros))]
 fn zero_versions(alloc: Global, count: usize) -> R<Vec<u64>>
     ensures ok { IfOk result (λ versions. versions.items ≡ zeros count) }
