@@ -4,7 +4,7 @@
 //! Numbers are drawn by x = x * 1664525 + 1013904223 modulo 2^32; a byte is the highest eight bits of x, and a word is
 //! two bytes, high byte first. Memory holds the 65,536 bytes drawn from x = 8080. For each code, numbers are drawn from
 //! x = code; a round draws A, F, B, C, D, E, H, L, SP, PC and two bytes of data, which go after the code at PC, and
-//! makes one step with interrupts off. IN p reads p exclusive or 5A. Bytes are folded from h = 2166136261 on: h is
+//! executes one step with interrupts off. IN p reads p XOR 5A. Bytes are folded from h = 2166136261 on: h is
 //! exclusive-ored with the byte and multiplied by 16777619 modulo 2^32. A round folds the registers, the interrupts (0
 //! off, 1 soon, 2 on), whether the processor is halted, each port access (49 and the port; 4F, the port and the byte),
 //! and the sum over the bytes written of (address * 256 + byte) * 2654435761 modulo 2^32, highest byte first.
