@@ -70,21 +70,21 @@ pub fn sub8(a: u8, b: u8, borrow: bool) -> (u8, Flags)
     )
 }
 
-/// The and of two bytes (ANA).
+/// The AND of two bytes (ANA).
 pub fn and8(a: u8, b: u8) -> (u8, Flags)
     ensures { result ≡ and_of a b }
 {
     (a & b, flags_of_result(a & b, (a | b) & 0x08 != 0, false))
 }
 
-/// The or of two bytes (ORA).
+/// The OR of two bytes (ORA).
 pub fn or8(a: u8, b: u8) -> (u8, Flags)
     ensures { result ≡ or_of a b }
 {
     (a | b, flags_of_result(a | b, false, false))
 }
 
-/// The exclusive or of two bytes (XRA).
+/// The exclusive OR of two bytes (XRA).
 pub fn xor8(a: u8, b: u8) -> (u8, Flags)
     ensures { result ≡ xor_of a b }
 {
