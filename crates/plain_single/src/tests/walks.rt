@@ -122,7 +122,7 @@ impl Walk {
         Ok(())
     }
 
-    // Fills in bytes, each this one exclusive-ored with its place.
+    // Fills in 137 bytes, each this one exclusive-ored with its place.
     fn fill_crossed(&mut self, first: u8) -> R<()> {
         for place in 0..137u8 {
             self.fill(first ^ place)?;
