@@ -26,7 +26,7 @@ IsAstray drives number [] = ⊥
 IsAstray drives number (sector ∷ sectors) =
     ((sector.line ≡ number) × (drives ≤ sector.drive)) ⊎ IsAstray drives number sectors
 
--- A line is bad: it is not a line there, or says a sector of a drive that is not attached in the end.
+-- A line is bad: it is not valid there, or says a sector of a drive that is not attached in the end.
 abbrev pub IsBad : List ℕ → ℕ → Type 0
 IsBad text number = IsNoLine text number ⊎ IsAstray (said_in text).boot.drives number (said_in text).boot.sectors
 
