@@ -9,8 +9,8 @@ use Rattle.guest_board.specs.Machine.{Machine}
 use Rattle.guest_board.specs.declared.input.Input.{Input}
 use Rattle.guest_board.specs.declared.input.Input.TheVariants.{Rx, Sent, Sector, Written}
 
--- how many steps it executed and how many keys it took, the key that is not read, the byte that was read and not sent,
--- how many bytes it has sent, and whether the last of them is not accepted
+-- how many steps it made and how many keys it took, the key that is not read, the byte that was read and not sent, how
+-- many bytes it has sent, and whether the last of them is not accepted
 pub record Echo : Type 0 where
   pub count : ℕ
   pub keys : ℕ
@@ -57,7 +57,7 @@ after e (Written number) = None
 abbrev pub nowhere : SectorAddress
 nowhere = record { drive = 0; track = 0; sector = 0 }
 
--- as a pair sees it: a machine without drives, none of whose operations is kept
+-- as a pair sees it: a machine without drives, of which no operation is kept
 abbrev pub echo : Machine Echo
 echo = record {
   boot = at_boot;

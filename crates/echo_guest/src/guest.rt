@@ -7,9 +7,9 @@ use guest_board::{Input, Lockstep};
 use i8080_words::{Fault, R};
 use std::marker::Model;
 
-/// A guest that reads the key that arrived last and sends it at the next step. It sends no byte while one is not
-/// accepted, and then idles if it has no key to read. It keeps as many operations as it has room for; the step that
-/// would give one more runs out of memory.
+/// A guest that reads the key that came last and sends it at the next step. It sends no byte while one is not accepted,
+/// and idles then where it has no key to read. It keeps as many operations as it has room for; the step that would give
+/// one more wants memory.
 #[derive(Drop)]
 pub struct Echo {
     count: u64,
