@@ -1,6 +1,6 @@
--- The first asker of two lists of askings is that of the first list, or else that of the second. So an asking behind
--- others changes no winner that there is, and where the kept winners are the first askers they stay it: with the asking
--- kept where nobody had won, and without it where somebody had.
+-- The first asker of two lists of askings is that of the first list, or else that of the second. So an asking after
+-- others changes no winner that there is, and if the kept winners are the first askers they remain so: with the asking
+-- kept if nobody had won, and without it if somebody had.
 use Rattle.std.proofs.Common.{◌≡◌, ℕ, zero, suc, Bool, true, false, cond, eqb, List, [], ◌∷◌, ◌++◌, Option, Some, None, refl, sym, ap, subst, ◌∙◌, arith}
 use Rattle.std.specs.Prelude.{◌≢◌, All, find, is_some}
 use Rattle.std.specs.Option.{option_map, option_or}
@@ -33,7 +33,7 @@ winner_of-append xs ys g =
     ap (option_map (λ (a : Asking). a.node)) (find-append (λ (a : Asking). eqb a.generation g) xs ys)
     ∙ node_of-or (find (λ (a : Asking). eqb a.generation g) xs) (find (λ (a : Asking). eqb a.generation g) ys)
 
--- whoever asks behind the others is the winner where there was none
+-- whoever asks after the others is the winner if there was none
 still_winners : (old askings last : List Asking) → AreWinners askings old
     → AreWinners (askings ++ last) (old ++ last)
 still_winners old askings last winners g =

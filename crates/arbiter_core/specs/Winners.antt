@@ -11,7 +11,7 @@ abbrev pub winner_of : List Asking → ℕ → Option ℕ
 winner_of askings generation =
     option_map (λ asking. asking.node) (find (λ asking. asking.generation == generation) askings)
 
--- where nobody has won the asker wins, unless memory is refused; a winner has won again, and any other node has lost
+-- if nobody has won the asker wins, unless memory is refused; a winner has won again, and any other node has lost
 abbrev pub IsAnswer : Option ℕ → ℕ → Result Won Fault → Type 0
 IsAnswer None node result = IsOkUnless result OutOfMemory
 IsAnswer (Some winner) node result = result ≡ (if winner == node then Ok (record {}) else Err Lost)
@@ -23,16 +23,16 @@ after_asking winners generation node =
     then winners
     else winners ++ record { generation = generation; node = node } ∷ []
 
--- who is kept as a generation's winner was the first to ask for it
+-- the node that is kept as a generation's winner was the first to ask for it
 abbrev pub AreWinners : List Asking → List Asking → Type 0
 AreWinners askings winners = (generation : ℕ) → winner_of winners generation ≡ winner_of askings generation
 
--- whatever was asked before, the new winners are those of all askings with this one behind them
+-- whatever was asked before, the new winners are those of all askings with this one after them
 pub record GoesOn (old : List Asking) (generation node : ℕ) (new : List Asking) : Type 0 where
   pub so_far : (askings : List Asking) → AreWinners askings old
       → AreWinners (askings ++ record { generation = generation; node = node } ∷ []) new
 
--- the first that asked for a generation is its winner, and stays it whatever is asked later
+-- the first that asked for a generation is its winner, and remains so whatever is asked later
 pub record FirstAskersWin (askings : List Asking) : Type 0 where
   pub first : (generation node : ℕ) (later : List Asking)
       → All (λ (asking : Asking). asking.generation ≢ generation) askings

@@ -34,7 +34,7 @@ impl Model for Arbiter {
 }
 
 impl Arbiter {
-    /// An arbiter that nobody asked yet.
+    /// An arbiter that nobody has asked yet.
     pub fn new(alloc: Global) -> Arbiter
         ensures { result ≡ [] }
     {
@@ -43,8 +43,8 @@ impl Arbiter {
         }
     }
 
-    /// A node asks for a generation: whoever asks first has won it, and is told so again where it asks again. `Lost` to
-    /// every other node. `OutOfMemory` comes only to the first that asks, and then it has not asked.
+    /// A node asks for a generation: whoever asks first has won it, and is told so again if it asks again. `Lost` to
+    /// every other node. `OutOfMemory` is returned only to the first that asks, and then it has not asked.
     #[tactic(auto, using(crate::proofs::FirstAskers::first_wins, crate::proofs::FirstAskers::later_lose))]
     pub fn test_and_set(&mut self, generation: u32, node: u64) -> R<Won>
         ensures answer { table.IsAnswer (table.winner_of self.old generation) node result }

@@ -1,6 +1,6 @@
--- The outstanding writes. Where one is done, the others stay as they stood, and no sector is busy that was not: a filter
--- keeps what holds of each and of each two. A list of writes is one of outstanding writes exactly if each may follow
--- those before it, so it is decided from its front.
+-- The outstanding writes. When one is done, the others are unchanged, and no sector becomes busy: a filter keeps what
+-- holds of each element and of each pair. Writes may be outstanding together exactly if each may follow those before
+-- it, so a scan from the front decides it.
 use Rattle.std.proofs.Common.{◌≡◌, ℕ, ◌+◌, ◌<◌, ◌≤◌, Bool, false, not, ◌==◌, Option, Some, None, List, [], ◌∷◌, length, take, get_or, refl, arith}
 use Rattle.std.specs.Prelude.{IfSome}
 use Rattle.std.specs.List.{filter, list_any}
@@ -28,7 +28,7 @@ length-filter_le : {X : Type 0} (q : X → Bool) (xs : List X) → length (filte
 length-filter_le q [] = omega arith
 length-filter_le q (x ∷ xs) = grind (arith, length-filter_le q xs)
 
--- some of the outstanding writes may be outstanding without the others
+-- any of the outstanding writes may be outstanding without the others
 AreOutstanding-filter :
     (attached issued : ℕ) (q : Place → Bool) (places : List Place) →
     AreOutstanding attached issued places → AreOutstanding attached issued (filter q places)
@@ -38,7 +38,7 @@ AreOutstanding-filter attached issued q places h = record {
   order = AllPairs-filter Follows q places h.order;
 }
 
--- no sector becomes busy by a write that is done
+-- no sector becomes busy when a write is done
 is_sector_busy-written :
     (d : Drives) (number sector : ℕ) →
     is_sector_busy d sector ≡ false → is_sector_busy (after_written d number) sector ≡ false
@@ -63,7 +63,7 @@ still_under_head d number (Some s) h = record {
   idle = is_sector_busy-written d number s.sector h.idle;
 }
 
--- after a write that is done the controller stands as controllers do
+-- after a write is done, what holds of every controller still holds
 pub IsDrives-written : (d : Drives) (number : ℕ) → IsDrives d → IsDrives (after_written d number)
 IsDrives-written d number h = record {
   some = h.some;
@@ -87,7 +87,7 @@ AreOutstanding-more attached issued places i d inside few before follows =
       order = all_pairs_push Follows (take i places) (get_or places i d) before.order follows.behind;
     })
 
--- of writes that are outstanding together each may follow those before it
+-- of writes that are outstanding together, each may follow those before it
 pub MayFollow-at :
     (attached issued : ℕ) (places : List Place) (i : ℕ) (d : Place) → i < length places →
     AreOutstanding attached issued places → MayFollow attached issued (take i places) (get_or places i d)

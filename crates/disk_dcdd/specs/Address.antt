@@ -1,4 +1,4 @@
--- The sectors of all drives: by address, and by place in a table of them all.
+-- The sectors of all drives: by address, and by index in a table of them all.
 use Rattle.std.specs.Prelude.{ℕ, ◌+◌, ◌*◌, Bool, ◌==◌, ◌&&◌, nat_lt, if◌then◌else◌, Option, Some, None}
 use Rattle.disk_dcdd.specs.declared.address.TheConstants.{DRIVE_SECTORS}
 use Rattle.disk_dcdd.specs.declared.address.SectorAddress.{SectorAddress}
@@ -10,18 +10,18 @@ use Rattle.disk_dcdd.specs.declared.sector.SectorWrite.{SectorWrite}
 abbrev pub address_of : SectorWrite → SectorAddress
 address_of w = record { drive = w.drive; track = w.track; sector = w.sector }
 
--- both are one sector
+-- both are the same sector
 abbrev pub same_address : SectorAddress → SectorAddress → Bool
 same_address a b = a.drive == b.drive && a.track == b.track && a.sector == b.sector
 
--- a drive has a sector there
+-- a drive has a sector at this address
 abbrev pub is_on_disk : SectorAddress → Bool
 is_on_disk a = nat_lt a.track TRACKS && nat_lt a.sector SECTORS
 
--- one of so many drives has this sector
+-- one of this many drives has this sector
 abbrev pub has_sector : ℕ → SectorAddress → Bool
 has_sector drives a = is_on_disk a && nat_lt a.drive drives
 
--- the place in a table by drive, track and number
+-- the index in a table by drive, track and number
 abbrev pub index_of : SectorAddress → Option ℕ
 index_of a = if is_on_disk a then Some (a.drive * DRIVE_SECTORS + a.track * SECTORS + a.sector) else None

@@ -5,7 +5,7 @@ use Rattle.disk_dcdd.specs.declared.drive.Drive.{Drive}
 use Rattle.disk_dcdd.specs.declared.sector.CurrentSector.{CurrentSector}
 use Rattle.disk_dcdd.specs.Sector.{is_written}
 
--- at boot a drive stands at track 0 with its head unloaded
+-- at boot a drive's head is at track 0 and unloaded
 abbrev pub drive_at_boot : Drive
 drive_at_boot = record { track = 0; loaded = false }
 
@@ -45,17 +45,17 @@ write_enable = 7
 abbrev pub has_bit : ℕ → ℕ → Bool
 has_bit byte bit = byte / 2 ^ bit % 2 == 1
 
--- OUT 08h: bit 7 set selects none; else bits 3-0 name a drive, which is selected if it is attached
+-- OUT 08h: bit 7 set selects none; otherwise bits 3-0 name a drive, which is selected if it is attached
 abbrev pub selected_by : ℕ → ℕ → Option ℕ
 selected_by byte attached =
     let drive = byte % 16 in
     if not (has_bit byte deselect) && nat_lt drive attached then Some drive else None
 
--- the head one track inwards, at most to the last track
+-- the head one track inwards, no further than the last track
 abbrev pub stepped_in : Drive → Drive
 stepped_in drive = record drive { track = min (drive.track + 1) (TRACKS - 1) }
 
--- the head one track outwards, at least to track 0
+-- the head one track outwards, no further than track 0
 abbrev pub stepped_out : Drive → Drive
 stepped_out drive = record drive { track = drive.track - 1 }
 
@@ -67,11 +67,11 @@ loaded drive = record drive { loaded = true }
 abbrev pub unloaded : Drive → Drive
 unloaded drive = record drive { loaded = false }
 
--- a change of a drive that a bit of the command asks for
+-- a change to a drive, made if this bit of the command is set
 abbrev pub where_set : ℕ → ℕ → (Drive → Drive) → Drive → Drive
 where_set command bit change drive = if has_bit command bit then change drive else drive
 
--- OUT 09h on the selected drive, bits 0 upwards
+-- OUT 09h on the selected drive, from bit 0 up
 abbrev pub commanded_drive : ℕ → Drive → Drive
 commanded_drive command drive =
     let after_in = where_set command step_in stepped_in drive in
@@ -79,7 +79,7 @@ commanded_drive command drive =
     let after_load = where_set command head_load loaded after_out in
     where_set command head_unload unloaded after_load
 
--- OUT 09h on the interrupt enable: it is set, and then cleared
+-- OUT 09h on the interrupt enable: it is set first, and then cleared
 abbrev pub commanded_interrupts : ℕ → Bool → Bool
 commanded_interrupts command enabled =
     (enabled || has_bit command interrupt_enable) && not (has_bit command interrupt_disable)
@@ -92,8 +92,8 @@ moves_head command = has_bit command step_in || has_bit command step_out || has_
 abbrev pub started : CurrentSector → CurrentSector
 started s = record s { filled = Some 0 }
 
--- OUT 09h on the sector under the head: it leaves where it is being written or the head moves off it, and a write may
--- start of one that stays
+-- OUT 09h on the sector under the head: it leaves if it is being written or the head moves off it; otherwise a write of
+-- it may start
 abbrev pub commanded_sector : ℕ → Option CurrentSector → Option CurrentSector
 commanded_sector command None = None
 commanded_sector command (Some s) =

@@ -13,7 +13,7 @@ abbrev pub answered : Option Fault → Result (Unit {0}) Fault
 answered None = Ok tt
 answered (Some fault) = Err fault
 
--- how the controller stands after such a call: a refused one changes nothing
+-- the controller after such a call: a refused one changes nothing
 abbrev pub moved : Option Fault → Drives → Drives → Drives
 moved None old new = new
 moved (Some fault) old new = old
@@ -38,7 +38,7 @@ is_sector_busy d sector = option_map_or (is_busy_on d sector) d.selected false
 abbrev pub is_sector_due : Drives → ℕ → Bool
 is_sector_due d sector = is_head_loaded d && is_none d.current && nat_lt sector SECTORS
 
--- why a sector does not come: it is not due; else a write of it is outstanding
+-- why a sector does not come: it is not due, or else a write of it is outstanding
 abbrev pub sector_refusal : Drives → ℕ → Option Fault
 sector_refusal d sector =
     if not (is_sector_due d sector) then Some NotDue else if is_sector_busy d sector then Some SectorBusy else None
@@ -55,6 +55,6 @@ is_outstanding d number = list_any (λ place. place.number == number) d.outstand
 abbrev pub written_refusal : Drives → ℕ → Option Fault
 written_refusal d number = if is_outstanding d number then None else Some NotDue
 
--- a write is done: it is outstanding no more
+-- a write is done: it is no longer outstanding
 abbrev pub after_written : Drives → ℕ → Drives
 after_written d number = record d { outstanding = filter (λ place. not (place.number == number)) d.outstanding }

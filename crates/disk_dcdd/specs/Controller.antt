@@ -1,4 +1,4 @@
--- What the fields of a `Controller` mean, and how every controller stands.
+-- What the fields of a `Controller` mean, and what holds of every controller.
 use Rattle.std.specs.Prelude.{◌≡◌, ℕ, ◌<◌, ◌≤◌, false, IsTrue, IfSome, List, All, AllPairs, length, drop}
 use Rattle.disk_dcdd.specs.declared.controller.TheConstants.{DRIVES, OUTSTANDING, GREATEST_NUMBER}
 use Rattle.disk_dcdd.specs.declared.drive.TheConstants.{TRACKS}
@@ -12,7 +12,7 @@ use Rattle.disk_dcdd.specs.Drive.{Drives}
 use Rattle.disk_dcdd.specs.Completion.{is_head_loaded, is_sector_busy}
 use Rattle.disk_dcdd.specs.declared.controller.Controller.TheInside.{Inside}
 
--- the controller of these fields
+-- the controller with these fields
 abbrev pub drives_of : Inside → Drives
 drives_of a = record {
   attached = a.attached;
@@ -24,13 +24,13 @@ drives_of a = record {
   issued = a.issued;
 }
 
--- drives of which this many are attached; the others stand as at boot
+-- drives of which this many are attached; the others are as at boot
 pub record AreDrives (attached : ℕ) (drives : List Drive) : Type 0 where
   pub count : length drives ≡ DRIVES
   pub tracks : All (λ drive. drive.track < TRACKS) drives
   pub unattached : All (λ drive. drive ≡ drive_at_boot) (drop attached drives)
 
--- an unfinished sector stands under the loaded head of the selected drive, and no write of it is outstanding
+-- an unfinished sector is under the loaded head of the selected drive, and no write of it is outstanding
 pub record IsUnderHead (d : Drives) (s : CurrentSector) : Type 0 where
   pub head : IsTrue (is_head_loaded d)
   pub sector : s.sector < SECTORS
@@ -38,7 +38,7 @@ pub record IsUnderHead (d : Drives) (s : CurrentSector) : Type 0 where
   pub unfinished : IsUnfinished s
   pub idle : is_sector_busy d s.sector ≡ false
 
--- a write is one of those that were issued, and goes to a sector of an attached drive
+-- a write is one of those issued, and goes to a sector of an attached drive
 pub record IsIssued (attached issued : ℕ) (place : Place) : Type 0 where
   pub first : 1 ≤ place.number
   pub last : place.number ≤ issued
@@ -51,7 +51,7 @@ pub record Follows (earlier later : Place) : Type 0 where
   pub number : earlier.number < later.number
   pub elsewhere : is_at later.drive later.track later.sector earlier ≡ false
 
--- a write may be outstanding beside these earlier ones
+-- a write may be outstanding along with these earlier ones
 pub record MayFollow (attached issued : ℕ) (earlier : List Place) (place : Place) : Type 0 where
   pub itself : IsIssued attached issued place
   pub behind : All (λ one. Follows one place) earlier
@@ -62,7 +62,7 @@ pub record AreOutstanding (attached issued : ℕ) (places : List Place) : Type 0
   pub each : All (IsIssued attached issued) places
   pub order : AllPairs Follows places
 
--- how every controller stands
+-- what holds of every controller
 pub record IsDrives (d : Drives) : Type 0 where
   pub some : 1 ≤ d.attached
   pub few : d.attached ≤ DRIVES
@@ -72,6 +72,6 @@ pub record IsDrives (d : Drives) : Type 0 where
   pub outstanding : AreOutstanding d.attached d.issued d.outstanding
   pub issued : d.issued ≤ GREATEST_NUMBER
 
--- the fields of a controller say how it stands
+-- what holds of the fields of a controller
 abbrev pub IsController : Inside → Type 0
 IsController a = IsDrives (drives_of a)

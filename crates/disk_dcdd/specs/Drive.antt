@@ -10,7 +10,7 @@ use Rattle.disk_dcdd.specs.Sector.{last_byte, nothing, place_of, has_new_data, e
 use Rattle.disk_dcdd.specs.Command.{drive_at_boot, selected_by, commanded_drive, commanded_interrupts, commanded_sector}
 
 -- the controller: how many drives are attached, which is selected, the track and the head of each, the interrupt
--- enable, the sector under the head, the outstanding writes by rising number, and how many writes were ever issued
+-- enable, the sector under the head, the outstanding writes in order of number, and how many writes were ever issued
 pub record Drives : Type 0 where
   pub attached : ℕ
   pub selected : Option ℕ
@@ -64,12 +64,12 @@ track_zero = 6
 abbrev pub nrda : ℕ
 nrda = 7
 
--- a status bit is 0 where its fact holds
+-- a status bit is 0 while its condition holds
 abbrev pub low : ℕ → Bool → ℕ
 low bit true = 0
 low bit false = 2 ^ bit
 
--- IN 08h of this drive; bit 1, that the head may move, is 0, and so are bits 3 and 4
+-- IN 08h of this drive; bit 1 (the head may move) is 0, and so are bits 3 and 4
 abbrev pub status_with : Drives → ℕ → ℕ
 status_with d drive =
     low enwd (enters_new_data (has_room d) d.current)
@@ -90,11 +90,11 @@ commanded d command drive = record d {
   current = commanded_sector command d.current;
 }
 
--- OUT 09h commands the selected drive, and changes nothing with none selected
+-- OUT 09h commands the selected drive, and changes nothing if none is selected
 abbrev pub after_command : Drives → ℕ → Drives
 after_command d command = option_map_or (commanded d command) d.selected d
 
--- IN 09h gives a position; with no drive selected there is no sector
+-- IN 09h returns a position; with no drive selected there is no sector
 abbrev pub position_of : Drives → ℕ
 position_of d = shown_position d.current
 
@@ -102,11 +102,11 @@ position_of d = shown_position d.current
 abbrev pub after_position : Drives → Drives
 after_position d = record d { current = after_showing d.current }
 
--- IN 0Ah gives a byte
+-- IN 0Ah returns a byte
 abbrev pub byte_of : Drives → ℕ
 byte_of d = next_byte d.current
 
--- IN 0Ah leaves one byte less to read
+-- IN 0Ah leaves one byte fewer to read
 abbrev pub after_read : Drives → Drives
 after_read d = record d { current = after_reading d.current }
 
@@ -120,7 +120,7 @@ write_of d s drive = record {
   bytes = s.bytes;
 }
 
--- OUT 0Ah, where this many bytes of the sector are filled in: byte 137 issues the write if there is room for one
+-- OUT 0Ah with this many bytes of the sector filled in: byte 137 issues the write if there is room for one
 abbrev pub issued_at : Drives → ℕ → ℕ → CurrentSector → ℕ → Option SectorWrite
 issued_at d byte drive s filled =
     if filled == last_byte && has_room d then Some (write_of d (with_byte_filled s filled byte) drive) else None
@@ -131,7 +131,7 @@ issued_by d byte =
     option_and_then (λ drive. option_and_then (λ s. option_and_then (issued_at d byte drive s) s.filled) d.current)
     d.selected
 
--- a byte is kept where new write data may be entered, and else lost
+-- a byte is kept if new write data may be entered, otherwise lost
 abbrev pub kept_at : Drives → ℕ → CurrentSector → ℕ → Drives
 kept_at d byte s filled =
     if may_fill (has_room d) filled then record d { current = Some (with_byte_filled s filled byte) } else d
@@ -148,6 +148,6 @@ after_issue d w = record d { current = None; outstanding = d.outstanding ++ plac
 abbrev pub after_data : Drives → ℕ → Drives
 after_data d byte = option_map_or (after_issue d) (issued_by d byte) (after_keep d byte)
 
--- the controller asks for an interrupt where interrupts are enabled and a sector is under the head
+-- the controller asks for an interrupt if interrupts are enabled and a sector is under the head
 abbrev pub line_of : Drives → Bool
 line_of d = d.interrupts && is_some d.current

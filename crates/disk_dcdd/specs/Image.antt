@@ -2,7 +2,7 @@
 use Rattle.disk_dcdd.specs.declared.controller.image.ControllerImage.{ControllerImage}
 use Rattle.disk_dcdd.specs.Drive.{Drives}
 
--- the controller that stands as the image says
+-- the controller that the image describes
 abbrev pub imaged : ControllerImage → Drives
 imaged i = record {
   attached = i.attached;

@@ -1,4 +1,4 @@
--- The numbers that the definitions call by the names of the code.
+-- The constants that the definitions cite by their names in the code.
 use Rattle.std.specs.Prelude.{◌≡◌, ◌-◌, ◌*◌, ◌^◌}
 use Rattle.disk_dcdd.specs.declared.address.TheConstants.{DRIVE_SECTORS}
 use Rattle.disk_dcdd.specs.declared.controller.TheConstants.{DRIVES, OUTSTANDING, GREATEST_NUMBER}

@@ -6,11 +6,11 @@ use Rattle.disk_dcdd.specs.declared.sector.CurrentSector.{CurrentSector}
 use Rattle.disk_dcdd.specs.declared.sector.Place.{Place}
 use Rattle.disk_dcdd.specs.declared.sector.SectorWrite.{SectorWrite}
 
--- the place of byte 137, a sector's last
+-- the index of byte 137, a sector's last
 abbrev pub last_byte : ℕ
 last_byte = 136
 
--- what a port gives that has nothing to show
+-- what a port reads when it has nothing to show
 abbrev pub nothing : ℕ
 nothing = 0xFF
 
@@ -61,7 +61,7 @@ enters_new_data has_room (Some s) = option_map_or (may_fill has_room) s.filled f
 abbrev pub is_shown_now : CurrentSector → Bool
 is_shown_now s = is_written s || not s.shown
 
--- the position that IN 09h gives
+-- the position that IN 09h returns
 abbrev pub shown_position : Option CurrentSector → ℕ
 shown_position None = nothing
 shown_position (Some s) = if is_shown_now s then position_at s.sector else nothing
@@ -71,7 +71,7 @@ abbrev pub after_showing : Option CurrentSector → Option CurrentSector
 after_showing None = None
 after_showing (Some s) = if is_shown_now s then Some (record s { shown = true }) else None
 
--- the byte that IN 0Ah gives: the next one where new read data is available
+-- the byte that IN 0Ah returns: the next one if new read data is available
 abbrev pub next_byte : Option CurrentSector → ℕ
 next_byte None = nothing
 next_byte (Some s) = if may_read s then slice_index s.bytes s.read else nothing
@@ -85,6 +85,6 @@ abbrev pub after_reading : Option CurrentSector → Option CurrentSector
 after_reading None = None
 after_reading (Some s) = if may_read s then with_byte_read s else Some s
 
--- OUT 0Ah puts the byte at the next place, where this many bytes are filled in; the places behind keep the old bytes
+-- OUT 0Ah puts the byte at the next place, after this many filled in; the places after it keep the old bytes
 abbrev pub with_byte_filled : CurrentSector → ℕ → ℕ → CurrentSector
 with_byte_filled s filled byte = record s { bytes = slice_set s.bytes filled byte; filled = Some (filled + 1) }

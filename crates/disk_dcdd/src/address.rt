@@ -1,4 +1,4 @@
-//! The sectors of all drives, each by its address and by its place in a table of them all.
+//! The sectors of all drives, each by its address and by its index in a table of them all.
 ghost use Rattle.std.specs.Prelude.{◌≡◌, ℕ, Some};
 ghost use Rattle.disk_dcdd.specs.Address as table;
 ghost use Rattle.disk_dcdd.specs.declared.address.SectorAddress.{SectorAddress};
@@ -18,8 +18,8 @@ pub struct SectorAddress {
 }
 
 impl SectorAddress {
-    /// Where the sector stands in a table of all sectors, by drive, track and number. `None` where no drive has a track
-    /// or a sector of this number.
+    /// The index of the sector in a table of all sectors, ordered by drive, track and number. `None` if no drive has a
+    /// track or a sector of this number.
     pub fn index(self) -> Option<usize>
         ensures { result ≡ table.index_of self }
     {
@@ -34,7 +34,7 @@ impl SectorAddress {
     }
 }
 
-/// No two sectors stand at one place of a table.
+/// No two sectors have the same index.
 pub fn sectors_stand_apart()
     ensures { (a b : SectorAddress) (i : ℕ) → table.index_of a ≡ Some i → table.index_of b ≡ Some i → a ≡ b }
 {}

@@ -25,7 +25,7 @@ const INTERRUPT_DISABLE: u8 = 5;
 
 const WRITE_ENABLE: u8 = 7;
 
-// The drive that OUT 08h selects, of this many.
+// The drive that OUT 08h selects, with this many attached.
 pub(crate) fn selected_by(byte: u8, attached: u8) -> Option<u8>
     ensures value { result ≡ table.selected_by byte attached }
     ensures range { IfSome result (λ drive. drive < attached) }

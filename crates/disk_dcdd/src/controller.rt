@@ -12,16 +12,16 @@ use arrayvec::ArrayVec;
 pub use image::ControllerImage;
 use std::marker::Model;
 
-/// How many drives a controller has at most; they are numbered from 0.
+/// The most drives that a controller can have; they are numbered from 0.
 pub const DRIVES: usize = 4;
 
-/// How many writes are outstanding at most.
+/// The most writes that can be outstanding.
 pub const OUTSTANDING: usize = 8;
 
 /// The greatest number that a write can have.
 pub const GREATEST_NUMBER: u64 = 0x3fff_ffff_ffff_ffff;
 
-// The status bits, each 0 while its fact holds. Bit 1, that the head may move, is always 0, and so are bits 3 and 4,
+// The status bits, each 0 while its condition holds. Bit 1 (the head may move) is always 0, and so are bits 3 and 4,
 // which are not used.
 const ENTER_NEW_WRITE_DATA: u8 = 0x01;
 
@@ -60,8 +60,8 @@ impl Model for Controller {
 }
 
 impl Controller {
-    /// A controller of one to four drives, as it is switched on: no drive is selected, each stands at track 0 with its
-    /// head unloaded, and interrupts are disabled.
+    /// A controller of one to four drives when it is switched on: no drive is selected, each head is at track 0 and
+    /// unloaded, and interrupts are disabled.
     pub fn new(drives: u8) -> Self
         requires some { 1 ≤ drives }
         requires few { drives ≤ DRIVES }
@@ -86,7 +86,7 @@ impl Controller {
         self.selected = commands::selected_by(byte, self.attached);
     }
 
-    /// IN 08h gives the status of the selected drive; FFh with none selected.
+    /// IN 08h returns the status of the selected drive; FFh if none is selected.
     pub fn status(&self) -> u8
         ensures { result ≡ table.status_of self.now }
     {
@@ -104,7 +104,7 @@ impl Controller {
     }
 
     /// OUT 09h moves, loads and unloads the head of the selected drive, enables and disables interrupts, and starts a
-    /// write of the sector under the head. The sector leaves where the head moves off it or where it is being written.
+    /// write of the sector under the head. The sector leaves if the head moves off it or if it is being written.
     pub fn command(&mut self, byte: u8)
         ensures { self.new ≡ table.after_command self.old byte }
     {
@@ -116,8 +116,8 @@ impl Controller {
         commands::command_sector(&mut self.current, byte);
     }
 
-    /// IN 09h gives the position of the sector under the head, C0h and twice its number; FFh with none there. A sector
-    /// that was shown, and is not being written, leaves at the next look.
+    /// IN 09h returns the position of the sector under the head, C0h plus twice its number; FFh if there is none. A
+    /// sector that was shown, and is not being written, leaves at the next IN 09h.
     pub fn position(&mut self) -> u8
         ensures value { result ≡ table.position_of self.old }
         ensures after { self.new ≡ table.after_position self.old }
@@ -125,7 +125,7 @@ impl Controller {
         sector::show_position(&mut self.current)
     }
 
-    /// IN 0Ah gives the next byte of the sector under the head, which leaves after its last; FFh where no byte waits.
+    /// IN 0Ah returns the next byte of the sector under the head, which leaves after its last; FFh if no byte waits.
     pub fn data_in(&mut self) -> u8
         ensures value { result ≡ table.byte_of self.old }
         ensures after { self.new ≡ table.after_read self.old }
@@ -134,7 +134,7 @@ impl Controller {
     }
 
     /// OUT 0Ah gives the next byte of the sector that is being written. Its last byte issues the write, and the sector
-    /// leaves; while as many writes as may be are outstanding, that byte is lost.
+    /// leaves; while `OUTSTANDING` writes are outstanding, that byte is lost.
     pub fn data_out(&mut self, byte: u8) -> Option<SectorWrite>
         requires { self.old.issued < GREATEST_NUMBER }
         ensures value { result ≡ table.issued_by self.old byte }
@@ -172,7 +172,7 @@ impl Controller {
     }
 }
 
-// A status bit, which is 0 while its fact holds.
+// A status bit, which is 0 while its condition holds.
 fn low(holds: bool, bit: u8) -> u8
     ensures value { result ≡ (if holds then 0 else bit) }
     ensures within { result ≤ bit }

@@ -1,4 +1,4 @@
-//! One drive: at which track its head stands, and whether the head is loaded.
+//! One drive: the track its head is at, and whether the head is loaded.
 ghost use Rattle.std.specs.Prelude.{◌≡◌, ◌<◌, ◌↔◌, IsTrue};
 ghost use Rattle.disk_dcdd.specs.Command as table;
 
@@ -13,7 +13,7 @@ pub struct Drive {
 }
 
 impl Drive {
-    // A drive as it is switched on.
+    // A drive when it is switched on.
     pub(crate) fn at_boot() -> Self
         ensures { result ≡ table.drive_at_boot }
     {
@@ -23,14 +23,14 @@ impl Drive {
         }
     }
 
-    // Whether the drive stands as it does when it is switched on.
+    // Whether the drive is as it is when switched on.
     pub(crate) fn is_at_boot(&self) -> bool
         ensures { IsTrue result ↔ (self.now ≡ table.drive_at_boot) }
     {
         self.track == 0 && !self.loaded
     }
 
-    // The head goes one track inwards, as far as the last track.
+    // Moves the head one track inwards, no further than the last track.
     pub(crate) fn step_in(&mut self)
         requires { self.old.track < TRACKS }
         ensures { self.new ≡ table.stepped_in self.old }
@@ -40,7 +40,7 @@ impl Drive {
         }
     }
 
-    // The head goes one track outwards, as far as track 0.
+    // Moves the head one track outwards, no further than track 0.
     pub(crate) fn step_out(&mut self)
         ensures { self.new ≡ table.stepped_out self.old }
     {

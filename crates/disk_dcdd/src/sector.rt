@@ -1,4 +1,4 @@
-//! A sector: as a numbered write, as the place where such a write goes, and as it passes under the head.
+//! A sector: as a numbered write, as the place that such a write goes to, and as it passes under the head.
 ghost use Rattle.std.specs.Prelude.{◌≡◌, ◌<◌, ◌↔◌, IfSome, IsTrue};
 ghost use Rattle.disk_dcdd.specs.Address as address;
 ghost use Rattle.disk_dcdd.specs.Sector as table;
@@ -11,16 +11,16 @@ pub const SECTOR_BYTES: usize = 137;
 /// How many sectors a track has; they are numbered from 0.
 pub const SECTORS: u8 = 32;
 
-// The place of byte 137, a sector's last.
+// The index of byte 137, a sector's last.
 pub(crate) const LAST_BYTE: u8 = (SECTOR_BYTES - 1) as u8;
 
-// What a port gives that has nothing to show.
+// What a port reads when it has nothing to show.
 pub(crate) const NOTHING: u8 = 0xff;
 
 // The sector position: bits 7 and 6 are always 1, bits 5 to 1 number the sector, and bit 0 is 0 while one is there.
 const SECTOR_TRUE: u8 = 0xc0;
 
-/// A write of a whole sector: drive, track and sector from 0. Writes are numbered from 1 over all drives.
+/// A write of a whole sector: drive, track and sector from 0. Writes are numbered from 1 across all drives.
 #[derive(Clone, Copy, Debug, PartialEq, Eq)]
 pub struct SectorWrite {
     pub number: u64,
@@ -129,7 +129,7 @@ pub(crate) fn enters_new_data(current: &Option<CurrentSector>, has_room: bool) -
     }
 }
 
-// The position of the sector under the head, which leaves where it is not shown again.
+// The position of the sector under the head, which leaves if it is not shown again.
 pub(crate) fn show_position(current: &mut Option<CurrentSector>) -> u8
     requires { IfSome current.old (λ s. s.sector < SECTORS) }
     ensures value { result ≡ table.shown_position current.old }

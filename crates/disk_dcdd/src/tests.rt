@@ -8,7 +8,7 @@ use std::process::Abort;
 
 const OLD_BYTES: [u8; SECTOR_BYTES] = [0xe5; SECTOR_BYTES];
 
-// A controller of one drive, whose loaded head stands over sector 5 of track 0.
+// A controller of one drive, whose loaded head is over sector 5 of track 0.
 fn over_sector_five(rt: &impl Abort) -> Controller {
     let mut disk = Controller::new(1);
     assert_eq!(rt; disk.status(), 0xff);
@@ -76,7 +76,7 @@ fn a_sector_is_read_once(rt: HostRuntime) {
     assert_eq!(rt; disk.data_in(), 0xff);
 }
 
-// What the readers of a controller give.
+// What the readers of a controller return.
 fn image_of(disk: &Controller) -> ControllerImage<'_> {
     ControllerImage {
         attached: disk.attached(),
@@ -108,7 +108,7 @@ const UNDER_HEAD: CurrentSector = CurrentSector {
     filled: Some(136),
 };
 
-// An image whose drive 1 stands over a sector that is being written, while writes of these numbers are outstanding.
+// An image whose drive 1 is over a sector that is being written, while writes of these numbers are outstanding.
 fn image_with(outstanding: &[Place]) -> ControllerImage<'_> {
     let boot = Drive {
         track: 0,

@@ -1,5 +1,5 @@
--- A small machine: it reads the key that came last and sends it at the next step, one byte at a time, and it idles
--- where it waits for an acceptance and has no key to read.
+-- A small machine: it reads the key that arrived last and sends it at the next step, one byte at a time, and it idles
+-- if it waits for an acceptance and has no key to read.
 use Rattle.std.specs.Prelude.{ℕ, suc, Bool, true, false, ◌==◌, nat_le, ◌&&◌, ◌||◌, if◌then◌else◌, Option, Some, None, is_none, []}
 use Rattle.disk_dcdd.specs.declared.address.SectorAddress.{SectorAddress}
 use Rattle.disk_dcdd.specs.declared.controller.TheConstants.{GREATEST_NUMBER}
@@ -25,7 +25,7 @@ pub record Echo : Type 0 where
 abbrev pub at_boot : Echo
 at_boot = record { count = 0; keys = 0; key = None; byte = None; sent = 0; waits = false; outgoing = 0 }
 
--- a byte that was read is sent, while none waits; else the key is read
+-- a byte that was read is sent, while none waits; otherwise the key is read
 abbrev pub sends : Echo → ℕ → Echo × Option Operation
 sends e byte =
     (
@@ -53,7 +53,7 @@ step_of e =
 abbrev pub due_byte : Echo → ℕ → Option ℕ
 due_byte e port = if e.waits && port == 0 then Some e.sent else None
 
--- keys come at either port; the byte that was sent is accepted
+-- keys arrive at either port; the byte that was sent is accepted
 abbrev pub after : Echo → Input → Option Echo
 after e (Rx port byte) = Some (record e { keys = suc e.keys; key = Some byte })
 after e (Sent port) = if e.waits && port == 0 then Some (record e { waits = false }) else None

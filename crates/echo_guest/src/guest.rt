@@ -47,7 +47,7 @@ impl Model for Echo {
 }
 
 impl Echo {
-    /// A guest at boot, with room for so many operations.
+    /// A guest at boot, with room for this many operations.
     pub fn new(room: u64) -> Echo
         ensures { result ≡ at_boot }
     {

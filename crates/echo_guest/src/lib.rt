@@ -1,4 +1,4 @@
-//! A small guest that sends each key that it reads, for the tests of what runs a guest.
+//! A small guest that sends each key that it reads, for testing what runs a guest.
 #![tactic(auto)]
 
 mod guest;

@@ -1,6 +1,6 @@
--- When two names are one. A spelling gives its name back, since its first number says what is named and the others are
--- the name's own numbers. The order of spellings is total and ties only equal ones, so the order of names is and does,
--- and the test by which the map compares two names says whether they are equal.
+-- When two names are equal. A spelling determines its name, since its first number says what is named and the others
+-- are the name's own numbers. The order of spellings is total and ties only equal ones; so does the order of names, and
+-- the test by which the map compares two names says whether they are equal.
 use Rattle.std.proofs.Common.{◌≡◌, ◌≢◌, ◌⊎◌, Bool, true, false, refl, subst, inl, inr}
 use Rattle.std.specs.declared.cmp.Ordering.{Ordering}
 use Rattle.std.specs.declared.cmp.Ordering.TheVariants.{Less, Equal, Greater}
@@ -38,7 +38,7 @@ tie_from_test Less e = cc
 tie_from_test Equal e = refl
 tie_from_test Greater e = cc
 
--- two names are one or not
+-- two names are equal or not
 pub name_cases : (i j : OpId) → (i ≡ j) ⊎ (i ≢ j)
 name_cases i j =
     elim (same i j) as (λ b. same i j ≡ b → (i ≡ j) ⊎ (i ≢ j)) [

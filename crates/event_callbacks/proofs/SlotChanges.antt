@@ -1,6 +1,6 @@
--- How the map changes with one slot of the slab. A slot that takes an operation of a new name adds that one to the map,
--- and a slot that gives its operation up takes that one out of the map: on both sides of these two equations the same
--- operations stand under every name. Each name still stands in one slot at most.
+-- How the map changes with one slot of the slab. A slot that takes an operation with a new name adds it to the map, and
+-- a slot that gives up its operation removes it from the map: on both sides of these two equations every name has the
+-- same operation. Each name is still in at most one slot.
 use Rattle.std.proofs.Common.{◌≡◌, ◌≢◌, ◌⊎◌, ℕ, Some, None, sym, ap, ◌∙◌, inl, inr}
 use Rattle.std.proofs.lemmas.Bool.{cases_eq}
 use Rattle.slab.specs.Slab.{Slab, Updates, get}
@@ -19,7 +19,7 @@ module _ (old new : Slab Operation) (key : ℕ) (op : Operation) (once : IsNamed
   nowhere : IsNowhere old.slots (id_of op)
   nowhere = IsNowhere-from_none old.slots once (id_of op) absent
 
-  -- an operation of the new slots is the one that came, or stood in the same slot before
+  -- an operation of the new slots is the one that came, or was in the same slot before
   came_or_was : (at : ℕ) (a : Operation) → slot_of new.slots at ≡ Some a
       → ((at ≡ key) × (a ≡ op)) ⊎ ((at ≢ key) × (slot_of old.slots at ≡ Some a))
   came_or_was at a slot =
@@ -53,7 +53,7 @@ module _ (old new : Slab Operation) (key : ℕ) (op : Operation) (once : IsNamed
             ∙ found-from_Holds old.slots once i a (record { key = h.key; slot = was.1; name = h.name })
       ]
 
-  -- and the other way round
+  -- and the converse
   slots-from_with : (i : OpId) (a : Operation) → operation_at (with_operation (operations_of old.slots) op) i ≡ Some a
       → found new.slots i ≡ Some a
   slots-from_with i a e =
@@ -75,7 +75,7 @@ module _ (old new : Slab Operation) (key : ℕ) (op : Operation) (once : IsNamed
 -- a slot gives its operation up
 module _ (old new : Slab Operation) (key : ℕ) (op : Operation) (once : IsNamedOnce old.slots)
     (gives : Updates old new key None) (held : get old key ≡ Some op) where
-  -- an operation of the new slots stood in the same slot before
+  -- an operation of the new slots was in the same slot before
   stayed : (at : ℕ) (a : Operation) → slot_of new.slots at ≡ Some a → (at ≢ key) × (slot_of old.slots at ≡ Some a)
   stayed at a slot =
       elim (cases_eq at key) [
@@ -96,7 +96,7 @@ module _ (old new : Slab Operation) (key : ℕ) (op : Operation) (once : IsNamed
       operation_at-without_other _ (id_of op) i (λ is. was.0 (once h.key key a op was.1 held (sym h.name ∙ is)))
       ∙ found-from_Holds old.slots once i a (record { key = h.key; slot = was.1; name = h.name })
 
-  -- and the other way round
+  -- and the converse
   slots-from_without : (i : OpId) (a : Operation)
       → operation_at (without_operation (operations_of old.slots) (id_of op)) i ≡ Some a → found new.slots i ≡ Some a
   slots-from_without i a e =

@@ -1,6 +1,6 @@
--- The operations in the slots of a slab, as the map that callers see. Whatever the map has under a name stands in some
--- slot, and where no name stands in two slots, whatever stands in a slot is in the map. So what a search of the slots
--- finds is what the map has.
+-- The operations in the slots of a slab, as the map that callers see. Whatever the map has under a name is in some
+-- slot, and if no name is in two slots, whatever is in a slot is in the map. So what a search of the slots finds is
+-- what the map has.
 use Rattle.std.proofs.Common.{◌≡◌, ◌≢◌, ℕ, suc, zero, [], ◌∷◌, Option, Some, None, refl, sym, ap, ◌∙◌, inl, inr}
 use Rattle.event_callbacks.specs.declared.operations.OpId.{OpId}
 use Rattle.event_callbacks.specs.declared.operations.Operation.{Operation}
@@ -42,7 +42,7 @@ IsNamedOnce-tail : (first : Option Operation) (rest : Slots) → IsNamedOnce (fi
 IsNamedOnce-tail first rest once key other a b at_key at_other e =
     let same = once (suc key) (suc other) a b at_key at_other e in cc
 
--- an operation that is not the first one stands further on
+-- an operation that is not the first one is further on
 further : {A : Type 0} (first op : Operation) (rest : Slots) (key : ℕ) → slot_of (Some first ∷ rest) key ≡ Some op
     → first ≢ op → ((before : ℕ) → slot_of rest before ≡ Some op → A) → A
 further first op rest zero at_key differs later = absurd (differs (cc))
@@ -70,7 +70,7 @@ pub found-from_Holds : (slots : Slots) → IsNamedOnce slots → (i : OpId) (op 
     → found slots i ≡ Some op
 found-from_Holds slots once i op h = found_in slots once i op h.key h.slot h.name
 
--- what a search of the slots finds, the map has, and what it does not find, the map has not
+-- what a search of the slots finds, the map has, and what it does not find, the map does not have
 pub operation_at-IsAt : (slots : Slots) → IsNamedOnce slots → (i : OpId) (key : ℕ) (h : IsAt slots i key)
     → operation_at (operations_of slots) i ≡ Some h.op
 operation_at-IsAt slots once i key h = found_in slots once i h.op key h.slot (sym h.name)
@@ -82,7 +82,7 @@ operation_at-IsNowhere slots i nowhere =
       | Some op ↦ λ e. let h = Holds-from_found slots i op e in absurd (nowhere h.key op h.slot (sym h.name))
     ] refl
 
--- a name that the map has not stands in no slot
+-- a name that the map does not have is in no slot
 pub IsNowhere-from_none : (slots : Slots) → IsNamedOnce slots → (i : OpId) → operation_at (operations_of slots) i ≡ None
     → IsNowhere slots i
 IsNowhere-from_none slots once i none key op slot name =

@@ -1,4 +1,4 @@
--- What is known of a stored closure.
+-- What is known about a stored closure.
 use Rattle.std.specs.Prelude.{◌≡◌, ℕ, ◌<◌, ◌^◌, IsTrue, length}
 use Rattle.disk_dcdd.specs.declared.sector.TheConstants.{SECTOR_BYTES}
 use Rattle.event_callbacks.specs.declared.devices.TheConstants.{SENT, SECTOR, WRITTEN}
@@ -25,7 +25,7 @@ pub record MayComplete (kind : ℕ) (d : Devices) (x : Done) : Type 0 where
   pub due : IsTrue (is_due d x)
   pub fits : FitsDone x
 
--- a closure keeps the completion table for a kind: it may be called on whatever it may complete, and then it answers
+-- a closure obeys the completion table for a kind: it may be called with whatever it may complete, and then it returns
 -- what the table says
 pub record Keeps (may : Devices → Done → Type 0) (gives : Devices → Done → Devices → Type 0) (kind : ℕ) : Type 0 where
   pub callable : (d : Devices) (x : Done) → MayComplete kind d x → may d x

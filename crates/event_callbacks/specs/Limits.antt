@@ -1,4 +1,4 @@
--- The numbers that the definitions call by the names of the code.
+-- The constants that the definitions cite by their names in the code.
 use Rattle.std.specs.Prelude.{◌≡◌}
 use Rattle.event_callbacks.specs.declared.devices.TheConstants.{PORTS, SENT, SECTOR, WRITTEN}
 

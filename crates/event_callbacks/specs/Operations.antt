@@ -1,4 +1,4 @@
--- The outstanding operations: a finite map from each operation's name to it, and how many more have room.
+-- The outstanding operations: a finite map from names to operations, and how many more have room.
 use Rattle.std.specs.Prelude.{◌≡◌, ◌≢◌, ℕ, ◌+◌, ◌-◌, max, nat_lt, Bool, if◌then◌else◌, List, [], ◌∷◌, Option, Some, None, is_some, Result, refl}
 use Rattle.std.specs.Option.{ok_or}
 use Rattle.std.specs.declared.cmp.Ordering.{Ordering}
@@ -43,12 +43,12 @@ with_operation m op = map.insert m (id_of op) op
 abbrev pub without_operation : Operations → OpId → Operations
 without_operation m i = map.remove m i
 
--- after an operation came, it stands under its name, and every other name has what it had
+-- after an operation comes, it is under its name, and every other name has what it had
 pub record Comes (old new : Operations) (op : Operation) : Type 0 where
   pub itself : operation_at new (id_of op) ≡ Some op
   pub others : (j : OpId) → j ≢ id_of op → operation_at new j ≡ operation_at old j
 
--- after an operation went, its name has none, and every other name has what it had
+-- after an operation goes, its name has none, and every other name has what it had
 pub record Goes (old new : Operations) (i : OpId) : Type 0 where
   pub itself : operation_at new i ≡ None
   pub others : (j : OpId) → j ≢ i → operation_at new j ≡ operation_at old j
@@ -58,7 +58,7 @@ pub record Outstanding : Type 0 where
   pub operations : Operations
   pub spare : ℕ
 
--- they are told apart by both parts
+-- they are told apart by their two parts
 abbrev pub outstanding_code : Coded OpId → Coded Operation → Coded Outstanding
 outstanding_code id_code operation_code =
     code_by
@@ -68,7 +68,7 @@ outstanding_code id_code operation_code =
     (λ p. record { operations = p.0; spare = p.1 })
     (λ _. refl)
 
--- no operation, and room for none
+-- no operations, and room for none
 abbrev pub nothing_outstanding : Outstanding
 nothing_outstanding = record { operations = map.empty; spare = 0 }
 
@@ -80,15 +80,15 @@ has_room o = nat_lt 0 o.spare
 abbrev pub after_reserve : Outstanding → Outstanding
 after_reserve o = record o { spare = max 1 o.spare }
 
--- an operation takes the room of one
+-- an operation takes up room for one
 abbrev pub after_issue : Outstanding → Operation → Outstanding
 after_issue o op = record { operations = with_operation o.operations op; spare = o.spare - 1 }
 
--- the answer is the operation of this name, or a refusal where there is none
+-- the answer is the operation of this name, or a refusal if there is none
 abbrev pub complete_answer : Outstanding → OpId → Result Operation Fault
 complete_answer o i = ok_or (operation_at o.operations i) NotDue
 
--- it is outstanding no more, and leaves room for one; a refusal changes nothing
+-- it is no longer outstanding, and leaves room for one; a refusal changes nothing
 abbrev pub after_complete : Outstanding → OpId → Outstanding
 after_complete o i =
     if is_some (operation_at o.operations i)

@@ -19,7 +19,7 @@ operations_of [] = map.empty
 operations_of (None ∷ rest) = operations_of rest
 operations_of (Some op ∷ rest) = with_operation (operations_of rest) op
 
--- no name stands in two slots
+-- no name is in two slots
 abbrev pub IsNamedOnce : Slots → Type 0
 IsNamedOnce slots =
     (key other : ℕ) (a b : Operation) → slot_of slots key ≡ Some a → slot_of slots other ≡ Some b

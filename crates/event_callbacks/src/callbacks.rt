@@ -1,10 +1,10 @@
-//! Stored closures that complete what a device has done, each kept beside what is proved of it.
+//! Stored closures that complete what a device has done, each kept with what is proved about it.
 //!
-//! A type that stores an `F: Fn(..)` cannot cite what is known of `F`'s calls. So the trait `Completes` names what may be
-//! called and what is answered, every closure of the right shape has that trait, and what stores one is bound by it.
-//! In return no function may name `Kept` or `Callbacks`, or a type that holds them, at the type of a closure that it
-//! knows. Whoever has closures passes them, as they are, to a function that is generic over them. That one requires what
-//! `Callbacks::of` does, and makes all that holds them:
+//! A type that stores an `F: Fn(..)` cannot cite what is known about `F`'s calls. So the trait `Completes` names what a
+//! call may take and what it may return; every closure of the right shape has that trait, and a type that stores a
+//! closure has it as a bound. In return, no function may name `Kept` or `Callbacks`, or a type that holds them, at the
+//! type of a closure that it knows. A caller that has closures passes them, as they are, to a function that is generic
+//! over them. That function requires what `Callbacks::of` does, and makes everything that holds them:
 //!
 //!     fn run<T: Completes + Drop, S: Completes + Drop, W: Completes + Drop>(sent: T, sector: S, written: W)
 //!         requires sent { Keeps (T.may sent) (T.gives sent) SENT }
@@ -29,13 +29,13 @@ ghost use Rattle.event_callbacks.specs.declared.devices.TheConstants.{SENT, SECT
 use crate::devices::{Devices, Done, SECTOR, SENT, WRITTEN};
 use std::marker::Model;
 
-/// What may be stored as a completion: every closure that takes the devices and what one of them has done, and gives
+/// What may be stored as a completion: every closure that takes the devices and what one of them has done, and returns
 /// the devices after it.
 pub trait Completes {
-    // On what it may be called.
+    // What it may be called with.
     ghost may: { Self → Devices → Done → Type 0 };
 
-    // What it may answer then.
+    // What it may then return.
     ghost gives: { Self → Devices → Done → Devices → Type 0 };
 
     /// The devices after what has been done.
@@ -70,9 +70,9 @@ impl<F: Completes, const KIND: u8> Model for Kept<F, KIND> {
     ghost invariant = { λ kept. Keeps (F.may kept.closure) (F.gives kept.closure) KIND };
 }
 
-// A `new` for each kind: one over all kinds would ask its generic callers how much memory a closure takes.
+// A `new` for each kind: a single one over all kinds would ask its generic callers how much memory a closure takes.
 impl<F: Completes> Kept<F, SENT> {
-    /// Stores a closure that keeps the completion table for `Done::Sent`.
+    /// Stores a closure that obeys the completion table for `Done::Sent`.
     pub fn new(closure: F) -> Self
         requires { Keeps (F.may closure) (F.gives closure) SENT }
         ensures { result ≡ closure }
@@ -82,7 +82,7 @@ impl<F: Completes> Kept<F, SENT> {
 }
 
 impl<F: Completes> Kept<F, SECTOR> {
-    /// Stores a closure that keeps the completion table for `Done::Sector`.
+    /// Stores a closure that obeys the completion table for `Done::Sector`.
     pub fn new(closure: F) -> Self
         requires { Keeps (F.may closure) (F.gives closure) SECTOR }
         ensures { result ≡ closure }
@@ -92,7 +92,7 @@ impl<F: Completes> Kept<F, SECTOR> {
 }
 
 impl<F: Completes> Kept<F, WRITTEN> {
-    /// Stores a closure that keeps the completion table for `Done::Written`.
+    /// Stores a closure that obeys the completion table for `Done::Written`.
     pub fn new(closure: F) -> Self
         requires { Keeps (F.may closure) (F.gives closure) WRITTEN }
         ensures { result ≡ closure }
@@ -101,8 +101,8 @@ impl<F: Completes> Kept<F, WRITTEN> {
     }
 }
 
-/// The closures of one holder, one of each kind. They stand here by themselves, each with what its `Kept` knew: a holder
-/// that is generic lets go of them without being asked how much memory a closure takes.
+/// The closures of one holder, one of each kind. They are stored here directly, each with what its `Kept` knew, so that
+/// a generic holder can drop them without being asked how much memory a closure takes.
 #[derive(Drop)]
 pub struct Callbacks<T: Completes, S: Completes, W: Completes> {
     sent: T,
@@ -141,7 +141,7 @@ impl<T: Completes, S: Completes, W: Completes> Callbacks<T, S, W> {
         }
     }
 
-    /// These closures, each of which keeps the completion table for its kind.
+    /// These closures, each of which obeys the completion table for its kind.
     pub fn of(sent: T, sector: S, written: W) -> Self
         requires sent { Keeps (T.may sent) (T.gives sent) SENT }
         requires sector { Keeps (S.may sector) (S.gives sector) SECTOR }

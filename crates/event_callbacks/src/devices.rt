@@ -24,14 +24,14 @@ pub struct Devices {
     pub disk: Controller,
 }
 
-/// What has been done at the far side of a device, and the device does not show yet.
+/// What has been done at the far side of a device, and is not yet shown by the device.
 #[derive(Clone, Copy, Debug, PartialEq, Eq)]
 pub enum Done {
     /// The terminal of this port has accepted one of the bytes that were sent to it.
     Sent(u8),
     /// This sector of the selected drive comes under the head, with these bytes.
     Sector(u8, [u8; SECTOR_BYTES]),
-    /// The write of this number stands on the disk.
+    /// The write of this number is on the disk.
     Written(u64),
 }
 
@@ -50,7 +50,7 @@ impl Devices {
         }
     }
 
-    /// The same devices again. It takes no memory.
+    /// A copy of the devices. Allocates no memory.
     pub fn copy(&self) -> Self
         ensures { result ≡ self.now }
     {
@@ -60,7 +60,7 @@ impl Devices {
         }
     }
 
-    /// Whether this may have been done: whether a device waits for it.
+    /// Whether this may have been done: whether a device is waiting for it.
     pub fn is_due(&self, done: &Done) -> bool
         ensures { result ≡ table.is_due self.now done.now }
     {

@@ -1,4 +1,4 @@
-//! The devices of the board together, what they complete by stored closures, and the operations that wait for it.
+//! The devices of the board together, what they complete by stored closures, and the operations waiting for that.
 #![tactic(auto)]
 
 mod callbacks;

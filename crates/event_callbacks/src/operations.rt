@@ -1,4 +1,4 @@
-//! What the guest asks of a device, and under which name.
+//! What the guest asks of a device, and the name of each such operation.
 ghost use Rattle.std.specs.Prelude.{◌≡◌};
 ghost use Rattle.event_callbacks.specs.Operations.{id_of};
 
@@ -9,7 +9,7 @@ use disk_dcdd::SectorWrite;
 pub enum OpId {
     /// The byte of this number on this port. Each port numbers its bytes from 1.
     Byte(u8, u64),
-    /// The write of this number. Writes are numbered from 1 over all drives.
+    /// The write of this number. Writes are numbered from 1 across all drives.
     Write(u64),
 }
 

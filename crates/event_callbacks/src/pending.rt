@@ -11,11 +11,11 @@ use slab::Slab;
 use std::alloc::Global;
 use std::marker::Model;
 
-/// The outstanding operations, each under its name, and the room that is kept for more of them.
+/// The outstanding operations, each under its name, and the room kept for more of them.
 #[derive(Drop)]
 pub struct Pending {
     slab: Slab<Operation>,
-    // How many more operations have room for certain.
+    // How many more operations are certain to have room.
     spare: usize,
 }
 
@@ -36,7 +36,7 @@ impl Model for Pending {
 }
 
 impl Pending {
-    /// No operation, and room for none.
+    /// No operations, and room for none.
     pub fn new(alloc: Global) -> Self
         ensures { result ≡ table.nothing_outstanding }
     {
@@ -53,8 +53,8 @@ impl Pending {
         self.spare > 0
     }
 
-    /// Makes room for one more operation, so that the next `issue` succeeds. `OutOfMemory` changes nothing, and comes
-    /// only where there was no room.
+    /// Makes room for one more operation, so that the next `issue` succeeds. `OutOfMemory` changes nothing, and is
+    /// returned only if there was no room.
     pub fn reserve(&mut self) -> R<()>
         ensures ok { OnOk result (self.new ≡ table.after_reserve self.old) }
         ensures full { OnErr result ((result ≡ Err OutOfMemory) × (self.old.spare ≡ 0)) }
@@ -68,7 +68,7 @@ impl Pending {
         Ok(())
     }
 
-    /// An operation is outstanding from now on. `OutOfMemory` changes nothing, and comes only where there was no room.
+    /// Adds an outstanding operation. `OutOfMemory` changes nothing, and is returned only if there was no room.
     pub fn issue(&mut self, operation: Operation) -> R<()>
         requires { table.operation_at self.old.operations (table.id_of operation) ≡ None }
         ensures ok { OnOk result (self.new ≡ table.after_issue self.old operation) }
@@ -89,8 +89,7 @@ impl Pending {
         self.slab.get(key)
     }
 
-    /// The operation of this name is outstanding no more, and leaves room for another. `NotDue` where it was not
-    /// outstanding.
+    /// Removes the operation of this name, and leaves room for another. `NotDue` if it was not outstanding.
     pub fn complete(&mut self, id: OpId) -> R<Operation>
         ensures answer { result ≡ table.complete_answer self.old id }
         ensures after { self.new ≡ table.after_complete self.old id }
@@ -104,7 +103,7 @@ impl Pending {
         Ok(operation)
     }
 
-    /// The same operations again, with room for no more of them.
+    /// A copy of the operations, with room for no more of them.
     pub fn copy(&self) -> R<Pending>
         ensures ok { IfOk result (λ copy. copy ≡ table.without_room self.now) }
         ensures err { IsOkUnless result OutOfMemory }
@@ -120,7 +119,7 @@ impl Pending {
 fn find_key(slab: &Slab<Operation>, id: OpId) -> Option<usize>
     ensures found { IfSome result (IsAt slab.now.slots id) }
     ensures absent { IfNone result (IsNowhere slab.now.slots id) }
-    // A capacity is a `usize`, and the model of a slab does not say so.
+    // A capacity is a `usize`, which the model of a slab does not say.
     ensures fits { slab.now.capacity < 2 ^ 64 }
 {
     for key in 0..slab.capacity() {

@@ -33,7 +33,7 @@ pub fn sector(mut devices: Devices, done: Done) -> Devices
     devices
 }
 
-/// A write stands on the disk.
+/// A write is on the disk.
 pub fn written(mut devices: Devices, done: Done) -> Devices
     requires kind { kind_of done ≡ WRITTEN }
     requires due { IsTrue (is_due devices done) }

@@ -1,4 +1,4 @@
-//! Closures of different types that complete alike, and operations that wait.
+//! Closures of different types that complete in the same way, and operations that wait.
 ghost use Rattle.std.specs.Prelude.{◌≡◌, IsTrue};
 ghost use Rattle.event_callbacks.specs.declared.devices.TheConstants.{SENT, SECTOR, WRITTEN};
 ghost use Rattle.event_callbacks.specs.Completions.{is_due, done_of};
@@ -30,7 +30,7 @@ fn write_sector(rt: &impl Abort, devices: &mut Devices) {
     }
 }
 
-// These closures complete each kind once.
+// Completes each kind once with these closures.
 fn complete_each<T: Completes + Drop, S: Completes + Drop, W: Completes + Drop>(
     rt: &impl Abort,
     sent: T,
@@ -107,7 +107,7 @@ fn functions_and_closures_complete_alike(rt: HostRuntime) {
     );
 }
 
-// One closure is stored twice, where it may be copied.
+// Stores one closure twice, as it may be copied.
 fn store_twice<T: Completes + Copy>(sent: T)
     requires { Keeps (T.may sent) (T.gives sent) SENT }
 {

@@ -1,4 +1,4 @@
-//! A guest with what it has still to replay.
+//! A guest with what it still has to replay.
 ghost use Rattle.std.specs.Prelude.{◌≡◌, ◌≤◌, ◌↔◌, [], IfOk, IfErr, IsOk, OnErr};
 ghost use Rattle.i8080_words.specs.declared.refusal.Fault.TheVariants.{WrongRole};
 ghost use Rattle.log_entry.specs.Entries.{last_count};
@@ -42,8 +42,8 @@ impl<B: Lockstep> Draining<B> {
         &self.receiver
     }
 
-    /// Makes at most `turns` moves, each of them a step or an entry. It makes fewer only where no entry is held any
-    /// more or a step wants memory; `OutOfMemory` comes only where no move was made.
+    /// Makes at most `turns` moves, each of them a step or an entry. Makes fewer only if no entry is held any more or a
+    /// step runs out of memory; `OutOfMemory` is returned only if no move was made.
     pub fn drain(&mut self, turns: u64) -> R<Replayed>
         requires on_trace { IsOnTrace B.machine (B.state self.old.replayer.board) self.old.receiver.entries }
         ensures answers { Answers B.machine (B.state self.old.replayer.board) self.old.receiver.entries turns result
@@ -59,7 +59,7 @@ impl<B: Lockstep> Draining<B> {
         self.replayer.replay(&mut self.receiver, turns)
     }
 
-    /// The guest, which is alone from now on. `WrongRole` where an entry is still held, with the value as it was.
+    /// The guest, which is alone from now on. `WrongRole` if an entry is still held, with the value unchanged.
     pub fn finish(self) -> Result<B, (Draining<B>, Fault)>
         ensures drained { IsOk result ↔ (self.receiver.entries ≡ []) }
         ensures board { IfOk result (λ board. board ≡ self.replayer.board) }

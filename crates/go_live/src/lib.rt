@@ -1,4 +1,4 @@
-//! The backup that won: it replays what it holds, and then is alone.
+//! The backup that won: it replays what it holds, and is then alone.
 #![tactic(auto)]
 
 mod draining;

@@ -13,10 +13,10 @@ use replayer::{Replayed, Replayer};
 use std::alloc::Global;
 use std::process::Abort;
 
-// No test holds so many entries.
+// No test holds this many entries.
 const ENTRIES: u64 = 1000;
 
-// The entry comes to the receiver in its packet.
+// The entry arrives at the receiver in its packet.
 fn hold(rt: &impl Abort, alloc: Global, receiver: &mut Receiver, generation: u32, entry: Entry)
     requires first { 0 < generation }
     requires generation { receiver.old.generation ≡ generation }

@@ -1,5 +1,5 @@
-//! Runs a guest program for a number of steps on one of three executors, and prints where it stands: the bare processor
-//! over a flat memory, the whole board, or the single machine.
+//! Runs a guest program for a number of steps on one of three executors, and prints the registers it reaches: the bare
+//! processor over a flat memory, the whole board, or the single machine.
 #![tactic(auto)]
 
 mod board;

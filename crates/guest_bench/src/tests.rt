@@ -1,4 +1,4 @@
-//! Both executors make the same of random programs, with random inputs at random counts.
+//! Both executors do the same with random programs, with random inputs at random counts.
 ghost use Rattle.std.specs.Prelude.{IsTrue};
 ghost use Rattle.event_callbacks.specs.declared.devices.TheConstants.{SENT, SECTOR, WRITTEN};
 ghost use Rattle.event_callbacks.specs.Keeping.{Keeps};
@@ -21,18 +21,18 @@ const PROGRAMS: u64 = 240;
 // How often a program is run on before an input is offered to it.
 const INPUTS: u32 = 100;
 
-// The ports at which a device stands.
+// The ports that have a device.
 static PORTS: [u8; 8] = [0x08, 0x09, 0x0a, 0x10, 0x11, 0x12, 0x13, 0xff];
 
-// Selects drive 0, loads its head, enables interrupts of the drives, waits for a sector, writes E5 to all of it, and goes
-// on at 0027.
+// Selects drive 0, loads its head, enables interrupts of the drives, waits for a sector, writes E5 to all of it, and
+// goes on at 0027.
 static WRITES_A_SECTOR: [u8; 39] = [
     0x31, 0x00, 0x80, 0x3e, 0x00, 0xd3, 0x08, 0x3e, 0x04, 0xd3, 0x09, 0xdb, 0x09, 0x0f, 0xda, 0x0b,
     0x00, 0x3e, 0x80, 0xd3, 0x09, 0x06, 0x89, 0xdb, 0x08, 0x0f, 0xda, 0x17, 0x00, 0x3e, 0xe5, 0xd3,
     0x0a, 0x05, 0xc2, 0x17, 0x00, 0xfb, 0x00,
 ];
 
-// What is asked of the selected drive: steps in and out, the head loaded and unloaded, interrupts enabled and disabled, a
+// Commands for the selected drive: steps in and out, the head loaded and unloaded, interrupts enabled and disabled, a
 // write started; some of them together.
 static COMMANDS: [u8; 16] = [
     0x01, 0x01, 0x01, 0x02, 0x03, 0x04, 0x04, 0x04, 0x05, 0x08, 0x0c, 0x10, 0x14, 0x20, 0x30, 0x80,
@@ -48,7 +48,7 @@ struct Course {
     done: Vec<SectorWrite>,
 }
 
-// A memory of random bytes, of which many reach a port and few halt.
+// A memory of random bytes, many of which reach a port and few of which halt.
 fn random_memory(alloc: Global, random: &mut Pcg32, program: u64) -> R<Vec<u8>> {
     let mut memory = vec![in alloc; 0u8; 65536]?;
     for byte in memory.iter_mut() {
@@ -85,8 +85,8 @@ fn put_program(memory: &mut [u8], program: &[u8]) {
     }
 }
 
-// A program that operates the drives at random: it selects and commands them, looks at their ports and stores at E000 and
-// up what it sees, writes whole sectors, enables interrupts, and begins again.
+// A program that operates the drives at random: it selects and commands them, looks at their ports and stores what it
+// sees from E000 up, writes whole sectors, enables interrupts, and begins again.
 fn drive_program(alloc: Global, random: &mut Pcg32) -> R<Vec<u8>> {
     let mut program = Vec::from_slice(alloc, &[0x31, 0x00, 0xd0])?;
     for place in 0..=255u8 {
@@ -106,7 +106,7 @@ fn drive_program(alloc: Global, random: &mut Pcg32) -> R<Vec<u8>> {
     Ok(program)
 }
 
-// Puts a program behind another that starts a write and fills in this byte 137 times.
+// Appends a program that starts a write and fills in this byte 137 times.
 fn put_sector_write(program: &mut Vec<u8>, value: u8) -> R<()> {
     let [.., high, low] = program.len().wrapping_add(6).to_be_bytes();
     program.extend_from_slice(&[0x3e, 0x80, 0xd3, 0x09, 0x06, 0x89])?;
@@ -122,7 +122,7 @@ fn sector_bytes(done: &[SectorWrite], address: SectorAddress) -> [u8; SECTOR_BYT
     }
 }
 
-// A random input, as this board might take it now, without what only the log carries and with it.
+// A random input that this board might take now, without what only the log carries and with it.
 fn random_input<T: Completes, S: Completes, W: Completes>(
     board: &Board<T, S, W>,
     course: &Course,
@@ -162,7 +162,7 @@ fn random_input<T: Completes, S: Completes, W: Completes>(
     }
 }
 
-// Whether a board may be offered the input: its port, drive and sector are there, and its keys are not spent.
+// Whether a board may be offered the input: its port, drive and sector exist, and its keys are not spent.
 fn may_offer<T: Completes, S: Completes, W: Completes>(
     board: &Board<T, S, W>,
     input: &Input,
@@ -178,7 +178,7 @@ fn may_offer<T: Completes, S: Completes, W: Completes>(
     }
 }
 
-// Offers a random input, and notes it where it is taken.
+// Offers a random input, and notes it if it is taken.
 fn offer<T: Completes, S: Completes, W: Completes>(
     board: &mut Board<T, S, W>,
     course: &mut Course,
@@ -200,7 +200,7 @@ fn offer<T: Completes, S: Completes, W: Completes>(
         .map_err(|_| Fault::OutOfMemory)
 }
 
-// Makes at most this many steps, and notes what they give.
+// Executes at most this many steps, and notes what they give.
 fn advance<T: Completes, S: Completes, W: Completes>(
     board: &mut Board<T, S, W>,
     course: &mut Course,
@@ -240,7 +240,7 @@ fn never_fall(from: u64, inputs: &[Timed]) -> bool
     }
 }
 
-// The single machine makes of the board's inputs what the board made.
+// Checks that the single machine does with the board's inputs what the board did.
 fn compare<T: Completes, S: Completes, W: Completes>(
     rt: &(impl Abort + AllocGlobal),
     board: &Board<T, S, W>,
@@ -281,8 +281,8 @@ fn compare<T: Completes, S: Completes, W: Completes>(
     Ok(())
 }
 
-// Runs a random program on a board, and then on the single machine. Gives how many steps it made, how many inputs it
-// took, how many writes were done, and how many were issued on tracks above 0.
+// Runs a random program on a board, and then on the single machine. Returns how many steps it executed, how many inputs
+// it took, how many writes were done, and how many were issued on tracks above 0.
 fn run_program<T: Completes + Drop, S: Completes + Drop, W: Completes + Drop>(
     rt: &(impl Abort + AllocGlobal),
     program: u64,

@@ -1,5 +1,5 @@
--- Each access of a step keeps what is outstanding in agreement with the devices, with the operation that the step gives
--- among it; the operation given is a new one. So do all accesses of a step, one after another.
+-- Each access of a step keeps what is outstanding in agreement with the devices, counting the operation that the step
+-- gives; the operation given is a new one. So do all accesses of a step, one after another.
 use Rattle.std.proofs.Common.{◌≡◌, ℕ, ◌+◌, ◌<◌, ◌≤◌, Bool, true, false, cond, ◌==◌, ◌||◌, List, [], ◌∷◌, Some, None, is_none, refl, sym, ap, subst, ◌∙◌, arith, lit<, zero, suc, nat_eq}
 use Rattle.std.specs.Prelude.{nat_lt, slice_index, slice_set, IfSome}
 use Rattle.std.specs.List.{list_any}
@@ -27,18 +27,19 @@ use Rattle.guest_board.specs.Board.{AreAwaited}
 use Rattle.guest_board.proofs.Awaited.{IsAlike, awaited-port, awaited-disk, awaited-sent, awaited-issued, byte_is_new, write_is_new}
 use Rattle.guest_board.proofs.Commands.{selects, shows, reads, commands, keeps, issues_next}
 
--- no write that was issued, and is not outstanding, is outstanding later
+-- no write that was issued, and is not outstanding, becomes outstanding later
 abbrev pub StayDone : drives.Drives → drives.Drives → Type 0
 StayDone old new =
     (number : ℕ) → number ≤ old.issued → is_outstanding old number ≡ false → is_outstanding new number ≡ false
 
--- no byte and no write was numbered
+-- no byte and no write was given a number
 pub record IsNumberedAs (start w : Wired) : Type 0 where
   pub bytes : w.issued ≡ start.issued
   pub writes : w.devices.disk.issued ≡ start.devices.disk.issued
 
--- while a step is made: what is outstanding is awaited, the operation given is new, and the numbers stay in range; the
--- drives and the switches are those of the start, no number of writes falls, and no write that was done is outstanding again
+-- while a step is executed: what is outstanding is awaited, the operation given is new, and the numbers stay in range;
+-- the drives and the switches are those of the start, no number of writes falls, and no write that was done becomes
+-- outstanding again
 pub record IsWired (operations : Operations) (start w : Wired) : Type 0 where
   pub awaited : AreAwaited w.devices (with_given operations w.given) w.issued
   pub fresh : IfSome w.given (λ op. operation_at operations (id_of op) ≡ None)
@@ -149,7 +150,7 @@ sent_kept operations start w p byte lt l none h =
 
 -- ---- a byte for the drive
 
--- of other numbers than that of the write that is issued the same are outstanding
+-- apart from the number of the write that is issued, the same numbers are outstanding
 others_outstanding : (disk : drives.Drives) (w : SectorWrite) (n : ℕ) → n < w.number
     → is_outstanding (drives.after_issue disk w) n ≡ is_outstanding disk n
 others_outstanding disk w n past =

@@ -1,5 +1,6 @@
--- What is outstanding is what the devices await: a byte that a port sends and a write that the drives are given come to
--- it, a byte that is accepted and a write that is done go from it, and nothing else of the devices touches it.
+-- What is outstanding is what the devices await: a byte that a port sends and a write that the drives are given are
+-- added to it, a byte that is accepted and a write that is done are removed from it, and no other change of the devices
+-- touches it.
 use Rattle.std.proofs.Common.{◌≡◌, ◌≢◌, ℕ, zero, suc, ◌+◌, ◌-◌, ◌<◌, ◌≤◌, Bool, true, false, not, ◌==◌, ◌||◌, ◌&&◌, List, [], ◌∷◌, length, filter, None, is_some, refl, sym, ap, subst, ◌∙◌, ⊎_elim, arith}
 use Rattle.std.specs.Prelude.{nat_lt, slice_index, slice_index_or, slice_set, IfSome, All}
 use Rattle.std.specs.List.{list_any}
@@ -74,7 +75,7 @@ awaited-disk d operations issued c h alike = record {
   names = h.names;
 }
 
--- ---- what holds of each port, where one of them changes
+-- ---- what holds of each port, when one of them changes
 
 at_port : (d : Devices) (p : ℕ) (x : serial.Port) (Q : ℕ → ℕ → Type 0) → p < length d.ports → Q p x.unaccepted
     → ((q : ℕ) → q ≢ p → Q q (port_of d q).unaccepted) → (q : ℕ) → Q q (port_of (with_port d p x) q).unaccepted

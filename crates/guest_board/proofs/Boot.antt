@@ -1,4 +1,4 @@
--- A board at boot stands as every board does: nothing is outstanding, and every number is 0.
+-- What holds of every board holds at boot: nothing is outstanding, and every number is 0.
 use Rattle.std.proofs.Common.{◌≡◌, ℕ, zero, suc, ◌*◌, ◌^◌, ◌<◌, List, [], ◌∷◌, length, refl, arith}
 use Rattle.std.specs.Prelude.{slice_index}
 use Rattle.std.proofs.lemmas.List.{length-replicate}

@@ -1,6 +1,6 @@
 -- A machine that boots elsewhere makes the same moves, so what is said of its moves and of what is outstanding holds of
--- both or of neither. Each fact is carried from a machine to one that boots elsewhere; the first machine is itself the
--- second that boots elsewhere, and that carries it back.
+-- both machines or of neither. Each fact is carried from a machine to one that boots elsewhere; the first machine is
+-- itself the second booted elsewhere, and that carries the fact back.
 use Rattle.std.proofs.Common.{◌≡◌, ℕ, List, [], ◌∷◌, refl}
 use Rattle.disk_dcdd.specs.declared.address.SectorAddress.{SectorAddress}
 use Rattle.guest_board.specs.Guest.{altair, guest_at_boot}
@@ -11,7 +11,7 @@ use Rattle.guest_board.specs.Recorded.{Counts, Accepts, Recorded}
 use Rattle.guest_board.specs.declared.input.Input.{Input}
 use Rattle.guest_board.specs.declared.setup.Setup.{Setup}
 
--- the Altair of a setup boots elsewhere than some Altair, and is the same but for that
+-- the Altair of a setup is some Altair booted elsewhere
 pub altair_booted : (setup : Setup) (sectors : SectorAddress → List ℕ)
     → altair setup sectors ≡ booted_from some_altair (guest_at_boot setup) sectors
 altair_booted setup sectors = refl

@@ -1,4 +1,4 @@
--- No access of the controller's ports but the last byte of a write changes which writes are outstanding, and none
+-- No access to the controller's ports but the last byte of a write changes which writes are outstanding, and none
 -- changes how many drives there are.
 use Rattle.std.proofs.Common.{◌≡◌, ℕ, ◌+◌, Bool, true, false, cond, Some, None, refl, sym, ap, ◌∙◌}
 use Rattle.std.specs.Prelude.{option_and_then}

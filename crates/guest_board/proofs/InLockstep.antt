@@ -14,7 +14,7 @@ use Rattle.guest_board.specs.Lockstep.{Executes, Steps, StepsUnless, named}
 use Rattle.guest_board.specs.Inputs.{some_altair}
 use Rattle.guest_board.specs.declared.executed.Step.{Step}
 
--- a guest that does not idle makes a step
+-- a guest that does not idle executes a step
 moves : (g : Guest) → is_idle g ≡ false → (step_of g).kind ≢ kinds.Idle
 unfolding step_of
 moves g =
@@ -34,7 +34,7 @@ no_refusal kinds.Ran given fault steps e = absurd cc
 no_refusal kinds.Accepted given fault steps e = absurd cc
 no_refusal kinds.Idle given fault steps e = absurd (steps refl)
 
--- an answer to whom only the operation's name counts
+-- an answer in which only the operation's name counts
 abbrev name_of : Result Step Fault → Result (Option OpId) Fault
 name_of (Ok step) = Ok (name_by step)
 name_of (Err fault) = Err fault

@@ -1,4 +1,4 @@
--- An input that is taken leaves a board that stands as every board does.
+-- What holds of every board holds after an input is taken.
 use Rattle.std.proofs.Common.{◌≡◌, ℕ, zero, suc, ◌+◌, ◌-◌, ◌<◌, ◌≤◌, Bool, true, false, cond, not, ◌==◌, ◌&&◌, List, [], ◌∷◌, filter, ⊎_elim, Option, Some, None, Ok, ok_or, refl, sym, ap, ◌∙◌, arith}
 use Rattle.std.specs.Prelude.{nat_lt, slice_index, slice_set, is_some}
 use Rattle.std.specs.List.{list_any}
@@ -128,7 +128,7 @@ board_sector g versions sector bytes d after board =
       completed = record { sectors = board.completed.sectors; last = board.completed.last; done = board.completed.done };
     })
 
--- of the selected drive it is one question whether a write of a sector is outstanding
+-- for the selected drive, the two tests of whether a write of a sector is outstanding agree
 pub selected_busy : (disk : drives.Drives) (drive sector : ℕ) → completion.is_selected disk drive ≡ true
     → completion.is_sector_busy disk sector ≡ completion.is_busy_on disk sector drive
 selected_busy disk drive sector =
@@ -189,7 +189,7 @@ completed-with completed disk number (operation.Write write) e few gone h =
     completed-write completed disk write (omega (arith, same, few))
     (ap (completion.is_outstanding disk) same ∙ gone) h
 
--- once a write is done it is outstanding no more, and no other is that was not
+-- once a write is done it is no longer outstanding, and no other becomes outstanding
 completed-done : (completed : List ℕ) (disk : drives.Drives) (number : ℕ) → AreCompleted completed disk
     → AreCompleted completed (completion.after_written disk number)
 completed-done completed disk number h = record {

@@ -1,4 +1,4 @@
--- Operations under their names: one that comes and one that goes leave all others under theirs.
+-- Operations under their names: one that comes or goes leaves all others under theirs.
 use Rattle.std.proofs.Common.{◌≡◌, ◌≢◌, ℕ, false, Option, Some, None, is_some, refl, sym, subst, ⊎_elim}
 use Rattle.std.specs.Prelude.{IfSome}
 use Rattle.event_callbacks.specs.declared.operations.OpId.{OpId}
@@ -27,7 +27,7 @@ no_write p k n e = cc
 pub no_byte : (p k n : ℕ) → Write n ≢ Byte p k
 no_byte p k n e = cc
 
--- each operation stands under its own name
+-- each operation is under its own name
 abbrev pub AreNamed : Operations → Type 0
 AreNamed operations = (name : OpId) → IfSome (operation_at operations name) (λ op. id_of op ≡ name)
 

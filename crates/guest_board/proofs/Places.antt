@@ -1,5 +1,5 @@
--- Writes that go to places. The test of them takes one write and one place after another; where it holds, the writes
--- are those of the places, and stand by rising number as the places do.
+-- Writes that go to places. The test takes one write and one place after another; if it holds, the writes are those of
+-- the places, and are in order of number as the places are.
 use Rattle.std.proofs.Common.{◌≡◌, ◌≢◌, ℕ, zero, suc, ◌+◌, ◌<◌, Bool, true, false, ◌==◌, ◌&&◌, List, [], ◌∷◌, ◌++◌, length, map, take, get_or, refl, sym, ap, subst, ◌∙◌, arith}
 use Rattle.std.specs.Prelude.{slice_index_or, AllPairs}
 use Rattle.std.proofs.lemmas.Bool.{eqb-true}
@@ -90,7 +90,7 @@ go_to-lengths (w ∷ ws) (p ∷ ps) differs =
     and_false true = refl
     and_false false = refl
 
--- the controller's places rise, so the writes do
+-- the controller's places are in order of number, so the writes are
 pub rises : (ws : List SectorWrite) (places : List Place) → map place_of ws ≡ places → AllPairs Follows places → Rise ws
 rises ws places e order = λ i j d before inside.
     let there : map place_of ws ≡ places = e in

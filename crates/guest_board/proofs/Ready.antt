@@ -1,5 +1,5 @@
--- A board is not ready for a step until somebody has looked, and stays ready while no byte and no write gets a number and
--- no room is taken: so it is after a step that gives nothing, and after an input.
+-- A board is not ready for a step until the numbers are checked, and stays ready while no byte and no write gets a
+-- number and no room is used: that holds after a step that gives nothing, and after an input.
 use Rattle.std.proofs.Common.{◌≡◌, ◌+◌, ◌≤◌, ℕ, true, false, cond, List, None, Some, refl, sym, ap, ◌∙◌, arith, is_some}
 use Rattle.std.specs.Prelude.{IfSome, IfNone}
 use Rattle.i8080_words.specs.declared.registers.Processor.{Processor}

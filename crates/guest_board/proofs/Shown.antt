@@ -1,5 +1,5 @@
--- What a board shows can be rebuilt. Its parts pass each test, as the board stands, and each operation of the parts is
--- one of the board's; both have as many, so they are the same, and so are the guests.
+-- What a board shows can be rebuilt. Its parts pass each test, by what holds of every board, and each operation of the
+-- parts is one of the board's; both have equally many, so they are the same, and so are the guests.
 use Rattle.std.proofs.Common.{◌≡◌, ℕ, suc, ◌+◌, ◌-◌, ◌*◌, ◌<◌, ◌≤◌, Bool, true, false, not, ◌==◌, ◌&&◌, List, [], ◌∷◌, length, map, take, Option, Some, None, is_some, refl, sym, ap, subst, ◌∙◌, ⊎_elim, arith}
 use Rattle.std.specs.Prelude.{nat_lt, nat_le, slice_index, slice_index_or, All}
 use Rattle.std.specs.List.{list_all}
@@ -80,7 +80,7 @@ port_passes d issued keys port sent few rare =
     (at_most _ _ sent) (at_most _ _ few))
     (at_most _ _ rare)
 
--- parts of which a board is made pass, where their writes are those of the controller's places
+-- parts from which a board is made pass, if their writes are those of the controller's places
 pub parts_pass : (p : BoardParts) (operations : Operations) (versions : List ℕ)
     → IsBoard (record (guest_of_parts p) { operations = operations }) versions
     → map place_of p.writes.items ≡ p.devices.disk.outstanding → stands p ≡ true
@@ -99,7 +99,7 @@ parts_pass p operations versions board there =
 
 -- ---- the operations
 
--- what the one has the other has too
+-- what the first has, the second has too
 abbrev pub AreAmong : Operations → Operations → Type 0
 AreAmong m all = (name : OpId) (op : Operation) → operation_at m name ≡ Some op → operation_at all name ≡ Some op
 
@@ -151,7 +151,7 @@ port-among d issued unaccepted m all p window shown among =
 empty-among : (all : Operations) → AreAmong finite.empty all
 empty-among all name op e = let none = operation_at-empty name in cc
 
--- one that has all of another, and an operation under the same names, is that other
+-- two maps with operations under the same names are equal, if one is among the other
 same_by_names : (m all : Operations) → AreAmong m all
     → ((name : OpId) → is_some (operation_at m name) ≡ is_some (operation_at all name)) → m ≡ all
 same_by_names m all among names =
@@ -166,7 +166,7 @@ same_by_names m all among names =
         let there : operation_at all name ≡ Some x = among name x some in
         some ∙ sym there ∙ e
 
--- two maps that agree with the same devices have an operation under the same names
+-- two maps that agree with the same devices have operations under the same names
 same_names : (d : Devices) (m n : Operations) (issued : List ℕ) → AreAwaited d m issued → AreAwaited d n issued
     → (name : OpId) → is_some (operation_at m name) ≡ is_some (operation_at n name)
 same_names d m n issued a b (id.Byte port number) = a.bytes port number ∙ sym (b.bytes port number)

@@ -1,5 +1,6 @@
--- When a board can stand as its parts say. The writes are those that the controller waits for, so exactly the bytes on
--- their way and those writes are outstanding, and every number is in its range: what every board needs.
+-- When a board can be in the state that its parts describe. The writes are those that the controller waits for, so
+-- exactly the bytes on their way and those writes are outstanding, and every number is in range: what every board
+-- needs.
 use Rattle.std.proofs.Common.{◌≡◌, ℕ, zero, suc, ◌+◌, ◌-◌, ◌*◌, ◌^◌, ◌<◌, ◌≤◌, Bool, true, false, not, ◌==◌, ◌||◌, ◌&&◌, List, [], ◌∷◌, length, map, None, is_some, refl, sym, ap, subst, ◌∙◌, arith}
 use Rattle.std.specs.Prelude.{nat_lt, nat_le, slice_index, slice_index_or, IfSome, All}
 use Rattle.std.specs.List.{list_any, list_all}
@@ -131,7 +132,7 @@ awaited-parts d issued xs ys ws two numbers first second sent others there stand
 
 -- ---- what the tests say
 
--- a list of numbers that all pass a test passes it at each index, where 0 passes it
+-- a list of numbers that all pass a test passes it at each index, if 0 passes it
 each_passes : (p : ℕ → Bool) (xs : List ℕ) → list_all p xs ≡ true → p 0 ≡ true → (k : ℕ) → p (slice_index xs k) ≡ true
 each_passes p [] all none k = none
 each_passes p (x ∷ xs) all none zero = (both (p x) (list_all p xs) all).0
@@ -170,7 +171,7 @@ below a b e = grind (arith, nat_tests)
 strictly_below : (a b : ℕ) → nat_lt a b ≡ true → a < b
 strictly_below a b e = grind (arith, nat_tests)
 
--- the numbers of a port that stands
+-- the numbers of a port that passes
 record PortRules (d : Devices) (issued keys : List ℕ) (port : ℕ) : Type 0 where
   sent : (port_of d port).unaccepted ≤ slice_index issued port
   issued_few : slice_index issued port ≤ GREATEST_NUMBER
@@ -190,7 +191,7 @@ port_rules d issued keys port e =
       keys_few = below _ _ two.1;
     }
 
--- two numbers in their range, and none behind them
+-- two numbers in range, and none after them
 two_in_range : (xs : List ℕ) → length xs ≡ PORTS → slice_index xs 0 ≤ GREATEST_NUMBER
     → slice_index xs 1 ≤ GREATEST_NUMBER
     → (port : ℕ) → slice_index xs port ≤ GREATEST_NUMBER
@@ -263,7 +264,7 @@ board-parts p ports numbers keys first second sense stand e =
       completed = completed_stand p.devices.disk p.completed.items stand rules.completed;
     }
 
--- and that of a board that is made of them, with a processor, memory and operations that are theirs
+-- and what holds of a board that is made from them, with their processor, memory and operations
 pub board-from_parts : (p : BoardParts) (processor : Processor) (memory : List ℕ) (operations : Operations)
     (versions : List ℕ)
     → processor ≡ p.processor → memory ≡ p.memory.items → operations ≡ operations_of p → versions ≡ zeros PAGES

@@ -1,5 +1,5 @@
--- Operations that come one after another. Bytes of a port stand under their numbers and nothing else of their port
--- does, so those that were sent and not accepted are on their way. Writes by rising number each stand under their own.
+-- Operations that are added one after another. Bytes of a port are under their numbers and nothing else of their port
+-- is, so those that were sent and not accepted are on their way. Writes in order of number are each under their own.
 use Rattle.std.proofs.Common.{◌≡◌, ◌≢◌, ℕ, zero, suc, ◌+◌, ◌-◌, ◌<◌, ◌≤◌, Bool, true, false, ◌==◌, ◌||◌, List, [], ◌∷◌, ◌++◌, length, take, get_or, Some, None, is_some, refl, sym, ap, ◌∙◌, ◌⊎◌, inl, inr, ⊎_elim, arith}
 use Rattle.std.specs.Prelude.{slice_index, slice_index_or, All}
 use Rattle.std.specs.List.{list_any}
@@ -19,7 +19,7 @@ use Rattle.guest_board.specs.Board.{is_on_its_way}
 use Rattle.guest_board.specs.Parts.{with_each, bytes_from, bytes_of, writes_of, Rise}
 use Rattle.guest_board.proofs.Names.{AreNamed, named-with, other_byte, other_write, no_write}
 
--- ---- one operation more
+-- ---- one more operation
 
 with_each-append : (m : Operations) (xs ys : List Operation) → with_each m (xs ++ ys) ≡ with_each (with_each m xs) ys
 with_each-append m [] ys = refl
@@ -174,7 +174,7 @@ Rise-head w ws rise = λ k d inside e.
 pub Rise-tail : (w : SectorWrite) (ws : List SectorWrite) → Rise (w ∷ ws) → Rise ws
 Rise-tail w ws rise = λ i j d before inside. rise (suc i) (suc j) d (omega (arith, before)) (omega (arith, inside))
 
--- each of them stands under its number
+-- each of them is under its number
 pub writes-held : (m : Operations) (ws : List SectorWrite) → Rise ws
     → All (λ (w : SectorWrite). operation_at (with_each m (writes_of ws)) (id.Write w.number)
     ≡ Some (operation.Write w)) ws
@@ -186,7 +186,7 @@ writes-held m (w ∷ ws) rise =
     ∙ operation_at-with m (operation.Write w))
     (writes-held (with_operation m (operation.Write w)) ws (Rise-tail w ws rise))
 
--- and nothing under another
+-- and nothing is under another number
 pub writes-numbers : (m : Operations) (ws : List SectorWrite) (n : ℕ)
     → is_some (operation_at (with_each m (writes_of ws)) (id.Write n))
     ≡ (list_any (λ (w : SectorWrite). w.number == n) ws || is_some (operation_at m (id.Write n)))
@@ -209,7 +209,7 @@ writes-numbers m (w ∷ ws) n =
     or_true true = refl
     or_true false = refl
 
--- of writes by rising number those before one have other numbers
+-- of writes in order of number, those before one have other numbers
 pub earlier-differ : (ws : List SectorWrite) (i : ℕ) (d : SectorWrite) → i < length ws → Rise ws
     → All (λ (w : SectorWrite). w.number ≢ (get_or ws i d).number) (take i ws)
 earlier-differ ws i d inside rise = λ k e before same.

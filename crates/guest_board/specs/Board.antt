@@ -1,4 +1,4 @@
--- What the fields of a `Board` mean, its callbacks apart, and how every board stands.
+-- What the fields of a `Board` mean, apart from its callbacks, and what holds of every board.
 use Rattle.std.specs.Prelude.{◌≡◌, Option, None, ℕ, ◌+◌, ◌*◌, ◌^◌, ◌<◌, ◌≤◌, nat_lt, nat_le, Bool, false, ◌&&◌, Some, is_some, IfSome, List, All, length, slice_index, refl}
 use Rattle.std.specs.Coded.{Coded, code_by, coded×, coded_ℕ, coded_list}
 use Rattle.std.specs.FinMap as map
@@ -25,7 +25,7 @@ pub record OnBoard : Type 0 where
   pub guest : Guest
   pub versions : List ℕ
 
--- boards are told apart by all of that
+-- boards are distinguished by all of that
 abbrev pub on_board_code : Coded Processor → Coded Devices → Coded OpId → Coded Operation → Coded OnBoard
 on_board_code processor devices name operation =
     let numbers = coded_list coded_ℕ in
@@ -66,11 +66,11 @@ on_board_code processor devices name operation =
     })
     (λ _. refl)
 
--- of the bytes of a port up to the last that was issued, as many as are unaccepted are on their way
+-- the bytes of a port that are on their way are the last that were issued, as many as are unaccepted
 abbrev pub is_on_its_way : ℕ → ℕ → ℕ → Bool
 is_on_its_way issued unaccepted number = nat_lt issued (number + unaccepted) && nat_le number issued
 
--- the write that a place waits for stands under its number and goes to that place
+-- the write that a place waits for is under its number and goes to that place
 pub record IsHeld (operations : Operations) (place : Place) : Type 0 where
   pub write : SectorWrite
   pub held : operation_at operations (id.Write place.number) ≡ Some (operation.Write write)
@@ -89,7 +89,7 @@ pub record AreAwaited (d : Devices) (operations : Operations) (issued : List ℕ
   pub last : All (λ place. place.number ≤ d.disk.issued) d.disk.outstanding
   pub names : (name : OpId) → IfSome (operation_at operations name) (λ op. id_of op ≡ name)
 
--- the numbers of a guest are in their ranges, and no page was written more than twice a step
+-- the numbers of a guest are in range, and no page was written more than twice per step
 pub record AreInRange (g : Guest) (versions : List ℕ) : Type 0 where
   pub count : g.count ≤ GREATEST_NUMBER
   pub issued : (port : ℕ) → slice_index g.issued port ≤ GREATEST_NUMBER
@@ -99,25 +99,25 @@ pub record AreInRange (g : Guest) (versions : List ℕ) : Type 0 where
   pub sense : g.sense < 2 ^ 8
   pub writes : (page : ℕ) → slice_index versions page ≤ 2 * g.count
 
--- there is a number for each sector of the attached drives, none past the last write that was issued, and none of a
--- write that is outstanding
+-- there is a number for each sector of the attached drives, none past the last write that was issued, and none of an
+-- outstanding write
 pub record AreCompleted (completed : List ℕ) (disk : Drives) : Type 0 where
   pub sectors : length completed ≡ disk.attached * DRIVE_SECTORS
   pub last : (index : ℕ) → slice_index completed index ≤ disk.issued
   pub done : (index : ℕ) → is_outstanding disk (slice_index completed index) ≡ false
 
--- how every board stands between two steps
+-- what holds of every board between two steps
 pub record IsBoard (g : Guest) (versions : List ℕ) : Type 0 where
   pub awaited : AreAwaited g.devices g.operations g.issued
   pub in_range : AreInRange g versions
   pub completed : AreCompleted g.completed g.devices.disk
 
--- below this count no number of these is at its greatest, and an operation has room
+-- below this count none of these numbers is at its greatest, and there is room for an operation
 pub record IsReadyUntil (limit : ℕ) (issued : List ℕ) (writes spare : ℕ) : Type 0 where
   pub numbers : (count : ℕ) → count < limit → is_spent_at count issued writes ≡ false
   pub room : 0 < limit → 1 ≤ spare
 
--- how the fields of every board stand between two steps: no operation is given, and the limit holds
+-- what holds of the fields of every board between two steps: no operation is given, and the limit holds
 pub record Stands (g : Guest) (versions : List ℕ) (given : Option Operation) (limit spare : ℕ) : Type 0 where
   pub board : IsBoard g versions
   pub forgotten : given ≡ None

@@ -15,8 +15,8 @@ wired_of w = record { memory = w.memory.bytes; devices = w.devices; issued = w.i
 abbrev pub versioned_of : Wiring → Versioned
 versioned_of w = record { wired = wired_of w; versions = w.memory.versions }
 
--- the guest of these fields: its processor and what that is wired to, the operations that wait, the last completed write
--- of each sector, how many steps were made, how many keys were taken, and the interrupt levels
+-- the guest with these fields: its processor and what that is wired to, the outstanding operations, the last completed
+-- write of each sector, how many steps were executed, how many keys were taken, and the interrupt levels
 abbrev pub guest_of : Processor → Wiring → Outstanding → List ℕ → ℕ → List ℕ → List ℕ → Guest
 guest_of processor w pending completed count keys levels = record {
   processor = processor;

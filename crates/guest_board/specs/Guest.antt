@@ -28,8 +28,8 @@ use Rattle.guest_board.specs.declared.input.Input.TheVariants.{Rx, Sent, Sector,
 use Rattle.guest_board.specs.declared.setup.Setup.{Setup}
 
 -- the guest at one moment: the processor, memory, the devices, the outstanding operations, how many bytes were sent to
--- each port, the last completed write of each sector, how many steps were made, how many keys of each port were taken,
--- the interrupt level of each device, and the sense switches
+-- each port, the last completed write of each sector, how many steps were executed, how many keys of each port were
+-- taken, the interrupt level of each device, and the sense switches
 pub record Guest : Type 0 where
   pub processor : Processor
   pub memory : List ℕ
@@ -42,7 +42,7 @@ pub record Guest : Type 0 where
   pub levels : List ℕ
   pub sense : ℕ
 
--- the guest as a setup has it
+-- the guest that a setup describes
 abbrev pub guest_at_boot : Setup → Guest
 guest_at_boot setup = record {
   processor = at_reset;
@@ -67,7 +67,7 @@ line_of d levels =
     else if drives.line_of d.disk then Some (slice_index levels 2)
     else None
 
--- what stands behind the processor before the step
+-- what the processor is wired to, before the step
 abbrev pub wired : Guest → Wired
 wired g = record { memory = g.memory; devices = g.devices; issued = g.issued; sense = g.sense; given = None }
 
@@ -75,7 +75,7 @@ wired g = record { memory = g.memory; devices = g.devices; issued = g.issued; se
 unfoldable pub step_of : Guest → Step
 step_of g = step g.processor (memory_byte (wired g)) (port_byte (wired g)) (line_of g.devices g.levels)
 
--- what stands behind the processor after the step
+-- what the processor is wired to, after the step
 unfoldable pub wired_after : Guest → Wired
 wired_after g = after_accesses after_access (step_of g).accesses (wired g)
 
@@ -84,7 +84,7 @@ abbrev pub with_given : Operations → Option Operation → Operations
 with_given operations None = operations
 with_given operations (Some given) = with_operation operations given
 
--- the guest after a step that left the processor and all behind it so
+-- the guest after a step that left its processor and what that is wired to in this state
 abbrev pub stepped : Guest → Processor → Wired → Guest
 stepped g processor w = record g {
   processor = processor;
@@ -99,7 +99,7 @@ stepped g processor w = record g {
 abbrev pub next : Guest → Guest
 next g = stepped g (step_of g).after (wired_after g)
 
--- the count, or a number of bytes or of writes, stands at its greatest
+-- the count, or a number of bytes or of writes, is at its greatest
 abbrev pub is_spent_at : ℕ → List ℕ → ℕ → Bool
 is_spent_at count issued writes =
     nat_le GREATEST_NUMBER count
@@ -145,7 +145,7 @@ after_sent g port = record g {
 abbrev pub after_sector : Guest → ℕ → List ℕ → Guest
 after_sector g sector bytes = record g { devices = done_of g.devices (done.Sector sector bytes) }
 
--- a write is the last completed one of its sector
+-- a write becomes the last completed one of its sector
 abbrev pub with_completed : List ℕ → Option Operation → List ℕ
 with_completed completed (Some (operation.Write write)) =
     option_map_or (λ index. slice_set completed index write.number) (index_of (address_of write)) completed
@@ -159,7 +159,7 @@ after_written g number = record g {
   completed = with_completed g.completed (operation_at g.operations (id.Write number));
 }
 
--- a key may be taken at a port while their number is not spent
+-- a key may be taken at a port while the number of its keys is not spent
 abbrev pub may_take_key : Guest → ℕ → Bool
 may_take_key g port = nat_lt port PORTS && nat_lt (slice_index g.keys port) GREATEST_NUMBER
 
@@ -168,7 +168,7 @@ abbrev pub may_take_sector : Guest → ℕ → ℕ → List ℕ → Bool
 may_take_sector g drive sector bytes =
     completion.is_selected g.devices.disk drive && is_due g.devices (done.Sector sector bytes)
 
--- the open move: an input where it is due, a sector with the bytes that the input carries
+-- the open move: an input if it is due, a sector with the bytes that the input carries
 abbrev pub take_from : Guest → Input → Option Guest
 take_from g (Rx port byte) = if may_take_key g port then Some (after_rx g port byte) else None
 take_from g (Sent port) = if is_due g.devices (done.Sent port) then Some (after_sent g port) else None
@@ -178,7 +178,7 @@ take_from g (Written number) = if is_due g.devices (done.Written number) then So
 
 -- ---- what may be asked
 
--- the sector of this number at the track where a drive stands
+-- the sector of this number on the track that a drive's head is at
 abbrev pub address_under : Guest → ℕ → ℕ → SectorAddress
 address_under g drive sector =
     record { drive = drive; track = (drives.drive_of g.devices.disk drive).track; sector = sector }

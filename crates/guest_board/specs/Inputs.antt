@@ -1,4 +1,4 @@
--- Which inputs a guest refuses, whatever setup it booted from; and where its head stands.
+-- Which inputs a guest refuses, whatever setup it booted from; and where its head is.
 use Rattle.std.specs.Prelude.{◌≡◌, ℕ, Bool, not, ◌==◌, ◌&&◌, if◌then◌else◌, Option, Some, None, List, [], slice_index}
 use Rattle.std.specs.Option.{option_map, option_map_or}
 use Rattle.std.specs.FinMap as map
@@ -30,7 +30,7 @@ guest_nowhere = record {
   sense = 0;
 }
 
--- an Altair, where it does not matter from where it boots
+-- an Altair, for when it does not matter where it boots from
 abbrev pub some_altair : Machine Guest
 some_altair = altair_from guest_nowhere (λ address. [])
 
@@ -43,7 +43,7 @@ abbrev pub RefusesAlike : Guest → Input → Type 0
 RefusesAlike g input =
     (setup : Setup) (sectors : SectorAddress → List ℕ) → refusal_of (altair setup sectors) g input ≡ refusal g input
 
--- why a sector does not come, by the controller and the last completed writes: it is not due, a write of it is
+-- why a sector does not come, given the controller and the last completed writes: it is not due, a write of it is
 -- outstanding, or it was read before its last write
 abbrev pub sector_refusal_by : Drives → List ℕ → SectorAddress → ℕ → Option Fault
 sector_refusal_by disk completed address number =
@@ -52,7 +52,7 @@ sector_refusal_by disk completed address number =
     else if not (option_map_or (λ index. slice_index completed index) (index_of address) 0 == number) then Some StaleRead
     else None
 
--- the same of a sector at the track where a drive stands
+-- the same for a sector on the track that a drive's head is at
 abbrev pub sector_refusal_at : Drives → List ℕ → ℕ → ℕ → ℕ → Option Fault
 sector_refusal_at disk completed drive sector number =
     sector_refusal_by disk completed (record { drive = drive; track = (drive_of disk drive).track; sector = sector }) number
@@ -61,6 +61,6 @@ sector_refusal_at disk completed drive sector number =
 abbrev pub unless_due : Bool → Option Fault
 unless_due due = if due then None else Some NotDue
 
--- the selected drive, and the track where its head stands
+-- the selected drive, and the track its head is at
 abbrev pub place_of : Guest → Option (ℕ × ℕ)
 place_of g = option_map (λ drive. (drive, (drive_of g.devices.disk drive).track)) g.devices.disk.selected

@@ -12,7 +12,7 @@ use Rattle.guest_board.specs.Machine.{Machine, refusal_of}
 use Rattle.guest_board.specs.declared.input.Input.{Input}
 use Rattle.guest_board.specs.declared.input.Input.TheVariants.{Rx, Sent, Sector, Written}
 
--- why no step is made, want of memory apart
+-- why no step is executed, other than out of memory
 abbrev pub step_refusal : {S : Type 0} → Machine S → S → Option Fault
 step_refusal M s = if M.is_spent s then Some Spent else if is_none (M.step s) then Some Idle else None
 
@@ -20,21 +20,21 @@ step_refusal M s = if M.is_spent s then Some Spent else if is_none (M.step s) th
 abbrev pub named : {S : Type 0} → S × Option Operation → S × Option OpId
 named made = (made.0, option_map id_of made.1)
 
--- a step that nothing refuses is made, or wants memory
+-- a step that nothing refuses is executed, or runs out of memory
 abbrev pub Steps : {S : Type 0} → Machine S → S → Result (Option OpId) Fault → S → Type 0
 Steps M old (Ok name) new = option_map named (M.step old) ≡ Some (new, name)
 Steps M old (Err fault) new = (fault ≡ OutOfMemory) × (new ≡ old)
 
--- a step that something refuses leaves the machine as it was
+-- a step that something refuses leaves the machine unchanged
 abbrev pub StepsUnless : {S : Type 0} → Machine S → S → Option Fault → Result (Option OpId) Fault → S → Type 0
 StepsUnless M old (Some fault) answer new = (answer ≡ Err fault) × (new ≡ old)
 StepsUnless M old None answer new = Steps M old answer new
 
--- what a step answers and leaves
+-- what a step returns and leaves
 abbrev pub Executes : {S : Type 0} → Machine S → S → Result (Option OpId) Fault → S → Type 0
 Executes M old answer new = StepsUnless M old (step_refusal M old) answer new
 
--- an input of a port and of a sector that are there
+-- an input for a port and a sector that exist
 abbrev pub IsInput : Input → Type 0
 IsInput (Rx port byte) = port < PORTS
 IsInput (Sent port) = port < PORTS
@@ -55,7 +55,7 @@ HasRoom M s (Sent port) = Unit {0}
 HasRoom M s (Sector drive sector number bytes) = Unit {0}
 HasRoom M s (Written number) = Unit {0}
 
--- what an input is answered, and what it leaves: the open move, or nothing
+-- what an input returns, and what it leaves: the open move, or nothing
 abbrev pub Takes : {S : Type 0} → Machine S → S → Input → Result (Unit {0}) Fault → S → Type 0
 Takes M old input (Ok done) new = (refusal_of M old input ≡ None) × (M.take old input ≡ Some new)
 Takes M old input (Err fault) new = (refusal_of M old input ≡ Some fault) × (new ≡ old)

@@ -15,25 +15,25 @@ pub record Machine (S : Type 0) : Type 0 where
   pub boot_sector : SectorAddress → List ℕ
   -- how many bytes of a port may be sent and not accepted
   pub window_size : ℕ
-  -- one instruction or accepted interrupt: the state after it and the operation that it gives; none where the machine
+  -- one instruction or accepted interrupt: the state after it and the operation that it gives; none if the machine
   -- idles or is spent
   pub step : S → Option (S × Option Operation)
-  -- the open move: an input where it is due, a sector with the bytes that the input carries
+  -- the open move: an input if it is due, a sector with the bytes that the input carries
   pub take : S → Input → Option S
-  -- how many steps it has made, whether a number has reached its limit, and how many keys of a port it has taken
+  -- how many steps it has executed, whether a number has reached its limit, and how many keys of a port it has taken
   pub count : S → ℕ
   pub is_spent : S → Bool
   pub keys : S → ℕ → ℕ
-  -- the outstanding operation of this name, and the number of the byte of a port that is accepted next
+  -- the outstanding operation of this name, and the number of the next byte of a port to be accepted
   pub find : S → OpId → Option Operation
   pub due_byte : S → ℕ → Option ℕ
-  -- the selected drive, and the sector of this number at the track where a drive stands
+  -- the selected drive, and the sector of this number on the track that a drive's head is at
   pub selected : S → Option ℕ
   pub address : S → ℕ → ℕ → SectorAddress
-  -- the sector may come under the head but for a write of it that is outstanding, and whether there is one
+  -- whether the sector may come under the head, apart from an outstanding write of it, and whether there is such a one
   pub ready : S → SectorAddress → Bool
   pub busy : S → SectorAddress → Bool
-  -- the number of the last completed write of a sector, 0 where there is none
+  -- the number of the last completed write of a sector, 0 if there is none
   pub done : S → SectorAddress → ℕ
 
 -- the machine that boots elsewhere: in this state, with these sectors

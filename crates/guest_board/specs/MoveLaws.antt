@@ -1,6 +1,6 @@
--- What one move of a guest changes beside its devices. A step raises the count by one and adds the operation that it
--- gives; an input leaves the count and takes away the operation that it completes, and all others stay under their
--- names.
+-- What one move of a guest changes apart from its devices. A step raises the count by one and adds the operation that
+-- it gives; an input leaves the count unchanged and removes the operation that it completes, and all others stay under
+-- their names.
 use Rattle.std.proofs.Common.{◌≡◌, ℕ, suc, Bool, true, false, cond, ◌||◌, Option, Some, None, sym, ap, ◌∙◌, arith}
 use Rattle.std.specs.Option.{option_map}
 use Rattle.std.proofs.lemmas.Option.{cond_some, same_Some, none-some}
@@ -20,7 +20,7 @@ use Rattle.guest_board.specs.declared.input.Input.TheVariants.{Rx, Sent, Sector,
 
 -- ---- a step
 
--- a step that is made leaves the next guest, and gives what stands behind the processor
+-- a step that is executed leads to the next guest, and gives the operation that the wiring was given
 pub record IsNext (g t : Guest) (gives : Option Operation) : Type 0 where
   pub after : next g ≡ t
   pub given : (wired_after g).given ≡ gives
@@ -36,7 +36,7 @@ is_next g t gives e = made (is_spent g || is_idle g) e
         let same = same_Some {A = Guest × Option Operation} (next g, (wired_after g).given) (t, gives) e in
         record { after = ap (λ p. p.0) same; given = ap (λ p. p.1) same }
 
--- a guest that is spent makes none
+-- a guest that is spent executes none
 spent : (g : Guest) → is_spent g ≡ true → step_from g ≡ None
 spent g e = ap (λ b. cond (b || is_idle g) None (Some (next g, (wired_after g).given))) e
 

@@ -17,7 +17,7 @@ completed_by M s (Sector drive sector number bytes) = None
 completed_by M s (Written number) = Some (id.Write number)
 
 -- how the outstanding operations of a machine come and go: a step adds the one that it gives under its name, an input
--- takes away the one that it completes, and nothing else touches any
+-- removes the one that it completes, and nothing else touches any
 pub record ComesAndGoes {S : Type 0} (M : Machine S) : Type 0 where
   pub comes : (s t : S) (o : Operation) → M.step s ≡ Some (t, Some o)
       → (M.find t (id_of o) ≡ Some o) × ((name : OpId) → name ≢ id_of o → M.find t name ≡ M.find s name)
@@ -33,6 +33,6 @@ pub record AreFew {S : Type 0} (M : Machine S) (s : S) : Type 0 where
   pub few : length names ≤ 40
   pub all : (name : OpId) (o : Operation) → M.find s name ≡ Some o → Contains names name
 
--- and so it stays, wherever the machine goes from here
+-- and that stays so, wherever the machine goes from here
 abbrev pub IsFrugal : {S : Type 0} → Machine S → S → Type 0
 IsFrugal {S} M s = (moves : List Move) (t : S) → Runs M s moves t → AreFew M t

@@ -1,4 +1,4 @@
--- What a board is rebuilt from: the guest that the parts describe, and whether a board can stand so.
+-- What a board is rebuilt from: the guest that the parts describe, and whether a board can be in that state.
 use Rattle.std.specs.Prelude.{◌≡◌, ℕ, ◌+◌, ◌-◌, ◌*◌, Bool, true, false, not, ◌==◌, ◌<◌, nat_lt, nat_le, if◌then◌else◌, ◌&&◌, All, AllPairs, Some, List, [], ◌∷◌, length, map, take, slice_index, slice_index_or}
 use Rattle.std.specs.List.{list_all}
 use Rattle.std.specs.FinMap as finite
@@ -20,9 +20,9 @@ use Rattle.event_callbacks.specs.declared.operations.Operation.TheVariants as op
 use Rattle.guest_board.specs.Guest.{Guest}
 use Rattle.guest_board.specs.declared.parts.BoardParts.{BoardParts}
 
--- ---- the operations that wait
+-- ---- the outstanding operations
 
--- operations come one after another
+-- operations are added one after another
 abbrev pub with_each : Operations → List Operation → Operations
 with_each operations [] = operations
 with_each operations (op ∷ ops) = with_each (with_operation operations op) ops
@@ -45,7 +45,7 @@ bytes_of d issued unaccepted port =
 abbrev pub writes_of : List SectorWrite → List Operation
 writes_of writes = map operation.Write writes
 
--- the writes stand by rising number
+-- the writes are in order of number
 abbrev pub Rise : List SectorWrite → Type 0
 Rise writes = AllPairs (λ earlier later. earlier.number < later.number) writes
 
@@ -74,9 +74,9 @@ guest_of_parts p = record {
   sense = p.sense;
 }
 
--- ---- whether a board can stand so
+-- ---- whether a board can be in that state
 
--- of a port no more bytes are on their way than were issued, and its numbers are in their range
+-- a port has no more bytes on their way than were issued, and its numbers are in range
 abbrev pub port_stands : Devices → List ℕ → List ℕ → ℕ → Bool
 port_stands d issued keys port =
     nat_le (port_of d port).unaccepted (slice_index issued port)
@@ -108,7 +108,7 @@ are_completed disk completed =
 abbrev pub are_levels : List ℕ → Bool
 are_levels levels = list_all (λ level. nat_lt level 8) levels
 
--- a board can stand as the parts say
+-- a board can be in the state that the parts describe
 abbrev pub stands : BoardParts → Bool
 stands p =
     port_stands p.devices p.issued p.keys 0
@@ -118,7 +118,7 @@ stands p =
     && go_to p.writes.items p.devices.disk.outstanding
     && are_completed p.devices.disk p.completed.items
 
--- why no board is made of the parts: none can stand so, or memory is wanted
+-- why no board is made from the parts: none can be in that state, or there is no memory for it
 abbrev pub refused_as : BoardParts → Fault
 refused_as p = if stands p then OutOfMemory else Malformed
 

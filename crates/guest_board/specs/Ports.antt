@@ -14,7 +14,7 @@ use Rattle.event_callbacks.specs.declared.operations.Operation.TheVariants as op
 use Rattle.guest_board.specs.declared.ports.Device.{Device}
 use Rattle.guest_board.specs.declared.ports.Device.TheVariants.{SerialControl, SerialData, DiskSelect, DiskControl, DiskData, SenseSwitches, Nothing}
 
--- which device stands at a port number
+-- which device is at a port number
 abbrev pub device_at : ℕ → Device
 device_at number =
     if number == 0x10 then SerialControl 0
@@ -27,8 +27,8 @@ device_at number =
     else if number == 0xFF then SenseSwitches
     else Nothing
 
--- what stands behind the processor while one step is made: memory, the devices, how many bytes each port was sent, the
--- sense switches, and the operation that the step has given
+-- what the processor is wired to while one step is executed: memory, the devices, how many bytes each port was sent,
+-- the sense switches, and the operation that the step has given
 pub record Wired : Type 0 where
   pub memory : List ℕ
   pub devices : Devices
@@ -77,14 +77,14 @@ after_byte w port byte =
       given = Some (operation.Byte port number byte);
     }
 
--- OUT to a serial port: it sends the byte where it is ready and its numbers are not spent; else the byte is lost
+-- OUT to a serial port: it sends the byte if it is ready and its numbers are not spent; otherwise the byte is lost
 abbrev pub after_serial_data : Wired → ℕ → ℕ → Wired
 after_serial_data w port byte =
     if nat_lt (slice_index w.issued port) GREATEST_NUMBER
     then option_map_or (after_byte w port) (serial.data_out_answer (port_of w.devices port) byte) w
     else w
 
--- OUT to the drive's data: byte 137 gives the write, where the numbers of writes are not spent
+-- OUT to the drive's data: byte 137 gives the write, if the numbers of writes are not spent
 abbrev pub write_given : Option SectorWrite → Option Operation
 write_given None = None
 write_given (Some write) = Some (operation.Write write)
@@ -113,7 +113,7 @@ after_out w Nothing byte = w
 abbrev pub port_byte : Wired → ℕ → ℕ
 port_byte w number = byte_from w (device_at number)
 
--- an access of the processor; a step gives one operation at most, as no instruction writes to two ports
+-- an access of the processor; a step gives at most one operation, since no instruction writes to two ports
 abbrev pub after_access : Access → Wired → Wired
 after_access (Write address byte) w = record w { memory = slice_set w.memory address byte }
 after_access (Input number) w = record w { devices = devices_after_in w.devices (device_at number) }

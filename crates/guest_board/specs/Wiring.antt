@@ -1,4 +1,4 @@
--- What stands behind the processor of a board, with the version of each page of its memory.
+-- What the processor of a board is wired to, with the version of each page of its memory.
 use Rattle.std.specs.Prelude.{ℕ, ◌<◌, List}
 use Rattle.i8080_words.specs.Effects.{Access}
 use Rattle.i8080_words.specs.Effects.Access.{Write, Input, Output}
@@ -8,7 +8,7 @@ use Rattle.guest_board.specs.Ports.{Wired, memory_byte, port_byte, after_access}
 use Rattle.guest_board.specs.declared.ports.Device.{Device}
 use Rattle.guest_board.specs.declared.ports.Device.TheVariants.{SerialControl, SerialData, DiskSelect, DiskControl, DiskData, SenseSwitches, Nothing}
 
--- what the guest can see of it, and beside it how often each page of memory was written
+-- what the guest can see of it, and with that how often each page of memory was written
 pub record Versioned : Type 0 where
   pub wired : Wired
   pub versions : List ℕ
@@ -31,7 +31,7 @@ byte_behind s = memory_byte s.wired
 abbrev pub input_behind : Versioned → ℕ → ℕ
 input_behind s = port_byte s.wired
 
--- a serial port of a device is there
+-- the serial port of a device exists
 abbrev pub IsThere : Device → Type 0
 IsThere (SerialControl port) = port < PORTS
 IsThere (SerialData port) = port < PORTS

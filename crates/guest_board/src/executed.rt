@@ -25,7 +25,7 @@ impl Executed {
     }
 }
 
-// What a step was, with the name of the operation that it gave: an answer that fits in registers.
+// What a step was, with the name of the operation that it gave: a result that fits in registers.
 #[derive(Clone, Copy)]
 pub(crate) enum Step {
     Ran(Option<OpId>),

@@ -11,7 +11,8 @@ pub fn the_machine_refuses_alike()
     ensures { (g : Guest) (input : Input) → RefusesAlike g input }
 {}
 
-/// A guest counts its steps: each raises the count by one and an input leaves it, and one that is spent makes none.
+/// A guest counts its steps: each raises the count by one, an input leaves it unchanged, and a spent guest executes
+/// none.
 pub fn boards_count()
     ensures { Counts some_altair }
 {}

@@ -1,4 +1,4 @@
-//! The guest: a processor, memory, two serial ports, one to four drives and the operations that wait, on one board.
+//! The guest: a processor, memory, two serial ports, one to four drives and the outstanding operations, on one board.
 #![tactic(auto)]
 
 mod board;

@@ -1,4 +1,4 @@
-//! What the layers of a pair ask of a guest, so that they are proved for any.
+//! What the layers of a pair require of a guest, so that they are proved for any guest.
 ghost use Rattle.std.specs.Prelude.{◌≡◌, ◌<◌, ◌≤◌, ℕ, IfSome, OnErr, OnOk, option_copied};
 ghost use Rattle.guest_board.specs.Machine.{Machine, refusal_of};
 ghost use Rattle.guest_board.specs.Outstanding.{ComesAndGoes};
@@ -17,7 +17,7 @@ use i8080_words::R;
 
 /// A guest that can be run in lockstep with another: its state is a pure function of its inputs and their counts.
 pub trait Lockstep: Sized {
-    // As much of the guest as its further course depends on: its stored closures are left out.
+    // The part of the guest that its further course depends on: its stored closures are left out.
     ghost State: { Type 0 };
 
     ghost state: { Self → State };
@@ -25,14 +25,14 @@ pub trait Lockstep: Sized {
     // How it moves. Nothing here depends on where this machine boots.
     ghost machine: { Machine State };
 
-    /// Makes one step, and gives the name of its operation. `Spent` where a number stands at its greatest, `Idle` where the
-    /// guest waits for an interrupt, `OutOfMemory` where an operation could not be kept; each changes nothing.
+    /// Executes one step, and returns the name of its operation. `Spent` if a number is at its greatest, `Idle` if the
+    /// guest waits for an interrupt, `OutOfMemory` if an operation could not be kept; each changes nothing.
     fn step(&mut self) -> R<Option<OpId>>
         ensures answer { Executes machine (state self.old) result (state self.new) }
         ensures unchanged { OnErr result (self.new ≡ self.old) };
 
-    /// Whether an input would be taken now: the answer that `take` would give. No number of a write that would be taken
-    /// is past the greatest.
+    /// Whether an input would be taken now: what `take` would return. No write number that would be taken is past the
+    /// greatest.
     fn check(&self, input: &Input) -> R<()>
         requires { IsInput input.now }
         ensures answer { result ≡ answered (refusal_of machine (state self.now) input.now) }
@@ -45,7 +45,7 @@ pub trait Lockstep: Sized {
         ensures answer { Takes machine (state self.old) input result (state self.new) }
         ensures unchanged { OnErr result (self.new ≡ self.old) };
 
-    /// How many steps were made.
+    /// How many steps were executed.
     fn count(&self) -> u64
         ensures value { result ≡ machine.count (state self.now) }
         ensures within { result ≤ GREATEST_NUMBER };
@@ -55,7 +55,7 @@ pub trait Lockstep: Sized {
         requires { port < PORTS }
         ensures { result ≡ machine.keys (state self.now) port };
 
-    /// The number of the byte of a port that is accepted next, if one was sent and not accepted.
+    /// The number of the next byte of a port to be accepted, if one was sent and not accepted.
     fn due_byte(&self, port: u8) -> Option<u64>
         requires { port < PORTS }
         ensures { result ≡ machine.due_byte (state self.now) port };
@@ -70,13 +70,13 @@ pub trait Lockstep: Sized {
         ensures value { result ≡ machine.selected (state self.now) }
         ensures within { IfSome result (λ drive. drive < DRIVES) };
 
-    /// The sector of this number at the track where the head of a drive stands.
+    /// The sector of this number on the track that the head of a drive is at.
     fn sector_under(&self, drive: u8, sector: u8) -> SectorAddress
         requires { drive < DRIVES }
         ensures { result ≡ machine.address (state self.now) drive sector };
 
-    /// Makes at most `turns` steps that give no operation, as many as it can make in one go. Answers how many it made, which
-    /// may be none; then nothing changes.
+    /// Executes at most `turns` steps that give no operation, as many as it can in one go. Returns how many it
+    /// executed; if none, nothing changes.
     fn step_quietly(&mut self, turns: u64) -> u64
         ensures few { result ≤ turns }
         ensures steps { Quiet machine (state self.old) result (state self.new) }

@@ -9,23 +9,23 @@ use event_callbacks::{Devices, PORTS};
 use i8080_words::Processor;
 use serial_2sio::WINDOW;
 
-/// What an image of a machine says of its board: all that a board shows, and what is outstanding.
-/// `Board::rebuild` decides whether a board can stand so.
+/// What an image of a machine says of its board: all that a board shows, and what is outstanding. `Board::rebuild`
+/// decides whether a board can be in that state.
 #[derive(Drop)]
 pub struct BoardParts {
     pub processor: Processor,
     pub memory: Vec<u8>,
     pub devices: Devices,
-    /// The bytes of each port that were sent and not accepted, oldest first. There are as many as `devices` says; what
-    /// stands behind them says nothing.
+    /// The bytes of each port that were sent and not accepted, oldest first. There are as many as `devices` says; those
+    /// after them mean nothing.
     pub unaccepted: [[u8; WINDOW as usize]; PORTS],
     /// How many bytes were sent to each port.
     pub issued: [u64; PORTS],
-    /// The outstanding writes, by rising number.
+    /// The outstanding writes, in order of number.
     pub writes: Vec<SectorWrite>,
-    /// The number of the last completed write of each sector, by `SectorAddress::index`; 0 where there is none.
+    /// The number of the last completed write of each sector, by `SectorAddress::index`; 0 if there is none.
     pub completed: Vec<u64>,
-    /// How many steps were made.
+    /// How many steps were executed.
     pub count: u64,
     /// How many keys of each port were taken.
     pub keys: [u64; PORTS],

@@ -1,13 +1,13 @@
-//! Which device stands at which port number.
+//! Which device is at which port number.
 
 ghost use Rattle.std.specs.Prelude.{◌≡◌};
 ghost use Rattle.guest_board.specs.Ports as table;
 ghost use Rattle.guest_board.specs.Wiring.{IsThere};
 
-/// What IN gives where no device answers.
+/// What IN returns if no device answers.
 pub(crate) const OPEN_BUS: u8 = 0xff;
 
-/// What stands at a port number (MITS 88-2SIO and 88-DCDD manuals). Serial ports are numbered from 0.
+/// What is at a port number (MITS 88-2SIO and 88-DCDD manuals). Serial ports are numbered from 0.
 #[derive(Clone, Copy, Debug, PartialEq, Eq)]
 pub(crate) enum Device {
     SerialControl(u8),

@@ -4,8 +4,8 @@ ghost use Rattle.std.specs.Prelude.{◌≡◌, ℕ, ◌<◌, ◌≤◌, vec_len,
 ghost use Rattle.disk_dcdd.specs.declared.controller.TheConstants.{DRIVES};
 ghost use Rattle.guest_memory.specs.declared.memory.TheConstants.{BYTES};
 
-/// A guest at boot: its memory, how many drives are attached, the interrupt level of port 0, port 1 and the disk (RST n of
-/// the 8080), and the byte of the sense switches, which IN FFh gives.
+/// A guest at boot: its memory, how many drives are attached, the interrupt level of port 0, port 1 and the disk (RST n
+/// of the 8080), and the byte of the sense switches, which IN FFh returns.
 #[derive(Drop)]
 pub struct Setup {
     pub memory: Vec<u8>,

@@ -1,4 +1,4 @@
-//! Guests that run: an interrupt that a key brings, a byte on its way and a copy of its board, writes and late reads.
+//! Guests that run: an interrupt that a key causes, a byte on its way and a copy of its board, writes and late reads.
 ghost use Rattle.std.specs.Prelude.{◌≡◌, ◌^◌, ◌<◌, ◌≤◌, IsTrue, IfOk, vec_len};
 ghost use Rattle.disk_dcdd.specs.declared.controller.TheConstants.{DRIVES};
 ghost use Rattle.event_callbacks.specs.declared.devices.TheConstants.{SENT, SECTOR, WRITTEN};
@@ -53,7 +53,7 @@ fn boot<T: Completes + Drop, S: Completes + Drop, W: Completes + Drop>(
     }
 }
 
-// Makes this many steps, none of which gives an operation.
+// Executes this many steps, none of which gives an operation.
 fn step<T: Completes, S: Completes, W: Completes>(
     rt: &impl Abort,
     board: &mut Board<T, S, W>,
@@ -128,7 +128,7 @@ fn press_a_key<T: Completes, S: Completes, W: Completes>(
     assert_eq!(rt; board.keys(0), 1);
 }
 
-// Accepts an interrupt, and has made this many steps then.
+// Accepts an interrupt, after which this many steps have been executed.
 fn accept<T: Completes, S: Completes, W: Completes>(
     rt: &impl Abort,
     board: &mut Board<T, S, W>,
@@ -171,7 +171,7 @@ const FIRST: Operation = Operation::Byte {
     byte: 0x48,
 };
 
-// Makes five steps and sends a byte.
+// Executes five steps and sends a byte.
 fn send<T: Completes, S: Completes, W: Completes>(
     rt: &impl Abort,
     board: &mut Board<T, S, W>,
@@ -205,7 +205,7 @@ fn accept_a_byte<T: Completes, S: Completes, W: Completes>(
     first_byte(rt, board, None, None);
 }
 
-// The same guest again, with these closures.
+// A copy of the guest, with these closures.
 fn copied<T: Completes, S: Completes + Drop, W: Completes + Drop, T2: Completes + Drop>(
     alloc: Global,
     board: &Board<T, S, W>,
@@ -281,7 +281,7 @@ const WRITES_EACH_SECTOR: [u8; 30] = [
     0x80, 0xd3, 0x09, 0x06, 0x89, 0xd3, 0x0a, 0x05, 0xc2, 0x15, 0x00, 0xc3, 0x08, 0x00,
 ];
 
-// What sector 5 holds at first, behind a call so that no proof reads each byte.
+// What sector 5 holds at first, in a function so that no proof reads each byte.
 fn old_bytes() -> [u8; SECTOR_BYTES] {
     [0xe5; SECTOR_BYTES]
 }
@@ -302,7 +302,7 @@ fn offer<T: Completes, S: Completes, W: Completes>(
     })
 }
 
-// Takes sector 5 with this number, and makes steps until its write is issued.
+// Takes sector 5 with this number, and executes steps until its write is issued.
 fn rewrite<T: Completes, S: Completes, W: Completes>(
     rt: &impl Abort,
     board: &mut Board<T, S, W>,
@@ -351,7 +351,7 @@ fn rewrite_each<T: Completes, S: Completes, W: Completes>(
     keep_busy(rt, board)
 }
 
-// The head stands at track 0 of drive 0, so no sector of drive 1 comes.
+// The head is at track 0 of drive 0, so no sector of drive 1 comes.
 fn select_no_other<T: Completes, S: Completes, W: Completes>(
     rt: &impl Abort,
     board: &mut Board<T, S, W>,
@@ -360,7 +360,7 @@ fn select_no_other<T: Completes, S: Completes, W: Completes>(
     assert_eq!(rt; offer(board, 1, 0), Err(Fault::NotDue));
 }
 
-// Sector 5 is written again, which completes once; what it held before comes too late then.
+// Sector 5 is written again, which completes once; its earlier contents then come too late.
 fn complete<T: Completes, S: Completes, W: Completes>(
     rt: &impl Abort,
     board: &mut Board<T, S, W>,

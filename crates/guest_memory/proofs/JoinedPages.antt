@@ -1,4 +1,4 @@
--- The pages, one after another, are the bytes: each goes on where the bytes below it end, and the last one ends them.
+-- The pages, concatenated, are the bytes: each continues where the bytes below it end, and the last one ends them.
 use Rattle.std.proofs.Common.{◌≡◌, ℕ, ◌+◌, ◌-◌, ◌*◌, ◌≤◌, ◌++◌, length, take, drop, sym, ap, ◌∙◌, arith}
 use Rattle.std.proofs.Math.Seq.{take-add}
 use Rattle.std.proofs.lemmas.List.{take_all}

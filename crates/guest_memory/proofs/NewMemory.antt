@@ -1,5 +1,5 @@
--- New memory is whole: its versions are zeros, as many as there are pages, and its bytes are zeros or those that it is
--- made of. Zeros are read as 0 also past their end.
+-- New memory is whole: its versions are zeros, as many as there are pages, and its bytes are zeros or those it is made
+-- from. Zeros read as 0 past their end, too.
 use Rattle.std.proofs.Common.{◌≡◌, ℕ, zero, suc, ◌^◌, ◌<◌, List, length, slice_index, replicate, refl, lit<}
 use Rattle.std.proofs.lemmas.List.{length-replicate}
 use Rattle.guest_memory.specs.declared.memory.TheConstants.{BYTES, PAGES}

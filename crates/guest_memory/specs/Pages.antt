@@ -1,4 +1,4 @@
--- The guest's memory: 65,536 bytes in 256 pages, and with each page how often it was written.
+-- The guest's memory: 65,536 bytes in 256 pages, and how often each page was written.
 use Rattle.std.specs.Prelude.{◌≡◌, ℕ, ◌+◌, ◌*◌, ◌/◌, ◌%◌, ◌^◌, ◌<◌, List, length, replicate, slice_index, slice_range, slice_set}
 use Rattle.guest_memory.specs.declared.memory.TheConstants.{BYTES, PAGES, PAGE_BYTES}
 
@@ -23,7 +23,7 @@ page_bytes memory page = slice_range memory.bytes (page * PAGE_BYTES) (page * PA
 abbrev pub version_at : Pages → ℕ → ℕ
 version_at memory page = slice_index memory.versions page
 
--- every address has a byte and every page a version, each as wide as it is kept
+-- every address has a byte and every page a version, each within its width
 pub record IsWhole (memory : Pages) : Type 0 where
   pub every_address : length memory.bytes ≡ BYTES
   pub bytes_fit : (address : ℕ) → byte_at memory address < 2 ^ 8
@@ -46,7 +46,7 @@ cleared = unwritten (zeros BYTES)
 abbrev pub raised : List ℕ → ℕ → List ℕ
 raised versions page = slice_set versions page ((slice_index versions page + 1) % 2 ^ 64)
 
--- after a write: the byte stands at its address, and its page was written once more
+-- after a write: the byte is at its address, and its page was written once more
 abbrev pub written : Pages → ℕ → ℕ → Pages
 written memory address byte = record {
   bytes = slice_set memory.bytes address byte;

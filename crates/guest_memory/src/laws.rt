@@ -11,12 +11,12 @@ pub fn writes_read_back()
     ensures { (memory : Pages) → IsWhole memory → ReadsBack memory }
 {}
 
-/// A write raises the version of its own page by one, and no other version.
+/// A write raises its own page's version by one, and no other version.
 pub fn versions_count_writes()
     ensures { (memory : Pages) → IsWhole memory → CountsWrites memory }
 {}
 
-/// New memory is whole, with each page at version 0; it reads 00 at every address where it was made of no bytes.
+/// New memory is whole, with each page at version 0; if made from no bytes, it reads 00 at every address.
 #[tactic(auto, using(crate::proofs::NewMemory::only_zeros, crate::proofs::NewMemory::unwritten_is_whole))]
 pub fn new_memory_is_unwritten()
     ensures whole { (bytes : List ℕ) → length bytes ≡ BYTES
@@ -25,7 +25,7 @@ pub fn new_memory_is_unwritten()
     ensures bytes { (address : ℕ) → byte_at cleared address ≡ 0 }
 {}
 
-/// The pages, one after another, are the bytes.
+/// The pages, concatenated, are the bytes.
 #[tactic(auto, using(crate::proofs::JoinedPages::pages_join))]
 pub fn pages_join_to_memory()
     ensures { (memory : Pages) → IsWhole memory → JoinsItsPages memory }

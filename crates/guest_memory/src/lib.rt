@@ -1,4 +1,4 @@
-//! The guest's memory: 65,536 bytes in 256 pages, with a version of each page that rises at every write to it.
+//! The guest's memory: 65,536 bytes in 256 pages, with a version for each page that rises at every write to it.
 #![tactic(auto)]
 
 mod laws;

@@ -17,7 +17,7 @@ pub const PAGES: usize = 256;
 /// How many bytes a page has: an address's high byte is its page.
 pub const PAGE_BYTES: usize = 256;
 
-/// The guest's bytes, and with each page the number of writes to it.
+/// The guest's bytes, and for each page the number of writes to it.
 #[derive(Drop)]
 pub struct Memory {
     bytes: Vec<u8>,
@@ -37,7 +37,7 @@ impl Model for Memory {
 }
 
 impl Memory {
-    /// Memory of zeros, each page at version 0. `OutOfMemory` is the allocator's refusal of its 66 KiB.
+    /// Memory of zeros, each page at version 0. `OutOfMemory` if the allocator refuses its 66 KiB.
     #[tactic(auto, using(crate::proofs::NewMemory::cleared_is_whole))]
     pub fn new(alloc: Global) -> R<Memory>
         ensures ok { IfOk result (λ memory. memory ≡ cleared) }
@@ -68,7 +68,7 @@ impl Memory {
         Ok(Memory { bytes, versions })
     }
 
-    /// The same bytes at the same versions, in memory of their own. `OutOfMemory` as in `new`.
+    /// A copy of the memory: the same bytes at the same versions. `OutOfMemory` as in `new`.
     pub fn copy(&self) -> R<Memory>
         ensures ok { IfOk result (λ memory. memory ≡ self.now) }
         ensures only_memory { IfErr result (λ fault. fault ≡ OutOfMemory) }
@@ -86,8 +86,8 @@ impl Memory {
         self.bytes[address as usize]
     }
 
-    /// Puts a byte at an address. Its page's version rises also where that byte stood there before; it is kept modulo
-    /// 2^64, which a board's count of instructions does not come near.
+    /// Puts a byte at an address. Its page's version rises even if that byte was already there; it is kept modulo 2^64,
+    /// which a board's instruction count does not come near.
     #[inline]
     pub fn write(&mut self, address: u16, byte: u8)
         ensures { self.new ≡ written self.old address byte }
@@ -125,7 +125,7 @@ impl Memory {
     }
 }
 
-// This many bytes 00.
+// This many bytes of 00.
 #[tactic(auto, unfolding(crate::specs::Pages::zeros))]
 fn zero_bytes(alloc: Global, count: usize) -> R<Vec<u8>>
     ensures ok { IfOk result (λ bytes. bytes.items ≡ zeros count) }
@@ -135,7 +135,7 @@ fn zero_bytes(alloc: Global, count: usize) -> R<Vec<u8>>
     Ok(bytes)
 }
 
-// This many versions 0.
+// This many versions of 0.
 #[tactic(auto, unfolding(crate::specs::Pages::zeros))]
 fn zero_versions(alloc: Global, count: usize) -> R<Vec<u64>>
     ensures ok { IfOk result (λ versions. versions.items ≡ zeros count) }

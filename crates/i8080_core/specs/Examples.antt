@@ -1,5 +1,5 @@
 -- What the tests wire a processor to: 256 bytes of memory and the byte that was last sent to a port, or a memory of any
--- size and ports that give their own numbers changed.
+-- size and ports that give their own numbers with some bits flipped.
 use Rattle.std.specs.Prelude.{ℕ, ◌%◌, bit_xor, List, slice_index, slice_index_or, slice_set}
 use Rattle.i8080_words.specs.Effects.{Access}
 use Rattle.i8080_words.specs.Effects.Access.{Write, Input, Output}
@@ -12,7 +12,7 @@ pub record Wires : Type 0 where
 abbrev pub byte_at : Wires → ℕ → ℕ
 byte_at w address = slice_index w.bytes (address % 256)
 
--- every port gives back what was last sent to any
+-- every port gives what was last sent to any port
 abbrev pub input_byte : Wires → ℕ → ℕ
 input_byte w port = w.sent
 
@@ -25,7 +25,7 @@ access (Output port byte) w = record w { sent = byte }
 abbrev pub byte_in : List ℕ → ℕ → ℕ
 byte_in bytes address = slice_index_or bytes address 0
 
--- a port gives its number, its bits 6, 4, 3 and 1 turned
+-- a port gives its number, with bits 6, 4, 3 and 1 flipped
 abbrev pub input_at : List ℕ → ℕ → ℕ
 input_at bytes port = bit_xor port 0x5A
 

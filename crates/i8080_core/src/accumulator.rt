@@ -10,7 +10,7 @@ use i8080_words::{
     and8, daa, dad, dcr, inr, or8, rotate_left, rotate_right, sub8, xor8,
 };
 
-/// An operation of the accumulator with a byte (ADD to CMP, ADI to CPI).
+/// An operation on the accumulator and a byte (ADD to CMP, ADI to CPI).
 pub fn operate(operation: AluOperation, byte: u8, regs: &mut Regs)
     ensures { regs.new ≡ operated operation byte regs.old }
 {
@@ -29,7 +29,7 @@ pub fn operate(operation: AluOperation, byte: u8, regs: &mut Regs)
     }
 }
 
-// One more in a byte.
+// Increments a byte.
 fn count_up(byte: &mut u8, flags: &mut Flags)
     ensures byte { byte.new ≡ (incremented byte.old flags.old.cy).0 }
     ensures flags { flags.new ≡ (incremented byte.old flags.old.cy).1 }
@@ -37,7 +37,7 @@ fn count_up(byte: &mut u8, flags: &mut Flags)
     (*byte, *flags) = inr(*byte, flags.cy);
 }
 
-/// INR: each register has a line of its own, so that an instruction is dispatched by its register once.
+/// INR. Each register has its own line, so that an instruction is dispatched on its register only once.
 pub fn increment<B: Bus>(bus: &mut B, register: Register, regs: &mut Regs)
     ensures regs { regs.new ≡ (counted_up register (B.byte_at (B.state bus.old)) regs.old).regs }
     ensures bus { B.state bus.new
@@ -61,7 +61,7 @@ pub fn increment<B: Bus>(bus: &mut B, register: Register, regs: &mut Regs)
     }
 }
 
-// One less in a byte.
+// Decrements a byte.
 fn count_down(byte: &mut u8, flags: &mut Flags)
     ensures byte { byte.new ≡ (decremented byte.old flags.old.cy).0 }
     ensures flags { flags.new ≡ (decremented byte.old flags.old.cy).1 }
@@ -101,7 +101,7 @@ fn add_to_halves(high: &mut u8, low: &mut u8, by: u16)
     [*low, *high] = sum.to_le_bytes();
 }
 
-/// INX, by 1, and DCX, by FFFF.
+/// INX (by 1) and DCX (by FFFF).
 pub fn add_to_pair(pair: RegisterPair, by: u16, regs: &mut Regs)
     ensures { regs.new ≡ with_pair pair (wrapped (pair_value_of pair regs.old + by)) regs.old }
 {

@@ -3,10 +3,10 @@ ghost use Rattle.std.specs.Prelude.{◌≡◌, ℕ, IsTrue};
 ghost use Rattle.i8080_words.specs.Effects.{Access};
 ghost use Rattle.i8080_words.specs.Effects.Access.{Write, Input, Output};
 
-/// The memory and the devices that a processor is wired to. A read of memory changes nothing; a write, an input and an
-/// output change what the implementation says by `after`.
+/// The memory and the devices that a processor is wired to. A read of memory changes nothing; a write, an input or an
+/// output changes the state as the implementation's `after` says.
 pub trait Bus {
-    /// What a `State` is: as much of the memory and the devices as counts.
+    /// What a `State` is: the part of the memory and the devices that matters.
     ghost State: { Type 0 };
 
     /// The state of a bus.
@@ -15,10 +15,10 @@ pub trait Bus {
     /// The byte at an address.
     ghost byte_at: { State → ℕ → ℕ };
 
-    /// The byte that a port gives next.
+    /// The byte that the next read of a port gives.
     ghost input_byte: { State → ℕ → ℕ };
 
-    /// The state that an access leaves.
+    /// The state after an access.
     ghost after: { Access → State → State };
 
     /// The byte at an address of memory.
@@ -34,7 +34,7 @@ pub trait Bus {
         ensures byte { result ≡ input_byte (state self.old) port }
         ensures state { state self.new ≡ after (Input port) (state self.old) };
 
-    /// Whether a read from this port would leave all as it is.
+    /// Whether a read from this port would leave the state unchanged.
     fn input_leaves_all(&self, port: u8) -> bool
         ensures { IsTrue result → after (Input port) (state self.now) ≡ state self.now };
 

@@ -1,4 +1,4 @@
-//! The bytes of an instruction: its code, and the data behind it.
+//! The bytes of an instruction: its code, and the data after it.
 ghost use Rattle.std.specs.Prelude.{◌≡◌, ◌+◌, ◌*◌, ◌%◌};
 ghost use Rattle.i8080_words.specs.Arithmetic.{wrapped, word_of};
 ghost use Rattle.i8080_words.specs.Effects.{with_pc};
@@ -7,7 +7,7 @@ use crate::bus::Bus;
 use crate::operands::offset;
 use i8080_words::{AddressRegister, Regs};
 
-/// Moves PC behind a code, and gives the address of that code.
+/// Advances PC past a code, and returns the address of that code.
 pub fn pass_code(regs: &mut Regs) -> u16
     ensures start { result ≡ regs.old.pc }
     ensures pc { regs.new ≡ with_pc (wrapped (regs.old.pc + 1)) regs.old }
@@ -17,7 +17,7 @@ pub fn pass_code(regs: &mut Regs) -> u16
     start
 }
 
-/// The byte behind the code at an address; PC moves behind the byte.
+/// The byte after the code at an address; PC advances past the byte.
 pub fn fetch_byte<B: Bus>(bus: &B, start: u16, regs: &mut Regs) -> u8
     ensures byte { result ≡ B.byte_at (B.state bus.now) (wrapped (start + 1)) }
     ensures pc { regs.new ≡ with_pc (wrapped (start + 2)) regs.old }
@@ -26,7 +26,7 @@ pub fn fetch_byte<B: Bus>(bus: &B, start: u16, regs: &mut Regs) -> u8
     bus.read(offset(start, 1))
 }
 
-/// The word behind the code at an address; PC moves behind the word.
+/// The word after the code at an address; PC advances past the word.
 pub fn fetch_word<B: Bus>(bus: &B, start: u16, regs: &mut Regs) -> u16
     ensures word { result ≡ word_of
         (B.byte_at (B.state bus.now) (wrapped (start + 1)))

@@ -8,7 +8,7 @@ use i8080_words::{
     AddressRegister, Condition, Flags, Register, RegisterPair, Regs, StackPair, of_psw, psw,
 };
 
-/// An address moved on, modulo 65,536.
+/// An address plus an offset, modulo 65,536.
 pub fn offset(address: u16, by: u16) -> u16
     ensures { result ≡ wrapped (address + by) }
 {
@@ -57,7 +57,7 @@ pub fn stack_pair_value(pair: StackPair, regs: &Regs) -> u16
     }
 }
 
-/// Puts a word where POP says.
+/// Puts a word into the pair that POP names.
 pub fn set_stack_pair(pair: StackPair, word: u16, regs: &mut Regs)
     ensures { regs.new ≡ with_pushed pair word regs.old }
 {

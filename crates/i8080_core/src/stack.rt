@@ -1,4 +1,4 @@
-//! The stack, and the jumps: words pushed and popped, calls and returns, with a condition or without.
+//! The stack and the jumps: words pushed and popped, calls and returns, with or without a condition.
 ghost use Rattle.std.specs.Prelude.{◌≡◌, if◌then◌else◌, [], ◌+◌, ◌*◌, ◌/◌, ◌%◌};
 ghost use Rattle.i8080_words.specs.Effects.{after_accesses, word_at, with_pushed, pushed_word, popped, called, returned, holds, with_pc};
 
@@ -18,7 +18,7 @@ pub fn push<B: Bus>(bus: &mut B, word: u16, regs: &mut Regs)
     regs.sp = AddressRegister::new(offset(top, 0xfffe));
 }
 
-// The word at the stack pointer, which moves behind it.
+// The word at the stack pointer, which advances past it.
 fn pop_word<B: Bus>(bus: &B, regs: &mut Regs) -> u16
     ensures word { result ≡ word_at (B.byte_at (B.state bus.now)) regs.old.sp }
     ensures regs { regs.new ≡ popped regs.old }
@@ -59,7 +59,7 @@ pub fn jump(address: u16, regs: &mut Regs)
     regs.pc = AddressRegister::new(address);
 }
 
-/// Goes to an address where a condition is met (JZ and its like).
+/// Goes to an address if a condition is met (JZ and the like).
 pub fn jump_if(condition: Condition, address: u16, regs: &mut Regs)
     ensures { regs.new ≡ (if holds condition regs.old.flags then with_pc address regs.old else regs.old) }
 {
@@ -68,7 +68,7 @@ pub fn jump_if(condition: Condition, address: u16, regs: &mut Regs)
     }
 }
 
-/// Calls where a condition is met (CZ and its like).
+/// Calls if a condition is met (CZ and the like).
 pub fn call_if<B: Bus>(bus: &mut B, condition: Condition, address: u16, regs: &mut Regs)
     ensures regs { regs.new ≡ (if holds condition regs.old.flags then (called address regs.old).regs else regs.old) }
     ensures bus { B.state bus.new ≡ after_accesses B.after
@@ -80,7 +80,7 @@ pub fn call_if<B: Bus>(bus: &mut B, condition: Condition, address: u16, regs: &m
     }
 }
 
-/// Returns where a condition is met (RZ and its like).
+/// Returns if a condition is met (RZ and the like).
 pub fn return_if<B: Bus>(bus: &B, condition: Condition, regs: &mut Regs)
     ensures { regs.new ≡ (if holds condition regs.old.flags
         then returned (B.byte_at (B.state bus.now)) regs.old

@@ -46,7 +46,7 @@ impl Bus for Board {
     }
 }
 
-// A processor at 0000 with SP 0100, over a program and zeros.
+// A processor at 0000 with SP 0100, over a memory with a program followed by zeros.
 fn load(program: &[u8]) -> (Cpu, Board) {
     let mut bytes = [0; 256];
     for (place, byte) in bytes.iter_mut().zip(program) {
@@ -63,7 +63,7 @@ fn load(program: &[u8]) -> (Cpu, Board) {
     )
 }
 
-// What a processor does step by step, with the line active at level 7 or not.
+// Checks the kind of each step, with the line active at level 7 or inactive.
 fn expect(rt: &impl Abort, cpu: &mut Cpu, board: &mut Board, active: bool, kinds: &[Stepped]) {
     let line = if active { Some(7) } else { None };
     for kind in kinds {

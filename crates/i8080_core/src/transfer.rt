@@ -7,7 +7,7 @@ use crate::bus::Bus;
 use crate::operands::offset;
 use i8080_words::Regs;
 
-/// SHLD: L to an address and H to the next.
+/// SHLD: stores L at an address and H at the next.
 pub fn store_pair<B: Bus>(bus: &mut B, address: u16, regs: &Regs)
     ensures { B.state bus.new ≡ after_accesses B.after
         (writing_word address regs.now.l regs.now.h regs.now).accesses
@@ -17,7 +17,7 @@ pub fn store_pair<B: Bus>(bus: &mut B, address: u16, regs: &Regs)
     bus.write(offset(address, 1), regs.h);
 }
 
-/// LHLD: L from an address and H from the next.
+/// LHLD: loads L from an address and H from the next.
 pub fn load_pair<B: Bus>(bus: &B, address: u16, regs: &mut Regs)
     ensures { regs.new ≡ record regs.old {
       l = B.byte_at (B.state bus.now) address;
@@ -28,7 +28,7 @@ pub fn load_pair<B: Bus>(bus: &B, address: u16, regs: &mut Regs)
     regs.h = bus.read(offset(address, 1));
 }
 
-/// XTHL: L with the byte at SP, and H with the next.
+/// XTHL: exchanges L with the byte at SP, and H with the next.
 pub fn exchange_top<B: Bus>(bus: &mut B, regs: &mut Regs)
     ensures regs { regs.new ≡ record regs.old {
       l = B.byte_at (B.state bus.old) regs.old.sp;
@@ -46,7 +46,7 @@ pub fn exchange_top<B: Bus>(bus: &mut B, regs: &mut Regs)
     regs.h = high;
 }
 
-/// XCHG: H with D, and L with E.
+/// XCHG: exchanges H with D, and L with E.
 pub fn exchange(regs: &mut Regs)
     ensures { regs.new ≡ record regs.old { d = regs.old.h; e = regs.old.l; h = regs.old.d; l = regs.old.e } }
 {

@@ -73,7 +73,7 @@ flag_bits false false false true false = refl
 flag_bits false false false false true = refl
 flag_bits false false false false false = refl
 
--- the same of the masks that add up to it
+-- the same for the masks that make it up
 pub flag_masks : (s z ac p cy : Bool) (a b d e f : ℕ) → a ≡ 128 * bit s → b ≡ 64 * bit z → d ≡ 16 * bit ac → e ≡ 4 * bit p → f ≡ 1 * bit cy → bit_or (bit_or (bit_or (bit_or (bit_or a b) d) e) 2) f ≡ 128 * bit s + 64 * bit z + 16 * bit ac + 4 * bit p + 2 + bit cy
 flag_masks s z ac p cy a b d e f ea eb ed ee ef = rw (ea, eb, ed, ee, ef, one-mul) (flag_bits s z ac p cy)
 

@@ -70,28 +70,28 @@ pub fn sub8(a: u8, b: u8, borrow: bool) -> (u8, Flags)
     )
 }
 
-/// The and of two bytes (ANA).
+/// The AND of two bytes (ANA).
 pub fn and8(a: u8, b: u8) -> (u8, Flags)
     ensures { result ≡ and_of a b }
 {
     (a & b, flags_of_result(a & b, (a | b) & 0x08 != 0, false))
 }
 
-/// The or of two bytes (ORA).
+/// The OR of two bytes (ORA).
 pub fn or8(a: u8, b: u8) -> (u8, Flags)
     ensures { result ≡ or_of a b }
 {
     (a | b, flags_of_result(a | b, false, false))
 }
 
-/// The exclusive or of two bytes (XRA).
+/// The exclusive OR of two bytes (XRA).
 pub fn xor8(a: u8, b: u8) -> (u8, Flags)
     ensures { result ≡ xor_of a b }
 {
     (a ^ b, flags_of_result(a ^ b, false, false))
 }
 
-/// One more, modulo 256, with the carry as it was (INR).
+/// A byte plus 1, modulo 256; the carry is unchanged (INR).
 pub fn inr(value: u8, carry: bool) -> (u8, Flags)
     ensures { result ≡ incremented value carry }
 {
@@ -99,7 +99,7 @@ pub fn inr(value: u8, carry: bool) -> (u8, Flags)
     (sum, Flags { cy: carry, ..flags })
 }
 
-/// One less, modulo 256, with the carry as it was (DCR).
+/// A byte minus 1, modulo 256; the carry is unchanged (DCR).
 pub fn dcr(value: u8, carry: bool) -> (u8, Flags)
     ensures { result ≡ decremented value carry }
 {
@@ -107,7 +107,7 @@ pub fn dcr(value: u8, carry: bool) -> (u8, Flags)
     (sum, Flags { cy: carry, ..flags })
 }
 
-/// The accumulator as two decimal digits, by its auxiliary carry and its carry (DAA).
+/// The accumulator adjusted to two decimal digits, given its auxiliary carry and its carry (DAA).
 pub fn daa(value: u8, ac: bool, carry: bool) -> (u8, Flags)
     ensures { result ≡ adjusted value ac carry }
 {
@@ -130,7 +130,7 @@ pub fn dad(a: u16, b: u16) -> (u16, bool)
     ((sum & 0xffff) as u16, sum & 0x1_0000 != 0)
 }
 
-// The mask of a flag that is set, and 0 of one that is not.
+// The mask if the flag is set, otherwise 0.
 fn flag_mask(flag: bool, mask: u8) -> u8
     ensures { result ≡ mask * bit flag }
 {
@@ -150,7 +150,7 @@ pub fn psw(flags: Flags) -> u8
         | flag_mask(flags.cy, CARRY)
 }
 
-/// The flags that POP PSW takes of a byte; its other three bits are ignored.
+/// The flags that POP PSW takes from a byte; its other three bits are ignored.
 pub fn of_psw(byte: u8) -> Flags
     ensures { result ≡ flags_from byte }
 {
@@ -163,7 +163,7 @@ pub fn of_psw(byte: u8) -> Flags
     }
 }
 
-/// A byte turned left by one place with a bit put at its right end, and the bit that left it (RLC, RAL).
+/// A byte rotated left by one bit, with `low` shifted in as bit 0, and the bit shifted out (RLC, RAL).
 pub fn rotate_left(byte: u8, low: bool) -> (u8, bool)
     ensures { result ≡ rotated_left byte low }
 {
@@ -171,7 +171,7 @@ pub fn rotate_left(byte: u8, low: bool) -> (u8, bool)
     (shifted as u8 + low as u8, byte & 0x80 != 0)
 }
 
-/// A byte turned right by one place with a bit put at its left end, and the bit that left it (RRC, RAR).
+/// A byte rotated right by one bit, with `high` shifted in as bit 7, and the bit shifted out (RRC, RAR).
 pub fn rotate_right(byte: u8, high: bool) -> (u8, bool)
     ensures { result ≡ rotated_right byte high }
 {

@@ -5,7 +5,7 @@ ghost use Rattle.i8080_words.specs.Opcodes.{size_of, with_data as with_data_of, 
 use crate::instruction::Op;
 use crate::opcodes::opcode;
 
-// The bytes of an instruction.
+// The length of an instruction in bytes.
 fn size(op: Op) -> u8
     ensures { result ≡ size_of op }
 {
@@ -24,7 +24,7 @@ fn size(op: Op) -> u8
     }
 }
 
-// An instruction of the table with its data.
+// An instruction of the table with its data filled in.
 fn with_data(op: Op, low: u8, high: u8) -> Op
     ensures { result ≡ with_data_of op low high }
 {
@@ -47,7 +47,7 @@ fn with_data(op: Op, low: u8, high: u8) -> Op
     }
 }
 
-/// The instruction that three bytes begin with.
+/// The instruction at the start of three bytes.
 pub fn decode(bytes: [u8; 3]) -> Op
     ensures { result ≡ instruction (slice_index bytes 0) (slice_index bytes 1) (slice_index bytes 2) }
 {
@@ -55,7 +55,7 @@ pub fn decode(bytes: [u8; 3]) -> Op
     with_data(opcode(code), low, high)
 }
 
-/// The bytes of the instruction that begins with this code, from 1 to 3.
+/// The length in bytes, from 1 to 3, of the instruction that begins with this code.
 pub fn length(code: u8) -> u8
     ensures { result ≡ instruction_length code }
 {

@@ -22,7 +22,7 @@ pub enum RegisterPair {
     SP,
 }
 
-/// A register pair of PUSH and POP; `PSW` is A, the high byte, with the flag byte.
+/// A register pair for PUSH and POP; `PSW` is A as the high byte and the flag byte as the low byte.
 #[derive(Clone, Copy, Debug, PartialEq, Eq)]
 pub enum StackPair {
     BC,
@@ -31,7 +31,7 @@ pub enum StackPair {
     PSW,
 }
 
-/// A condition of a jump, a call or a return: of the flags Z, CY, P (`PO` odd, `PE` even) and S (`P` plus, `M` minus).
+/// The condition of a jump, call or return, on flag Z, CY, P (`PO` odd, `PE` even) or S (`P` plus, `M` minus).
 #[derive(Clone, Copy, Debug, PartialEq, Eq)]
 pub enum Condition {
     NZ,
@@ -44,7 +44,7 @@ pub enum Condition {
     M,
 }
 
-/// An operation of the accumulator with a byte; `Cmp` changes the flags alone.
+/// An operation on the accumulator and a byte; `Cmp` changes only the flags.
 #[derive(Clone, Copy, Debug, PartialEq, Eq)]
 pub enum AluOperation {
     Add,
@@ -57,8 +57,8 @@ pub enum AluOperation {
     Cmp,
 }
 
-/// An operation on the accumulator and the carry alone: a rotation by itself or through the carry, the decimal
-/// adjustment, the complement of the accumulator, and the carry set or complemented.
+/// An operation on the accumulator and the carry alone: a rotation, through the carry or not, the decimal adjustment,
+/// the complement of the accumulator, and setting or complementing the carry.
 #[derive(Clone, Copy, Debug, PartialEq, Eq)]
 pub enum AccumulatorOperation {
     Rlc,
@@ -71,7 +71,7 @@ pub enum AccumulatorOperation {
     Cmc,
 }
 
-/// An instruction by its mnemonic. A `u16` is an address or two bytes of data, a `u8` a byte of data or a port; the
+/// An instruction, by its mnemonic. A `u16` is an address or two bytes of data, a `u8` is a byte of data or a port; the
 /// number of `Rst` is from 0 to 7.
 #[derive(Clone, Copy, Debug, PartialEq, Eq)]
 pub enum Op {
@@ -89,9 +89,9 @@ pub enum Op {
     Shld(u16),
     Lhld(u16),
     Xchg,
-    /// ADD to CMP of a register.
+    /// ADD to CMP with a register.
     Arithmetic(AluOperation, Register),
-    /// ADI to CPI of a byte of data.
+    /// ADI to CPI with a byte of data.
     Immediate(AluOperation, u8),
     Inr(Register),
     Dcr(Register),

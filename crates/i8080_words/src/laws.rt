@@ -4,13 +4,13 @@ ghost use Rattle.i8080_words.specs.declared.registers.Processor.{Processor};
 ghost use Rattle.i8080_words.specs.declared.registers.Stepped.TheVariants as stepped;
 ghost use Rattle.i8080_words.specs.Steps.{step, idles};
 
-/// No step makes more than two accesses to memory and ports, the reads of memory apart.
+/// No step makes more than two accesses to memory and ports, not counting reads of memory.
 pub fn few_accesses()
     ensures { (p : Processor) (memory : ℕ → ℕ) (ports : ℕ → ℕ) (line : Option ℕ)
         → length (step p memory ports line).accesses ≤ 2 }
 {}
 
-/// A step does nothing exactly where the processor is halted and hears no line.
+/// A step does nothing exactly when the processor is halted and hears no line.
 pub fn idles_where_halted()
     ensures { (p : Processor) (memory : ℕ → ℕ) (ports : ℕ → ℕ) (line : Option ℕ)
         → IsTrue (idles p line) ↔ ((step p memory ports line).kind ≡ stepped.Idle) }

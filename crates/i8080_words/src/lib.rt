@@ -1,4 +1,4 @@
-//! The words of the Intel 8080: its registers, its arithmetic, its instructions, and the refusals of every crate.
+//! The vocabulary of the Intel 8080: its registers, its arithmetic, its instructions, and the refusals of every crate.
 #![tactic(auto)]
 
 mod arithmetic;

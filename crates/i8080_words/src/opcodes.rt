@@ -6,12 +6,12 @@ use crate::instruction::{
     AccumulatorOperation, AluOperation, Condition, Op, Register, RegisterPair, StackPair,
 };
 
-// These stand where the data of an instruction will.
+// Placeholders for an instruction's data.
 const BYTE: u8 = 0;
 
 const WORD: u16 = 0;
 
-// By rising code. The codes 08 to 38 of column 0 are NOP too, CB is JMP, D9 is RET, and DD, ED and FD are CALL.
+// In order of code. Codes 08, 10, 18, 20, 28, 30 and 38 are NOP too, CB is JMP, D9 is RET, and DD, ED and FD are CALL.
 #[rattlefmt::skip]
 static OPCODES: [Op; 256] = [
     // 00 to 07
@@ -148,7 +148,7 @@ static OPCODES: [Op; 256] = [
     Op::CallIf(Condition::M, WORD), Op::Call(WORD), Op::Immediate(AluOperation::Cmp, BYTE), Op::Rst(7),
 ];
 
-/// The instruction of a code, with 0 in the place of its data: the byte or the two bytes behind the code.
+/// The instruction of a code, with 0 in place of its data, the one or two bytes after the code.
 pub fn opcode(code: u8) -> Op
     ensures { result ≡ opcode_of code }
 {

@@ -1,4 +1,4 @@
-//! Why a call is refused, and the number under which a user sees it.
+//! Why a call is refused, and the number by which a user sees it.
 ghost use Rattle.std.specs.Prelude.{◌≡◌};
 ghost use Rattle.i8080_words.specs.Refusals.{number_of};
 ghost use Rattle.i8080_words.specs.declared.refusal.Fault.TheVariants.{OutOfMemory};
@@ -6,38 +6,38 @@ ghost use Rattle.i8080_words.specs.declared.refusal.Fault.TheVariants.{OutOfMemo
 use std::alloc::{AllocError, AllocFailed};
 use thiserror::Error;
 
-/// Why a call of any crate of the pair is refused. A refused call leaves every value as it was, except where `Lost` and
-/// `DeviceFault` say otherwise.
+/// Why a call to any crate of the pair is refused. A refused call leaves every value unchanged, except as `Lost` and
+/// `DeviceFault` say.
 #[derive(Clone, Copy, Debug, PartialEq, Eq, Error)]
 pub enum Fault {
     /// The allocator refused memory that the call needed.
     #[error("out of memory")]
     OutOfMemory,
-    /// An instruction count, a log index or a number of an operation stands at its greatest value.
+    /// An instruction count, a log index or an operation number is at its greatest value.
     #[error("the range of numbers is spent")]
     Spent,
-    /// As many log entries as the log holds are not acknowledged yet.
+    /// The log already holds as many unacknowledged entries as it can.
     #[error("the log is full")]
     LogFull,
     /// No device waits for this input, or no such operation is outstanding.
     #[error("not due")]
     NotDue,
-    /// The number is not the one that comes next.
+    /// The number is not the next one.
     #[error("wrong number")]
     WrongNumber,
-    /// The sector that was read is not the one that the guest wrote last.
+    /// The sector that was read is not what the guest last wrote.
     #[error("stale read")]
     StaleRead,
     /// A write of this sector is outstanding.
     #[error("the sector is busy")]
     SectorBusy,
-    /// A node in this role takes no such call.
+    /// A node in this role does not take this call.
     #[error("wrong role")]
     WrongRole,
-    /// The message is of another generation.
+    /// The message belongs to another generation.
     #[error("wrong generation")]
     WrongGeneration,
-    /// The bytes, or the fields of an image, spell nothing that can be.
+    /// The bytes, or the fields of an image, do not encode a valid value.
     #[error("malformed")]
     Malformed,
     /// Parts of the copied machine are missing.
@@ -46,7 +46,7 @@ pub enum Fault {
     /// The backup has not acknowledged the log entry of this operation.
     #[error("not covered")]
     NotCovered,
-    /// The disk failed to read or to write. The disk's records are as they were; its own counts are not.
+    /// The disk failed to read or write. The disk's records are unchanged; its own counts are not.
     #[error("device fault")]
     DeviceFault,
     /// The other node of the generation won the test-and-set. The node that asked is halted.
@@ -55,16 +55,16 @@ pub enum Fault {
     /// There is no such node, port, sector, entry or message.
     #[error("unknown")]
     Unknown,
-    /// The acknowledgement is of more entries than the log has.
+    /// The acknowledgement covers more entries than the log has.
     #[error("bad acknowledgement")]
     BadAck,
-    /// The threads of a generation ended before the guest's work did.
+    /// The generation's threads ended before the guest's work did.
     #[error("stalled")]
     Stalled,
     /// The guest is halted and no device asks for an interrupt.
     #[error("idle")]
     Idle,
-    /// The script is not one, for the first time at this line; lines count from 1.
+    /// The script is not valid; this is its first bad line, counted from 1.
     #[error("bad script at line {0}")]
     BadScript(u64),
 }
@@ -73,7 +73,7 @@ pub enum Fault {
 pub type R<T> = Result<T, Fault>;
 
 impl Fault {
-    /// The number under which a script's output names the refusal, from 1 to 19.
+    /// The number, from 1 to 19, by which a script's output names the refusal.
     pub fn number(self) -> u8
         ensures { result ≡ number_of self }
     {

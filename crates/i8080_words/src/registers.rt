@@ -4,8 +4,8 @@ ghost use Rattle.std.specs.Prelude.{◌≡◌, ℕ, ◌<◌, ◌^◌};
 use crate::arithmetic::Flags;
 use std::marker::Model;
 
-/// A register of 16 bits that holds an address. It is kept in 32: hosts pass a store of 32 bits on to the next load at
-/// once and one of 16 bits only after several cycles, and PC is stored and loaded at every step.
+/// A 16-bit register that holds an address. It is kept in 32 bits: hosts forward a 32-bit store to the next load at
+/// once, but a 16-bit store only after several cycles, and PC is stored and loaded at every step.
 #[derive(Clone, Copy, Debug, PartialEq, Eq, Default)]
 pub struct AddressRegister {
     address: u32,
@@ -66,7 +66,7 @@ pub enum Interrupts {
     On,
 }
 
-/// The whole state of the processor; `halted` is set by HLT and ends with an accepted interrupt.
+/// The whole state of the processor; HLT sets `halted`, and an accepted interrupt clears it.
 #[derive(Clone, Copy, Debug, PartialEq, Eq)]
 pub struct Processor {
     pub regs: Regs,
@@ -79,7 +79,7 @@ pub struct Processor {
 pub enum Stepped {
     /// It executed one instruction.
     Ran,
-    /// It accepted an interrupt: PC was pushed, and stands at the restart address.
+    /// It accepted an interrupt: PC was pushed, and is now the restart address.
     Accepted,
     /// It found the processor halted, with no interrupt to accept, and did nothing.
     Idle,

@@ -1,4 +1,4 @@
-//! Worked examples of the manual, every decimal adjustment, and every code by the manual's bit patterns.
+//! Worked examples from the manual, every decimal adjustment, and every code by the manual's bit patterns.
 mod adjustments;
 mod examples;
 mod patterns;

@@ -1,4 +1,4 @@
--- What the fields of a `LogBuffer` mean, and how every one stands.
+-- What the fields of a `LogBuffer` mean, and what holds of every one.
 use Rattle.std.specs.Prelude.{◌≡◌}
 use Rattle.log_buffer.specs.Log.{Log, log, IsWithinLimits}
 use Rattle.log_buffer.specs.declared.buffer.TheConstants.{CAPACITY}

@@ -5,7 +5,7 @@ use Rattle.i8080_words.specs.declared.refusal.Fault.TheVariants.{LogFull, Spent}
 use Rattle.log_entry.specs.declared.entry.Entry.{Entry}
 use Rattle.log_buffer.specs.declared.buffer.TheConstants.{CAPACITY, GREATEST_NEXT}
 
--- entries that follow one another, the first of them at this index
+-- consecutive entries, the first of them at this index
 pub record Log : Type 0 where
   pub first : ℕ
   pub entries : List Entry
@@ -17,11 +17,11 @@ log first entries = record { first = first; entries = entries }
 abbrev pub next_of : Log → ℕ
 next_of l = l.first + length l.entries
 
--- the entry of an index, where it is kept
+-- the entry of an index, if it is kept
 abbrev pub kept_at : Log → ℕ → Option Entry
 kept_at l index = if nat_lt index l.first then None else slice_get l.entries (index - l.first)
 
--- how every log stands
+-- what holds of every log
 pub record IsWithinLimits (l : Log) : Type 0 where
   pub few : length l.entries ≤ CAPACITY
   pub next : next_of l ≤ GREATEST_NEXT
@@ -45,7 +45,7 @@ room_answer l = answered (refusal_of l) tt
 abbrev pub push_answer : Log → Result ℕ Fault
 push_answer l = answered (refusal_of l) (next_of l)
 
--- with an entry behind the others
+-- with an entry after the others
 abbrev pub pushed : Log → Entry → Log
 pushed l entry = log l.first (l.entries ++ entry ∷ [])
 

@@ -1,4 +1,4 @@
-//! A ring of entries whose indexes follow one another.
+//! A ring of entries with consecutive indexes.
 ghost use Rattle.std.specs.Prelude.{◌≡◌, ◌≤◌, [], length, IfOk, IfErr, option_copied};
 ghost use Rattle.i8080_words.specs.declared.refusal.Fault.TheVariants.{OutOfMemory};
 ghost use Rattle.log_buffer.specs.Log as table;
@@ -9,13 +9,13 @@ use log_entry::Entry;
 use std::alloc::Global;
 use std::marker::Model;
 
-/// How many entries are kept at most.
+/// The most entries that are kept.
 pub const CAPACITY: usize = 256;
 
 /// The greatest number that `next` reaches. No entry has it as its index.
 pub const GREATEST_NEXT: u64 = 0x3fff_ffff_ffff_ffff;
 
-/// The entries that are not acknowledged yet, in the order of their indexes, in a ring of `CAPACITY` places.
+/// The entries that are not acknowledged yet, in order of index, in a ring of `CAPACITY` places.
 #[derive(Drop)]
 pub struct LogBuffer {
     first: u64,
@@ -35,7 +35,7 @@ impl Model for LogBuffer {
 }
 
 impl LogBuffer {
-    /// An empty log whose first entry will have this index. It takes all the memory that the log will ever need.
+    /// An empty log whose first entry will have this index. Allocates all the memory that the log will ever need.
     pub fn new(alloc: Global, first: u64) -> R<LogBuffer>
         requires { first ≤ GREATEST_NEXT }
         ensures ok { IfOk result (λ log. log ≡ table.log first []) }
@@ -45,7 +45,7 @@ impl LogBuffer {
         Ok(LogBuffer { first, entries })
     }
 
-    /// The index of the first entry that is kept, or `next` where none is.
+    /// The index of the first entry that is kept, or `next` if none is.
     pub fn first(&self) -> u64
         ensures { result ≡ self.now.first }
     {
@@ -66,15 +66,15 @@ impl LogBuffer {
         self.entries.len()
     }
 
-    /// Whatever a log has been through, it keeps within its limits.
+    /// Whatever a log has been through, it is within its limits.
     pub fn stands(&self)
         ensures { table.IsWithinLimits self.now }
     {
         let _ = &self.first;
     }
 
-    /// Whether `push` would append an entry: `LogFull` where `CAPACITY` entries are kept, and else `Spent` where `next`
-    /// stands at `GREATEST_NEXT`.
+    /// Whether `push` would append an entry: `LogFull` if `CAPACITY` entries are kept, otherwise `Spent` if `next` is
+    /// at `GREATEST_NEXT`.
     pub fn room(&self) -> R<()>
         ensures { result ≡ table.room_answer self.now }
     {
@@ -87,7 +87,8 @@ impl LogBuffer {
         Ok(())
     }
 
-    /// Appends an entry, and gives the index that it has from then on. It takes no memory, and is refused as `room` is.
+    /// Appends an entry, and returns the index that it has from then on. Allocates no memory, and is refused as `room`
+    /// is.
     pub fn push(&mut self, entry: Entry) -> R<u64>
         ensures answer { result ≡ table.push_answer self.old }
         ensures after { self.new ≡ table.after_push self.old entry }
@@ -100,7 +101,7 @@ impl LogBuffer {
         }
     }
 
-    /// The entry of this index, where it is kept.
+    /// The entry of this index, if it is kept.
     pub fn get(&self, index: u64) -> Option<&Entry>
         ensures { option_copied result ≡ table.kept_at self.now index }
     {
@@ -110,7 +111,7 @@ impl LogBuffer {
         self.entries.get((index - self.first) as usize)
     }
 
-    /// The entries below this index are kept no longer.
+    /// Drops the entries below this index.
     pub fn drop_to(&mut self, index: u64)
         requires { index ≤ table.next_of self.old }
         ensures { self.new ≡ table.dropped_to self.old index }

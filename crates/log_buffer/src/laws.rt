@@ -3,7 +3,7 @@ ghost use Rattle.log_buffer.specs.Log.{Log};
 ghost use Rattle.log_buffer.specs.Laws.{KeepsIndexes};
 ghost use Rattle.log_buffer.specs.Limits.{Limits};
 
-/// An entry stands at the index that its push gave, whatever is pushed after it, until it is dropped.
+/// An entry is at the index that its push returned, whatever is pushed after it, until it is dropped.
 pub fn entries_keep_their_indexes()
     ensures { (log : Log) → KeepsIndexes log }
 {}

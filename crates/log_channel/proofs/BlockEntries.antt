@@ -1,5 +1,5 @@
--- The entries of a block are those whose spellings it is: the tag of the first says where its spelling ends, what is
--- cut there is read as that entry, and so on with the rest, which is shorter by a byte at least.
+-- The entries of a block are those that it spells: the tag of the first says where its spelling ends, what is cut there
+-- is read as that entry, and so on with the rest, which is at least one byte shorter.
 use Rattle.std.proofs.Common.{◌≡◌, ℕ, zero, suc, ◌≤◌, false, ltb, List, [], ◌∷◌, ◌++◌, length, Some, refl, ap, arith}
 use Rattle.std.specs.List.{flat_map, AllByRecursion}
 use Rattle.std.proofs.lemmas.Bool.{le-ltb}
@@ -35,7 +35,7 @@ first_again (Written count number) rest fits = cut_again (Written count number) 
 
 -- ---- all entries
 
--- a spelling has a byte at least, so a block has as many bytes as entries
+-- a spelling has at least one byte, so a block has as many bytes as entries
 spelling_has_bytes : (e : Entry) → 1 ≤ length (spelling e)
 spelling_has_bytes (Mark count) = omega arith
 spelling_has_bytes (Rx count port byte) = omega arith

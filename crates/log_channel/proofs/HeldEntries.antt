@@ -1,5 +1,5 @@
--- What is held after each change. A first entry and the spellings of those behind it hold all of them; so a spelling at
--- the end of the block holds one more, and the block's first entry taken for the front holds one less.
+-- What is held after each change. A first entry and the spellings of those after it hold all of them; so a spelling
+-- appended to the block holds one more, and the block's first entry moved to the front holds one fewer.
 use Rattle.std.proofs.Common.{◌≡◌, ℕ, List, [], ◌∷◌, ◌++◌, drop, Option, Some, None, Result, Ok, Err, refl, sym, ap, subst, ◌∙◌}
 use Rattle.std.specs.Prelude.{OnOk, OnErr, IfSome}
 use Rattle.std.specs.List.{flat_map, AllByRecursion, slice_get}
@@ -11,7 +11,7 @@ use Rattle.log_entry.specs.Spelling.{spelling, IsEntry}
 use Rattle.log_channel.specs.Block.{first_of, entries_of, held_in, IsBlock, TakesFirst}
 use Rattle.log_channel.proofs.BlockEntries.{first_again, entries_of_spelled}
 
--- the block stands as it must, and these entries are held
+-- the block is well-formed, and these entries are held
 abbrev pub Holds : Option Entry → List ℕ → List Entry → Type 0
 Holds front block es = IsBlock front block × (held_in front block ≡ es)
 
@@ -55,14 +55,14 @@ pub first_valid : (front : Option Entry) (block : List ℕ) → IsBlock front bl
     → IfSome (slice_get (held_in front block) 0) IsEntry
 first_valid front block b = rw (first_held front block b) b.front_valid
 
--- where there is no first, none is held
+-- if there is no first, none is held
 pub no_first : (es : List Entry) → slice_get es 0 ≡ None → es ≡ []
 no_first [] h = refl
 no_first (e ∷ es) h = absurd cc
 
 -- ---- one more
 
--- where nothing is held, it is the first
+-- if nothing is held, it is the first
 pub held_first : (front : Option Entry) (block : List ℕ) (e : Entry) → front ≡ None → IsBlock front block
     → held_in (Some e) block ≡ held_in front block ++ e ∷ []
 held_first None block e is b =
@@ -75,7 +75,7 @@ valid_push : (es : List Entry) (e : Entry) → AllByRecursion IsEntry es → IsE
 valid_push [] e valid fits = (fits, tt)
 valid_push (x ∷ es) e valid fits = (valid.0, valid_push es e valid.1 fits)
 
--- otherwise its spelling stands at the end of the block
+-- otherwise its spelling is at the end of the block
 pushed : (f e : Entry) (block : List ℕ) → IsBlock (Some f) block → IsEntry e
     → Holds (Some f) (block ++ spelling e) (held_in (Some f) block ++ e ∷ [])
 pushed f e block b fits =

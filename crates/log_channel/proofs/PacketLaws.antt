@@ -1,5 +1,5 @@
--- What is written is read again, and what is read was written so. The tag and the generation stand in front of both
--- kinds; behind them the index and its entry, or the number held. So no two packets share a spelling.
+-- What is written is read back, and what is read was written so. The tag and the generation come first in both kinds;
+-- after them the index and its entry, or the number held. So no two packets share a spelling.
 use Rattle.std.proofs.Common.{◌≡◌, ℕ, ◌-◌, ◌^◌, ◌<◌, ◌≤◌, true, false, cond, eqb, ltb, List, [], ◌∷◌, ◌++◌, length, take, drop, Bool, Option, Some, None, refl, sym, ap, subst, ◌∙◌, arith, inl, inr, ◌⊎◌}
 use Rattle.std.specs.Prelude.{IfOk}
 use Rattle.std.specs.Option.{ok_or}
@@ -21,7 +21,7 @@ use Rattle.log_channel.specs.declared.packet.Packet.TheVariants.{Log, Ack}
 use Rattle.log_channel.specs.Laws.{ReadsAgain, OneSpelling, OneMeaning}
 use Rattle.log_channel.specs.Packet.{packet_bytes, IsPacket, nonzero, generation_from, log_at, ack_at, packet_at}
 
--- a number that was read, and the bytes behind it
+-- a number that was read, and the bytes after it
 abbrev Read : Type 0
 Read = ℕ × List ℕ
 
@@ -85,9 +85,9 @@ generation_again generation rest above below =
     let not_zero : eqb generation 0 ≡ false = ne_eqb generation 0 (λ z. omega (arith, above)) in
     rw (long, again, not_zero) refl
 
--- ---- what is written is read again
+-- ---- what is written is read back
 
--- the generation stands behind every tag
+-- the generation follows every tag
 behind_tag : (tag generation : ℕ) (rest : List ℕ) → 0 < generation → generation < 2 ^ 32
     → packet_at (tag ∷ big_bytes 4 generation ++ rest) ≡ kind_behind tag (generation, rest)
 unfolding packet_at
@@ -116,12 +116,12 @@ packet_again (Ack generation held) fits =
 
 -- ---- what is read was written so
 
--- the packet has these bytes behind its tag and its generation
+-- the packet has these bytes after its tag and its generation
 abbrev HasBytes : ℕ → ℕ → List ℕ → Packet → Type 0
 HasBytes tag generation bytes p =
     (0 < generation → generation < 2 ^ 32 → IsPacket p) × (tag ∷ big_bytes 4 generation ++ bytes ≡ packet_bytes p)
 
--- the same bytes behind the same tag and generation
+-- the same bytes after the same tag and generation
 same_bytes : (tag generation : ℕ) (bytes others : List ℕ) → bytes ≡ others
     → tag ∷ big_bytes 4 generation ++ bytes ≡ tag ∷ big_bytes 4 generation ++ others
 same_bytes tag generation bytes others same = ap (λ (bs : List ℕ). tag ∷ big_bytes 4 generation ++ bs) same

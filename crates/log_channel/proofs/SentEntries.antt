@@ -1,5 +1,5 @@
--- What the backup has held is the first part of the log. Only the entry at the index that comes next is held, and the
--- log has that entry there; a log that grows keeps its first part, and what is popped only moves to the other list.
+-- What the backup has held is the first part of the log. Only the entry at the next index is held, and the log has that
+-- entry there; a log that grows keeps its first part, and what is popped only moves to the other list.
 use Rattle.std.proofs.Common.{◌≡◌, ℕ, ◌+◌, ◌<◌, Bool, true, false, cond, eqb, List, [], ◌∷◌, ◌++◌, length, take, drop, get_or, Option, Some, None, Result, Ok, Err, refl, sym, ap, subst, ◌∙◌, arith, append_assoc}
 use Rattle.std.specs.List.{slice_get}
 use Rattle.std.specs.Prelude.{not}
@@ -14,12 +14,12 @@ use Rattle.log_channel.specs.declared.packet.Packet.TheVariants.{Log, Ack}
 use Rattle.log_channel.specs.Channel.{Receiving, Heard, Refused, OutOfTurn, Next, Answers, heard, holding}
 use Rattle.log_channel.specs.Laws.{HoldsFirst, IsSent, KeepsHolding}
 
--- where nothing changed
+-- if nothing changed
 unchanged : (es popped : List Entry) (old new : Receiving) → HoldsFirst es popped old → new ≡ old
     → HoldsFirst es popped new
 unchanged es popped old new holds same = subst (HoldsFirst es popped) (sym same) holds
 
--- where the log's next entry is held
+-- if the log's next entry is held
 one_more : (es popped : List Entry) (e : Entry) (r : Receiving) → HoldsFirst es popped r
     → slice_get es r.held ≡ Some e → HoldsFirst es popped (holding r e)
 one_more es popped e r holds sent =
@@ -33,7 +33,7 @@ one_more es popped e r holds sent =
       within = omega arith;
     }
 
--- by whether the packet is of this generation and whether its index comes next
+-- by whether the packet is of this generation and whether its index is the next
 abbrev by_tests : Bool → Bool → Entry → Heard
 by_tests of_generation in_turn e =
     cond (not of_generation) (Refused WrongGeneration) (cond (not in_turn) OutOfTurn (Next e))

@@ -1,4 +1,4 @@
--- The two ends of a log's channel: what each knows, and what it answers.
+-- The two ends of a log's channel: what each knows, and what it returns.
 use Rattle.std.specs.Prelude.{◌≡◌, ◌≢◌, ℕ, ◌+◌, List, [], ◌∷◌, ◌++◌, max, Bool, true, false, not, Option, Some, None, Result, Ok, Err, MatchResult, nat_lt, ◌==◌, if◌then◌else◌}
 use Rattle.std.specs.Global.{Vec}
 use Rattle.i8080_words.specs.declared.refusal.Fault.{Fault}
@@ -8,12 +8,12 @@ use Rattle.log_channel.specs.declared.packet.Packet.{Packet}
 use Rattle.log_channel.specs.declared.packet.Packet.TheVariants.{Log, Ack}
 use Rattle.log_channel.specs.Packet.{packet_bytes}
 
--- the primary's end: its generation, and how many entries the backup has said at most that it holds
+-- the primary's end: its generation, and the most entries that the backup has said it holds
 pub record Sending : Type 0 where
   pub generation : ℕ
   pub held : ℕ
 
--- the backup's end: how many entries it has ever held, and those of them that were not popped yet
+-- the backup's end: how many entries it has ever held, and those of them that are not popped yet
 pub record Receiving : Type 0 where
   pub generation : ℕ
   pub held : ℕ
@@ -21,7 +21,7 @@ pub record Receiving : Type 0 where
 
 -- ---- packets that are made
 
--- the bytes of the packet, where there is one
+-- the bytes of the packet, if there is one
 abbrev pub Spells : Option Packet → Result (Vec ℕ) Fault → Type 0
 Spells None result = result ≡ Err Unknown
 Spells (Some packet) result =
@@ -36,9 +36,9 @@ packet_of generation index (Some entry) = Some (Log generation index entry)
 abbrev pub ack_of : Receiving → Packet
 ack_of r = Ack r.generation r.held
 
--- ---- packets that come to the primary
+-- ---- packets that arrive at the primary
 
--- an acknowledgement of at most so many entries as the log has is answered by the greatest number so far
+-- an acknowledgement of no more entries than the log has returns the greatest number so far
 abbrev pub ack_answer : Sending → ℕ → Option Packet → Result ℕ Fault
 ack_answer s next None = Err Malformed
 ack_answer s next (Some (Log generation index entry)) = Err Malformed
@@ -52,9 +52,9 @@ abbrev pub acknowledged : Sending → Result ℕ Fault → Sending
 acknowledged s (Ok held) = record s { held = held }
 acknowledged s (Err fault) = s
 
--- ---- packets that come to the backup
+-- ---- packets that arrive at the backup
 
--- what a packet is to the backup: refused, a repeat or one past a gap, or the entry that comes next
+-- what a packet is to the backup: refused, a repeat or one past a gap, or the next entry
 pub data Heard : Type 0 where
   Refused : (fault : Fault) → Heard
   OutOfTurn : Heard
@@ -68,11 +68,11 @@ heard r (Some (Log generation index entry)) =
     else if not (index == r.held) then OutOfTurn
     else Next entry
 
--- one more entry is held, behind the others
+-- one more entry is held, after the others
 abbrev pub holding : Receiving → Entry → Receiving
 holding r entry = record r { held = r.held + 1; entries = r.entries ++ entry ∷ [] }
 
--- only the entry that comes next changes anything; it may want memory where others are held before it
+-- only the next entry changes anything; it may run out of memory if others are held before it
 abbrev pub Answers : Heard → Receiving → Result Bool Fault → Receiving → Type 0
 Answers (Refused fault) old result new = (result ≡ Err fault) × (new ≡ old)
 Answers OutOfTurn old result new = (result ≡ Ok false) × (new ≡ old)

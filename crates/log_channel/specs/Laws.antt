@@ -1,4 +1,4 @@
--- What whoever joins the two ends may count on.
+-- What code that joins the two ends may rely on.
 use Rattle.std.specs.Prelude.{◌≡◌, ℕ, ◌≤◌, Bool, List, [], ◌∷◌, ◌++◌, length, take, drop, slice_get, Option, Some, None, Result}
 use Rattle.i8080_words.specs.declared.refusal.Fault.{Fault}
 use Rattle.log_entry.specs.declared.entry.Entry.{Entry}
@@ -10,7 +10,7 @@ use Rattle.log_channel.specs.Packet.{packet_bytes, IsPacket, packet_at}
 
 -- ---- the grammar
 
--- what is written is read again
+-- what is written is read back
 abbrev pub ReadsAgain : Type 0
 ReadsAgain = (p : Packet) → IsPacket p → packet_at (packet_bytes p) ≡ Some p
 
@@ -36,7 +36,7 @@ pub record HoldsFirst (es popped : List Entry) (r : Receiving) : Type 0 where
   pub prefix : popped ++ r.entries ≡ take r.held es
   pub within : r.held ≤ length es
 
--- so it stays while the log grows, packets of the log come in any order, and entries are popped
+-- that stays so while the log grows, packets of the log arrive in any order, and entries are popped
 pub record KeepsHolding : Type 0 where
   pub begins : (es : List Entry) (generation : ℕ)
       → HoldsFirst es [] (record { generation = generation; held = 0; entries = [] })

@@ -21,7 +21,7 @@ IsPacket (Ack generation held) = (0 < generation) × (generation < 2 ^ 32) × (h
 
 -- ---- reading, from left to right
 
--- a generation and the bytes behind it; none is 0
+-- a generation and the bytes after it; no generation is 0
 abbrev pub nonzero : ℕ → List ℕ → Option (ℕ × List ℕ)
 nonzero generation rest = if generation == 0 then None else Some (generation, rest)
 
@@ -29,7 +29,7 @@ unfoldable pub generation_from : List ℕ → Option (ℕ × List ℕ)
 generation_from bytes =
     if nat_lt (length bytes) 4 then None else nonzero (from_be_bytes w32 (take 4 bytes)) (drop 4 bytes)
 
--- each kind by what stands behind its tag and its generation; the greatest number is no index
+-- each kind by what follows its tag and its generation; the greatest number is no index
 unfoldable pub log_at : ℕ → List ℕ → Option Packet
 log_at generation bytes = number_from bytes >>= λ index.
     if index.0 == 2 ^ 62 - 1 then None else entry_at index.1 >>= λ entry. Some (Log generation index.0 entry)
@@ -38,7 +38,7 @@ unfoldable pub ack_at : ℕ → List ℕ → Option Packet
 ack_at generation bytes = number_from bytes >>= λ held.
     if length held.1 == 0 then Some (Ack generation held.0) else None
 
--- the packet that bytes spell, all of the bytes
+-- the packet that the bytes spell, using all of them
 unfoldable pub packet_at : List ℕ → Option Packet
 packet_at [] = None
 packet_at (tag ∷ bytes) = generation_from bytes >>= λ generation.

@@ -1,4 +1,4 @@
--- What the fields of a `Receiver` mean, and how every one stands.
+-- What the fields of a `Receiver` mean, and what holds of every one.
 use Rattle.std.specs.Prelude.{◌^◌, ◌<◌}
 use Rattle.log_channel.specs.Block.{held_in, IsBlock}
 use Rattle.log_channel.specs.Channel.{Receiving}

@@ -1,4 +1,4 @@
-//! Bytes that come at the back and go at the front.
+//! Bytes that are added at the back and removed at the front.
 ghost use Rattle.std.specs.Prelude.{◌≡◌, ◌≤◌, ◌++◌, [], length, drop, OnOk, OnErr, IfErr};
 ghost use Rattle.i8080_words.specs.declared.refusal.Fault.TheVariants.{OutOfMemory};
 ghost use Rattle.log_entry.specs.Spelling.{spelling};
@@ -8,8 +8,8 @@ use log_entry::Entry;
 use std::alloc::Global;
 use std::marker::Model;
 
-/// The spellings of entries one after another. What is taken from the front only moves a mark; the bytes before it are
-/// removed once they are the greater part, so that each byte is moved about once.
+/// The spellings of entries one after another. Taking from the front only moves a mark; the bytes before it are removed
+/// once they are the greater part, so that each byte is moved about once.
 #[derive(Drop)]
 pub(crate) struct Block {
     bytes: Vec<u8>,
@@ -45,7 +45,7 @@ impl Block {
         &self.bytes[self.start..]
     }
 
-    /// Puts the spelling of an entry behind the bytes.
+    /// Appends the spelling of an entry.
     #[tactic(auto, using(crate::proofs::Dropped::drop_longer))]
     pub(crate) fn write(&mut self, entry: &Entry) -> R<()>
         ensures ok { OnOk result (self.new ≡ self.old ++ spelling entry.now) }
@@ -55,7 +55,7 @@ impl Block {
         entry.write(&mut self.bytes)
     }
 
-    /// Takes bytes from the front. It takes no memory.
+    /// Takes bytes from the front. Allocates no memory.
     #[tactic(auto, using(crate::proofs::Dropped::drop_twice))]
     pub(crate) fn remove_front(&mut self, count: usize)
         requires { count ≤ length self.old }

@@ -1,4 +1,4 @@
-//! Entries that are held: the first of them, and those behind it one after another in a block of bytes.
+//! Entries that are held: the first of them, and those after it one after another in a block of bytes.
 ghost use Rattle.std.specs.Prelude.{◌≡◌, ◌≢◌, ◌++◌, ◌∷◌, [], drop, slice_get, OnOk, OnErr, IfErr, IfSome};
 ghost use Rattle.i8080_words.specs.declared.refusal.Fault.TheVariants.{OutOfMemory};
 ghost use Rattle.log_entry.specs.Spelling.{IsEntry};
@@ -8,7 +8,7 @@ use crate::block::Block;
 use i8080_words::R;
 use log_entry::{Entry, size};
 
-/// Puts an entry behind those that are held. The first one takes no memory.
+/// Puts an entry after those that are held. The first one needs no memory.
 pub(crate) fn hold(front: &mut Option<Entry>, block: &mut Block, entry: Entry) -> R<()>
     requires block { IsBlock front.old block.old }
     requires valid { IsEntry entry }
@@ -27,7 +27,7 @@ pub(crate) fn hold(front: &mut Option<Entry>, block: &mut Block, entry: Entry) -
     }
 }
 
-/// Takes the first entry that is held. It takes no memory.
+/// Takes the first entry that is held. Allocates no memory.
 pub(crate) fn unhold(front: &mut Option<Entry>, block: &mut Block) -> Option<Entry>
     requires { IsBlock front.old block.old }
     ensures entry { result ≡ slice_get (held_in front.old block.old) 0 }

@@ -2,7 +2,7 @@
 
 ghost use Rattle.log_channel.specs.Laws.{KeepsHolding, OneMeaning, OneSpelling, ReadsAgain};
 
-/// What is written is read again, nothing else is read as it, and no two packets are written alike.
+/// What is written is read back, nothing else is read as it, and no two packets are written alike.
 pub fn packets_spell_one_way()
     ensures again { ReadsAgain }
     ensures one_spelling { OneSpelling }

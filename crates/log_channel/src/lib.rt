@@ -1,4 +1,4 @@
-//! How the log reaches the backup: its packets, the end that sends them and the end that holds what came.
+//! How the log reaches the backup: its packets, the end that sends them and the end that holds what arrived.
 #![tactic(auto)]
 
 mod block;

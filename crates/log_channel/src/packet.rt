@@ -23,7 +23,7 @@ pub enum Packet {
         index: u64,
         entry: Entry,
     },
-    /// How many entries the backup has held, from the first one on.
+    /// How many entries the backup has held, counted from the first one.
     Ack {
         generation: u32,
         held: u64,
@@ -33,7 +33,7 @@ pub enum Packet {
 impl Packet {
     ghost use Rattle.log_channel.specs.Packet.{IsPacket, packet_at, packet_bytes};
 
-    /// Appends the packet's spelling. Where the bytes fit, no memory is taken, and otherwise it is taken once.
+    /// Appends the packet's spelling. Allocates no memory if the bytes fit, and otherwise only once.
     pub fn write(&self, out: &mut Vec<u8>) -> R<()>
         ensures ok { OnOk result (out.new.items ≡ out.old.items ++ packet_bytes self.now) }
         ensures err { OnErr result (out.new.items ≡ out.old.items) }
@@ -59,7 +59,7 @@ impl Packet {
         }
     }
 
-    /// The packet that the bytes spell. They are malformed where they spell none, and where bytes stand behind one.
+    /// The packet that the bytes spell. `Malformed` if they spell none, or if bytes follow one.
     pub fn read(bytes: &[u8]) -> R<Packet>
         ensures found { IfOk result (λ p. IsPacket p × (bytes.now ≡ packet_bytes p)) }
         ensures only { (p : Packet) → IsPacket p → bytes.now ≡ packet_bytes p → result ≡ Ok p }
@@ -83,7 +83,7 @@ fn head(tag: u8, generation: u32, number: u64) -> [u8; 13]
     bytes
 }
 
-// The packet that bytes spell, all of the bytes.
+// The packet that the bytes spell, using all of them.
 #[tactic(auto, unfolding(crate::specs::Packet::packet_at))]
 fn packet_of(bytes: &[u8]) -> Option<Packet>
     ensures { result ≡ packet_at bytes.now }

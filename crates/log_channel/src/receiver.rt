@@ -10,8 +10,8 @@ use log_entry::Entry;
 use std::alloc::Global;
 use std::marker::Model;
 
-/// Holds the entries that came in the order of their indexes, without gaps, until they are popped: the first of them,
-/// and the spellings of those behind it.
+/// Holds the entries that came in order of index, without gaps, until they are popped: the first of them, and the
+/// spellings of those after it.
 #[derive(Drop)]
 pub struct Receiver {
     generation: u32,
@@ -58,9 +58,9 @@ impl Receiver {
         self.generation
     }
 
-    /// Takes a packet of the log. Where its index is the number held, its entry is held and the answer is true; a
-    /// repeat and a packet past a gap are answered false and change nothing. Where nothing is held, no memory is taken.
-    /// Bytes that are no packet of the log are `Malformed`, and a packet of another generation is `WrongGeneration`.
+    /// Takes a packet of the log. If its index is the number held, its entry is held and the result is true; for a
+    /// repeat or a packet past a gap the result is false and nothing changes. If nothing is held, no memory is needed.
+    /// `Malformed` if the bytes are no packet of the log, `WrongGeneration` if the packet is of another generation.
     pub fn on_log(&mut self, bytes: &[u8]) -> R<bool>
         ensures { Answers (heard self.old (packet_at bytes.now)) self.old result self.new }
     {
@@ -122,14 +122,14 @@ impl Receiver {
         self.front.as_ref()
     }
 
-    /// The spellings of the entries behind the first, one after another.
+    /// The spellings of the entries after the first, one after another.
     pub fn block(&self) -> &[u8]
         ensures { result.now ≡ flat_map spelling (drop 1 self.now.entries) }
     {
         self.block.as_slice()
     }
 
-    /// Takes the first entry that is held. It takes no memory.
+    /// Takes the first entry that is held. Allocates no memory.
     pub fn pop(&mut self) -> Option<Entry>
         ensures entry { result ≡ slice_get self.old.entries 0 }
         ensures valid { IfSome result IsEntry }

@@ -50,7 +50,7 @@ impl Sender {
         self.generation
     }
 
-    /// The packet of the entry of this index, `Unknown` where the log does not keep it.
+    /// The packet of the entry of this index, `Unknown` if the log does not keep it.
     pub fn packet(&self, alloc: Global, log: &LogBuffer, index: u64) -> R<Vec<u8>>
         ensures { Spells (packet_of self.now.generation index (kept_at log.now index)) result }
     {
@@ -67,9 +67,9 @@ impl Sender {
         Ok(out)
     }
 
-    /// Takes an acknowledgement, and gives the greatest number of entries that was acknowledged so far. Bytes that are
-    /// no acknowledgement are `Malformed`, one of another generation is `WrongGeneration`, and one of more entries than
-    /// the log has is `BadAck`.
+    /// Takes an acknowledgement, and returns the greatest number of entries acknowledged so far. `Malformed` if the
+    /// bytes are no acknowledgement, `WrongGeneration` if it is of another generation, and `BadAck` if it is of more
+    /// entries than the log has.
     pub fn on_ack(&mut self, log: &LogBuffer, bytes: &[u8]) -> R<u64>
         ensures answer { result ≡ ack_answer self.old (next_of log.now) (packet_at bytes.now) }
         ensures after { self.new ≡ acknowledged self.old result }

@@ -19,7 +19,7 @@ const ACK: [u8; 13] = [0x41, 0, 0, 0, 1, 0, 0, 0, 0, 0, 0, 0, 1];
 // 300 entries are held, in generation 1.
 const ACK_OF_300: [u8; 13] = [0x41, 0, 0, 0, 1, 0, 0, 0, 0, 0, 0, 1, 44];
 
-// Entries of all kinds by turns.
+// Entries of all kinds in turn.
 fn entry_at(index: u64) -> Entry {
     let byte = (index % 251) as u8;
     match index % 5 {
@@ -100,7 +100,7 @@ fn spelled(alloc: Global, packet: &Packet) -> R<Vec<u8>> {
     Ok(bytes)
 }
 
-// No proper prefix is a packet, nothing may stand behind one, and with one byte changed it is none or another one.
+// No proper prefix is a packet, nothing may follow one, and with one byte changed it is none or a different one.
 fn expect_no_other(rt: &impl Abort, alloc: Global, packet: &Packet, length: usize) -> R<()> {
     let mut bytes = spelled(alloc, packet)?;
     assert_eq!(rt; bytes.len(), length);

@@ -1,5 +1,5 @@
--- What is written is read again, and what is read was written so. Both go kind by kind, over what stands behind the tag
--- and the count, which is the same for all kinds. So no two entries share a spelling.
+-- What is written is read back, and what is read was written so. Both go kind by kind, over what follows the tag and
+-- the count, which are the same for all kinds. So no two entries share a spelling.
 use Rattle.std.proofs.Common.{◌≡◌, ℕ, zero, suc, ◌^◌, ◌<◌, ◌≤◌, false, cond, eqb, ltb, List, [], ◌∷◌, ◌++◌, length, Option, Some, None, refl, sym, ap, subst, ◌∙◌, arith}
 use Rattle.std.proofs.lemmas.Bool.{eqb-true, eqb-false, ne_eqb, ltb-false, le-ltb}
 use Rattle.std.proofs.lemmas.List.{nil_from_length}
@@ -16,7 +16,7 @@ use Rattle.log_entry.specs.Spelling.{spelling, IsEntry, mark_at, rx_at, sent_at,
 use Rattle.log_entry.proofs.NumberLaws.{number_takes, number_again}
 use Rattle.log_entry.proofs.ReadingLaws.{IsBytes-rest, first_read, not_refused, admitted}
 
--- a number that was read, and the bytes behind it
+-- a number that was read, and the bytes after it
 abbrev Read : Type 0
 Read = ℕ × List ℕ
 
@@ -29,9 +29,9 @@ abbrev written_of : ℕ → Read → Option Entry
 written_of count number =
     cond (eqb number.0 0) None (cond (eqb (length number.1) 0) (Some (Written count number.0)) None)
 
--- ---- what is written is read again
+-- ---- what is written is read back
 
--- the count stands behind every tag
+-- the count follows every tag
 behind_tag : (tag count : ℕ) (fields : List ℕ) → count < 2 ^ 62
     → entry_at (tag ∷ big_bytes 8 count ++ fields) ≡ fields_at tag count fields
 unfolding entry_at
@@ -61,11 +61,11 @@ entry_again (Written count number) fits =
 
 -- ---- what is read was written so
 
--- the entry has these fields behind its tag and its count
+-- the entry has these fields after its tag and its count
 abbrev HasFields : ℕ → ℕ → List ℕ → Entry → Type 0
 HasFields tag count bytes e = (count < 2 ^ 62 → IsEntry e) × (tag ∷ big_bytes 8 count ++ bytes ≡ spelling e)
 
--- the same bytes behind the same tag and count
+-- the same bytes after the same tag and count
 same_fields : (tag count : ℕ) (bytes others : List ℕ) → bytes ≡ others
     → tag ∷ big_bytes 8 count ++ bytes ≡ tag ∷ big_bytes 8 count ++ others
 same_fields tag count bytes others same = ap (λ (bs : List ℕ). tag ∷ big_bytes 8 count ++ bs) same

@@ -1,4 +1,4 @@
--- A number that is written is read again, and a number that is read is the bytes in front of the rest. Both follow from
+-- A number that is written is read back, and a number that is read is the bytes in front of the rest. Both follow from
 -- the same law of the library on numbers of eight bytes.
 use Rattle.std.proofs.Common.{◌≡◌, ℕ, ◌^◌, ◌<◌, ◌≤◌, true, false, ltb, List, ◌++◌, length, take, drop, Some, refl, sym, ap, subst, ◌∙◌, arith}
 use Rattle.std.specs.Int.{w64, from_be_bytes}
@@ -9,7 +9,7 @@ use Rattle.byteorder.specs.Endian.{big_bytes}
 use Rattle.log_entry.specs.Numbers.{IsBytes, limited, number_from}
 use Rattle.log_entry.proofs.ReadingLaws.{IsBytes-drop, IsBytes-take, not_refused, admitted}
 
--- what is written is read again
+-- what is written is read back
 pub number_again : (n : ℕ) (rest : List ℕ) → n < 2 ^ 62 → number_from (big_bytes 8 n ++ rest) ≡ Some (n, rest)
 unfolding number_from
 number_again n rest lt =

@@ -1,4 +1,4 @@
--- What is known where reading did not fail. Reading goes from left to right and by tests: so the first thing was there,
+-- What is known if reading did not fail. Reading goes from left to right and by tests: so the first thing was there,
 -- each test was passed, and what is left of bytes is bytes.
 use Rattle.std.proofs.Common.{◌≡◌, ℕ, suc, ◌+◌, Bool, true, false, cond, List, ◌∷◌, take, drop, Option, Some, None, refl, arith, inl, inr}
 use Rattle.std.proofs.lemmas.Bool.{cases_lt}
@@ -22,7 +22,7 @@ IsBytes-rest byte bytes are_bytes i = are_bytes (suc i)
 
 -- ---- steps and tests
 
--- the first thing, where the second was read
+-- the first thing, if the second was read
 pub first_read : {A B : Type 0} (first : Option A) (second : A → Option B) (y : B)
     → (first >>= second) ≡ Some y → (x : A) × (first ≡ Some x) × (second x ≡ Some y)
 first_read (Some x) second y e = (x, refl, e)

@@ -1,5 +1,5 @@
 -- The entries of a trace, move by move: a step adds a mark or nothing and raises the count, and an input adds its own
--- entry at the count that stands. So the inputs come back in order, and no count is below the one before it.
+-- entry at the current count. So the inputs come back in order, and no count is below the one before it.
 use Rattle.std.proofs.Common.{◌≡◌, ℕ, suc, ◌+◌, ◌≤◌, List, [], ◌∷◌, Some, None, refl, sym, ap, subst, arith}
 use Rattle.guest_board.specs.Machine.{Move, Do, Take}
 use Rattle.guest_board.specs.declared.input.Input.{Input}
@@ -48,7 +48,7 @@ never_falls count (Do None ∷ moves) =
 never_falls count (Do (Some operation) ∷ moves) = (omega arith, never_falls (suc count) moves)
 never_falls count (Take i ∷ moves) = rw (count_comes_back count i) (omega arith, never_falls count moves)
 
--- the last entry stands no higher than the trace ends
+-- the last entry is no further than where the trace ends
 last_within : (low count : ℕ) (moves : List Move) → low ≤ count
     → last_count low (entries count moves) ≤ count + steps moves
 last_within low count [] le = omega arith

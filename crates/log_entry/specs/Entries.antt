@@ -10,7 +10,7 @@ use Rattle.plain_single.specs.declared.timed.Timed.{Timed}
 use Rattle.log_entry.specs.declared.entry.Entry.{Entry}
 use Rattle.log_entry.specs.declared.entry.Entry.TheVariants.{Mark, Rx, Sent, Sector, Written}
 
--- the count at which an entry stands
+-- the count of an entry
 abbrev pub count_of : Entry → ℕ
 count_of (Mark count) = count
 count_of (Rx count port byte) = count
@@ -56,7 +56,7 @@ abbrev pub inputs_of : List Entry → List Timed
 inputs_of [] = []
 inputs_of (e ∷ es) = timed_in (timed_of e) ++ inputs_of es
 
--- the count of the last entry, or this count where there is none
+-- the count of the last entry, or this count if there is none
 abbrev pub last_count : ℕ → List Entry → ℕ
 last_count count [] = count
 last_count count (e ∷ es) = last_count (count_of e) es

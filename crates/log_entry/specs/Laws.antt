@@ -1,4 +1,4 @@
--- What whoever keeps or sends entries may count on.
+-- What code that keeps or sends entries may rely on.
 use Rattle.std.specs.Prelude.{◌≡◌, ℕ, ◌+◌, ◌≤◌, List, [], ◌∷◌, Some}
 use Rattle.guest_board.specs.Machine.{Move}
 use Rattle.plain_single.specs.Reach.{inputs, steps}
@@ -9,7 +9,7 @@ use Rattle.log_entry.specs.Spelling.{spelling, IsEntry, entry_at}
 
 -- ---- the grammar
 
--- what is written is read again
+-- what is written is read back
 abbrev pub ReadsAgain : Type 0
 ReadsAgain = (e : Entry) → IsEntry e → entry_at (spelling e) ≡ Some e
 
@@ -28,12 +28,12 @@ OneMeaning = (e other : Entry) → IsEntry e → IsEntry other → spelling e �
 abbrev pub KeepsInputs : Type 0
 KeepsInputs = (count : ℕ) (moves : List Move) → inputs_of (entries count moves) ≡ inputs count moves
 
--- no entry stands below this count or below an entry before it
+-- no entry is below this count or below an entry before it
 abbrev pub NeverFalls : ℕ → List Entry → Type 0
 NeverFalls count [] = Unit {0}
 NeverFalls count (e ∷ es) = (count ≤ count_of e) × NeverFalls (count_of e) es
 
--- their counts never fall, from where the trace begins to no higher than where it ends
+-- their counts never fall, from where the trace begins to no further than where it ends
 pub record StandInOrder (count : ℕ) (moves : List Move) : Type 0 where
   pub in_order : NeverFalls count (entries count moves)
   pub within : last_count count (entries count moves) ≤ count + steps moves

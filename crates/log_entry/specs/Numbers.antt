@@ -1,4 +1,4 @@
--- The numbers of a packet: eight bytes, the highest first, below the limit of all numbers.
+-- The numbers of a packet: eight bytes, highest first, below the limit of all numbers.
 use Rattle.std.specs.Prelude.{ℕ, ◌^◌, ◌<◌, List, length, take, drop, slice_index, Option, Some, None, option_and_then, nat_lt, if◌then◌else◌}
 use Rattle.std.specs.Int.{w64, from_be_bytes}
 
@@ -6,16 +6,16 @@ use Rattle.std.specs.Int.{w64, from_be_bytes}
 abbrev pub IsBytes : List ℕ → Type 0
 IsBytes bytes = (i : ℕ) → slice_index bytes i < 256
 
--- reading one thing after another: where the first is there, the second is what it leads to
+-- reading one thing after another: if the first is there, the second is what it leads to
 infixl 10 ◌>>=◌
 abbrev pub ◌>>=◌ : {A B : Type 0} → Option A → (A → Option B) → Option B
 first >>= second = option_and_then second first
 
--- a number and the bytes behind it, where the number is below the limit
+-- a number and the bytes after it, if the number is below the limit
 abbrev pub limited : ℕ → List ℕ → Option (ℕ × List ℕ)
 limited number rest = if nat_lt number (2 ^ 62) then Some (number, rest) else None
 
--- the number at the front and the bytes behind it
+-- the number at the front and the bytes after it
 unfoldable pub number_from : List ℕ → Option (ℕ × List ℕ)
 number_from bytes =
     if nat_lt (length bytes) 8 then None else limited (from_be_bytes w64 (take 8 bytes)) (drop 8 bytes)

@@ -5,7 +5,7 @@ use Rattle.log_entry.specs.declared.entry.Entry.{Entry}
 use Rattle.log_entry.specs.declared.entry.Entry.TheVariants.{Mark, Rx, Sent, Sector, Written}
 use Rattle.log_entry.specs.Numbers.{◌>>=◌, IsBytes, number_from}
 
--- tag, count and fields; a number is eight bytes, the highest first
+-- tag, count and fields; a number is eight bytes, highest first
 abbrev pub spelling : Entry → List ℕ
 spelling (Mark count) = 0 ∷ big_bytes 8 count
 spelling (Rx count port byte) = 1 ∷ big_bytes 8 count ++ (port ∷ byte ∷ [])
@@ -33,7 +33,7 @@ IsEntry (Sector count drive sector number bytes) =
     (count < 2 ^ 62) × (drive < 4) × (sector < 32) × (number < 2 ^ 62) × (length bytes ≡ 137) × IsBytes bytes
 IsEntry (Written count number) = (count < 2 ^ 62) × (0 < number) × (number < 2 ^ 62)
 
--- ---- reading, from left to right, each kind by what stands behind its tag and its count
+-- ---- reading, from left to right, each kind by what follows its tag and its count
 
 unfoldable pub mark_at : ℕ → List ℕ → Option Entry
 mark_at count bytes = if length bytes == 0 then Some (Mark count) else None
@@ -60,7 +60,7 @@ written_at count bytes = number_from bytes >>= λ number.
     else if length number.1 == 0 then Some (Written count number.0)
     else None
 
--- by the tag, which no other tag stands in for
+-- by the tag: each kind has exactly one
 unfoldable pub fields_at : ℕ → ℕ → List ℕ → Option Entry
 fields_at tag count bytes =
     if tag == 0 then mark_at count bytes
@@ -70,7 +70,7 @@ fields_at tag count bytes =
     else if tag == 4 then written_at count bytes
     else None
 
--- the entry that bytes spell, all of the bytes
+-- the entry that the bytes spell, using all of them
 unfoldable pub entry_at : List ℕ → Option Entry
 entry_at [] = None
 entry_at (tag ∷ bytes) = number_from bytes >>= λ count. fields_at tag count.0 count.1

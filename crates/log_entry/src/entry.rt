@@ -6,8 +6,7 @@ use disk_dcdd::SECTOR_BYTES;
 use guest_board::Input;
 use plain_single::{Bare, Timed};
 
-/// What one input or one operation appends to the log, with the count at which it stands (VMware FT, section 2.1, "log
-/// entries").
+/// What one input or one operation appends to the log, with its count (VMware FT, section 2.1, "log entries").
 #[derive(Clone, Copy, Debug, PartialEq, Eq)]
 pub enum Entry {
     /// The step that ends at this count gave an operation.
@@ -20,7 +19,7 @@ pub enum Entry {
         port: u8,
         byte: u8,
     },
-    /// The oldest byte of a port that was not accepted yet is accepted.
+    /// The oldest byte of a port that was not yet accepted is accepted.
     Sent {
         count: u64,
         port: u8,
@@ -45,8 +44,8 @@ impl Entry {
     ghost use Rattle.log_entry.specs.Entries.{count_of, entry_of, input_of, timed_of};
     ghost use Rattle.log_entry.specs.Spelling.{IsEntry};
 
-    /// The entry of an input that is taken at this count. One that may come, at a count that may be, has all its fields in
-    /// their ranges.
+    /// The entry of an input that is taken at this count. If the input may come and the count is in range, all fields
+    /// are in range.
     pub fn of_input(count: u64, input: Input) -> Entry
         ensures value { result ≡ entry_of count input }
         ensures valid { IsInput input → IsNumbered input → count < 2 ^ 62 → IsEntry result }
@@ -70,7 +69,7 @@ impl Entry {
         }
     }
 
-    /// How many steps the machine has made where the entry stands.
+    /// How many steps the machine has executed at the entry.
     pub fn count(&self) -> u64
         ensures { result ≡ count_of self.now }
     {

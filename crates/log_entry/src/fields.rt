@@ -1,4 +1,4 @@
-//! What stands behind an entry's tag and count, kind by kind.
+//! What follows an entry's tag and count, kind by kind.
 
 ghost use Rattle.std.specs.Prelude.{◌≡◌};
 ghost use Rattle.log_entry.specs.Spelling.{entry_at, fields_at, mark_at, rx_at, sector_at, sent_at, written_at};
@@ -13,7 +13,7 @@ const LAST_DRIVE: u8 = DRIVES as u8 - 1;
 
 const LAST_SECTOR: u8 = SECTORS - 1;
 
-// The entry that bytes spell, all of the bytes.
+// The entry that the bytes spell, using all of them.
 #[tactic(auto, unfolding(crate::specs::Spelling::entry_at))]
 pub(crate) fn entry_of(bytes: &[u8]) -> Option<Entry>
     ensures { result ≡ entry_at bytes.now }

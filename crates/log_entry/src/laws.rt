@@ -4,7 +4,7 @@ ghost use Rattle.std.specs.Prelude.{ℕ, List};
 ghost use Rattle.guest_board.specs.Machine.{Move};
 ghost use Rattle.log_entry.specs.Laws.{KeepsInputs, OneMeaning, OneSpelling, ReadsAgain, StandInOrder};
 
-/// What is written is read again, nothing else is read as it, and no two entries are written alike.
+/// What is written is read back, nothing else is read as it, and no two entries are written alike.
 pub fn entries_spell_one_way()
     ensures again { ReadsAgain }
     ensures one_spelling { OneSpelling }
@@ -16,7 +16,7 @@ pub fn entries_keep_the_inputs()
     ensures { KeepsInputs }
 {}
 
-/// The counts of a trace's entries never fall, and none stands past the trace's end.
+/// The counts of a trace's entries never fall, and none is past the trace's end.
 pub fn entries_stand_in_order()
     ensures { (count : ℕ) (moves : List Move) → StandInOrder count moves }
 {}

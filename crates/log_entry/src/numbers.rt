@@ -6,10 +6,10 @@ ghost use Rattle.log_entry.specs.Numbers.{number_from};
 
 use byteorder::{BigEndian, ByteOrder};
 
-/// Counts, indexes and numbers of writes are below this.
+/// Counts, indexes and write numbers are below this.
 pub const NUMBER_LIMIT: u64 = 1 << 62;
 
-/// The eight bytes of a number, the highest first.
+/// The eight bytes of a number, highest first.
 pub fn spelled_number(number: u64) -> [u8; 8]
     ensures { result ≡ big_bytes 8 number }
 {
@@ -18,7 +18,7 @@ pub fn spelled_number(number: u64) -> [u8; 8]
     bytes
 }
 
-/// The number that the first eight bytes spell, where it is below the limit, and the bytes behind it.
+/// The number that the first eight bytes spell, if it is below the limit, and the bytes after it.
 #[tactic(auto, unfolding(crate::specs::Numbers::number_from))]
 pub fn number_at(bytes: &[u8]) -> Option<(u64, &[u8])>
     ensures { option_map (λ found. (found.0, found.1.now)) result ≡ number_from bytes.now }

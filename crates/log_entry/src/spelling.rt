@@ -13,7 +13,7 @@ use crate::numbers::spelled_number;
 use disk_dcdd::SECTOR_BYTES;
 use i8080_words::{Fault, R};
 
-/// How many bytes the spelling of an entry has that begins with this tag; none where no entry begins so.
+/// How many bytes the spelling of an entry with this tag has; `None` if no entry has this tag.
 pub fn size(tag: u8) -> Option<usize>
     ensures { result ≡ size_of tag }
 {
@@ -45,7 +45,7 @@ impl Entry {
         }
     }
 
-    /// Appends the entry's spelling. Where the bytes fit, no memory is taken, and otherwise it is taken once.
+    /// Appends the entry's spelling. Allocates no memory if the bytes fit, and otherwise only once.
     pub fn write(&self, out: &mut Vec<u8>) -> R<()>
         ensures ok { OnOk result (out.new.items ≡ out.old.items ++ spelling self.now) }
         ensures err { OnErr result (out.new.items ≡ out.old.items) }
@@ -83,7 +83,7 @@ impl Entry {
         Ok(())
     }
 
-    /// The entry that the bytes spell. They are malformed where they spell none, and where bytes stand behind one.
+    /// The entry that the bytes spell. `Malformed` if they spell none, or if bytes follow one.
     pub fn read(bytes: &[u8]) -> R<Entry>
         ensures found { IfOk result (λ e. IsEntry e × (bytes.now ≡ spelling e)) }
         ensures only { (e : Entry) → IsEntry e → bytes.now ≡ spelling e → result ≡ Ok e }

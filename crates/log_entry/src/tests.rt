@@ -37,7 +37,7 @@ fn spelled(alloc: Global, entry: &Entry) -> R<Vec<u8>> {
     Ok(bytes)
 }
 
-// The bytes of an entry, but for those of a sector's content.
+// The bytes of an entry, except those of a sector's content.
 fn expect_front(rt: &impl Abort, alloc: Global, entry: &Entry, front: &[u8]) -> R<()> {
     let bytes = spelled(alloc, entry)?;
     assert!(rt; bytes.starts_with(front));
@@ -84,7 +84,7 @@ fn entries_have_their_inputs(rt: HostRuntime) {
     }
 }
 
-// No proper prefix is an entry, nothing may stand behind one, and with one byte changed it is no entry or another one.
+// No proper prefix is an entry, nothing may follow one, and with one byte changed it is no entry or a different one.
 fn expect_no_other(rt: &impl Abort, alloc: Global, entry: &Entry) -> R<()> {
     let mut bytes = spelled(alloc, entry)?;
     for length in 0..bytes.len() {

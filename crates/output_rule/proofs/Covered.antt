@@ -9,7 +9,7 @@ use Rattle.output_rule.specs.Covering.{Covering, is_covered, after_acknowledge, 
 use Rattle.output_rule.specs.Keys.{between, with_keys}
 use Rattle.output_rule.specs.Laws.{StaysCovered, NeverFalls}
 
--- below one number, and so below the greatest of it and another
+-- below one number, and so below the greater of it and another
 below_max : (index acknowledged held : ℕ) → nat_lt index acknowledged ≡ true
     → nat_lt index (max acknowledged held) ≡ true
 below_max index acknowledged held below = grind (arith, common_steps)

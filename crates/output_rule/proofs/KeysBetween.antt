@@ -1,5 +1,5 @@
--- The keys of a part of a log. The keys of two lists of entries, one behind the other, are those of both, so a part of
--- a log has the keys of its first entry and of the rest of the part.
+-- The keys of a part of a log. The keys of two lists of entries, one after the other, are those of both, so a part of a
+-- log has the keys of its first entry and of the rest of the part.
 use Rattle.std.proofs.Common.{◌≡◌, ℕ, zero, suc, ◌+◌, ◌-◌, ◌<◌, ◌≤◌, List, [], ◌∷◌, ◌++◌, length, take, drop, append_assoc, length-append, arith, refl, sym, ap, ◌∙◌, Some, true, false, ◌==◌, cond, nat_lt}
 use Rattle.std.specs.Prelude.{slice_get}
 use Rattle.std.proofs.lemmas.Bool.{le-ltb}

@@ -1,4 +1,4 @@
--- When two names are one: the test of two names compares their kinds and their numbers, so it says whether they are
+-- When two names are equal: the test of two names compares their kinds and their numbers, so it says whether they are
 -- equal.
 use Rattle.std.proofs.Common.{◌≡◌, ◌≢◌, true, false, refl, sym, ap, ◌∙◌, arith}
 use Rattle.std.specs.Cmp.{IsEquivalence}
@@ -29,7 +29,7 @@ same_name-different i j differs =
       | false ↦ λ e. refl
     ] refl
 
--- a name that is one of two different names is not the other
+-- a name that is equal to one of two different names is not the other
 pub same_name-other : (i j k : OpId) → same_name i j ≡ true → k ≢ j → same_name i k ≡ false
 same_name-other i j k same differs =
     same_name-different i k (λ e. differs (let is = equal_from_same i j same in cc))

@@ -1,5 +1,5 @@
--- The notes as they come and go. Where a name has no note, every note is of another name, so a new note for it is apart
--- from all others and is found behind them. A filter leaves no note of the name, and all others in their order.
+-- The notes as they come and go. If a name has no note, every note is of another name, so a new note for it is apart
+-- from all others and is found after them. A filter leaves no note of the name, and leaves all others in order.
 use Rattle.std.proofs.Common.{◌≡◌, ◌≢◌, ℕ, true, false, not, cond, List, [], ◌∷◌, Some, None, refl, sym, ap}
 use Rattle.std.specs.Prelude.{All, AllPairs}
 use Rattle.std.proofs.lemmas.List.Elements.{All-cons, All-nil}
@@ -10,7 +10,7 @@ use Rattle.output_rule.specs.Notes.{same_name, index_of, with_note, without_note
 use Rattle.output_rule.specs.declared.notes.Note.{Note}
 use Rattle.output_rule.proofs.Names.{same_name-itself, same_name-different, same_name-other}
 
--- where a name has no note, every note is of another name
+-- if a name has no note, every note is of another name
 unnoted : (notes : List Note) (id : OpId) → index_of notes id ≡ None → All (λ note. same_name note.id id ≡ false) notes
 unnoted [] id none = All-nil (λ note. same_name note.id id ≡ false)
 unnoted (note ∷ notes) id none =
@@ -27,7 +27,7 @@ pub apart-with_note : (notes : List Note) (id : OpId) (index : ℕ) → index_of
 apart-with_note notes id index none apart =
     all_pairs_push AreApart notes (record { id = id; index = index }) apart (unnoted notes id none)
 
--- it is found behind them
+-- it is found after them
 found_behind : (notes : List Note) (id : OpId) (index : ℕ) → index_of notes id ≡ None
     → index_of (with_note notes id index) id ≡ Some index
 found_behind [] id index none = rw (same_name-itself id) refl

@@ -1,4 +1,4 @@
--- Every coverage stands as coverages do, whatever comes: a note that may come is apart from the others, a filter keeps
+-- What holds of every coverage holds after every change: a note that may come is apart from the others, a filter keeps
 -- what holds of each two, and an acknowledgement raises each number of keys by no more than the acknowledged number.
 use Rattle.std.proofs.Common.{◌≡◌, ℕ, zero, suc, ◌+◌, ◌<◌, ◌≤◌, Bool, not, List, [], ◌∷◌, length, None, refl, arith}
 use Rattle.std.specs.Prelude.{slice_index}
@@ -57,7 +57,7 @@ keys-raised keys l from to order fits (suc zero) =
     omega arith
 keys-raised keys l from to order fits (suc (suc port)) = omega arith
 
--- an acknowledgement, where all was covered before, and where it was not
+-- an acknowledgement, if all was covered before, and if it was not
 pub IsCovering-held : (c : Covering) (held : ℕ) → IsCovering c → c.acknowledged ≤ held → held ≤ GREATEST_NEXT
     → IsCovering (record c { acknowledged = held })
 IsCovering-held c held h order limit = record {

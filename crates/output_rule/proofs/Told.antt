@@ -1,5 +1,5 @@
 -- The covered keys are those of the image and of the acknowledged entries. The entries up to the new acknowledged
--- number are those up to the old one, and behind them the part of the log that the acknowledgement covers.
+-- number are those up to the old one, followed by the part of the log that the acknowledgement covers.
 use Rattle.std.proofs.Common.{◌≡◌, ℕ, zero, suc, ◌+◌, ◌-◌, ◌<◌, ◌≤◌, max, false, List, [], ◌++◌, length, take, drop, length-append, refl, arith}
 use Rattle.std.specs.Prelude.{slice_index}
 use Rattle.std.proofs.Math.Seq.{take-add}

@@ -1,4 +1,4 @@
--- What is covered: how far the log is acknowledged, where the outstanding operations stand in it, and how many keys.
+-- What is covered: how far the log is acknowledged, where the outstanding operations are in it, and how many keys.
 use Rattle.std.specs.Prelude.{◌≡◌, ℕ, ◌+◌, ◌≤◌, max, nat_lt, Bool, true, false, ◌||◌, if◌then◌else◌, List, [], length, slice_index, AllPairs, Option, Some, None, Result, Ok, Err}
 use Rattle.disk_dcdd.specs.declared.controller.TheConstants.{GREATEST_NUMBER}
 use Rattle.event_callbacks.specs.declared.devices.TheConstants.{PORTS}
@@ -12,8 +12,8 @@ use Rattle.output_rule.specs.Notes.{index_of, with_note, without_note, AreApart}
 use Rattle.output_rule.specs.declared.notes.TheConstants.{PLACES}
 use Rattle.output_rule.specs.declared.notes.Note.{Note}
 
--- the entries below this index are acknowledged, or all is covered; so many keys of each port are covered; and the
--- operations that are outstanding and no part of the image have these notes
+-- the entries below this index are acknowledged, or all is covered; this many keys of each port are covered; and the
+-- operations that are outstanding and not part of the image have these notes
 pub record Covering : Type 0 where
   pub acknowledged : ℕ
   pub all : Bool
@@ -24,7 +24,7 @@ pub record Covering : Type 0 where
 abbrev pub nothing_acknowledged : List ℕ → Covering
 nothing_acknowledged keys = record { acknowledged = 0; all = false; keys = keys; notes = [] }
 
--- what stands at an index is covered where that is acknowledged; what has none was part of the image
+-- what is at an index is covered if that is acknowledged; what has none was part of the image
 abbrev pub is_covered : Covering → Option ℕ → Bool
 is_covered c None = true
 is_covered c (Some index) = c.all || nat_lt index c.acknowledged
@@ -40,7 +40,7 @@ after_note c id index = record c { notes = with_note c.notes id index }
 abbrev pub after_forget : Covering → OpId → Covering
 after_forget c id = record c { notes = without_note c.notes id }
 
--- an acknowledgement covers the entries up to it, and their keys, where not all was covered before
+-- an acknowledgement covers the entries up to it, and their keys if not all was covered before
 abbrev pub after_acknowledge : Covering → Log → ℕ → Covering
 after_acknowledge c log held = record c {
   acknowledged = max c.acknowledged held;
@@ -51,7 +51,7 @@ after_acknowledge c log held = record c {
 abbrev pub after_all : Covering → List ℕ → Covering
 after_all c keys = record c { all = true; keys = keys }
 
--- how every coverage stands: an operation has one note at most, and the keys rise with the acknowledged number alone
+-- what holds of every coverage: an operation has at most one note, and the keys rise only with the acknowledged number
 pub record IsCovering (c : Covering) : Type 0 where
   pub few : length c.notes ≤ PLACES
   pub apart : AllPairs AreApart c.notes

@@ -9,12 +9,12 @@ use Rattle.log_buffer.specs.Log.{Log}
 abbrev pub keys_in : ℕ → List Entry → ℕ
 keys_in port entries = length (reach.keys port (inputs_of entries))
 
--- and in the place of one entry
+-- and in one entry, if it is there
 abbrev pub keys_at : ℕ → Option Entry → ℕ
 keys_at port None = 0
 keys_at port (Some entry) = keys_in port (entry ∷ [])
 
--- the numbers of keys of each port, with those among entries
+-- the numbers of keys of each port, plus those among entries
 abbrev pub with_keys : List ℕ → List Entry → List ℕ
 with_keys keys entries = (slice_index keys 0 + keys_in 0 entries) ∷ (slice_index keys 1 + keys_in 1 entries) ∷ []
 

@@ -1,4 +1,4 @@
--- What whoever uses a coverage may count on.
+-- What users of a coverage may rely on.
 use Rattle.std.specs.Prelude.{◌≡◌, ◌≢◌, ℕ, ◌+◌, ◌<◌, ◌≤◌, true, List, All, Contains, length, take, slice_index, Option, Some, None}
 use Rattle.event_callbacks.specs.declared.devices.TheConstants.{PORTS}
 use Rattle.event_callbacks.specs.declared.operations.OpId.{OpId}
@@ -35,7 +35,7 @@ pub record NeverFalls (c : Covering) : Type 0 where
   pub keys : (log : Log) (held port : ℕ) → port < PORTS
       → slice_index c.keys port ≤ slice_index (after_acknowledge c log held).keys port
 
--- of all entries since an image, the keys of those that are acknowledged are covered, and the keys of the image
+-- of all entries since an image, the keys of those that are acknowledged are covered, and so are the keys of the image
 pub record Tells (image : List ℕ) (entries : List Entry) (c : Covering) : Type 0 where
   pub within : c.acknowledged ≤ length entries
   pub keys : (port : ℕ) → port < PORTS

@@ -1,4 +1,4 @@
--- The number that the definitions call by the name of the code.
+-- The constant that the definitions cite by its name in the code.
 use Rattle.std.specs.Prelude.{◌≡◌, ◌+◌, ◌*◌}
 use Rattle.output_rule.specs.declared.notes.TheConstants.{PLACES}
 

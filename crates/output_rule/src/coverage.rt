@@ -15,8 +15,8 @@ use i8080_words::{Fault, R};
 use log_buffer::LogBuffer;
 use std::marker::Model;
 
-/// Knows at which indexes the outstanding operations stand in the log, how far the log is acknowledged, and how many
-/// keys of each port are covered. None of its calls takes memory.
+/// Knows the index in the log of each outstanding operation, how far the log is acknowledged, and how many keys of each
+/// port are covered. None of its calls allocates memory.
 #[derive(Drop)]
 pub struct Coverage {
     acknowledged: u64,
@@ -38,7 +38,7 @@ impl Model for Coverage {
 }
 
 impl Coverage {
-    /// No entry is acknowledged yet, no operation has a note, and the image has so many keys of each port.
+    /// No entry is acknowledged yet, no operation has a note, and the image has this many keys of each port.
     pub fn new(keys: [u64; PORTS]) -> Coverage
         requires { (port : ℕ) → slice_index keys port ≤ GREATEST_NUMBER }
         ensures { result ≡ table.nothing_acknowledged keys }
@@ -51,7 +51,7 @@ impl Coverage {
         }
     }
 
-    /// The mark of an operation that is outstanding from now on stands at this index.
+    /// Notes that the operation's mark is the log entry `index`.
     pub fn note(&mut self, id: OpId, index: u64)
         requires room { length self.old.notes < PLACES }
         requires new { index_of self.old.notes id ≡ None }
@@ -60,15 +60,15 @@ impl Coverage {
         self.notes.push(Note { id, index });
     }
 
-    /// An operation is outstanding no more. Nothing changes where it had no note.
+    /// Forgets an operation that is no longer outstanding. Changes nothing if it had no note.
     pub fn forget(&mut self, id: OpId)
         ensures { self.new ≡ table.after_forget self.old id }
     {
         notes::remove_note(&mut self.notes, id);
     }
 
-    /// The backup holds the entries below this index, or was known to hold more. Called before the log drops them.
-    /// After `all` the numbers of keys stand.
+    /// The backup holds the entries below `held`, or was known to hold more. Called before the log drops them. After
+    /// `all` it leaves the numbers of keys unchanged.
     pub fn acknowledge(&mut self, log: &LogBuffer, held: u64)
         requires first { log.now.first ≤ self.old.acknowledged }
         requires next { held ≤ next_of log.now }
@@ -84,7 +84,8 @@ impl Coverage {
         self.acknowledged = held;
     }
 
-    /// Nothing waits for a backup any more: whatever was done and is done is covered, so many keys of each port.
+    /// Nothing waits for a backup any more: whatever was done and will be done is covered, and this many keys of each
+    /// port.
     pub fn all(&mut self, keys: [u64; PORTS])
         requires { (port : ℕ) → slice_index keys port ≤ GREATEST_NUMBER }
         ensures { self.new ≡ table.after_all self.old keys }
@@ -93,7 +94,7 @@ impl Coverage {
         self.keys = keys;
     }
 
-    /// Whether what stands at an index of the log is covered. What has no index was part of the image, and is.
+    /// Whether what is at an index of the log is covered. What has no index was part of the image, and is covered.
     pub fn covered(&self, index: Option<u64>) -> bool
         ensures { result ≡ table.is_covered self.now index }
     {
@@ -103,7 +104,7 @@ impl Coverage {
         }
     }
 
-    /// Whether an outstanding operation may be released: `NotCovered` where it may not yet.
+    /// Whether an outstanding operation may be released: `NotCovered` if it may not yet.
     pub fn release(&self, operation: &Operation) -> R<()>
         ensures { result ≡ table.release_answer self.now (id_of operation.now) }
     {
@@ -122,7 +123,7 @@ impl Coverage {
         self.keys[port as usize]
     }
 
-    /// Whatever a coverage has been through, it keeps within its limits, and has one note of an operation at most.
+    /// Whatever a coverage has been through, it is within its limits, and has at most one note for each operation.
     pub fn stands(&self)
         ensures { table.IsCovering self.now }
     {

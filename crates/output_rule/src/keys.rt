@@ -1,4 +1,4 @@
-//! How many keys stand in a part of the log.
+//! How many keys are in a part of the log.
 ghost use Rattle.std.specs.Prelude.{◌≡◌, ◌+◌, ◌≤◌, ℕ, option_copied, slice_index};
 ghost use Rattle.disk_dcdd.specs.declared.controller.TheConstants.{GREATEST_NUMBER};
 ghost use Rattle.log_buffer.specs.Log.{next_of};
@@ -9,7 +9,7 @@ use event_callbacks::PORTS;
 use log_buffer::LogBuffer;
 use log_entry::Entry;
 
-// The numbers of keys of each port, with those of the entries from one index up to another.
+// The numbers of keys of each port, plus those of the entries from one index up to another.
 pub(crate) fn with_keys(keys: [u64; PORTS], log: &LogBuffer, from: u64, to: u64) -> [u64; PORTS]
     requires fits { (port : ℕ) → slice_index keys port ≤ GREATEST_NUMBER + from }
     requires first { log.now.first ≤ from }

@@ -9,13 +9,13 @@ ghost use Rattle.output_rule.specs.Limits.{Limits};
 ghost use Rattle.output_rule.specs.Notes.{AreApart};
 ghost use Rattle.output_rule.specs.declared.notes.Note.{Note};
 
-/// A note stands under its operation's name until that is forgotten, and no other note is touched.
+/// A note is under its operation's name until that is forgotten, and no other note is touched.
 pub fn notes_come_and_go()
     ensures comes { (notes : List Note) (id : OpId) (index : ℕ) → Comes notes id index }
     ensures goes { (notes : List Note) (id : OpId) → Goes notes id }
 {}
 
-/// There are no more notes than operations that may have one, so where fewer than `PLACES` may, there is room.
+/// There are no more notes than operations that may have one, so if fewer than `PLACES` may, there is room.
 #[tactic(auto, using(crate::proofs::FewNotes::few_notes))]
 pub fn notes_are_as_few_as_operations()
     ensures { (notes : List Note) (names : List OpId)
@@ -28,9 +28,9 @@ pub fn coverage_never_falls()
     ensures { (c : Covering) → NeverFalls c }
 {}
 
-/// Of a log that begins at index 0, the covered keys are those of the image and those among the acknowledged entries:
-/// as a coverage begins, as the log grows, as notes come and go, and as an acknowledgement comes while the log keeps
-/// the entries that were not acknowledged before.
+/// For a log that begins at index 0, the covered keys are those of the image and those among the acknowledged entries:
+/// when a coverage begins, as the log grows, as notes come and go, and when an acknowledgement arrives while the log
+/// keeps the entries that were not acknowledged before.
 #[tactic(auto, using(crate::proofs::Told::tells_at_first, crate::proofs::Told::tells_of_more))]
 pub fn told_keys_are_acknowledged()
     ensures at_first { (image : List ℕ) → Tells image [] (nothing_acknowledged image) }

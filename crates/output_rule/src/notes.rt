@@ -1,11 +1,11 @@
-//! At which indexes of the log the marks of outstanding operations stand.
+//! The indexes in the log of the marks of outstanding operations.
 ghost use Rattle.std.specs.Prelude.{◌≡◌};
 ghost use Rattle.output_rule.specs.Notes as table;
 
 use arrayvec::ArrayVec;
 use event_callbacks::OpId;
 
-/// How many operations have notes at most: sixteen bytes of each port, and eight writes.
+/// The most operations that have notes: sixteen bytes of each port, and eight writes.
 pub const PLACES: usize = 40;
 
 /// The name of an operation, and the index of its mark in the log.
@@ -15,7 +15,7 @@ pub struct Note {
     pub index: u64,
 }
 
-// What stands in the places that hold no note.
+// What is in the places that hold no note.
 impl Default for Note {
     ghost is_default = { λ note. note ≡ table.blank };
 
@@ -27,7 +27,7 @@ impl Default for Note {
     }
 }
 
-// The index of the mark of this operation, where it has a note.
+// The index of the mark of this operation, if it has a note.
 pub(crate) fn index_of(notes: &[Note], id: OpId) -> Option<u64>
     ensures { result ≡ table.index_of notes.now id }
 {
@@ -39,14 +39,14 @@ pub(crate) fn index_of(notes: &[Note], id: OpId) -> Option<u64>
     None
 }
 
-// Without the note of this operation.
+// Removes the note of this operation.
 pub(crate) fn remove_note(notes: &mut ArrayVec<Note, PLACES>, id: OpId)
     ensures { notes.new.items ≡ table.without_note notes.old.items id }
 {
     notes.retain(|note| !is_same_name(note.id, id));
 }
 
-// Whether two names are one.
+// Whether two names are equal.
 fn is_same_name(one: OpId, other: OpId) -> bool
     ensures { result ≡ table.same_name one other }
 {

@@ -24,7 +24,7 @@ fn key(port: u8) -> Entry {
     }
 }
 
-// Two bytes whose marks stand at the indexes 1 and 3 of a log, each behind a key.
+// Two bytes whose marks are at the indexes 1 and 3 of a log, each after a key.
 fn two_marks(rt: &impl Abort, log: &mut LogBuffer) {
     assert_eq!(rt; log.push(key(0)), Ok(0));
     assert_eq!(rt; log.push(Entry::Mark { count: 8 }), Ok(1));

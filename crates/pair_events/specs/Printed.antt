@@ -19,7 +19,7 @@ infixr 10 ◌␣◌
 abbrev pub ◌␣◌ : List ℕ → List ℕ → List ℕ
 first ␣ second = first ++ (32 ∷ second)
 
--- W: why no more steps were made
+-- W: why no more steps were executed
 abbrev pub why_text : Why → List ℕ
 why_text why.Turns = codes "turns"
 why_text why.Idle = codes "idle"

@@ -21,7 +21,7 @@ pub enum Answer<'a> {
     },
     /// The bytes of a message of the log.
     Packet(&'a [u8]),
-    /// What a node shows of itself: what it is, of which generation, from 1, and how many steps its machine has made.
+    /// What a node shows of itself: its role, its generation, from 1, and how many steps its machine has executed.
     Node {
         role: Role,
         generation: u32,
@@ -47,7 +47,7 @@ fn write_byte<W: fmt::Write>(f: &mut fmt::Formatter<W>, byte: u8) -> fmt::Result
     write!(f, "{byte:02X}")
 }
 
-// Bytes that print so, each after a space.
+// Bytes printed that way, each after a space.
 #[derive(Clone, Copy)]
 struct Spaced<'a>(&'a [u8]);
 

@@ -1,4 +1,4 @@
-//! What happens in a world of pairs, one event for each line of a script, and what is answered.
+//! What happens in a world of pairs, one event for each line of a script, and the answers.
 #![tactic(auto)]
 
 mod answer;

@@ -1,4 +1,4 @@
-//! What is answered to an event, and what a node is; each shows itself in the words of a script's output.
+//! The replies to events, and what a node is; each prints in the words of a script's output.
 
 ghost use Rattle.std.specs.Prelude.{Some};
 ghost use Rattle.pair_events.specs.Printed.{reply_text, role_text, why_text};
@@ -24,7 +24,7 @@ pub enum Role {
 /// Why a machine's steps ended.
 #[derive(Clone, Copy, Debug, PartialEq, Eq)]
 pub enum Why {
-    /// All steps that were asked for are made.
+    /// All steps that were asked for were executed.
     Turns,
     /// The machine waits for an interrupt.
     Idle,
@@ -39,7 +39,7 @@ pub enum Why {
 /// The answer to an event that was not refused.
 #[derive(Clone, Copy, Debug, PartialEq, Eq)]
 pub enum Reply {
-    /// The steps made, the instruction count after them, and why no more were made.
+    /// The steps executed, the instruction count after them, and why no more were executed.
     Ran { steps: u64, count: u64, why: Why },
     /// The byte was typed, as the key of this index.
     Typed { index: u64 },

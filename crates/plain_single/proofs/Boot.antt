@@ -1,4 +1,4 @@
--- A machine whose parts are those of a setup stands at boot.
+-- A machine whose parts are those of a setup is at boot.
 use Rattle.std.proofs.Common.{◌≡◌, ℕ, List, [], refl, sym, ap}
 use Rattle.i8080_words.specs.Steps.{at_reset}
 use Rattle.disk_dcdd.specs.declared.address.SectorAddress.{SectorAddress}

@@ -1,11 +1,11 @@
--- What a command makes of a head, by its four bits.
+-- What a command does to a head, by its four bits.
 use Rattle.std.proofs.Common.{◌≡◌, ℕ, Bool, true, false, not, ◌&&◌, ◌||◌, refl}
 use Rattle.std.specs.Prelude.{if◌then◌else◌}
 use Rattle.disk_dcdd.specs.Command as table
 use Rattle.disk_dcdd.specs.declared.drive.Drive.{Drive}
 use Rattle.plain_single.specs.Tracks.{track_after}
 
--- the changes of a drive that these bits ask for, one after another
+-- the changes to a drive that these bits ask for, one after another
 abbrev changed : Bool → Bool → Bool → Bool → Drive → Drive
 changed step_in step_out load unload d =
     let after_in = if step_in then table.stepped_in d else d in

@@ -1,4 +1,4 @@
--- One more move behind those of a trace: what the moves are together, where they lead, and what they carry of the disk.
+-- One more move after those of a trace: what the moves are together, where they lead, and what they carry of the disk.
 use Rattle.std.proofs.Common.{◌≡◌, ℕ, suc, ◌+◌, List, [], ◌∷◌, ◌++◌, Option, None, Some, refl, sym, ap, ◌∙◌, subst, append_assoc, arith}
 use Rattle.std.specs.Prelude.{reverse}
 use Rattle.std.specs.Option.{option_map_or}

@@ -208,7 +208,7 @@ pub handed_on : {T E : Type 0} (r : Result T E) (P Q : E → Type 0) → IsErrAn
 handed_on (Ok x) P Q h k = tt
 handed_on (Err e) P Q h k = k e h
 
--- the answer of a call that is refused or not, with what it leaves where it is not
+-- the answer of a call that is refused or not, with what it leaves if it is not
 pub taken_or_not : {P Q R S : Type 0} (r : Result (Unit {0}) Fault) (o : Option Fault)
     → r ≡ completion.answered o → OnOk r P → OnOk r Q → OnOk r R → (o ≡ None → P → Q → R → S) → IfOk r (λ _. S)
 taken_or_not {P} {Q} {R} {S} r None e p q t k =

@@ -1,5 +1,4 @@
--- Where the single machine stands on a trace, it stands on it after one more step; and where it makes none, the trace
--- ends.
+-- If the single machine is on a trace, it is on it after one more step; if it executes none, the trace ends.
 use Rattle.std.proofs.Common.{◌≡◌, ℕ, ◌+◌, ◌<◌, Bool, true, false, ◌==◌, ◌||◌, List, [], ◌∷◌, ◌++◌, Option, None, Some, refl, sym, ap, ◌∙◌, subst, ◌⊎◌, inl, inr}
 use Rattle.std.specs.Prelude.{if◌then◌else◌, nat_lt}
 use Rattle.std.proofs.lemmas.List.{append-nil}
@@ -80,7 +79,7 @@ steps_on last setup sectors list a x e =
 
 -- ---- no more steps
 
--- the trace ends at the machine's count, where it makes no step
+-- the trace ends at the machine's count, if it executes no step there
 stops_at : (setup : Setup) (sectors : SectorAddress → List ℕ) (list : List Timed) (a : Alone) (target last : ℕ) (is_spent : Bool)
     → (x : StandsAt (altair setup sectors) list a) → a.count < target → step_from x.reach.last ≡ None
     → is_spent_at (altair setup sectors) last x.reach.last ≡ is_spent
@@ -134,7 +133,7 @@ fails_at setup sectors list a target last fault x early e =
       ]
     ]
 
--- so does a step that is refused, also for want of memory
+-- so it does if a step is refused, even when out of memory
 pub refused_step : (setup : Setup) (sectors : SectorAddress → List ℕ) (list : List Timed) (a : Alone) (target last : ℕ) (fault : Fault)
     → StandsAt (altair setup sectors) list a → a.count < target → RefusesStep last a fault
     → FailsBefore (altair setup sectors) list target last fault

@@ -1,5 +1,5 @@
--- A step of the single machine is a step of the guest that it stands for. Accesses keep two ports, so what stands
--- behind the processor after them is all of the guest's wiring.
+-- A step of the single machine is a step of the guest that it stands for. Accesses keep two ports, so what the
+-- processor is wired to after them is all of the guest's wiring.
 use Rattle.std.proofs.Common.{◌≡◌, ℕ, ◌+◌, Bool, true, false, ◌==◌, ◌||◌, List, [], ◌∷◌, length, Option, None, Some, is_none, refl, ap, ◌∙◌, arith}
 use Rattle.std.specs.Prelude.{slice_index, slice_index_or, slice_set, nat_lt, if◌then◌else◌}
 use Rattle.std.specs.Option.{option_map_or}

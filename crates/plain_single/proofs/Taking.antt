@@ -1,5 +1,5 @@
--- An input that the single machine takes is the own move of the guest that it stands for, and one that it refuses is
--- none.
+-- An input that the single machine takes is a move of the guest that it stands for, with what the machine's own disk
+-- has; one that it refuses is no move.
 use Rattle.std.proofs.Common.{◌≡◌, ℕ, zero, suc, ◌+◌, ◌<◌, Bool, true, false, not, ◌==◌, ◌&&◌, List, [], ◌∷◌, ◌++◌, None, Some, refl, sym, ap, ◌∙◌, subst, arith}
 use Rattle.std.specs.Prelude.{if◌then◌else◌, nat_lt, reverse}
 use Rattle.std.proofs.lemmas.Bool.{eqb-true, ltb-true, false_from_ne_true, false≢true}
@@ -65,7 +65,7 @@ is_taken false e = absurd (cc)
 
 -- ---- an input that is taken
 
--- a move of the guest that takes the input with what the disk has, and what is as it was
+-- a move of the guest that takes the input with what the disk has, and what stays unchanged
 pub record IsTaken (M : Machine Guest) (moves : List Move) (last : Guest) (a : Alone) (b : Bare)
     (disk : List (List ℕ)) : Type 0 where
   pub i : Input

@@ -1,5 +1,5 @@
--- Where the inputs of a list lead to a count, the trace of the first of them is the beginning of that trace: it ends
--- nowhere short of the next input or of the count, and no input is refused or left.
+-- If the inputs of a list lead to a count, the trace of the first of them is the beginning of that trace: it does not
+-- end short of the next input or of the count, and no input is refused or left.
 use Rattle.std.proofs.Common.{◌≡◌, ℕ, suc, ◌+◌, ◌<◌, ◌≤◌, List, [], ◌∷◌, ◌++◌, Option, None, Some, Bool, true, false, refl, sym, ap, ◌∙◌, subst, arith, inl, inr}
 use Rattle.event_callbacks.specs.declared.operations.Operation.{Operation}
 use Rattle.i8080_words.specs.declared.refusal.Fault.{Fault}
@@ -20,7 +20,7 @@ same_some x y o e f = cc
 none_some : {A : Type 0} (x : A) (o : Option A) → o ≡ None → o ≡ Some x → ⊥
 none_some x o e f = absurd (cc)
 
--- an input is given by what it is without what the log carries, and by the machine's own disk
+-- an input is determined by what it is without what the log carries, and by the machine's own disk
 own_once : {S : Type 0} (M : Machine S) (before : List Move) (s : S) (i j : Input)
     → Own M before s i → Own M before s j → bare i ≡ bare j → i ≡ j
 own_once M before s (input.Rx p b) (input.Rx q c) h k e = (cc)
@@ -75,7 +75,7 @@ first_late c n (Do o ∷ xs) rest t ts at late e =
 first_late c n (Take i ∷ xs) rest t ts at late e =
     let k : timed c i ≡ t = (cc) in let l = same_count (timed c i) t k in omega arith
 
--- no input of a trace stands behind its end
+-- no input of a trace is past its end
 within : (c : ℕ) (xs : List Move) (before : List Timed) (t : Timed) (after : List Timed)
     → inputs c xs ≡ before ++ t ∷ after → t.count ≤ c + steps xs
 within c [] [] t after e = (cc)
@@ -87,7 +87,7 @@ within c (Take i ∷ xs) (b ∷ before) t after e = within c xs before t after (
 
 -- ---- the shorter trace
 
--- what is left of a trace, from the state and the count where a shorter one of so many steps ends
+-- what is left of a trace, from the state and the count where a shorter one ends
 record IsRest {S : Type 0} (M : Machine S) (t u : S) (count : ℕ) (rest : List Timed) (some all : ℕ) : Type 0 where
   moves : List Move
   runs : Runs M t moves u
@@ -204,7 +204,7 @@ never_left M list count moves x y =
     let k = within 0 moves y.before y.input y.after (x.list_is ∙ sym y.split) in
     let n = x.count_is in let l = y.late in omega arith
 
--- so a run fails there for want of memory alone
+-- so a run fails there only when out of memory
 pub only_memory : (M : Machine Guest) (list : List Timed) (count : ℕ) (moves : List Move) (fault : Fault)
     → Reach M list count moves → Fails M list count fault → fault ≡ faults.OutOfMemory
 only_memory M list count moves faults.OutOfMemory x y = refl

@@ -1,4 +1,4 @@
--- A disk of zeros has zeros at every address, also where it has no place.
+-- A disk of zeros has zeros at every address, even if it has no place for it.
 use Rattle.std.proofs.Common.{◌≡◌, ℕ, zero, suc, List, [], ◌∷◌, ◌++◌, None, Some, refl}
 use Rattle.std.specs.Prelude.{slice_index_or}
 use Rattle.std.specs.Option.{option_map_or}
@@ -6,7 +6,7 @@ use Rattle.disk_dcdd.specs.Address.{index_of}
 use Rattle.disk_dcdd.specs.declared.address.SectorAddress.{SectorAddress}
 use Rattle.plain_single.specs.Image.{zero_sector, sector_at}
 
--- each place, and whatever is behind the last one, is zeros
+-- each place, and whatever is past the last one, is zeros
 abbrev pub AreZeros : List (List ℕ) → Type 0
 AreZeros sectors = (i : ℕ) → slice_index_or sectors i zero_sector ≡ zero_sector
 

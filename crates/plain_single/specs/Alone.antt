@@ -1,4 +1,4 @@
--- The single machine as it keeps itself, and the guest that it stands for.
+-- The single machine as it represents itself, and the guest that it stands for.
 use Rattle.std.specs.Prelude.{◌≡◌, ℕ, ◌+◌, ◌==◌, Bool, reverse, nat_lt, ◌&&◌, if◌then◌else◌, Option, Some, None, List, [], ◌∷◌}
 use Rattle.std.specs.FinMap as map
 use Rattle.i8080_words.specs.declared.refusal.Fault.{Fault}
@@ -20,7 +20,7 @@ use Rattle.plain_single.specs.declared.machine.Machine.{Machine}
 use Rattle.plain_single.specs.declared.timed.Bare.{Bare}
 use Rattle.plain_single.specs.declared.timed.Bare.TheVariants.{Rx, Sent, Sector, Written}
 
--- the processor, what stands behind it, the disk by its places, the count and the interrupt levels
+-- the processor, what it is wired to, the disk by its places, the count and the interrupt levels
 pub record Alone : Type 0 where
   pub processor : Processor
   pub behind : Behind
@@ -28,7 +28,7 @@ pub record Alone : Type 0 where
   pub count : ℕ
   pub levels : List ℕ
 
--- what the fields are
+-- what the fields mean
 abbrev pub alone_of : Machine → Alone
 alone_of m = record {
   processor = m.processor;
@@ -42,7 +42,7 @@ alone_of m = record {
 abbrev pub output_of : Alone → ℕ → List ℕ
 output_of a port = if port == 0 then a.behind.first.output else a.behind.second.output
 
--- the guest of these parts, with operations that wait and last completed writes, which nothing here depends on
+-- the guest with these parts, with outstanding operations and last completed writes, which nothing here depends on
 abbrev pub guest_with : Alone → Operations → List ℕ → Guest
 guest_with a operations completed = record {
   processor = a.processor;
@@ -60,22 +60,22 @@ guest_with a operations completed = record {
 abbrev pub guest_of : Alone → Guest
 guest_of a = guest_with a map.empty []
 
--- it is that guest in all but the operations that wait and the last completed writes
+-- it is that guest in all but the outstanding operations and the last completed writes
 abbrev pub StandsFor : Alone → Guest → Type 0
 StandsFor a g = guest_with a g.operations g.completed ≡ g
 
 -- ---- a step
 
--- what it means that the machine idles on the way to a count: past the limit it is spent
+-- what idling on the way to a count means: past the limit, the machine is spent
 abbrev pub idle_towards : ℕ → Fault
 idle_towards last = if nat_lt GREATEST_NUMBER last then Spent else Idle
 
--- why no step is made on the way to a count: a number is spent; else the machine idles
+-- why no step is executed on the way to a count: a number is spent, or else the machine idles
 abbrev pub step_refusal : ℕ → Alone → Option Fault
 step_refusal last a =
     if is_spent (guest_of a) then Some Spent else if is_idle (guest_of a) then Some (idle_towards last) else None
 
--- a step is refused so, or for want of memory
+-- a step is refused for that reason, or out of memory
 abbrev pub RefusesStep : ℕ → Alone → Fault → Type 0
 RefusesStep last a OutOfMemory = Unit {0}
 RefusesStep last a fault = step_refusal last a ≡ Some fault
@@ -92,7 +92,7 @@ after_step a = record {
 
 -- ---- an input
 
--- a key may come at a port
+-- a key may arrive at a port
 abbrev pub may_take_key : Behind → ℕ → Bool
 may_take_key b port =
     if port == 0 then nat_lt b.first.keys GREATEST_NUMBER else port == 1 && nat_lt b.second.keys GREATEST_NUMBER
@@ -101,7 +101,7 @@ may_take_key b port =
 abbrev pub may_accept : Behind → ℕ → Bool
 may_accept b port = if port == 0 then serial.is_sent_due b.first.port else port == 1 && serial.is_sent_due b.second.port
 
--- the sector of this number at the track where a drive stands
+-- the sector of this number on the track that a drive's head is at
 abbrev pub address_under : drives.Drives → ℕ → ℕ → SectorAddress
 address_under d drive sector = record { drive = drive; track = (drives.drive_of d drive).track; sector = sector }
 
@@ -113,7 +113,7 @@ input_refusal a (Sector drive sector) =
     if completion.is_selected a.behind.disk drive then completion.sector_refusal a.behind.disk sector else Some NotDue
 input_refusal a (Written number) = completion.written_refusal a.behind.disk number
 
--- what stands behind the processor after an input
+-- what the processor is wired to, after an input
 abbrev pub after_key : Behind → ℕ → ℕ → Behind
 after_key b port byte =
     if port == 0
@@ -141,11 +141,11 @@ disk_after a (Sent port) address = sector_at a.disk address
 disk_after a (Sector drive sector) address = sector_at a.disk address
 disk_after a (Written number) address = bytes_after (reverse a.behind.writes) number address (sector_at a.disk address)
 
--- after an input that left the disk so
+-- after an input that left the disk in this state
 abbrev pub after_taking : Alone → Bare → List (List ℕ) → Alone
 after_taking a input disk = record a { behind = after_input a input; disk = disk }
 
--- where a sector comes under the head, a drive has it
+-- if a sector comes under the head, a drive has it
 abbrev pub ReadsSector : Alone → Bare → Type 0
 ReadsSector a (Sector drive sector) = IsSector (address_under a.behind.disk drive sector)
 ReadsSector a (Rx port byte) = Unit {0}

@@ -1,4 +1,4 @@
--- What stands behind the processor of the single machine, and what an instruction's accesses leave of it.
+-- What the processor of the single machine is wired to, and what an instruction's accesses leave of it.
 use Rattle.std.specs.Prelude.{ℕ, ◌==◌, ◌||◌, Bool, nat_le, if◌then◌else◌, Option, Some, None, List, [], ◌∷◌, ◌++◌, slice_index}
 use Rattle.disk_dcdd.specs.Drive.{Drives, at_boot}
 use Rattle.disk_dcdd.specs.declared.controller.TheConstants.{GREATEST_NUMBER}
@@ -22,7 +22,7 @@ pub record Behind : Type 0 where
   pub writes : List SectorWrite
   pub sense : ℕ
 
--- what the fields are
+-- what the fields mean
 abbrev pub behind_of : Wires → Behind
 behind_of w = record {
   memory = w.memory.bytes.items;
@@ -33,7 +33,7 @@ behind_of w = record {
   sense = w.sense;
 }
 
--- as a setup has it
+-- the same for a setup at boot
 abbrev pub behind_at_boot : Setup → Behind
 behind_at_boot setup = record {
   memory = setup.memory.items;
@@ -70,7 +70,7 @@ with_write writes None = writes
 with_write writes (Some (Byte to number byte)) = writes
 with_write writes (Some (Write write)) = writes ++ write ∷ []
 
--- a port after accesses that left the wiring so
+-- a port after accesses that left the wiring in this state
 abbrev pub line_after : ℕ → Line → Wired → Line
 line_after port l w = record {
   port = port_of w.devices port;
@@ -90,7 +90,7 @@ after_wired b w = record {
   sense = b.sense;
 }
 
--- the number of a port's bytes, or of writes, stands at its greatest
+-- the number of a port's bytes, or of writes, is at its greatest
 abbrev pub is_full : Behind → Bool
 is_full b =
     nat_le GREATEST_NUMBER b.first.issued

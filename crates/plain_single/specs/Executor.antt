@@ -1,4 +1,4 @@
--- What the executor gives of an instruction, in the words of the opcode table.
+-- What the executor returns for an instruction, in the words of the opcode table.
 use Rattle.std.specs.Prelude.{ℕ, Bool, true, false, List, [], ◌∷◌, slice_index, slice_set}
 use Rattle.i8080_words.specs.Effects as table
 use Rattle.i8080_words.specs.declared.instruction.Op.{Op}
@@ -11,7 +11,7 @@ use Rattle.plain_single.specs.declared.executor.Stores.TheVariants.{Nothing, Byt
 abbrev pub byte_at : List ℕ → ℕ → ℕ
 byte_at bytes address = slice_index bytes address
 
--- the accesses that store so
+-- the accesses that make these stores
 abbrev pub accesses_of : Stores → List table.Access
 accesses_of Nothing = []
 accesses_of (Byte at byte) = table.Access.Write at byte ∷ []
@@ -23,7 +23,7 @@ stored Nothing bytes = bytes
 stored (Byte at byte) bytes = slice_set bytes at byte
 stored (Bytes at byte next_at next) bytes = slice_set (slice_set bytes at byte) next_at next
 
--- what the table says of an instruction, as it is given
+-- an outcome as an effect of the table
 abbrev pub outcome_of : Outcome → table.Effect
 outcome_of x = record { regs = x.regs; accesses = accesses_of x.stores }
 

@@ -16,11 +16,11 @@ pub record IsSector (a : SectorAddress) : Type 0 where
   pub drive : a.drive < DRIVES
   pub place : is_on_disk a ≡ true
 
--- what a table of sectors has at an address; zeros where it has no place for it
+-- what a table of sectors has at an address; zeros if it has no place for it
 abbrev pub sector_at : List (List ℕ) → SectorAddress → List ℕ
 sector_at sectors a = option_map_or (λ index. slice_index_or sectors index zero_sector) (index_of a) zero_sector
 
--- what a sector has after a write, where it had these bytes before
+-- what a sector has after a write, if it had these bytes before
 abbrev pub bytes_with : SectorWrite → SectorAddress → List ℕ → List ℕ
 bytes_with write a bytes = if same_address (address_of write) a then write.bytes else bytes
 

@@ -93,7 +93,7 @@ acceptances port (t ∷ ts) = accepted_at port t.input + acceptances port ts
 
 -- ---- the machine's own disk
 
--- what a sector has where the write of this number is done
+-- what a sector has after the write of this number is done
 abbrev pub bytes_after : List SectorWrite → ℕ → SectorAddress → List ℕ → List ℕ
 bytes_after [] number address bytes = bytes
 bytes_after (write ∷ rest) number address bytes =
@@ -101,8 +101,8 @@ bytes_after (write ∷ rest) number address bytes =
     then (if same_address (address_of write) address then write.bytes else bytes)
     else bytes_after rest number address bytes
 
--- what a sector has after moves, where these writes were issued before them, the last one first: a write that is done
--- puts its bytes there
+-- what a sector has after moves, if these writes were issued before them, latest first: a write that is done puts its
+-- bytes there
 abbrev pub image_from : List SectorWrite → SectorAddress → List ℕ → List Move → List ℕ
 image_from issued address bytes [] = bytes
 image_from issued address bytes (Do None ∷ moves) = image_from issued address bytes moves
@@ -137,7 +137,7 @@ Owns {S} M before s (Take i ∷ moves) =
 
 -- ---- reach
 
--- the moves are the trace from boot with these timed inputs, each at its count, and no others, that ends at a count
+-- the moves are the trace from boot that ends at a count, with these timed inputs, each at its count, and no others
 pub record Reach {S : Type 0} (M : Machine S) (list : List Timed) (count : ℕ) (moves : List Move) : Type 0 where
   pub last : S
   pub runs : Runs M M.boot moves last

@@ -1,4 +1,4 @@
--- What a run of the single machine over a list of timed inputs answers, by the traces of its machine.
+-- What a run of the single machine over a list of timed inputs returns, by the traces of its machine.
 use Rattle.std.specs.Prelude.{◌≡◌, ℕ, ◌<◌, ◌≤◌, min, Bool, true, false, nat_lt, ◌||◌, ◌&&◌, if◌then◌else◌, None, List, [], ◌∷◌, ◌++◌, ◌⊎◌}
 use Rattle.i8080_words.specs.declared.refusal.Fault.{Fault}
 use Rattle.i8080_words.specs.declared.refusal.Fault.TheVariants.{OutOfMemory, Spent, NotDue, SectorBusy, Idle}
@@ -21,8 +21,8 @@ NeverFall from (t ∷ ts) = (from ≤ t.count) × NeverFall t.count ts
 
 -- ---- where a run ends
 
--- the single machine stands where moves from boot lead to: for the guest there, with what the moves sent, wrote and put
--- on the disk
+-- the single machine is where moves from boot lead: it stands for the guest there, with what the moves sent, wrote and
+-- put on the disk
 pub record StandsAfter (M : Machine Guest) (moves : List Move) (last : Guest) (a : Alone) : Type 0 where
   pub guest : StandsFor a last
   pub first : a.behind.first.output ≡ output 0 moves
@@ -30,11 +30,11 @@ pub record StandsAfter (M : Machine Guest) (moves : List Move) (last : Guest) (a
   pub writes : a.behind.writes ≡ writes moves
   pub disk : (address : SectorAddress) → IsSector address → sector_at a.disk address ≡ image M moves address
 
--- it stands at boot
+-- it is at boot
 abbrev pub IsAtBoot : Machine Guest → Alone → Type 0
 IsAtBoot M a = StandsAfter M [] M.boot a
 
--- it stands at the end of the trace with these inputs
+-- it is at the end of the trace with these inputs
 pub record StandsAt (M : Machine Guest) (list : List Timed) (a : Alone) : Type 0 where
   pub moves : List Move
   pub reach : Reach M list a.count moves
@@ -69,7 +69,7 @@ pub record MeetsRefused (M : Machine Guest) (list : List Timed) (count : ℕ) (f
   pub reach : Reach M before input.count moves
   pub refused : IsRefused M reach.last input.input fault
 
--- the trace of some of the inputs ends before a count, where the machine makes no step
+-- the trace of some of the inputs ends before a count, and the machine executes no step there
 pub record Stops (M : Machine Guest) (before : List Timed) (target : ℕ) : Type 0 where
   pub at : ℕ
   pub early : at < target
@@ -77,11 +77,11 @@ pub record Stops (M : Machine Guest) (before : List Timed) (target : ℕ) : Type
   pub reach : Reach M before at moves
   pub stuck : M.step reach.last ≡ None
 
--- the limit is past, or a number of the machine is spent
+-- the limit is passed, or a number of the machine is spent
 abbrev pub is_spent_at : Machine Guest → ℕ → Guest → Bool
 is_spent_at M count s = nat_lt GREATEST_NUMBER count || M.is_spent s
 
--- it ends there as a number is spent, or else as the machine idles
+-- it ends there because a number is spent, or else because the machine idles
 pub record StopsBy (M : Machine Guest) (before : List Timed) (target count : ℕ) (is_spent : Bool) : Type 0 where
   pub stops : Stops M before target
   pub why : is_spent_at M count stops.reach.last ≡ is_spent
@@ -108,8 +108,8 @@ pub record LeavesInput (M : Machine Guest) (list : List Timed) (count : ℕ) : T
   pub moves : List Move
   pub reach : Reach M before count moves
 
--- why a run is refused: by an input that is refused; else as the limit is past or a number is spent before the count;
--- else as the machine idles before it, or an input is left then; or for want of memory
+-- why a run is refused: an input is refused; otherwise the limit is passed or a number is spent before the count;
+-- otherwise the machine idles before it, or an input is left then; or out of memory
 abbrev pub Fails : Machine Guest → List Timed → ℕ → Fault → Type 0
 Fails M list count NotDue = MeetsRefused M list count NotDue
 Fails M list count SectorBusy = MeetsRefused M list count SectorBusy
@@ -118,7 +118,7 @@ Fails M list count Idle = StopsShort M list count false ⊎ LeavesInput M list c
 Fails M list count OutOfMemory = Unit {0}
 Fails M list count _ = ⊥
 
--- the same of the way to one count
+-- the same for the way to one count
 abbrev pub FailsBefore : Machine Guest → List Timed → ℕ → ℕ → Fault → Type 0
 FailsBefore M before target count Spent = StopsBy M before target count true
 FailsBefore M before target count Idle = StopsBy M before target count false

@@ -27,7 +27,7 @@ receiver_of Over = table.Over
 abbrev pub port_of : SerialLine → Port
 port_of l = port_with l.control l.received (receiver_of l.receiver) l.unaccepted
 
--- what the fields are
+-- what the fields mean
 abbrev pub line_of : SerialLine → Line
 line_of l = record { port = port_of l; output = l.output.items; issued = vec_len l.output; keys = l.keys }
 
@@ -39,7 +39,7 @@ line_at_boot = record { port = table_at_boot; output = []; issued = 0; keys = 0 
 abbrev pub with_port : Line → Port → Line
 with_port l p = record l { port = p }
 
--- OUT of the data register: where the port is ready, one more byte is sent
+-- OUT of the data register: if the port is ready, one more byte is sent
 abbrev pub after_send : Line → ℕ → Line
 after_send l byte =
     if is_ready l.port
@@ -55,6 +55,6 @@ after_send l byte =
 abbrev pub after_key : Line → ℕ → Line
 after_key l byte = record l { port = after_receive l.port byte; keys = l.keys + 1 }
 
--- an input is refused where it is not due
+-- an input is refused if it is not due
 abbrev pub due_unless : Bool → Option Fault
 due_unless is_due = if is_due then None else Some NotDue

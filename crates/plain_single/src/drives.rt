@@ -16,13 +16,13 @@ use i8080_words::R;
 use passing::{LAST_BYTE, NOTHING, SECTOR_BYTES, Selection, Stage};
 use std::alloc::Global;
 
-// How many drives a controller has at most.
+// The most drives that a controller can have.
 const DRIVES: usize = 4;
 
-// How many writes may wait to be done.
+// The most writes that may wait to be done.
 const AWAITED: usize = 8;
 
-// The places of the status bits. Bit 1, that the head may move, is always 0, and so are bits 3 and 4, which are not used.
+// The places of the status bits. Bit 1 (the head may move) is always 0, and so are bits 3 and 4, which are not used.
 const ENTER_NEW_WRITE_DATA: u8 = 0;
 
 const HEAD_STATUS: u8 = 2;
@@ -33,7 +33,7 @@ const TRACK_ZERO: u8 = 6;
 
 const NEW_READ_DATA: u8 = 7;
 
-/// A write that is not done yet: its number, and the sector to which it goes.
+/// A write that is not done yet: its number, and the sector that it goes to.
 #[derive(Clone, Copy)]
 pub(crate) struct Awaited {
     pub(crate) number: u64,
@@ -42,8 +42,8 @@ pub(crate) struct Awaited {
     pub(crate) sector: u8,
 }
 
-/// How many drives there are, which one is selected, their heads, whether interrupts are enabled, the writes that are not
-/// done, and all writes, by their number.
+/// How many drives there are, which one is selected, their heads, whether interrupts are enabled, the writes that are
+/// not done, and all writes, in order of number.
 #[derive(Drop)]
 pub(crate) struct DiskDrives {
     pub(crate) attached: u8,
@@ -59,7 +59,7 @@ pub(crate) struct DiskDrives {
 impl DiskDrives {
     ghost use Rattle.plain_single.specs.Drives.{drives_of, next_write, with_issued};
 
-    /// So many drives, from 1 to 4, as they are switched on.
+    /// This many drives, from 1 to 4, when they are switched on.
     pub(crate) fn new(alloc: Global, attached: u8) -> Self
         requires { attached ≤ 4 }
         ensures drives { drives_of result ≡ table.at_boot attached }
@@ -75,7 +75,7 @@ impl DiskDrives {
         }
     }
 
-    /// The same drives again.
+    /// A copy of the drives.
     pub(crate) fn copy(&self, alloc: Global) -> R<Self>
         ensures ok { IfOk result (λ drives. drives_of drives ≡ drives_of self.now) }
         ensures writes { IfOk result (λ drives. drives.writes.items ≡ self.now.writes.items) }
@@ -100,7 +100,7 @@ impl DiskDrives {
         self.awaited.len() < AWAITED
     }
 
-    /// OUT 08h: a drive is selected, or none, and the sector leaves.
+    /// OUT 08h: selects a drive, or none, and the sector leaves.
     pub(crate) fn select(&mut self, byte: u8)
         ensures drives { drives_of self.new ≡ table.after_select (drives_of self.old) byte }
         ensures writes { self.new.writes ≡ self.old.writes }
@@ -114,7 +114,7 @@ impl DiskDrives {
         };
     }
 
-    /// IN 08h: the status of the selected drive, each bit 0 while its fact holds.
+    /// IN 08h: the status of the selected drive, each bit 0 while its condition holds.
     pub(crate) fn status(&self) -> u8
         ensures { result ≡ table.status_of (drives_of self.now) }
     {
@@ -131,7 +131,7 @@ impl DiskDrives {
             + low(may_read, NEW_READ_DATA)
     }
 
-    /// OUT 09h: the selected drive is commanded.
+    /// OUT 09h: commands the selected drive.
     pub(crate) fn command(&mut self, byte: u8)
         ensures drives { drives_of self.new ≡ table.after_command (drives_of self.old) byte }
         ensures writes { self.new.writes ≡ self.old.writes }
@@ -188,7 +188,7 @@ impl DiskDrives {
         Ok(())
     }
 
-    // A write of a sector of the selected drive is issued, and the sector leaves.
+    // Issues a write of a sector of the selected drive, and the sector leaves.
     fn issue(&mut self, drive: u8, sector: u8, bytes: [u8; SECTOR_BYTES]) -> R<()>
         requires selected { selected_of self.old.selection ≡ Some drive }
         requires numbers { vec_len self.old.writes < GREATEST_NUMBER }
@@ -233,7 +233,7 @@ fn enabled(before: bool, byte: u8) -> bool
     !disable && (enable || before)
 }
 
-// A status bit, which is 0 while its fact holds.
+// A status bit, which is 0 while its condition holds.
 fn low(holds: bool, place: u8) -> u8
     requires { place < 8 }
     ensures value { result ≡ (if holds then 0 else 2 ^ place) }

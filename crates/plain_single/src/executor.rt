@@ -1,4 +1,4 @@
-//! What each instruction does, a line for each: from registers to registers, with what it stores.
+//! What each instruction does, one line for each: from registers to registers, with what it stores.
 ghost use Rattle.std.specs.Prelude.{◌≡◌, ℕ, false};
 ghost use Rattle.i8080_words.specs.Effects as table;
 ghost use Rattle.plain_single.specs.Executor.{byte_at, outcome_of, is_at_port};
@@ -40,7 +40,7 @@ pub(crate) fn quiet(regs: Regs) -> Outcome
     }
 }
 
-/// The effect of every instruction but IN and OUT, on registers whose PC is behind it.
+/// The effect of every instruction but IN and OUT, on registers whose PC is past it.
 pub(crate) fn effect(op: Op, regs: &Regs, memory: &Memory) -> Outcome
     requires { is_at_port op ≡ false }
     ensures { (ports : ℕ → ℕ) → outcome_of result ≡ table.effect op regs.now (byte_at memory.now.bytes.items) ports }

@@ -30,7 +30,7 @@ pub(crate) struct DiskImage {
 }
 
 impl DiskImage {
-    /// A disk of zeros, and these writes on it in turn.
+    /// A disk of zeros with these writes put on it in turn.
     pub(crate) fn new(alloc: Global, writes: &[SectorWrite]) -> R<Self>
         ensures ok { IfOk result (λ image. (a : SectorAddress) → IsSector a
             → sector_at image.sectors.items a ≡ boot_sectors writes.now a) }
@@ -56,7 +56,7 @@ impl DiskImage {
         Ok(DiskImage { sectors })
     }
 
-    /// The same disk again.
+    /// A copy of the disk.
     pub(crate) fn copy(&self, alloc: Global) -> R<Self>
         ensures ok { IfOk result (λ image. image.sectors.items ≡ self.now.sectors.items) }
         ensures only_memory { IfErr result (λ fault. fault ≡ OutOfMemory) }
@@ -65,7 +65,7 @@ impl DiskImage {
         Ok(DiskImage { sectors })
     }
 
-    /// The bytes of a sector; zeros where no drive has such a sector.
+    /// The bytes of a sector; zeros if no drive has such a sector.
     #[tactic(auto, unfolding(crate::specs::Image::zero_sector))]
     pub(crate) fn get(&self, address: SectorAddress) -> [u8; SECTOR_BYTES]
         ensures { result ≡ sector_at self.now.sectors.items address }
@@ -76,7 +76,7 @@ impl DiskImage {
         }
     }
 
-    /// A write is put on the disk.
+    /// Puts a write on the disk.
     pub(crate) fn put(&mut self, write: &SectorWrite)
         ensures { (a : SectorAddress) → IsSector a
             → sector_at self.new.sectors.items a ≡ bytes_with write.now a (sector_at self.old.sectors.items a) }
@@ -94,7 +94,7 @@ impl DiskImage {
         }
     }
 
-    /// The write of this number, one of these, is put on the disk.
+    /// Puts the write of this number, one of these, on the disk.
     pub(crate) fn complete(&mut self, writes: &[SectorWrite], number: u64)
         ensures { (a : SectorAddress) → IsSector a → sector_at self.new.sectors.items a
             ≡ bytes_after (reverse writes.now) number a (sector_at self.old.sectors.items a) }
@@ -105,7 +105,7 @@ impl DiskImage {
     }
 }
 
-// The place of a sector in the table. `None` where no drive has a track or a sector of this number.
+// The index of a sector in the table. `None` if no drive has a track or a sector of this number.
 fn place_of(address: SectorAddress) -> Option<usize>
     ensures { result ≡ index_of address }
 {

@@ -1,5 +1,5 @@
-//! The single machine, run by itself from a list of timed inputs: a second executor, with its own fetch, dispatch, memory,
-//! serial lines and drives; with the board it shares the words of the 8080 and plain data alone.
+//! The single machine, run by itself from a list of timed inputs: a second executor, with its own fetch, dispatch,
+//! memory, serial lines and drives; it shares only the vocabulary of the 8080 and plain data with the board.
 #![tactic(auto)]
 
 mod drives;

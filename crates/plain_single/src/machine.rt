@@ -9,8 +9,8 @@ use crate::image::DiskImage;
 use crate::wires::Wires;
 use i8080_words::Processor;
 
-/// The processor, what it is wired to, the disk, how many steps were made, and the interrupt level of port 0, port 1
-/// and the drives.
+/// The processor, what it is wired to, the disk, how many steps were executed, and the interrupt level of port 0, port
+/// 1 and the drives.
 #[derive(Drop)]
 pub(crate) struct Machine {
     pub(crate) processor: Processor,

@@ -21,7 +21,7 @@ impl Memory {
         self.bytes[address as usize]
     }
 
-    /// The word whose low byte stands at an address.
+    /// The word whose low byte is at an address.
     pub(crate) fn word(&self, address: u16) -> u16
         ensures { result ≡ word_at (byte_at self.now.bytes.items) address }
     {

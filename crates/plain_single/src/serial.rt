@@ -25,7 +25,7 @@ pub(crate) enum Receiver {
 }
 
 /// A port with what has gone through it: its registers, how many sent bytes are not accepted, all bytes that it sent,
-/// and how many keys came.
+/// and how many keys arrived.
 #[derive(Drop)]
 pub(crate) struct SerialLine {
     pub(crate) control: u8,
@@ -51,7 +51,7 @@ impl SerialLine {
         }
     }
 
-    /// The same port again.
+    /// A copy of the port.
     pub(crate) fn copy(&self, alloc: Global) -> R<Self>
         ensures ok { IfOk result (λ line. line_of line ≡ line_of self.now) }
         ensures only_memory { IfErr result (λ fault. fault ≡ OutOfMemory) }
@@ -135,8 +135,7 @@ impl SerialLine {
         self.received
     }
 
-    /// OUT of the data register: the byte goes to the terminal in the port's format, or is lost where the window is
-    /// full.
+    /// OUT of the data register: the byte goes to the terminal in the port's format, or is lost if the window is full.
     pub(crate) fn send(&mut self, byte: u8) -> R<()>
         ensures ok { IfOk result (λ _. line_of self.new ≡ after_send (line_of self.old) byte) }
         ensures only_memory { IfErr result (λ fault. fault ≡ OutOfMemory) }
@@ -148,7 +147,7 @@ impl SerialLine {
         Ok(())
     }
 
-    /// A key comes. `NotDue` where no more of them can be counted.
+    /// A key arrives. `NotDue` if no more of them can be counted.
     pub(crate) fn receive(&mut self, byte: u8) -> R<()>
         ensures answer { result ≡ answered (due_unless (nat_lt self.old.keys GREATEST_NUMBER)) }
         ensures after { OnOk result (line_of self.new ≡ after_key (line_of self.old) byte) }
@@ -168,7 +167,7 @@ impl SerialLine {
         Ok(())
     }
 
-    /// The terminal has accepted a byte. `NotDue` where none is unaccepted.
+    /// The terminal has accepted a byte. `NotDue` if none is unaccepted.
     pub(crate) fn accept(&mut self) -> R<()>
         ensures answer { result ≡ answered (due_unless (table.is_sent_due (port_of self.old))) }
         ensures after { OnOk result (line_of self.new

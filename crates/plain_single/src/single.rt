@@ -19,7 +19,7 @@ use i8080_words::{Processor, R};
 use std::alloc::Global;
 use std::marker::Model;
 
-/// An Altair by itself, with a disk of its own: its own executor over the opcode table, apart from the board's.
+/// An Altair by itself, with a disk of its own: its own executor over the opcode table, separate from the board's.
 #[derive(Drop)]
 pub struct Single {
     machine: Machine,
@@ -34,8 +34,8 @@ impl Model for Single {
 }
 
 impl Single {
-    /// The machine of a setup at count 0. Of the sectors at boot the last one that goes to a place counts, and every
-    /// other place is zeros; numbers are not looked at. `OutOfMemory` is the allocator's refusal.
+    /// The machine of a setup at count 0. Of the sectors at boot, the last one that goes to a place counts, and every
+    /// other place is zeros; their numbers are ignored. `OutOfMemory` if the allocator refuses.
     #[tactic(auto, using(crate::proofs::Boot::at_boot))]
     pub fn boot(alloc: Global, setup: &Setup, sectors: &[SectorWrite]) -> R<Single>
         ensures ok { IfOk result (λ single. IsAtBoot (altair setup.now (boot_sectors sectors.now)) single) }
@@ -46,12 +46,12 @@ impl Single {
         Ok(Single { machine })
     }
 
-    /// Runs a machine that stands at boot from a list of inputs to a count: each input is taken at its own count.
+    /// Runs a machine that is at boot from a list of inputs to a count: each input is taken at its own count.
     ///
-    /// `NotDue` and `SectorBusy` where the machine comes to an input that it refuses, a port that is not there
-    /// included; else `Spent` where the count is past 2^62 - 1 or a number of the machine is spent before it; else
-    /// `Idle` where the machine idles before the count, or an input stands behind it. `OutOfMemory` is the
-    /// allocator's refusal, and the only one where the trace of the inputs reaches the count.
+    /// `NotDue` and `SectorBusy` if the machine reaches an input that it refuses, which includes a port that does not
+    /// exist; otherwise `Spent` if the count is past 2^62 - 1 or a number of the machine is spent before it; otherwise
+    /// `Idle` if the machine idles before the count, or an input is past it. `OutOfMemory` if the allocator refuses,
+    /// which is the only refusal if the trace of the inputs reaches the count.
     pub fn run(&self, alloc: Global, inputs: &[Timed], count: u64) -> R<Single>
         requires boot { self.now.count ≡ 0 }
         requires rising { NeverFall 0 inputs.now }
@@ -81,7 +81,7 @@ impl Single {
         }
     }
 
-    /// The sector writes that the machine has issued, by their number.
+    /// The sector writes that the machine has issued, in order of number.
     pub fn writes(&self) -> &[SectorWrite]
         ensures { result.now ≡ self.now.behind.writes }
     {
@@ -89,14 +89,14 @@ impl Single {
     }
 
     /// What the machine's disk has in a sector: the bytes of the last write of it that is done, or those at boot. Zeros
-    /// where no drive has such a sector.
+    /// if no drive has such a sector.
     pub fn image(&self, address: SectorAddress) -> [u8; SECTOR_BYTES]
         ensures { result ≡ sector_at self.now.disk address }
     {
         self.machine.disk.get(address)
     }
 
-    /// How many steps the machine has made.
+    /// How many steps the machine has executed.
     pub fn count(&self) -> u64
         ensures { result ≡ self.now.count }
     {

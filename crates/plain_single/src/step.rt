@@ -21,7 +21,7 @@ pub(crate) fn heard(interrupts: Interrupts, line: Option<u8>) -> Option<u8>
     }
 }
 
-/// A request of level n, from 0 to 7, is accepted as RST n.
+/// Accepts a request of level n, from 0 to 7, as RST n.
 pub(crate) fn accept(level: u8, processor: &mut Processor, wires: &mut Wires)
     requires { level < 8 }
     ensures processor { processor.new ≡ (steps.accepted level processor.old).after }
@@ -35,7 +35,7 @@ pub(crate) fn accept(level: u8, processor: &mut Processor, wires: &mut Wires)
     wires.store(outcome.stores);
 }
 
-/// The instruction at PC is executed.
+/// Executes the instruction at PC.
 pub(crate) fn run(processor: &mut Processor, wires: &mut Wires) -> R<()>
     requires { is_full (behind_of wires.old) ≡ false }
     ensures processor { IfOk result (λ _. processor.new
@@ -58,7 +58,7 @@ pub(crate) fn run(processor: &mut Processor, wires: &mut Wires) -> R<()>
     execute(op, processor, wires)
 }
 
-// An instruction is executed, PC standing behind it.
+// Executes an instruction, with PC past it.
 fn execute(op: Op, processor: &mut Processor, wires: &mut Wires) -> R<()>
     requires { is_full (behind_of wires.old) ≡ false }
     ensures processor { IfOk result (λ _. processor.new
@@ -77,7 +77,7 @@ fn execute(op: Op, processor: &mut Processor, wires: &mut Wires) -> R<()>
     Ok(())
 }
 
-// What an instruction does to the registers, and behind the processor.
+// What an instruction does to the registers, and to what the processor is wired to.
 fn carry_out(op: Op, regs: &mut Regs, wires: &mut Wires) -> R<()>
     requires { is_full (behind_of wires.old) ≡ false }
     ensures regs { IfOk result (λ _. regs.new
@@ -102,7 +102,7 @@ fn carry_out(op: Op, regs: &mut Regs, wires: &mut Wires) -> R<()>
     Ok(())
 }
 
-// EI takes effect after the instruction behind it, DI at once.
+// EI takes effect after the next instruction, DI at once.
 fn interrupts_after(op: Op, interrupts: Interrupts) -> Interrupts
     ensures { result ≡ steps.interrupts_after op interrupts }
 {

@@ -1,4 +1,4 @@
-//! Programs by themselves: output, keys, a sector written and read, and each refusal.
+//! Programs on the machine alone: output, keys, a sector written and read, and each refusal.
 ghost use Rattle.std.specs.Prelude.{◌≡◌, IfOk};
 ghost use Rattle.plain_single.specs.Reaching.{NeverFall};
 

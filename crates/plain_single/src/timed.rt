@@ -3,13 +3,13 @@
 /// An input without what only the log carries: a sector's bytes and its write's number are those of the machine's disk.
 #[derive(Clone, Copy, Debug, PartialEq, Eq)]
 pub enum Bare {
-    /// A byte comes from the terminal of this port.
+    /// A byte arrives from the terminal of this port.
     Rx(u8, u8),
-    /// The terminal of this port has accepted the oldest byte that it had not accepted yet.
+    /// The terminal of this port has accepted the oldest byte that was not yet accepted.
     Sent(u8),
     /// A sector of this drive, of this number, comes under the head.
     Sector(u8, u8),
-    /// The write of this number stands on the disk.
+    /// The write of this number is on the disk.
     Written(u64),
 }
 

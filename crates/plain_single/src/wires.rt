@@ -1,4 +1,4 @@
-//! What stands behind the processor: memory, two serial ports and the drives, by port number.
+//! What the processor is wired to: memory, two serial ports and the drives, by port number.
 ghost use Rattle.std.specs.Prelude.{◌≡◌, false, IfOk, IfErr};
 ghost use Rattle.i8080_words.specs.Effects.{after_accesses};
 ghost use Rattle.i8080_words.specs.Effects.Access.{Input, Output};
@@ -35,7 +35,7 @@ const DISK_BYTES: u8 = 0x0a;
 
 const SENSE_SWITCHES: u8 = 0xff;
 
-// What IN gives where nothing answers.
+// What IN returns if nothing answers.
 const NOTHING: u8 = 0xff;
 
 /// Memory, the ports, the drives, and the sense switches.
@@ -64,7 +64,7 @@ impl Wires {
         })
     }
 
-    /// The same again.
+    /// A copy.
     pub(crate) fn copy(&self, alloc: Global) -> R<Self>
         ensures ok { IfOk result (λ wires. behind_of wires ≡ behind_of self.now) }
         ensures only_memory { IfErr result (λ fault. fault ≡ OutOfMemory) }
@@ -79,7 +79,7 @@ impl Wires {
         })
     }
 
-    /// Whether the number of a port's bytes, or of writes, stands at its greatest.
+    /// Whether the number of a port's bytes, or of writes, is at its greatest.
     pub(crate) fn is_spent(&self) -> bool
         ensures { result ≡ is_full (behind_of self.now) }
     {
@@ -104,7 +104,7 @@ impl Wires {
         }
     }
 
-    /// What an instruction stores.
+    /// Stores what an instruction stores.
     pub(crate) fn store(&mut self, stores: Stores)
         ensures { behind_of self.new ≡ after_wired (behind_of self.old)
             (after_accesses after_access (accesses_of stores) (wired_of (behind_of self.old))) }

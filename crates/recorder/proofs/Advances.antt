@@ -1,5 +1,5 @@
 -- What an advance records. Steps that give nothing push nothing, so one by one they record as many steps and no entry;
--- the step that gives an operation is recorded behind them, with its mark.
+-- the step that gives an operation is recorded after them, with its mark.
 use Rattle.std.proofs.Common.{◌≡◌, ℕ, zero, suc, ◌+◌, List, [], ◌∷◌, ◌++◌, Some, None, refl, sym, ap, ◌∙◌, arith}
 use Rattle.std.proofs.lemmas.List.{append-nil}
 use Rattle.event_callbacks.specs.declared.operations.Operation.{Operation}
@@ -16,7 +16,7 @@ use Rattle.guest_board.specs.Running.{Quiet, Begin, More}
 use Rattle.recorder.specs.Recording.{Advances, AllTurns, Gives, Idles, IsSpent, WantsMemory}
 use Rattle.recorder.specs.declared.advanced.Advanced.{Advanced}
 
--- steps that give nothing, with other moves behind them
+-- steps that give nothing, followed by other moves
 abbrev pub quiet_moves : ℕ → List Move → List Move
 quiet_moves zero moves = moves
 quiet_moves (suc n) moves = quiet_moves n (Do None ∷ moves)

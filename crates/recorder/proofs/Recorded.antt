@@ -1,6 +1,6 @@
--- Recorded runs and what they push. A run behind a run is a run, and since a machine's count rises by one at a step and
--- stays at an input, the entries of the second begin at the count where the first ends. So the entries of both are
--- those of the first with those of the second behind them, and what each pushes is what the whole run pushes.
+-- Recorded runs and what they push. A run after a run is a run, and since a machine's count rises by one at a step and
+-- is unchanged by an input, the entries of the second begin at the count where the first ends. So the entries of both
+-- are those of the first followed by those of the second, and what each pushes is what the whole run pushes.
 use Rattle.std.proofs.Common.{◌≡◌, suc, ◌+◌, arith, List, [], ◌∷◌, ◌++◌, sym, ap, subst, ◌∙◌}
 use Rattle.std.proofs.lemmas.List.{append_assoc}
 use Rattle.guest_board.specs.Machine.{Machine, Move, Do, Take, Runs}

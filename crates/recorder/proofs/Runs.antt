@@ -1,6 +1,6 @@
--- How an advance ends, by how the guest's run ended. Where a step was made, the first was not refused; so what refuses the
--- first step refuses the advance, and what refuses a later one is only why it stopped. The mark of the operation that
--- ends a run is all that is pushed.
+-- How an advance ends, by how the guest's run ended. If a step was executed, the first was not refused; so what refuses
+-- the first step refuses the advance, and what refuses a later one is only why it stopped. Only the mark of the
+-- operation that ends a run is pushed.
 use Rattle.std.proofs.Common.{◌≡◌, ℕ, zero, suc, ◌<◌, ◌⊎◌, inl, inr, Bool, true, false, cond, Option, Some, None, Ok, Err, is_none, refl, sym, ap, subst, ◌∙◌, arith}
 use Rattle.event_callbacks.specs.Operations.{id_of}
 use Rattle.event_callbacks.specs.declared.operations.OpId.{OpId}
@@ -20,7 +20,7 @@ use Rattle.recorder.specs.Recording.{advanced, Advances, AllTurns, Gives, Idles,
 use Rattle.recorder.specs.declared.advanced.Why.{Why}
 use Rattle.recorder.specs.declared.advanced.Why.TheVariants as why
 
--- ---- an advance of which the first step was not refused
+-- ---- an advance whose first step was not refused
 
 unrefused : {S : Type 0} (M : Machine S) (s t : S) (log new : Log) (turns n : ℕ) (reason : Why) → 0 < n
     → step_refusal M s ≡ None → Advances M s log turns (advanced n reason) t new

@@ -1,4 +1,4 @@
--- What whoever keeps a recorder may count on.
+-- What users of a recorder may rely on.
 use Rattle.std.specs.Prelude.{◌≡◌, ℕ, ◌+◌, Ok, List, [], ◌∷◌, ◌++◌}
 use Rattle.guest_board.specs.Machine.{Machine, Move, Take, Runs}
 use Rattle.guest_board.specs.Recorded.{Counts, Recorded}
@@ -33,7 +33,7 @@ abbrev pub OffersRecord : Type 0 → Type 0
 OffersRecord S = (M : Machine S) (s t : S) (log new : Log) (input : Input) (index : ℕ)
     → Offers M s log input (Ok index) t new → Records M s log (Take input ∷ []) t new
 
--- one run behind another is one run, and what both push is what it pushes
+-- one run after another is one run, and what both push is what it pushes
 abbrev pub RecordsJoin : Type 0 → Type 0
 RecordsJoin S = (M : Machine S) (s t u : S) (log middle new : Log) (moves more : List Move) → Counts M
     → Records M s log moves t middle → Records M t middle more u new → Records M s log (moves ++ more) u new

@@ -36,7 +36,7 @@ pub data Advances {S : Type 0} (M : Machine S) (s : S) (log : Log) (turns : ℕ)
   WantsMemory : {n : ℕ} {t : S} → n < turns → Quiet M s n t → step_refusal M t ≡ None
       → Advances M s log turns (advanced n why.Memory) t log
 
--- why a guest stops that is refused a step
+-- why a guest that is refused a step stops
 abbrev pub why_of : Fault → Why
 why_of Idle = why.Idle
 why_of Spent = why.Spent
@@ -47,17 +47,17 @@ abbrev pub refusal_behind : Result (Unit {0}) Fault → Option Fault → Option 
 refusal_behind (Err fault) refusal = Some fault
 refusal_behind (Ok room) refusal = refusal
 
--- why no step is made, want of memory apart; no turns are never refused
+-- why no step is executed, other than out of memory; an advance of no turns is never refused
 abbrev pub advance_refusal : {S : Type 0} → Machine S → S → Log → ℕ → Option Fault
 advance_refusal M s log zero = None
 advance_refusal M s log (suc turns) = refusal_behind (room_answer log) (step_refusal M s)
 
--- an advance that nothing refuses makes a step or wants memory, unless no turns are asked
+-- an advance that nothing refuses executes a step or runs out of memory, unless it has no turns
 abbrev pub AdvancesSome : {S : Type 0} → Machine S → S → Log → ℕ → Result Advanced Fault → S → Log → Type 0
 AdvancesSome M s log turns (Ok a) t new = Advances M s log turns a t new × ((turns ≡ 0) ⊎ (0 < a.steps))
 AdvancesSome M s log turns (Err fault) t new = (fault ≡ OutOfMemory) × (0 < turns) × (t ≡ s) × (new ≡ log)
 
--- what an advance answers and leaves; a refusal changes nothing
+-- what an advance returns and leaves; a refusal changes nothing
 abbrev pub AdvancesUnless : {S : Type 0} → Machine S → S → Log → ℕ → Option Fault → Result Advanced Fault → S → Log
     → Type 0
 AdvancesUnless M s log turns (Some fault) answer t new = (answer ≡ Err fault) × (t ≡ s) × (new ≡ log)
@@ -65,7 +65,7 @@ AdvancesUnless M s log turns None answer t new = AdvancesSome M s log turns answ
 
 -- ---- offer
 
--- the guest's refusal comes before the log's; else the answer is the entry's index
+-- the guest's refusal comes before the log's; otherwise the answer is the entry's index
 abbrev pub offer_answer : Option Fault → Log → Result ℕ Fault
 offer_answer (Some fault) log = Err fault
 offer_answer None log = push_answer log

@@ -16,7 +16,7 @@ use i8080_words::R;
 use log_buffer::LogBuffer;
 use log_entry::Entry;
 
-/// A guest with the log of what it was given and of what it gave (VMware FT, section 2.1).
+/// A guest with the log of what it was given and what it gave (VMware FT, section 2.1).
 #[derive(Drop)]
 pub struct Recorder<B> {
     board: B,
@@ -63,8 +63,8 @@ impl<B: Lockstep> Recorder<B> {
         board
     }
 
-    /// Makes at most `turns` steps, and stops after the first that gives an operation, whose mark is logged. It is
-    /// refused only where no step is made: `LogFull` and `Spent` by the log, `Spent` and `Idle` by the guest, and
+    /// Executes at most `turns` steps, and stops after the first that gives an operation, whose mark is logged. Refused
+    /// only if no step is executed: `LogFull` and `Spent` by the log, `Spent` and `Idle` by the guest, and
     /// `OutOfMemory`.
     pub fn advance(&mut self, turns: u64) -> R<Advanced>
         ensures answer { table.AdvancesUnless B.machine (B.state self.old.board) self.old.log turns
@@ -82,8 +82,8 @@ impl<B: Lockstep> Recorder<B> {
         run(&mut self.board, &mut self.log, turns)
     }
 
-    /// Takes an input, and logs it at the guest's count, as an entry that can be spelled. Gives the index of the entry.
-    /// It takes no memory, and is refused as the guest refuses the input, and then as the log refuses an entry.
+    /// Takes an input, and logs it at the guest's count, as an entry that can be spelled. Returns the index of the
+    /// entry. Allocates no memory, and is refused as the guest refuses the input, and then as the log refuses an entry.
     pub fn offer(&mut self, input: Input) -> R<u64>
         requires input { IsInput input }
         requires room { HasRoom B.machine (B.state self.old.board) input }

@@ -11,7 +11,8 @@ use i8080_words::{Fault, R};
 use log_buffer::LogBuffer;
 use log_entry::Entry;
 
-// At most so many steps, up to the first that gives an operation, whose mark is logged. Refused where none is made.
+// Executes at most `turns` steps, up to the first that gives an operation, whose mark is logged. Refused if none is
+// executed.
 pub(crate) fn run<B: Lockstep>(board: &mut B, log: &mut LogBuffer, turns: u64) -> R<Advanced>
     requires some { 0 < turns }
     requires room { room_answer log.old ≡ Ok tt }
@@ -40,7 +41,7 @@ pub(crate) fn run<B: Lockstep>(board: &mut B, log: &mut LogBuffer, turns: u64) -
     }
 }
 
-// Logs the mark of an operation that was given at a count, and gives its index.
+// Logs the mark of an operation that was given at a count, and returns its index.
 fn push_mark(count: u64, log: &mut LogBuffer) -> u64
     requires room { room_answer log.old ≡ Ok tt }
     ensures index { result ≡ next_of log.old }
@@ -52,7 +53,7 @@ fn push_mark(count: u64, log: &mut LogBuffer) -> u64
     }
 }
 
-// Why a guest stops that is refused a step.
+// Why a guest that is refused a step stops.
 fn why_of(fault: Fault) -> Why
     ensures { result ≡ table.why_of fault }
 {

@@ -10,7 +10,7 @@ use log_buffer::LogBuffer;
 use log_entry::Entry;
 use std::process::Abort;
 
-// No test offers so many keys.
+// No test offers this many keys.
 const KEYS: u64 = 1000;
 
 fn offer(rt: &impl Abort, recorder: &mut Recorder<Echo>, input: Input) -> R<u64>

@@ -1,6 +1,6 @@
 -- A replayer never passes the count of the last entry that was held. The counts of what is held never fall, from the
 -- machine's own on, and the last of them stays what it was: a step leaves the machine at or below the first, and an
--- entry is popped where the machine stands at its count.
+-- entry is popped when the machine is at its count.
 use Rattle.std.proofs.Common.{◌≡◌, ℕ, suc, ◌≤◌, Bool, true, false, List, [], ◌∷◌, ◌++◌, Some, None, refl, sym, ap, subst, ◌∙◌, arith}
 use Rattle.guest_board.specs.Machine.{Machine, Move, Do, Take}
 use Rattle.guest_board.specs.Recorded.{Counts}

@@ -1,7 +1,7 @@
--- What the first entry that is held says of the next move. No entry of a run stands below the count at which the run
--- begins. So where the first entry stands at a later count than the machine, the next move is a step and no mark is
--- owed; where it stands at the machine's count and has an input, that input is the next move; and where it has none, it
--- is the mark that is owed.
+-- What the first entry that is held says of the next move. No entry of a run is below the count at which the run
+-- begins. So if the first entry is at a later count than the machine, the next move is a step and no mark is owed; if
+-- it is at the machine's count and has an input, that input is the next move; and if it has none, it is the mark that
+-- is owed.
 use Rattle.std.proofs.Common.{◌≡◌, ℕ, suc, ◌<◌, ◌≤◌, Bool, true, false, List, [], ◌∷◌, ◌++◌, Option, Some, None, refl, sym, ap, subst, ◌∙◌, arith}
 use Rattle.event_callbacks.specs.declared.operations.Operation.{Operation}
 use Rattle.guest_board.specs.Machine.{Machine, Move, Do, Take}
@@ -34,7 +34,7 @@ same_first a b xs ys e = cc
 same_rest : (a b : Entry) (xs ys : List Entry) → a ∷ xs ≡ b ∷ ys → xs ≡ ys
 same_rest a b xs ys e = cc
 
--- no entry stands before the count at which the moves begin
+-- no entry is before the count at which the moves begin
 not_before : (count : ℕ) (moves : List Move) (e : Entry) (es : List Entry) → e ∷ es ≡ entries count moves
     → count ≤ count_of e
 not_before count [] e es h = absurd cc

@@ -1,6 +1,6 @@
--- What the first entry that is held allows. Where it stands at a later count, a step can be made, and nothing but want
--- of memory can refuse it; it never stands at an earlier one; where it stands at the machine's count, its input, if it
--- has one, is accepted, and it is popped with that move.
+-- What the first entry that is held allows. If it is at a later count, a step can be executed, and is refused only when
+-- out of memory; it is never at an earlier one; if it is at the machine's count, its input, if it has one, is accepted,
+-- and it is popped with that move.
 use Rattle.std.proofs.Common.{◌≡◌, ℕ, ◌<◌, ◌≤◌, true, false, List, [], ◌∷◌, ◌++◌, Option, Some, None, Ok, Err, refl, sym, ap, subst, ◌∙◌, arith, drop, slice_get, cond, is_none}
 use Rattle.event_callbacks.specs.declared.operations.Operation.{Operation}
 use Rattle.guest_board.specs.Lockstep.{Takes as TakesInput, step_refusal}
@@ -38,7 +38,7 @@ next_ones M s held e on first =
 
 -- ---- a step
 
--- a machine that makes a step is neither spent nor idle
+-- a machine that executes a step is neither spent nor idle
 step_allowed : {S : Type 0} (M : Machine S) (s t : S) (gives : Option Operation) → Counts M
     → M.step s ≡ Some (t, gives) → step_refusal M s ≡ None
 step_allowed M s t gives counts made =

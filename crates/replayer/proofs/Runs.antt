@@ -1,5 +1,5 @@
 -- How a replay ends. Its moves are moves by the entries that were held, so whatever holds after any such moves holds
--- after them; and it ended where no turns were left, no entry was held, or a step wanted memory.
+-- after them; and it ended because no turns were left, no entry was held, or a step ran out of memory.
 use Rattle.std.proofs.Common.{◌≡◌, ℕ, suc, ◌+◌, ◌<◌, ◌≤◌, Bool, true, false, List, [], ◌∷◌, Result, Ok, Err, refl, sym, subst, ◌∙◌, arith, IsTrue}
 use Rattle.std.specs.Prelude.{◌↔◌}
 use Rattle.guest_board.specs.Machine.{Machine}
@@ -30,7 +30,7 @@ replayed M s t held left turns (Ok r) a = (r.moves, a.replays)
 replayed M s t held left turns (Err fault) a =
     (0, subst (λ t. Replays M s held 0 t left) (sym a.3) (subst (λ l. Replays M s held 0 s l) (sym a.4) Begin))
 
--- nothing was done where no move was made
+-- nothing was done if no move was made
 pub nothing_done : {S : Type 0} (M : Machine S) (s : S) (held : List Entry) (t : S) (left : List Entry) (n : ℕ) → n ≡ 0
     → Replays M s held n t left → (t ≡ s) × (left ≡ held)
 nothing_done M s held t left n e Begin = (refl, refl)
@@ -85,7 +85,7 @@ all_turns M s t held left turns n none_held all before at = record {
   at_end = at;
 }
 
--- ---- what holds after a replay, whatever it answers
+-- ---- what holds after a replay, whatever it returns
 
 pub stays_on_each : {S : Type 0} (M : Machine S) (s t : S) (held left : List Entry) (turns : ℕ)
     (r : Result Replayed Fault) → Counts M → Answers M s held turns r t left → StaysOnEach M s held t left

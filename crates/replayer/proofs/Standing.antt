@@ -1,6 +1,6 @@
--- A replayer keeps to every recorded run on which it stood. A step is the run's next move, and the mark of what it gave
--- is owed from then on; the mark that is owed passes; an input is the run's next move, and its entry is popped with it.
--- So after each move what was popped, with the mark that may be owed, are the entries of the moves that were made.
+-- A replayer keeps to every recorded run that it was on. A step is the run's next move, and the mark of what it gave is
+-- owed from then on; the mark that is owed is passed; an input is the run's next move, and its entry is popped with it.
+-- So after each move what was popped, with the mark that may be owed, is the entries of the moves that were made.
 use Rattle.std.proofs.Common.{◌≡◌, ℕ, suc, Bool, true, false, List, [], ◌∷◌, ◌++◌, Option, Some, None, refl, sym, ap, subst, ◌∙◌}
 use Rattle.std.proofs.lemmas.List.{append-nil, append_assoc}
 use Rattle.event_callbacks.specs.declared.operations.Operation.{Operation}
@@ -80,7 +80,7 @@ popped_one : (held popped left es : List Entry) (e : Entry) → held ≡ popped 
 popped_one held popped left es e held_are left_are =
     held_are ∙ ap (λ (l : List Entry). popped ++ l) left_are ∙ sym (append_assoc popped (e ∷ []) es)
 
--- what stands behind the first entry that is held
+-- what follows the first entry that is held
 behind : {S : Type 0} (M : Machine S) (t last : S) (left es : List Entry) (e : Entry) (owes : Bool) (moves : List Move)
     → (x : Stands M t left owes moves last) → left ≡ e ∷ es
     → e ∷ (es ++ x.later) ≡ owed (M.count t) owes ++ entries (M.count t) moves

@@ -1,6 +1,6 @@
--- What a stretch of moves meets. Each step that the machine makes by itself raises its count by one; so as many of them
--- as the first entry is ahead all begin below its count, and each is a move by the entries. The first of them can be
--- made, so it is refused only for want of memory; and an entry at the machine's count is a stretch of one move.
+-- What a stretch of moves meets. Each step that the machine executes by itself raises its count by one; so as many of
+-- them as the first entry is ahead all begin below its count, and each is a move by the entries. The first of them can
+-- be executed, so it is refused only when out of memory; and an entry at the machine's count is a stretch of one move.
 use Rattle.std.proofs.Common.{◌≡◌, ℕ, ◌+◌, ◌<◌, ◌≤◌, List, ◌∷◌, drop, slice_get, Some, None, Ok, Err, refl, sym, ap, subst, ◌∙◌, arith}
 use Rattle.guest_board.proofs.QuietSteps.{none_made, quiet_count}
 use Rattle.guest_board.specs.Lockstep.{step_refusal}
@@ -45,9 +45,9 @@ steps_made M s t held e turns most ran counts first within few runs some =
     let steps = all.0 in
     (some, omega arith, all.1)
 
--- ---- want of memory
+-- ---- out of memory
 
--- a run that was refused its first step stands where it stood, for the reason of that step
+-- a run that was refused its first step is where it was, for the reason of that step
 refused_at_once : {S : Type 0} (M : Machine S) (s t : S) (most : ℕ) (ran : Stopped) (fault : Fault) → 0 < most
     → ran.reason ≡ Refused fault → ran.steps ≡ 0 → RunsOn M s most ran t
     → (fault ≡ fault_of (step_refusal M s)) × (t ≡ s)

@@ -1,4 +1,4 @@
--- What a replayer does with the entries that are held: how far it comes, and why no further.
+-- What a replayer does with the entries that are held: how far it gets, and why no further.
 use Rattle.std.specs.Prelude.{◌≡◌, ℕ, suc, ◌<◌, ◌≤◌, ◌↔◌, IsTrue, List, [], ◌∷◌, Option, Some, None, Result, Ok, Err}
 use Rattle.event_callbacks.specs.declared.operations.Operation.{Operation}
 use Rattle.guest_board.specs.Machine.{Machine}
@@ -19,20 +19,20 @@ pub data Moves {S : Type 0} (M : Machine S) (s : S) (held : List Entry) : S → 
   Takes : {t : S} {e : Entry} {es : List Entry} {input : Input} → held ≡ e ∷ es → M.count s ≡ count_of e
       → input_of e ≡ Some input → Accepts M s input t → Moves M s held t es
 
--- so many moves
+-- this many moves
 pub data Replays {S : Type 0} (M : Machine S) (s : S) (held : List Entry) : ℕ → S → List Entry → Type 0 where
   Begin : Replays M s held 0 s held
   Then : {n : ℕ} {t u : S} {now left : List Entry} → Replays M s held n t now → Moves M t now u left
       → Replays M s held (suc n) u left
 
--- the next move is a step: the first entry that is held stands at a later count
+-- the next move is a step: the first entry that is held is at a later count
 pub record IsBehind {S : Type 0} (M : Machine S) (s : S) (held : List Entry) : Type 0 where
   pub first : Entry
   pub rest : List Entry
   pub held_are : held ≡ first ∷ rest
   pub later : M.count s < count_of first
 
--- why no more moves were made than so many: no turns are left, no entry is held, or the next step wants memory
+-- why no more than this many moves were made: no turns are left, no entry is held, or the next step runs out of memory
 pub data Ends {S : Type 0} (M : Machine S) (turns : ℕ) : ℕ → S → List Entry → Type 0 where
   AllTurns : {t : S} {left : List Entry} → Ends M turns turns t left
   AtEnd : {n : ℕ} {t : S} → n < turns → Ends M turns n t []
@@ -45,13 +45,14 @@ pub record Came {S : Type 0} (M : Machine S) (s : S) (held : List Entry) (turns 
   pub ends : Ends M turns r.moves t left
   pub at_end : IsTrue r.at_end ↔ (left ≡ [])
 
--- what a replay answers and leaves; it is refused where its first move is a step that wants memory
+-- what a replay returns and leaves; it is refused if its first move is a step that runs out of memory
 abbrev pub Answers : {S : Type 0} → Machine S → S → List Entry → ℕ → Result Replayed Fault → S → List Entry → Type 0
 Answers M s held turns (Ok r) t left = Came M s held turns r t left
 Answers M s held turns (Err fault) t left =
     (fault ≡ OutOfMemory) × (0 < turns) × IsBehind M s held × (t ≡ s) × (left ≡ held)
 
--- what a stretch of at most so many moves answers and leaves: how many were made, or that its first wants memory
+-- what a stretch of at most this many moves returns and leaves: how many were made, or that its first runs out of
+-- memory
 abbrev pub AnswersStretch : {S : Type 0} → Machine S → S → List Entry → ℕ → Result ℕ Fault → S → List Entry → Type 0
 AnswersStretch M s held turns (Ok made) t left = (0 < made) × (made ≤ turns) × Replays M s held made t left
 AnswersStretch M s held turns (Err fault) t left =

@@ -7,7 +7,7 @@ use Rattle.log_entry.specs.Standing.{owed, Stands, IsOnTrace}
 use Rattle.log_entry.specs.declared.entry.Entry.{Entry}
 use Rattle.replayer.specs.Replaying.{Replays}
 
--- some of the moves were made and the others are still to be made, and what was popped are the entries of those made;
+-- some of the moves were made and the others are still to be made, and what was popped is the entries of those made;
 -- only the mark of the last of them may still be held
 pub record StaysOn {S : Type 0} (M : Machine S) (s : S) (held : List Entry) (owes : Bool) (moves : List Move) (last : S)
     (t : S) (left : List Entry) : Type 0 where
@@ -21,7 +21,7 @@ pub record StaysOn {S : Type 0} (M : Machine S) (s : S) (held : List Entry) (owe
   pub held_are : held ≡ popped ++ left
   pub popped_are : popped ++ owed (M.count t) owes_still ≡ owed (M.count s) owes ++ entries (M.count s) made
 
--- so it is with every recorded run on which the replayer stood
+-- that holds for every recorded run that the replayer was on
 abbrev pub StaysOnEach : {S : Type 0} → Machine S → S → List Entry → S → List Entry → Type 0
 StaysOnEach {S} M s held t left = (owes : Bool) (moves : List Move) (last : S) → Stands M s held owes moves last
     → StaysOn M s held owes moves last t left

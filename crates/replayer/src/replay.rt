@@ -8,7 +8,7 @@ use guest_board::{Lockstep, StopReason};
 use i8080_words::R;
 use log_channel::Receiver;
 
-// At most so many moves. Refused where none is made and the first wants memory.
+// Makes at most `turns` moves. Refused if none is made because the first runs out of memory.
 pub(crate) fn run<B: Lockstep>(board: &mut B, receiver: &mut Receiver, turns: u64) -> R<Replayed>
     requires on_trace { IsOnTrace B.machine (B.state board.old) receiver.old.entries }
     ensures answers { Answers B.machine (B.state board.old) receiver.old.entries turns result (B.state board.new)
@@ -41,7 +41,8 @@ pub(crate) fn run<B: Lockstep>(board: &mut B, receiver: &mut Receiver, turns: u6
     })
 }
 
-// Steps up to the first entry that is held, or that entry at its count: how many moves were made, of at most so many.
+// Executes steps up to the first entry that is held, or takes that entry at its count. Returns how many moves were
+// made, at most `turns`.
 fn stretch<B: Lockstep>(board: &mut B, receiver: &mut Receiver, turns: u64) -> R<u64>
     requires on_trace { IsOnTrace B.machine (B.state board.old) receiver.old.entries }
     requires some { 0 < turns }

@@ -39,7 +39,7 @@ impl<B: Lockstep> Replayer<B> {
         &self.board
     }
 
-    /// The guest, which repeats no more.
+    /// The guest, which no longer repeats.
     pub fn into_board(self) -> B
         ensures { result ≡ self.board }
     {
@@ -47,8 +47,8 @@ impl<B: Lockstep> Replayer<B> {
         board
     }
 
-    /// Makes at most `turns` moves, each of them a step or an entry. It makes fewer only where no entry is held any
-    /// more or a step wants memory; `OutOfMemory` comes only where no move was made.
+    /// Makes at most `turns` moves, each of them a step or an entry. Makes fewer only if no entry is held any more or a
+    /// step runs out of memory; `OutOfMemory` is returned only if no move was made.
     pub fn replay(&mut self, receiver: &mut Receiver, turns: u64) -> R<Replayed>
         requires on_trace { IsOnTrace B.machine (B.state self.old.board) receiver.old.entries }
         ensures answers { Answers B.machine (B.state self.old.board) receiver.old.entries turns result

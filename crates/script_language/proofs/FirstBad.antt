@@ -1,6 +1,6 @@
--- The lines are read one after another. A line that is none there stays the first one, and before it every line was taken;
--- so what was read names the first such line. The sectors stand in the order of their lines, so the first that is astray
--- is the one with the lowest line.
+-- The lines are read one after another. A line that is not valid there stays the first bad one, and every line before
+-- it was taken; so what was read names the first such line. The sectors are in the order of their lines, so the first
+-- that is astray is the one with the lowest line.
 use Rattle.std.proofs.Common.{◌≡◌, ℕ, ◌+◌, ◌-◌, ◌<◌, ◌≤◌, ◌⊎◌, inl, inr, List, [], ◌∷◌, ◌++◌, length, Bool, true, false, Option, Some, None, refl, sym, ap, subst, ◌∙◌, arith}
 use Rattle.std.specs.Prelude.{nat_lt}
 use Rattle.std.specs.Option.{option_or}
@@ -16,7 +16,8 @@ lt_true a b h = grind (arith, nat_tests)
 lt_false : (a b : ℕ) → nat_lt a b ≡ false → b ≤ a
 lt_false a b h = grind (arith, nat_tests)
 
--- the line of this number among these is none, if they are read from the first number on, in so much room, after what was said
+-- the line of this number among these is not valid, if they are read from the first number on, in this much room, after
+-- what was said
 pub record NoLineIn (room number : ℕ) (said : Said) (lines : List (List ℕ)) (bad : ℕ) : Type 0 where
   pub before : List (List ℕ)
   pub line : List ℕ
@@ -102,7 +103,7 @@ some_is a b e = cc
 pub none_is_not_some : (k : ℕ) → None ≡ Some k → ⊥
 none_is_not_some k e = cc
 
--- what was read names a line that is none
+-- what was read names a line that is not valid
 named-far : (room number : ℕ) (said : Said) (line : List ℕ) (lines : List (List ℕ)) (k : ℕ) → nat_lt room (length line) ≡ true
     → said.bad ≡ None → (read room number (line ∷ lines) said).bad ≡ Some k → NoLineIn room number said (line ∷ lines) k
 named-far room number said line lines k e none h =
@@ -163,7 +164,7 @@ pub record NamesBy (said : Said) (bad : ℕ) : Type 0 where
   pub named : said.bad ≡ Some line
   pub first : line ≤ bad
 
--- if a line is none, one that is not after it is named
+-- if a line is not valid, one that is not after it is named
 
 names_far : (room number : ℕ) (said : Said) (line : List ℕ) (lines : List (List ℕ)) (bad : ℕ) → nat_lt room (length line) ≡ true
     → said.bad ≡ None → number ≤ bad → NamesBy (read room number (line ∷ lines) said) bad

@@ -1,5 +1,5 @@
--- A further line leaves the first bad line as it was, and of the sectors it leaves all or adds one, with its own number.
--- So the sectors stand in the order of their lines.
+-- A further line leaves the first bad line unchanged, and leaves the sectors unchanged or adds one, with its own
+-- number. So the sectors are in the order of their lines.
 use Rattle.std.proofs.Common.{◌≡◌, ℕ, ◌+◌, ◌≤◌, ◌⊎◌, inl, inr, List, [], ◌∷◌, ◌++◌, length, Bool, true, false, Option, Some, None, refl, sym, subst, arith}
 use Rattle.std.specs.Prelude.{◌&&◌, ◌==◌, nat_lt, nat_le, if◌then◌else◌}
 use Rattle.std.specs.Option.{option_map}
@@ -148,7 +148,7 @@ line_keeps number (byte ∷ text) said =
 pub taken_keeps : (number : ℕ) (text : List ℕ) (said more : Said) → with_line number text said ≡ Some more → Keeps number said more
 taken_keeps number text said more e = subst (KeepsIfAny number said) e (line_keeps number text said)
 
--- the sectors are in the order of their lines, which are from the one number on and below the other
+-- the sectors are in the order of their lines, which are from the first number on and below the second
 abbrev pub Rising : ℕ → List Filled → ℕ → Type 0
 Rising least [] bound = least ≤ bound
 Rising least (sector ∷ sectors) bound = (least ≤ sector.line) × Rising (sector.line + 1) sectors bound

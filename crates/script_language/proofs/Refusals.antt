@@ -1,5 +1,5 @@
--- A script is refused exactly if some line is bad, and by the first: of the lines that are none, and of those that say a
--- sector that is astray, each the first, the lower.
+-- A script is refused exactly if some line is bad, and by the first of them: the lower of the first line that is not
+-- valid there and the first that says a sector that is astray.
 use Rattle.std.proofs.Common.{◌≡◌, ℕ, ◌+◌, ◌-◌, ◌<◌, ◌≤◌, inl, inr, List, [], ◌∷◌, length, Bool, true, false, Option, Some, None, refl, sym, subst, ◌∙◌, arith}
 use Rattle.std.specs.Prelude.{nat_lt, nat_le, min}
 use Rattle.std.proofs.lemmas.Bool.Decides.{nat_tests}
@@ -117,7 +117,7 @@ ordered (line ∷ lines) room number said rising =
 in_order : (text : List ℕ) → IsOrdered (said_in text)
 in_order text = ordered (lines_of text) 1048576 1 nothing_said (omega arith)
 
--- the lines that are none
+-- the lines that are not valid there
 no_line : (text : List ℕ) (number : ℕ) → (said_in text).bad ≡ Some number → IsNoLine text number
 no_line text number e =
     let h : NoLineIn 1048576 1 nothing_said (lines_of text) number = named (lines_of text) 1048576 1 nothing_said number refl e in

@@ -10,7 +10,7 @@ abbrev pub bytes_in : List (List ℕ) → ℕ
 bytes_in [] = 0
 bytes_in (line ∷ lines) = length line + bytes_in lines
 
--- The line of this number ends after byte 1,048,576, or is none of those that may come after the lines before it.
+-- The line of this number ends after byte 1,048,576, or is not one that may come after the lines before it.
 pub record IsNoLine (text : List ℕ) (number : ℕ) : Type 0 where
   pub before : List (List ℕ)
   pub line : List ℕ
@@ -26,7 +26,7 @@ IsAstray drives number [] = ⊥
 IsAstray drives number (sector ∷ sectors) =
     ((sector.line ≡ number) × (drives ≤ sector.drive)) ⊎ IsAstray drives number sectors
 
--- A line is bad: it is no line there, or says a sector of a drive that is not attached in the end.
+-- A line is bad: it is not valid there, or says a sector of a drive that is not attached in the end.
 abbrev pub IsBad : List ℕ → ℕ → Type 0
 IsBad text number = IsNoLine text number ⊎ IsAstray (said_in text).boot.drives number (said_in text).boot.sectors
 

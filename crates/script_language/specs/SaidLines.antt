@@ -11,7 +11,7 @@ abbrev pub line_by : List (List ℕ) → Option Line
 line_by [] = None
 line_by (first ∷ words) = keyword_of first >>= λ word. if is_setup word then None else whole (line_of word) words
 
--- likewise of a whole line; an empty line says none, nor does one that begins with #
+-- the same for a whole line; an empty line says none, nor does one that begins with #
 abbrev pub line_said : List ℕ → Option Line
 line_said [] = None
 line_said (byte ∷ text) = if byte == 35 then None else line_by (words_of (byte ∷ text))

@@ -1,5 +1,5 @@
 -- The port table: one port of the 88-2SIO in the words of the MC6850's data sheet. The MC6850 sends one byte at a time;
--- here a window of bytes that the terminal has not accepted yet stands in its place.
+-- here a window of bytes that the terminal has not accepted yet takes its place.
 use Rattle.std.specs.Prelude.{ℕ, ◌+◌, ◌-◌, ◌/◌, ◌%◌, ◌^◌, ◌<◌, ◌≤◌, Bool, true, false, ◌==◌, nat_lt, nat_le, if◌then◌else◌, ◌&&◌, ◌||◌, Option, Some, None, Result, Ok, Err}
 use Rattle.i8080_words.specs.declared.refusal.Fault.{Fault}
 use Rattle.i8080_words.specs.declared.refusal.Fault.TheVariants.{NotDue, Malformed}
@@ -74,7 +74,7 @@ is_overrun Full = false
 is_overrun FullLost = false
 is_overrun Over = true
 
--- the transmit data register is empty, as the window has room
+-- the transmit data register is empty: the window has room
 abbrev pub is_ready : Port → Bool
 is_ready p = nat_lt p.unaccepted window
 
@@ -99,7 +99,7 @@ ovrn = 5
 abbrev pub irq : ℕ
 irq = 7
 
--- a register with this bit alone, where the test holds
+-- a register with this bit alone if the test holds, otherwise 0
 abbrev pub bit : ℕ → Bool → ℕ
 bit place true = 2 ^ place
 bit place false = 0
@@ -109,7 +109,7 @@ abbrev pub status_of : Port → ℕ
 status_of p =
     bit rdrf (is_full p.receiver) + bit tdre (is_ready p) + bit ovrn (is_overrun p.receiver) + bit irq (line_of p)
 
--- a control write is kept whole; a master reset empties the receiver and leaves the window as it is
+-- a control write keeps the whole byte; a master reset empties the receiver and leaves the window unchanged
 abbrev pub after_control : Port → ℕ → Port
 after_control p byte = record p { control = byte; receiver = (if is_master_reset byte then Empty else p.receiver) }
 
@@ -120,7 +120,7 @@ receiver_after_read Full = Empty
 receiver_after_read FullLost = Over
 receiver_after_read Over = Empty
 
--- a data read gives the data register, in every state of the receiver
+-- a data read returns the data register, in every state of the receiver
 abbrev pub data_in_answer : Port → ℕ
 data_in_answer p = p.receive_data
 
@@ -128,27 +128,27 @@ data_in_answer p = p.receive_data
 abbrev pub after_data_in : Port → Port
 after_data_in p = record p { receiver = receiver_after_read p.receiver }
 
--- the receiver after a byte comes
+-- the receiver after a byte arrives
 abbrev pub receiver_after_byte : Receiver → Receiver
 receiver_after_byte Empty = Full
 receiver_after_byte Full = FullLost
 receiver_after_byte FullLost = FullLost
 receiver_after_byte Over = Over
 
--- the data register after a byte comes: only an empty receiver takes it
+-- the data register after a byte arrives: only an empty receiver takes it
 abbrev pub data_after_byte : Receiver → ℕ → ℕ → ℕ
 data_after_byte Empty kept byte = byte
 data_after_byte Full kept byte = kept
 data_after_byte FullLost kept byte = kept
 data_after_byte Over kept byte = kept
 
--- a byte comes from the terminal
+-- a byte arrives from the terminal
 abbrev pub after_receive : Port → ℕ → Port
 after_receive p byte =
     let received = data_after_byte p.receiver p.receive_data (word_of p.control byte) in
     port_with p.control received (receiver_after_byte p.receiver) p.unaccepted
 
--- a data write sends a byte where TDRE is 1, and none else
+-- a data write sends a byte if TDRE is 1, otherwise none
 abbrev pub data_out_answer : Port → ℕ → Option ℕ
 data_out_answer p byte = if is_ready p then Some (word_of p.control byte) else None
 
@@ -156,7 +156,7 @@ data_out_answer p byte = if is_ready p then Some (word_of p.control byte) else N
 abbrev pub after_data_out : Port → Port
 after_data_out p = if is_ready p then record p { unaccepted = p.unaccepted + 1 } else p
 
--- the terminal may accept a byte where one is unaccepted
+-- the terminal may accept a byte if one is unaccepted
 abbrev pub is_sent_due : Port → Bool
 is_sent_due p = nat_lt 0 p.unaccepted
 
@@ -168,7 +168,7 @@ sent_answer p = if is_sent_due p then Ok tt else Err NotDue
 abbrev pub after_sent : Port → Port
 after_sent p = if is_sent_due p then record p { unaccepted = p.unaccepted - 1 } else p
 
--- the port of these parts, where the unaccepted bytes fit the window
+-- the port with these parts, if the unaccepted bytes fit the window
 abbrev pub rebuild_answer : ℕ → ℕ → Receiver → ℕ → Result Port Fault
 rebuild_answer control byte receiver unaccepted =
     if nat_le unaccepted window then Ok (port_with control byte receiver unaccepted) else Err Malformed

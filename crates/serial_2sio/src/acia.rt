@@ -18,7 +18,7 @@ const OVRN: u8 = 0x20;
 
 const IRQ: u8 = 0x80;
 
-/// The receiver, with what it shows of itself in the status register (MC6850 data sheet, "Receiver Overrun").
+/// The receiver, and how the status register shows it (MC6850 data sheet, "Receiver Overrun").
 #[derive(Clone, Copy, Debug, PartialEq, Eq)]
 pub enum Receiver {
     /// No byte waits to be read: RDRF and OVRN are 0.
@@ -67,7 +67,8 @@ impl Acia {
         }
     }
 
-    /// A port as the four readers below show one. `Malformed` says that more bytes are unaccepted than fit the window.
+    /// A port in the state that the four readers below show. `Malformed` if more bytes are unaccepted than fit the
+    /// window.
     pub fn rebuild(
         control_register: u8,
         data_register: u8,
@@ -94,7 +95,7 @@ impl Acia {
         self.control
     }
 
-    /// The byte that a data read would give; the read itself is `data_in`.
+    /// The byte that a data read would return; the read itself is `data_in`.
     pub fn data_register(&self) -> u8
         ensures { result ≡ self.now.receive_data }
     {
@@ -162,7 +163,7 @@ impl Acia {
         }
     }
 
-    /// A read of the data register. Where no byte waits, it gives the last one again.
+    /// A read of the data register. If no byte waits, it returns the last one again.
     pub fn data_in(&mut self) -> u8
         ensures answer { result ≡ table.data_in_answer self.old }
         ensures after { self.new ≡ table.after_data_in self.old }
@@ -174,7 +175,7 @@ impl Acia {
         self.receive_data
     }
 
-    /// A write of the data register: the byte that goes out to the terminal, or none where the byte is lost.
+    /// A write of the data register: the byte that goes out to the terminal, or `None` if the byte is lost.
     pub fn data_out(&mut self, byte: u8) -> Option<u8>
         ensures answer { result ≡ table.data_out_answer self.old byte }
         ensures after { self.new ≡ table.after_data_out self.old }
@@ -186,7 +187,7 @@ impl Acia {
         Some(word(self.control, byte))
     }
 
-    /// A byte comes from the terminal. A receiver that is not empty loses it.
+    /// A byte arrives from the terminal. A receiver that is not empty loses it.
     pub fn receive(&mut self, byte: u8)
         ensures { self.new ≡ table.after_receive self.old byte }
     {
@@ -200,7 +201,7 @@ impl Acia {
         }
     }
 
-    /// The terminal has accepted one of the bytes that were sent. `NotDue` says that it had accepted them all.
+    /// The terminal has accepted one of the bytes that were sent. `NotDue` if it had already accepted them all.
     pub fn sent(&mut self) -> R<()>
         ensures answer { result ≡ table.sent_answer self.old }
         ensures after { self.new ≡ table.after_sent self.old }

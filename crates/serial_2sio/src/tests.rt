@@ -91,7 +91,7 @@ fn the_first_four_formats_have_seven_bits(rt: HostRuntime) {
     }
 }
 
-// Whether the line of a port that stands so is active.
+// Whether the line of a port in this state is active.
 fn line(control: u8, receiver: Receiver, unaccepted: u8) -> bool {
     Acia::rebuild(control, 0x41, receiver, unaccepted).is_ok_and(|port| port.line())
 }

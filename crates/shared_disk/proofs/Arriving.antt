@@ -1,5 +1,5 @@
--- A write changes one sector alone, so every other sector keeps the greatest of the same records. Its own sector has
--- one more record to choose from, behind the others, and the write stands there exactly where it is the new greatest.
+-- A write changes only one sector, so every other sector keeps the greatest of the same records. Its own sector has one
+-- more record to choose from, after the others, and the write is there exactly if it is the new greatest.
 use Rattle.std.proofs.Common.{◌≡◌, Bool, true, false, cond, List, [], ◌∷◌, ◌++◌, Option, Some, None, refl, sym, ap, subst, ◌∙◌}
 use Rattle.std.specs.Prelude.{◌≢◌, nat_lt, filter, map}
 use Rattle.std.specs.Option.{IsSomeAnd, option_map_or}
@@ -97,6 +97,6 @@ nothing-at : (o : Option Record) → Keeps o [] o
 nothing-at None = refl
 nothing-at (Some first) = first_is_greatest first
 
--- no write came yet
+-- no write has come yet
 pub nothing_arrived : (records : List Record) → IsShared records [] records
 nothing_arrived records = λ a. nothing-at (record_at records a)

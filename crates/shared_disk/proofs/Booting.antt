@@ -26,7 +26,7 @@ after_more : (sectors : List SectorWrite) (w : SectorWrite) (a : SectorAddress) 
 after_more [] w a bytes = refl
 after_more (v ∷ sectors) w a bytes = after_more sectors w a (cond (same_address (address_of v) a) v.bytes bytes)
 
--- a new store has what no sectors leave
+-- a new store has what is left if no sector is put
 pub nothing_put : (drives : ℕ) → IsAtBoot (unwritten drives) drives []
 nothing_put drives a = unwritten_record drives a
 
@@ -86,7 +86,7 @@ pub is_unwritten : (records : List Record) (drives : ℕ) (sectors : List Sector
 is_unwritten records drives sectors at a r e =
     number-at (has_sector drives a) (after sectors a) r (sym (at a) ∙ e)
 
--- how a put is answered, where there is the sector, and where there is none
+-- the answer to a put, if the sector exists, and if it does not
 abbrev answered : Bool → Result (Unit {0}) Fault
 answered there = cond there (Ok tt) (Err Unknown)
 

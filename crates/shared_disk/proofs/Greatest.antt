@@ -1,6 +1,6 @@
--- One more record behind others is the greatest where its number is above theirs, and else leaves the greatest as it
--- was. So there is a greatest record of any that begin with a first one; and of two that are both the greatest, neither
--- stands before the other, so they are one.
+-- One more record after others is the greatest if its number is above theirs, and otherwise leaves the greatest
+-- unchanged. So any records that begin with a first one have a greatest; and of two that are both the greatest, neither
+-- is before the other, so they are one.
 use Rattle.std.proofs.Common.{◌≡◌, ℕ, zero, suc, ◌<◌, ◌≤◌, List, [], ◌∷◌, ◌++◌, length, get_or, drop, inl, inr, refl, sym, ap, subst, ◌∙◌, arith, append_assoc, length-append}
 use Rattle.std.specs.Prelude.{All}
 use Rattle.std.proofs.Math.Seq.{get_or-append_seam}
@@ -84,7 +84,7 @@ has_greatest (new ∷ more) records has =
     subst HasGreatest (append_assoc records (new ∷ []) more)
     (has_greatest more (records ++ new ∷ []) (one_more records new has))
 
--- what holds of all holds of one that stands among them
+-- what holds of all holds of one that is among them
 of_one : (P : Record → Type 0) (before : List Record) (x : Record) (later : List Record)
     → All P (before ++ x ∷ later) → P x
 of_one P before x later all =

@@ -1,5 +1,5 @@
--- A record put into a sector is read there, and every other sector keeps its own, since no two sectors have one place.
--- A new store has blank records at the places of its drives' sectors, and none past them.
+-- A record put into a sector is read there, and every other sector keeps its own, since no two sectors share a place. A
+-- new store has blank records at the places of its drives' sectors, and none past them.
 use Rattle.std.proofs.Common.{◌≡◌, ℕ, zero, suc, ◌+◌, ◌*◌, ◌<◌, ◌≤◌, Bool, true, false, cond, eqb, ◌&&◌, List, [], ◌∷◌, length, replicate, Option, Some, None, refl, sym, ap, subst, ◌∙◌, arith}
 use Rattle.std.specs.Prelude.{◌≢◌, nat_lt, slice_get, slice_set}
 use Rattle.std.specs.Option.{option_and_then, option_map_or}
@@ -122,7 +122,7 @@ none-at : (i : Option ℕ) (records : List Record) (x : Record) → option_and_t
 none-at None records x e = refl
 none-at (Some i) records x e = set_past records i x (past records i e)
 
--- where there is no such sector, no record is put
+-- if there is no such sector, no record is put
 pub takes_none : (records : List Record) (a : SectorAddress) (x : Record) → record_at records a ≡ None
     → with_record records a x ≡ records
 takes_none records a x e = none-at (index_of a) records x e

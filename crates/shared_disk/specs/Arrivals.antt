@@ -1,4 +1,4 @@
--- The shared disk, of all writes that arrive at it: per sector the one of greatest number.
+-- The shared disk, in terms of all writes that arrive at it: for each sector the one of greatest number.
 use Rattle.std.specs.Prelude.{◌≡◌, ◌<◌, ◌≤◌, nat_lt, if◌then◌else◌, List, [], ◌∷◌, ◌++◌, All, filter, map, Option, Some, None}
 use Rattle.std.specs.Option.{IsSomeAnd, option_map, option_map_or}
 use Rattle.disk_dcdd.specs.Address.{address_of, same_address}
@@ -24,22 +24,22 @@ pub record IsGreatest (records : List Record) (greatest : Record) : Type 0 where
   pub above : All (λ (other : Record). other.number < greatest.number) before
   pub at_least : All (λ (other : Record). other.number ≤ greatest.number) later
 
--- a sector keeps the greatest of its first record and those brought to it; where no sector was, none comes
+-- a sector keeps the greatest of its first record and those brought to it; if there was no sector, none comes
 abbrev pub Keeps : Option Record → List Record → Option Record → Type 0
 Keeps None writes kept = kept ≡ None
 Keeps (Some first) writes kept = IsSomeAnd kept (IsGreatest (first ∷ writes))
 
--- the records of a disk on which these stood first, and to which these writes came
+-- the records of a disk that had these first, and to which these writes came
 abbrev pub IsShared : List Record → List SectorWrite → List Record → Type 0
 IsShared first arrivals records = (address : SectorAddress)
     → Keeps (record_at first address) (written_at address arrivals) (record_at records address)
 
--- whatever stood first and came before, the new records are those after all writes with this one behind them
+-- whatever was there first and came before, the new records are those after all writes with this one after them
 pub record GoesOn (old : List Record) (write : SectorWrite) (new : List Record) : Type 0 where
   pub so_far : (first : List Record) (arrivals : List SectorWrite) → IsShared first arrivals old
       → IsShared first (arrivals ++ write ∷ []) new
 
--- there is a greatest record, and one only
+-- there is exactly one greatest record
 pub record ChoosesOne (first : Record) (writes : List Record) : Type 0 where
   pub greatest : Record
   pub is : IsGreatest (first ∷ writes) greatest
@@ -55,7 +55,7 @@ abbrev pub after_put : List Record → SectorWrite → List Record
 after_put records write =
     option_map_or (after_meeting records write) (record_at records (address_of write)) records
 
--- what is read at a sector where this record stands
+-- what is read at a sector that has this record
 abbrev pub read_of : SectorAddress → Record → SectorRead
 read_of address found = record {
   number = found.number;

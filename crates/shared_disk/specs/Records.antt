@@ -1,4 +1,4 @@
--- The records of a disk, one for each sector, by the sector's place in a table of them all.
+-- The records of a disk, one for each sector, by the sector's index in a table of them all.
 use Rattle.std.specs.Prelude.{◌≡◌, ℕ, IsTrue, ◌*◌, if◌then◌else◌, List, [], ◌∷◌, All, replicate, slice_get, slice_set, Option, Some, None, is_some, IsSome, Result, Ok, Err}
 use Rattle.std.specs.Option.{option_and_then, option_map_or}
 use Rattle.disk_dcdd.specs.Address.{address_of, has_sector, index_of, same_address}
@@ -22,7 +22,7 @@ IsThere records address = IsSome (record_at records address)
 abbrev pub IsAt : List Record → SectorAddress → Record → Type 0
 IsAt records address found = record_at records address ≡ Some found
 
--- the records with another one in a sector; a sector that is not there takes none
+-- the records with another one in a sector; a sector that does not exist takes none
 abbrev pub with_record : List Record → SectorAddress → Record → List Record
 with_record records address content =
     option_map_or (λ place. slice_set records place content) (index_of address) records
@@ -31,7 +31,7 @@ with_record records address content =
 abbrev pub refusal_at : List Record → SectorAddress → Fault
 refusal_at records address = if is_some (record_at records address) then DeviceFault else Unknown
 
--- the failures of the device that an answer tells of
+-- the failures of the device that an answer reports
 abbrev pub faults_in : {T : Type 0} → Result T Fault → ℕ
 faults_in (Err DeviceFault) = 1
 faults_in _ = 0
@@ -40,7 +40,7 @@ faults_in _ = 0
 abbrev pub blank_record : Record
 blank_record = record { number = 0; bytes = replicate SECTOR_BYTES 0 }
 
--- so many drives on which nothing is written
+-- this many drives on which nothing is written
 unfoldable pub unwritten : ℕ → List Record
 unwritten drives = replicate (drives * DRIVE_SECTORS) blank_record
 
@@ -52,26 +52,26 @@ boot_record bytes = record { number = 0; bytes = bytes }
 abbrev pub put_answer : List Record → SectorAddress → Result (Unit {0}) Fault
 put_answer records address = if is_some (record_at records address) then Ok tt else Err Unknown
 
--- a disk has each sector of so many drives, and no write has come to it
+-- a disk has each sector of this many drives, and no write has come to it
 abbrev pub HasDrives : List Record → ℕ → Type 0
 HasDrives records drives = (address : SectorAddress) → IsTrue (has_sector drives address) → IsThere records address
 
 abbrev pub IsUnwritten : List Record → Type 0
 IsUnwritten records = (address : SectorAddress) (r : Record) → IsAt records address r → r.number ≡ 0
 
--- what a sector has after these are put on a disk, one after another, where it had these bytes before
+-- what a sector has after these are put on a disk, one after another, if it had these bytes before
 abbrev pub bytes_after : List SectorWrite → SectorAddress → List ℕ → List ℕ
 bytes_after [] address bytes = bytes
 bytes_after (sector ∷ sectors) address bytes =
     bytes_after sectors address (if same_address (address_of sector) address then sector.bytes else bytes)
 
--- each sector of so many drives has the bytes of the last of these that goes there, and zeros where none does; no write
--- has come to it, and no other sector is there
+-- each sector of this many drives has the bytes of the last of these that goes there, or zeros if none does; no write
+-- has come to it, and no other sector exists
 abbrev pub IsAtBoot : List Record → ℕ → List SectorWrite → Type 0
 IsAtBoot records drives sectors = (address : SectorAddress) → record_at records address
     ≡ (if has_sector drives address then Some (boot_record (bytes_after sectors address (replicate SECTOR_BYTES 0)))
     else None)
 
--- each of these goes to a sector of so many drives
+-- each of these goes to a sector of this many drives
 abbrev pub AreOnDrives : ℕ → List SectorWrite → Type 0
 AreOnDrives drives = All (λ (sector : SectorWrite). IsTrue (has_sector drives (address_of sector)))

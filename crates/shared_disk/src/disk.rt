@@ -9,7 +9,7 @@ use disk_dcdd::{SECTOR_BYTES, SectorAddress, SectorWrite};
 use i8080_words::R;
 use std::marker::Model;
 
-/// What stands in a sector of the shared disk: the write that brought it, or number 0 where none did.
+/// What is in a sector of the shared disk: the write that brought it, or number 0 if none did.
 #[derive(Clone, Copy, Debug, PartialEq, Eq)]
 pub struct SectorRead {
     pub number: u64,
@@ -32,15 +32,15 @@ impl<D: SectorStore> Model for SharedDisk<D> {
 }
 
 impl<D: SectorStore> SharedDisk<D> {
-    /// A disk over a store, whose records stand until writes arrive.
+    /// A disk over a store, whose records stay until writes arrive.
     pub fn new(store: D) -> SharedDisk<D>
         ensures { result ≡ store }
     {
         SharedDisk { store }
     }
 
-    /// A write arrives. It replaces the sector's record where its number is greater, and else changes nothing.
-    /// `Unknown` where no drive has the sector; `DeviceFault` where the store failed: then the write has not arrived.
+    /// A write arrives. It replaces the sector's record if its number is greater, and otherwise changes nothing.
+    /// `Unknown` if no drive has the sector; `DeviceFault` if the store failed: then the write has not arrived.
     #[tactic(auto, using(crate::proofs::Arriving::put_goes_on))]
     pub fn put(&mut self, write: &SectorWrite) -> R<()>
         ensures there { OnOk result (table.IsThere (D.records self.old) (address_of write.now)) }
@@ -64,7 +64,7 @@ impl<D: SectorStore> SharedDisk<D> {
         self.store.write(address, content)
     }
 
-    /// What stands in a sector. `Unknown` where no drive has it; `DeviceFault` where the store failed.
+    /// What is in a sector. `Unknown` if no drive has it; `DeviceFault` if the store failed.
     pub fn get(&mut self, address: SectorAddress) -> R<SectorRead>
         ensures ok { IfOk result (λ read. read_at (D.records self.old) address ≡ Some read) }
         ensures refused { IfErr result (λ fault. fault ≡ table.refusal_at (D.records self.old) address) }

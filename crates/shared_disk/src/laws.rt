@@ -6,15 +6,15 @@ ghost use Rattle.shared_disk.specs.Arrivals.{ChoosesOne, IsShared};
 ghost use Rattle.shared_disk.specs.Records.{blank_record, record_at, unwritten};
 ghost use Rattle.shared_disk.specs.declared.store.Record.{Record};
 
-/// A new store has the sectors of its drives and no other, each with zeros under number 0.
+/// A new store has the sectors of its drives and no others, each with zeros under number 0.
 #[tactic(auto, using(crate::proofs::RecordsBySector::unwritten_record))]
 pub fn new_stores_are_unwritten()
     ensures { (drives : ℕ) (address : SectorAddress) → record_at (unwritten drives) address
         ≡ (if has_sector drives address then Some blank_record else None) }
 {}
 
-/// Of a first record and any writes that arrive, one has the greatest number before the others; where none arrived it
-/// is the first record.
+/// Of a first record and any writes that arrive, one has the greatest number and is the first that has it; if none
+/// arrived it is the first record.
 #[tactic(auto, using(crate::proofs::Greatest::chooses_one, crate::proofs::Arriving::nothing_arrived))]
 pub fn one_write_is_chosen()
     ensures one { (first : Record) (writes : List Record) → ChoosesOne first writes }

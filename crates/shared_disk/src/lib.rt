@@ -1,4 +1,4 @@
-//! The disk that both nodes share: per sector the write of the greatest number, in whatever order writes arrive.
+//! The disk that both nodes share: for each sector the write of the greatest number, in whatever order writes arrive.
 #![tactic(auto)]
 
 mod disk;

@@ -25,7 +25,7 @@ impl Model for MemoryStore {
 }
 
 impl MemoryStore {
-    /// A store of so many drives, in which nothing is written yet: zeros under number 0 in each sector.
+    /// A store of this many drives, in which nothing is written yet: zeros under number 0 in each sector.
     #[tactic(auto, unfolding(crate::specs::Records::unwritten))]
     pub fn new(alloc: Global, drives: u8) -> R<MemoryStore>
         ensures ok { IfOk result (λ store. store ≡ table.unwritten drives) }
@@ -39,8 +39,8 @@ impl MemoryStore {
         Ok(MemoryStore { records })
     }
 
-    /// A store of so many drives on which these sectors stand at boot, the later one of two for one place; all others
-    /// are zeros. No write has come to any: the numbers of these count for nothing. `Unknown` where no drive has one.
+    /// A store of this many drives that have these sectors at boot, the later one of two for one place; all others are
+    /// zeros. No write has come to any sector: the numbers of these are ignored. `Unknown` if no drive has one.
     pub fn at_boot(alloc: Global, drives: u8, sectors: &[SectorWrite]) -> R<MemoryStore>
         ensures drives { IfOk result (λ store. table.HasDrives store drives) }
         ensures unwritten { IfOk result (λ store. table.IsUnwritten store) }
@@ -58,7 +58,7 @@ impl MemoryStore {
     }
 
     /// Puts bytes into a sector before any node writes to it: their number is 0, so that the first write replaces them.
-    /// `Unknown` where no drive has the sector.
+    /// `Unknown` if no drive has the sector.
     pub fn set_boot(&mut self, address: SectorAddress, bytes: [u8; SECTOR_BYTES]) -> R<()>
         ensures answer { result ≡ table.put_answer self.old address }
         ensures after { self.new ≡ table.with_record self.old address (table.boot_record bytes) }

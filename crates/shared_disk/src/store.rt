@@ -6,20 +6,20 @@ ghost use Rattle.shared_disk.specs.declared.store.Record.{Record};
 use disk_dcdd::{SECTOR_BYTES, SectorAddress};
 use i8080_words::R;
 
-/// What stands in a sector, with the number of the write that brought it: 0 where none did.
+/// What is in a sector, with the number of the write that brought it: 0 if none did.
 #[derive(Clone, Copy, Debug, PartialEq, Eq)]
 pub struct Record {
     pub number: u64,
     pub bytes: [u8; SECTOR_BYTES],
 }
 
-/// Keeps a record for each sector, on a device that may fail. `Unknown` where no drive has the sector; `DeviceFault`
-/// where the device failed, which leaves every record as it was.
+/// Keeps a record for each sector, on a device that may fail. `Unknown` if no drive has the sector; `DeviceFault` if
+/// the device failed, which leaves every record unchanged.
 pub trait SectorStore: Drop {
-    /// The record of each sector, by its place in a table of them all.
+    /// The record of each sector, by its index in a table of them all.
     ghost records: { Self → List Record };
 
-    /// How often the device failed.
+    /// How often the device has failed.
     ghost failures: { Self → ℕ };
 
     /// The record of a sector.

@@ -12,7 +12,7 @@ const FIVE: SectorAddress = SectorAddress {
     sector: 5,
 };
 
-// The write of this number to 0/0/5, of 137 times this byte.
+// The write of this number to 0/0/5, with this byte 137 times.
 fn write(number: u64, byte: u8) -> SectorWrite {
     SectorWrite {
         number,

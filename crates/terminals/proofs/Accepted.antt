@@ -1,6 +1,6 @@
 -- What is accepted of arrivals can be computed from the first arrival on. The computed list is in order, and every list
--- in order is a front of it, so it is the longest one and the only longest one. One more arrival makes it longer by its
--- byte where its number comes next, and else leaves it.
+-- in order is a prefix of it, so it is the longest one and the only longest one. One more arrival makes it longer by
+-- its byte if its number comes next, and otherwise leaves it unchanged.
 use Rattle.std.proofs.Common.{◌≡◌, ℕ, zero, suc, ◌+◌, ◌≤◌, Bool, true, false, cond, eqb, List, [], ◌∷◌, ◌++◌, length, refl, sym, ap, subst, ◌∙◌, arith, length-append}
 use Rattle.std.specs.Prelude.{◌≢◌, All}
 use Rattle.std.proofs.lemmas.Bool.{ne_eqb, eq-eqb, eqb-true, eqb-false}
@@ -8,7 +8,7 @@ use Rattle.std.proofs.lemmas.List.{append-nil}
 use Rattle.std.proofs.lemmas.List.Elements.{All-nil}
 use Rattle.terminals.specs.Arrivals.{Arrival, ComesFirst, AreInOrder, IsAccepted, AcceptsOneList, GoesOn}
 
--- what is accepted of arrivals, where the byte of this number comes next
+-- what is accepted of arrivals, if the byte of this number comes next
 abbrev accepted_from : ℕ → List Arrival → List ℕ
 accepted_from n [] = []
 accepted_from n (a ∷ rest) = cond (eqb a.number n) (a.byte ∷ accepted_from (n + 1) rest) (accepted_from n rest)
@@ -28,7 +28,7 @@ none_with : (n : ℕ) (a : Arrival) (rest : List Arrival) → a.number ≢ n →
 none_with n a rest differs none zero d inside = differs
 none_with n a rest differs none (suc k) d inside = none k d (omega arith)
 
--- an arrival of another number changes nothing of what is in order behind it
+-- an arrival of another number changes nothing of what is in order after it
 passes : (bytes : List ℕ) (n : ℕ) (a : Arrival) (rest : List Arrival) → a.number ≢ n → AreInOrder rest n bytes
     → AreInOrder (a ∷ rest) n bytes
 passes [] n a rest differs ordered = tt
@@ -68,7 +68,7 @@ skips (a ∷ before) after n none =
 takes : (n b : ℕ) (rest : List Arrival) → accepted_from n (sent n b ∷ rest) ≡ b ∷ accepted_from (n + 1) rest
 takes n b rest = ap (λ c. cond c (b ∷ accepted_from (n + 1) rest) (accepted_from n rest)) (eq-eqb n n refl)
 
--- what is in order is a front of what is accepted
+-- what is in order is a prefix of what is accepted
 record IsFront (front whole : List ℕ) : Type 0 where
   more : List ℕ
   is : whole ≡ front ++ more
@@ -116,7 +116,7 @@ pub accepts_one_list : (arrivals : List Arrival) → AcceptsOneList arrivals
 accepts_one_list arrivals =
     record { bytes = accepted_from 1 arrivals; accepted = is_longest arrivals; only = is_only arrivals }
 
--- the byte of an arrival that comes next, where the first of these arrivals has to have this number
+-- the byte of an arrival that comes next, if the first of these arrivals has to have this number
 abbrev next_byte : ℕ → List ℕ → ℕ → ℕ → List ℕ
 next_byte n bytes number byte = cond (eqb number (length bytes + n)) (byte ∷ []) []
 

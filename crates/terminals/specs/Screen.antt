@@ -7,11 +7,11 @@ pub record Screen : Type 0 where
   pub typed : List ℕ
   pub told : ℕ
 
--- nothing came, nothing was typed or told
+-- nothing has arrived, nothing was typed or told
 abbrev pub blank : Screen
 blank = record { accepted = []; typed = []; told = 0 }
 
--- the byte of this number is the one behind those accepted
+-- the byte of this number is the next one after those accepted
 abbrev pub comes_next : Screen → ℕ → Bool
 comes_next screen number = number == length screen.accepted + 1
 
@@ -20,10 +20,10 @@ abbrev pub after_arrival : Screen → ℕ → ℕ → Screen
 after_arrival screen number byte =
     if comes_next screen number then record screen { accepted = screen.accepted ++ byte ∷ [] } else screen
 
--- a typed byte is kept behind the others
+-- a typed byte is kept after the others
 abbrev pub after_key : Screen → ℕ → Screen
 after_key screen byte = record screen { typed = screen.typed ++ byte ∷ [] }
 
--- the greatest number told stands
+-- the greatest number told is kept
 abbrev pub after_telling : Screen → ℕ → Screen
 after_telling screen keys = record screen { told = max screen.told keys }

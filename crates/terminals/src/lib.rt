@@ -1,4 +1,4 @@
-//! A terminal: the bytes that it accepted of a port in the order of their numbers, and what was typed at it.
+//! A terminal: the bytes of a port that it accepted, in order of number, and what was typed at it.
 #![tactic(auto)]
 
 mod laws;

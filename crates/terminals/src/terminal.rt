@@ -25,7 +25,7 @@ impl Model for Terminal {
 }
 
 impl Terminal {
-    /// A terminal that nothing came to yet.
+    /// A terminal at which nothing has arrived yet.
     #[tactic(auto, using(crate::proofs::Accepted::nothing_accepted))]
     pub fn new(alloc: Global) -> Terminal
         ensures blank { result ≡ table.blank }
@@ -38,8 +38,8 @@ impl Terminal {
         }
     }
 
-    /// A byte arrives, and the answer is whether it is accepted: bytes are numbered from 1, and each is accepted once,
-    /// at its turn. `OutOfMemory` comes only to such a byte, and changes nothing.
+    /// A byte arrives. Returns whether it is accepted: bytes are numbered from 1, and each is accepted once, in its
+    /// turn. `OutOfMemory` is returned only for a byte in its turn, and changes nothing.
     #[tactic(auto, using(crate::proofs::Accepted::takes_next, crate::proofs::Accepted::drops_others))]
     pub fn arrive(&mut self, number: u64, byte: u8) -> R<bool>
         ensures answer { OnOk result (result ≡ Ok (table.comes_next self.old number)) }
@@ -62,7 +62,7 @@ impl Terminal {
         &self.accepted
     }
 
-    /// A byte is typed and kept; the answer is its index, from 0. `OutOfMemory` changes nothing.
+    /// A byte is typed and kept. Returns its index, from 0. `OutOfMemory` changes nothing.
     pub fn typed(&mut self, byte: u8) -> R<u64>
         ensures answer { OnOk result (result ≡ Ok (length self.old.typed)) }
         ensures ok { OnOk result (self.new ≡ table.after_key self.old byte) }
@@ -74,7 +74,7 @@ impl Terminal {
         Ok(index)
     }
 
-    /// The byte typed at an index. `Unknown` where none was typed there.
+    /// The byte typed at an index. `Unknown` if none was typed there.
     pub fn key(&self, index: u64) -> R<u8>
         ensures { result ≡ ok_or (slice_get self.now.typed index) Unknown }
     {
@@ -82,8 +82,8 @@ impl Terminal {
         key.copied().ok_or(Fault::Unknown)
     }
 
-    /// The pair keeps this many keys of the terminal, from the first typed on. Less than it was told before says
-    /// nothing new.
+    /// The pair keeps this many keys of the terminal, counted from the first typed. A number below one told before
+    /// changes nothing.
     pub fn tell(&mut self, keys: u64)
         ensures { self.new ≡ table.after_telling self.old keys }
     {

@@ -1,4 +1,4 @@
-//! How the drives answer: a sector comes under the head, a write is done; and the questions when either is due.
+//! How the drives answer: a sector comes under the head, a write is done; and whether either is due.
 ghost use Rattle.std.specs.Prelude.{◌≡◌, ◌<◌, not, ◌==◌, IfSome, filter};
 ghost use Rattle.std.specs.List.{list_any};
 ghost use Rattle.disk_dcdd.specs.Sector.{is_at};
@@ -14,7 +14,7 @@ use i8080_words::{Fault, R};
 impl Controller {
     /// A sector comes under the head of the selected drive: its number, and the bytes that it has on the disk.
     ///
-    /// `NotDue` where the head waits for no such sector, and else `SectorBusy` where a write of it is outstanding.
+    /// `NotDue` if the head is not waiting for this sector; otherwise `SectorBusy` if a write of it is outstanding.
     pub fn sector(&mut self, number: u8, bytes: [u8; SECTOR_BYTES]) -> R<()>
         ensures answer { result ≡ table.answered (table.sector_refusal self.old number) }
         ensures after { self.new ≡ table.moved (table.sector_refusal self.old number) self.old
@@ -30,9 +30,9 @@ impl Controller {
         Ok(())
     }
 
-    /// The write of this number is done: its bytes stand on the disk.
+    /// The write of this number is done: its bytes are on the disk.
     ///
-    /// `NotDue` where it is not outstanding.
+    /// `NotDue` if it is not outstanding.
     pub fn written(&mut self, number: u64) -> R<()>
         ensures answer { result ≡ table.answered (table.written_refusal self.old number) }
         ensures after { self.new ≡ table.moved (table.written_refusal self.old number) self.old
@@ -45,7 +45,7 @@ impl Controller {
         Ok(())
     }
 
-    /// The selected drive, if one is.
+    /// The selected drive, if any.
     pub fn selected(&self) -> Option<u8>
         ensures value { result ≡ self.now.selected }
         ensures range { IfSome result (λ drive. drive < DRIVES) }
@@ -60,7 +60,7 @@ impl Controller {
         self.selected == Some(drive)
     }
 
-    /// The track at which the head of a drive stands, from 0.
+    /// The track that the head of a drive is at, from 0.
     pub fn track(&self, drive: u8) -> u8
         requires { drive < DRIVES }
         ensures { result ≡ (drive_of self.now drive).track }
@@ -68,7 +68,7 @@ impl Controller {
         self.drives[drive as usize].track
     }
 
-    /// Whether the head of the selected drive waits for this sector. It may still be busy.
+    /// Whether the head of the selected drive is waiting for this sector. The sector may still be busy.
     pub fn is_sector_due(&self, sector: u8) -> bool
         ensures { result ≡ table.is_sector_due self.now sector }
     {
@@ -114,7 +114,7 @@ fn has_write_at(places: &[Place], drive: u8, track: u8, sector: u8) -> bool
     places.iter().any(|place| place.is_at(drive, track, sector))
 }
 
-// The write of this number is outstanding no more.
+// Removes the write of this number from the outstanding ones.
 fn remove_write(places: &mut ArrayVec<Place, OUTSTANDING>, number: u64)
     ensures { places.new.items ≡ filter (λ place. not (place.number == number)) places.old.items }
 {

@@ -1,4 +1,4 @@
-//! A controller in an image of the machine: a reader for each field, and the controller that stands as an image says.
+//! A controller in an image of the machine: a reader for each field, and the controller that an image describes.
 ghost use Rattle.std.specs.Prelude.{◌≡◌, ◌<◌, ◌≤◌, ◌↔◌, IsTrue, IsOk, IfSome, IfOk, IsOkUnless, length};
 ghost use Rattle.std.specs.Option.{option_copied};
 ghost use Rattle.disk_dcdd.specs.Drive.{drive_of};
@@ -13,7 +13,8 @@ use crate::sector::{CurrentSector, Place, SECTORS};
 use arrayvec::ArrayVec;
 use i8080_words::{Fault, R};
 
-/// What an image says of a controller, as a controller's readers give it. `rebuild` decides whether one can stand so.
+/// What an image says of a controller, as a controller's readers return it. `rebuild` decides whether a controller can
+/// be in that state.
 #[derive(Clone, Copy, Debug, PartialEq, Eq)]
 pub struct ControllerImage<'a> {
     pub attached: u8,
@@ -33,7 +34,7 @@ impl Controller {
         self.attached
     }
 
-    /// A drive. One that is not attached stands as at boot.
+    /// A drive. One that is not attached is as it is when switched on.
     pub fn drive(&self, index: u8) -> Drive
         requires { index < DRIVES }
         ensures { result ≡ drive_of self.now index }
@@ -55,23 +56,23 @@ impl Controller {
         self.current.as_ref()
     }
 
-    /// Where the outstanding writes go, by rising number; at most `OUTSTANDING`.
+    /// Where the outstanding writes go, in order of number; at most `OUTSTANDING`.
     pub fn outstanding(&self) -> &[Place]
         ensures { result.now ≡ self.now.outstanding }
     {
         self.outstanding.as_slice()
     }
 
-    /// Whatever a controller has been through, it stands as an image may say, and `rebuild` accepts that image.
+    /// Whatever a controller has been through, an image can describe its state, and `rebuild` accepts that image.
     pub fn stands(&self)
         ensures { IsDrives self.now }
     {
         let _ = &self.attached;
     }
 
-    /// The controller that stands as an image says. It takes no memory.
+    /// The controller that an image describes. Allocates no memory.
     ///
-    /// `Malformed` where no controller can stand so.
+    /// `Malformed` if no controller can be in that state.
     pub fn rebuild(image: &ControllerImage<'_>) -> R<Controller>
         ensures stands { IsOk result ↔ IsDrives (imaged image.now) }
         ensures as_imaged { IfOk result (λ controller. controller ≡ imaged image.now) }
@@ -107,7 +108,7 @@ impl Controller {
         Ok(controller)
     }
 
-    /// The same controller again. It takes no memory.
+    /// A copy of the controller. Allocates no memory.
     pub fn copy(&self) -> Controller
         ensures { result ≡ self.now }
     {
@@ -123,7 +124,7 @@ impl Controller {
     }
 }
 
-// The same places again.
+// A copy of the places.
 fn copied(places: &[Place]) -> ArrayVec<Place, OUTSTANDING>
     requires { length places.now ≤ OUTSTANDING }
     ensures { result.items ≡ places.now }
@@ -140,7 +141,7 @@ fn selects_attached(attached: u8, selected: Option<u8>) -> bool
     selected.is_none_or(|drive| drive < attached)
 }
 
-// Whether a controller can have these drives, of which this many are attached.
+// Whether a controller can have these drives, with this many of them attached.
 fn are_drives(attached: u8, drives: &[Drive; DRIVES]) -> bool
     requires { attached ≤ DRIVES }
     ensures { IsTrue result ↔ AreDrives attached drives.now }
@@ -166,7 +167,7 @@ fn are_outstanding(attached: u8, issued: u64, places: &[Place]) -> bool
     true
 }
 
-// Whether a write may be outstanding beside these earlier ones.
+// Whether a write may be outstanding along with these earlier ones.
 fn may_follow(attached: u8, issued: u64, earlier: &[Place], place: &Place) -> bool
     ensures { IsTrue result ↔ MayFollow attached issued earlier.now place.now }
 {

@@ -5,7 +5,7 @@ ghost use Rattle.disk_dcdd.specs.declared.controller.TheConstants.{DRIVES};
 use crate::*;
 use i8080_words::Fault;
 
-// A controller of so many drives whose selected drive 0 has its head loaded at track 1.
+// A controller of this many drives whose selected drive 0 has its head loaded at track 1.
 fn at_track_one(drives: u8) -> Controller
     requires some { 1 ≤ drives }
     requires few { drives ≤ DRIVES }
@@ -19,8 +19,8 @@ fn at_track_one(drives: u8) -> Controller
 
 #[test]
 fn each_command_bit_does_its_own(rt: HostRuntime) {
-    // The command, and the status and the track after it. Of the status E1 the bits 1 and 2 are 0: the head may move,
-    // and it is loaded.
+    // The command, and the status and the track after it. In the status E1 bits 1 and 2 are 0: the head may move, and
+    // it is loaded.
     let rows = [
         ("nothing", 0x00, 0xe1, 1),
         ("step in", 0x01, 0xe1, 2),
@@ -59,7 +59,7 @@ fn the_interrupt_enable_outlives_a_selection(rt: HostRuntime) {
 
 #[test]
 fn each_command_bit_leaves_or_keeps_the_sector(rt: HostRuntime) {
-    // The command, and the status after it: bit 7 is 0 where bytes wait, bit 0 where bytes may be entered.
+    // The command, and the status after it: bit 7 is 0 if bytes wait, bit 0 if bytes may be entered.
     let rows = [
         ("step in", 0x01, 0xe1),
         ("step out", 0x02, 0xa1),

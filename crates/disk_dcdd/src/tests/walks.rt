@@ -1,9 +1,9 @@
-//! Long walks of a controller by calls drawn at random. What each of them folds to was made by an independent program.
+//! Long walks of a controller by calls drawn at random. The expected folds were made by an independent program.
 //!
-//! Numbers are drawn by x = x * 1664525 + 1013904223 modulo 2^32, of which a byte is the highest eight bits. A walk folds
-//! bytes: h is taken exclusive or with the byte and multiplied by 16777619 modulo 2^32, from 2166136261 on. Walk r draws
-//! from x = r, has r mod 4 + 1 drives, and makes 2,000 rounds. A round draws which call it makes, modulo 16, and a byte for
-//! it; it folds what the call answers, and at its end the status and the line.
+//! Numbers are drawn by x = x * 1664525 + 1013904223 modulo 2^32; a byte is the highest eight bits of x. A walk folds
+//! bytes from h = 2166136261 on: h is exclusive-ored with the byte and multiplied by 16777619 modulo 2^32. Walk r draws
+//! from x = r, has r mod 4 + 1 drives, and makes 2,000 rounds. A round draws which call it makes, modulo 16, and a byte
+//! for it; it folds what the call returns, and at its end the status and the line.
 use crate::*;
 use i8080_words::R;
 use std::process::Abort;
@@ -28,7 +28,7 @@ struct Walk {
     disk: Controller,
 }
 
-// What is folded of an answer: 0, or the number of the refusal.
+// The byte folded for a result: 0, or the number of the refusal.
 fn refusal(answer: R<()>) -> u8 {
     match answer {
         Ok(()) => 0,
@@ -141,7 +141,7 @@ impl Walk {
     }
 }
 
-// What a walk has folded in the end.
+// The fold at the end of a walk.
 fn folded_by(rt: &impl Abort, number: u8) -> u32 {
     let mut walk = Walk {
         drawn: u32::from(number),

@@ -1,4 +1,4 @@
-//! How a guest boots: in memory that is taken before it has its closures.
+//! How a guest boots: in memory that is allocated before it gets its closures.
 ghost use Rattle.std.specs.Prelude.{◌≡◌, ◌*◌, IfErr, IfOk};
 ghost use Rattle.disk_dcdd.specs.declared.address.TheConstants.{DRIVE_SECTORS};
 ghost use Rattle.guest_memory.specs.Pages.{unwritten, zeros};
@@ -15,7 +15,7 @@ use i8080_core::Cpu;
 use i8080_words::{Fault, R};
 use std::alloc::Global;
 
-/// All the memory that a guest takes when it boots: its own, and a number for each sector of its drives.
+/// All the memory that a guest needs to boot: its own, and a number for each sector of its drives.
 #[derive(Drop)]
 pub struct BoardMemory {
     memory: Memory,
@@ -36,7 +36,7 @@ impl BoardMemory {
 }
 
 impl<T: Completes, S: Completes, W: Completes> Board<T, S, W> {
-    /// The guest at boot, in the memory of its setup and with these closures. It takes no further memory.
+    /// The guest at boot, in the memory of its setup and with these closures. Allocates no further memory.
     pub fn boot_in(
         alloc: Global,
         taken: BoardMemory,

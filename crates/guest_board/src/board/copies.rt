@@ -9,8 +9,8 @@ use i8080_words::Fault;
 use std::alloc::Global;
 
 impl<T: Completes, S: Completes, W: Completes> Board<T, S, W> {
-    /// The same guest again, in memory of its own and with these closures; its outstanding operations and the versions of
-    /// its pages are the same too. `OutOfMemory` hands the closures back.
+    /// A copy of the guest, in memory of its own and with these closures; its outstanding operations and the versions
+    /// of its pages are the same too. `OutOfMemory` hands the closures back.
     pub fn copy<T2: Completes, S2: Completes, W2: Completes>(
         &self,
         alloc: Global,

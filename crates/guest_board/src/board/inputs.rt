@@ -1,4 +1,4 @@
-//! The inputs of a board: which it would take, and what one that is taken makes of the guest.
+//! The inputs of a board: which it would take, and how one that is taken changes the guest.
 ghost use Rattle.std.specs.Prelude.{◌≡◌, ◌<◌, IsTrue, OnOk, OnErr, Some, slice_index};
 ghost use Rattle.disk_dcdd.specs.Completion.{answered};
 ghost use Rattle.disk_dcdd.specs.declared.controller.TheConstants.{GREATEST_NUMBER};
@@ -17,10 +17,11 @@ use event_callbacks::{Callbacks, Completes, Devices, Done, OpId, Operation};
 use i8080_words::{Fault, R};
 
 impl<T: Completes, S: Completes, W: Completes> Board<T, S, W> {
-    /// Whether an input would be taken now: what `take` would answer. A key is taken at any time.
+    /// Whether an input would be taken now: what `take` would return. A key is taken at any time.
     ///
-    /// `NotDue` where no device waits for it, or the drive is not the selected one; else `SectorBusy` where a write of
-    /// that sector is outstanding; else `StaleRead` where the number is not that of the sector's last completed write.
+    /// `NotDue` if no device waits for it, or the drive is not the selected one; otherwise `SectorBusy` if a write of
+    /// that sector is outstanding; otherwise `StaleRead` if the number is not that of the sector's last completed
+    /// write.
     pub fn check(&self, input: &Input) -> R<()>
         ensures answer { result ≡ answered (inputs.refusal self.now.guest input.now) }
         ensures numbers { OnOk result (IsNumbered input.now) }
@@ -45,8 +46,8 @@ impl<T: Completes, S: Completes, W: Completes> Board<T, S, W> {
         }
     }
 
-    /// Takes an input, where it is due: a key at any time. It is completed by the stored closures, and the count of steps
-    /// stays. The refusals are those of `check`, and change nothing.
+    /// Takes an input if it is due: a key at any time. The stored closures complete it, and the count of steps is
+    /// unchanged. The refusals are those of `check`, and change nothing.
     pub fn take(&mut self, input: Input) -> R<()>
         requires input { IsInput input }
         requires room { HasRoom inputs.some_altair self.old.guest input }
@@ -122,7 +123,7 @@ impl<T: Completes, S: Completes, W: Completes> Board<T, S, W> {
         Ok(())
     }
 
-    // A write stands on the disk.
+    // A write is on the disk.
     fn written(&mut self, number: u64) -> R<()>
         ensures answer { result ≡ answered (inputs.refusal self.old.guest (input_of.Written number)) }
         ensures ok { OnOk result (table.take_from self.old.guest (input_of.Written number)
@@ -141,14 +142,14 @@ impl<T: Completes, S: Completes, W: Completes> Board<T, S, W> {
     }
 }
 
-// A test of what is due as an answer.
+// `NotDue` unless the condition holds.
 fn due(holds: bool) -> R<()>
     ensures { result ≡ answered (inputs.unless_due holds) }
 {
     if holds { Ok(()) } else { Err(Fault::NotDue) }
 }
 
-// Why a sector does not come, by the controller and the last completed writes.
+// Why a sector does not come, given the controller and the last completed writes.
 fn check_sector(disk: &Controller, completed: &[u64], drive: u8, sector: u8, number: u64) -> R<()>
     ensures { result ≡ answered (inputs.sector_refusal_at disk.now completed.now drive sector number) }
 {
@@ -173,7 +174,7 @@ fn check_sector(disk: &Controller, completed: &[u64], drive: u8, sector: u8, num
     Ok(())
 }
 
-// The devices after what is due, by the stored closures.
+// The devices after what is due, completed by the stored closures.
 fn complete<T: Completes, S: Completes, W: Completes>(
     callbacks: &Callbacks<T, S, W>,
     devices: &mut Devices,
@@ -186,7 +187,7 @@ fn complete<T: Completes, S: Completes, W: Completes>(
     *devices = callbacks.fire(copy, done);
 }
 
-// A write is the last completed one of its sector.
+// A write becomes the last completed one of its sector.
 fn complete_write(completed: &mut Vec<u64>, operation: &Operation)
     ensures { completed.new.items ≡ table.with_completed completed.old.items (Some operation.now) }
 {

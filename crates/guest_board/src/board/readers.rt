@@ -18,7 +18,7 @@ use i8080_words::Processor;
 use serial_2sio::Acia;
 
 impl<T: Completes, S: Completes, W: Completes> Board<T, S, W> {
-    /// How many steps the guest has made.
+    /// How many steps the guest has executed.
     pub fn count(&self) -> u64
         ensures value { result ≡ self.now.guest.count }
         ensures within { result ≤ GREATEST_NUMBER }
@@ -33,7 +33,7 @@ impl<T: Completes, S: Completes, W: Completes> Board<T, S, W> {
         self.cpu.idles(line(&self.wiring.devices, &self.levels))
     }
 
-    /// Whether the count, or a number of bytes or of writes, stands at its greatest.
+    /// Whether the count, or a number of bytes or of writes, is at its greatest.
     pub fn is_spent(&self) -> bool
         ensures { result ≡ table.is_spent self.now.guest }
     {
@@ -66,7 +66,7 @@ impl<T: Completes, S: Completes, W: Completes> Board<T, S, W> {
         self.pending.find(id)
     }
 
-    /// The number of the byte of a port that is accepted next: the oldest that was sent and not accepted.
+    /// The number of the next byte of a port to be accepted: the oldest that was sent and not accepted.
     pub fn due_byte(&self, port: u8) -> Option<u64>
         requires { port < PORTS }
         ensures { result ≡ table.due_byte self.now.guest port }
@@ -78,7 +78,7 @@ impl<T: Completes, S: Completes, W: Completes> Board<T, S, W> {
         Some(oldest_byte(self.wiring.issued[port as usize], acia.unaccepted()))
     }
 
-    /// The selected drive, and the track where its head stands.
+    /// The selected drive, and the track its head is at.
     pub fn place(&self) -> Option<(u8, u8)>
         ensures { result ≡ inputs.place_of self.now.guest }
     {
@@ -86,7 +86,7 @@ impl<T: Completes, S: Completes, W: Completes> Board<T, S, W> {
         Some((drive, self.wiring.devices.disk.track(drive)))
     }
 
-    /// The number of the last completed write of a sector, 0 where there is none.
+    /// The number of the last completed write of a sector, 0 if there is none.
     pub fn done(&self, address: SectorAddress) -> u64
         ensures { result ≡ table.last_completed self.now.guest address }
     {
@@ -153,7 +153,7 @@ impl<T: Completes, S: Completes, W: Completes> Board<T, S, W> {
     }
 }
 
-// The number of the oldest of this many bytes that are not accepted, of so many that were sent.
+// The number of the oldest byte that is not accepted, given how many bytes were issued and how many are unaccepted.
 fn oldest_byte(issued: u64, unaccepted: u8) -> u64
     requires sent { unaccepted ≤ issued }
     requires within { issued ≤ GREATEST_NUMBER }
@@ -162,7 +162,7 @@ fn oldest_byte(issued: u64, unaccepted: u8) -> u64
     issued + 1 - unaccepted as u64
 }
 
-// The number in the table of all sectors, 0 where it has none.
+// The number in the table of all sectors, 0 if it has none.
 pub(super) fn last_completed(completed: &[u64], address: SectorAddress) -> u64
     ensures { result ≡ option_map_or (λ index. slice_index completed.now index) (index_of address) 0 }
 {

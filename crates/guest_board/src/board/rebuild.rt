@@ -1,4 +1,4 @@
-//! A board that stands as an image says.
+//! A board in the state that an image describes.
 ghost use Rattle.std.specs.Prelude.{◌≡◌, ℕ, ◌+◌, ◌≤◌, ◌<◌, ◌^◌, true, length, IfOk, IfErr, OnOk, None, IsOkUnless};
 ghost use Rattle.i8080_words.specs.declared.refusal.Fault.TheVariants.{OutOfMemory};
 ghost use Rattle.event_callbacks.specs.Operations.{operation_at};
@@ -19,9 +19,10 @@ use i8080_words::{Fault, R};
 use std::alloc::Global;
 
 impl<T: Completes, S: Completes, W: Completes> Board<T, S, W> {
-    /// The board that stands as the parts say, with these closures; no page of its memory was written yet.
+    /// The board that the parts describe, with these closures; no page of its memory was written yet.
     ///
-    /// `Malformed` where no board can stand so, else `OutOfMemory` where memory is wanted. Both hand everything back.
+    /// `Malformed` if no board can be in that state, otherwise `OutOfMemory` if there is no memory for it. Both hand
+    /// everything back.
     pub fn rebuild(
         alloc: Global,
         parts: BoardParts,
@@ -75,7 +76,7 @@ impl<T: Completes, S: Completes, W: Completes> Board<T, S, W> {
     }
 }
 
-// The operations that wait: the bytes of both ports, and the writes.
+// The outstanding operations: the bytes of both ports, and the writes.
 fn outstanding(alloc: Global, parts: &BoardParts) -> R<Pending>
     requires { table.stands parts.now ≡ true }
     ensures ok { IfOk result (λ pending. pending.operations ≡ table.operations_of parts.now) }
@@ -89,7 +90,7 @@ fn outstanding(alloc: Global, parts: &BoardParts) -> R<Pending>
     Ok(pending)
 }
 
-// The bytes of a port that are on their way are outstanding from now on.
+// Adds the bytes of a port that are on their way to the outstanding operations.
 fn issue_port(pending: &mut Pending, parts: &BoardParts, port: u8) -> R<()>
     requires port { port < PORTS }
     requires stands { table.stands parts.now ≡ true }
@@ -106,7 +107,7 @@ fn issue_port(pending: &mut Pending, parts: &BoardParts, port: u8) -> R<()>
     issue_bytes(pending, port, oldest, &bytes[..unaccepted as usize])
 }
 
-// Bytes of a port are outstanding from now on, numbered from this number on.
+// Adds bytes of a port to the outstanding operations, numbered from `oldest` on.
 fn issue_bytes(pending: &mut Pending, port: u8, oldest: u64, bytes: &[u8]) -> R<()>
     requires range { oldest + length bytes.now < 2 ^ 64 }
     requires new { (number : ℕ) → operation_at pending.old.operations (id.Byte port number) ≡ None }
@@ -126,7 +127,7 @@ fn issue_bytes(pending: &mut Pending, port: u8, oldest: u64, bytes: &[u8]) -> R<
     Ok(())
 }
 
-// Writes are outstanding from now on.
+// Adds writes to the outstanding operations.
 fn issue_writes(pending: &mut Pending, writes: &[SectorWrite]) -> R<()>
     requires rise { table.Rise writes.now }
     requires new { (number : ℕ) → operation_at pending.old.operations (id.Write number) ≡ None }

@@ -1,4 +1,4 @@
-//! Whether a board can stand as its parts say.
+//! Whether a board can be in the state that its parts describe.
 ghost use Rattle.std.specs.Prelude.{◌≡◌, ◌<◌, ◌≤◌, ◌↔◌, true, [], length, map, slice_index_or};
 ghost use Rattle.std.specs.List.{list_all};
 ghost use Rattle.disk_dcdd.specs.Sector.{place_of};
@@ -14,8 +14,8 @@ use disk_dcdd::{Controller, DRIVE_SECTORS, GREATEST_NUMBER, Place, SectorWrite};
 use event_callbacks::{Devices, PORTS};
 
 impl BoardParts {
-    /// A board can stand as the parts say exactly where their guest stands as the guest of every board does, and their
-    /// writes are those that the controller waits for, in its order.
+    /// A board can be in the state that the parts describe exactly if what holds of every board's guest holds of
+    /// theirs, and their writes are those that the controller waits for, in its order.
     pub fn stand_as_boards_do(&self)
         ensures { (table.stands self.now ≡ true)
             ↔ (IsBoard (table.guest_of_parts self.now) (zeros PAGES)
@@ -30,7 +30,7 @@ impl BoardParts {
         let _sense = self.sense;
     }
 
-    // There is a byte for each that a port has on its way.
+    // There is a byte for each one that a port has on its way.
     pub(crate) fn has_window(&self, port: u8)
         requires { port < PORTS }
         ensures { (port_of self.now.devices port).unaccepted ≤ length (slice_index_or self.now.unaccepted port []) }
@@ -40,7 +40,7 @@ impl BoardParts {
         has_all(&self.unaccepted[port as usize]);
     }
 
-    // Whether a board can stand so.
+    // Whether a board can be in that state.
     pub(crate) fn stand(&self) -> bool
         ensures { result ≡ table.stands self.now }
     {
@@ -58,7 +58,7 @@ fn has_all<X, const N: usize>(array: &[X; N])
     ensures { length array.now ≡ N }
 {}
 
-// Whether the bytes of a port that are on their way were issued, and its numbers are in their range.
+// Whether the bytes of a port that are on their way were issued, and its numbers are in range.
 fn port_stands(devices: &Devices, issued: &[u64; PORTS], keys: &[u64; PORTS], port: u8) -> bool
     requires { port < PORTS }
     ensures { result ≡ table.port_stands devices.now issued.now keys.now port }

@@ -1,4 +1,4 @@
-//! Which device interrupts first, and what stands at a port number.
+//! Which device interrupts first, and what is at a port number.
 
 ghost use Rattle.event_callbacks.specs.declared.devices.TheConstants.{SENT, SECTOR, WRITTEN};
 ghost use Rattle.event_callbacks.specs.Keeping.{Keeps};
@@ -34,7 +34,8 @@ fn disk(has_a_sector: bool) -> R<Controller> {
     Ok(disk)
 }
 
-// A guest with interrupts on, of whose devices these ask for one: port 0, port 1, the disk. Their levels are 1, 2 and 3.
+// A guest with interrupts on, in which these devices ask for one: port 0, port 1, the disk. Their levels are 1, 2 and
+// 3.
 fn interrupted(alloc: Global, active: [bool; 3]) -> R<BoardParts> {
     let mut parts = parts(alloc, &[])?;
     let [first, second, third] = active;
@@ -46,7 +47,7 @@ fn interrupted(alloc: Global, active: [bool; 3]) -> R<BoardParts> {
     Ok(parts)
 }
 
-// The address at which a guest goes on that accepts an interrupt.
+// The address at which a guest continues after it accepts an interrupt.
 fn accept<T: Completes + Drop, S: Completes + Drop, W: Completes + Drop>(
     rt: &(impl Abort + AllocGlobal),
     active: [bool; 3],

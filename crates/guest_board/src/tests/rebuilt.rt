@@ -34,7 +34,7 @@ pub(super) fn parts(alloc: Global, program: &[u8]) -> R<BoardParts> {
     })
 }
 
-// A board of these parts.
+// A board made from these parts.
 pub(super) fn rebuild<T: Completes + Drop, S: Completes + Drop, W: Completes + Drop>(
     alloc: Global,
     parts: BoardParts,
@@ -71,7 +71,7 @@ fn run<T: Completes, S: Completes, W: Completes>(rt: &impl Abort, board: &mut Bo
     wait_for_a_key(rt, board, 2, 0x02);
 }
 
-// Parts of a board that has made as many steps as can be counted.
+// Parts of a board that has executed as many steps as can be counted.
 fn at_the_limit(alloc: Global) -> R<BoardParts> {
     let mut parts = waits_for_a_key(alloc)?;
     parts.count = GREATEST_NUMBER;
@@ -87,7 +87,7 @@ fn stop<T: Completes + Drop, S: Completes + Drop, W: Completes + Drop>(
     Ok(())
 }
 
-// Makes no step more.
+// Executes no more steps.
 fn be_spent<T: Completes, S: Completes, W: Completes>(rt: &impl Abort, board: &mut Board<T, S, W>) {
     assert!(rt; board.is_spent());
     assert_eq!(rt; board.exec(), Err(Fault::Spent));
@@ -143,14 +143,14 @@ fn complete_five(parts: &mut BoardParts, number: u64) {
     }
 }
 
-// Parts of a board that has completed a write which waits, as none can.
+// Parts of a board that has completed a write that is still outstanding, which none can.
 fn completed_too_early(alloc: Global) -> R<BoardParts> {
     let mut parts = waits_for_both(alloc)?;
     complete_five(&mut parts, 1);
     Ok(parts)
 }
 
-// What no board can stand as is refused, and comes back.
+// Parts that no board can have are refused, and handed back.
 fn refuse<T: Completes + Drop, S: Completes + Drop, W: Completes + Drop>(
     rt: &(impl Abort + AllocGlobal),
     parts: BoardParts,

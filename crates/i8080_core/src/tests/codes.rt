@@ -1,13 +1,13 @@
-//! Each code from 256 states. What the states after them fold to was made by an independent program, whose arithmetic
-//! gives the published checksums of an 8080 exerciser.
+//! Each code from 256 states. The expected folds were made by an independent program, whose arithmetic produces the
+//! published checksums of an 8080 exerciser.
 //!
-//! Numbers are drawn by x = x * 1664525 + 1013904223 modulo 2^32, of which a byte is the highest eight bits; a word is two
-//! bytes, the high one first. Memory has the 65,536 bytes that are drawn from x = 8080. For each code, numbers are drawn
-//! from x = code; a round draws A, F, B, C, D, E, H, L, SP, PC and two bytes of data, which stand behind the code at PC,
-//! and makes one step with interrupts off. IN p gives p exclusive or 5A. Bytes are folded from h = 2166136261 on: h is
-//! taken exclusive or with the byte and multiplied by 16777619 modulo 2^32. What is folded after a round is the registers,
-//! the interrupts (0 off, 1 soon, 2 on), whether it is halted, each access of a port (49 and the port; 4F, the port and
-//! the byte), and of what was written the sum of (address * 256 + byte) * 2654435761 modulo 2^32, its highest byte first.
+//! Numbers are drawn by x = x * 1664525 + 1013904223 modulo 2^32; a byte is the highest eight bits of x, and a word is
+//! two bytes, high byte first. Memory holds the 65,536 bytes drawn from x = 8080. For each code, numbers are drawn from
+//! x = code; a round draws A, F, B, C, D, E, H, L, SP, PC and two bytes of data, which go after the code at PC, and
+//! executes one step with interrupts off. IN p reads p XOR 5A. Bytes are folded from h = 2166136261 on: h is
+//! exclusive-ored with the byte and multiplied by 16777619 modulo 2^32. A round folds the registers, the interrupts (0
+//! off, 1 soon, 2 on), whether the processor is halted, each port access (49 and the port; 4F, the port and the byte),
+//! and the sum over the bytes written of (address * 256 + byte) * 2654435761 modulo 2^32, highest byte first.
 ghost use Rattle.i8080_core.specs.Examples.{byte_in, input_at, access_of};
 
 use crate::{Bus, Cpu};
@@ -69,7 +69,7 @@ impl Draw {
     }
 }
 
-// What bytes are folded to.
+// A fold of bytes.
 #[derive(Drop)]
 struct Fold {
     folded: u32,
@@ -94,7 +94,7 @@ enum PortAccess {
     Out(u8, u8),
 }
 
-// All of memory, and what was written and which port was accessed in a step.
+// All of memory, what a step wrote, and which port it accessed.
 #[derive(Drop)]
 struct Machine {
     bytes: Vec<u8>,
@@ -148,13 +148,13 @@ impl Machine {
         }
     }
 
-    // Puts back what stood at an address.
+    // Restores what was at an address.
     fn restore(&mut self, address: u16, before: &[u8]) {
         let byte = before.get(address as usize).copied().unwrap_or(0);
         self.put(address, byte);
     }
 
-    // What is folded of what was written.
+    // The sum that is folded for the bytes written.
     fn written_sum(&self) -> u32 {
         let mut sum = 0u32;
         for address in self.written.iter().flatten() {
@@ -164,7 +164,7 @@ impl Machine {
         sum
     }
 
-    // Puts back what stood where a step wrote, and forgets the step.
+    // Restores what a step overwrote, and forgets the step.
     fn take_back(&mut self, before: &[u8]) {
         let written = self.written;
         for address in written.iter().flatten() {
@@ -275,7 +275,7 @@ fn round(code: u8, draw: &mut Draw, fold: &mut Fold, machine: &mut Machine, befo
     }
 }
 
-// What a code has folded after 256 rounds.
+// The fold of a code after 256 rounds.
 fn folded_by(code: u8, machine: &mut Machine, before: &[u8]) -> u32 {
     let mut draw = Draw {
         drawn: u32::from(code),
@@ -287,7 +287,7 @@ fn folded_by(code: u8, machine: &mut Machine, before: &[u8]) -> u32 {
     fold.folded
 }
 
-// The first 65,536 bytes that are drawn from 8080.
+// The first 65,536 bytes drawn from 8080.
 fn drawn_memory(alloc: Global) -> Result<Vec<u8>, AllocError> {
     let mut bytes = vec![in alloc; 0u8; 65536]?;
     let mut draw = Draw { drawn: 8080 };

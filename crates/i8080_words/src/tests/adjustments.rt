@@ -1,4 +1,4 @@
-//! Every decimal adjustment, against a formula over digits.
+//! Every decimal adjustment, checked against a formula over digits.
 use crate::{daa, psw};
 
 fn is_even(byte: u8) -> bool {
@@ -7,8 +7,8 @@ fn is_even(byte: u8) -> bool {
     (quarter ^ (quarter >> 1)) & 1 == 0
 }
 
-// The adjustment digit by digit: each digit above 9, or with a carry out of it, is corrected by 6, and a carry stays. The
-// value comes with the flag byte.
+// The adjustment, digit by digit: a digit above 9, or with a carry out of it, is corrected by 6, and a carry stays set.
+// Returns the value and the flag byte.
 fn by_digits(value: u8, ac: bool, carry: bool) -> (u8, u8) {
     let low = value & 0x0f;
     let high = value >> 4;

@@ -1,4 +1,4 @@
-//! Every code, against the bit patterns of the manual's instruction summary.
+//! Every code, checked against the bit patterns of the manual's instruction summary.
 use crate::{
     AccumulatorOperation, AluOperation, Condition, Op, Register, RegisterPair, StackPair, decode,
     length, opcode,
@@ -141,7 +141,7 @@ fn last_quarter(bits: u8, low_bits: u8) -> (Op, u8) {
     }
 }
 
-// The instruction with the data CD AB, and how many bytes it has.
+// The instruction with the data CD AB, and its length in bytes.
 fn by_pattern(code: u8) -> (Op, u8) {
     let bits = (code >> 3) & 7;
     let low_bits = code & 7;

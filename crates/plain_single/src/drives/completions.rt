@@ -1,4 +1,4 @@
-//! What the drives wait for: a sector that comes under the head, and writes that are done.
+//! What the drives wait for: a sector to come under the head, and writes to be done.
 ghost use Rattle.std.specs.Prelude.{◌≡◌, ◌<◌, ◌==◌, ◌↔◌, not, filter, OnOk, IfSome, IsSome, IsTrue};
 ghost use Rattle.disk_dcdd.specs.Completion as table;
 ghost use Rattle.disk_dcdd.specs.Drive as drives;
@@ -16,7 +16,7 @@ const SECTORS: u8 = 32;
 impl DiskDrives {
     ghost use Rattle.plain_single.specs.Drives.{drives_of};
 
-    /// The track at which the head of a drive stands, if that drive is selected.
+    /// The track that the head of a drive is at, if that drive is selected.
     pub(crate) fn track_of(&self, drive: u8) -> Option<u8>
         ensures selected { IsSome result ↔ IsTrue (table.is_selected (drives_of self.now) drive) }
         ensures track { IfSome result (λ track. track ≡ (drives.drive_of (drives_of self.now) drive).track) }
@@ -30,7 +30,7 @@ impl DiskDrives {
     }
 
     /// A sector of this number comes under the head, with these bytes. `NotDue` if the head waits for no sector, or no
-    /// track has one of this number; else `SectorBusy` if a write of it is not done.
+    /// track has one of this number; otherwise `SectorBusy` if a write of it is not done.
     pub(crate) fn arrive(&mut self, number: u8, bytes: [u8; SECTOR_BYTES]) -> R<()>
         ensures answer { result ≡ table.answered (table.sector_refusal (drives_of self.old) number) }
         ensures drives { OnOk result (drives_of self.new ≡ table.after_sector (drives_of self.old) number bytes) }
@@ -70,7 +70,7 @@ impl DiskDrives {
         Ok(())
     }
 
-    // The write of this number is waited for no more.
+    // Stops waiting for the write of this number.
     fn forget(&mut self, number: u64)
         ensures drives { drives_of self.new ≡ table.after_written (drives_of self.old) number }
         ensures writes { self.new.writes ≡ self.old.writes }
@@ -109,7 +109,7 @@ fn has_write(awaited: &[Awaited], number: u64) -> bool
     awaited.iter().any(|write| write.number == number)
 }
 
-// The write of this number is waited for no more.
+// Stops waiting for the write of this number.
 fn remove_write(awaited: &mut Vec<Awaited>, number: u64)
     ensures { awaited.new.items ≡ filter (λ write. not (write.number == number)) awaited.old.items }
 {

@@ -6,7 +6,7 @@ ghost use Rattle.plain_single.specs.Tracks.{track_after};
 // A disk has 77 tracks, from 0 to this one.
 const LAST_TRACK: u8 = 76;
 
-/// The track at which a head stands, and whether the head is on the disk.
+/// The track that a head is at, and whether the head is on the disk.
 #[derive(Clone, Copy)]
 pub(crate) struct Head {
     pub(crate) track: u8,

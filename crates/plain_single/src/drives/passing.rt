@@ -8,16 +8,16 @@ use super::head::bits;
 /// How many bytes a sector has.
 pub(crate) const SECTOR_BYTES: usize = 137;
 
-/// The place of its last byte.
+/// The index of its last byte.
 pub(crate) const LAST_BYTE: u8 = 136;
 
-/// What a port gives that has nothing to show.
+/// What a port reads when it has nothing to show.
 pub(crate) const NOTHING: u8 = 0xff;
 
 // The position of sector 0: bits 7 and 6 are 1, bits 5 to 1 have the sector's number, and bit 0 is 0.
 const SECTOR_ZERO: u8 = 0xc0;
 
-/// What becomes of a sector: its bytes are read, or it is written, and this many bytes are filled in.
+/// What happens to a sector: its bytes are read, or it is written, and this many bytes are filled in.
 #[derive(Clone, Copy)]
 pub(crate) enum Stage {
     Reading,
@@ -73,7 +73,7 @@ impl Selection {
         }
     }
 
-    /// OUT 09h: the sector leaves if it is being written or the head moves off it, and else a write of it may start.
+    /// OUT 09h: the sector leaves if it is being written or the head moves off it; otherwise a write of it may start.
     pub(crate) fn command(&mut self, byte: u8)
         ensures after { current_of self.new ≡ commands.commanded_sector byte (current_of self.old) }
         ensures drive { selected_of self.new ≡ selected_of self.old }

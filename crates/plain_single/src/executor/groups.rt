@@ -1,4 +1,4 @@
-//! Groups of instructions: arithmetic, counting, rotations, the stack, calls and returns.
+//! Groups of instructions: arithmetic, increments and decrements, rotations, the stack, calls and returns.
 ghost use Rattle.std.specs.Prelude.{◌≡◌, ◌+◌, ◌*◌, ◌/◌, ◌%◌};
 ghost use Rattle.i8080_words.specs.Arithmetic.{wrapped};
 ghost use Rattle.i8080_words.specs.Effects as table;
@@ -20,7 +20,7 @@ fn with_result(result_of: (u8, Flags), regs: &Regs) -> Regs
     Regs { a, flags, ..*regs }
 }
 
-/// An operation of the accumulator with a byte (ADD to CMP, ADI to CPI).
+/// An operation on the accumulator and a byte (ADD to CMP, ADI to CPI).
 pub(crate) fn operated(operation: AluOperation, byte: u8, regs: &Regs) -> Regs
     ensures { result ≡ table.operated operation byte regs.now }
 {
@@ -124,7 +124,7 @@ pub(crate) fn accumulated(operation: AccumulatorOperation, regs: &Regs) -> Regs
     }
 }
 
-/// LHLD: L from an address and H from the next.
+/// LHLD: loads L from an address and H from the next.
 pub(crate) fn loaded_pair(memory: &Memory, address: u16, regs: &Regs) -> Regs
     ensures { result ≡ record regs.now {
       l = byte_at memory.now.bytes.items address;
@@ -138,7 +138,7 @@ pub(crate) fn loaded_pair(memory: &Memory, address: u16, regs: &Regs) -> Regs
     }
 }
 
-/// XTHL: HL and the word at the stack pointer change places.
+/// XTHL: exchanges HL with the word at the stack pointer.
 pub(crate) fn top_exchanged(memory: &Memory, regs: &Regs) -> Outcome
     ensures { outcome_of result ≡ table.writing_word regs.now.sp regs.now.l regs.now.h (record regs.now {
       l = byte_at memory.now.bytes.items regs.now.sp;
@@ -177,7 +177,7 @@ pub(crate) fn pushed_word(word: u16, regs: &Regs) -> Outcome
     }
 }
 
-/// A word put where POP says.
+/// A word put into the pair that POP names.
 fn with_pushed(pair: StackPair, word: u16, regs: &Regs) -> Regs
     ensures { result ≡ table.with_pushed pair word regs.now }
 {

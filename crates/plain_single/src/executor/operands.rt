@@ -86,7 +86,7 @@ pub(crate) fn operand(memory: &Memory, register: Register, regs: &Regs) -> u8
     }
 }
 
-/// A byte put where a register operand says.
+/// A byte put into a register operand.
 pub(crate) fn put(register: Register, byte: u8, regs: &Regs) -> Outcome
     ensures { outcome_of result ≡ table.put register byte regs.now }
 {
@@ -118,7 +118,7 @@ pub(crate) fn holds(condition: Condition, flags: Flags) -> bool
     }
 }
 
-/// The registers with the stack pointer behind a word that is popped.
+/// The registers with the stack pointer past a popped word.
 pub(crate) fn popped(regs: &Regs) -> Regs
     ensures { result ≡ table.popped regs.now }
 {

@@ -15,8 +15,8 @@ use disk_dcdd::SectorAddress;
 use i8080_words::{Fault, R};
 
 impl Machine {
-    /// An input is taken. `SectorBusy` where a write of the sector is outstanding, else `NotDue` where no device waits
-    /// for it.
+    /// Takes an input. `SectorBusy` if a write of the sector is outstanding, otherwise `NotDue` if no device waits for
+    /// it.
     pub(crate) fn take(&mut self, input: Bare) -> R<()>
         ensures answer { result ≡ answered (input_refusal (alone_of self.old) input) }
         ensures after { OnOk result (alone_of self.new
@@ -61,7 +61,7 @@ impl Machine {
 }
 
 impl Wires {
-    // A key comes at a port.
+    // A key arrives at a port.
     fn receive(&mut self, port: u8, byte: u8) -> R<()>
         ensures answer { result ≡ answered (due_unless (may_take_key (behind_of self.old) port)) }
         ensures after { OnOk result (behind_of self.new ≡ after_key (behind_of self.old) port byte) }

@@ -46,7 +46,7 @@ impl Machine {
         })
     }
 
-    /// The same machine again.
+    /// A copy of the machine.
     pub(crate) fn copy(&self, alloc: Global) -> R<Self>
         ensures ok { IfOk result (λ machine. alone_of machine ≡ alone_of self.now) }
         ensures only_memory { IfErr result (λ fault. fault ≡ OutOfMemory) }
@@ -80,7 +80,7 @@ impl Machine {
         self.advance(last, last)
     }
 
-    // Runs to the count of an input, but no farther than the last count, and takes it.
+    // Runs to the count of an input, but no further than the last count, and takes it.
     fn follow_one(&mut self, timed: Timed, last: u64) -> R<()>
         requires rising { self.old.count ≤ timed.count }
         requires within { self.old.count ≤ last }

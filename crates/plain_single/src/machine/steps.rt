@@ -27,7 +27,7 @@ impl Machine {
         }
     }
 
-    /// One step on the way to a count. `Spent` where a number stands at its greatest; else, where the processor is
+    /// Executes one step on the way to a count. `Spent` if a number is at its greatest; otherwise, if the processor is
     /// halted and hears no request, `Spent` if that count is past the limit and `Idle` if not.
     #[tactic(auto, unfolding(guest_board::specs::Guest::step_of, guest_board::specs::Guest::wired_after))]
     pub(crate) fn step(&mut self, last: u64) -> R<()>
@@ -48,7 +48,7 @@ impl Machine {
     }
 }
 
-// Why a machine that idles does not come to a count.
+// Why a machine that idles does not reach a count.
 fn idle_towards(last: u64) -> Fault
     ensures { result ≡ idle_towards_of last }
 {
@@ -59,7 +59,7 @@ fn idle_towards(last: u64) -> Fault
     }
 }
 
-// The request of this level is accepted, or an instruction is executed.
+// Accepts the request of this level, or executes an instruction.
 fn make_step(level: Option<u8>, processor: &mut Processor, wires: &mut Wires) -> R<()>
     requires level { IfSome level (λ level. level < 8) }
     requires awake { level ≡ None → processor.old.halted ≡ false }

@@ -1,4 +1,4 @@
-//! Numbers that random walks are folded to, as the independent program did that made the numbers in these tests.
+//! Folds of random walks, as computed by the independent program that made the numbers in these tests.
 
 /// Random bytes: the high bytes of x = 1664525 x + 1013904223 modulo 2^32.
 #[derive(Clone, Copy)]
@@ -22,14 +22,14 @@ impl Random {
     }
 }
 
-/// Bytes folded to one number: the number and the byte are combined by exclusive or, times 16777619 modulo 2^32.
+/// Bytes folded to one number: the number is exclusive-ored with the byte and multiplied by 16777619 modulo 2^32.
 #[derive(Clone, Copy)]
 pub(crate) struct Fold {
     pub(crate) number: u32,
 }
 
 impl Fold {
-    /// No byte yet.
+    /// No bytes yet.
     pub(crate) fn new() -> Fold {
         Fold {
             number: 2_166_136_261,

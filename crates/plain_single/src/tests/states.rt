@@ -1,4 +1,4 @@
-//! Every code from 256 random states, folded to a number that an independent program gave.
+//! Every code from 256 random states, checked against a number from an independent program.
 use super::folds::{Fold, Random};
 use crate::executor::{Stores, effect};
 use crate::step::run;
@@ -270,7 +270,7 @@ static CODES: [u32; 256] = [
     0x3b6e_736c,
 ];
 
-// So many random bytes, drawn from 8080 on.
+// This many random bytes, drawn from 8080 on.
 fn random_bytes(alloc: Global, count: usize) -> R<Vec<u8>> {
     let mut random = Random { x: 8080 };
     let mut bytes = vec![in alloc; 0u8; count]?;
@@ -345,7 +345,7 @@ fn fold_processor(fold: &mut Fold, processor: &Processor) {
     fold.byte(processor.halted as u8);
 }
 
-// The addresses to which an instruction stores, from registers whose PC is behind it.
+// The addresses that an instruction stores to, from registers whose PC is past it.
 fn stored_at(op: Op, regs: &Regs, wires: &Wires) -> [Option<u16>; 2] {
     let stores = match op {
         Op::In(_) | Op::Out(_) => Stores::Nothing,
@@ -358,7 +358,7 @@ fn stored_at(op: Op, regs: &Regs, wires: &Wires) -> [Option<u16>; 2] {
     }
 }
 
-// A number for the addresses that were written and the bytes there.
+// A number for the addresses written and the bytes there.
 fn weight(wires: &Wires, written: &[Option<u16>; 2]) -> u32 {
     let mut sum = 0u32;
     for at in written {
@@ -370,7 +370,7 @@ fn weight(wires: &Wires, written: &[Option<u16>; 2]) -> u32 {
     sum
 }
 
-// The step that is made of an instruction: IN p is made to give p xor 5A.
+// The step of an instruction: IN p is made to read p xor 5A.
 fn execute(op: Op, processor: &mut Processor, wires: &mut Wires, fold: &mut Fold) -> R<()> {
     if wires.is_spent() {
         return Ok(());
@@ -388,7 +388,7 @@ fn execute(op: Op, processor: &mut Processor, wires: &mut Wires, fold: &mut Fold
     Ok(())
 }
 
-// One round: the code is executed from a random state, and what comes of it is folded. Memory is then as it was.
+// One round: executes the code from a random state, folds the outcome, and restores memory.
 fn round(
     wires: &mut Wires,
     before: &Wires,
@@ -416,7 +416,7 @@ fn round(
     Ok(())
 }
 
-// Memory has at these places what it had before.
+// Restores what memory had at these places.
 fn restore(wires: &mut Wires, before: &Wires, places: &[u16; 3], written: &[Option<u16>; 2]) {
     for at in places {
         wires.memory.write(*at, before.memory.read(*at));
@@ -428,7 +428,7 @@ fn restore(wires: &mut Wires, before: &Wires, places: &[u16; 3], written: &[Opti
     }
 }
 
-// The number of a code.
+// The fold of a code.
 fn executed(wires: &mut Wires, before: &Wires, code: u8) -> R<u32> {
     let mut random = Random { x: code as u32 };
     let mut fold = Fold::new();

@@ -1,4 +1,4 @@
-//! The drives in 64 long random walks, each folded to a number that an independent program gave.
+//! The drives in 64 long random walks, each checked against a number from an independent program.
 use super::folds::{Fold, Random};
 use crate::drives::DiskDrives;
 use disk_dcdd::GREATEST_NUMBER;
@@ -85,7 +85,7 @@ struct Walk {
     fold: Fold,
 }
 
-// An answer is folded as 0, or as the number of its refusal.
+// A result is folded as 0, or as the number of its refusal.
 fn answer_number(answer: R<()>) -> u8 {
     match answer {
         Ok(()) => 0,
@@ -94,7 +94,7 @@ fn answer_number(answer: R<()>) -> u8 {
 }
 
 impl Walk {
-    // A byte is filled in. 0 is folded where it issues no write, else the write.
+    // Fills in a byte. Folds 0 if it issues no write, otherwise the write.
     fn fill(&mut self, byte: u8) -> R<()> {
         let issued = self.drives.writes.len();
         if issued as u64 >= GREATEST_NUMBER {
@@ -114,7 +114,7 @@ impl Walk {
         Ok(())
     }
 
-    // Bytes from this one upwards are filled in.
+    // Fills in bytes from this one upwards.
     fn fill_from(&mut self, first: u8, count: u8) -> R<()> {
         for place in 0..count {
             self.fill(first.wrapping_add(place))?;
@@ -122,7 +122,7 @@ impl Walk {
         Ok(())
     }
 
-    // Bytes are filled in, each the first one with its place.
+    // Fills in 137 bytes, each this one exclusive-ored with its place.
     fn fill_crossed(&mut self, first: u8) -> R<()> {
         for place in 0..137u8 {
             self.fill(first ^ place)?;
@@ -130,7 +130,7 @@ impl Walk {
         Ok(())
     }
 
-    // A sector comes with bytes from this one upwards.
+    // A sector comes, with bytes from this one upwards.
     fn sector(&mut self, number: u8, first: u8) {
         let mut bytes = [0; 137];
         for (byte, place) in bytes.iter_mut().zip(0..137u8) {
@@ -140,7 +140,7 @@ impl Walk {
         self.fold.byte(answer_number(answer));
     }
 
-    // The head is loaded, a sector of zeros comes, and all of it is written.
+    // Loads the head, brings a sector of zeros, and writes all of it.
     fn write_whole(&mut self, value: u8) -> R<()> {
         self.drives.command(0x04);
         let answer = self.drives.arrive(value & 31, [0; 137]);
@@ -149,7 +149,7 @@ impl Walk {
         self.fill_from(value, 137)
     }
 
-    // So many bytes are read.
+    // Reads this many bytes.
     fn read(&mut self, count: u8) {
         for _ in 0..count {
             let byte = self.drives.read();
@@ -168,7 +168,7 @@ impl Walk {
         self.fold.byte(answer_number(answer));
     }
 
-    // One round: what a random number names, with a random byte; and what the drives show then.
+    // One round: what a random number names, with a random byte; then what the drives show.
     fn round(&mut self) -> R<()> {
         let kind = self.random.byte();
         let value = self.random.byte();
@@ -199,7 +199,7 @@ impl Walk {
     }
 }
 
-// The number of a walk.
+// The fold of a walk.
 fn walked(alloc: Global, walk: u8) -> R<u32> {
     let mut walk = Walk {
         drives: DiskDrives::new(alloc, walk % 4 + 1),

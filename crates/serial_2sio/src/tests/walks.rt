@@ -1,9 +1,9 @@
-//! Long walks of a port by calls drawn at random. What each of them folds to was made by an independent program.
+//! Long walks of a port by calls drawn at random. The expected folds were made by an independent program.
 //!
-//! Numbers are drawn by x = x * 1664525 + 1013904223 modulo 2^32, of which a byte is the highest eight bits. A walk folds
-//! bytes: h is taken exclusive or with the byte and multiplied by 16777619 modulo 2^32, from 2166136261 on. Walk r draws
-//! from x = r, begins with a port at boot, and makes 2,000 rounds. A round draws which call it makes, modulo 8, and a byte
-//! for it; it folds what the call answers, and at its end the line.
+//! Numbers are drawn by x = x * 1664525 + 1013904223 modulo 2^32; a byte is the highest eight bits of x. A walk folds
+//! bytes from h = 2166136261 on: h is exclusive-ored with the byte and multiplied by 16777619 modulo 2^32. Walk r draws
+//! from x = r, begins with a port at boot, and makes 2,000 rounds. A round draws which call it makes, modulo 8, and a
+//! byte for it; it folds what the call returns, and at its end the line.
 use crate::Acia;
 
 #[rattlefmt::skip]
@@ -36,7 +36,7 @@ impl Walk {
         self.folded = (self.folded ^ u32::from(byte)).wrapping_mul(16777619);
     }
 
-    // 0 where no byte goes out, and else 1 and the byte.
+    // 0 if no byte goes out, otherwise 1 and the byte.
     fn send(&mut self, byte: u8) {
         match self.port.data_out(byte) {
             None => self.fold(0),
@@ -73,7 +73,7 @@ impl Walk {
     }
 }
 
-// What a walk has folded in the end.
+// The fold at the end of a walk.
 fn folded_by(number: u32) -> u32 {
     let mut walk = Walk {
         drawn: number,

@@ -1,4 +1,4 @@
--- Each law is one of the map.
+-- Each law is a law of the map.
 use Rattle.event_callbacks.proofs.OperationMap.{operation_at-empty, operation_at-with, operation_at-with_other, operation_at-without, operation_at-without_other}
 use Rattle.event_callbacks.proofs.laws.operations_come_and_go.Goals as goal
 

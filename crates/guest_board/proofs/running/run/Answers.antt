@@ -1,4 +1,4 @@
--- What stands at each way out of the steps, by the lemmas of `QuietSteps`.
+-- What holds at each exit from the steps, by the lemmas of `QuietSteps`.
 use Rattle.std.proofs.Common.{◌∙◌, ◌+◌, arith, refl}
 use Rattle.guest_board.specs.Running.{Begin}
 use Rattle.guest_board.proofs.QuietSteps.{all_turns, gives, goes_on, is_refused, joined_steps}

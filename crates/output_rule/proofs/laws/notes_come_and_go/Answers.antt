@@ -1,4 +1,4 @@
--- A new note is found behind the others, and a filter leaves no note of its name.
+-- A new note is found after the others, and a filter leaves no note of its name.
 use Rattle.output_rule.proofs.NoteLists.{note_comes, note_goes}
 use Rattle.output_rule.proofs.laws.notes_come_and_go.Goals as goal
 

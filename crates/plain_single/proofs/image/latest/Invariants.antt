@@ -1,4 +1,4 @@
--- Of the writes that are left out none has the number.
+-- None of the writes left out has the number.
 use Rattle.std.proofs.Common.{◌≡◌, ℕ, List, length, reverse}
 use Rattle.disk_dcdd.specs.declared.address.SectorAddress.{SectorAddress}
 use Rattle.plain_single.specs.Reach.{bytes_after}

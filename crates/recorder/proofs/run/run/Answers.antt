@@ -1,4 +1,4 @@
--- What stands at each way out of the steps, by the lemmas of `Runs`.
+-- What holds at each exit from the steps, by the lemmas of `Runs`.
 use Rattle.std.proofs.Common.{ap, ◌∙◌, arith}
 use Rattle.log_buffer.specs.Log.{pushed}
 use Rattle.log_entry.specs.declared.entry.Entry.TheVariants.{Mark}

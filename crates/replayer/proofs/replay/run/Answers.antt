@@ -1,4 +1,4 @@
--- What stands at each way out of a replay, by the lemmas of `Runs`.
+-- What holds at each exit from a replay, by the lemmas of `Runs`.
 use Rattle.std.proofs.Common.{◌-◌, refl, ap, ◌∙◌, arith}
 use Rattle.log_channel.specs.Channel.{Receiving}
 use Rattle.replayer.specs.Replaying.{Begin}

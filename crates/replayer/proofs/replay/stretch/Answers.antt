@@ -1,4 +1,4 @@
--- What stands at each way out of a stretch, by the lemmas of `OneMove` and `Stretches`.
+-- What holds at each exit from a stretch, by the lemmas of `OneMove` and `Stretches`.
 use Rattle.std.proofs.Common.{sym, ap, ◌∙◌, arith}
 use Rattle.log_channel.proofs.HeldEntries.{no_first}
 use Rattle.replayer.proofs.OneMove.{still_on, not_before, may_take, no_refusal, takes, passes}

@@ -1,4 +1,4 @@
--- `retain` keeps what passes the test, since no call of the closure changes it or the place.
+-- `retain` keeps what passes the test, since no call of the closure changes the closure or the place.
 use Rattle.std.proofs.Common.{rules}
 use Rattle.arrayvec.proofs.ArrayVecLemmas.{filter-from_retain}
 use Rattle.disk_dcdd.proofs.controller.completions.remove_write.Goals as goal

@@ -1,4 +1,4 @@
--- A list of outstanding writes grows by one that may follow, and has none that may not.
+-- A list of outstanding writes can grow by one that may follow, and contains none that may not.
 use Rattle.std.proofs.Common.{sym, ◌∙◌}
 use Rattle.disk_dcdd.proofs.Outstanding.{AreOutstanding-more, MayFollow-at}
 use Rattle.disk_dcdd.proofs.controller.image.are_outstanding.Goals as goal

@@ -1,4 +1,4 @@
--- What the search found is what the map has, and the slot that gives it up takes it out of the map.
+-- What the search found is what the map has, and the slot that gives it up removes it from the map.
 use Rattle.std.proofs.Common.{refl}
 use Rattle.event_callbacks.proofs.Slots.{operation_at-IsAt, operation_at-IsNowhere}
 use Rattle.event_callbacks.proofs.SlotChanges.{operations_of-gives}

@@ -1,4 +1,4 @@
--- The slot that the search found has what the map has, and where it found none the map has nothing.
+-- The slot that the search found has what the map has; if it found none, the map has nothing.
 use Rattle.std.proofs.Common.{sym, ◌∙◌}
 use Rattle.event_callbacks.proofs.Slots.{operation_at-IsAt, operation_at-IsNowhere}
 use Rattle.event_callbacks.proofs.pending.Pending.find.Goals as goal

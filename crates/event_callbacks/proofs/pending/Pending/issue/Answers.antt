@@ -1,4 +1,4 @@
--- The slot that takes the operation adds it to the map, and what else is said to have room still has it.
+-- The slot that takes the operation adds it to the map, and the rest of the room that is claimed is still there.
 use Rattle.std.proofs.Common.{arith, refl}
 use Rattle.event_callbacks.proofs.SlotChanges.{IsNamedOnce-takes, operations_of-takes}
 use Rattle.event_callbacks.proofs.pending.Pending.issue.Goals as goal

@@ -1,4 +1,5 @@
--- The board stands, so its parts pass each test, and a board of them has what this one has.
+-- What holds of every board holds of this one, so its parts pass each test, and a board made from them has what this
+-- one has.
 use Rattle.std.proofs.Common.{◌≡◌, true, subst}
 use Rattle.guest_board.specs.Board.{OnBoard, IsBoard}
 use Rattle.guest_board.specs.Parts as Parts

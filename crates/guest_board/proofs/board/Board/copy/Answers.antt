@@ -1,4 +1,4 @@
--- The copy has the same guest, and has not looked yet whether a step may be made.
+-- The copy has the same guest, and has not checked yet whether a step may be executed.
 use Rattle.std.proofs.Common.{refl}
 use Rattle.guest_board.proofs.Ready.{not_ready}
 use Rattle.guest_board.proofs.board.Board.copy.Goals as goal

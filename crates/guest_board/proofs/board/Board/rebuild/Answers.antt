@@ -1,4 +1,5 @@
--- The board's guest is that of the parts: what is outstanding and memory are made anew, all else is moved.
+-- The board's guest is that of the parts: the outstanding operations and memory are made anew, everything else is
+-- moved.
 use Rattle.std.proofs.Common.{refl, sym, ap, ◌∙◌}
 use Rattle.guest_memory.specs.Pages.{Pages}
 use Rattle.guest_board.proofs.Standing.{board-from_parts}

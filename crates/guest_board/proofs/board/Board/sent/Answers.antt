@@ -1,4 +1,4 @@
--- The byte that is due is outstanding, and goes.
+-- The byte that is due is outstanding, and is removed.
 use Rattle.std.proofs.Common.{refl, sym, ap, ◌∙◌}
 use Rattle.event_callbacks.specs.declared.operations.OpId.TheVariants as id
 use Rattle.guest_board.specs.Guest.{Guest, due_byte}

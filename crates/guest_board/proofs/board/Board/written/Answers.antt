@@ -1,4 +1,4 @@
--- The write that is done was outstanding, and goes.
+-- The write that is done was outstanding, and is removed.
 use Rattle.event_callbacks.specs.declared.operations.OpId.TheVariants as id
 use Rattle.guest_board.specs.Guest.{Guest}
 use Rattle.guest_board.specs.Fields.{guest_of}

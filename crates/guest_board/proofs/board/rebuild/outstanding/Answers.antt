@@ -1,4 +1,4 @@
--- At first nothing is outstanding, then bytes of port 0 alone, then bytes alone.
+-- At first nothing is outstanding, then only bytes of port 0, then only bytes.
 use Rattle.std.proofs.Common.{sym, ap, subst, ◌∙◌}
 use Rattle.event_callbacks.specs.declared.operations.OpId.{OpId}
 use Rattle.event_callbacks.specs.declared.operations.OpId.TheVariants as id

@@ -1,4 +1,4 @@
--- The tests are what a board asks, where each array has as many elements as its type says.
+-- The tests are what a board needs, given that each array has as many elements as its type says.
 use Rattle.std.proofs.Common.{arith}
 use Rattle.guest_board.proofs.Standing.{board-parts, standing_writes}
 use Rattle.guest_board.proofs.Shown.{parts_pass}

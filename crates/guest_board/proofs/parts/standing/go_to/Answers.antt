@@ -1,4 +1,4 @@
--- The writes up to each go to the places up to it; the first that goes elsewhere, or lists of other lengths, decide.
+-- The writes so far each go to the places so far; the first that goes elsewhere, or a difference in length, decides.
 use Rattle.std.proofs.Common.{sym, ◌∙◌}
 use Rattle.guest_board.proofs.Places.{go_to-more, go_to-not_at, go_to-lengths}
 use Rattle.guest_board.proofs.parts.standing.go_to.Goals as goal

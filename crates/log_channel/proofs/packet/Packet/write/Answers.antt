@@ -5,7 +5,7 @@ use Rattle.log_entry.specs.Spelling.{spelling}
 use Rattle.log_channel.specs.Packet.{packet_bytes}
 use Rattle.log_channel.proofs.packet.Packet.write.Goals as goal
 
--- what stands in front of an entry, or is a whole acknowledgement
+-- what comes before an entry, or is a whole acknowledgement
 abbrev head_bytes : ℕ → ℕ → ℕ → List ℕ
 head_bytes tag generation number = tag ∷ big_bytes 4 generation ++ big_bytes 8 number
 

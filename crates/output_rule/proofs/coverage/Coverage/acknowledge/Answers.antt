@@ -1,4 +1,4 @@
--- The number of keys rises where all was not covered before.
+-- The number of keys rises if not all was covered before.
 use Rattle.std.proofs.Common.{◌≤◌, arith}
 use Rattle.log_buffer.specs.declared.buffer.TheConstants.{GREATEST_NEXT}
 use Rattle.output_rule.specs.Coverage.{covering_of}

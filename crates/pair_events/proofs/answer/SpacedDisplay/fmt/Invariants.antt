@@ -1,4 +1,4 @@
--- The bytes before the one that comes next are written.
+-- The bytes before the next one are written.
 use Rattle.std.proofs.Common.{take}
 use Rattle.std.specs.Fmt.{HasWritten, IsPlainFormatter}
 use Rattle.pair_events.specs.Printed.{bytes_text}

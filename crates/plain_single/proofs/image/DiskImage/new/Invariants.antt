@@ -1,4 +1,4 @@
--- What is left of the writes makes of the disk what all of them make of zeros.
+-- The writes that are left turn the disk into what all of them make of zeros.
 use Rattle.std.proofs.Common.{◌≡◌, drop}
 use Rattle.disk_dcdd.specs.declared.address.SectorAddress.{SectorAddress}
 use Rattle.plain_single.specs.Image.{IsSector, sector_at, bytes_with_all, boot_sectors}

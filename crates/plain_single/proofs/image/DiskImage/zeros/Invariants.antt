@@ -1,4 +1,4 @@
--- So many places are there, and every one is zeros.
+-- There are this many places, and every one is zeros.
 use Rattle.std.proofs.Common.{◌≡◌, vec_len}
 use Rattle.plain_single.proofs.Zeros.{AreZeros}
 use Rattle.plain_single.proofs.image.DiskImage.zeros.Given as goal

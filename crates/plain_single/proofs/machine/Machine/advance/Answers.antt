@@ -1,4 +1,4 @@
--- A step that is made moves the trace on by one, and one that is refused ends it.
+-- A step that is executed moves the trace on by one, and one that is refused ends it.
 use Rattle.std.proofs.Common.{◌≡◌, ◌+◌, ◌<◌, ◌∙◌, ap, arith, sym, subst}
 use Rattle.guest_board.specs.Guest.{altair}
 use Rattle.plain_single.specs.Alone.{Alone, alone_of, after_step}

@@ -1,4 +1,4 @@
--- So far the machine stands where it stood at first, moved on to the count.
+-- So far the machine is where it was at first, moved on to the count.
 use Rattle.std.proofs.Common.{◌≡◌, ℕ, List}
 use Rattle.disk_dcdd.specs.declared.address.SectorAddress.{SectorAddress}
 use Rattle.guest_board.specs.Guest.{altair}

@@ -1,4 +1,4 @@
--- An input that is refused has the inputs before it, and those behind it.
+-- An input that is refused has the inputs before it, and those after it.
 use Rattle.std.proofs.Common.{◌≡◌, ◌+◌, take, drop, sym, subst, arith}
 use Rattle.std.proofs.lemmas.List.{take_all}
 use Rattle.guest_board.specs.Guest.{altair}

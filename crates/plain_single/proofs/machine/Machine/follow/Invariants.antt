@@ -1,4 +1,4 @@
--- The machine stands where the inputs so far lead to, and those that are left do not fall below its count.
+-- The machine is where the inputs so far lead, and those that are left do not fall below its count.
 use Rattle.std.proofs.Common.{ℕ, ◌≤◌, List, [], take, drop}
 use Rattle.disk_dcdd.specs.declared.address.SectorAddress.{SectorAddress}
 use Rattle.guest_board.specs.Guest.{altair}

@@ -1,4 +1,4 @@
--- A write whose number is not greater leaves the records as they were, which is what the definition says of it.
+-- A write whose number is not greater leaves the records unchanged, which is what the definition says of it.
 use Rattle.std.proofs.Common.{◌≡◌, arith}
 use Rattle.shared_disk.specs.Arrivals.{after_put}
 use Rattle.shared_disk.proofs.Arriving.{put_goes_on}

@@ -1,4 +1,4 @@
--- At first none of the sectors stands on the disk, and each turn puts the next one there.
+-- At first none of the sectors is on the disk, and each turn puts the next one there.
 use Rattle.std.proofs.Common.{◌+◌, [], arith, get_or, subst, sym, take}
 use Rattle.std.specs.Prelude.{IsTrue}
 use Rattle.std.proofs.lemmas.List.Elements.{All-more}

@@ -1,4 +1,4 @@
--- So many of the sectors stand on the disk.
+-- This many of the sectors are on the disk.
 use Rattle.std.proofs.Common.{take}
 use Rattle.shared_disk.specs.Records as table
 use Rattle.shared_disk.proofs.memory_store.MemoryStore.at_boot.Given as goal
