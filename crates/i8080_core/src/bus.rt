@@ -34,7 +34,7 @@ pub trait Bus {
         ensures byte { result ≡ input_byte (state self.old) port }
         ensures state { state self.new ≡ after (Input port) (state self.old) };
 
-    /// Whether a read from this port would leave the state unchanged.
+    /// True only if a read from this port would leave the state unchanged.
     fn input_leaves_all(&self, port: u8) -> bool
         ensures { IsTrue result → after (Input port) (state self.now) ≡ state self.now };
 

@@ -35,7 +35,7 @@ first_again (Written count number) rest fits = cut_again (Written count number) 
 
 -- ---- all entries
 
--- a spelling has at least one byte, so a block has as many bytes as entries
+-- a spelling has at least one byte, so a block has at least as many bytes as entries
 spelling_has_bytes : (e : Entry) → 1 ≤ length (spelling e)
 spelling_has_bytes (Mark count) = omega arith
 spelling_has_bytes (Rx count port byte) = omega arith

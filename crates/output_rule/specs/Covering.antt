@@ -51,7 +51,8 @@ after_acknowledge c log held = record c {
 abbrev pub after_all : Covering → List ℕ → Covering
 after_all c keys = record c { all = true; keys = keys }
 
--- what holds of every coverage: an operation has at most one note, and the keys rise only with the acknowledged number
+-- what holds of every coverage: an operation has at most one note, and of a port no more keys are covered than a guest
+-- may have taken at the start, and one for each acknowledged entry
 pub record IsCovering (c : Covering) : Type 0 where
   pub few : length c.notes ≤ PLACES
   pub apart : AllPairs AreApart c.notes

@@ -133,7 +133,7 @@ fails_at setup sectors list a target last fault x early e =
       ]
     ]
 
--- so it does if a step is refused, even when out of memory
+-- so it does if a step is refused for any reason but memory, of which nothing is said
 pub refused_step : (setup : Setup) (sectors : SectorAddress → List ℕ) (list : List Timed) (a : Alone) (target last : ℕ) (fault : Fault)
     → StandsAt (altair setup sectors) list a → a.count < target → RefusesStep last a fault
     → FailsBefore (altair setup sectors) list target last fault

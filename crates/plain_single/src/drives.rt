@@ -59,7 +59,7 @@ pub(crate) struct DiskDrives {
 impl DiskDrives {
     ghost use Rattle.plain_single.specs.Drives.{drives_of, next_write, with_issued};
 
-    /// This many drives, from 1 to 4, when they are switched on.
+    /// This many drives, at most 4, when they are switched on.
     pub(crate) fn new(alloc: Global, attached: u8) -> Self
         requires { attached ≤ 4 }
         ensures drives { drives_of result ≡ table.at_boot attached }

@@ -15,8 +15,7 @@ use disk_dcdd::SectorAddress;
 use i8080_words::{Fault, R};
 
 impl Machine {
-    /// Takes an input. `SectorBusy` if a write of the sector is outstanding, otherwise `NotDue` if no device waits for
-    /// it.
+    /// Takes an input. `NotDue` if no device waits for it, otherwise `SectorBusy` if a write of the sector is outstanding.
     pub(crate) fn take(&mut self, input: Bare) -> R<()>
         ensures answer { result ≡ answered (input_refusal (alone_of self.old) input) }
         ensures after { OnOk result (alone_of self.new
