@@ -19,7 +19,7 @@ IsRun setup sectors C events replies w =
 abbrev pub PairsAreFaithful : Type 0
 PairsAreFaithful = (setup : Setup) (sectors : SectorAddress → List ℕ) (C : Copying Guest)
     → IsCopying (altair setup sectors) C → (events : List Event) (replies : List Reply) (w : World Guest)
-    → IsRun setup sectors C events replies w → Faithful (altair setup sectors) C w
+    → IsRun setup sectors C events replies w → Faithful (altair setup sectors) w
 
 -- and each further event lets what is settled grow
 abbrev pub PairsGrow : Type 0

@@ -23,6 +23,7 @@ pub mod Actors
 pub mod Freeing
 pub mod Actions
 pub mod Passed
+pub mod Survival
 pub mod OneNode
 pub mod InputRows
 pub mod RowActions

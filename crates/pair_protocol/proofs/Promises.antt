@@ -6,20 +6,16 @@ use Rattle.disk_dcdd.specs.declared.address.SectorAddress.{SectorAddress}
 use Rattle.disk_dcdd.specs.declared.sector.SectorWrite.{SectorWrite}
 use Rattle.event_callbacks.specs.declared.operations.Operation.TheVariants.{Write}
 use Rattle.guest_board.specs.Machine.{Do, Machine, Move, Runs, Take}
-use Rattle.i8080_words.specs.declared.refusal.Fault.TheVariants.{Lost, NotWhole, OutOfMemory, Unknown, WrongRole}
 use Rattle.plain_single.specs.Reach.{image, inputs, operations, steps}
 use Rattle.plain_single.specs.declared.timed.Timed.{Timed}
 use Rattle.pair_protocol.specs.Change.{After, AtBoot, Reached}
 use Rattle.pair_protocol.specs.Copying.{Copying, IsCopying}
-use Rattle.pair_protocol.specs.Event.{Refused, Reply, Suspect, Won}
-use Rattle.pair_protocol.specs.Faithful.{Faithful, IsImage, IsOutstanding, IsPrefix, MayAsk, MayHave}
+use Rattle.pair_protocol.specs.Faithful.{Faithful, IsImage, IsOutstanding, IsPrefix, MayHave}
 use Rattle.pair_protocol.specs.Grows.{AllFrom, Extends}
 use Rattle.pair_protocol.specs.Lawful.{Among, IsUnwritten, IsWritten, Lawful}
-use Rattle.pair_protocol.specs.Node.{Alone, Joining, Node, Spare, is_role}
-use Rattle.pair_protocol.specs.Refusals.{ask_refusal, at_node, fault_if, first_of, is_other, refusal}
-use Rattle.pair_protocol.specs.Row.{Accepts, DeviceFails, Refuses, Row, WantsMemory}
+use Rattle.pair_protocol.specs.Node.{Alone, Joining, Node, Spare}
 use Rattle.pair_protocol.specs.Settled.{Settled}
-use Rattle.pair_protocol.specs.World.{SectorRecord, World, sector_record, winner_in}
+use Rattle.pair_protocol.specs.World.{SectorRecord, World, sector_record}
 use Rattle.pair_protocol.proofs.Moves.{inputs-append, steps-append}
 use Rattle.pair_protocol.proofs.Generations.{BackWon, LeadWon}
 use Rattle.pair_protocol.proofs.Lines.{Inv}
@@ -28,7 +24,6 @@ use Rattle.pair_protocol.proofs.Backing.{back-alone}
 use Rattle.pair_protocol.proofs.Disk.{AsBefore, LatestIs, OfPut, latest_all, latest_is}
 use Rattle.pair_protocol.proofs.Actors.{at_boot}
 use Rattle.pair_protocol.proofs.Actions.{keep}
-use Rattle.pair_protocol.proofs.Passed.{role_of}
 use Rattle.pair_protocol.proofs.Outputs.{output_is, trace_runs}
 use Rattle.pair_protocol.proofs.Settling.{settled_is, settles_trace}
 
@@ -113,33 +108,7 @@ disk_is {S} M C laws w i t runs q = go (latest_is start w.puts q) (laws.own_disk
         let u : o.write ≡ v = laws.write_once i.trace t o.write v runs o.issued (i.global.puts v put) eq in
         ap (λ (z : SectorWrite). z.bytes) (sym u) ∙ o.bytes))
 
--- ---- who asks first wins
-
-pub is_false : (b : Bool) → (b ≡ true → ⊥) → b ≡ false
-is_false true h = absurd (h refl)
-is_false false h = refl
-
-pub may_ask : {S : Type 0} (M : Machine S) (C : Copying S) (w : World S) (n : ℕ) (x : Node S) → MayAsk w n x →
-    refusal M C w (Suspect n) ≡ None
-may_ask M C w n x m =
-    ap (λ z. at_node z (ask_refusal w n)) m.there
-    ∙ ap (λ b. cond b (Some Unknown) (ask_refusal w n x))
-    (is_false (is_role x.role Spare) (λ t. m.a_node (role_of x.role Spare t)))
-    ∙ ap (λ b. first_of (first_of (fault_if (not b) WrongRole ∷ fault_if (is_role x.role Joining) NotWhole ∷ []) ∷
-    fault_if (is_other (winner_in w.winners x.generation) n) Lost ∷ [])) m.up
-    ∙ ap (λ b. first_of (first_of (fault_if b NotWhole ∷ []) ∷ fault_if
-    (is_other (winner_in w.winners x.generation) n) Lost ∷ []))
-    (is_false (is_role x.role Joining) (λ t. m.whole (role_of x.role Joining t)))
-    ∙ ap (λ o. first_of (fault_if (is_other o n) Lost ∷ [])) m.undecided
-
-pub asks : {S : Type 0} (M : Machine S) (C : Copying S) (w : World S) (n : ℕ) (x : Node S) (r : Reply) (new : World S) →
-    MayAsk w n x → Row M C w (Suspect n) r new → (r ≡ Won) ⊎ (r ≡ Refused OutOfMemory)
-asks M C w n x r new m (Accepts p d) = inl d.reply
-asks M C w n x r new m (Refuses {fault = fault} p d) = let e = sym (may_ask M C w n x m) ∙ p in (cc)
-asks M C w n x r new m (DeviceFails p d) = (cc)
-asks M C w n x r new m (WantsMemory p d) = inr refl
-
-pub faithful : {S : Type 0} (M : Machine S) (C : Copying S) → Lawful M → (w : World S) → Inv M C w → Faithful M C w
+pub faithful : {S : Type 0} (M : Machine S) (C : Copying S) → Lawful M → (w : World S) → Inv M C w → Faithful M w
 faithful M C laws w i =
     let r = trace_runs M C w i in
     record {
@@ -152,7 +121,6 @@ faithful M C laws w i =
       output = output_is M C laws w i;
       typed = i.global.typed;
       told = i.global.told;
-      wins = asks M C w;
       one_live = live_once M C w i;
     }
 

@@ -23,7 +23,7 @@ keep_all M C laws copies w new i (Then {mid = v} c cs) =
     record { inv = b.inv; grows = prefix-trans i.trace a.inv.trace b.inv.trace a.grows b.grows }
 
 pub always_faithful : {S : Type 0} (M : Machine S) (C : Copying S) → Lawful M → IsCopying M C → (w : World S) →
-    Reached M C w → Faithful M C w
+    Reached M C w → Faithful M w
 always_faithful M C laws copies w r = faithful M C laws w (reached M C laws copies w r)
 
 pub changes_reach : {S : Type 0} (M : Machine S) (C : Copying S) (w new : World S) → Reached M C w →

@@ -1,20 +1,16 @@
 -- A faithful world: what terminals and disk have is what one machine, which never fails, gives from the settled list.
-use Rattle.std.specs.Prelude.{◌≡◌, ℕ, ◌≤◌, ◌⊎◌, true, Some, None, List, ◌++◌, length, slice_get}
+use Rattle.std.specs.Prelude.{◌≡◌, ℕ, ◌≤◌, Some, List, ◌++◌, length, slice_get}
 use Rattle.disk_dcdd.specs.Address.{address_of}
 use Rattle.disk_dcdd.specs.declared.address.SectorAddress.{SectorAddress}
 use Rattle.disk_dcdd.specs.declared.sector.SectorWrite.{SectorWrite}
 use Rattle.event_callbacks.specs.declared.operations.OpId.TheVariants as id
 use Rattle.event_callbacks.specs.declared.operations.Operation.TheVariants.{Write}
 use Rattle.guest_board.specs.Machine.{Machine, Move}
-use Rattle.i8080_words.specs.declared.refusal.Fault.TheVariants.{OutOfMemory}
 use Rattle.plain_single.specs.Reach.{keys, output, image, Reach}
 use Rattle.plain_single.specs.declared.timed.Timed.{Timed}
-use Rattle.pair_protocol.specs.Copying.{Copying}
-use Rattle.pair_protocol.specs.Node.{Node, Joining, Alone, Spare}
-use Rattle.pair_protocol.specs.World.{World, terminal, accepted, winner_in, sector_record}
-use Rattle.pair_protocol.specs.Event.{Suspect, Reply, Won, Refused}
-use Rattle.pair_protocol.specs.Row.{Row}
-use Rattle.pair_protocol.specs.Settled.{Settled, highest}
+use Rattle.pair_protocol.specs.Node.{Node, Alone}
+use Rattle.pair_protocol.specs.World.{World, terminal, accepted, sector_record}
+use Rattle.pair_protocol.specs.Settled.{Settled}
 
 -- a list begins with another one
 abbrev pub IsPrefix : {A : Type 0} → List A → List A → Type 0
@@ -31,16 +27,7 @@ pub data MayHave {S : Type 0} (M : Machine S) (moves : List Move) (s : S) (addre
   IsOutstanding : (write : SectorWrite) → M.find s (id.Write write.number) ≡ Some (Write write) →
       address_of write ≡ address → bytes ≡ write.bytes → MayHave M moves s address bytes
 
--- a node that may ask: of the highest generation, which nobody has won; up, and whole
-pub record MayAsk {S : Type 0} (w : World S) (n : ℕ) (x : Node S) : Type 0 where
-  pub there : slice_get w.nodes n ≡ Some x
-  pub up : x.running ≡ true
-  pub highest_is : x.generation ≡ highest w.nodes
-  pub undecided : winner_in w.winners x.generation ≡ None
-  pub a_node : x.role ≡ Spare → ⊥
-  pub whole : x.role ≡ Joining → ⊥
-
-pub record Faithful {S : Type 0} (M : Machine S) (C : Copying S) (w : World S) : Type 0 where
+pub record Faithful {S : Type 0} (M : Machine S) (w : World S) : Type 0 where
   -- the settled list and count, and the one trace of the machine from boot that they give
   pub list : List Timed
   pub count : ℕ
@@ -57,6 +44,3 @@ pub record Faithful {S : Type 0} (M : Machine S) (C : Copying S) (w : World S) :
   -- one live: at most one node is alone
   pub one_live : (n m : ℕ) (x y : Node S) → slice_get w.nodes n ≡ Some x → slice_get w.nodes m ≡ Some y →
       x.role ≡ Alone → y.role ≡ Alone → n ≡ m
-  -- survives a stop: a whole node of an undecided highest generation, where it asks, has won
-  pub wins : (n : ℕ) (x : Node S) (r : Reply) (new : World S) → MayAsk w n x → Row M C w (Suspect n) r new →
-      (r ≡ Won) ⊎ (r ≡ Refused OutOfMemory)

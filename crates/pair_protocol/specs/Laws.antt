@@ -15,7 +15,7 @@ use Rattle.pair_protocol.specs.Grows.{Grows}
 -- every world that actions reach is faithful
 abbrev pub ReachedIsFaithful : (S : Type 0) → Type 0
 ReachedIsFaithful S =
-    (M : Machine S) (C : Copying S) → Lawful M → IsCopying M C → (w : World S) → Reached M C w → Faithful M C w
+    (M : Machine S) (C : Copying S) → Lawful M → IsCopying M C → (w : World S) → Reached M C w → Faithful M w
 
 -- and a further event lets what is settled grow
 abbrev pub ReachedGrows : (S : Type 0) → Type 0
@@ -53,7 +53,7 @@ RunReaches S =
 abbrev pub RunIsFaithful : (S : Type 0) → Type 0
 RunIsFaithful S =
     (M : Machine S) (C : Copying S) → Lawful M → IsCopying M C →
-    (events : List Event) (replies : List Reply) (w : World S) → Run M C (opening M) events replies w → Faithful M C w
+    (events : List Event) (replies : List Reply) (w : World S) → Run M C (opening M) events replies w → Faithful M w
 
 -- and each further event lets what is settled grow
 abbrev pub RunGrows : (S : Type 0) → Type 0

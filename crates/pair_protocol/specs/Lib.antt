@@ -13,6 +13,7 @@ pub mod Event
 pub mod Refusals
 pub mod Rows
 pub mod Row
+pub mod Survival
 -- For the layers above.
 pub mod NodeStands
 pub mod ReadsKept

@@ -4,6 +4,7 @@ ghost use Rattle.pair_protocol.specs.Joining.{JoiningIsGiven};
 ghost use Rattle.pair_protocol.specs.ReadsKept.{ReachedKeepsReads};
 ghost use Rattle.pair_protocol.specs.Laws.{ReachedIsFaithful, NodesStand, NeedsNoCopies, ReachedGrows, RowIsChanges, ChangesReach, RunReaches, RunIsFaithful, RunGrows, RunReplies};
 ghost use Rattle.pair_protocol.specs.Wanting.{NoTurnsWantNone, OtherEntriesWantNone, StopsAtSteps, WinnersWantNone};
+ghost use Rattle.pair_protocol.specs.Survival.{NothingRefuses, WholeNodesWin};
 ghost use Rattle.pair_protocol.specs.Traces.{OneTrace, OneEnd, FirstEntries, QuietMoves, QuietEntries};
 
 /// Whatever the actors of a pair do, one action after another, every world that they reach is faithful.
@@ -40,6 +41,13 @@ pub fn pairs_without_copies<S>()
 /// machine that never fails gives from the settled inputs.
 pub fn events_are_faithful<S>()
     ensures faithful { RunIsFaithful S }
+{}
+
+/// A pair survives a stop: nothing refuses a whole node of an undecided generation that asks the arbiter, so it has won,
+/// unless there is no memory for the arbiter's list.
+pub fn whole_nodes_win<S>()
+    ensures refused { NothingRefuses S }
+    ensures wins { WholeNodesWin S }
 {}
 
 /// Each further event lets what is settled grow and takes nothing back; who has won stays the winner, and its inputs
