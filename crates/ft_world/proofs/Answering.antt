@@ -8,11 +8,11 @@ use Rattle.arbiter_core.specs.declared.arbiter.Won.{Won}
 use Rattle.pair_protocol.specs.Node.{Node, halts, wins}
 use Rattle.ft_node.specs.Calls.{Unless, Gives, Always, AskedOf}
 
-pub maps : {A : Type 0} (o : Option Fault) (r : Result A Fault) (P Q : Type 0) (D E : A → Type 0) → (P → Q)
-    → ((v : A) → o ≡ None → D v → E v) → Unless o r P (Gives r P D) → Unless o r Q (Gives r Q E)
-maps None (Ok v) P Q D E f g d = g v refl d
-maps None (Err k) P Q D E f g d = (d.0, f d.1)
-maps (Some m) r P Q D E f g d = (d.0, f d.1)
+pub maps : {A : Type 0} (o : Option Fault) (r : Result A Fault) (P Q W V : Type 0) (D E : A → Type 0) → (P → Q)
+    → (W → V) → ((v : A) → o ≡ None → D v → E v) → Unless o r P (Gives r W D) → Unless o r Q (Gives r V E)
+maps None (Ok v) P Q W V D E f w g d = g v refl d
+maps None (Err k) P Q W V D E f w g d = (d.0, w d.1)
+maps (Some m) r P Q W V D E f w g d = (d.0, f d.1)
 
 pub unless : {A : Type 0} (o : Option Fault) (r : Result A Fault) (P Q D E : Type 0) → (P → Q) → (D → E)
     → Unless o r P D → Unless o r Q E
@@ -33,12 +33,12 @@ gives None v P Q D E g d = g refl d
 gives (Some m) v P Q D E g d = let no = d.0 in (cc)
 
 -- it is refused, and the refusal is handed on
-pub hands_on : {A : Type 0} (o : Option Fault) (r : Result A Fault) (fault : Fault) (P Q : Type 0) (D E : A → Type 0)
-    → IsErrAnd r (λ k. k ≡ fault) → (P → Q) → Unless {A = A} o (Err fault) P (Gives {A = A} (Err fault) P D)
-    → Unless o r Q (Gives r Q E)
-hands_on o (Ok v) fault P Q D E h f d = absurd h
-hands_on None (Err k) fault P Q D E h f d = (h ∙ d.0, f d.1)
-hands_on (Some m) (Err k) fault P Q D E h f d = (ap Err h ∙ d.0, f d.1)
+pub hands_on : {A : Type 0} (o : Option Fault) (r : Result A Fault) (fault : Fault) (P Q W V : Type 0)
+    (D E : A → Type 0) → IsErrAnd r (λ k. k ≡ fault) → (P → Q) → (W → V)
+    → Unless {A = A} o (Err fault) P (Gives {A = A} (Err fault) W D) → Unless o r Q (Gives r V E)
+hands_on o (Ok v) fault P Q W V D E h f w d = absurd h
+hands_on None (Err k) fault P Q W V D E h f w d = (h ∙ d.0, w d.1)
+hands_on (Some m) (Err k) fault P Q W V D E h f w d = (ap Err h ∙ d.0, f d.1)
 
 -- a call that takes no memory may be said to take some
 pub always : {A : Type 0} (o : Option Fault) (r : Result A Fault) (P : Type 0) (D : A → Type 0)

@@ -200,7 +200,7 @@ puts_applies state M records old c m write (Err fault) ms disk brings h (why, sa
     let free : write_refusal (slice_get c.world.messages m) ≡ None = ap write_refusal there in
     let refused = λ (f : Fault). Row N no_copies c.world (protocol.Put m) (protocol.Refused f) c.world in
     let row : refused fault = elim why [
-      | inl is ↦ subst refused (sym is) (WantsMemory free refl)
+      | inl is ↦ subst refused (sym is) (WantsMemory free tt)
       | inr is ↦ subst refused (sym (not_put (records old.disk) (address_of write) met.0 fault met.1 is))
           (DeviceFails free refl)
     ] in

@@ -15,12 +15,12 @@ use Rattle.pair_protocol.proofs.OneNode.{set_get}
 use Rattle.ft_node.specs.Calls.{Always, AskedOf, Unless, Gives}
 use Rattle.ft_node.specs.Seats.{IsNode}
 use Rattle.ft_world.specs.AtHost.{AskHost, Asked, AsksHost, AsksStation, AtHost, AtStation, Becomes, DoesAtHost, DoesAtStation}
-use Rattle.ft_world.specs.AtHost.{HasNoNode, Makes, ReadHost, Says}
+use Rattle.ft_world.specs.AtHost.{HasNoNode, Makes, ReadHost, Says, WantsAtHost, WantsAtStation}
 use Rattle.ft_world.specs.Shows.{Agree, AreHosts, IsHost}
 use Rattle.ft_world.specs.declared.hosts.Host.{Host}
 use Rattle.ft_world.specs.declared.hosts.Host.TheVariants as host
 use Rattle.ft_world.specs.declared.hosts.Station.{Station}
-use Rattle.ft_world.proofs.Answering.{asked, maps, unless}
+use Rattle.ft_world.proofs.Answering.{asked, maps, unless, weaker}
 
 pub with_host : {B H S : Type 0} (state : B → S) (M : Machine S) (hosts : List (Host B H)) (nodes : List (Node S))
     (n : ℕ) (h new : Host B H) (x y : Node S) → AreHosts state M hosts nodes → slice_get hosts n ≡ Some h
@@ -39,27 +39,38 @@ with_host {B} {H} {S} state M hosts nodes n h new x y are at there is = λ m. el
       m))
 ]
 
-pub at_host : {A B H S : Type 0} (state : B → S) (M : Machine S) (hosts : List (Host B H)) (nodes : List (Node S))
-    (n : ℕ) (h new : Host B H) (part : Node S → Option Fault) (result : Result A Fault)
-    (does : A → Node S → Node S → Type 0) → AreHosts state M hosts nodes → slice_get hosts n ≡ Some h
+-- what holds of any node
+abbrev Anything : {S : Type 0} → Node S → Type 0
+Anything x = Unit {0}
+
+pub wants_at_host : {A B H S : Type 0} (state : B → S) (M : Machine S) (hosts : List (Host B H))
+    (nodes : List (Node S)) (n : ℕ) (h new : Host B H) (part : Node S → Option Fault) (result : Result A Fault)
+    (wants : Node S → Type 0) (does : A → Node S → Node S → Type 0) → AreHosts state M hosts nodes
+    → slice_get hosts n ≡ Some h
     → ((x : Node S) → IsHost state M h x
-    → AtStation (at_node (Some x) part) result x (IsHost state M new) does)
-    → AtHost state M nodes n part result (slice_set hosts n new) does
-at_host {A} {B} {H} {S} state M hosts nodes n h new part result does are at says =
+    → WantsAtStation (at_node (Some x) part) result wants x (IsHost state M new) does)
+    → WantsAtHost state M nodes n part result wants (slice_set hosts n new) does
+wants_at_host {A} {B} {H} {S} state M hosts nodes n h new part result wants does are at says =
     go (slice_get nodes n) refl (subst (λ o. Agree (IsHost {H = H} state M) o (slice_get nodes n)) at (are n))
   where
     After : List (Node S) → Type 0
     After ns = AreHosts state M (slice_set hosts n new) ns
 
+    stays : (x : Node S) → slice_get nodes n ≡ Some x → IsHost state M new x → After nodes
+    stays x e p =
+        subst (λ ns. AreHosts state M (slice_set hosts n new) ns) (set_get nodes n x e)
+        (with_host state M hosts nodes n h new x x are at e p)
+
     go : (o : Option (Node S)) → slice_get nodes n ≡ o → Agree (IsHost {H = H} state M) (Some h) o
         → Unless (at_node o part) result (After nodes)
-        (Gives result (After nodes) (λ v. Becomes state M nodes n (slice_set hosts n new) (does v)))
+        (Gives result (Says nodes n wants × After nodes)
+        (λ v. Becomes state M nodes n (slice_set hosts n new) (does v)))
     go None e is = absurd is
     go (Some x) e is =
-        maps (at_node (Some x) part) result (IsHost state M new x) (After nodes)
+        maps (at_node (Some x) part) result (IsHost state M new x) (After nodes) (wants x × IsHost state M new x)
+        (Says nodes n wants × After nodes)
         (λ v. Makes x (IsHost state M new) (does v)) (λ v. Becomes state M nodes n (slice_set hosts n new) (does v))
-        (λ p. subst (λ ns. AreHosts state M (slice_set hosts n new) ns) (set_get nodes n x e)
-        (with_host state M hosts nodes n h new x x are at e p))
+        (stays x e) (λ p. (record { x = x; there = e; said = p.0 }, stays x e p.1))
         (λ v none m. record {
           x = x;
           there = e;
@@ -69,18 +80,44 @@ at_host {A} {B} {H} {S} state M hosts nodes n h new part result does are at says
         })
         (says x is)
 
-pub no_host : {A B H S : Type 0} (state : B → S) (M : Machine S) (hosts : List (Host B H)) (nodes : List (Node S))
-    (n : ℕ) (part : Node S → Option Fault) (does : A → Node S → Node S → Type 0) → AreHosts state M hosts nodes
-    → slice_get hosts n ≡ None → AtHost state M nodes n part (Err Unknown) hosts does
-no_host {A} {B} {H} {S} state M hosts nodes n part does are at =
+pub wants_no_host : {A B H S : Type 0} (state : B → S) (M : Machine S) (hosts : List (Host B H))
+    (nodes : List (Node S)) (n : ℕ) (part : Node S → Option Fault) (wants : Node S → Type 0)
+    (does : A → Node S → Node S → Type 0) → AreHosts state M hosts nodes → slice_get hosts n ≡ None
+    → WantsAtHost state M nodes n part (Err Unknown) wants hosts does
+wants_no_host {A} {B} {H} {S} state M hosts nodes n part wants does are at =
     go (slice_get nodes n) (subst (λ o. Agree (IsHost {H = H} state M) o (slice_get nodes n)) at (are n))
   where
     go : (o : Option (Node S)) → Agree (IsHost {H = H} state M) None o
         → Unless {A = A} (at_node o part) (Err Unknown) (AreHosts state M hosts nodes)
-        (Gives {A = A} (Err Unknown) (AreHosts state M hosts nodes)
+        (Gives {A = A} (Err Unknown) (Says nodes n wants × AreHosts state M hosts nodes)
         (λ v. Becomes state M nodes n hosts (does v)))
     go None is = (refl, are)
     go (Some x) is = absurd is
+
+-- likewise; nothing more is known of a node that wants memory
+
+pub at_host : {A B H S : Type 0} (state : B → S) (M : Machine S) (hosts : List (Host B H)) (nodes : List (Node S))
+    (n : ℕ) (h new : Host B H) (part : Node S → Option Fault) (result : Result A Fault)
+    (does : A → Node S → Node S → Type 0) → AreHosts state M hosts nodes → slice_get hosts n ≡ Some h
+    → ((x : Node S) → IsHost state M h x
+    → AtStation (at_node (Some x) part) result x (IsHost state M new) does)
+    → AtHost state M nodes n part result (slice_set hosts n new) does
+at_host {A} {B} {H} {S} state M hosts nodes n h new part result does are at says =
+    weaker (at_node (slice_get nodes n) part) result (AreHosts state M (slice_set hosts n new) nodes)
+    (Says nodes n Anything × AreHosts state M (slice_set hosts n new) nodes)
+    (λ v. Becomes state M nodes n (slice_set hosts n new) (does v)) (λ w. w.1)
+    (wants_at_host state M hosts nodes n h new part result Anything does are at
+    (λ x is. maps (at_node (Some x) part) result (IsHost state M new x) (IsHost state M new x) (IsHost state M new x)
+    (Unit {0} × IsHost state M new x) (λ v. Makes x (IsHost state M new) (does v))
+    (λ v. Makes x (IsHost state M new) (does v)) (λ p. p) (λ p. (tt, p)) (λ v none m. m) (says x is)))
+
+pub no_host : {A B H S : Type 0} (state : B → S) (M : Machine S) (hosts : List (Host B H)) (nodes : List (Node S))
+    (n : ℕ) (part : Node S → Option Fault) (does : A → Node S → Node S → Type 0) → AreHosts state M hosts nodes
+    → slice_get hosts n ≡ None → AtHost state M nodes n part (Err Unknown) hosts does
+no_host {A} {B} {H} {S} state M hosts nodes n part does are at =
+    weaker {A = A} (at_node (slice_get nodes n) part) (Err Unknown) (AreHosts state M hosts nodes)
+    (Says nodes n Anything × AreHosts state M hosts nodes) (λ v. Becomes state M nodes n hosts (does v)) (λ w. w.1)
+    (wants_no_host state M hosts nodes n part Anything does are at)
 
 -- likewise, where no memory is wanted
 
@@ -163,7 +200,8 @@ asks_host {A} {B} {H} {S} state M hosts nodes n h part result says are at answer
     go (Some x) e is =
         subst (λ r. Unless r result (Unit {0}) (Gives result (Unit {0}) (λ v. Says nodes n (says v))))
         (not_spare x part is.a_node)
-        (maps (part x) result (Unit {0}) (Unit {0}) (λ v. says v x) (λ v. Says nodes n (says v)) (λ p. p)
+        (maps (part x) result (Unit {0}) (Unit {0}) (Unit {0}) (Unit {0}) (λ v. says v x) (λ v. Says nodes n (says v))
+        (λ p. p) (λ p. p)
         (λ v none s. record { x = x; there = e; said = s }) (answers x is.node))
 
 -- likewise, where no memory is wanted

@@ -165,8 +165,7 @@ pub key_refused : {B H D S : Type 0} (state : B → S) (M : Machine S) (records 
     Applies state M records c (event.TakeKey n port index) (Err fault) (record old { hosts = hosts })
 key_refused state M records old c n port index byte fault hosts h e a =
     node_refused (Unit {0}) state M records old c (event.TakeKey n port index) n (refusals.key_refusal M port index)
-    (does.Took M (input.Rx port byte)) fault hosts h (key_typed state M records old c n port index byte h e).1 refl refl
-    a
+    (does.Took M (input.Rx port byte)) fault hosts h (key_typed state M records old c n port index byte h e).1 tt refl a
 
 pub key_applies : {B H D S : Type 0} (state : B → S) (M : Machine S) (records : D → List Record)
     (old : Running B H D) (c : Course S) (n port index byte : ℕ) (hosts : List (Host B H)) →
@@ -231,7 +230,7 @@ pub sent_refused : {B H D S : Type 0} (state : B → S) (M : Machine S) (records
 sent_refused state M records old c n port number fault hosts h e a =
     node_refused (Unit {0}) state M records old c (event.TellSent n port number) n
     (refusals.sent_refusal M port number) (does.Took M (input.Sent port)) fault hosts h
-    (sent_free state M records old c n port number h e) refl refl a
+    (sent_free state M records old c n port number h e) tt refl a
 
 pub sent_applies : {B H D S : Type 0} (state : B → S) (M : Machine S) (records : D → List Record)
     (old : Running B H D) (c : Course S) (n port number : ℕ) (hosts : List (Host B H)) →

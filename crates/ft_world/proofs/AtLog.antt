@@ -20,7 +20,7 @@ use Rattle.pair_protocol.specs.World.{with_node}
 use Rattle.pair_protocol.proofs.Moves.{same_some}
 use Rattle.pair_protocol.proofs.OneNode.{with_same}
 use Rattle.ft_world.specs.Applies.{Applies, Shows}
-use Rattle.ft_world.specs.AtHost.{AtHost, DoesAtHost}
+use Rattle.ft_world.specs.AtHost.{AtHost, DoesAtHost, WantsAtHost}
 use Rattle.ft_world.specs.Does as does
 use Rattle.ft_world.specs.Messages.{ack_of, log_of}
 use Rattle.ft_world.specs.Running.{Running}
@@ -33,7 +33,7 @@ use Rattle.ft_world.specs.declared.hosts.Host.{Host}
 use Rattle.ft_world.specs.declared.message.Message.{Message}
 use Rattle.ft_world.specs.declared.message.Message.TheVariants as message
 use Rattle.ft_world.proofs.Applying.{refuses}
-use Rattle.ft_world.proofs.AtOneNode.{RowAt, node_applies, node_refused, node_refused_surely}
+use Rattle.ft_world.proofs.AtOneNode.{RowAt, node_applies, node_refused_surely, node_refused_wanting}
 
 -- ---- a log entry
 
@@ -89,18 +89,27 @@ delivers_unknown state M records old c m n brings h =
 pub delivers_refused : {B H D S : Type 0} (state : B → S) (M : Machine S) (records : D → List Record)
     (old : Running B H D) (c : Course S) (m n : ℕ) (bytes : List ℕ) (fault : Fault) (hosts : List (Host B H)) →
     option_and_then log_of (slice_get old.messages m) ≡ Some bytes → Shows state M records old c →
-    AtHost {A = Bool} state M c.world.nodes n (does.log_packet_refusal (packet_at bytes)) (Err fault) hosts
-    (does.Held (packet_at bytes)) →
+    WantsAtHost {A = Bool} state M c.world.nodes n (does.log_packet_refusal (packet_at bytes)) (Err fault)
+    (does.WantsNext (packet_at bytes)) hosts (does.Held (packet_at bytes)) →
     Applies state M records c (event.DeliverLog m n) (Err fault) (record old { hosts = hosts })
 delivers_refused state M records old c m n bytes fault hosts brings h a =
     let here = slice_get c.world.nodes n in
     let b = brings_entry (slice_get old.messages m) (slice_get c.world.messages m) bytes
     (h.parts.messages.each m) brings in
     let p = Some (packet.Log b.generation b.index b.e) in
-    node_refused Bool state M records old c (event.DeliverLog m n) n (does.log_packet_refusal p) (does.Held p) fault
-    hosts h (ap (λ q. at_log here q) b.message) refl refl
-    (subst (λ p. AtHost {A = Bool} state M c.world.nodes n (does.log_packet_refusal p) (Err fault) hosts (does.Held p))
-    b.spelled a)
+    node_refused_wanting Bool state M records old c (event.DeliverLog m n) n (does.log_packet_refusal p)
+    (does.WantsNext p) (does.Held p) fault hosts h (ap (λ q. at_log here q) b.message)
+    (λ s. record {
+      x = s.x;
+      there = s.there;
+      generation = b.generation;
+      index = b.index;
+      e = b.e;
+      message = b.message;
+      next = s.said;
+    }) refl
+    (subst (λ p. WantsAtHost {A = Bool} state M c.world.nodes n (does.log_packet_refusal p) (Err fault)
+    (does.WantsNext p) hosts (does.Held p)) b.spelled a)
 
 delivered : {S : Type 0} (M : Machine S) (c : Course S) (m n g i : ℕ) (e : Entry) (new : Bool) (x y : Node S) →
     slice_get c.world.messages m ≡ Some (world.LogEntry g i e) → slice_get c.world.nodes n ≡ Some x →

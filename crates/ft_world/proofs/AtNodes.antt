@@ -21,8 +21,8 @@ use Rattle.pair_protocol.proofs.Moves.{same_some}
 use Rattle.ft_node.specs.Calls.{why_of}
 use Rattle.ft_node.specs.declared.ran.Ran.{Ran}
 use Rattle.ft_world.specs.Applies.{Applies, Shows, ShowsParts}
-use Rattle.ft_world.specs.AtHost.{AtHost, Becomes}
-use Rattle.ft_world.specs.Does.{Stepped}
+use Rattle.ft_world.specs.AtHost.{AtHost, Becomes, Says, WantsAtHost}
+use Rattle.ft_world.specs.Does.{Stepped, WantsSteps}
 use Rattle.ft_world.specs.Running.{Running}
 use Rattle.ft_world.specs.Shows.{AreHosts, IsOnlyBackup}
 use Rattle.ft_world.specs.Standing.{Course, machine_of}
@@ -30,7 +30,7 @@ use Rattle.pair_events.specs.declared.event.Event.TheVariants as event
 use Rattle.ft_world.specs.declared.hosts.Host.{Host}
 use Rattle.pair_events.specs.declared.reply.Reply.TheVariants as reply
 use Rattle.ft_world.proofs.Applying.{applies, unchanged}
-use Rattle.ft_world.proofs.Sending.{asked_err, asked_ok}
+use Rattle.ft_world.proofs.Sending.{asked_ok, asked_wanting}
 
 -- One node changes.
 
@@ -125,7 +125,7 @@ advances_generation : {S : Type 0} (M : Machine S) (x y : Node S) (turns made : 
 advances_generation M x y turns made why NoneLeft = refl
 advances_generation M x y turns made why (Ends e) = refl
 advances_generation M x y turns made why (Waits f e) = refl
-advances_generation M x y turns made why Short = refl
+advances_generation M x y turns made why (Short f e) = refl
 advances_generation M x y turns made why (Gives s o e) = stepped_generation M x x.role s (Some o)
 advances_generation M x y turns made why (Goes {turns = t} {made = m} s e rest) =
     advances_generation M (stepped M x x.role s None) y t m why rest ∙ stepped_generation M x x.role s None
@@ -135,7 +135,7 @@ advances_role : {S : Type 0} (M : Machine S) (x y : Node S) (turns made : ℕ) (
 advances_role M x y turns made why NoneLeft = refl
 advances_role M x y turns made why (Ends e) = refl
 advances_role M x y turns made why (Waits f e) = refl
-advances_role M x y turns made why Short = refl
+advances_role M x y turns made why (Short f e) = refl
 advances_role M x y turns made why (Gives s o e) = stepped_role M x x.role s (Some o)
 advances_role M x y turns made why (Goes {turns = t} {made = m} s e rest) =
     advances_role M (stepped M x x.role s None) y t m why rest ∙ stepped_role M x x.role s None
@@ -145,7 +145,7 @@ advances_same : {S : Type 0} (M : Machine S) (c : Course S) (x y : Node S) (turn
 advances_same M c x y turns made why NoneLeft = NoneLeft
 advances_same M c x y turns made why (Ends e) = Ends e
 advances_same M c x y turns made why (Waits f e) = Waits f e
-advances_same M c x y turns made why Short = Short
+advances_same M c x y turns made why (Short f e) = Short f e
 advances_same M c x y turns made why (Gives {turns = t} s o e) =
     subst (λ z. Advances (machine_of M c) x (suc t) z 1 (Gave (id_of o))) (sym (stepped_same M c x x.role s (Some o)))
     (Gives s o e)
@@ -168,11 +168,13 @@ step_same_at M c turns (Some x) =
 pub steps_refused : {B H D S : Type 0} (state : B → S) (M : Machine S) (records : D → List Record)
     (old : Running B H D) (c : Course S) (n turns : ℕ) (fault : Fault) (hosts : List (Host B H)) →
     Shows state M records old c →
-    AtHost {A = Ran} state M c.world.nodes n (step_refusal M turns) (Err fault) hosts (Stepped M turns) →
+    WantsAtHost {A = Ran} state M c.world.nodes n (step_refusal M turns) (Err fault) (WantsSteps turns) hosts
+    (Stepped M turns) →
     Applies state M records c (event.Step n turns) (Err fault) (record old { hosts = hosts })
 steps_refused {B} {H} state M records old c n turns fault hosts h a =
     let here = slice_get c.world.nodes n in
-    let k = asked_err {A = Ran} (at_node here (step_refusal M turns)) fault (AreHosts state M hosts c.world.nodes)
+    let k = asked_wanting {A = Ran} (at_node here (step_refusal M turns)) fault
+    (AreHosts state M hosts c.world.nodes) (Says c.world.nodes n (WantsSteps turns))
     (λ ran. Becomes state M c.world.nodes n hosts (Stepped M turns ran)) a in
     let parts = with_hosts state M records h.drives old c hosts h.parts k.1 in
     elim k.0 [
@@ -180,7 +182,7 @@ steps_refused {B} {H} state M records old c n turns fault hosts h a =
           (Refuses (step_same_at M c turns here ∙ because) refl)
       | inr free ↦ unchanged state M records old (record old { hosts = hosts }) c (event.Step n turns) fault h parts
           (subst (λ f. Row (machine_of M c) no_copies c.world (protocol.Step n turns) (protocol.Refused f) c.world)
-          (sym free.1) (WantsMemory (step_same_at M c turns here ∙ free.0) refl))
+          (sym free.1) (WantsMemory (step_same_at M c turns here ∙ free.0) free.2.said))
     ]
 
 pub steps_applies : {B H D S : Type 0} (state : B → S) (M : Machine S) (records : D → List Record)

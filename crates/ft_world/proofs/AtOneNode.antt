@@ -1,21 +1,21 @@
 -- An event that comes to one node: its row follows from what it does at that node, since every other node stays, the node
 -- keeps its generation, and it is a backup after it exactly where it was one before.
 use Rattle.std.proofs.Common.{◌≡◌, ◌∷◌, ◌∙◌, [], Err, List, None, Ok, Some, ap, inl, inr, refl, subst, sym, ℕ}
-use Rattle.std.specs.Prelude.{IsTrue, Option, slice_get}
+use Rattle.std.specs.Prelude.{Option, slice_get}
 use Rattle.guest_board.specs.Machine.{Machine}
 use Rattle.i8080_words.specs.declared.refusal.Fault.{Fault}
 use Rattle.shared_disk.specs.declared.store.Record.{Record}
 use Rattle.pair_protocol.specs.Copying.{no_copies}
-use Rattle.pair_protocol.specs.Event.{Refused, takes_memory}
+use Rattle.pair_protocol.specs.Event.{Refused}
 use Rattle.pair_protocol.specs.Node.{Node}
 use Rattle.pair_protocol.specs.Refusals.{at_node, first_of, refusal}
-use Rattle.pair_protocol.specs.Row.{Accepts, Leaves, Refuses, Row, WantsMemory}
+use Rattle.pair_protocol.specs.Row.{Accepts, Leaves, MayWantMemory, Refuses, Row, WantsMemory}
 use Rattle.pair_protocol.specs.Rows.{Does}
 use Rattle.pair_protocol.specs.Settled.{is_backup}
 use Rattle.pair_protocol.specs.World.{with_node}
 use Rattle.ft_world.specs.Applies.{Applies, Shows}
 use Rattle.ft_node.specs.Calls.{Always, Unless}
-use Rattle.ft_world.specs.AtHost.{AtHost, Becomes, DoesAtHost}
+use Rattle.ft_world.specs.AtHost.{AtHost, Becomes, DoesAtHost, Says, WantsAtHost}
 use Rattle.ft_world.specs.Running.{Running}
 use Rattle.ft_world.specs.Shows.{AreHosts}
 use Rattle.ft_world.specs.Standing.{Course, machine_of}
@@ -25,7 +25,7 @@ use Rattle.pair_events.specs.declared.reply.Reply.{Reply}
 use Rattle.ft_world.specs.declared.hosts.Host.{Host}
 use Rattle.ft_world.proofs.Applying.{applies, unchanged}
 use Rattle.ft_world.proofs.AtNodes.{with_hosts, with_one_host}
-use Rattle.ft_world.proofs.Sending.{asked_err, asked_ok}
+use Rattle.ft_world.proofs.Sending.{asked_err, asked_ok, asked_wanting}
 
 -- what a row says of the node before the event and of the node after it
 pub record RowAt {S : Type 0} (M : Machine S) (c : Course S) (e : Event) (r : Reply) (n : ℕ) (x y : Node S) : Type 0 where
@@ -58,7 +58,7 @@ pub node_refused : {B H D S : Type 0} (A : Type 0) (state : B → S) (M : Machin
     (does : A → Node S → Node S → Type 0) (fault : Fault) (hosts : List (Host B H)) →
     Shows state M records old c →
     refusal (machine_of M c) no_copies c.world (event_of e) ≡ at_node (slice_get c.world.nodes n) part →
-    IsTrue (takes_memory (event_of e)) → Leaves c.world (event_of e) fault c.world →
+    MayWantMemory (machine_of M c) c.world (event_of e) → Leaves c.world (event_of e) fault c.world →
     AtHost {A = A} state M c.world.nodes n part (Err fault) hosts does →
     Applies state M records c e (Err fault) (record old { hosts = hosts })
 node_refused A state M records old c e n part does fault hosts h free takes leaves a =
@@ -71,6 +71,28 @@ node_refused A state M records old c e n part does fault hosts h free takes leav
       | inr want ↦ unchanged state M records old (record old { hosts = hosts }) c e fault h parts
           (subst (λ f. Row (machine_of M c) no_copies c.world (event_of e) (Refused f) c.world)
           (sym want.1) (WantsMemory (free ∙ want.0) takes))
+    ]
+
+-- likewise, with what holds of the node if memory is wanting
+pub node_refused_wanting : {B H D S : Type 0} (A : Type 0) (state : B → S) (M : Machine S)
+    (records : D → List Record) (old : Running B H D) (c : Course S) (e : Event) (n : ℕ)
+    (part : Node S → Option Fault) (wants : Node S → Type 0) (does : A → Node S → Node S → Type 0) (fault : Fault)
+    (hosts : List (Host B H)) → Shows state M records old c →
+    refusal (machine_of M c) no_copies c.world (event_of e) ≡ at_node (slice_get c.world.nodes n) part →
+    (Says c.world.nodes n wants → MayWantMemory (machine_of M c) c.world (event_of e)) →
+    Leaves c.world (event_of e) fault c.world →
+    WantsAtHost {A = A} state M c.world.nodes n part (Err fault) wants hosts does →
+    Applies state M records c e (Err fault) (record old { hosts = hosts })
+node_refused_wanting A state M records old c e n part wants does fault hosts h free takes leaves a =
+    let k = asked_wanting {A = A} (at_node (slice_get c.world.nodes n) part) fault (AreHosts state M hosts c.world.nodes)
+    (Says c.world.nodes n wants) (λ v. Becomes state M c.world.nodes n hosts (does v)) a in
+    let parts = with_hosts state M records h.drives old c hosts h.parts k.1 in
+    elim k.0 [
+      | inl because ↦ unchanged state M records old (record old { hosts = hosts }) c e fault h parts
+          (Refuses (free ∙ because) leaves)
+      | inr want ↦ unchanged state M records old (record old { hosts = hosts }) c e fault h parts
+          (subst (λ f. Row (machine_of M c) no_copies c.world (event_of e) (Refused f) c.world)
+          (sym want.1) (WantsMemory (free ∙ want.0) (takes want.2)))
     ]
 
 -- at a node that wants no memory it is refused as the node refuses it

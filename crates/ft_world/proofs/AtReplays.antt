@@ -15,10 +15,11 @@ use Rattle.pair_protocol.specs.Copying.{no_copies}
 use Rattle.pair_protocol.specs.Event as protocol
 use Rattle.pair_protocol.specs.Node.{Backup, Draining, Node, Role}
 use Rattle.pair_protocol.specs.Refusals.{at_node, drain_refusal, replay_refusal}
+use Rattle.pair_protocol.specs.Row.{StepsFirst}
 use Rattle.pair_protocol.specs.Rows.{after_drain, at_end, drain_reply}
 use Rattle.pair_protocol.specs.Settled.{is_backup}
 use Rattle.pair_protocol.specs.World.{with_node}
-use Rattle.pair_protocol.proofs.Booted.{IsOnTrace-back, Replays-booted}
+use Rattle.pair_protocol.proofs.Booted.{IsBehind-booted, IsOnTrace-back, Replays-booted}
 use Rattle.pair_protocol.proofs.NodeStands.{nodes_stand}
 use Rattle.pair_protocol.proofs.Passed.{node-passed}
 use Rattle.ft_node.specs.Roles.{IsFollower}
@@ -27,8 +28,8 @@ use Rattle.ft_node.specs.declared.node.Node as code
 use Rattle.ft_node.specs.declared.node.Node.TheVariants as seat
 use Rattle.ft_node.specs.declared.ran.Drained.{Drained}
 use Rattle.ft_world.specs.Applies.{Applies, Shows, ShowsSome}
-use Rattle.ft_world.specs.AtHost.{AllMayReplay, AtHost, Becomes, HostMayReplay}
-use Rattle.ft_world.specs.Does.{Emptied, Repeated}
+use Rattle.ft_world.specs.AtHost.{AllMayReplay, AtHost, Becomes, HostMayReplay, Says, WantsAtHost}
+use Rattle.ft_world.specs.Does.{Emptied, Repeated, WantsMoves}
 use Rattle.ft_world.specs.Running.{Running}
 use Rattle.ft_world.specs.Shows.{AreHosts, IsHost}
 use Rattle.ft_world.specs.Standing.{Course, machine_of}
@@ -39,7 +40,7 @@ use Rattle.ft_world.specs.declared.hosts.Host.{Host}
 use Rattle.ft_world.specs.declared.hosts.Host.TheVariants as host
 use Rattle.ft_world.proofs.Agreeing.{agree-other}
 use Rattle.ft_world.proofs.Applying.{no_copies_copy}
-use Rattle.ft_world.proofs.AtOneNode.{RowAt, node_applies, node_refused}
+use Rattle.ft_world.proofs.AtOneNode.{RowAt, node_applies, node_refused_wanting}
 use Rattle.ft_world.proofs.Keeping.{acting_role, replays_keep}
 use Rattle.ft_world.proofs.Sending.{asked_ok}
 
@@ -86,14 +87,25 @@ all_may_replay state M records old some = λ n here there.
 
 -- ---- a backup replays
 
+-- if memory is wanting, the first move is a step
+steps_first : {S : Type 0} (M : Machine S) (c : Course S) (n turns : ℕ) → Says c.world.nodes n (WantsMoves M turns) →
+    StepsFirst (machine_of M c) c.world n turns
+steps_first M c n turns s = record {
+  some = s.said.0;
+  x = s.x;
+  there = s.there;
+  behind = IsBehind-booted M c.boot c.sectors s.x s.said.1;
+}
+
 pub replays_refused : {B H D S : Type 0} (state : B → S) (M : Machine S) (records : D → List Record)
     (old : Running B H D) (c : Course S) (n turns : ℕ) (fault : Fault) (hosts : List (Host B H)) →
     Shows state M records old c →
-    AtHost {A = Replayed} state M c.world.nodes n replay_refusal (Err fault) hosts (Repeated M turns) →
+    WantsAtHost {A = Replayed} state M c.world.nodes n replay_refusal (Err fault) (WantsMoves M turns) hosts
+    (Repeated M turns) →
     Applies state M records c (event.Replay n turns) (Err fault) (record old { hosts = hosts })
 replays_refused state M records old c n turns fault hosts h a =
-    node_refused Replayed state M records old c (event.Replay n turns) n replay_refusal (Repeated M turns) fault hosts
-    h refl refl refl a
+    node_refused_wanting Replayed state M records old c (event.Replay n turns) n replay_refusal (WantsMoves M turns)
+    (Repeated M turns) fault hosts h refl (steps_first M c n turns) refl a
 
 pub replays_applies : {B H D S : Type 0} (state : B → S) (M : Machine S) (records : D → List Record)
     (old : Running B H D) (c : Course S) (n turns : ℕ) (r : Replayed) (hosts : List (Host B H)) →
@@ -125,11 +137,12 @@ replays_applies state M records old c n turns r hosts h a =
 pub drains_refused : {B H D S : Type 0} (state : B → S) (M : Machine S) (records : D → List Record)
     (old : Running B H D) (c : Course S) (n turns : ℕ) (fault : Fault) (hosts : List (Host B H)) →
     Shows state M records old c →
-    AtHost {A = Drained} state M c.world.nodes n drain_refusal (Err fault) hosts (Emptied M turns) →
+    WantsAtHost {A = Drained} state M c.world.nodes n drain_refusal (Err fault) (WantsMoves M turns) hosts
+    (Emptied M turns) →
     Applies state M records c (event.Drain n turns) (Err fault) (record old { hosts = hosts })
 drains_refused state M records old c n turns fault hosts h a =
-    node_refused Drained state M records old c (event.Drain n turns) n drain_refusal (Emptied M turns) fault hosts
-    h refl refl refl a
+    node_refused_wanting Drained state M records old c (event.Drain n turns) n drain_refusal (WantsMoves M turns)
+    (Emptied M turns) fault hosts h refl (steps_first M c n turns) refl a
 
 pub drained_generation : {S : Type 0} (z : Node S) (b : Bool) → (after_drain z b).generation ≡ z.generation
 drained_generation z true = refl

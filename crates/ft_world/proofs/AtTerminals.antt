@@ -113,7 +113,7 @@ types_applies state M records old c port byte (Err fault) screens h (inl (is, hi
     (port_missing c.world port h.parts.terminals.count high) refl)
 types_applies state M records old c port byte (Err fault) screens h (inr (is, low), same) =
     wants_memory state M records old (record old { terminals = screens }) c (event.TypeByte port byte) fault h
-    (ap (λ l. record old { terminals = l }) same) (port_there c.world port h.parts.terminals.count low) refl is
+    (ap (λ l. record old { terminals = l }) same) (port_there c.world port h.parts.terminals.count low) tt is
 
 -- A byte comes.
 
@@ -246,7 +246,7 @@ arrives_applies state M records old c m port number byte (Err fault) screens bri
     (ap byte_refusal
     (released (slice_get old.messages m) (slice_get c.world.messages m) port number byte
     (h.parts.messages.each m) brings))
-    refl is
+    tt is
 
 pub arrives_unknown : {B H D S : Type 0} (state : B → S) (M : Machine S) (records : D → List Record)
     (old : Running B H D) (c : Course S) (m : ℕ) → option_and_then byte_of (slice_get old.messages m) ≡ None →

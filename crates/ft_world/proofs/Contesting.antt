@@ -151,15 +151,17 @@ wins_it state M records old c n won hosts askings x (Some winner) h there is fre
 loses_it : {B H D S : Type 0} (state : B → S) (M : Machine S) (records : D → List Record) (old : Running B H D)
     (c : Course S) (n : ℕ) (fault : Fault) (hosts : List (Host B H)) (askings : List Asking) (x : Node S)
     (winner : Option ℕ) → Shows state M records old c → slice_get c.world.nodes n ≡ Some x →
+    winner_of old.askings x.generation ≡ winner →
     refusal (machine_of M c) no_copies c.world (protocol.Suspect n) ≡ fault_if (is_other winner n) Lost →
     AskedOf winner old.askings n x (Err fault) askings (λ y. AreHosts state M hosts (slice_set c.world.nodes n y)) →
     Applies state M records c (event.Suspect n) (Err fault) (record old { hosts = hosts; askings = askings })
-loses_it state M records old c n fault hosts askings x None h there free (wants, same, are) =
+loses_it state M records old c n fault hosts askings x None h there is free (wants, same, are) =
     stays state M records old c n fault hosts askings h
     (subst (AreHosts state M hosts) (set_get c.world.nodes n x there) are) same
     (subst (λ f. Row (machine_of M c) no_copies c.world (protocol.Suspect n) (protocol.Refused f) c.world) (sym wants)
-    (WantsMemory free refl))
-loses_it state M records old c n fault hosts askings x (Some winner) h there free (other, lost, same, are) =
+    (WantsMemory free
+    (record { x = x; there = there; nobody = sym (h.parts.winners x.generation) ∙ is })))
+loses_it state M records old c n fault hosts askings x (Some winner) h there is free (other, lost, same, are) =
     subst
     (λ l. Applies state M records c (event.Suspect n) (Err fault) (record old { hosts = hosts; askings = l }))
     (sym same)
@@ -213,7 +215,7 @@ suspects_refused state M records old c n fault hosts askings h a =
       | inl p ↦ (let r = refused_first c.world n here fault p.0 in
           stays state M records old c n fault hosts askings h p.1.0 p.1.1 (Refuses r.0 r.1))
       | inr p ↦ loses_it state M records old c n fault hosts askings p.1.x
-          (winner_of old.askings p.1.x.generation) h p.1.there
+          (winner_of old.askings p.1.x.generation) h p.1.there refl
           (left c.world n here p.1.x p.1.there p.0
           ∙ asked_first c.world n p.1.x (winner_of old.askings p.1.x.generation) (h.parts.winners p.1.x.generation))
           p.1.answer

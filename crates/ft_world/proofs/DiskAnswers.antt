@@ -93,7 +93,7 @@ pub done_refused : {B H D S : Type 0} (state : B → S) (M : Machine S) (records
 done_refused state M records old c m n number fault hosts brings h a =
     node_refused (Unit {0}) state M records old c (event.PutReply m n) n (done_refusal M number)
     (does.Took M (input.Written number)) fault hosts h
-    (done_free M c m n number (done_there state M records old c m number brings h)) refl refl a
+    (done_free M c m n number (done_there state M records old c m number brings h)) tt refl a
 
 pub done_applies : {B H D S : Type 0} (state : B → S) (M : Machine S) (records : D → List Record)
     (old : Running B H D) (c : Course S) (m n number : ℕ) (hosts : List (Host B H)) →
@@ -171,7 +171,7 @@ read_refused state M records old c m n read fault hosts brings h a =
     node_refused (Unit {0}) state M records old c (event.GetReply m n) n
     (under_refusal M (read_address read) read.number read.bytes)
     (does.Took M (input.Sector read.drive read.sector read.number read.bytes)) fault hosts h
-    (read_free M c m n read (read_there state M records old c m read brings h)) refl refl a
+    (read_free M c m n read (read_there state M records old c m read brings h)) tt refl a
 
 pub read_applies : {B H D S : Type 0} (state : B → S) (M : Machine S) (records : D → List Record)
     (old : Running B H D) (c : Course S) (m n : ℕ) (read : SectorRead) (hosts : List (Host B H)) →

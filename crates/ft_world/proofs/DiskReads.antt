@@ -212,7 +212,7 @@ gets_applies state M records old c n sector address (Err fault) ms disk h low a 
     let met = h.parts.disk.there address s.there in
     let refused = λ (f : Fault). Row N no_copies c.world (protocol.Get n sector) (protocol.Refused f) c.world in
     let row : refused fault = elim why [
-      | inl is ↦ subst refused (sym is) (WantsMemory s.free refl)
+      | inl is ↦ subst refused (sym is) (WantsMemory s.free tt)
       | inr is ↦ subst refused (sym (not_put (records old.disk) address met.0 fault met.1 is)) (DeviceFails s.free refl)
     ] in
     unchanged state M records old (record old { messages = ms; disk = disk }) c (event.Get n sector) fault h

@@ -18,7 +18,7 @@ use Rattle.pair_protocol.proofs.Passed.{first-passed}
 use Rattle.ft_node.specs.Calls as calls
 use Rattle.ft_node.specs.Seats.{IsNode}
 use Rattle.ft_node.specs.declared.node.Node as code
-use Rattle.ft_world.specs.AtHost.{AtStation, Makes}
+use Rattle.ft_world.specs.AtHost.{AtStation, Makes, WantsAtStation}
 use Rattle.ft_world.specs.Does as does
 use Rattle.ft_world.specs.Shows.{IsStation}
 use Rattle.ft_world.specs.declared.hosts.Station.{Station}
@@ -54,7 +54,8 @@ not_refused (Some m) x next D d = let e = d.0 in (cc)
 pub passes_by : {B S : Type 0} (state : B → S) (M : Machine S) (p : Option Packet) (h : Station B)
     (node : code.Node B) (r : Result Bool Fault) (x : Node S) → calls.Expects p x (Ok None) → IsStation state M h x
     → calls.Delivers p x r (IsNode state M node)
-    → AtStation (does.log_packet_refusal p x) r x (IsStation state M (record h { node = node })) (does.Held p)
+    → WantsAtStation (does.log_packet_refusal p x) r (does.WantsNext p) x (IsStation state M (record h { node = node }))
+    (does.Held p)
 passes_by {B} {S} state M None h node r x e is d = absurd (not_refused _ x None ⊥ e).1
 passes_by {B} {S} state M (Some (Ack generation held)) h node r x e is d = absurd (not_refused _ x None ⊥ e).1
 passes_by {B} {S} state M (Some (Log generation index en)) h node r x e is d = go r o.0 o.1 d
@@ -75,22 +76,22 @@ passes_by {B} {S} state M (Some (Log generation index en)) h node r x e is d = g
     into : (r : Result Bool Fault) (m : Option Fault) → m ≡ None
         → None ≡ (if index == length x.held then Some en else None)
         → calls.Unless m r (IsNode state M node x)
-        (calls.Gives r (IsNode state M node x) (calls.Delivered index en x (IsNode state M node)))
+        (calls.Gives r (calls.WantsRoom index x × IsNode state M node x)
+        (calls.Delivered index en x (IsNode state M node)))
         → calls.Unless m r (After x)
-        (calls.Gives r (After x) (λ v. Makes x After (does.Held (Some (Log generation index en)) v)))
+        (calls.Gives r ((index ≡ length x.held) × After x)
+        (λ v. Makes x After (does.Held (Some (Log generation index en)) v)))
     into (Ok true) None n f d = absurd (not_next (index == length x.held) refl f d.0)
     into (Ok false) None n f d = record { y = x; done = (d.0, refl); after = unmoved state M h node x is d.1 }
-    into (Err k) None n f d = (d.0, unmoved state M h node x is d.1)
+    into (Err k) None n f d = (d.0, (d.1.0.0, unmoved state M h node x is d.1.1))
     into r (Some m) n f d = (cc)
 
     go : (r : Result Bool Fault) → refusals.log_refusal generation x ≡ None
         → None ≡ (if index == length x.held then Some en else None)
         → calls.Delivers (Some (Log generation index en)) x r (IsNode state M node)
-        → AtStation (refusals.log_refusal generation x) r x After (does.Held (Some (Log generation index en)))
-    go r n f d = into r (refusals.log_refusal generation x) n f
-        (weaker (refusals.log_refusal generation x) r (IsNode state M node x)
-        (calls.WantsRoom index x × IsNode state M node x) (calls.Delivered index en x (IsNode state M node))
-        (λ w. w.1) d)
+        → WantsAtStation (refusals.log_refusal generation x) r (does.WantsNext (Some (Log generation index en))) x After
+        (does.Held (Some (Log generation index en)))
+    go r n f d = into r (refusals.log_refusal generation x) n f d
 
 -- ---- a packet whose entry is held
 
@@ -161,12 +162,12 @@ holds_on {B} {S} state M (Some (Log generation index en)) h node new next v x e 
 pub expects_not : {B S : Type 0} (state : B → S) (M : Machine S) (p : Option Packet) (h : Station B)
     (r : Result Bool Fault) (fault : Fault) (x : Node S) → IsErrAnd r (λ k. k ≡ fault) → calls.Expects p x (Err fault)
     → IsStation state M h x
-    → AtStation (does.log_packet_refusal p x) r x (IsStation state M h) (does.Held p)
+    → WantsAtStation (does.log_packet_refusal p x) r (does.WantsNext p) x (IsStation state M h) (does.Held p)
 expects_not {B} {S} state M p h r fault x at d is =
     go (does.log_packet_refusal p x) r (expected_refusal p x fault d) at
   where
     go : (o : Option Fault) (r : Result Bool Fault) → o ≡ Some fault → IsErrAnd r (λ k. k ≡ fault)
-        → AtStation o r x (IsStation state M h) (does.Held p)
+        → WantsAtStation o r (does.WantsNext p) x (IsStation state M h) (does.Held p)
     go o (Ok v) e h = absurd h
     go None (Err k) e h = (cc)
     go (Some m) (Err k) e h = let same : fault ≡ m = (cc) in (ap Err (h ∙ same), is)

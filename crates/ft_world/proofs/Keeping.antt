@@ -50,7 +50,7 @@ pub advances_keep : {S : Type 0} (M : Machine S) {x y : Node S} {k made : ℕ} {
 advances_keep M (NoneLeft {x = x}) = kept_here x
 advances_keep M (Ends {x = x} q) = kept_here x
 advances_keep M (Waits {x = x} p q) = kept_here x
-advances_keep M (Short {x = x}) = kept_here x
+advances_keep M (Short {x = x} unspent goes) = kept_here x
 advances_keep M (Gives {x = x} s o q) = stepped_keeps M x x.role s (Some o)
 advances_keep M (Goes {x = x} {y = y} s q rest) =
     kept_then x (stepped M x x.role s None) y (stepped_keeps M x x.role s None) (advances_keep M rest)
@@ -58,7 +58,7 @@ advances_keep M (Goes {x = x} {y = y} s q rest) =
 pub replays_keep : {S : Type 0} (M : Machine S) {x y : Node S} {k made : ℕ} → Replays M x k y made → Kept x y
 replays_keep M (NoTurns {x = x}) = kept_here x
 replays_keep M (AtEnd {x = x} q) = kept_here x
-replays_keep M (NoMemory {x = x}) = kept_here x
+replays_keep M (NoMemory {x = x} behind) = kept_here x
 replays_keep M (OneStep {x = x} {y = y} e s gives g c q rest) =
     kept_then x (plainly_steps x s) y
     (record { role = refl; generation = refl; list = refl; copy = refl; start = refl; held = refl })

@@ -100,7 +100,7 @@ releases_applies state M records old c n name done o answer ms h e a said =
     let k = asked_ok (at_node (slice_get c.world.nodes n) (release_refusal M name)) o (Unit {0})
     (λ o. host.Says c.world.nodes n (does.Releases M name o)) a in
     says_applies state M records old c (event.Release n name) (released o) (world.Released o) answer ms h
-    (released_is o) (node_left state M records old c n name done h e ∙ k.0) refl
+    (released_is o) (node_left state M records old c n name done h e ∙ k.0) tt
     (record {
       x = k.1.x;
       there = k.1.there;

@@ -1,7 +1,7 @@
 -- A message is sent: one more stands behind the others, here and in the world that is shown. What a node is asked for is
 -- refused as its part says, or it is what the node has.
 use Rattle.std.proofs.Common.{◌≡◌, ◌+◌, [], ◌∷◌, ◌++◌, ◌∙◌, Err, List, None, Ok, Some, ap, inl, inr, length, refl, subst, sym, ℕ}
-use Rattle.std.specs.Prelude.{IsTrue, Option, Result, slice_get, ◌⊎◌}
+use Rattle.std.specs.Prelude.{Option, Result, slice_get, ◌⊎◌}
 use Rattle.std.specs.Global.{Vec}
 use Rattle.std.proofs.lemmas.List.{length-append}
 use Rattle.guest_board.specs.Machine.{Machine}
@@ -12,9 +12,8 @@ use Rattle.log_channel.specs.declared.packet.Packet.TheVariants as packet
 use Rattle.log_channel.proofs.PacketLaws.{is_only}
 use Rattle.pair_protocol.specs.Copying.{no_copies}
 use Rattle.pair_protocol.specs.Event as protocol
-use Rattle.pair_protocol.specs.Event.{takes_memory}
 use Rattle.pair_protocol.specs.Refusals.{ack_refusal, at_node, refusal, send_refusal}
-use Rattle.pair_protocol.specs.Row.{Accepts, Leaves}
+use Rattle.pair_protocol.specs.Row.{Accepts, Leaves, MayWantMemory}
 use Rattle.pair_protocol.specs.Rows.{Does}
 use Rattle.pair_protocol.specs.World as sent
 use Rattle.pair_protocol.specs.World.{with_message}
@@ -63,7 +62,7 @@ with_messages state M records drives old c ms ss p are = record {
 pub says_applies : {B H D S : Type 0} (state : B → S) (M : Machine S) (records : D → List Record) (old : Running B H D)
     (c : Course S) (e : Event) (m : Message) (s : sent.Message) (answer : Result Reply Fault) (ms : List Message) →
     Shows state M records old c → IsMessage m s → refusal (machine_of M c) no_copies c.world (event_of e) ≡ None →
-    IsTrue (takes_memory (event_of e)) →
+    MayWantMemory (machine_of M c) c.world (event_of e) →
     Does (machine_of M c) no_copies c.world (event_of e) (protocol.MessageIs (length c.world.messages))
     (with_message c.world s) →
     Says old.messages m answer ms → Applies state M records c e answer (record old { messages = ms })
@@ -88,6 +87,13 @@ pub asked_err : {A : Type 0} (o : Option Fault) (fault : Fault) (stays : Type 0)
 asked_err None fault stays does (e, s) = (inr (refl, e), s)
 asked_err (Some f) fault stays does (e, s) = (inl (let k : f ≡ fault = (cc) in ap Some k), s)
 
+-- likewise, with what holds if memory is wanting
+pub asked_wanting : {A : Type 0} (o : Option Fault) (fault : Fault) (stays wants : Type 0) (does : A → Type 0) →
+    Unless {A = A} o (Err fault) stays (Gives {A = A} (Err fault) (wants × stays) does) →
+    ((o ≡ Some fault) ⊎ ((o ≡ None) × (fault ≡ OutOfMemory) × wants)) × stays
+asked_wanting None fault stays wants does (e, (w, s)) = (inr (refl, e, w), s)
+asked_wanting (Some f) fault stays wants does (e, s) = (inl (let k : f ≡ fault = (cc) in ap Some k), s)
+
 pub asked_ok : {A : Type 0} (o : Option Fault) (value : A) (stays : Type 0) (does : A → Type 0) →
     Unless o (Ok value) stays (Gives (Ok value) stays does) → (o ≡ None) × does value
 asked_ok None value stays does d = (refl, d)
@@ -96,7 +102,7 @@ asked_ok (Some f) value stays does (e, s) = absurd (cc)
 -- an event that is refused as the node refuses it, or wants memory
 pub asked_in_vain : {B H D S : Type 0} (state : B → S) (M : Machine S) (records : D → List Record)
     (old new : Running B H D) (c : Course S) (e : Event) (fault : Fault) → Shows state M records old c → new ≡ old →
-    IsTrue (takes_memory (event_of e)) → Leaves c.world (event_of e) fault c.world →
+    MayWantMemory (machine_of M c) c.world (event_of e) → Leaves c.world (event_of e) fault c.world →
     ((refusal (machine_of M c) no_copies c.world (event_of e) ≡ Some fault)
     ⊎ ((refusal (machine_of M c) no_copies c.world (event_of e) ≡ None) × (fault ≡ OutOfMemory))) →
     Applies state M records c e (Err fault) new
@@ -114,7 +120,7 @@ pub sends_refused : {B H D S : Type 0} (state : B → S) (M : Machine S) (record
 sends_refused state M records old c n index fault h a =
     let k = asked_err {A = Vec ℕ} (at_node (slice_get c.world.nodes n) (send_refusal index)) fault (Unit {0})
     (λ bytes. host.Says c.world.nodes n (λ x. SendsEntry index x bytes)) a in
-    asked_in_vain state M records old old c (event.Send n index) fault h refl refl refl k.0
+    asked_in_vain state M records old old c (event.Send n index) fault h refl tt refl k.0
 
 pub sends_applies : {B H D S : Type 0} (state : B → S) (M : Machine S) (records : D → List Record)
     (old : Running B H D) (c : Course S) (n index : ℕ) (bytes : Vec ℕ) (answer : Result Reply Fault)
@@ -129,7 +135,7 @@ sends_applies state M records old c n index bytes answer ms h a said =
     let s = k.1.said in
     says_applies state M records old c (event.Send n index) (message.Log bytes)
     (sent.LogEntry x.generation index s.e) answer ms h
-    (is_only bytes.items (packet.Log x.generation index s.e) s.spelled.0 s.spelled.1) k.0 refl
+    (is_only bytes.items (packet.Log x.generation index s.e) s.spelled.0 s.spelled.1) k.0 tt
     (record {
       x = x;
       there = k.1.there;
@@ -148,7 +154,7 @@ pub acknowledges_refused : {B H D S : Type 0} (state : B → S) (M : Machine S) 
 acknowledges_refused state M records old c n fault h a =
     let k = asked_err {A = Vec ℕ} (at_node (slice_get c.world.nodes n) ack_refusal) fault (Unit {0})
     (λ bytes. host.Says c.world.nodes n (does.Acknowledges bytes)) a in
-    asked_in_vain state M records old old c (event.Acknowledge n) fault h refl refl refl k.0
+    asked_in_vain state M records old old c (event.Acknowledge n) fault h refl tt refl k.0
 
 pub acknowledges_applies : {B H D S : Type 0} (state : B → S) (M : Machine S) (records : D → List Record)
     (old : Running B H D) (c : Course S) (n : ℕ) (bytes : Vec ℕ) (answer : Result Reply Fault) (ms : List Message) →
@@ -161,5 +167,5 @@ acknowledges_applies state M records old c n bytes answer ms h a said =
     let x = k.1.x in
     says_applies state M records old c (event.Acknowledge n) (message.Ack bytes)
     (sent.Acknowledgement x.generation (length x.held) 0) answer ms h
-    (is_only bytes.items (packet.Ack x.generation (length x.held)) k.1.said.0 k.1.said.1, refl) k.0 refl
+    (is_only bytes.items (packet.Ack x.generation (length x.held)) k.1.said.0 k.1.said.1, refl) k.0 tt
     (record { x = x; there = k.1.there; says = record { reply = refl; after = refl } }) said

@@ -13,7 +13,7 @@ use Rattle.replayer.specs.declared.replayer.Replayed.{Replayed}
 use Rattle.pair_protocol.specs.Change.{Serving}
 use Rattle.pair_protocol.specs.Node.{Node, Role, Primary, Backup, Joining, Draining, Alone, Spare, halts, wins, hears, won_role}
 use Rattle.pair_protocol.specs.Refusals as refusals
-use Rattle.pair_protocol.specs.Rows.{after_drain, at_end}
+use Rattle.pair_protocol.specs.Rows.{IsBehind, after_drain, at_end}
 use Rattle.pair_protocol.specs.Settled.{list_of, count_in}
 use Rattle.pair_protocol.proofs.RowActions.{step-serves}
 use Rattle.ft_node.specs.Calls as calls
@@ -21,7 +21,7 @@ use Rattle.ft_node.specs.Seats.{IsNode}
 use Rattle.ft_node.specs.declared.node.Node as code
 use Rattle.ft_node.specs.declared.ran.Drained.{Drained}
 use Rattle.ft_node.specs.declared.ran.Ran.{Ran}
-use Rattle.ft_world.specs.AtHost.{AtStation, DoesAtStation, Makes}
+use Rattle.ft_world.specs.AtHost.{AtStation, DoesAtStation, Makes, WantsAtStation}
 use Rattle.ft_world.specs.Does as does
 use Rattle.ft_world.specs.Shows.{IsStation}
 use Rattle.ft_world.specs.declared.hosts.Station.{Station}
@@ -80,28 +80,28 @@ steps_on {B} {S} state M turns h node ran x i d =
 pub steps_not : {B S : Type 0} (state : B → S) (M : Machine S) (turns : ℕ) (h : Station B) (node : code.Node B)
     (r : Result Ran Fault) (fault : Fault) (x : Node S) → IsErrAnd r (λ k. k ≡ fault) → IsStation state M h x
     → calls.Steps M turns x (Err fault) (IsNode state M node)
-    → AtStation (refusals.step_refusal M turns x) r x (IsStation state M (record h { node = node })) (does.Stepped M
-    turns)
+    → WantsAtStation (refusals.step_refusal M turns x) r (does.WantsSteps turns) x
+    (IsStation state M (record h { node = node })) (does.Stepped M turns)
 steps_not state M turns h node r fault x at i d =
     hands_on (refusals.step_refusal M turns x) r fault (IsNode state M node x)
-    (IsStation state M (record h { node = node }) x) (calls.Stepped M turns x (IsNode state M node))
+    (IsStation state M (record h { node = node }) x) ((0 < turns) × IsNode state M node x)
+    ((0 < turns) × IsStation state M (record h { node = node }) x) (calls.Stepped M turns x (IsNode state M node))
     (λ v. Makes x (IsStation state M (record h { node = node })) (does.Stepped M turns v)) at
-    (unmoved state M h node x i)
-    (weaker {A = Ran} (refusals.step_refusal M turns x) (Err fault) (IsNode state M node x)
-    ((0 < turns) × IsNode state M node x) (calls.Stepped M turns x (IsNode state M node)) (λ w. w.1) d)
+    (unmoved state M h node x i) (λ w. (w.0, unmoved state M h node x i w.1)) d
 
 -- ---- moves of a backup
 
 pub repeats_on : {B S : Type 0} (state : B → S) (M : Machine S) (turns : ℕ) (h : Station B) (node : code.Node B)
     (r : Result Replayed Fault) (x : Node S) → IsStation state M h x
     → calls.Replaying M turns x r (IsNode state M node)
-    → AtStation (refusals.replay_refusal x) r x (IsStation state M (record h { node = node })) (does.Repeated M turns)
+    → WantsAtStation (refusals.replay_refusal x) r (does.WantsMoves M turns) x
+    (IsStation state M (record h { node = node })) (does.Repeated M turns)
 repeats_on {B} {S} state M turns h node r x i d =
-    maps (refusals.replay_refusal x) r (IsNode state M node x) (After x) (calls.Repeats M turns x (IsNode state M node))
-    (λ v. Makes x After (does.Repeated M turns v)) (unmoved state M h node x i) (λ v e s. made v e s)
-    (weaker (refusals.replay_refusal x) r (IsNode state M node x)
-    ((0 < turns) × calls.IsBehind M x × IsNode state M node x) (calls.Repeats M turns x (IsNode state M node))
-    (λ w. w.2) d)
+    maps (refusals.replay_refusal x) r (IsNode state M node x) (After x)
+    ((0 < turns) × IsBehind M x × IsNode state M node x) (does.WantsMoves M turns x × After x)
+    (calls.Repeats M turns x (IsNode state M node))
+    (λ v. Makes x After (does.Repeated M turns v)) (unmoved state M h node x i)
+    (λ w. ((w.0, w.1), unmoved state M h node x i w.2)) (λ v e s. made v e s) d
   where
     After : Node S → Type 0
     After y = IsStation state M (record h { node = node }) y
@@ -144,7 +144,7 @@ drains_on {B} {S} state M turns h node d count x is r counted =
     gives (refusals.drain_refusal x) d (IsNode state M node x) (After x) (calls.Empties M turns x (IsNode state M node))
     (λ v. Makes x After (does.Emptied M turns v)) (λ e s. made e s)
     (weaker (refusals.drain_refusal x) (Ok d) (IsNode state M node x)
-    ((0 < turns) × calls.IsBehind M x × IsNode state M node x) (calls.Empties M turns x (IsNode state M node))
+    ((0 < turns) × IsBehind M x × IsNode state M node x) (calls.Empties M turns x (IsNode state M node))
     (λ w. w.2) r)
   where
     After : Node S → Type 0

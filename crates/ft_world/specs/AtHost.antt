@@ -46,6 +46,12 @@ abbrev pub AtStation : {A S : Type 0} → Option Fault → Result A Fault → No
 AtStation refusal result x Is does =
     Unless refusal result (Is x) (Gives result (Is x) (λ value. Makes x Is (does value)))
 
+-- likewise; memory is wanted only if this holds of the node
+abbrev pub WantsAtStation : {A S : Type 0} → Option Fault → Result A Fault → (Node S → Type 0) → Node S
+    → (Node S → Type 0) → (A → Node S → Node S → Type 0) → Type 0
+WantsAtStation refusal result wants x Is does =
+    Unless refusal result (Is x) (Gives result (wants x × Is x) (λ value. Makes x Is (does value)))
+
 -- likewise, where no memory is wanted
 abbrev pub DoesAtStation : {A S : Type 0} → Option Fault → Result A Fault → Node S → (Node S → Type 0)
     → (A → Node S → Node S → Type 0) → Type 0
@@ -77,6 +83,19 @@ AtHost state M nodes n part result new does =
     Unless (at_node (slice_get nodes n) part) result (AreHosts state M new nodes)
     (Gives result (AreHosts state M new nodes) (λ value. Becomes state M nodes n new (does value)))
 
+-- what holds of a node, which stays as it is
+pub record Says {S : Type 0} (nodes : List (Node S)) (n : ℕ) (says : Node S → Type 0) : Type 0 where
+  pub x : Node S
+  pub there : slice_get nodes n ≡ Some x
+  pub said : says x
+
+-- likewise; memory is wanted only if this holds of the node
+abbrev pub WantsAtHost : {A B H S : Type 0} → (B → S) → Machine S → List (Node S) → ℕ → (Node S → Option Fault)
+    → Result A Fault → (Node S → Type 0) → List (Host B H) → (A → Node S → Node S → Type 0) → Type 0
+WantsAtHost state M nodes n part result wants new does =
+    Unless (at_node (slice_get nodes n) part) result (AreHosts state M new nodes)
+    (Gives result (Says nodes n wants × AreHosts state M new nodes) (λ value. Becomes state M nodes n new (does value)))
+
 -- likewise, where no memory is wanted
 abbrev pub DoesAtHost : {A B H S : Type 0} → (B → S) → Machine S → List (Node S) → ℕ → (Node S → Option Fault)
     → Result A Fault → List (Host B H) → (A → Node S → Node S → Type 0) → Type 0
@@ -84,12 +103,7 @@ DoesAtHost state M nodes n part result new does =
     Unless (at_node (slice_get nodes n) part) result (AreHosts state M new nodes)
     (Always result (λ value. Becomes state M nodes n new (does value)))
 
--- what is asked of a node, which stays as it is
-pub record Says {S : Type 0} (nodes : List (Node S)) (n : ℕ) (says : Node S → Type 0) : Type 0 where
-  pub x : Node S
-  pub there : slice_get nodes n ≡ Some x
-  pub said : says x
-
+-- what is asked of a node
 abbrev pub AskHost : {A S : Type 0} → List (Node S) → ℕ → (Node S → Option Fault) → Result A Fault
     → (A → Node S → Type 0) → Type 0
 AskHost nodes n part result says =

@@ -1,6 +1,6 @@
 -- What each event makes of a node that it comes to, and what is asked of one: the row's words, of the node before and
 -- the node after it.
-use Rattle.std.specs.Prelude.{◌≡◌, ◌≢◌, ℕ, ◌≤◌, ◌⊎◌, Bool, true, false, Option, Some, [], ◌∷◌, length}
+use Rattle.std.specs.Prelude.{◌≡◌, ◌≢◌, ℕ, ◌<◌, ◌≤◌, ◌⊎◌, Bool, true, false, Option, Some, [], ◌∷◌, length}
 use Rattle.std.specs.Global.{Vec}
 use Rattle.disk_dcdd.specs.declared.address.SectorAddress.{SectorAddress}
 use Rattle.event_callbacks.specs.declared.operations.OpId.{OpId}
@@ -14,7 +14,7 @@ use Rattle.log_channel.specs.declared.packet.Packet.TheVariants.{Log, Ack}
 use Rattle.log_entry.specs.declared.entry.Entry.{Entry}
 use Rattle.pair_protocol.specs.Node.{Node, Primary, Backup, holds, hears, halts, keys_covered}
 use Rattle.pair_protocol.specs.Refusals.{first_of, role_refusal, log_refusal, acked_refusal}
-use Rattle.pair_protocol.specs.Rows.{Advances, Replays, MovesSome, at_end, after_drain, took}
+use Rattle.pair_protocol.specs.Rows.{Advances, IsBehind, Replays, MovesSome, at_end, after_drain, took}
 use Rattle.replayer.specs.declared.replayer.Replayed.{Replayed}
 use Rattle.ft_node.specs.Calls.{IsSpelled, IsUnder, SendsEntry, why_of}
 use Rattle.ft_node.specs.declared.ran.Drained.{Drained}
@@ -72,6 +72,21 @@ Heard _ covered x y = ⊥
 -- a node halts
 abbrev pub Halted : {S : Type 0} → Unit {0} → Node S → Node S → Type 0
 Halted done x y = y ≡ halts x
+
+-- ---- what holds of a node if memory is wanting
+
+-- it is to make some steps
+abbrev pub WantsSteps : {S : Type 0} → ℕ → Node S → Type 0
+WantsSteps turns x = 0 < turns
+
+-- it is to make some moves, and the first is a step
+abbrev pub WantsMoves : {S : Type 0} → Machine S → ℕ → Node S → Type 0
+WantsMoves M turns x = (0 < turns) × IsBehind M x
+
+-- a packet brings the entry that it holds next
+abbrev pub WantsNext : {S : Type 0} → Option Packet → Node S → Type 0
+WantsNext (Some (Log generation index e)) x = index ≡ length x.held
+WantsNext _ x = ⊥
 
 -- ---- what is asked of a node
 

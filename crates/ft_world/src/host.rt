@@ -10,6 +10,7 @@ ghost use Rattle.log_channel.specs.Packet.{packet_at};
 ghost use Rattle.pair_protocol.specs.Node as protocol;
 ghost use Rattle.pair_protocol.specs.Refusals as refusals;
 ghost use Rattle.ft_world.specs.AtHost.{AsksStation, AtStation, DoesAtStation, HostMayReplay, HostMayRun};
+ghost use Rattle.ft_world.specs.AtHost.{WantsAtStation};
 ghost use Rattle.ft_world.specs.Does as does;
 ghost use Rattle.ft_world.specs.Shows.{IsHost};
 ghost use Rattle.ft_world.specs.Staying.{spare_of};
@@ -28,8 +29,8 @@ impl<B: Lockstep + Drop, H: Drop> Host<B, H> {
         requires operations { ComesAndGoes B.machine }
         requires few { HostMayRun B.state B.machine self.old }
         ensures answer { (x : protocol.Node B.State) → IsHost B.state B.machine self.old x
-            → AtStation (refusals.at_node (Some x) (refusals.step_refusal B.machine turns)) result x
-            (IsHost B.state B.machine self.new) (does.Stepped B.machine turns) }
+            → WantsAtStation (refusals.at_node (Some x) (refusals.step_refusal B.machine turns)) result
+            (does.WantsSteps turns) x (IsHost B.state B.machine self.new) (does.Stepped B.machine turns) }
         ensures spare { spare_of self.new ≡ spare_of self.old }
     {
         match self {
@@ -106,8 +107,9 @@ impl<B: Lockstep + Drop, H: Drop> Host<B, H> {
 
     pub(crate) fn on_log(&mut self, bytes: &[u8]) -> R<bool>
         ensures answer { (x : protocol.Node B.State) → IsHost B.state B.machine self.old x
-            → AtStation (refusals.at_node (Some x) (does.log_packet_refusal (packet_at bytes.now))) result x
-            (IsHost B.state B.machine self.new) (does.Held (packet_at bytes.now)) }
+            → WantsAtStation (refusals.at_node (Some x) (does.log_packet_refusal (packet_at bytes.now))) result
+            (does.WantsNext (packet_at bytes.now)) x (IsHost B.state B.machine self.new)
+            (does.Held (packet_at bytes.now)) }
         ensures spare { spare_of self.new ≡ spare_of self.old }
     {
         match self {
@@ -132,8 +134,8 @@ impl<B: Lockstep + Drop, H: Drop> Host<B, H> {
         requires counts { Counts B.machine }
         requires on_trace { HostMayReplay B.state B.machine self.old }
         ensures answer { (x : protocol.Node B.State) → IsHost B.state B.machine self.old x
-            → AtStation (refusals.at_node (Some x) refusals.replay_refusal) result x
-            (IsHost B.state B.machine self.new) (does.Repeated B.machine turns) }
+            → WantsAtStation (refusals.at_node (Some x) refusals.replay_refusal) result
+            (does.WantsMoves B.machine turns) x (IsHost B.state B.machine self.new) (does.Repeated B.machine turns) }
         ensures spare { spare_of self.new ≡ spare_of self.old }
     {
         match self {
@@ -146,8 +148,8 @@ impl<B: Lockstep + Drop, H: Drop> Host<B, H> {
         requires counts { Counts B.machine }
         requires on_trace { HostMayReplay B.state B.machine self.old }
         ensures answer { (x : protocol.Node B.State) → IsHost B.state B.machine self.old x
-            → AtStation (refusals.at_node (Some x) refusals.drain_refusal) result x
-            (IsHost B.state B.machine self.new) (does.Emptied B.machine turns) }
+            → WantsAtStation (refusals.at_node (Some x) refusals.drain_refusal) result
+            (does.WantsMoves B.machine turns) x (IsHost B.state B.machine self.new) (does.Emptied B.machine turns) }
         ensures spare { spare_of self.new ≡ spare_of self.old }
     {
         match self {

@@ -10,7 +10,7 @@ ghost use Rattle.pair_protocol.specs.Refusals as refusals;
 ghost use Rattle.guest_board.specs.Recorded.{Counts};
 ghost use Rattle.guest_board.specs.Outstanding.{ComesAndGoes};
 ghost use Rattle.ft_world.specs.AtHost.{AllMayReplay, AllMayRun, AskHost, AsksHost, AtHost};
-ghost use Rattle.ft_world.specs.AtHost.{DoesAtHost, HasNoNode, ReadHost};
+ghost use Rattle.ft_world.specs.AtHost.{DoesAtHost, HasNoNode, ReadHost, WantsAtHost};
 ghost use Rattle.i8080_words.specs.declared.refusal.Fault.TheVariants.{OutOfMemory, Unknown};
 ghost use Rattle.ft_world.specs.declared.hosts.Host.TheVariants as host;
 ghost use Rattle.ft_world.specs.Does as does;
@@ -66,8 +66,8 @@ pub(crate) fn step<B: Lockstep + Drop, H: Drop>(
     requires operations { ComesAndGoes B.machine }
     requires few { AllMayRun B.state B.machine hosts.old.items }
     ensures answer { (nodes : List (protocol.Node B.State)) → AreHosts B.state B.machine hosts.old.items nodes
-        → AtHost B.state B.machine nodes node (refusals.step_refusal B.machine turns) result hosts.new.items
-        (does.Stepped B.machine turns) }
+        → WantsAtHost B.state B.machine nodes node (refusals.step_refusal B.machine turns) result
+        (does.WantsSteps turns) hosts.new.items (does.Stepped B.machine turns) }
     ensures spares { SpareHostsStay hosts.old.items hosts.new.items }
 {
     match hosts.get_mut(node as usize) {
@@ -173,8 +173,8 @@ pub(crate) fn on_log<B: Lockstep + Drop, H: Drop>(
     bytes: &[u8],
 ) -> R<bool>
     ensures answer { (nodes : List (protocol.Node B.State)) → AreHosts B.state B.machine hosts.old.items nodes
-        → AtHost B.state B.machine nodes node (does.log_packet_refusal (packet_at bytes.now)) result hosts.new.items
-        (does.Held (packet_at bytes.now)) }
+        → WantsAtHost B.state B.machine nodes node (does.log_packet_refusal (packet_at bytes.now)) result
+        (does.WantsNext (packet_at bytes.now)) hosts.new.items (does.Held (packet_at bytes.now)) }
     ensures spares { SpareHostsStay hosts.old.items hosts.new.items }
 {
     match hosts.get_mut(node as usize) {
@@ -211,8 +211,8 @@ pub(crate) fn replay<B: Lockstep + Drop, H: Drop>(
     requires counts { Counts B.machine }
     requires on_trace { AllMayReplay B.state B.machine hosts.old.items }
     ensures answer { (nodes : List (protocol.Node B.State)) → AreHosts B.state B.machine hosts.old.items nodes
-        → AtHost B.state B.machine nodes node refusals.replay_refusal result hosts.new.items
-        (does.Repeated B.machine turns) }
+        → WantsAtHost B.state B.machine nodes node refusals.replay_refusal result (does.WantsMoves B.machine turns)
+        hosts.new.items (does.Repeated B.machine turns) }
     ensures spares { SpareHostsStay hosts.old.items hosts.new.items }
 {
     match hosts.get_mut(node as usize) {
@@ -231,8 +231,8 @@ pub(crate) fn drain<B: Lockstep + Drop, H: Drop>(
     requires counts { Counts B.machine }
     requires on_trace { AllMayReplay B.state B.machine hosts.old.items }
     ensures answer { (nodes : List (protocol.Node B.State)) → AreHosts B.state B.machine hosts.old.items nodes
-        → AtHost B.state B.machine nodes node refusals.drain_refusal result hosts.new.items
-        (does.Emptied B.machine turns) }
+        → WantsAtHost B.state B.machine nodes node refusals.drain_refusal result (does.WantsMoves B.machine turns)
+        hosts.new.items (does.Emptied B.machine turns) }
     ensures spares { SpareHostsStay hosts.old.items hosts.new.items }
 {
     match hosts.get_mut(node as usize) {

@@ -11,7 +11,7 @@ ghost use Rattle.guest_board.specs.Recorded.{Counts};
 ghost use Rattle.ft_node.specs.Calls as calls;
 ghost use Rattle.guest_board.specs.Outstanding.{ComesAndGoes};
 ghost use Rattle.ft_node.specs.Seats.{IsNode, MayRun, MayReplay};
-ghost use Rattle.ft_world.specs.AtHost.{AtStation, DoesAtStation};
+ghost use Rattle.ft_world.specs.AtHost.{AtStation, DoesAtStation, WantsAtStation};
 ghost use Rattle.ft_world.specs.Does as does;
 ghost use Rattle.ft_world.specs.Shows.{IsStation};
 
@@ -56,7 +56,7 @@ impl<B: Lockstep + Drop> Station<B> {
         requires operations { ComesAndGoes B.machine }
         requires few { MayRun B.state B.machine self.old.node }
         ensures { (x : protocol.Node B.State) → IsStation B.state B.machine self.old x
-            → AtStation (refusals.step_refusal B.machine turns x) result x
+            → WantsAtStation (refusals.step_refusal B.machine turns x) result (does.WantsSteps turns) x
             (IsStation B.state B.machine self.new) (does.Stepped B.machine turns) }
     {
         let ran = self.node.step(turns)?;
@@ -170,8 +170,9 @@ impl<B: Lockstep + Drop> Station<B> {
     /// is false.
     pub(crate) fn on_log(&mut self, bytes: &[u8]) -> R<bool>
         ensures { (x : protocol.Node B.State) → IsStation B.state B.machine self.old x
-            → AtStation (does.log_packet_refusal (packet_at bytes.now) x) result x
-            (IsStation B.state B.machine self.new) (does.Held (packet_at bytes.now)) }
+            → WantsAtStation (does.log_packet_refusal (packet_at bytes.now) x) result
+            (does.WantsNext (packet_at bytes.now)) x (IsStation B.state B.machine self.new)
+            (does.Held (packet_at bytes.now)) }
     {
         let next = self.node.next_entry(bytes)?;
         match next {
@@ -207,7 +208,7 @@ impl<B: Lockstep + Drop> Station<B> {
         requires counts { Counts B.machine }
         requires on_trace { MayReplay B.state B.machine self.old.node }
         ensures { (x : protocol.Node B.State) → IsStation B.state B.machine self.old x
-            → AtStation (refusals.replay_refusal x) result x
+            → WantsAtStation (refusals.replay_refusal x) result (does.WantsMoves B.machine turns) x
             (IsStation B.state B.machine self.new) (does.Repeated B.machine turns) }
     {
         self.node.replay(turns)
@@ -218,7 +219,7 @@ impl<B: Lockstep + Drop> Station<B> {
         requires counts { Counts B.machine }
         requires on_trace { MayReplay B.state B.machine self.old.node }
         ensures { (x : protocol.Node B.State) → IsStation B.state B.machine self.old x
-            → AtStation (refusals.drain_refusal x) result x
+            → WantsAtStation (refusals.drain_refusal x) result (does.WantsMoves B.machine turns) x
             (IsStation B.state B.machine self.new) (does.Emptied B.machine turns) }
     {
         let drained = self.node.drain(turns)?;

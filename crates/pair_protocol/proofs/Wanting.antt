@@ -10,8 +10,8 @@ use Rattle.pair_protocol.specs.Copying.{Copying}
 use Rattle.pair_protocol.specs.Event.{DeliverLog, Drain, Event, Replay, Reply, Refused, Step, Suspect}
 use Rattle.pair_protocol.specs.Node.{Alone, Backup, Draining, Joining, Node, Primary, Spare, acts_as, is_role}
 use Rattle.pair_protocol.specs.Refusals.{ask_refusal, at_log, at_node, fault_if, first_of, is_other, log_refusal, refusal, role_refusal, step_refusal, suspect_refusal}
-use Rattle.pair_protocol.specs.Row.{Accepts, DeviceFails, MayWantMemory, Refuses, WantsMemory}
-use Rattle.pair_protocol.specs.Rows.{AtEnd, Does, NoMemory, NoTurns, OneInput, OneMark, OneStep, Replays, drain_reply}
+use Rattle.pair_protocol.specs.Row.{Accepts, DeviceFails, MayWantMemory, Refuses, StepsFirst, WantsMemory}
+use Rattle.pair_protocol.specs.Rows.{AtEnd, Does, IsBehind, NoMemory, NoTurns, OneInput, OneMark, OneStep, Replays, drain_reply}
 use Rattle.pair_protocol.specs.Wanting.{WantsNone}
 use Rattle.pair_protocol.specs.World.{LogEntry, Message, World, winner_in}
 use Rattle.pair_protocol.proofs.Moves.{same_some}
@@ -85,20 +85,45 @@ drain_other : (made : ℕ) (end : Bool) → drain_reply made end ≢ Refused Out
 drain_other made true is = (cc)
 drain_other made false is = (cc)
 
+steps_none : {S : Type 0} (M : Machine S) (C : Copying S) (w : World S) (n : ℕ) → WantsNone M C w (Step n 0)
+steps_none M C w n =
+    wants_none M C w (Step n 0)
+    (other_at (slice_get w.nodes n) (step_refusal M 0) (λ x. role_other (not (acts_as x (Primary ∷ Alone ∷ [])))))
+    (λ r new d is. (let ran = sym is ∙ d.reply in (cc))) (λ some. omega (arith, some))
+
+replays_none : {S : Type 0} (M : Machine S) (C : Copying S) (w : World S) (n turns : ℕ)
+    → (StepsFirst M w n turns → ⊥) → WantsNone M C w (Replay n turns)
+replays_none M C w n turns wants =
+    wants_none M C w (Replay n turns)
+    (other_at (slice_get w.nodes n) (role_refusal (Backup ∷ [])) (λ x. role_other (not (acts_as x (Backup ∷ [])))))
+    (λ r new d is. (let moved = sym is ∙ d.reply in (cc))) wants
+
+drains_none : {S : Type 0} (M : Machine S) (C : Copying S) (w : World S) (n turns : ℕ)
+    → (StepsFirst M w n turns → ⊥) → WantsNone M C w (Drain n turns)
+drains_none M C w n turns wants =
+    wants_none M C w (Drain n turns)
+    (other_at (slice_get w.nodes n) (role_refusal (Draining ∷ [])) (λ x. role_other (not (acts_as x (Draining ∷ [])))))
+    (λ r new d is. drain_other d.made _ (sym d.reply ∙ is)) wants
+
+none_asked : {S : Type 0} (M : Machine S) (w : World S) (n : ℕ) → StepsFirst M w n 0 → ⊥
+none_asked M w n h = let some = h.some in omega (arith, some)
+
 pub no_turns : {S : Type 0} (M : Machine S) (C : Copying S) (w : World S) (n : ℕ)
     → WantsNone M C w (Step n 0) × WantsNone M C w (Replay n 0) × WantsNone M C w (Drain n 0)
-no_turns M C w n = (
-  wants_none M C w (Step n 0)
-      (other_at (slice_get w.nodes n) (step_refusal M 0) (λ x. role_other (not (acts_as x (Primary ∷ Alone ∷ [])))))
-      (λ r new d is. (let ran = sym is ∙ d.reply in (cc))) (λ some. omega (arith, some)),
-  wants_none M C w (Replay n 0)
-      (other_at (slice_get w.nodes n) (role_refusal (Backup ∷ []))
-      (λ x. role_other (not (acts_as x (Backup ∷ [])))))
-      (λ r new d is. (let moved = sym is ∙ d.reply in (cc))) (λ h. (let some = h.some in omega (arith, some))),
-  wants_none M C w (Drain n 0)
-      (other_at (slice_get w.nodes n) (role_refusal (Draining ∷ []))
-      (λ x. role_other (not (acts_as x (Draining ∷ [])))))
-      (λ r new d is. drain_other d.made _ (sym d.reply ∙ is)) (λ h. (let some = h.some in omega (arith, some))),
+no_turns M C w n =
+    (steps_none M C w n, replays_none M C w n 0 (none_asked M w n), drains_none M C w n 0 (none_asked M w n))
+
+not_first : {S : Type 0} (M : Machine S) (w : World S) (n turns : ℕ) (x : Node S) → slice_get w.nodes n ≡ Some x
+    → (IsBehind M x → ⊥) → StepsFirst M w n turns → ⊥
+not_first M w n turns x there other h =
+    other (subst (λ y. IsBehind M y) (same_some h.x x (slice_get w.nodes n) h.there there) h.behind)
+
+pub other_moves : {S : Type 0} (M : Machine S) (C : Copying S) (w : World S) (n turns : ℕ) (x : Node S)
+    → slice_get w.nodes n ≡ Some x → (IsBehind M x → ⊥)
+    → WantsNone M C w (Replay n turns) × WantsNone M C w (Drain n turns)
+other_moves M C w n turns x there other = (
+  replays_none M C w n turns (not_first M w n turns x there other),
+  drains_none M C w n turns (not_first M w n turns x there other),
 )
 
 held_or_not : {S : Type 0} (M : Machine S) (C : Copying S) (w : World S) (m n : ℕ) (r : Reply) (new : World S)

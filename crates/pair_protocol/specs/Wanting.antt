@@ -8,7 +8,7 @@ use Rattle.pair_protocol.specs.Copying.{Copying}
 use Rattle.pair_protocol.specs.Node.{Node}
 use Rattle.pair_protocol.specs.World.{World, LogEntry, winner_in}
 use Rattle.pair_protocol.specs.Event.{Event, Step, DeliverLog, Replay, Suspect, Drain, Reply, Refused}
-use Rattle.pair_protocol.specs.Rows.{Replays}
+use Rattle.pair_protocol.specs.Rows.{IsBehind, Replays}
 use Rattle.pair_protocol.specs.Row.{Row}
 
 -- an event is not answered that there is no memory
@@ -20,6 +20,12 @@ abbrev pub NoTurnsWantNone : (S : Type 0) → Type 0
 NoTurnsWantNone S =
     (M : Machine S) (C : Copying S) (w : World S) (n : ℕ) →
     WantsNone M C w (Step n 0) × WantsNone M C w (Replay n 0) × WantsNone M C w (Drain n 0)
+
+-- a replay or a drain of which the first move is no step
+abbrev pub OtherMovesWantNone : (S : Type 0) → Type 0
+OtherMovesWantNone S =
+    (M : Machine S) (C : Copying S) (w : World S) (n turns : ℕ) (x : Node S) → slice_get w.nodes n ≡ Some x →
+    (IsBehind M x → ⊥) → WantsNone M C w (Replay n turns) × WantsNone M C w (Drain n turns)
 
 -- a packet that is a repeat, or past a gap
 abbrev pub OtherEntriesWantNone : (S : Type 0) → Type 0

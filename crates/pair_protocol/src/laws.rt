@@ -3,7 +3,7 @@ ghost use Rattle.pair_protocol.specs.Examples.{TakesOver, WritesDisk};
 ghost use Rattle.pair_protocol.specs.Joining.{JoiningIsGiven};
 ghost use Rattle.pair_protocol.specs.ReadsKept.{ReachedKeepsReads};
 ghost use Rattle.pair_protocol.specs.Laws.{ReachedIsFaithful, NodesStand, NeedsNoCopies, ReachedGrows, RowIsChanges, ChangesReach, RunReaches, RunIsFaithful, RunGrows, RunReplies};
-ghost use Rattle.pair_protocol.specs.Wanting.{NoTurnsWantNone, OtherEntriesWantNone, StopsAtSteps, WinnersWantNone};
+ghost use Rattle.pair_protocol.specs.Wanting.{NoTurnsWantNone, OtherEntriesWantNone, OtherMovesWantNone, StopsAtSteps, WinnersWantNone};
 ghost use Rattle.pair_protocol.specs.Survival.{NothingRefuses, WholeNodesWin};
 ghost use Rattle.pair_protocol.specs.Traces.{OneTrace, OneEnd, FirstEntries, QuietMoves, QuietEntries};
 
@@ -69,11 +69,12 @@ pub fn every_event_is_answered<S>()
     ensures replies { RunReplies S }
 {}
 
-/// No turns, a log entry that is a repeat or past a gap, and a winner that asks again are never answered that there is no
-/// memory; and a replay or a drain that makes fewer moves than it was asked for stops where nothing is left, or before a
-/// step.
+/// A step, a replay or a drain of no turns, a replay or a drain of which the first move is no step, a log entry that is a
+/// repeat or past a gap, and a winner that asks again are never answered that there is no memory; and a replay or a drain
+/// that makes fewer moves than it was asked for has nothing left, or a step to make next.
 pub fn some_events_want_no_memory<S>()
     ensures no_turns { NoTurnsWantNone S }
+    ensures other_moves { OtherMovesWantNone S }
     ensures other_entries { OtherEntriesWantNone S }
     ensures winners { WinnersWantNone S }
     ensures stops { StopsAtSteps S }

@@ -2,14 +2,14 @@ use Rattle.std.proofs.Common.{length, refl}
 use Rattle.std.proofs.lemmas.Option.{slice_get_past, slice_get_read}
 use Rattle.pair_protocol.specs.Refusals as refusals
 use Rattle.ft_world.specs.Does as does
-use Rattle.ft_world.proofs.AtHosts.{at_host, no_host}
+use Rattle.ft_world.proofs.AtHosts.{wants_at_host, wants_no_host}
 use Rattle.ft_world.proofs.Spares.{spares_set}
 use Rattle.ft_world.proofs.hosts.drain.Goals as goal
 
 pub returns-in-Some-clause-answer : goal.returns-in-Some-clause-answer
 returns-in-Some-clause-answer g c = λ nodes are.
-    at_host g.B.Lockstep.state g.B.Lockstep.machine c.args.hosts.now.items nodes c.args.node c.in-Some.host.now
-    c.drain.new.self refusals.drain_refusal c.drain.result (does.Emptied g.B.Lockstep.machine c.args.turns) are
+    wants_at_host g.B.Lockstep.state g.B.Lockstep.machine c.args.hosts.now.items nodes c.args.node c.in-Some.host.now
+    c.drain.new.self refusals.drain_refusal c.drain.result (does.WantsMoves g.B.Lockstep.machine c.args.turns) (does.Emptied g.B.Lockstep.machine c.args.turns) are
     (slice_get_read c.args.hosts.now.items (length c.args.hosts.now.items) c.args.node c.in-Some.host.now refl
     c.in-Some.ensures.item.3.0 c.in-Some.ensures.value) c.drain.ensures.answer
 
@@ -21,6 +21,6 @@ returns-in-Some-clause-spares g c =
 
 pub returns-in-None-clause-answer : goal.returns-in-None-clause-answer
 returns-in-None-clause-answer g c = λ nodes are.
-    no_host g.B.Lockstep.state g.B.Lockstep.machine c.args.hosts.now.items nodes c.args.node
-    refusals.drain_refusal (does.Emptied g.B.Lockstep.machine c.args.turns) are
+    wants_no_host g.B.Lockstep.state g.B.Lockstep.machine c.args.hosts.now.items nodes c.args.node
+    refusals.drain_refusal (does.WantsMoves g.B.Lockstep.machine c.args.turns) (does.Emptied g.B.Lockstep.machine c.args.turns) are
     (slice_get_past c.args.hosts.now.items c.args.node c.in-None.ensures.item.3)

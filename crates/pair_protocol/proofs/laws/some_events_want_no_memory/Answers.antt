@@ -1,6 +1,12 @@
 -- No refusal is want of memory, and these events may want none.
-use Rattle.pair_protocol.proofs.Wanting.{no_turns, other_entries, stops_at_steps, winners}
+use Rattle.pair_protocol.proofs.Wanting.{no_turns, other_entries, other_moves, stops_at_steps, winners}
 use Rattle.pair_protocol.proofs.laws.some_events_want_no_memory.Goals as goal
 
 pub returns : goal.returns
-returns g c = record { no_turns = no_turns; other_entries = other_entries; winners = winners; stops = stops_at_steps }
+returns g c = record {
+  no_turns = no_turns;
+  other_moves = other_moves;
+  other_entries = other_entries;
+  winners = winners;
+  stops = stops_at_steps;
+}
