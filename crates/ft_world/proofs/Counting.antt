@@ -1,5 +1,5 @@
 -- The failures that answers tell of add up: one more event adds those of its answer.
-use Rattle.std.proofs.Common.{◌≡◌, ◌<◌, ◌+◌, ◌∷◌, ◌++◌, ◌∙◌, [], List, ap, arith, get_or, length, suc, sym, take, ℕ}
+use Rattle.std.proofs.Common.{◌≡◌, ◌<◌, ◌+◌, ◌∷◌, ◌++◌, ◌∙◌, [], List, ap, arith, get_or, length, sym, take, ℕ}
 use Rattle.std.specs.Prelude.{Result}
 use Rattle.std.proofs.lemmas.List.{length-take-le, take_more}
 use Rattle.i8080_words.specs.declared.refusal.Fault.{Fault}

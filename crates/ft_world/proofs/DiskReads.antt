@@ -28,8 +28,8 @@ use Rattle.pair_protocol.specs.World.{World, sector_record, with_read}
 use Rattle.pair_protocol.proofs.Moves.{same_some}
 use Rattle.pair_protocol.proofs.Passed.{first-passed, node-passed, serving}
 use Rattle.ft_world.specs.Applies.{Applies, Shows, ShowsSome}
-use Rattle.ft_world.specs.AtHost as host
-use Rattle.ft_world.specs.AtHost.{ReadHost}
+use Rattle.ft_world.proofs.AtHosts as host
+use Rattle.ft_world.proofs.AtHosts.{ReadHost}
 use Rattle.ft_world.specs.Devices.{GetsSector}
 use Rattle.ft_world.specs.Does as does
 use Rattle.ft_world.specs.Running.{Running}

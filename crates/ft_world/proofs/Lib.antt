@@ -29,7 +29,6 @@ pub mod Settling
 pub mod Generations
 pub mod Growing
 pub mod Running
-pub mod Spares
-pub mod Refusing
+pub mod Lending
 pub mod Counting
 pub mod Choices

@@ -6,8 +6,8 @@ use Rattle.shared_disk.specs.declared.store.Record.{Record}
 use Rattle.pair_events.specs.declared.event.Event.{Event}
 use Rattle.pair_events.specs.declared.event.Event.TheVariants as event
 use Rattle.ft_world.specs.Running.{Running}
-use Rattle.ft_world.specs.declared.hosts.Host.{Host}
-use Rattle.ft_world.specs.declared.hosts.Host.TheVariants as host
+use Rattle.ft_world.specs.declared.host.Host.{Host}
+use Rattle.ft_world.specs.declared.host.Host.TheVariants as host
 
 -- what a host has for a machine that is copied there, while it has no role
 abbrev pub spare_of : {B H : Type 0} → Host B H → Option H

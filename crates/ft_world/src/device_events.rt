@@ -35,7 +35,8 @@ impl<B: Lockstep + Drop, D: SectorStore, H: Drop> Pair<B, D, H> {
         ensures spares { SpareHostsStay self.old.hosts.items self.new.hosts.items }
     {
         devices::check_device(id)?;
-        let operation = hosts::release(&self.hosts, node, id)?;
+        let station = hosts::station(&self.hosts, node)?;
+        let operation = station.node.release(id)?;
         messages::say(&mut self.messages, Message::releasing(operation))
     }
 
@@ -61,7 +62,8 @@ impl<B: Lockstep + Drop, D: SectorStore, H: Drop> Pair<B, D, H> {
         ensures spares { SpareHostsStay self.old.hosts.items self.new.hosts.items }
     {
         devices::check_accepted(&self.terminals, port, number)?;
-        hosts::sent(&mut self.hosts, node, port, number)?;
+        let station = hosts::station_mut(&mut self.hosts, node)?;
+        station.sent(port, number)?;
         Ok(Reply::Taken)
     }
 
@@ -75,7 +77,8 @@ impl<B: Lockstep + Drop, D: SectorStore, H: Drop> Pair<B, D, H> {
         if port as usize >= PORTS {
             return Err(Fault::Unknown);
         }
-        let keys = hosts::told(&self.hosts, node, port)?;
+        let station = hosts::station(&self.hosts, node)?;
+        let keys = station.node.told(port)?;
         devices::tell(&mut self.terminals, port, keys);
         Ok(Reply::Told { keys })
     }
@@ -104,7 +107,8 @@ impl<B: Lockstep + Drop, D: SectorStore, H: Drop> Pair<B, D, H> {
         let Some(number) = messages::written_in(&self.messages, message) else {
             return Err(Fault::Unknown);
         };
-        hosts::done(&mut self.hosts, node, number)?;
+        let station = hosts::station_mut(&mut self.hosts, node)?;
+        station.done(number)?;
         Ok(Reply::Taken)
     }
 
@@ -119,7 +123,8 @@ impl<B: Lockstep + Drop, D: SectorStore, H: Drop> Pair<B, D, H> {
         if sector >= SECTORS {
             return Err(Fault::Unknown);
         }
-        let address = hosts::place(&self.hosts, node, sector)?;
+        let station = hosts::station(&self.hosts, node)?;
+        let address = station.node.place(sector)?;
         devices::get(&mut self.messages, &mut self.disk, address)
     }
 
@@ -139,7 +144,8 @@ impl<B: Lockstep + Drop, D: SectorStore, H: Drop> Pair<B, D, H> {
             track: read.track,
             sector: read.sector,
         };
-        hosts::under(&mut self.hosts, node, address, read.number, read.bytes)?;
+        let station = hosts::station_mut(&mut self.hosts, node)?;
+        station.under(address, read.number, read.bytes)?;
         Ok(Reply::Taken)
     }
 }

@@ -23,7 +23,8 @@ impl<B: Lockstep + Drop, D: SectorStore, H: Drop> Pair<B, D, H> {
         ensures disk { self.new.disk ≡ self.old.disk }
         ensures spares { SpareHostsStay self.old.hosts.items self.new.hosts.items }
     {
-        let ran = hosts::step(&mut self.hosts, node, turns)?;
+        let station = hosts::station_mut(&mut self.hosts, node)?;
+        let ran = station.step(turns)?;
         Ok(Reply::Ran {
             steps: ran.steps,
             count: ran.count,
@@ -40,7 +41,8 @@ impl<B: Lockstep + Drop, D: SectorStore, H: Drop> Pair<B, D, H> {
         ensures spares { SpareHostsStay self.old.hosts.items self.new.hosts.items }
     {
         let byte = devices::key_at(&self.terminals, port, index)?;
-        hosts::key(&mut self.hosts, node, port, index, byte)?;
+        let station = hosts::station_mut(&mut self.hosts, node)?;
+        station.key(port, index, byte)?;
         Ok(Reply::Taken)
     }
 
@@ -51,7 +53,8 @@ impl<B: Lockstep + Drop, D: SectorStore, H: Drop> Pair<B, D, H> {
         ensures disk { self.new.disk ≡ self.old.disk }
         ensures spares { SpareHostsStay self.old.hosts.items self.new.hosts.items }
     {
-        let bytes = hosts::packet(alloc, &self.hosts, node, index)?;
+        let station = hosts::station(&self.hosts, node)?;
+        let bytes = station.node.packet(alloc, index)?;
         messages::say(&mut self.messages, Message::Log(bytes))
     }
 
@@ -65,7 +68,8 @@ impl<B: Lockstep + Drop, D: SectorStore, H: Drop> Pair<B, D, H> {
         let Some(packet) = messages::log_in(&self.messages, message) else {
             return Err(Fault::Unknown);
         };
-        if hosts::on_log(&mut self.hosts, node, packet)? {
+        let station = hosts::station_mut(&mut self.hosts, node)?;
+        if station.on_log(packet)? {
             Ok(Reply::New)
         } else {
             Ok(Reply::Old)
@@ -79,7 +83,8 @@ impl<B: Lockstep + Drop, D: SectorStore, H: Drop> Pair<B, D, H> {
         ensures disk { self.new.disk ≡ self.old.disk }
         ensures spares { SpareHostsStay self.old.hosts.items self.new.hosts.items }
     {
-        let bytes = hosts::ack(alloc, &self.hosts, node)?;
+        let station = hosts::station(&self.hosts, node)?;
+        let bytes = station.node.ack(alloc)?;
         messages::say(&mut self.messages, Message::Ack(bytes))
     }
 
@@ -93,7 +98,8 @@ impl<B: Lockstep + Drop, D: SectorStore, H: Drop> Pair<B, D, H> {
         let Some(packet) = messages::ack_in(&self.messages, message) else {
             return Err(Fault::Unknown);
         };
-        let held = hosts::on_ack(&mut self.hosts, node, packet)?;
+        let station = hosts::station_mut(&mut self.hosts, node)?;
+        let held = station.on_ack(packet)?;
         Ok(Reply::Held { held })
     }
 
@@ -105,7 +111,8 @@ impl<B: Lockstep + Drop, D: SectorStore, H: Drop> Pair<B, D, H> {
         ensures disk { self.new.disk ≡ self.old.disk }
         ensures spares { SpareHostsStay self.old.hosts.items self.new.hosts.items }
     {
-        let replayed = hosts::replay(&mut self.hosts, node, turns)?;
+        let station = hosts::station_mut(&mut self.hosts, node)?;
+        let replayed = station.replay(turns)?;
         Ok(Reply::Moved {
             moves: replayed.moves,
             at_end: replayed.at_end,
@@ -119,7 +126,8 @@ impl<B: Lockstep + Drop, D: SectorStore, H: Drop> Pair<B, D, H> {
         ensures disk { self.new.disk ≡ self.old.disk }
         ensures spares { SpareHostsStay self.old.hosts.items self.new.hosts.items }
     {
-        hosts::suspect(&mut self.hosts, node, &mut self.arbiter)?;
+        let station = hosts::station_mut(&mut self.hosts, node)?;
+        station.suspect(node, &mut self.arbiter)?;
         Ok(Reply::Won)
     }
 
@@ -131,7 +139,8 @@ impl<B: Lockstep + Drop, D: SectorStore, H: Drop> Pair<B, D, H> {
         ensures disk { self.new.disk ≡ self.old.disk }
         ensures spares { SpareHostsStay self.old.hosts.items self.new.hosts.items }
     {
-        let drained = hosts::drain(&mut self.hosts, node, turns)?;
+        let station = hosts::station_mut(&mut self.hosts, node)?;
+        let drained = station.drain(turns)?;
         let moves = drained.moves;
         if drained.alone {
             Ok(Reply::MovedAlone { moves })
@@ -150,7 +159,8 @@ impl<B: Lockstep + Drop, D: SectorStore, H: Drop> Pair<B, D, H> {
         ensures disk { self.new.disk ≡ self.old.disk }
         ensures spares { SpareHostsStay self.old.hosts.items self.new.hosts.items }
     {
-        hosts::stop(&mut self.hosts, node)?;
+        let station = hosts::station_mut(&mut self.hosts, node)?;
+        station.stop()?;
         Ok(Reply::Stopped)
     }
 }

@@ -8,9 +8,9 @@ ghost use Rattle.ft_world.specs.Beginning.{MayBegin, beginning};
 ghost use Rattle.ft_world.specs.Standing.{Course, machine_of};
 ghost use Rattle.ft_world.specs.Pairs.{running_of};
 ghost use Rattle.ft_world.specs.Staying.{SpareHostsStay};
-ghost use Rattle.ft_world.specs.declared.hosts.Host.TheVariants as host;
+ghost use Rattle.ft_world.specs.declared.host.Host.TheVariants as host;
 
-use crate::hosts::Host;
+use crate::host::Host;
 use crate::message::Message;
 use crate::room::Room;
 use arbiter_core::Arbiter;

@@ -45,7 +45,7 @@ impl<B: Lockstep + Drop, D: SectorStore, H: Drop> World<B, D, H> {
     ghost use Rattle.ft_world.specs.Standing.{Course, machine_of};
     ghost use Rattle.ft_world.specs.Staying.{SpareHostsStay};
     ghost use Rattle.ft_world.specs.Words.{IsMessage};
-    ghost use Rattle.ft_world.specs.declared.hosts.Host.TheVariants as host;
+    ghost use Rattle.ft_world.specs.declared.host.Host.TheVariants as host;
 
     /// A pair begins: nodes 0 and 1 are primary and backup of generation 1, and both guests stand alike. `OutOfMemory`
     /// hands the guests and the disk's store back.
