@@ -34,14 +34,14 @@ pub record Becomes {B H S : Type 0} (state : B → S) (M : Machine S) (nodes : L
   pub done : does x y
   pub after : AreHosts state M new (slice_set nodes n y)
 
--- the refusal of the node's part, or what the event does there; want of memory changes nothing
+-- the refusal of the node's part, or what the event does there; out of memory, nothing changes
 abbrev pub AtHost : {A B H S : Type 0} → (B → S) → Machine S → List (Node S) → ℕ → (Node S → Option Fault)
     → Result A Fault → List (Host B H) → (A → Node S → Node S → Type 0) → Type 0
 AtHost state M nodes n part result new does =
     Unless (at_node (slice_get nodes n) part) result (AreHosts state M new nodes)
     (Gives result (AreHosts state M new nodes) (λ value. Becomes state M nodes n new (does value)))
 
--- likewise, where no memory is wanted
+-- likewise, for an event that takes no memory
 abbrev pub DoesAtHost : {A B H S : Type 0} → (B → S) → Machine S → List (Node S) → ℕ → (Node S → Option Fault)
     → Result A Fault → List (Host B H) → (A → Node S → Node S → Type 0) → Type 0
 DoesAtHost state M nodes n part result new does =
@@ -60,7 +60,7 @@ AskHost nodes n part result says =
     Unless (at_node (slice_get nodes n) part) result (Unit {0})
     (Gives result (Unit {0}) (λ value. Says nodes n (says value)))
 
--- likewise, where no memory is wanted
+-- likewise, for an event that takes no memory
 abbrev pub ReadHost : {A S : Type 0} → List (Node S) → ℕ → (Node S → Option Fault) → Result A Fault
     → (A → Node S → Type 0) → Type 0
 ReadHost nodes n part result says =
@@ -177,7 +177,7 @@ module _ {B H D S : Type 0} {state : B → S} {M : Machine S} {records : D → L
         })
         (says x is))
 
-    -- likewise, where no memory is wanted
+    -- likewise, for an event that takes no memory
     pub does_at_host : {A : Type 0} (part : Node S → Option Fault) (result : Result A Fault)
         (does : A → Node S → Node S → Type 0)
         → ((x : Node S) → IsStation state M here x → DoesAtStation (part x) result x (IsStation state M s) does)
@@ -239,7 +239,7 @@ module _ {B H D S : Type 0} {state : B → S} {M : Machine S} {records : D → L
         (λ x there is. maps (part x) result (Unit {0}) (Unit {0}) (λ v. says v x) (λ v. Says c.world.nodes n (says v)) (λ p. p)
         (λ v none s. record { x = x; there = there; said = s }) (answers x is.node))
 
-    -- likewise, where no memory is wanted
+    -- likewise, for an event that takes no memory
     pub reads_host : {A : Type 0} (part : Node S → Option Fault) (result : Result A Fault)
         (says : A → Node S → Type 0)
         → ((x : Node S) → IsNode state M here.node x

@@ -25,6 +25,7 @@ pub mod AtDisk
 pub mod Reading
 pub mod Hosting
 pub mod DiskReads
+pub mod Refusing
 pub mod Settling
 pub mod Generations
 pub mod Growing

@@ -10,13 +10,13 @@ pub record Makes {S : Type 0} (x : Node S) (Is : Node S → Type 0) (does : Node
   pub done : does x y
   pub after : Is y
 
--- the refusal of the node's part, or what the event does there; want of memory changes nothing
+-- the refusal of the node's part, or what the event does there; out of memory, nothing changes
 abbrev pub AtStation : {A S : Type 0} → Option Fault → Result A Fault → Node S → (Node S → Type 0)
     → (A → Node S → Node S → Type 0) → Type 0
 AtStation refusal result x Is does =
     Unless refusal result (Is x) (Gives result (Is x) (λ value. Makes x Is (does value)))
 
--- likewise, where no memory is wanted
+-- likewise, for an event that takes no memory
 abbrev pub DoesAtStation : {A S : Type 0} → Option Fault → Result A Fault → Node S → (Node S → Type 0)
     → (A → Node S → Node S → Type 0) → Type 0
 DoesAtStation refusal result x Is does =

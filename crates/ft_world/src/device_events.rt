@@ -1,9 +1,9 @@
 //! The events at terminals and at the disk, and what nodes hear from them.
-ghost use Rattle.std.specs.Prelude.{◌≡◌, ◌+◌};
+ghost use Rattle.std.specs.Prelude.{◌≡◌, ◌+◌, IfErr, OnErr};
 ghost use Rattle.shared_disk.specs.Records.{faults_in};
 ghost use Rattle.ft_world.specs.Applies.{Happens, ShowsSome};
 ghost use Rattle.ft_world.specs.Pairs.{running_of};
-ghost use Rattle.ft_world.specs.Staying.{SpareHostsStay};
+ghost use Rattle.ft_world.specs.Staying.{SpareHostsStay, Stays};
 ghost use Rattle.pair_events.specs.declared.event.Event.TheVariants as happens;
 
 use crate::message::Message;
@@ -22,6 +22,7 @@ impl<B: Lockstep + Drop, D: SectorStore, H: Drop> Pair<B, D, H> {
         ensures row { Happens B.state B.machine D.records (running_of self.old) (happens.TypeByte port byte) result
             (running_of self.new) }
         ensures disk { self.new.disk ≡ self.old.disk }
+        ensures unchanged { OnErr result (running_of self.new ≡ running_of self.old) }
         ensures spares { SpareHostsStay self.old.hosts.items self.new.hosts.items }
     {
         devices::type_byte(&mut self.terminals, port, byte)
@@ -32,6 +33,7 @@ impl<B: Lockstep + Drop, D: SectorStore, H: Drop> Pair<B, D, H> {
         ensures row { Happens B.state B.machine D.records (running_of self.old) (happens.Release node id) result
             (running_of self.new) }
         ensures disk { self.new.disk ≡ self.old.disk }
+        ensures unchanged { OnErr result (running_of self.new ≡ running_of self.old) }
         ensures spares { SpareHostsStay self.old.hosts.items self.new.hosts.items }
     {
         devices::check_device(id)?;
@@ -45,6 +47,7 @@ impl<B: Lockstep + Drop, D: SectorStore, H: Drop> Pair<B, D, H> {
         ensures row { Happens B.state B.machine D.records (running_of self.old) (happens.Arrive message) result
             (running_of self.new) }
         ensures disk { self.new.disk ≡ self.old.disk }
+        ensures unchanged { OnErr result (running_of self.new ≡ running_of self.old) }
         ensures spares { SpareHostsStay self.old.hosts.items self.new.hosts.items }
     {
         let Some((port, number, byte)) = messages::byte_in(&self.messages, message) else {
@@ -59,6 +62,7 @@ impl<B: Lockstep + Drop, D: SectorStore, H: Drop> Pair<B, D, H> {
         ensures row { Happens B.state B.machine D.records (running_of self.old) (happens.TellSent node port number)
             result (running_of self.new) }
         ensures disk { self.new.disk ≡ self.old.disk }
+        ensures unchanged { OnErr result (running_of self.new ≡ running_of self.old) }
         ensures spares { SpareHostsStay self.old.hosts.items self.new.hosts.items }
     {
         devices::check_accepted(&self.terminals, port, number)?;
@@ -72,6 +76,7 @@ impl<B: Lockstep + Drop, D: SectorStore, H: Drop> Pair<B, D, H> {
         ensures row { Happens B.state B.machine D.records (running_of self.old) (happens.Told node port) result
             (running_of self.new) }
         ensures disk { self.new.disk ≡ self.old.disk }
+        ensures unchanged { OnErr result (running_of self.new ≡ running_of self.old) }
         ensures spares { SpareHostsStay self.old.hosts.items self.new.hosts.items }
     {
         if port as usize >= PORTS {
@@ -85,9 +90,12 @@ impl<B: Lockstep + Drop, D: SectorStore, H: Drop> Pair<B, D, H> {
 
     /// A released write comes to the shared disk.
     pub(crate) fn put(&mut self, message: u64) -> R<Reply>
+        requires shown { ShowsSome B.state B.machine D.records (running_of self.old) }
         ensures row { Happens B.state B.machine D.records (running_of self.old) (happens.Put message) result
             (running_of self.new) }
         ensures counted { D.failures self.new.disk ≡ D.failures self.old.disk + faults_in result }
+        ensures unchanged { IfErr result (λ fault. Stays D.records (happens.Put message) fault (running_of self.old)
+            (running_of self.new)) }
         ensures spares { SpareHostsStay self.old.hosts.items self.new.hosts.items }
     {
         let Some(write) = messages::write_in(&self.messages, message) else {
@@ -102,6 +110,7 @@ impl<B: Lockstep + Drop, D: SectorStore, H: Drop> Pair<B, D, H> {
         ensures row { Happens B.state B.machine D.records (running_of self.old) (happens.PutReply message node) result
             (running_of self.new) }
         ensures disk { self.new.disk ≡ self.old.disk }
+        ensures unchanged { OnErr result (running_of self.new ≡ running_of self.old) }
         ensures spares { SpareHostsStay self.old.hosts.items self.new.hosts.items }
     {
         let Some(number) = messages::written_in(&self.messages, message) else {
@@ -114,10 +123,12 @@ impl<B: Lockstep + Drop, D: SectorStore, H: Drop> Pair<B, D, H> {
 
     /// A node reads a sector of its selected drive.
     pub(crate) fn get(&mut self, node: u64, sector: u8) -> R<Reply>
+        requires shown { ShowsSome B.state B.machine D.records (running_of self.old) }
         ensures row { Happens B.state B.machine D.records (running_of self.old) (happens.Get node sector) result
             (running_of self.new) }
-        ensures counted { ShowsSome B.state B.machine D.records (running_of self.old)
-            → D.failures self.new.disk ≡ D.failures self.old.disk + faults_in result }
+        ensures counted { D.failures self.new.disk ≡ D.failures self.old.disk + faults_in result }
+        ensures unchanged { IfErr result (λ fault. Stays D.records (happens.Get node sector) fault (running_of self.old)
+            (running_of self.new)) }
         ensures spares { SpareHostsStay self.old.hosts.items self.new.hosts.items }
     {
         if sector >= SECTORS {
@@ -134,6 +145,7 @@ impl<B: Lockstep + Drop, D: SectorStore, H: Drop> Pair<B, D, H> {
         ensures row { Happens B.state B.machine D.records (running_of self.old) (happens.GetReply message node) result
             (running_of self.new) }
         ensures disk { self.new.disk ≡ self.old.disk }
+        ensures unchanged { OnErr result (running_of self.new ≡ running_of self.old) }
         ensures spares { SpareHostsStay self.old.hosts.items self.new.hosts.items }
     {
         let Some(read) = messages::sector_in(&self.messages, message) else {

@@ -18,7 +18,7 @@ pub enum Host<B, H> {
 }
 
 impl<B: Drop, H: Drop> Host<B, H> {
-    // The station of a node. `Unknown` at a spare host.
+    // The station, if this is a node; `Unknown` if it is spare.
     pub(crate) fn station_mut(&mut self) -> R<&mut Station<B>>
         ensures* lends { sem 𝓛 (LendsIfOk (the_host.the_row B.row H.row) (the_station.the_row B.row) self.entry result
             (λ station. host.Node station) self.old) }

@@ -25,7 +25,7 @@ pub struct NodeStatus {
     pub count: u64,
 }
 
-/// The station of a number, where an event comes to. `Unknown` where there is no node of that number.
+/// The station of a number, for an event that comes to it. `Unknown` if no node has this number.
 pub(crate) fn station_mut<B: Lockstep + Drop, H: Drop>(
     hosts: &mut Vec<Host<B, H>>,
     node: u64,
@@ -41,7 +41,7 @@ pub(crate) fn station_mut<B: Lockstep + Drop, H: Drop>(
     }
 }
 
-/// The station of a number, to be asked. `Unknown` where there is no node of that number.
+/// The station of a number, to look at. `Unknown` if no node has this number.
 pub(crate) fn station<B: Lockstep + Drop, H: Drop>(
     hosts: &Vec<Host<B, H>>,
     node: u64,

@@ -1,8 +1,8 @@
 //! The events at a node alone.
-ghost use Rattle.std.specs.Prelude.{◌≡◌};
+ghost use Rattle.std.specs.Prelude.{◌≡◌, IfErr, OnErr};
 ghost use Rattle.ft_world.specs.Applies.{Happens, ShowsSome};
 ghost use Rattle.ft_world.specs.Pairs.{running_of};
-ghost use Rattle.ft_world.specs.Staying.{SpareHostsStay};
+ghost use Rattle.ft_world.specs.Staying.{SpareHostsStay, Stays};
 ghost use Rattle.pair_events.specs.declared.event.Event.TheVariants as happens;
 
 use crate::message::Message;
@@ -21,6 +21,7 @@ impl<B: Lockstep + Drop, D: SectorStore, H: Drop> Pair<B, D, H> {
         ensures row { Happens B.state B.machine D.records (running_of self.old) (happens.Step node turns) result
             (running_of self.new) }
         ensures disk { self.new.disk ≡ self.old.disk }
+        ensures unchanged { OnErr result (running_of self.new ≡ running_of self.old) }
         ensures spares { SpareHostsStay self.old.hosts.items self.new.hosts.items }
     {
         let station = hosts::station_mut(&mut self.hosts, node)?;
@@ -38,6 +39,7 @@ impl<B: Lockstep + Drop, D: SectorStore, H: Drop> Pair<B, D, H> {
         ensures row { Happens B.state B.machine D.records (running_of self.old) (happens.TakeKey node port index) result
             (running_of self.new) }
         ensures disk { self.new.disk ≡ self.old.disk }
+        ensures unchanged { OnErr result (running_of self.new ≡ running_of self.old) }
         ensures spares { SpareHostsStay self.old.hosts.items self.new.hosts.items }
     {
         let byte = devices::key_at(&self.terminals, port, index)?;
@@ -51,6 +53,7 @@ impl<B: Lockstep + Drop, D: SectorStore, H: Drop> Pair<B, D, H> {
         ensures row { Happens B.state B.machine D.records (running_of self.old) (happens.Send node index) result
             (running_of self.new) }
         ensures disk { self.new.disk ≡ self.old.disk }
+        ensures unchanged { OnErr result (running_of self.new ≡ running_of self.old) }
         ensures spares { SpareHostsStay self.old.hosts.items self.new.hosts.items }
     {
         let station = hosts::station(&self.hosts, node)?;
@@ -63,6 +66,7 @@ impl<B: Lockstep + Drop, D: SectorStore, H: Drop> Pair<B, D, H> {
         ensures row { Happens B.state B.machine D.records (running_of self.old) (happens.DeliverLog message node) result
             (running_of self.new) }
         ensures disk { self.new.disk ≡ self.old.disk }
+        ensures unchanged { OnErr result (running_of self.new ≡ running_of self.old) }
         ensures spares { SpareHostsStay self.old.hosts.items self.new.hosts.items }
     {
         let Some(packet) = messages::log_in(&self.messages, message) else {
@@ -81,6 +85,7 @@ impl<B: Lockstep + Drop, D: SectorStore, H: Drop> Pair<B, D, H> {
         ensures row { Happens B.state B.machine D.records (running_of self.old) (happens.Acknowledge node) result
             (running_of self.new) }
         ensures disk { self.new.disk ≡ self.old.disk }
+        ensures unchanged { OnErr result (running_of self.new ≡ running_of self.old) }
         ensures spares { SpareHostsStay self.old.hosts.items self.new.hosts.items }
     {
         let station = hosts::station(&self.hosts, node)?;
@@ -93,6 +98,7 @@ impl<B: Lockstep + Drop, D: SectorStore, H: Drop> Pair<B, D, H> {
         ensures row { Happens B.state B.machine D.records (running_of self.old)
             (happens.DeliverAcknowledgement message node) result (running_of self.new) }
         ensures disk { self.new.disk ≡ self.old.disk }
+        ensures unchanged { OnErr result (running_of self.new ≡ running_of self.old) }
         ensures spares { SpareHostsStay self.old.hosts.items self.new.hosts.items }
     {
         let Some(packet) = messages::ack_in(&self.messages, message) else {
@@ -109,6 +115,7 @@ impl<B: Lockstep + Drop, D: SectorStore, H: Drop> Pair<B, D, H> {
         ensures row { Happens B.state B.machine D.records (running_of self.old) (happens.Replay node turns) result
             (running_of self.new) }
         ensures disk { self.new.disk ≡ self.old.disk }
+        ensures unchanged { OnErr result (running_of self.new ≡ running_of self.old) }
         ensures spares { SpareHostsStay self.old.hosts.items self.new.hosts.items }
     {
         let station = hosts::station_mut(&mut self.hosts, node)?;
@@ -121,9 +128,12 @@ impl<B: Lockstep + Drop, D: SectorStore, H: Drop> Pair<B, D, H> {
 
     /// A node asks the arbiter for its generation.
     pub(crate) fn suspect(&mut self, node: u64) -> R<Reply>
+        requires shown { ShowsSome B.state B.machine D.records (running_of self.old) }
         ensures row { Happens B.state B.machine D.records (running_of self.old) (happens.Suspect node) result
             (running_of self.new) }
         ensures disk { self.new.disk ≡ self.old.disk }
+        ensures unchanged { IfErr result (λ fault. Stays D.records (happens.Suspect node) fault (running_of self.old)
+            (running_of self.new)) }
         ensures spares { SpareHostsStay self.old.hosts.items self.new.hosts.items }
     {
         let station = hosts::station_mut(&mut self.hosts, node)?;
@@ -137,6 +147,7 @@ impl<B: Lockstep + Drop, D: SectorStore, H: Drop> Pair<B, D, H> {
         ensures row { Happens B.state B.machine D.records (running_of self.old) (happens.Drain node turns) result
             (running_of self.new) }
         ensures disk { self.new.disk ≡ self.old.disk }
+        ensures unchanged { OnErr result (running_of self.new ≡ running_of self.old) }
         ensures spares { SpareHostsStay self.old.hosts.items self.new.hosts.items }
     {
         let station = hosts::station_mut(&mut self.hosts, node)?;
@@ -157,6 +168,7 @@ impl<B: Lockstep + Drop, D: SectorStore, H: Drop> Pair<B, D, H> {
         ensures row { Happens B.state B.machine D.records (running_of self.old) (happens.Stop node) result
             (running_of self.new) }
         ensures disk { self.new.disk ≡ self.old.disk }
+        ensures unchanged { OnErr result (running_of self.new ≡ running_of self.old) }
         ensures spares { SpareHostsStay self.old.hosts.items self.new.hosts.items }
     {
         let station = hosts::station_mut(&mut self.hosts, node)?;

@@ -23,25 +23,27 @@ returns-in_err-station-clause-row g c = λ course h.
     hands_on c.from_residual.result c.in_err-station.field-0.0 c.from_residual.ensures.1
     (hears_refused g.B.Lockstep.state g.B.Lockstep.machine g.D.SectorStore.records (running_of c.args.self.now) course
     c.args.message c.args.node c.in-Some.packet.now c.in_err-station.field-0.0
-    c.station_mut.follows.lender-at-none.items brings h (no_host h _ c.args.node _ _ _
-    c.in_err-station.ensures.absent.0 c.in_err-station.ensures.absent.1 (same_hosts h _ (rw c.in_err-station.was at
-    c.station_mut.follows.holds-at-none))))
+    c.station_mut.follows.lender-at-none.items brings h
+    (no_host h _ c.args.node _ _ _ c.in_err-station.ensures.absent.0 c.in_err-station.ensures.absent.1
+    (same_hosts h _ (rw c.in_err-station.was at c.station_mut.follows.holds-at-none))))
 
 pub returns-in_err-held-clause-row : goal.returns-in_err-held-clause-row
 returns-in_err-held-clause-row g c = λ course h.
     let brings : option_and_then ack_of (slice_get c.args.self.now.messages.items c.args.message) ≡ Some c.in-Some.packet.now = sym c.in-Some.ensures in
     hands_on c.from_residual-in_err-held.result c.in_err-held.field-0.0 c.from_residual-in_err-held.ensures.1
     (hears_refused g.B.Lockstep.state g.B.Lockstep.machine g.D.SectorStore.records (running_of c.args.self.now) course
-    c.args.message c.args.node c.in-Some.packet.now c.in_err-held.field-0.0 (c.station_mut.follows.lender
-    c.on_ack.new.self).items brings h (does_at_host h c.in_ok-station.ensures.found (c.station_mut.follows.holds
-    c.on_ack.new.self (ap is_ok c.in_ok-station.was)) _ _ (does.Heard (packet_at c.in-Some.packet.now))
-    c.in_err-held.ensures.answer))
+    c.args.message c.args.node c.in-Some.packet.now c.in_err-held.field-0.0
+    (c.station_mut.follows.lender c.on_ack.new.self).items brings h
+    (does_at_host h c.in_ok-station.ensures.found
+    (c.station_mut.follows.holds c.on_ack.new.self (ap is_ok c.in_ok-station.was)) _ _
+    (does.Heard (packet_at c.in-Some.packet.now)) c.in_err-held.ensures.answer))
 
 pub returns-clause-row : goal.returns-clause-row
 returns-clause-row g c = λ course h.
     let brings : option_and_then ack_of (slice_get c.args.self.now.messages.items c.args.message) ≡ Some c.in-Some.packet.now = sym c.in-Some.ensures in
     hears_applies g.B.Lockstep.state g.B.Lockstep.machine g.D.SectorStore.records (running_of c.args.self.now) course
-    c.args.message c.args.node c.in-Some.packet.now c.in_ok-held.held (c.station_mut.follows.lender
-    c.on_ack.new.self).items brings h (does_at_host h c.in_ok-station.ensures.found (c.station_mut.follows.holds
-    c.on_ack.new.self (ap is_ok c.in_ok-station.was)) _ _ (does.Heard (packet_at c.in-Some.packet.now))
-    c.in_ok-held.ensures.answer)
+    c.args.message c.args.node c.in-Some.packet.now c.in_ok-held.held
+    (c.station_mut.follows.lender c.on_ack.new.self).items brings h
+    (does_at_host h c.in_ok-station.ensures.found
+    (c.station_mut.follows.holds c.on_ack.new.self (ap is_ok c.in_ok-station.was)) _ _
+    (does.Heard (packet_at c.in-Some.packet.now)) c.in_ok-held.ensures.answer)

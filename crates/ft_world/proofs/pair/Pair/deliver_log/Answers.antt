@@ -26,19 +26,20 @@ returns-in_err-station-clause-row g c = λ course h.
     hands_on c.from_residual.result c.in_err-station.field-0.0 c.from_residual.ensures.1
     (delivers_refused g.B.Lockstep.state g.B.Lockstep.machine g.D.SectorStore.records (running_of c.args.self.now)
     course c.args.message c.args.node c.in-Some.packet.now c.in_err-station.field-0.0
-    c.station_mut.follows.lender-at-none.items brings h (no_host h _ c.args.node _ _ _
-    c.in_err-station.ensures.absent.0 c.in_err-station.ensures.absent.1 (same_hosts h _ (rw c.in_err-station.was at
-    c.station_mut.follows.holds-at-none))))
+    c.station_mut.follows.lender-at-none.items brings h
+    (no_host h _ c.args.node _ _ _ c.in_err-station.ensures.absent.0 c.in_err-station.ensures.absent.1
+    (same_hosts h _ (rw c.in_err-station.was at c.station_mut.follows.holds-at-none))))
 
 pub returns-in_err-on_log-clause-row : goal.returns-in_err-on_log-clause-row
 returns-in_err-on_log-clause-row g c = λ course h.
     let brings : option_and_then log_of (slice_get c.args.self.now.messages.items c.args.message) ≡ Some c.in-Some.packet.now = sym c.in-Some.ensures in
     hands_on c.from_residual-in_err-on_log.result c.in_err-on_log.field-0.0 c.from_residual-in_err-on_log.ensures.1
     (delivers_refused g.B.Lockstep.state g.B.Lockstep.machine g.D.SectorStore.records (running_of c.args.self.now)
-    course c.args.message c.args.node c.in-Some.packet.now c.in_err-on_log.field-0.0 (c.station_mut.follows.lender
-    c.on_log.new.self).items brings h (at_host h c.in_ok-station.ensures.found (c.station_mut.follows.holds
-    c.on_log.new.self (ap is_ok c.in_ok-station.was)) _ _ (does.Held (packet_at c.in-Some.packet.now))
-    c.in_err-on_log.ensures.answer))
+    course c.args.message c.args.node c.in-Some.packet.now c.in_err-on_log.field-0.0
+    (c.station_mut.follows.lender c.on_log.new.self).items brings h
+    (at_host h c.in_ok-station.ensures.found
+    (c.station_mut.follows.holds c.on_log.new.self (ap is_ok c.in_ok-station.was)) _ _
+    (does.Held (packet_at c.in-Some.packet.now)) c.in_err-on_log.ensures.answer))
 
 pub returns-then-branch-clause-row : goal.returns-then-branch-clause-row
 returns-then-branch-clause-row g c = λ course h.
@@ -48,10 +49,11 @@ returns-then-branch-clause-row g c = λ course h.
     (event.DeliverLog c.args.message c.args.node) (Ok (cond b reply.New reply.Old))
     (record (running_of c.args.self.now) { hosts = (c.station_mut.follows.lender c.on_log.new.self).items })) c.if-branch.true
     (delivers_applies g.B.Lockstep.state g.B.Lockstep.machine g.D.SectorStore.records (running_of c.args.self.now)
-    course c.args.message c.args.node c.in-Some.packet.now c.in_ok-on_log.field-0 (c.station_mut.follows.lender
-    c.on_log.new.self).items brings h (at_host h c.in_ok-station.ensures.found (c.station_mut.follows.holds
-    c.on_log.new.self (ap is_ok c.in_ok-station.was)) _ _ (does.Held (packet_at c.in-Some.packet.now))
-    c.in_ok-on_log.ensures.answer))
+    course c.args.message c.args.node c.in-Some.packet.now c.in_ok-on_log.field-0
+    (c.station_mut.follows.lender c.on_log.new.self).items brings h
+    (at_host h c.in_ok-station.ensures.found
+    (c.station_mut.follows.holds c.on_log.new.self (ap is_ok c.in_ok-station.was)) _ _
+    (does.Held (packet_at c.in-Some.packet.now)) c.in_ok-on_log.ensures.answer))
 
 pub returns-else-branch-clause-row : goal.returns-else-branch-clause-row
 returns-else-branch-clause-row g c = λ course h.
@@ -61,7 +63,8 @@ returns-else-branch-clause-row g c = λ course h.
     (event.DeliverLog c.args.message c.args.node) (Ok (cond b reply.New reply.Old))
     (record (running_of c.args.self.now) { hosts = (c.station_mut.follows.lender c.on_log.new.self).items })) c.if-branch.false
     (delivers_applies g.B.Lockstep.state g.B.Lockstep.machine g.D.SectorStore.records (running_of c.args.self.now)
-    course c.args.message c.args.node c.in-Some.packet.now c.in_ok-on_log.field-0 (c.station_mut.follows.lender
-    c.on_log.new.self).items brings h (at_host h c.in_ok-station.ensures.found (c.station_mut.follows.holds
-    c.on_log.new.self (ap is_ok c.in_ok-station.was)) _ _ (does.Held (packet_at c.in-Some.packet.now))
-    c.in_ok-on_log.ensures.answer))
+    course c.args.message c.args.node c.in-Some.packet.now c.in_ok-on_log.field-0
+    (c.station_mut.follows.lender c.on_log.new.self).items brings h
+    (at_host h c.in_ok-station.ensures.found
+    (c.station_mut.follows.holds c.on_log.new.self (ap is_ok c.in_ok-station.was)) _ _
+    (does.Held (packet_at c.in-Some.packet.now)) c.in_ok-on_log.ensures.answer))

@@ -19,17 +19,18 @@ pub returns-in_err-station-clause-row : goal.returns-in_err-station-clause-row
 returns-in_err-station-clause-row g c = λ course h.
     hands_on c.from_residual.result c.in_err-station.field-0.0 c.from_residual.ensures.1
     (drains_refused g.B.Lockstep.state g.B.Lockstep.machine g.D.SectorStore.records (running_of c.args.self.now)
-    course c.args.node c.args.turns c.in_err-station.field-0.0 c.station_mut.follows.lender-at-none.items h (no_host h
-    _ c.args.node _ _ _ c.in_err-station.ensures.absent.0 c.in_err-station.ensures.absent.1 (same_hosts h _ (rw
-    c.in_err-station.was at c.station_mut.follows.holds-at-none))))
+    course c.args.node c.args.turns c.in_err-station.field-0.0 c.station_mut.follows.lender-at-none.items h
+    (no_host h _ c.args.node _ _ _ c.in_err-station.ensures.absent.0 c.in_err-station.ensures.absent.1
+    (same_hosts h _ (rw c.in_err-station.was at c.station_mut.follows.holds-at-none))))
 
 pub returns-in_err-drained-clause-row : goal.returns-in_err-drained-clause-row
 returns-in_err-drained-clause-row g c = λ course h.
     hands_on c.from_residual-in_err-drained.result c.in_err-drained.field-0.0 c.from_residual-in_err-drained.ensures.1
     (drains_refused g.B.Lockstep.state g.B.Lockstep.machine g.D.SectorStore.records (running_of c.args.self.now)
     course c.args.node c.args.turns c.in_err-drained.field-0.0 (c.station_mut.follows.lender c.drain.new.self).items h
-    (at_host h c.in_ok-station.ensures.found (c.station_mut.follows.holds c.drain.new.self (ap is_ok
-    c.in_ok-station.was)) _ _ (does.Emptied g.B.Lockstep.machine c.args.turns) c.in_err-drained.ensures.answer))
+    (at_host h c.in_ok-station.ensures.found
+    (c.station_mut.follows.holds c.drain.new.self (ap is_ok c.in_ok-station.was)) _ _
+    (does.Emptied g.B.Lockstep.machine c.args.turns) c.in_err-drained.ensures.answer))
 
 pub returns-then-drained-clause-row : goal.returns-then-drained-clause-row
 returns-then-drained-clause-row g c = λ course h.
@@ -39,8 +40,9 @@ returns-then-drained-clause-row g c = λ course h.
     (event.Drain c.args.node c.args.turns) (Ok (cond b (reply.MovedAlone d.moves) (reply.Moved d.moves false)))
     (record (running_of c.args.self.now) { hosts = (c.station_mut.follows.lender c.drain.new.self).items })) c.if-drained.true
     (drains_applies g.B.Lockstep.state g.B.Lockstep.machine g.D.SectorStore.records (running_of c.args.self.now)
-    course c.args.node c.args.turns d (c.station_mut.follows.lender c.drain.new.self).items h (at_host h
-    c.in_ok-station.ensures.found (c.station_mut.follows.holds c.drain.new.self (ap is_ok c.in_ok-station.was)) _ _
+    course c.args.node c.args.turns d (c.station_mut.follows.lender c.drain.new.self).items h
+    (at_host h c.in_ok-station.ensures.found
+    (c.station_mut.follows.holds c.drain.new.self (ap is_ok c.in_ok-station.was)) _ _
     (does.Emptied g.B.Lockstep.machine c.args.turns) c.in_ok-drained.ensures.answer))
 
 pub returns-else-drained-clause-row : goal.returns-else-drained-clause-row
@@ -51,6 +53,7 @@ returns-else-drained-clause-row g c = λ course h.
     (event.Drain c.args.node c.args.turns) (Ok (cond b (reply.MovedAlone d.moves) (reply.Moved d.moves false)))
     (record (running_of c.args.self.now) { hosts = (c.station_mut.follows.lender c.drain.new.self).items })) c.if-drained.false
     (drains_applies g.B.Lockstep.state g.B.Lockstep.machine g.D.SectorStore.records (running_of c.args.self.now)
-    course c.args.node c.args.turns d (c.station_mut.follows.lender c.drain.new.self).items h (at_host h
-    c.in_ok-station.ensures.found (c.station_mut.follows.holds c.drain.new.self (ap is_ok c.in_ok-station.was)) _ _
+    course c.args.node c.args.turns d (c.station_mut.follows.lender c.drain.new.self).items h
+    (at_host h c.in_ok-station.ensures.found
+    (c.station_mut.follows.holds c.drain.new.self (ap is_ok c.in_ok-station.was)) _ _
     (does.Emptied g.B.Lockstep.machine c.args.turns) c.in_ok-drained.ensures.answer))

@@ -23,7 +23,8 @@ returns-in_err-station-clause-row g c = λ course h.
     hands_on c.from_residual.result c.in_err-station.field-0.0 c.from_residual.ensures.1
     (done_refused g.B.Lockstep.state g.B.Lockstep.machine g.D.SectorStore.records (running_of c.args.self.now) course
     c.args.message c.args.node c.in-Some.number c.in_err-station.field-0.0 c.station_mut.follows.lender-at-none.items
-    brings h (no_host h _ c.args.node _ _ _ c.in_err-station.ensures.absent.0 c.in_err-station.ensures.absent.1
+    brings h
+    (no_host h _ c.args.node _ _ _ c.in_err-station.ensures.absent.0 c.in_err-station.ensures.absent.1
     (same_hosts h _ (rw c.in_err-station.was at c.station_mut.follows.holds-at-none))))
 
 pub returns-in_err-done-clause-row : goal.returns-in_err-done-clause-row
@@ -31,15 +32,17 @@ returns-in_err-done-clause-row g c = λ course h.
     let brings : option_and_then written_of (slice_get c.args.self.now.messages.items c.args.message) ≡ Some c.in-Some.number = (cc) in
     hands_on c.from_residual-in_err-done.result c.in_err-done.field-0.0 c.from_residual-in_err-done.ensures.1
     (done_refused g.B.Lockstep.state g.B.Lockstep.machine g.D.SectorStore.records (running_of c.args.self.now) course
-    c.args.message c.args.node c.in-Some.number c.in_err-done.field-0.0 (c.station_mut.follows.lender
-    c.done.new.self).items brings h (at_host h c.in_ok-station.ensures.found (c.station_mut.follows.holds
-    c.done.new.self (ap is_ok c.in_ok-station.was)) _ _ (does.Took g.B.Lockstep.machine (input.Written
-    c.in-Some.number)) c.in_err-done.ensures.answer))
+    c.args.message c.args.node c.in-Some.number c.in_err-done.field-0.0
+    (c.station_mut.follows.lender c.done.new.self).items brings h
+    (at_host h c.in_ok-station.ensures.found
+    (c.station_mut.follows.holds c.done.new.self (ap is_ok c.in_ok-station.was)) _ _
+    (does.Took g.B.Lockstep.machine (input.Written c.in-Some.number)) c.in_err-done.ensures.answer))
 
 pub returns-clause-row : goal.returns-clause-row
 returns-clause-row g c = λ course h.
     let brings : option_and_then written_of (slice_get c.args.self.now.messages.items c.args.message) ≡ Some c.in-Some.number = (cc) in
     done_applies g.B.Lockstep.state g.B.Lockstep.machine g.D.SectorStore.records (running_of c.args.self.now) course
-    c.args.message c.args.node c.in-Some.number (c.station_mut.follows.lender c.done.new.self).items brings h (at_host
-    h c.in_ok-station.ensures.found (c.station_mut.follows.holds c.done.new.self (ap is_ok c.in_ok-station.was)) _ _
+    c.args.message c.args.node c.in-Some.number (c.station_mut.follows.lender c.done.new.self).items brings h
+    (at_host h c.in_ok-station.ensures.found
+    (c.station_mut.follows.holds c.done.new.self (ap is_ok c.in_ok-station.was)) _ _
     (does.Took g.B.Lockstep.machine (input.Written c.in-Some.number)) c.in_ok-done.ensures.answer)

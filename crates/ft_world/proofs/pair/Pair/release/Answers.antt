@@ -19,8 +19,8 @@ returns-in_err-station-clause-row g c = λ course h.
     hands_on c.from_residual-in_err-station.result c.in_err-station.field-0.0 c.from_residual-in_err-station.ensures.1
     (releases_refused g.B.Lockstep.state g.B.Lockstep.machine g.D.SectorStore.records (running_of c.args.self.now)
     course c.args.node c.args.id c.in_ok-check_device.field-0 c.in_err-station.field-0.0 h
-    c.in_ok-check_device.ensures (no_host h _ c.args.node _ _ _ c.in_err-station.ensures.absent.0
-    c.in_err-station.ensures.absent.1 tt))
+    c.in_ok-check_device.ensures
+    (no_host h _ c.args.node _ _ _ c.in_err-station.ensures.absent.0 c.in_err-station.ensures.absent.1 tt))
 
 pub returns-in_err-operation-clause-row : goal.returns-in_err-operation-clause-row
 returns-in_err-operation-clause-row g c = λ course h.
@@ -28,14 +28,16 @@ returns-in_err-operation-clause-row g c = λ course h.
     c.from_residual-in_err-operation.ensures.1
     (releases_refused g.B.Lockstep.state g.B.Lockstep.machine g.D.SectorStore.records (running_of c.args.self.now)
     course c.args.node c.args.id c.in_ok-check_device.field-0 c.in_err-operation.field-0.0 h
-    c.in_ok-check_device.ensures (reads_host h c.args.node c.in_ok-station.station.now c.in_ok-station.ensures.found _
-    _ (does.Releases g.B.Lockstep.machine c.args.id) c.in_err-operation.ensures))
+    c.in_ok-check_device.ensures
+    (reads_host h c.args.node c.in_ok-station.station.now c.in_ok-station.ensures.found _ _
+    (does.Releases g.B.Lockstep.machine c.args.id) c.in_err-operation.ensures))
 
 pub returns-clause-row : goal.returns-clause-row
 returns-clause-row g c = λ course h.
     releases_applies g.B.Lockstep.state g.B.Lockstep.machine g.D.SectorStore.records (running_of c.args.self.now)
     course c.args.node c.args.id c.in_ok-check_device.field-0 c.in_ok-operation.operation c.say.result
-    c.say.new.messages.items h c.in_ok-check_device.ensures (reads_host h c.args.node c.in_ok-station.station.now
-    c.in_ok-station.ensures.found _ _ (does.Releases g.B.Lockstep.machine c.args.id) c.in_ok-operation.ensures) (subst
-    (λ m. Says c.args.self.now.messages.items m c.say.result c.say.new.messages.items) c.releasing.ensures
+    c.say.new.messages.items h c.in_ok-check_device.ensures
+    (reads_host h c.args.node c.in_ok-station.station.now c.in_ok-station.ensures.found _ _
+    (does.Releases g.B.Lockstep.machine c.args.id) c.in_ok-operation.ensures)
+    (subst (λ m. Says c.args.self.now.messages.items m c.say.result c.say.new.messages.items) c.releasing.ensures
     c.say.ensures)

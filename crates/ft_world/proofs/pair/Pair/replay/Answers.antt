@@ -16,9 +16,9 @@ pub returns-in_err-station-clause-row : goal.returns-in_err-station-clause-row
 returns-in_err-station-clause-row g c = λ course h.
     hands_on c.from_residual.result c.in_err-station.field-0.0 c.from_residual.ensures.1
     (replays_refused g.B.Lockstep.state g.B.Lockstep.machine g.D.SectorStore.records (running_of c.args.self.now)
-    course c.args.node c.args.turns c.in_err-station.field-0.0 c.station_mut.follows.lender-at-none.items h (no_host h
-    _ c.args.node _ _ _ c.in_err-station.ensures.absent.0 c.in_err-station.ensures.absent.1 (same_hosts h _ (rw
-    c.in_err-station.was at c.station_mut.follows.holds-at-none))))
+    course c.args.node c.args.turns c.in_err-station.field-0.0 c.station_mut.follows.lender-at-none.items h
+    (no_host h _ c.args.node _ _ _ c.in_err-station.ensures.absent.0 c.in_err-station.ensures.absent.1
+    (same_hosts h _ (rw c.in_err-station.was at c.station_mut.follows.holds-at-none))))
 
 pub returns-in_err-replayed-clause-row : goal.returns-in_err-replayed-clause-row
 returns-in_err-replayed-clause-row g c = λ course h.
@@ -26,12 +26,15 @@ returns-in_err-replayed-clause-row g c = λ course h.
     c.from_residual-in_err-replayed.ensures.1
     (replays_refused g.B.Lockstep.state g.B.Lockstep.machine g.D.SectorStore.records (running_of c.args.self.now)
     course c.args.node c.args.turns c.in_err-replayed.field-0.0 (c.station_mut.follows.lender c.replay.new.self).items
-    h (at_host h c.in_ok-station.ensures.found (c.station_mut.follows.holds c.replay.new.self (ap is_ok
-    c.in_ok-station.was)) _ _ (does.Repeated g.B.Lockstep.machine c.args.turns) c.in_err-replayed.ensures.answer))
+    h
+    (at_host h c.in_ok-station.ensures.found
+    (c.station_mut.follows.holds c.replay.new.self (ap is_ok c.in_ok-station.was)) _ _
+    (does.Repeated g.B.Lockstep.machine c.args.turns) c.in_err-replayed.ensures.answer))
 
 pub returns-clause-row : goal.returns-clause-row
 returns-clause-row g c = λ course h.
     replays_applies g.B.Lockstep.state g.B.Lockstep.machine g.D.SectorStore.records (running_of c.args.self.now)
     course c.args.node c.args.turns c.in_ok-replayed.replayed (c.station_mut.follows.lender c.replay.new.self).items h
-    (at_host h c.in_ok-station.ensures.found (c.station_mut.follows.holds c.replay.new.self (ap is_ok
-    c.in_ok-station.was)) _ _ (does.Repeated g.B.Lockstep.machine c.args.turns) c.in_ok-replayed.ensures.answer)
+    (at_host h c.in_ok-station.ensures.found
+    (c.station_mut.follows.holds c.replay.new.self (ap is_ok c.in_ok-station.was)) _ _
+    (does.Repeated g.B.Lockstep.machine c.args.turns) c.in_ok-replayed.ensures.answer)

@@ -19,23 +19,25 @@ returns-in_err-station-clause-row g c = λ course h.
     hands_on c.from_residual-in_err-station.result c.in_err-station.field-0.0 c.from_residual-in_err-station.ensures.1
     (key_refused g.B.Lockstep.state g.B.Lockstep.machine g.D.SectorStore.records (running_of c.args.self.now) course
     c.args.node c.args.port c.args.index c.in_ok-byte.byte c.in_err-station.field-0.0
-    c.station_mut.follows.lender-at-none.items h c.in_ok-byte.ensures.answer (no_host h _ c.args.node _ _ _
-    c.in_err-station.ensures.absent.0 c.in_err-station.ensures.absent.1 (same_hosts h _ (rw c.in_err-station.was at
-    c.station_mut.follows.holds-at-none))))
+    c.station_mut.follows.lender-at-none.items h c.in_ok-byte.ensures.answer
+    (no_host h _ c.args.node _ _ _ c.in_err-station.ensures.absent.0 c.in_err-station.ensures.absent.1
+    (same_hosts h _ (rw c.in_err-station.was at c.station_mut.follows.holds-at-none))))
 
 pub returns-in_err-key-clause-row : goal.returns-in_err-key-clause-row
 returns-in_err-key-clause-row g c = λ course h.
     hands_on c.from_residual-in_err-key.result c.in_err-key.field-0.0 c.from_residual-in_err-key.ensures.1
     (key_refused g.B.Lockstep.state g.B.Lockstep.machine g.D.SectorStore.records (running_of c.args.self.now) course
-    c.args.node c.args.port c.args.index c.in_ok-byte.byte c.in_err-key.field-0.0 (c.station_mut.follows.lender
-    c.key.new.self).items h c.in_ok-byte.ensures.answer (at_host h c.in_ok-station.ensures.found
-    (c.station_mut.follows.holds c.key.new.self (ap is_ok c.in_ok-station.was)) _ _ (does.Took g.B.Lockstep.machine
-    (input.Rx c.args.port c.in_ok-byte.byte)) c.in_err-key.ensures.answer))
+    c.args.node c.args.port c.args.index c.in_ok-byte.byte c.in_err-key.field-0.0
+    (c.station_mut.follows.lender c.key.new.self).items h c.in_ok-byte.ensures.answer
+    (at_host h c.in_ok-station.ensures.found
+    (c.station_mut.follows.holds c.key.new.self (ap is_ok c.in_ok-station.was)) _ _
+    (does.Took g.B.Lockstep.machine (input.Rx c.args.port c.in_ok-byte.byte)) c.in_err-key.ensures.answer))
 
 pub returns-clause-row : goal.returns-clause-row
 returns-clause-row g c = λ course h.
     key_applies g.B.Lockstep.state g.B.Lockstep.machine g.D.SectorStore.records (running_of c.args.self.now) course
     c.args.node c.args.port c.args.index c.in_ok-byte.byte (c.station_mut.follows.lender c.key.new.self).items h
-    c.in_ok-byte.ensures.answer (at_host h c.in_ok-station.ensures.found (c.station_mut.follows.holds c.key.new.self
-    (ap is_ok c.in_ok-station.was)) _ _ (does.Took g.B.Lockstep.machine (input.Rx c.args.port c.in_ok-byte.byte))
-    c.in_ok-key.ensures.answer)
+    c.in_ok-byte.ensures.answer
+    (at_host h c.in_ok-station.ensures.found
+    (c.station_mut.follows.holds c.key.new.self (ap is_ok c.in_ok-station.was)) _ _
+    (does.Took g.B.Lockstep.machine (input.Rx c.args.port c.in_ok-byte.byte)) c.in_ok-key.ensures.answer)
