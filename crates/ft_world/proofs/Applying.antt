@@ -113,3 +113,10 @@ goes_on state M records old new e answer some does =
 pub handed_on : {T : Type 0} (r : Result T Fault) (fault : Fault) → IsErrAnd r (λ e. e ≡ fault) → r ≡ Err fault
 handed_on (Ok x) fault h = absurd h
 handed_on (Err e) fault h = ap Err h
+
+-- the fault that a call hands on is the event's answer
+pub hands_on : {B H D S : Type 0} {state : B → S} {M : Machine S} {records : D → List Record} {c : Course S}
+    {e : Event} {new : Running B H D} (r : Result Reply Fault) (fault : Fault) → IsErrAnd r (λ k. k ≡ fault) →
+    Applies state M records c e (Err fault) new → Applies state M records c e r new
+hands_on {state = state} {M} {records} {c} {e} {new} r fault h a =
+    subst (λ r. Applies state M records c e r new) (sym (handed_on r fault h)) a

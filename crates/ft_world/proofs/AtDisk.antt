@@ -118,7 +118,7 @@ disk_put M drives rs puts write met d at =
 
 -- The message that brings it.
 
-brings_write : (o : Option Message) (q : Option world.Message) (write : SectorWrite) → Agree IsMessage o q →
+pub brings_write : (o : Option Message) (q : Option world.Message) (write : SectorWrite) → Agree IsMessage o q →
     option_and_then write_of o ≡ Some write → q ≡ Some (world.Released (operation.Write write))
 brings_write (Some (message.Write v)) (Some (world.Released x)) write a e =
     ap (λ y. Some (world.Released y)) (a ∙ ap operation.Write (same_some v write _ refl e))

@@ -1,6 +1,5 @@
--- What an event does at one host is what it does at its node: each other host stays, and so does each other node.
-use Rattle.std.proofs.Common.{◌≡◌, ◌∙◌, ℕ, List, Err, None, Ok, Option, Result, Some, inl, inr, refl, subst, sym}
-use Rattle.std.specs.Result.{IsErrAnd}
+-- What an event does at one host is what it does at its station: each other host stays, and so does each other node.
+use Rattle.std.proofs.Common.{◌≡◌, ℕ, List, Err, None, Ok, Option, Result, Some, inl, inr, refl, subst, sym}
 use Rattle.std.specs.Prelude.{slice_get, slice_set, if◌then◌else◌}
 use Rattle.arbiter_core.specs.Winners.{winner_of}
 use Rattle.arbiter_core.specs.declared.arbiter.Asking.{Asking}
@@ -8,169 +7,88 @@ use Rattle.arbiter_core.specs.declared.arbiter.Won.{Won}
 use Rattle.guest_board.specs.Machine.{Machine}
 use Rattle.i8080_words.specs.declared.refusal.Fault.{Fault}
 use Rattle.i8080_words.specs.declared.refusal.Fault.TheVariants.{Unknown}
+use Rattle.shared_disk.specs.declared.store.Record.{Record}
 use Rattle.pair_protocol.specs.Node.{Node, Role, Primary, Backup, Joining, Draining, Alone, Spare, halts, is_role, wins}
 use Rattle.pair_protocol.specs.Refusals.{at_node, suspect_refusal}
 use Rattle.pair_protocol.proofs.Lines.{get_set, get_set_other, same_or_not}
 use Rattle.pair_protocol.proofs.OneNode.{set_get}
-use Rattle.ft_node.specs.Calls.{Always, AskedOf, Unless, Gives}
+use Rattle.ft_node.specs.Calls.{Always, AskedOf, Asks, Unless, Gives}
 use Rattle.ft_node.specs.Seats.{IsNode}
-use Rattle.ft_world.specs.AtHost.{AskHost, Asked, AsksHost, AsksStation, AtHost, AtStation, Becomes, DoesAtHost, DoesAtStation}
-use Rattle.ft_world.specs.AtHost.{HasNoNode, Makes, ReadHost, Says, WantsAtHost, WantsAtStation}
-use Rattle.ft_world.specs.Shows.{Agree, AreHosts, IsHost}
-use Rattle.ft_world.specs.declared.hosts.Host.{Host}
-use Rattle.ft_world.specs.declared.hosts.Host.TheVariants as host
-use Rattle.ft_world.specs.declared.hosts.Station.{Station}
-use Rattle.ft_world.proofs.Answering.{asked, maps, unless, weaker}
+use Rattle.ft_world.specs.Applies.{Shows}
+use Rattle.ft_world.specs.AtStation.{AtStation, DoesAtStation, Makes, WantsAtStation}
+use Rattle.ft_world.specs.Lending.{HasNoNode, WithStation}
+use Rattle.ft_world.specs.Running.{Running}
+use Rattle.ft_world.specs.Shows.{Agree, AreHosts, IsHost, IsStation}
+use Rattle.ft_world.specs.Standing.{Course}
+use Rattle.ft_world.specs.declared.host.Host.{Host}
+use Rattle.ft_world.specs.declared.host.Host.TheVariants as host
+use Rattle.ft_world.specs.declared.station.Station.{Station}
+use Rattle.ft_world.proofs.Answering.{asked, maps, unless}
 
-pub with_host : {B H S : Type 0} (state : B → S) (M : Machine S) (hosts : List (Host B H)) (nodes : List (Node S))
-    (n : ℕ) (h new : Host B H) (x y : Node S) → AreHosts state M hosts nodes → slice_get hosts n ≡ Some h
-    → slice_get nodes n ≡ Some x → IsHost state M new y
-    → AreHosts state M (slice_set hosts n new) (slice_set nodes n y)
-with_host {B} {H} {S} state M hosts nodes n h new x y are at there is = λ m. elim (same_or_not m n) [
-  | inl e ↦ subst
-      (λ k. Agree (IsHost {H = H} state M) (slice_get (slice_set hosts n new) k) (slice_get (slice_set nodes n y) k))
-      (sym e)
-      (subst (λ o. Agree (IsHost {H = H} state M) o (slice_get (slice_set nodes n y) n)) (sym (get_set hosts n h new
-      at))
-      (subst (λ o. Agree (IsHost {H = H} state M) (Some new) o) (sym (get_set nodes n x y there)) is))
-  | inr other ↦ subst (λ o. Agree (IsHost {H = H} state M) o (slice_get (slice_set nodes n y) m))
-      (sym (get_set_other hosts n m new other))
-      (subst (λ o. Agree (IsHost {H = H} state M) (slice_get hosts m) o) (sym (get_set_other nodes n m y other)) (are
-      m))
-]
+-- the node of a number becomes another one, and every other host stays
+pub record Becomes {B H S : Type 0} (state : B → S) (M : Machine S) (nodes : List (Node S)) (n : ℕ)
+    (new : List (Host B H)) (does : Node S → Node S → Type 0) : Type 0 where
+  pub x : Node S
+  pub there : slice_get nodes n ≡ Some x
+  pub y : Node S
+  pub done : does x y
+  pub after : AreHosts state M new (slice_set nodes n y)
 
--- what holds of any node
-abbrev Anything : {S : Type 0} → Node S → Type 0
-Anything x = Unit {0}
+-- the refusal of the node's part, or what the event does there; out of memory, nothing changes
+abbrev pub AtHost : {A B H S : Type 0} → (B → S) → Machine S → List (Node S) → ℕ → (Node S → Option Fault)
+    → Result A Fault → List (Host B H) → (A → Node S → Node S → Type 0) → Type 0
+AtHost state M nodes n part result new does =
+    Unless (at_node (slice_get nodes n) part) result (AreHosts state M new nodes)
+    (Gives result (AreHosts state M new nodes) (λ value. Becomes state M nodes n new (does value)))
 
-pub wants_at_host : {A B H S : Type 0} (state : B → S) (M : Machine S) (hosts : List (Host B H))
-    (nodes : List (Node S)) (n : ℕ) (h new : Host B H) (part : Node S → Option Fault) (result : Result A Fault)
-    (wants : Node S → Type 0) (does : A → Node S → Node S → Type 0) → AreHosts state M hosts nodes
-    → slice_get hosts n ≡ Some h
-    → ((x : Node S) → IsHost state M h x
-    → WantsAtStation (at_node (Some x) part) result wants x (IsHost state M new) does)
-    → WantsAtHost state M nodes n part result wants (slice_set hosts n new) does
-wants_at_host {A} {B} {H} {S} state M hosts nodes n h new part result wants does are at says =
-    go (slice_get nodes n) refl (subst (λ o. Agree (IsHost {H = H} state M) o (slice_get nodes n)) at (are n))
-  where
-    After : List (Node S) → Type 0
-    After ns = AreHosts state M (slice_set hosts n new) ns
+-- likewise, for an event that takes no memory
+abbrev pub DoesAtHost : {A B H S : Type 0} → (B → S) → Machine S → List (Node S) → ℕ → (Node S → Option Fault)
+    → Result A Fault → List (Host B H) → (A → Node S → Node S → Type 0) → Type 0
+DoesAtHost state M nodes n part result new does =
+    Unless (at_node (slice_get nodes n) part) result (AreHosts state M new nodes)
+    (Always result (λ value. Becomes state M nodes n new (does value)))
 
-    stays : (x : Node S) → slice_get nodes n ≡ Some x → IsHost state M new x → After nodes
-    stays x e p =
-        subst (λ ns. AreHosts state M (slice_set hosts n new) ns) (set_get nodes n x e)
-        (with_host state M hosts nodes n h new x x are at e p)
+-- what is asked of a node, which stays as it is
+pub record Says {S : Type 0} (nodes : List (Node S)) (n : ℕ) (says : Node S → Type 0) : Type 0 where
+  pub x : Node S
+  pub there : slice_get nodes n ≡ Some x
+  pub said : says x
 
-    go : (o : Option (Node S)) → slice_get nodes n ≡ o → Agree (IsHost {H = H} state M) (Some h) o
-        → Unless (at_node o part) result (After nodes)
-        (Gives result (Says nodes n wants × After nodes)
-        (λ v. Becomes state M nodes n (slice_set hosts n new) (does v)))
-    go None e is = absurd is
-    go (Some x) e is =
-        maps (at_node (Some x) part) result (IsHost state M new x) (After nodes) (wants x × IsHost state M new x)
-        (Says nodes n wants × After nodes)
-        (λ v. Makes x (IsHost state M new) (does v)) (λ v. Becomes state M nodes n (slice_set hosts n new) (does v))
-        (stays x e) (λ p. (record { x = x; there = e; said = p.0 }, stays x e p.1))
-        (λ v none m. record {
-          x = x;
-          there = e;
-          y = m.y;
-          done = m.done;
-          after = with_host state M hosts nodes n h new x m.y are at e m.after;
-        })
-        (says x is)
+-- the refusal of the node's part, or what the event does there; memory is wanted only if this holds of the node
+abbrev pub WantsAtHost : {A B H S : Type 0} → (B → S) → Machine S → List (Node S) → ℕ → (Node S → Option Fault)
+    → Result A Fault → (Node S → Type 0) → List (Host B H) → (A → Node S → Node S → Type 0) → Type 0
+WantsAtHost state M nodes n part result wants new does =
+    Unless (at_node (slice_get nodes n) part) result (AreHosts state M new nodes)
+    (Gives result (Says nodes n wants × AreHosts state M new nodes) (λ value. Becomes state M nodes n new (does value)))
 
-pub wants_no_host : {A B H S : Type 0} (state : B → S) (M : Machine S) (hosts : List (Host B H))
-    (nodes : List (Node S)) (n : ℕ) (part : Node S → Option Fault) (wants : Node S → Type 0)
-    (does : A → Node S → Node S → Type 0) → AreHosts state M hosts nodes → slice_get hosts n ≡ None
-    → WantsAtHost state M nodes n part (Err Unknown) wants hosts does
-wants_no_host {A} {B} {H} {S} state M hosts nodes n part wants does are at =
-    go (slice_get nodes n) (subst (λ o. Agree (IsHost {H = H} state M) o (slice_get nodes n)) at (are n))
-  where
-    go : (o : Option (Node S)) → Agree (IsHost {H = H} state M) None o
-        → Unless {A = A} (at_node o part) (Err Unknown) (AreHosts state M hosts nodes)
-        (Gives {A = A} (Err Unknown) (Says nodes n wants × AreHosts state M hosts nodes)
-        (λ v. Becomes state M nodes n hosts (does v)))
-    go None is = (refl, are)
-    go (Some x) is = absurd is
+abbrev pub AskHost : {A S : Type 0} → List (Node S) → ℕ → (Node S → Option Fault) → Result A Fault
+    → (A → Node S → Type 0) → Type 0
+AskHost nodes n part result says =
+    Unless (at_node (slice_get nodes n) part) result (Unit {0})
+    (Gives result (Unit {0}) (λ value. Says nodes n (says value)))
 
--- likewise; nothing more is known of a node that wants memory
+-- likewise, for an event that takes no memory
+abbrev pub ReadHost : {A S : Type 0} → List (Node S) → ℕ → (Node S → Option Fault) → Result A Fault
+    → (A → Node S → Type 0) → Type 0
+ReadHost nodes n part result says =
+    Unless (at_node (slice_get nodes n) part) result (Unit {0})
+    (Always result (λ value. Says nodes n (says value)))
 
-pub at_host : {A B H S : Type 0} (state : B → S) (M : Machine S) (hosts : List (Host B H)) (nodes : List (Node S))
-    (n : ℕ) (h new : Host B H) (part : Node S → Option Fault) (result : Result A Fault)
-    (does : A → Node S → Node S → Type 0) → AreHosts state M hosts nodes → slice_get hosts n ≡ Some h
-    → ((x : Node S) → IsHost state M h x
-    → AtStation (at_node (Some x) part) result x (IsHost state M new) does)
-    → AtHost state M nodes n part result (slice_set hosts n new) does
-at_host {A} {B} {H} {S} state M hosts nodes n h new part result does are at says =
-    weaker (at_node (slice_get nodes n) part) result (AreHosts state M (slice_set hosts n new) nodes)
-    (Says nodes n Anything × AreHosts state M (slice_set hosts n new) nodes)
-    (λ v. Becomes state M nodes n (slice_set hosts n new) (does v)) (λ w. w.1)
-    (wants_at_host state M hosts nodes n h new part result Anything does are at
-    (λ x is. maps (at_node (Some x) part) result (IsHost state M new x) (IsHost state M new x) (IsHost state M new x)
-    (Unit {0} × IsHost state M new x) (λ v. Makes x (IsHost state M new) (does v))
-    (λ v. Makes x (IsHost state M new) (does v)) (λ p. p) (λ p. (tt, p)) (λ v none m. m) (says x is)))
+-- the refusal of the node's part, or what asking the arbiter does there
+pub record Asked {B H S : Type 0} (state : B → S) (M : Machine S) (nodes : List (Node S)) (n : ℕ) (old : List Asking)
+    (result : Result Won Fault) (hosts : List (Host B H)) (new : List Asking) : Type 0 where
+  pub x : Node S
+  pub there : slice_get nodes n ≡ Some x
+  pub answer : AskedOf (winner_of old x.generation) old n x result new
+      (λ y. AreHosts state M hosts (slice_set nodes n y))
 
-pub no_host : {A B H S : Type 0} (state : B → S) (M : Machine S) (hosts : List (Host B H)) (nodes : List (Node S))
-    (n : ℕ) (part : Node S → Option Fault) (does : A → Node S → Node S → Type 0) → AreHosts state M hosts nodes
-    → slice_get hosts n ≡ None → AtHost state M nodes n part (Err Unknown) hosts does
-no_host {A} {B} {H} {S} state M hosts nodes n part does are at =
-    weaker {A = A} (at_node (slice_get nodes n) part) (Err Unknown) (AreHosts state M hosts nodes)
-    (Says nodes n Anything × AreHosts state M hosts nodes) (λ v. Becomes state M nodes n hosts (does v)) (λ w. w.1)
-    (wants_no_host state M hosts nodes n part Anything does are at)
+abbrev pub AsksHost : {B H S : Type 0} → (B → S) → Machine S → List (Node S) → ℕ → List Asking → Result Won Fault
+    → List (Host B H) → List Asking → Type 0
+AsksHost state M nodes n old result hosts new =
+    Unless (at_node (slice_get nodes n) suspect_refusal) result (AreHosts state M hosts nodes × (new ≡ old))
+    (Asked state M nodes n old result hosts new)
 
--- likewise, where no memory is wanted
-
-pub does_at_host : {A B H S : Type 0} (state : B → S) (M : Machine S) (hosts : List (Host B H))
-    (nodes : List (Node S)) (n : ℕ) (h new : Host B H) (part : Node S → Option Fault) (result : Result A Fault)
-    (does : A → Node S → Node S → Type 0) → AreHosts state M hosts nodes → slice_get hosts n ≡ Some h
-    → ((x : Node S) → IsHost state M h x
-    → DoesAtStation (at_node (Some x) part) result x (IsHost state M new) does)
-    → DoesAtHost state M nodes n part result (slice_set hosts n new) does
-does_at_host {A} {B} {H} {S} state M hosts nodes n h new part result does are at says =
-    go (slice_get nodes n) refl (subst (λ o. Agree (IsHost {H = H} state M) o (slice_get nodes n)) at (are n))
-  where
-    After : List (Node S) → Type 0
-    After ns = AreHosts state M (slice_set hosts n new) ns
-
-    becomes : (x : Node S) → slice_get nodes n ≡ Some x → (r : Result A Fault)
-        → Always r (λ v. Makes x (IsHost state M new) (does v))
-        → Always r (λ v. Becomes state M nodes n (slice_set hosts n new) (does v))
-    becomes x e (Ok v) m = record {
-      x = x;
-      there = e;
-      y = m.y;
-      done = m.done;
-      after = with_host state M hosts nodes n h new x m.y are at e m.after;
-    }
-    becomes x e (Err fault) m = absurd m
-
-    go : (o : Option (Node S)) → slice_get nodes n ≡ o → Agree (IsHost {H = H} state M) (Some h) o
-        → Unless (at_node o part) result (After nodes)
-        (Always result (λ v. Becomes state M nodes n (slice_set hosts n new) (does v)))
-    go None e is = absurd is
-    go (Some x) e is =
-        unless (at_node (Some x) part) result (IsHost state M new x) (After nodes)
-        (Always result (λ v. Makes x (IsHost state M new) (does v)))
-        (Always result (λ v. Becomes state M nodes n (slice_set hosts n new) (does v)))
-        (λ p. subst (λ ns. AreHosts state M (slice_set hosts n new) ns) (set_get nodes n x e)
-        (with_host state M hosts nodes n h new x x are at e p))
-        (λ m. becomes x e result m)
-        (says x is)
-
-pub no_host_does : {A B H S : Type 0} (state : B → S) (M : Machine S) (hosts : List (Host B H)) (nodes : List (Node S))
-    (n : ℕ) (part : Node S → Option Fault) (does : A → Node S → Node S → Type 0) → AreHosts state M hosts nodes
-    → slice_get hosts n ≡ None → DoesAtHost state M nodes n part (Err Unknown) hosts does
-no_host_does {A} {B} {H} {S} state M hosts nodes n part does are at =
-    go (slice_get nodes n) (subst (λ o. Agree (IsHost {H = H} state M) o (slice_get nodes n)) at (are n))
-  where
-    go : (o : Option (Node S)) → Agree (IsHost {H = H} state M) None o
-        → Unless {A = A} (at_node o part) (Err Unknown) (AreHosts state M hosts nodes)
-        (Always {A = A} (Err Unknown) (λ v. Becomes state M nodes n hosts (does v)))
-    go None is = (refl, are)
-    go (Some x) is = absurd is
-
--- ---- what is asked of a host
+-- ---- from a station to the hosts
 
 not_spare : {S : Type 0} (x : Node S) (part : Node S → Option Fault) → (x.role ≡ Spare → ⊥)
     → part x ≡ at_node (Some x) part
@@ -184,142 +102,202 @@ not_spare x part a = go x.role a
     go Alone a = refl
     go Spare a = absurd (a refl)
 
-pub asks_host : {A B H S : Type 0} (state : B → S) (M : Machine S) (hosts : List (Host B H)) (nodes : List (Node S))
-    (n : ℕ) (h : Station B) (part : Node S → Option Fault) (result : Result A Fault)
-    (says : A → Node S → Type 0) → AreHosts state M hosts nodes → slice_get hosts n ≡ Some (host.Node h)
-    → ((x : Node S) → IsNode state M h.node x
-    → Unless (part x) result (Unit {0}) (Gives result (Unit {0}) (λ v. says v x)))
-    → AskHost nodes n part result says
-asks_host {A} {B} {H} {S} state M hosts nodes n h part result says are at answers =
-    go (slice_get nodes n) refl (subst (λ o. Agree (IsHost {H = H} state M) o (slice_get nodes n)) at (are n))
-  where
-    go : (o : Option (Node S)) → slice_get nodes n ≡ o → Agree (IsHost {H = H} state M) (Some (host.Node h)) o
-        → Unless (at_node o part) result (Unit {0})
-        (Gives result (Unit {0}) (λ v. Says nodes n (says v)))
-    go None e is = absurd is
-    go (Some x) e is =
-        subst (λ r. Unless r result (Unit {0}) (Gives result (Unit {0}) (λ v. Says nodes n (says v))))
-        (not_spare x part is.a_node)
-        (maps (part x) result (Unit {0}) (Unit {0}) (Unit {0}) (Unit {0}) (λ v. says v x) (λ v. Says nodes n (says v))
-        (λ p. p) (λ p. p)
-        (λ v none s. record { x = x; there = e; said = s }) (answers x is.node))
+module _ {B H S : Type 0} (state : B → S) (M : Machine S) (hosts : List (Host B H)) (nodes : List (Node S)) (n : ℕ)
+    (are : AreHosts state M hosts nodes) where
+  with_host : (h new : Host B H) (x y : Node S) → slice_get hosts n ≡ Some h → slice_get nodes n ≡ Some x
+      → IsHost state M new y → AreHosts state M (slice_set hosts n new) (slice_set nodes n y)
+  with_host h new x y at there is = λ m. elim (same_or_not m n) [
+    | inl e ↦ subst
+        (λ k. Agree (IsHost {H = H} state M) (slice_get (slice_set hosts n new) k) (slice_get (slice_set nodes n y) k))
+        (sym e)
+        (subst (λ o. Agree (IsHost {H = H} state M) o (slice_get (slice_set nodes n y) n))
+        (sym (get_set hosts n h new at))
+        (subst (λ o. Agree (IsHost {H = H} state M) (Some new) o) (sym (get_set nodes n x y there)) is))
+    | inr other ↦ subst (λ o. Agree (IsHost {H = H} state M) o (slice_get (slice_set nodes n y) m))
+        (sym (get_set_other hosts n m new other))
+        (subst (λ o. Agree (IsHost {H = H} state M) (slice_get hosts m) o) (sym (get_set_other nodes n m y other)) (are
+        m))
+  ]
 
--- likewise, where no memory is wanted
+  -- what the node's part answers at a station is what it answers at the number of that station
+  at_station : {A : Type 0} (h : Station B) (part : Node S → Option Fault) (result : Result A Fault) (P D : Type 0)
+      → slice_get hosts n ≡ Some (host.Node h)
+      → ((x : Node S) → slice_get nodes n ≡ Some x → IsStation state M h x → Unless (part x) result P D)
+      → Unless (at_node (slice_get nodes n) part) result P D
+  at_station h part result P D at says =
+      go (slice_get nodes n) refl (subst (λ o. Agree (IsHost {H = H} state M) o (slice_get nodes n)) at (are n))
+    where
+      go : (o : Option (Node S)) → slice_get nodes n ≡ o → Agree (IsHost {H = H} state M) (Some (host.Node h)) o
+          → Unless (at_node o part) result P D
+      go None e is = absurd is
+      go (Some x) e is = subst (λ r. Unless r result P D) (not_spare x part is.a_node) (says x e is)
 
-pub reads_host : {A B H S : Type 0} (state : B → S) (M : Machine S) (hosts : List (Host B H)) (nodes : List (Node S))
-    (n : ℕ) (h : Station B) (part : Node S → Option Fault) (result : Result A Fault)
-    (says : A → Node S → Type 0) → AreHosts state M hosts nodes → slice_get hosts n ≡ Some (host.Node h)
-    → ((x : Node S) → IsNode state M h.node x
-    → Unless (part x) result (Unit {0}) (Always result (λ v. says v x)))
-    → ReadHost nodes n part result says
-reads_host {A} {B} {H} {S} state M hosts nodes n h part result says are at answers =
-    go (slice_get nodes n) refl (subst (λ o. Agree (IsHost {H = H} state M) o (slice_get nodes n)) at (are n))
-  where
-    said : (x : Node S) → slice_get nodes n ≡ Some x → (r : Result A Fault) → Always r (λ v. says v x)
-        → Always r (λ v. Says nodes n (says v))
-    said x e (Ok v) s = record { x = x; there = e; said = s }
-    said x e (Err fault) s = absurd s
+  -- no node has this number
+  at_nobody : (A : Type 0) (part : Node S → Option Fault) (P D : Type 0) → HasNoNode hosts n → P
+      → Unless {A = A} (at_node (slice_get nodes n) part) (Err Unknown) P D
+  at_nobody A part P D none p = go (slice_get hosts n) (slice_get nodes n) refl (are n)
+    where
+      go : (h : Option (Host B H)) (o : Option (Node S)) → slice_get hosts n ≡ h → Agree (IsHost {H = H} state M) h o
+          → Unless {A = A} (at_node o part) (Err Unknown) P D
+      go None None e is = (refl, p)
+      go None (Some x) e is = absurd is
+      go (Some h) None e is = absurd is
+      go (Some (host.Node h)) (Some x) e is = absurd (none h e)
+      go (Some (host.Spare resources)) (Some x) e is =
+          subst (λ q. Unless {A = A} (if is_role q Spare then Some Unknown else part x) (Err Unknown) P D)
+          (sym is) (refl, p)
 
-    go : (o : Option (Node S)) → slice_get nodes n ≡ o → Agree (IsHost {H = H} state M) (Some (host.Node h)) o
-        → Unless (at_node o part) result (Unit {0}) (Always result (λ v. Says nodes n (says v)))
-    go None e is = absurd is
-    go (Some x) e is =
-        subst (λ r. Unless r result (Unit {0}) (Always result (λ v. Says nodes n (says v))))
-        (not_spare x part is.a_node)
-        (unless (part x) result (Unit {0}) (Unit {0}) (Always result (λ v. says v x))
-        (Always result (λ v. Says nodes n (says v))) (λ p. p) (said x e result) (answers x is.node))
+  module _ (h s : Station B) (new : List (Host B H)) (at : slice_get hosts n ≡ Some (host.Node h))
+      (w : WithStation hosts n s new) where
+    moved : (x y : Node S) → slice_get nodes n ≡ Some x → IsStation state M s y
+        → AreHosts state M new (slice_set nodes n y)
+    moved x y there is =
+        subst (λ hs. AreHosts state M hs (slice_set nodes n y)) (sym w.put)
+        (with_host (host.Node h) (host.Node s) x y at there is)
 
--- no node has this number
+    stayed : (x : Node S) → slice_get nodes n ≡ Some x → IsStation state M s x → AreHosts state M new nodes
+    stayed x there is =
+        subst (λ ns. AreHosts state M new ns) (set_get nodes n x there) (moved x x there is)
 
-asks_spare : {B H S : Type 0} (A : Type 0) (state : B → S) (M : Machine S) (hosts : List (Host B H)) (nodes : List
-    (Node S))
-    (n : ℕ) (resources : H) (part : Node S → Option Fault) (D : Type 0) → AreHosts state M hosts nodes
-    → slice_get hosts n ≡ Some (host.Spare resources)
-    → Unless {A = A} (at_node (slice_get nodes n) part) (Err Unknown) (Unit {0}) D
-asks_spare {B} {H} {S} A state M hosts nodes n resources part D are at =
-    go (slice_get nodes n) (subst (λ o. Agree (IsHost {H = H} state M) o (slice_get nodes n)) at (are n))
-  where
-    go : (o : Option (Node S)) → Agree (IsHost {H = H} state M) (Some (host.Spare resources)) o
-        → Unless {A = A} (at_node o part) (Err Unknown) (Unit {0}) D
-    go None is = absurd is
-    go (Some x) is =
-        subst (λ q. Unless {A = A} (if is_role q Spare then Some Unknown else part x) (Err Unknown) (Unit {0}) D)
-        (sym is) (refl, tt)
+-- ---- in a world that is shown
 
-asks_nobody : {B H S : Type 0} (A : Type 0) (state : B → S) (M : Machine S) (hosts : List (Host B H)) (nodes : List
-    (Node S))
-    (n : ℕ) (part : Node S → Option Fault) (D : Type 0) → AreHosts state M hosts nodes → slice_get hosts n ≡ None
-    → Unless {A = A} (at_node (slice_get nodes n) part) (Err Unknown) (Unit {0}) D
-asks_nobody {B} {H} {S} A state M hosts nodes n part D are at =
-    go (slice_get nodes n) (subst (λ o. Agree (IsHost {H = H} state M) o (slice_get nodes n)) at (are n))
-  where
-    go : (o : Option (Node S)) → Agree (IsHost {H = H} state M) None o
-        → Unless {A = A} (at_node o part) (Err Unknown) (Unit {0}) D
-    go None is = (refl, tt)
-    go (Some x) is = absurd is
+module _ {B H D S : Type 0} {state : B → S} {M : Machine S} {records : D → List Record} {old : Running B H D}
+    {c : Course S} (h : Shows state M records old c) where
+  module _ {n : ℕ} {here s : Station B} {new : List (Host B H)} (at : slice_get old.hosts n ≡ Some (host.Node here))
+      (w : WithStation old.hosts n s new) where
+    pub at_host : {A : Type 0} (part : Node S → Option Fault) (result : Result A Fault)
+        (does : A → Node S → Node S → Type 0)
+        → ((x : Node S) → IsStation state M here x → AtStation (part x) result x (IsStation state M s) does)
+        → AtHost state M c.world.nodes n part result new does
+    at_host part result does says =
+        at_station state M old.hosts c.world.nodes n h.parts.hosts here part result (AreHosts state M new c.world.nodes)
+        (Gives result (AreHosts state M new c.world.nodes) (λ v. Becomes state M c.world.nodes n new (does v))) at
+        (λ x there is. maps (part x) result (IsStation state M s x) (AreHosts state M new c.world.nodes)
+        (IsStation state M s x) (AreHosts state M new c.world.nodes)
+        (λ v. Makes x (IsStation state M s) (does v)) (λ v. Becomes state M c.world.nodes n new (does v))
+        (stayed state M old.hosts c.world.nodes n h.parts.hosts here s new at w x there)
+        (stayed state M old.hosts c.world.nodes n h.parts.hosts here s new at w x there)
+        (λ v none m. record {
+          x = x;
+          there = there;
+          y = m.y;
+          done = m.done;
+          after = moved state M old.hosts c.world.nodes n h.parts.hosts here s new at w x m.y there m.after;
+        })
+        (says x is))
 
-pub asks_none : {A B H S : Type 0} (state : B → S) (M : Machine S) (hosts : List (Host B H)) (nodes : List (Node S))
-    (n : ℕ) (part : Node S → Option Fault) (r : Result A Fault) (fault : Fault) (D : Type 0)
-    → IsErrAnd r (λ k. k ≡ fault) → fault ≡ Unknown → HasNoNode hosts n → AreHosts state M hosts nodes
-    → Unless (at_node (slice_get nodes n) part) r (Unit {0}) D
-asks_none {A} {B} {H} {S} state M hosts nodes n part (Ok v) fault D at e none are = absurd at
-asks_none {A} {B} {H} {S} state M hosts nodes n part (Err k) fault D at e none are =
-    subst (λ f. Unless {A = A} (at_node (slice_get nodes n) part) (Err f) (Unit {0}) D) (sym (at ∙ e))
-    (go (slice_get hosts n) refl)
-  where
-    go : (o : Option (Host B H)) → slice_get hosts n ≡ o
-        → Unless {A = A} (at_node (slice_get nodes n) part) (Err Unknown) (Unit {0}) D
-    go None h = asks_nobody A state M hosts nodes n part D are h
-    go (Some (host.Node a)) h = absurd (none a h)
-    go (Some (host.Spare resources)) h = asks_spare A state M hosts nodes n resources part D are h
-
--- ---- a node asks the arbiter
-
-pub suspects_host : {B H S : Type 0} (state : B → S) (M : Machine S) (hosts : List (Host B H)) (nodes : List (Node S))
-    (n : ℕ) (h new : Host B H) (old askings : List Asking) (result : Result Won Fault) → AreHosts state M hosts nodes
-    → slice_get hosts n ≡ Some h
-    → ((x : Node S) → IsHost state M h x → AsksStation old n x result askings (IsHost state M new))
-    → AsksHost state M nodes n old result (slice_set hosts n new) askings
-suspects_host {B} {H} {S} state M hosts nodes n h new old askings result are at says =
-    go (slice_get nodes n) refl (subst (λ o. Agree (IsHost {H = H} state M) o (slice_get nodes n)) at (are n))
-  where
-    after : (x : Node S) → slice_get nodes n ≡ Some x → (y : Node S) → IsHost {H = H} state M new y
-        → AreHosts {H = H} state M (slice_set hosts n new) (slice_set nodes n y)
-    after x e y p = with_host state M hosts nodes n h new x y are at e p
-
-    go : (o : Option (Node S)) → slice_get nodes n ≡ o → Agree (IsHost {H = H} state M) (Some h) o
-        → Unless (at_node o suspect_refusal) result
-        (AreHosts {H = H} state M (slice_set hosts n new) nodes × (askings ≡ old))
-        (Asked {H = H} state M nodes n old result (slice_set hosts n new) askings)
-    go None e is = absurd is
-    go (Some x) e is =
-        unless (at_node (Some x) suspect_refusal) result (IsHost {H = H} state M new x × (askings ≡ old))
-        (AreHosts {H = H} state M (slice_set hosts n new) nodes × (askings ≡ old))
-        (AskedOf (winner_of old x.generation) old n x result askings (IsHost {H = H} state M new))
-        (Asked {H = H} state M nodes n old result (slice_set hosts n new) askings)
+    -- likewise; memory is wanted only if this holds of the node
+    pub wants_at_host : {A : Type 0} (part : Node S → Option Fault) (result : Result A Fault) (wants : Node S → Type 0)
+        (does : A → Node S → Node S → Type 0)
+        → ((x : Node S) → IsStation state M here x
+        → WantsAtStation (part x) result wants x (IsStation state M s) does)
+        → WantsAtHost state M c.world.nodes n part result wants new does
+    wants_at_host part result wants does says =
+        at_station state M old.hosts c.world.nodes n h.parts.hosts here part result (AreHosts state M new c.world.nodes)
+        (Gives result (Says c.world.nodes n wants × AreHosts state M new c.world.nodes)
+        (λ v. Becomes state M c.world.nodes n new (does v))) at
+        (λ x there is. maps (part x) result (IsStation state M s x) (AreHosts state M new c.world.nodes)
+        (wants x × IsStation state M s x) (Says c.world.nodes n wants × AreHosts state M new c.world.nodes)
+        (λ v. Makes x (IsStation state M s) (does v)) (λ v. Becomes state M c.world.nodes n new (does v))
+        (stayed state M old.hosts c.world.nodes n h.parts.hosts here s new at w x there)
         (λ p. (
-          subst (λ ns. AreHosts {H = H} state M (slice_set hosts n new) ns) (set_get nodes n x e)
-              (with_host state M hosts nodes n h new x x are at e p.0),
-          p.1,
+          record { x = x; there = there; said = p.0 },
+          stayed state M old.hosts c.world.nodes n h.parts.hosts here s new at w x there p.1,
         ))
+        (λ v none m. record {
+          x = x;
+          there = there;
+          y = m.y;
+          done = m.done;
+          after = moved state M old.hosts c.world.nodes n h.parts.hosts here s new at w x m.y there m.after;
+        })
+        (says x is))
+
+    -- likewise, for an event that takes no memory
+    pub does_at_host : {A : Type 0} (part : Node S → Option Fault) (result : Result A Fault)
+        (does : A → Node S → Node S → Type 0)
+        → ((x : Node S) → IsStation state M here x → DoesAtStation (part x) result x (IsStation state M s) does)
+        → DoesAtHost state M c.world.nodes n part result new does
+    does_at_host {A} part result does says =
+        at_station state M old.hosts c.world.nodes n h.parts.hosts here part result (AreHosts state M new c.world.nodes)
+        (Always result (λ v. Becomes state M c.world.nodes n new (does v))) at
+        (λ x there is. unless (part x) result (IsStation state M s x) (AreHosts state M new c.world.nodes)
+        (Always result (λ v. Makes x (IsStation state M s) (does v)))
+        (Always result (λ v. Becomes state M c.world.nodes n new (does v)))
+        (stayed state M old.hosts c.world.nodes n h.parts.hosts here s new at w x there) (becomes x there result) (says x is))
+      where
+        becomes : (x : Node S) → slice_get c.world.nodes n ≡ Some x → (r : Result A Fault)
+            → Always r (λ v. Makes x (IsStation state M s) (does v))
+            → Always r (λ v. Becomes state M c.world.nodes n new (does v))
+        becomes x there (Ok v) m = record {
+          x = x;
+          there = there;
+          y = m.y;
+          done = m.done;
+          after = moved state M old.hosts c.world.nodes n h.parts.hosts here s new at w x m.y there m.after;
+        }
+        becomes x there (Err fault) m = absurd m
+
+    -- it asks the arbiter
+    pub suspects_host : (result : Result Won Fault) (askings : List Asking)
+        → ((x : Node S) → IsStation state M here x
+        → Asks old.askings n x result askings (IsStation state M s))
+        → AsksHost state M c.world.nodes n old.askings result new askings
+    suspects_host result askings says =
+        at_station state M old.hosts c.world.nodes n h.parts.hosts here suspect_refusal result
+        (AreHosts state M new c.world.nodes × (askings ≡ old.askings))
+        (Asked state M c.world.nodes n old.askings result new askings) at
+        (λ x there is. unless (suspect_refusal x) result (IsStation state M s x × (askings ≡ old.askings))
+        (AreHosts state M new c.world.nodes × (askings ≡ old.askings))
+        (AskedOf (winner_of old.askings x.generation) old.askings n x result askings (IsStation state M s))
+        (Asked state M c.world.nodes n old.askings result new askings)
+        (λ p. (stayed state M old.hosts c.world.nodes n h.parts.hosts here s new at w x there p.0, p.1))
         (λ d. record {
           x = x;
-          there = e;
-          answer = asked (winner_of old x.generation) old n x result askings (IsHost {H = H} state M new)
-              (λ y. AreHosts {H = H} state M (slice_set hosts n new) (slice_set nodes n y))
-              (after x e x) (after x e (wins x)) (after x e (halts x)) d;
+          there = there;
+          answer = asked (winner_of old.askings x.generation) old.askings n x result askings (IsStation state M s)
+              (λ y. AreHosts state M new (slice_set c.world.nodes n y))
+              (moved state M old.hosts c.world.nodes n h.parts.hosts here s new at w x x there)
+              (moved state M old.hosts c.world.nodes n h.parts.hosts here s new at w x (wins x) there)
+              (moved state M old.hosts c.world.nodes n h.parts.hosts here s new at w x (halts x) there) d;
         })
-        (says x is)
+        (says x is))
 
-pub suspects_none : {B H S : Type 0} (state : B → S) (M : Machine S) (hosts : List (Host B H)) (nodes : List (Node S))
-    (n : ℕ) (old : List Asking) → AreHosts state M hosts nodes → slice_get hosts n ≡ None
-    → AsksHost state M nodes n old (Err Unknown) hosts old
-suspects_none {B} {H} {S} state M hosts nodes n old are at =
-    go (slice_get nodes n) (subst (λ o. Agree (IsHost {H = H} state M) o (slice_get nodes n)) at (are n))
-  where
-    go : (o : Option (Node S)) → Agree (IsHost {H = H} state M) None o
-        → Unless {A = Won} (at_node o suspect_refusal) (Err Unknown)
-        (AreHosts {H = H} state M hosts nodes × (old ≡ old))
-        (Asked {H = H} state M nodes n old (Err Unknown) hosts old)
-    go None is = (refl, (are, refl))
-    go (Some x) is = absurd is
+  -- a node is asked, and stays as it is
+  module _ (n : ℕ) (here : Station B) (at : slice_get old.hosts n ≡ Some (host.Node here)) where
+    pub asks_host : {A : Type 0} (part : Node S → Option Fault) (result : Result A Fault) (says : A → Node S → Type 0)
+        → ((x : Node S) → IsNode state M here.node x
+        → Unless (part x) result (Unit {0}) (Gives result (Unit {0}) (λ v. says v x)))
+        → AskHost c.world.nodes n part result says
+    asks_host part result says answers =
+        at_station state M old.hosts c.world.nodes n h.parts.hosts here part result (Unit {0})
+        (Gives result (Unit {0}) (λ v. Says c.world.nodes n (says v))) at
+        (λ x there is. maps (part x) result (Unit {0}) (Unit {0}) (Unit {0}) (Unit {0}) (λ v. says v x)
+        (λ v. Says c.world.nodes n (says v)) (λ p. p) (λ p. p) (λ v none s. record { x = x; there = there; said = s }) (answers x is.node))
+
+    -- likewise, for an event that takes no memory
+    pub reads_host : {A : Type 0} (part : Node S → Option Fault) (result : Result A Fault)
+        (says : A → Node S → Type 0)
+        → ((x : Node S) → IsNode state M here.node x
+        → Unless (part x) result (Unit {0}) (Always result (λ v. says v x)))
+        → ReadHost c.world.nodes n part result says
+    reads_host {A} part result says answers =
+        at_station state M old.hosts c.world.nodes n h.parts.hosts here part result (Unit {0})
+        (Always result (λ v. Says c.world.nodes n (says v))) at
+        (λ x there is. unless (part x) result (Unit {0}) (Unit {0}) (Always result (λ v. says v x))
+        (Always result (λ v. Says c.world.nodes n (says v))) (λ p. p) (said x there result) (answers x is.node))
+      where
+        said : (x : Node S) → slice_get c.world.nodes n ≡ Some x → (r : Result A Fault) → Always r (λ v. says v x)
+            → Always r (λ v. Says c.world.nodes n (says v))
+        said x there (Ok v) s = record { x = x; there = there; said = s }
+        said x there (Err fault) s = absurd s
+
+  -- no node has this number, and nothing changes
+  pub no_host : (A : Type 0) (n : ℕ) (part : Node S → Option Fault) {fault : Fault} (P D' : Type 0) → fault ≡ Unknown
+      → HasNoNode old.hosts n → P → Unless {A = A} (at_node (slice_get c.world.nodes n) part) (Err fault) P D'
+  no_host A n part P D' unknown none p =
+      subst (λ f. Unless {A = A} (at_node (slice_get c.world.nodes n) part) (Err f) P D') (sym unknown)
+      (at_nobody state M old.hosts c.world.nodes n h.parts.hosts A part P D' none p)
+
+  pub same_hosts : (hosts : List (Host B H)) → hosts ≡ old.hosts → AreHosts state M hosts c.world.nodes
+  same_hosts hosts same = subst (λ hs. AreHosts state M hs c.world.nodes) (sym same) h.parts.hosts

@@ -23,7 +23,7 @@ use Rattle.pair_protocol.specs.Settled.{is_backup}
 use Rattle.pair_protocol.specs.World as world
 use Rattle.pair_protocol.specs.World.{World, no_terminal, terminal_in, with_node}
 use Rattle.ft_world.specs.Applies.{Applies, Shows}
-use Rattle.ft_world.specs.AtHost.{AtHost}
+use Rattle.ft_world.proofs.AtHosts.{AtHost}
 use Rattle.ft_world.specs.Devices as table
 use Rattle.ft_world.specs.Devices.{screen_in}
 use Rattle.ft_world.specs.Does as does
@@ -34,7 +34,7 @@ use Rattle.ft_world.specs.Words.{event_of}
 use Rattle.pair_events.specs.declared.event.Event.{Event}
 use Rattle.pair_events.specs.declared.event.Event.TheVariants as event
 use Rattle.pair_events.specs.declared.reply.Reply.TheVariants as reply
-use Rattle.ft_world.specs.declared.hosts.Host.{Host}
+use Rattle.ft_world.specs.declared.host.Host.{Host}
 use Rattle.ft_world.proofs.Applying.{refuses}
 use Rattle.ft_world.proofs.AtOneNode.{RowAt, first_stands, node_applies, node_refused, second_of}
 use Rattle.ft_world.proofs.AtTerminals.{screen_is}

@@ -20,7 +20,7 @@ use Rattle.pair_protocol.specs.World.{with_node}
 use Rattle.pair_protocol.proofs.Moves.{same_some}
 use Rattle.pair_protocol.proofs.OneNode.{with_same}
 use Rattle.ft_world.specs.Applies.{Applies, Shows}
-use Rattle.ft_world.specs.AtHost.{AtHost, DoesAtHost, WantsAtHost}
+use Rattle.ft_world.proofs.AtHosts.{AtHost, DoesAtHost, WantsAtHost}
 use Rattle.ft_world.specs.Does as does
 use Rattle.ft_world.specs.Messages.{ack_of, log_of}
 use Rattle.ft_world.specs.Running.{Running}
@@ -29,7 +29,7 @@ use Rattle.ft_world.specs.Standing.{Course}
 use Rattle.ft_world.specs.Words.{IsMessage}
 use Rattle.pair_events.specs.declared.event.Event.TheVariants as event
 use Rattle.pair_events.specs.declared.reply.Reply.TheVariants as reply
-use Rattle.ft_world.specs.declared.hosts.Host.{Host}
+use Rattle.ft_world.specs.declared.host.Host.{Host}
 use Rattle.ft_world.specs.declared.message.Message.{Message}
 use Rattle.ft_world.specs.declared.message.Message.TheVariants as message
 use Rattle.ft_world.proofs.Applying.{refuses}

@@ -21,13 +21,13 @@ use Rattle.pair_protocol.proofs.Moves.{same_some}
 use Rattle.ft_node.specs.Calls.{why_of}
 use Rattle.ft_node.specs.declared.ran.Ran.{Ran}
 use Rattle.ft_world.specs.Applies.{Applies, Shows, ShowsParts}
-use Rattle.ft_world.specs.AtHost.{AtHost, Becomes, Says, WantsAtHost}
+use Rattle.ft_world.proofs.AtHosts.{AtHost, Becomes, Says, WantsAtHost}
 use Rattle.ft_world.specs.Does.{Stepped, WantsSteps}
 use Rattle.ft_world.specs.Running.{Running}
 use Rattle.ft_world.specs.Shows.{AreHosts, IsOnlyBackup}
 use Rattle.ft_world.specs.Standing.{Course, machine_of}
 use Rattle.pair_events.specs.declared.event.Event.TheVariants as event
-use Rattle.ft_world.specs.declared.hosts.Host.{Host}
+use Rattle.ft_world.specs.declared.host.Host.{Host}
 use Rattle.pair_events.specs.declared.reply.Reply.TheVariants as reply
 use Rattle.ft_world.proofs.Applying.{applies, unchanged}
 use Rattle.ft_world.proofs.Sending.{asked_ok, asked_wanting}

@@ -15,14 +15,14 @@ use Rattle.pair_protocol.specs.Settled.{is_backup}
 use Rattle.pair_protocol.specs.World.{with_node}
 use Rattle.ft_world.specs.Applies.{Applies, Shows}
 use Rattle.ft_node.specs.Calls.{Always, Unless}
-use Rattle.ft_world.specs.AtHost.{AtHost, Becomes, DoesAtHost, Says, WantsAtHost}
+use Rattle.ft_world.proofs.AtHosts.{AtHost, Becomes, DoesAtHost, Says, WantsAtHost}
 use Rattle.ft_world.specs.Running.{Running}
 use Rattle.ft_world.specs.Shows.{AreHosts}
 use Rattle.ft_world.specs.Standing.{Course, machine_of}
 use Rattle.ft_world.specs.Words.{event_of, reply_of}
 use Rattle.pair_events.specs.declared.event.Event.{Event}
 use Rattle.pair_events.specs.declared.reply.Reply.{Reply}
-use Rattle.ft_world.specs.declared.hosts.Host.{Host}
+use Rattle.ft_world.specs.declared.host.Host.{Host}
 use Rattle.ft_world.proofs.Applying.{applies, unchanged}
 use Rattle.ft_world.proofs.AtNodes.{with_hosts, with_one_host}
 use Rattle.ft_world.proofs.Sending.{asked_err, asked_ok, asked_wanting}

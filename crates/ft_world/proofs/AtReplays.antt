@@ -28,7 +28,8 @@ use Rattle.ft_node.specs.declared.node.Node as code
 use Rattle.ft_node.specs.declared.node.Node.TheVariants as seat
 use Rattle.ft_node.specs.declared.ran.Drained.{Drained}
 use Rattle.ft_world.specs.Applies.{Applies, Shows, ShowsSome}
-use Rattle.ft_world.specs.AtHost.{AllMayReplay, AtHost, Becomes, HostMayReplay, Says, WantsAtHost}
+use Rattle.ft_world.proofs.AtHosts.{AtHost, Becomes, Says, WantsAtHost}
+use Rattle.ft_world.specs.declared.station.Station.{Station}
 use Rattle.ft_world.specs.Does.{Emptied, Repeated, WantsMoves}
 use Rattle.ft_world.specs.Running.{Running}
 use Rattle.ft_world.specs.Shows.{AreHosts, IsHost}
@@ -36,8 +37,8 @@ use Rattle.ft_world.specs.Standing.{Course, machine_of}
 use Rattle.ft_world.specs.Words.{reply_of}
 use Rattle.pair_events.specs.declared.event.Event.TheVariants as event
 use Rattle.pair_events.specs.declared.reply.Reply.TheVariants as reply
-use Rattle.ft_world.specs.declared.hosts.Host.{Host}
-use Rattle.ft_world.specs.declared.hosts.Host.TheVariants as host
+use Rattle.ft_world.specs.declared.host.Host.{Host}
+use Rattle.ft_world.specs.declared.host.Host.TheVariants as host
 use Rattle.ft_world.proofs.Agreeing.{agree-other}
 use Rattle.ft_world.proofs.Applying.{no_copies_copy}
 use Rattle.ft_world.proofs.AtOneNode.{RowAt, node_applies, node_refused_wanting}
@@ -69,21 +70,14 @@ may_replay state M records old c n x (seat.Draining d) h there is =
 may_replay state M records old c n x (seat.Alone a) h there is = tt
 may_replay state M records old c n x (seat.Halted a) h there is = tt
 
-host_may_replay : {B H D S : Type 0} (state : B → S) (M : Machine S) (records : D → List Record)
-    (old : Running B H D) (c : Course S) (n : ℕ) (x : Node S) (here : Host B H) → Shows state M records old c →
-    slice_get c.world.nodes n ≡ Some x → IsHost state M here x → HostMayReplay state M here
-host_may_replay state M records old c n x (host.Node station) h there is =
-    may_replay state M records old c n x station.node h there is.node
-host_may_replay state M records old c n x (host.Spare resources) h there is = tt
-
-pub all_may_replay : {B H D S : Type 0} (state : B → S) (M : Machine S) (records : D → List Record)
-    (old : Running B H D) → ShowsSome state M records old → AllMayReplay state M old.hosts
-all_may_replay state M records old some = λ n here there.
+pub station_may_replay : {B H D S : Type 0} (state : B → S) (M : Machine S) (records : D → List Record)
+    (old : Running B H D) (n : ℕ) (station : Station B) → ShowsSome state M records old →
+    slice_get old.hosts n ≡ Some (host.Node station) → MayReplay state M station.node
+station_may_replay state M records old n station some at =
     let c = some.course in
-    let h = some.shows in
-    let x = agree-other (IsHost state M) (slice_get old.hosts n) (slice_get c.world.nodes n) here there
-    (h.parts.hosts n) in
-    host_may_replay state M records old c n x.0 here h x.1 x.2
+    let x = agree-other (IsHost state M) (slice_get old.hosts n) (slice_get c.world.nodes n) (host.Node station) at
+    (some.shows.parts.hosts n) in
+    may_replay state M records old c n x.0 station.node some.shows x.1 x.2.node
 
 -- ---- a backup replays
 

@@ -33,9 +33,9 @@ use Rattle.ft_world.specs.Applies.{Shows}
 use Rattle.ft_world.specs.Beginning.{MayBegin, beginning, bytes_in}
 use Rattle.ft_world.specs.Shows.{Agree, AreHosts, AreMessages, AreTerminals, AreWinners, IsDisk, IsHost, IsOnlyBackup, IsStation, IsTerminal}
 use Rattle.ft_world.specs.Standing.{Course, IsMachine, machine_of}
-use Rattle.ft_world.specs.declared.hosts.Host.{Host}
-use Rattle.ft_world.specs.declared.hosts.Host.TheVariants as host
-use Rattle.ft_world.specs.declared.hosts.Station.{Station}
+use Rattle.ft_world.specs.declared.host.Host.{Host}
+use Rattle.ft_world.specs.declared.host.Host.TheVariants as host
+use Rattle.ft_world.specs.declared.station.Station.{Station}
 use Rattle.ft_world.specs.declared.message.Message.{Message}
 use Rattle.ft_world.proofs.Agreeing.{agree-push}
 

@@ -19,13 +19,13 @@ use Rattle.pair_protocol.proofs.Moves.{same_some}
 use Rattle.pair_protocol.proofs.OneNode.{set_get}
 use Rattle.ft_node.specs.Calls.{AskedOf, Unless}
 use Rattle.ft_world.specs.Applies.{Applies, Shows}
-use Rattle.ft_world.specs.AtHost.{Asked, AsksHost}
+use Rattle.ft_world.proofs.AtHosts.{Asked, AsksHost}
 use Rattle.ft_world.specs.Running.{Running}
 use Rattle.ft_world.specs.Shows.{AreHosts}
 use Rattle.ft_world.specs.Standing.{Course, machine_of}
 use Rattle.pair_events.specs.declared.event.Event.TheVariants as event
 use Rattle.pair_events.specs.declared.reply.Reply.TheVariants as reply
-use Rattle.ft_world.specs.declared.hosts.Host.{Host}
+use Rattle.ft_world.specs.declared.host.Host.{Host}
 use Rattle.ft_world.proofs.AtOneNode.{second_of}
 use Rattle.ft_world.proofs.AtNodes.{with_hosts, with_one_host}
 use Rattle.ft_world.proofs.Applying.{applies, unchanged}

@@ -16,7 +16,7 @@ use Rattle.pair_protocol.specs.Refusals.{at_done, at_node, at_under, done_refusa
 use Rattle.pair_protocol.specs.World as world
 use Rattle.pair_protocol.proofs.Moves.{same_some}
 use Rattle.ft_world.specs.Applies.{Applies, Shows}
-use Rattle.ft_world.specs.AtHost.{AtHost}
+use Rattle.ft_world.proofs.AtHosts.{AtHost}
 use Rattle.ft_world.specs.Does as does
 use Rattle.ft_world.specs.Messages.{sector_of, written_of}
 use Rattle.ft_world.specs.Running.{Running}
@@ -25,7 +25,7 @@ use Rattle.ft_world.specs.Standing.{Course, machine_of}
 use Rattle.ft_world.specs.Words.{IsMessage, read_address}
 use Rattle.pair_events.specs.declared.event.Event.TheVariants as event
 use Rattle.pair_events.specs.declared.reply.Reply.TheVariants as reply
-use Rattle.ft_world.specs.declared.hosts.Host.{Host}
+use Rattle.ft_world.specs.declared.host.Host.{Host}
 use Rattle.ft_world.specs.declared.message.Message.{Message}
 use Rattle.ft_world.specs.declared.message.Message.TheVariants as message
 use Rattle.ft_world.proofs.Applying.{refuses}

@@ -28,8 +28,8 @@ use Rattle.pair_protocol.specs.World.{World, sector_record, with_read}
 use Rattle.pair_protocol.proofs.Moves.{same_some}
 use Rattle.pair_protocol.proofs.Passed.{first-passed, node-passed, serving}
 use Rattle.ft_world.specs.Applies.{Applies, Shows, ShowsSome}
-use Rattle.ft_world.specs.AtHost as host
-use Rattle.ft_world.specs.AtHost.{ReadHost}
+use Rattle.ft_world.proofs.AtHosts as host
+use Rattle.ft_world.proofs.AtHosts.{ReadHost}
 use Rattle.ft_world.specs.Devices.{GetsSector}
 use Rattle.ft_world.specs.Does as does
 use Rattle.ft_world.specs.Running.{Running}
@@ -127,17 +127,17 @@ read_is : (rs : List Record) (a : SectorAddress) (met : Record) (read : SectorRe
 read_is rs a met read at e = same_some (read_of a met) read _ (ap (λ o. option_map (read_of a) o) at) e
 
 -- the node stands at a sector of the disk
-record StandsAt {S : Type 0} (N : Machine S) (drives : ℕ) (w : World S) (n sector : ℕ)
+pub record StandsAt {S : Type 0} (N : Machine S) (drives : ℕ) (w : World S) (n sector : ℕ)
     (address : SectorAddress) : Type 0 where
-  x : Node S
-  here : slice_get w.nodes n ≡ Some x
-  drive : ℕ
-  selected : N.selected x.machine ≡ Some drive
-  address_is : address ≡ N.address x.machine drive sector
-  there : IsTrue (has_sector drives address)
-  free : first_of (no_sector sector ∷ at_node (slice_get w.nodes n) (place_refusal N) ∷ []) ≡ None
+  pub x : Node S
+  pub here : slice_get w.nodes n ≡ Some x
+  pub drive : ℕ
+  pub selected : N.selected x.machine ≡ Some drive
+  pub address_is : address ≡ N.address x.machine drive sector
+  pub there : IsTrue (has_sector drives address)
+  pub free : first_of (no_sector sector ∷ at_node (slice_get w.nodes n) (place_refusal N) ∷ []) ≡ None
 
-stands_at : {B H D S : Type 0} (state : B → S) (M : Machine S) (records : D → List Record) (old : Running B H D)
+pub stands_at : {B H D S : Type 0} (state : B → S) (M : Machine S) (records : D → List Record) (old : Running B H D)
     (c : Course S) (n sector : ℕ) (address : SectorAddress) → (h : Shows state M records old c) → sector < SECTORS →
     ReadHost c.world.nodes n (place_refusal M) (Ok address) (does.Finds M sector) →
     StandsAt (machine_of M c) h.drives c.world n sector address

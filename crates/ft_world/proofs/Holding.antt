@@ -18,10 +18,10 @@ use Rattle.pair_protocol.proofs.Passed.{first-passed}
 use Rattle.ft_node.specs.Calls as calls
 use Rattle.ft_node.specs.Seats.{IsNode}
 use Rattle.ft_node.specs.declared.node.Node as code
-use Rattle.ft_world.specs.AtHost.{AtStation, Makes, WantsAtStation}
+use Rattle.ft_world.specs.AtStation.{AtStation, Makes, WantsAtStation}
 use Rattle.ft_world.specs.Does as does
 use Rattle.ft_world.specs.Shows.{IsStation}
-use Rattle.ft_world.specs.declared.hosts.Station.{Station}
+use Rattle.ft_world.specs.declared.station.Station.{Station}
 use Rattle.ft_world.proofs.Answering.{weaker}
 use Rattle.ft_world.proofs.Keeping.{acting_role}
 use Rattle.ft_world.proofs.Stations.{unmoved}

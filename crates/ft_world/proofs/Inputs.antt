@@ -14,10 +14,10 @@ use Rattle.pair_protocol.specs.Rows.{took}
 use Rattle.ft_node.specs.Calls as calls
 use Rattle.ft_node.specs.Seats.{IsNode}
 use Rattle.ft_node.specs.declared.node.Node as code
-use Rattle.ft_world.specs.AtHost.{AtStation, Makes}
+use Rattle.ft_world.specs.AtStation.{AtStation, Makes}
 use Rattle.ft_world.specs.Does as does
 use Rattle.ft_world.specs.Shows.{IsStation}
-use Rattle.ft_world.specs.declared.hosts.Station.{Station}
+use Rattle.ft_world.specs.declared.station.Station.{Station}
 use Rattle.ft_world.proofs.Answering.{finds}
 use Rattle.ft_world.proofs.Keeping.{serving_role, machine_count, own_inputs}
 

@@ -25,11 +25,11 @@ pub mod AtDisk
 pub mod Reading
 pub mod Hosting
 pub mod DiskReads
+pub mod Refusing
 pub mod Settling
 pub mod Generations
 pub mod Growing
 pub mod Running
-pub mod Spares
-pub mod Refusing
+pub mod Lending
 pub mod Counting
 pub mod Choices

@@ -1,11 +1,161 @@
--- A refused event at one host leaves every host as it was.
-use Rattle.std.proofs.Common.{◌≡◌, ◌∙◌, Err, List, Ok, Result, Some, ap, ℕ}
-use Rattle.std.specs.Prelude.{OnErr, slice_get, slice_set}
+-- What a refused event leaves, where that is not just what was there: a node that lost is halted, and a disk that failed
+-- has the same records.
+use Rattle.std.proofs.Common.{◌≡◌, ◌∷◌, ◌<◌, ◌∙◌, ◌≢◌, [], Bool, Err, List, None, Ok, Option, Result, Some, ap, false, inl, inr, not, refl, subst, sym, true, ℕ}
+use Rattle.std.specs.Prelude.{IfErr, slice_get, slice_set, ◌⊎◌}
+use Rattle.std.specs.Option.{option_and_then}
+use Rattle.std.specs.Result.{IsErrAnd}
+use Rattle.arbiter_core.specs.Winners.{winner_of}
+use Rattle.arbiter_core.specs.declared.arbiter.Asking.{Asking}
+use Rattle.arbiter_core.specs.declared.arbiter.Won.{Won}
+use Rattle.disk_dcdd.specs.Address.{address_of}
+use Rattle.disk_dcdd.specs.declared.address.SectorAddress.{SectorAddress}
+use Rattle.disk_dcdd.specs.declared.sector.SectorWrite.{SectorWrite}
+use Rattle.disk_dcdd.specs.declared.sector.TheConstants.{SECTORS}
+use Rattle.guest_board.specs.Machine.{Machine}
 use Rattle.i8080_words.specs.declared.refusal.Fault.{Fault}
-use Rattle.pair_protocol.proofs.OneNode.{set_get}
-use Rattle.ft_world.specs.declared.hosts.Host.{Host}
+use Rattle.i8080_words.specs.declared.refusal.Fault.TheVariants.{DeviceFault, Lost, NotWhole, OutOfMemory, WrongRole}
+use Rattle.shared_disk.specs.declared.store.Record.{Record}
+use Rattle.pair_protocol.specs.Node.{Joining, Node, halts, is_role}
+use Rattle.pair_protocol.specs.Refusals.{fault_if, first_of, place_refusal}
+use Rattle.ft_node.specs.Calls.{AskedOf, Asks, Unless}
+use Rattle.ft_node.specs.Seats.{IsNode}
+use Rattle.ft_node.specs.declared.halted.Halted.{Halted}
+use Rattle.ft_node.specs.declared.node.Node as code
+use Rattle.ft_node.specs.declared.node.Node.TheVariants as node
+use Rattle.pair_events.specs.declared.event.Event.TheVariants as event
+use Rattle.pair_events.specs.declared.reply.Reply.{Reply}
+use Rattle.ft_world.specs.Applies.{ShowsSome}
+use Rattle.ft_world.specs.Devices.{GetsSector, PutsWrite}
+use Rattle.ft_world.specs.Does.{Finds}
+use Rattle.ft_world.specs.Lending.{WithStation}
+use Rattle.ft_world.specs.Messages.{write_of}
+use Rattle.ft_world.specs.Running.{Running}
+use Rattle.ft_world.specs.Shows.{IsHost, IsStation}
+use Rattle.ft_world.specs.Standing.{machine_of}
+use Rattle.ft_world.specs.Staying.{DiskFails, Except, NodeHalts, Stays}
+use Rattle.ft_world.specs.declared.host.Host.{Host}
+use Rattle.ft_world.specs.declared.host.Host.TheVariants as host
+use Rattle.ft_world.specs.declared.message.Message.{Message}
+use Rattle.ft_world.specs.declared.station.Station.{Station}
+use Rattle.ft_world.proofs.Agreeing.{agree-other}
+use Rattle.ft_world.proofs.Applying.{no_copies_copy}
+use Rattle.ft_world.proofs.AtDisk.{brings_write, not_put}
+use Rattle.ft_world.proofs.AtHosts.{ReadHost}
+use Rattle.ft_world.proofs.DiskReads.{stands_at}
+use Rattle.ft_world.proofs.Released.{writes_on_disk}
 
-pub refused_at : {A B H : Type 0} (r : Result A Fault) (hosts : List (Host B H)) (n : ℕ) (h new : Host B H) →
-    slice_get hosts n ≡ Some h → OnErr r (new ≡ h) → OnErr r (slice_set hosts n new ≡ hosts)
-refused_at (Ok v) hosts n h new at same = tt
-refused_at (Err fault) hosts n h new at same = ap (λ k. slice_set hosts n k) same ∙ set_get hosts n h at
+-- ---- a node asks the arbiter
+
+-- the node itself does not refuse where it lost
+asked_where_lost : (down joining : Bool) (P D : Type 0)
+    → Unless {A = Won} (first_of (fault_if down WrongRole ∷ fault_if joining NotWhole ∷ [])) (Err Lost) P D → D
+asked_where_lost true joining P D d = let no = d.0 in (cc)
+asked_where_lost false true P D d = let no = d.0 in (cc)
+asked_where_lost false false P D d = d
+
+halted_where_lost : {S : Type 0} (winner : Option ℕ) (old new : List Asking) (n : ℕ) (x : Node S)
+    (Is : Node S → Type 0) → AskedOf winner old n x (Err Lost) new Is → Is (halts x)
+halted_where_lost None old new n x Is d = let no = d.0 in (cc)
+halted_where_lost (Some winner) old new n x Is d = d.3
+
+-- a node that halts is in no other role
+is_halted : {B S : Type 0} (state : B → S) (M : Machine S) (k : code.Node B) (x : Node S)
+    → IsNode state M k (halts x) → (halted : Halted) × (k ≡ node.Halted halted)
+is_halted state M (node.Primary p) x is = let up = is.up in (cc)
+is_halted state M (node.Backup b) x is = let up = is.up in (cc)
+is_halted state M (node.Draining d) x is = let up = is.up in (cc)
+is_halted state M (node.Alone a) x is = let up = is.up in (cc)
+is_halted state M (node.Halted halted) x is = (halted, refl)
+
+suspect_leaves : {B H D S : Type 0} (state : B → S) (M : Machine S) (records : D → List Record) (old : Running B H D)
+    (n : ℕ) (here s : Station B) (hosts : List (Host B H)) (askings : List Asking) (fault : Fault)
+    → ShowsSome state M records old → slice_get old.hosts n ≡ Some (host.Node here) → WithStation old.hosts n s hosts
+    → ((x : Node S) → IsStation state M here x → Asks old.askings n x (Err fault) askings (IsStation state M s))
+    → s ≡ record here { node = s.node } → (fault ≢ Lost → s ≡ here)
+    → Except Lost fault (NodeHalts n old (record old { hosts = hosts })) (record old { hosts = hosts } ≡ old)
+suspect_leaves state M records old n here s hosts askings fault some at w asks beside same = (
+  (λ lost.
+      let x = agree-other (IsHost state M) (slice_get old.hosts n) (slice_get some.course.world.nodes n) (host.Node here)
+      at (some.shows.parts.hosts n) in
+      let asked = asked_where_lost (not x.0.running) (is_role x.0.role Joining)
+      (IsStation state M s x.0 × (askings ≡ old.askings))
+      (AskedOf (winner_of old.askings x.0.generation) old.askings n x.0 (Err Lost) askings (IsStation state M s))
+      (subst (λ f. Asks old.askings n x.0 (Err f) askings (IsStation state M s)) lost (asks x.0 x.2)) in
+      let halted = is_halted state M s.node x.0
+      (halted_where_lost (winner_of old.askings x.0.generation) old.askings askings n x.0 (IsStation state M s) asked).node
+      in
+      record {
+        before = here;
+        there = at;
+        halted = halted.0;
+        rest = ap (λ hs. record old { hosts = hs })
+            (w.put ∙ ap (λ k. slice_set old.hosts n (host.Node k)) (beside ∙ ap (λ k. record here { node = k }) halted.1));
+      }),
+  (λ other. ap (λ hs. record old { hosts = hs }) (w.same (at ∙ ap (λ k. Some (host.Node k)) (sym (same other))))),
+)
+
+pub suspect_stays : {B H D S : Type 0} (state : B → S) (M : Machine S) (records : D → List Record)
+    (old : Running B H D) (n : ℕ) (here s : Station B) (hosts : List (Host B H)) (askings : List Asking)
+    (r : Result Reply Fault) (fault : Fault) → ShowsSome state M records old
+    → slice_get old.hosts n ≡ Some (host.Node here) → WithStation old.hosts n s hosts
+    → ((x : Node S) → IsStation state M here x → Asks old.askings n x (Err fault) askings (IsStation state M s))
+    → s ≡ record here { node = s.node } → (fault ≢ Lost → s ≡ here) → askings ≡ old.askings
+    → IsErrAnd r (λ k. k ≡ fault)
+    → IfErr r (λ k. Stays records (event.Suspect n) k old (record old { hosts = hosts; askings = askings }))
+suspect_stays state M records old n here s hosts askings (Ok reply) fault some at w asks beside same asked is = tt
+suspect_stays state M records old n here s hosts askings (Err k) fault some at w asks beside same asked is =
+    subst (λ f. Stays records (event.Suspect n) f old (record old { hosts = hosts; askings = askings })) (sym is)
+    (subst (λ l. Stays records (event.Suspect n) fault old (record old { hosts = hosts; askings = l })) (sym asked)
+    (suspect_leaves state M records old n here s hosts askings fault some at w asks beside same))
+
+-- ---- a disk that fails
+
+disk_leaves : {B H D : Type 0} (records : D → List Record) (old : Running B H D) (ms : List Message) (disk : D)
+    (fault : Fault) → (fault ≡ OutOfMemory) ⊎ (fault ≡ DeviceFault) → ms ≡ old.messages
+    → records disk ≡ records old.disk → (fault ≡ OutOfMemory → disk ≡ old.disk)
+    → Except DeviceFault fault (DiskFails records old (record old { messages = ms; disk = disk }))
+    (record old { messages = ms; disk = disk } ≡ old)
+disk_leaves records old ms disk fault why same kept untouched = (
+  (λ is. record { kept = kept; rest = ap (λ l. record old { messages = l; disk = disk }) same }),
+  (λ other. elim why [
+    | inl out ↦ ap (λ l. record old { messages = l; disk = disk }) same ∙ ap (λ d. record old { disk = d }) (untouched out)
+    | inr is ↦ absurd (other is)
+  ]),
+)
+
+-- what is written is of a sector of the disk, so nothing but the device refuses it
+pub put_stays : {B H D S : Type 0} (state : B → S) (M : Machine S) (records : D → List Record) (old : Running B H D)
+    (m : ℕ) (write : SectorWrite) (r : Result Reply Fault) (ms : List Message) (disk : D)
+    → ShowsSome state M records old → option_and_then write_of (slice_get old.messages m) ≡ Some write
+    → PutsWrite old.messages (records old.disk) write r ms (records disk)
+    → IfErr r (λ fault. fault ≡ OutOfMemory → disk ≡ old.disk)
+    → IfErr r (λ fault. Stays records (event.Put m) fault old (record old { messages = ms; disk = disk }))
+put_stays state M records old m write (Ok reply) ms disk some brings row untouched = tt
+put_stays state M records old m write (Err fault) ms disk some brings (why, same, kept) untouched =
+    let c = some.course in
+    let h = some.shows in
+    let N = machine_of M c in
+    let met = h.parts.disk.there (address_of write)
+    (writes_on_disk N h.drives m c.world write h.machine (no_copies_copy N) h.reached
+    (brings_write (slice_get old.messages m) (slice_get c.world.messages m) write (h.parts.messages.each m) brings)) in
+    disk_leaves records old ms disk fault (elim why [
+      | inl is ↦ inl is
+      | inr is ↦ inr (not_put (records old.disk) (address_of write) met.0 fault met.1 is)
+    ]) same kept untouched
+
+-- what is read is of a sector of the disk, too
+pub get_stays : {B H D S : Type 0} (state : B → S) (M : Machine S) (records : D → List Record) (old : Running B H D)
+    (n sector : ℕ) (address : SectorAddress) (r : Result Reply Fault) (ms : List Message) (disk : D)
+    → (some : ShowsSome state M records old) → sector < SECTORS
+    → ReadHost some.course.world.nodes n (place_refusal M) (Ok address) (Finds M sector)
+    → GetsSector old.messages (records old.disk) address r ms (records disk)
+    → IfErr r (λ fault. fault ≡ OutOfMemory → disk ≡ old.disk)
+    → IfErr r (λ fault. Stays records (event.Get n sector) fault old (record old { messages = ms; disk = disk }))
+get_stays state M records old n sector address (Ok reply) ms disk some low at row untouched = tt
+get_stays state M records old n sector address (Err fault) ms disk some low at (why, same, kept) untouched =
+    let h = some.shows in
+    let met = h.parts.disk.there address (stands_at state M records old some.course n sector address h low at).there in
+    disk_leaves records old ms disk fault (elim why [
+      | inl is ↦ inl is
+      | inr is ↦ inr (not_put (records old.disk) address met.0 fault met.1 is)
+    ]) same kept untouched

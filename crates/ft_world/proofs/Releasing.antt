@@ -20,8 +20,8 @@ use Rattle.pair_protocol.specs.Row.{Accepts}
 use Rattle.pair_protocol.specs.World as world
 use Rattle.pair_protocol.specs.World.{World, terminal_in, with_told}
 use Rattle.ft_world.specs.Applies.{Applies, Shows}
-use Rattle.ft_world.specs.AtHost as host
-use Rattle.ft_world.specs.AtHost.{ReadHost}
+use Rattle.ft_world.proofs.AtHosts as host
+use Rattle.ft_world.proofs.AtHosts.{ReadHost}
 use Rattle.ft_world.specs.Devices.{no_device, screen_in}
 use Rattle.ft_world.specs.Does as does
 use Rattle.ft_world.specs.Messages.{Says, released}

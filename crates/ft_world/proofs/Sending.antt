@@ -19,8 +19,8 @@ use Rattle.pair_protocol.specs.World as sent
 use Rattle.pair_protocol.specs.World.{with_message}
 use Rattle.ft_node.specs.Calls.{Gives, SendsEntry, Unless}
 use Rattle.ft_world.specs.Applies.{Applies, Shows, ShowsParts}
-use Rattle.ft_world.specs.AtHost as host
-use Rattle.ft_world.specs.AtHost.{AskHost}
+use Rattle.ft_world.proofs.AtHosts as host
+use Rattle.ft_world.proofs.AtHosts.{AskHost}
 use Rattle.ft_world.specs.Messages.{Says}
 use Rattle.ft_world.specs.Does as does
 use Rattle.ft_world.specs.Running.{Running}

@@ -15,9 +15,9 @@ use Rattle.ft_world.specs.Applies.{Shows}
 use Rattle.ft_world.specs.Running.{Running}
 use Rattle.ft_world.specs.Shows.{Agree, IsHost}
 use Rattle.ft_world.specs.Standing.{Course, machine_of}
-use Rattle.ft_world.specs.declared.hosts.Host.{Host}
-use Rattle.ft_world.specs.declared.hosts.Host.TheVariants as host
-use Rattle.ft_world.specs.declared.hosts.Station.{Station}
+use Rattle.ft_world.specs.declared.host.Host.{Host}
+use Rattle.ft_world.specs.declared.host.Host.TheVariants as host
+use Rattle.ft_world.specs.declared.station.Station.{Station}
 use Rattle.ft_world.proofs.Applying.{no_copies_copy}
 
 count_same : {S : Type 0} (M : Machine S) (c : Course S) (x : Node S) (role : Role) →

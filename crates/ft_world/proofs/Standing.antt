@@ -17,12 +17,11 @@ use Rattle.ft_node.specs.declared.node.Node as code
 use Rattle.ft_node.specs.declared.node.Node.TheVariants as seat
 use Rattle.pair_protocol.proofs.NodeStands.{nodes_stand}
 use Rattle.ft_world.specs.Applies.{Shows, ShowsSome}
-use Rattle.ft_world.specs.AtHost.{AllMayRun, HostMayRun}
 use Rattle.ft_world.specs.Running.{Running}
 use Rattle.ft_world.specs.Shows.{IsHost}
 use Rattle.ft_world.specs.Standing.{Course, IsMachine, machine_of}
-use Rattle.ft_world.specs.declared.hosts.Host.{Host}
-use Rattle.ft_world.specs.declared.hosts.Host.TheVariants as host
+use Rattle.ft_world.specs.declared.station.Station.{Station}
+use Rattle.ft_world.specs.declared.host.Host.TheVariants as host
 use Rattle.ft_world.proofs.Agreeing.{agree-other}
 use Rattle.ft_world.proofs.Applying.{no_copies_copy}
 
@@ -59,18 +58,11 @@ may_run state M records old c n x (seat.Draining d) h there is = tt
 may_run state M records old c n x (seat.Alone a) h there is = tt
 may_run state M records old c n x (seat.Halted a) h there is = tt
 
-host_may_run : {B H D S : Type 0} (state : B → S) (M : Machine S) (records : D → List Record) (old : Running B H D)
-    (c : Course S) (n : ℕ) (x : Node S) (here : Host B H) → Shows state M records old c →
-    slice_get c.world.nodes n ≡ Some x → IsHost state M here x → HostMayRun state M here
-host_may_run state M records old c n x (host.Node station) h there is =
-    may_run state M records old c n x station.node h there is.node
-host_may_run state M records old c n x (host.Spare resources) h there is = tt
-
-pub all_may_run : {B H D S : Type 0} (state : B → S) (M : Machine S) (records : D → List Record)
-    (old : Running B H D) → ShowsSome state M records old → AllMayRun state M old.hosts
-all_may_run state M records old some = λ n here there.
+pub station_may_run : {B H D S : Type 0} (state : B → S) (M : Machine S) (records : D → List Record)
+    (old : Running B H D) (n : ℕ) (station : Station B) → ShowsSome state M records old →
+    slice_get old.hosts n ≡ Some (host.Node station) → MayRun state M station.node
+station_may_run state M records old n station some at =
     let c = some.course in
-    let h = some.shows in
-    let x = agree-other (IsHost state M) (slice_get old.hosts n) (slice_get c.world.nodes n) here there
-    (h.parts.hosts n) in
-    host_may_run state M records old c n x.0 here h x.1 x.2
+    let x = agree-other (IsHost state M) (slice_get old.hosts n) (slice_get c.world.nodes n) (host.Node station) at
+    (some.shows.parts.hosts n) in
+    may_run state M records old c n x.0 station.node some.shows x.1 x.2.node

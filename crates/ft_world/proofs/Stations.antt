@@ -21,10 +21,10 @@ use Rattle.ft_node.specs.Seats.{IsNode}
 use Rattle.ft_node.specs.declared.node.Node as code
 use Rattle.ft_node.specs.declared.ran.Drained.{Drained}
 use Rattle.ft_node.specs.declared.ran.Ran.{Ran}
-use Rattle.ft_world.specs.AtHost.{AtStation, DoesAtStation, Makes, WantsAtStation}
+use Rattle.ft_world.specs.AtStation.{AtStation, DoesAtStation, Makes, WantsAtStation}
 use Rattle.ft_world.specs.Does as does
 use Rattle.ft_world.specs.Shows.{IsStation}
-use Rattle.ft_world.specs.declared.hosts.Station.{Station}
+use Rattle.ft_world.specs.declared.station.Station.{Station}
 use Rattle.ft_world.proofs.Answering.{asked, gives, hands_on, maps, unless, weaker}
 use Rattle.ft_world.proofs.Keeping.{Kept, kept_here, advances_keep, replays_keep, same_list, same_count, serving_role, machine_count, acting_role, held_count, held_inputs}
 

@@ -7,10 +7,10 @@ use Rattle.pair_protocol.specs.Node.{Node}
 use Rattle.pair_protocol.proofs.Moves.{same_some}
 use Rattle.ft_node.specs.Seats.{IsNode, IsRole}
 use Rattle.ft_world.specs.Shows.{AreHosts, IsHost, IsStatusAt}
-use Rattle.ft_world.specs.declared.hosts.Host.{Host}
-use Rattle.ft_world.specs.declared.hosts.Host.TheVariants as host
+use Rattle.ft_world.specs.declared.host.Host.{Host}
+use Rattle.ft_world.specs.declared.host.Host.TheVariants as host
 use Rattle.ft_world.specs.declared.hosts.NodeStatus.{NodeStatus}
-use Rattle.ft_world.specs.declared.hosts.Station.{Station}
+use Rattle.ft_world.specs.declared.station.Station.{Station}
 use Rattle.ft_world.proofs.Agreeing.{agree-other}
 
 -- what holds of the value that a call gives holds of the one that was found

@@ -17,7 +17,7 @@ use Rattle.ft_world.specs.Applies.{ShowsParts}
 use Rattle.ft_world.specs.Running.{Running}
 use Rattle.ft_world.specs.Shows.{AreHosts, AreWinners, IsOnlyBackup}
 use Rattle.ft_world.specs.Standing.{Course}
-use Rattle.ft_world.specs.declared.hosts.Host.{Host}
+use Rattle.ft_world.specs.declared.host.Host.{Host}
 use Rattle.ft_world.proofs.AtNodes.{highest_set, set_cases}
 
 asking_other : (askings : List Asking) (g n k : ℕ) → (k ≡ g → ⊥) →

@@ -54,7 +54,7 @@ pub record Applies {B H D S : Type 0} (state : B → S) (M : Machine S) (records
   pub after : World S
   pub row : Row (machine_of M c) no_copies c.world (event_of e) (answer_of answer) after
   pub shows : Shows state M records new (record c { world = after })
-  pub faithful : Faithful (machine_of M c) no_copies after
+  pub faithful : Faithful (machine_of M c) after
   pub grows : Grows (machine_of M c) c.world after
 
 -- an event happens: whatever world is shown, it applies there
@@ -65,7 +65,7 @@ Happens {S = S} state M records old e answer new =
 
 -- the world of a course is faithful
 abbrev pub IsFaithful : {S : Type 0} → Machine S → Course S → Type 0
-IsFaithful M c = Faithful (machine_of M c) no_copies c.world
+IsFaithful M c = Faithful (machine_of M c) c.world
 
 -- how many device failures an event's answer tells of; only a put and a get come to the device
 abbrev pub failures_told : Event → Result Reply Fault → ℕ
@@ -94,7 +94,7 @@ pub record Runs {B H D S : Type 0} (state : B → S) (M : Machine S) (records : 
   pub rows : Rows (machine_of M c) c.world (map event_of events) (map answer_of answers) after
   pub each : length answers ≡ length events
   pub shows : Shows state M records new (record c { world = after })
-  pub faithful : Faithful (machine_of M c) no_copies after
+  pub faithful : Faithful (machine_of M c) after
   pub grows : Grows (machine_of M c) c.world after
 
 -- what the disk of a world has in a sector

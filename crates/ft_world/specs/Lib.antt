@@ -3,11 +3,12 @@ pub mod Standing
 pub mod Running
 pub mod Shows
 pub mod Does
-pub mod AtHost
+pub mod AtStation
 pub mod Messages
 pub mod Devices
 pub mod Pairs
 pub mod Staying
+pub mod Lending
 pub mod Applies
 pub mod Beginning
 pub mod Choices

@@ -3,7 +3,7 @@
 use Rattle.std.specs.Prelude.{ℕ, List}
 use Rattle.arbiter_core.specs.declared.arbiter.Asking.{Asking}
 use Rattle.terminals.specs.Screen.{Screen}
-use Rattle.ft_world.specs.declared.hosts.Host.{Host}
+use Rattle.ft_world.specs.declared.host.Host.{Host}
 use Rattle.ft_world.specs.declared.message.Message.{Message}
 
 pub record Running (B H D : Type 0) : Type 0 where

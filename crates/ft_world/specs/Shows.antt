@@ -15,10 +15,10 @@ use Rattle.pair_protocol.specs.Settled.{list_of, count_in, is_backup}
 use Rattle.pair_protocol.specs.World as protocol
 use Rattle.ft_node.specs.Seats.{IsNode, IsRole}
 use Rattle.ft_world.specs.Words.{IsMessage}
-use Rattle.ft_world.specs.declared.hosts.Host.{Host}
-use Rattle.ft_world.specs.declared.hosts.Host.TheVariants as host
+use Rattle.ft_world.specs.declared.host.Host.{Host}
+use Rattle.ft_world.specs.declared.host.Host.TheVariants as host
 use Rattle.ft_world.specs.declared.hosts.NodeStatus.{NodeStatus}
-use Rattle.ft_world.specs.declared.hosts.Station.{Station}
+use Rattle.ft_world.specs.declared.station.Station.{Station}
 use Rattle.ft_world.specs.declared.message.Message.{Message}
 
 -- a node beside its list of inputs and its count, by which it settles

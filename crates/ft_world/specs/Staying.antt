@@ -1,13 +1,16 @@
 -- What an event leaves as it was.
-use Rattle.std.specs.Prelude.{◌≡◌, ℕ, ◌⊎◌, List, map, Option, Some, None, slice_set}
+use Rattle.std.specs.Prelude.{◌≡◌, ◌≢◌, ℕ, List, map, Option, Some, None, slice_get, slice_set}
 use Rattle.i8080_words.specs.declared.refusal.Fault.{Fault}
 use Rattle.i8080_words.specs.declared.refusal.Fault.TheVariants.{DeviceFault, Lost}
 use Rattle.shared_disk.specs.declared.store.Record.{Record}
 use Rattle.pair_events.specs.declared.event.Event.{Event}
 use Rattle.pair_events.specs.declared.event.Event.TheVariants as event
+use Rattle.ft_node.specs.declared.halted.Halted.{Halted}
+use Rattle.ft_node.specs.declared.node.Node.TheVariants as node
 use Rattle.ft_world.specs.Running.{Running}
-use Rattle.ft_world.specs.declared.hosts.Host.{Host}
-use Rattle.ft_world.specs.declared.hosts.Host.TheVariants as host
+use Rattle.ft_world.specs.declared.host.Host.{Host}
+use Rattle.ft_world.specs.declared.host.Host.TheVariants as host
+use Rattle.ft_world.specs.declared.station.Station.{Station}
 
 -- what a host has for a machine that is copied there, while it has no role
 abbrev pub spare_of : {B H : Type 0} → Host B H → Option H
@@ -18,20 +21,28 @@ spare_of (host.Spare resources) = Some resources
 abbrev pub SpareHostsStay : {B H : Type 0} → List (Host B H) → List (Host B H) → Type 0
 SpareHostsStay old new = map spare_of new ≡ map spare_of old
 
--- another host stands in one place; all else is as it was
-pub record HostChanges {B H D : Type 0} (n : ℕ) (old new : Running B H D) : Type 0 where
-  pub changed : Host B H
-  pub rest : new ≡ record old { hosts = slice_set old.hosts n changed }
+-- the node of a number is halted, beside the same inputs and the same count; all else is as it was
+pub record NodeHalts {B H D : Type 0} (n : ℕ) (old new : Running B H D) : Type 0 where
+  pub before : Station B
+  pub there : slice_get old.hosts n ≡ Some (host.Node before)
+  pub halted : Halted
+  pub rest : new ≡ record old {
+    hosts = slice_set old.hosts n (host.Node (record before { node = node.Halted halted }));
+  }
 
 -- the disk has the same records; all but the disk is as it was
 pub record DiskFails {B H D : Type 0} (records : D → List Record) (old new : Running B H D) : Type 0 where
   pub kept : records new.disk ≡ records old.disk
   pub rest : new ≡ record old { disk = new.disk }
 
--- a refused event leaves all as it was: but one that asked the arbiter and lost is another host, and a disk that failed
--- may have noted it
+-- a refusal leaves a change if it is this one, and else all as it was
+abbrev pub Except : Fault → Fault → Type 0 → Type 0 → Type 0
+Except reason fault changes same = (fault ≡ reason → changes) × (fault ≢ reason → same)
+
+-- a refused event leaves all as it was, except that a node that asked the arbiter and lost is halted, and that a disk
+-- that failed may have counted the failure
 abbrev pub Stays : {B H D : Type 0} → (D → List Record) → Event → Fault → Running B H D → Running B H D → Type 0
-Stays records (event.Suspect n) fault old new = ((fault ≡ Lost) × HostChanges n old new) ⊎ (new ≡ old)
-Stays records (event.Put m) fault old new = ((fault ≡ DeviceFault) × DiskFails records old new) ⊎ (new ≡ old)
-Stays records (event.Get n sector) fault old new = ((fault ≡ DeviceFault) × DiskFails records old new) ⊎ (new ≡ old)
+Stays records (event.Suspect n) fault old new = Except Lost fault (NodeHalts n old new) (new ≡ old)
+Stays records (event.Put m) fault old new = Except DeviceFault fault (DiskFails records old new) (new ≡ old)
+Stays records (event.Get n sector) fault old new = Except DeviceFault fault (DiskFails records old new) (new ≡ old)
 Stays records _ fault old new = new ≡ old

@@ -1,9 +1,9 @@
 //! The events at terminals and at the disk, and what nodes hear from them.
-ghost use Rattle.std.specs.Prelude.{◌≡◌, ◌+◌};
+ghost use Rattle.std.specs.Prelude.{◌≡◌, ◌+◌, IfErr, OnErr};
 ghost use Rattle.shared_disk.specs.Records.{faults_in};
 ghost use Rattle.ft_world.specs.Applies.{Happens, ShowsSome};
 ghost use Rattle.ft_world.specs.Pairs.{running_of};
-ghost use Rattle.ft_world.specs.Staying.{SpareHostsStay};
+ghost use Rattle.ft_world.specs.Staying.{SpareHostsStay, Stays};
 ghost use Rattle.pair_events.specs.declared.event.Event.TheVariants as happens;
 
 use crate::message::Message;
@@ -22,6 +22,7 @@ impl<B: Lockstep + Drop, D: SectorStore, H: Drop> Pair<B, D, H> {
         ensures row { Happens B.state B.machine D.records (running_of self.old) (happens.TypeByte port byte) result
             (running_of self.new) }
         ensures disk { self.new.disk ≡ self.old.disk }
+        ensures unchanged { OnErr result (running_of self.new ≡ running_of self.old) }
         ensures spares { SpareHostsStay self.old.hosts.items self.new.hosts.items }
     {
         devices::type_byte(&mut self.terminals, port, byte)
@@ -32,10 +33,12 @@ impl<B: Lockstep + Drop, D: SectorStore, H: Drop> Pair<B, D, H> {
         ensures row { Happens B.state B.machine D.records (running_of self.old) (happens.Release node id) result
             (running_of self.new) }
         ensures disk { self.new.disk ≡ self.old.disk }
+        ensures unchanged { OnErr result (running_of self.new ≡ running_of self.old) }
         ensures spares { SpareHostsStay self.old.hosts.items self.new.hosts.items }
     {
         devices::check_device(id)?;
-        let operation = hosts::release(&self.hosts, node, id)?;
+        let station = hosts::station(&self.hosts, node)?;
+        let operation = station.node.release(id)?;
         messages::say(&mut self.messages, Message::releasing(operation))
     }
 
@@ -44,6 +47,7 @@ impl<B: Lockstep + Drop, D: SectorStore, H: Drop> Pair<B, D, H> {
         ensures row { Happens B.state B.machine D.records (running_of self.old) (happens.Arrive message) result
             (running_of self.new) }
         ensures disk { self.new.disk ≡ self.old.disk }
+        ensures unchanged { OnErr result (running_of self.new ≡ running_of self.old) }
         ensures spares { SpareHostsStay self.old.hosts.items self.new.hosts.items }
     {
         let Some((port, number, byte)) = messages::byte_in(&self.messages, message) else {
@@ -58,10 +62,12 @@ impl<B: Lockstep + Drop, D: SectorStore, H: Drop> Pair<B, D, H> {
         ensures row { Happens B.state B.machine D.records (running_of self.old) (happens.TellSent node port number)
             result (running_of self.new) }
         ensures disk { self.new.disk ≡ self.old.disk }
+        ensures unchanged { OnErr result (running_of self.new ≡ running_of self.old) }
         ensures spares { SpareHostsStay self.old.hosts.items self.new.hosts.items }
     {
         devices::check_accepted(&self.terminals, port, number)?;
-        hosts::sent(&mut self.hosts, node, port, number)?;
+        let station = hosts::station_mut(&mut self.hosts, node)?;
+        station.sent(port, number)?;
         Ok(Reply::Taken)
     }
 
@@ -70,21 +76,26 @@ impl<B: Lockstep + Drop, D: SectorStore, H: Drop> Pair<B, D, H> {
         ensures row { Happens B.state B.machine D.records (running_of self.old) (happens.Told node port) result
             (running_of self.new) }
         ensures disk { self.new.disk ≡ self.old.disk }
+        ensures unchanged { OnErr result (running_of self.new ≡ running_of self.old) }
         ensures spares { SpareHostsStay self.old.hosts.items self.new.hosts.items }
     {
         if port as usize >= PORTS {
             return Err(Fault::Unknown);
         }
-        let keys = hosts::told(&self.hosts, node, port)?;
+        let station = hosts::station(&self.hosts, node)?;
+        let keys = station.node.told(port)?;
         devices::tell(&mut self.terminals, port, keys);
         Ok(Reply::Told { keys })
     }
 
     /// A released write comes to the shared disk.
     pub(crate) fn put(&mut self, message: u64) -> R<Reply>
+        requires shown { ShowsSome B.state B.machine D.records (running_of self.old) }
         ensures row { Happens B.state B.machine D.records (running_of self.old) (happens.Put message) result
             (running_of self.new) }
         ensures counted { D.failures self.new.disk ≡ D.failures self.old.disk + faults_in result }
+        ensures unchanged { IfErr result (λ fault. Stays D.records (happens.Put message) fault (running_of self.old)
+            (running_of self.new)) }
         ensures spares { SpareHostsStay self.old.hosts.items self.new.hosts.items }
     {
         let Some(write) = messages::write_in(&self.messages, message) else {
@@ -99,27 +110,32 @@ impl<B: Lockstep + Drop, D: SectorStore, H: Drop> Pair<B, D, H> {
         ensures row { Happens B.state B.machine D.records (running_of self.old) (happens.PutReply message node) result
             (running_of self.new) }
         ensures disk { self.new.disk ≡ self.old.disk }
+        ensures unchanged { OnErr result (running_of self.new ≡ running_of self.old) }
         ensures spares { SpareHostsStay self.old.hosts.items self.new.hosts.items }
     {
         let Some(number) = messages::written_in(&self.messages, message) else {
             return Err(Fault::Unknown);
         };
-        hosts::done(&mut self.hosts, node, number)?;
+        let station = hosts::station_mut(&mut self.hosts, node)?;
+        station.done(number)?;
         Ok(Reply::Taken)
     }
 
     /// A node reads a sector of its selected drive.
     pub(crate) fn get(&mut self, node: u64, sector: u8) -> R<Reply>
+        requires shown { ShowsSome B.state B.machine D.records (running_of self.old) }
         ensures row { Happens B.state B.machine D.records (running_of self.old) (happens.Get node sector) result
             (running_of self.new) }
-        ensures counted { ShowsSome B.state B.machine D.records (running_of self.old)
-            → D.failures self.new.disk ≡ D.failures self.old.disk + faults_in result }
+        ensures counted { D.failures self.new.disk ≡ D.failures self.old.disk + faults_in result }
+        ensures unchanged { IfErr result (λ fault. Stays D.records (happens.Get node sector) fault (running_of self.old)
+            (running_of self.new)) }
         ensures spares { SpareHostsStay self.old.hosts.items self.new.hosts.items }
     {
         if sector >= SECTORS {
             return Err(Fault::Unknown);
         }
-        let address = hosts::place(&self.hosts, node, sector)?;
+        let station = hosts::station(&self.hosts, node)?;
+        let address = station.node.place(sector)?;
         devices::get(&mut self.messages, &mut self.disk, address)
     }
 
@@ -129,6 +145,7 @@ impl<B: Lockstep + Drop, D: SectorStore, H: Drop> Pair<B, D, H> {
         ensures row { Happens B.state B.machine D.records (running_of self.old) (happens.GetReply message node) result
             (running_of self.new) }
         ensures disk { self.new.disk ≡ self.old.disk }
+        ensures unchanged { OnErr result (running_of self.new ≡ running_of self.old) }
         ensures spares { SpareHostsStay self.old.hosts.items self.new.hosts.items }
     {
         let Some(read) = messages::sector_in(&self.messages, message) else {
@@ -139,7 +156,8 @@ impl<B: Lockstep + Drop, D: SectorStore, H: Drop> Pair<B, D, H> {
             track: read.track,
             sector: read.sector,
         };
-        hosts::under(&mut self.hosts, node, address, read.number, read.bytes)?;
+        let station = hosts::station_mut(&mut self.hosts, node)?;
+        station.under(address, read.number, read.bytes)?;
         Ok(Reply::Taken)
     }
 }

@@ -1,8 +1,8 @@
 //! What an event does at the terminals, and at the disk with the answer that it sends.
-ghost use Rattle.std.specs.Prelude.{◌≡◌, ◌<◌, ◌+◌, OnOk, ok_or, slice_get, slice_set};
+ghost use Rattle.std.specs.Prelude.{◌≡◌, ◌<◌, ◌+◌, IfErr, OnOk, ok_or, slice_get, slice_set};
 ghost use Rattle.disk_dcdd.specs.Completion.{answered};
 ghost use Rattle.event_callbacks.specs.declared.devices.TheConstants.{PORTS};
-ghost use Rattle.i8080_words.specs.declared.refusal.Fault.TheVariants.{Unknown};
+ghost use Rattle.i8080_words.specs.declared.refusal.Fault.TheVariants.{OutOfMemory, Unknown};
 ghost use Rattle.shared_disk.specs.Records.{faults_in};
 ghost use Rattle.terminals.specs.Screen.{after_telling};
 ghost use Rattle.ft_world.specs.Devices as table;
@@ -48,6 +48,7 @@ pub(crate) fn put<D: SectorStore>(
 ) -> R<Reply>
     ensures row { table.PutsWrite messages.old.items (D.records disk.old) write.now result messages.new.items
         (D.records disk.new) }
+    ensures untouched { IfErr result (λ fault. fault ≡ OutOfMemory → disk.new ≡ disk.old) }
     ensures counted { D.failures disk.new ≡ D.failures disk.old + faults_in result }
 {
     messages.reserve(1)?;
@@ -130,6 +131,7 @@ pub(crate) fn get<D: SectorStore>(
 ) -> R<Reply>
     ensures row { table.GetsSector messages.old.items (D.records disk.old) address result messages.new.items
         (D.records disk.new) }
+    ensures untouched { IfErr result (λ fault. fault ≡ OutOfMemory → disk.new ≡ disk.old) }
     ensures counted { D.failures disk.new ≡ D.failures disk.old + faults_in result }
 {
     messages.reserve(1)?;

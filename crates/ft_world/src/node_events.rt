@@ -1,8 +1,8 @@
 //! The events at a node alone.
-ghost use Rattle.std.specs.Prelude.{◌≡◌};
+ghost use Rattle.std.specs.Prelude.{◌≡◌, IfErr, OnErr};
 ghost use Rattle.ft_world.specs.Applies.{Happens, ShowsSome};
 ghost use Rattle.ft_world.specs.Pairs.{running_of};
-ghost use Rattle.ft_world.specs.Staying.{SpareHostsStay};
+ghost use Rattle.ft_world.specs.Staying.{SpareHostsStay, Stays};
 ghost use Rattle.pair_events.specs.declared.event.Event.TheVariants as happens;
 
 use crate::message::Message;
@@ -21,9 +21,11 @@ impl<B: Lockstep + Drop, D: SectorStore, H: Drop> Pair<B, D, H> {
         ensures row { Happens B.state B.machine D.records (running_of self.old) (happens.Step node turns) result
             (running_of self.new) }
         ensures disk { self.new.disk ≡ self.old.disk }
+        ensures unchanged { OnErr result (running_of self.new ≡ running_of self.old) }
         ensures spares { SpareHostsStay self.old.hosts.items self.new.hosts.items }
     {
-        let ran = hosts::step(&mut self.hosts, node, turns)?;
+        let station = hosts::station_mut(&mut self.hosts, node)?;
+        let ran = station.step(turns)?;
         Ok(Reply::Ran {
             steps: ran.steps,
             count: ran.count,
@@ -37,10 +39,12 @@ impl<B: Lockstep + Drop, D: SectorStore, H: Drop> Pair<B, D, H> {
         ensures row { Happens B.state B.machine D.records (running_of self.old) (happens.TakeKey node port index) result
             (running_of self.new) }
         ensures disk { self.new.disk ≡ self.old.disk }
+        ensures unchanged { OnErr result (running_of self.new ≡ running_of self.old) }
         ensures spares { SpareHostsStay self.old.hosts.items self.new.hosts.items }
     {
         let byte = devices::key_at(&self.terminals, port, index)?;
-        hosts::key(&mut self.hosts, node, port, index, byte)?;
+        let station = hosts::station_mut(&mut self.hosts, node)?;
+        station.key(port, index, byte)?;
         Ok(Reply::Taken)
     }
 
@@ -49,9 +53,11 @@ impl<B: Lockstep + Drop, D: SectorStore, H: Drop> Pair<B, D, H> {
         ensures row { Happens B.state B.machine D.records (running_of self.old) (happens.Send node index) result
             (running_of self.new) }
         ensures disk { self.new.disk ≡ self.old.disk }
+        ensures unchanged { OnErr result (running_of self.new ≡ running_of self.old) }
         ensures spares { SpareHostsStay self.old.hosts.items self.new.hosts.items }
     {
-        let bytes = hosts::packet(alloc, &self.hosts, node, index)?;
+        let station = hosts::station(&self.hosts, node)?;
+        let bytes = station.node.packet(alloc, index)?;
         messages::say(&mut self.messages, Message::Log(bytes))
     }
 
@@ -60,12 +66,14 @@ impl<B: Lockstep + Drop, D: SectorStore, H: Drop> Pair<B, D, H> {
         ensures row { Happens B.state B.machine D.records (running_of self.old) (happens.DeliverLog message node) result
             (running_of self.new) }
         ensures disk { self.new.disk ≡ self.old.disk }
+        ensures unchanged { OnErr result (running_of self.new ≡ running_of self.old) }
         ensures spares { SpareHostsStay self.old.hosts.items self.new.hosts.items }
     {
         let Some(packet) = messages::log_in(&self.messages, message) else {
             return Err(Fault::Unknown);
         };
-        if hosts::on_log(&mut self.hosts, node, packet)? {
+        let station = hosts::station_mut(&mut self.hosts, node)?;
+        if station.on_log(packet)? {
             Ok(Reply::New)
         } else {
             Ok(Reply::Old)
@@ -77,9 +85,11 @@ impl<B: Lockstep + Drop, D: SectorStore, H: Drop> Pair<B, D, H> {
         ensures row { Happens B.state B.machine D.records (running_of self.old) (happens.Acknowledge node) result
             (running_of self.new) }
         ensures disk { self.new.disk ≡ self.old.disk }
+        ensures unchanged { OnErr result (running_of self.new ≡ running_of self.old) }
         ensures spares { SpareHostsStay self.old.hosts.items self.new.hosts.items }
     {
-        let bytes = hosts::ack(alloc, &self.hosts, node)?;
+        let station = hosts::station(&self.hosts, node)?;
+        let bytes = station.node.ack(alloc)?;
         messages::say(&mut self.messages, Message::Ack(bytes))
     }
 
@@ -88,12 +98,14 @@ impl<B: Lockstep + Drop, D: SectorStore, H: Drop> Pair<B, D, H> {
         ensures row { Happens B.state B.machine D.records (running_of self.old)
             (happens.DeliverAcknowledgement message node) result (running_of self.new) }
         ensures disk { self.new.disk ≡ self.old.disk }
+        ensures unchanged { OnErr result (running_of self.new ≡ running_of self.old) }
         ensures spares { SpareHostsStay self.old.hosts.items self.new.hosts.items }
     {
         let Some(packet) = messages::ack_in(&self.messages, message) else {
             return Err(Fault::Unknown);
         };
-        let held = hosts::on_ack(&mut self.hosts, node, packet)?;
+        let station = hosts::station_mut(&mut self.hosts, node)?;
+        let held = station.on_ack(packet)?;
         Ok(Reply::Held { held })
     }
 
@@ -103,9 +115,11 @@ impl<B: Lockstep + Drop, D: SectorStore, H: Drop> Pair<B, D, H> {
         ensures row { Happens B.state B.machine D.records (running_of self.old) (happens.Replay node turns) result
             (running_of self.new) }
         ensures disk { self.new.disk ≡ self.old.disk }
+        ensures unchanged { OnErr result (running_of self.new ≡ running_of self.old) }
         ensures spares { SpareHostsStay self.old.hosts.items self.new.hosts.items }
     {
-        let replayed = hosts::replay(&mut self.hosts, node, turns)?;
+        let station = hosts::station_mut(&mut self.hosts, node)?;
+        let replayed = station.replay(turns)?;
         Ok(Reply::Moved {
             moves: replayed.moves,
             at_end: replayed.at_end,
@@ -114,12 +128,16 @@ impl<B: Lockstep + Drop, D: SectorStore, H: Drop> Pair<B, D, H> {
 
     /// A node asks the arbiter for its generation.
     pub(crate) fn suspect(&mut self, node: u64) -> R<Reply>
+        requires shown { ShowsSome B.state B.machine D.records (running_of self.old) }
         ensures row { Happens B.state B.machine D.records (running_of self.old) (happens.Suspect node) result
             (running_of self.new) }
         ensures disk { self.new.disk ≡ self.old.disk }
+        ensures unchanged { IfErr result (λ fault. Stays D.records (happens.Suspect node) fault (running_of self.old)
+            (running_of self.new)) }
         ensures spares { SpareHostsStay self.old.hosts.items self.new.hosts.items }
     {
-        hosts::suspect(&mut self.hosts, node, &mut self.arbiter)?;
+        let station = hosts::station_mut(&mut self.hosts, node)?;
+        station.suspect(node, &mut self.arbiter)?;
         Ok(Reply::Won)
     }
 
@@ -129,9 +147,11 @@ impl<B: Lockstep + Drop, D: SectorStore, H: Drop> Pair<B, D, H> {
         ensures row { Happens B.state B.machine D.records (running_of self.old) (happens.Drain node turns) result
             (running_of self.new) }
         ensures disk { self.new.disk ≡ self.old.disk }
+        ensures unchanged { OnErr result (running_of self.new ≡ running_of self.old) }
         ensures spares { SpareHostsStay self.old.hosts.items self.new.hosts.items }
     {
-        let drained = hosts::drain(&mut self.hosts, node, turns)?;
+        let station = hosts::station_mut(&mut self.hosts, node)?;
+        let drained = station.drain(turns)?;
         let moves = drained.moves;
         if drained.alone {
             Ok(Reply::MovedAlone { moves })
@@ -148,9 +168,11 @@ impl<B: Lockstep + Drop, D: SectorStore, H: Drop> Pair<B, D, H> {
         ensures row { Happens B.state B.machine D.records (running_of self.old) (happens.Stop node) result
             (running_of self.new) }
         ensures disk { self.new.disk ≡ self.old.disk }
+        ensures unchanged { OnErr result (running_of self.new ≡ running_of self.old) }
         ensures spares { SpareHostsStay self.old.hosts.items self.new.hosts.items }
     {
-        hosts::stop(&mut self.hosts, node)?;
+        let station = hosts::station_mut(&mut self.hosts, node)?;
+        station.stop()?;
         Ok(Reply::Stopped)
     }
 }

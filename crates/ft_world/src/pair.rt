@@ -7,10 +7,10 @@ ghost use Rattle.ft_world.specs.Applies.{failures_over, failures_told};
 ghost use Rattle.ft_world.specs.Beginning.{MayBegin, beginning};
 ghost use Rattle.ft_world.specs.Standing.{Course, machine_of};
 ghost use Rattle.ft_world.specs.Pairs.{running_of};
-ghost use Rattle.ft_world.specs.Staying.{SpareHostsStay};
-ghost use Rattle.ft_world.specs.declared.hosts.Host.TheVariants as host;
+ghost use Rattle.ft_world.specs.Staying.{SpareHostsStay, Stays};
+ghost use Rattle.ft_world.specs.declared.host.Host.TheVariants as host;
 
-use crate::hosts::Host;
+use crate::host::Host;
 use crate::message::Message;
 use crate::room::Room;
 use arbiter_core::Arbiter;
@@ -64,6 +64,8 @@ impl<B: Lockstep + Drop, D: SectorStore, H: Drop> Pair<B, D, H> {
         requires shown { ShowsSome B.state B.machine D.records (running_of self.old) }
         ensures row { Happens B.state B.machine D.records (running_of self.old) event result (running_of self.new) }
         ensures counted { D.failures self.new.disk ≡ D.failures self.old.disk + failures_told event result }
+        ensures unchanged { IfErr result (λ fault. Stays D.records event fault (running_of self.old)
+            (running_of self.new)) }
         ensures spares { SpareHostsStay self.old.hosts.items self.new.hosts.items }
     {
         match event {

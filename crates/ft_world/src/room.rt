@@ -6,7 +6,8 @@ ghost use Rattle.pair_protocol.specs.World.{opening};
 ghost use Rattle.ft_world.specs.Shows.{AreHosts};
 ghost use Rattle.ft_world.specs.Standing.{Course, machine_of};
 
-use crate::hosts::{Host, Station};
+use crate::host::Host;
+use crate::station::Station;
 use ft_node::Node;
 use guest_board::Lockstep;
 use i8080_words::R;

@@ -1,21 +1,19 @@
-//! What an event does at a station.
-ghost use Rattle.std.specs.Prelude.{◌≡◌, ◌<◌, [], if◌then◌else◌};
+//! A node beside its inputs, and what an event does there.
+ghost use Rattle.std.specs.Prelude.{◌≡◌, ◌≢◌, ◌<◌, [], if◌then◌else◌, IfErr, OnErr};
 ghost use Rattle.disk_dcdd.specs.declared.controller.TheConstants.{DRIVES};
 ghost use Rattle.disk_dcdd.specs.declared.sector.TheConstants.{SECTORS};
 ghost use Rattle.event_callbacks.specs.declared.devices.TheConstants.{PORTS};
 ghost use Rattle.guest_board.specs.declared.input.Input.TheVariants as input;
+ghost use Rattle.i8080_words.specs.declared.refusal.Fault.TheVariants.{Lost};
 ghost use Rattle.log_channel.specs.Packet.{packet_at};
 ghost use Rattle.pair_protocol.specs.Node as protocol;
 ghost use Rattle.pair_protocol.specs.Refusals as refusals;
-ghost use Rattle.guest_board.specs.Recorded.{Counts};
 ghost use Rattle.ft_node.specs.Calls as calls;
-ghost use Rattle.guest_board.specs.Outstanding.{ComesAndGoes};
 ghost use Rattle.ft_node.specs.Seats.{IsNode, MayRun, MayReplay};
-ghost use Rattle.ft_world.specs.AtHost.{AtStation, DoesAtStation, WantsAtStation};
+ghost use Rattle.ft_world.specs.AtStation.{AtStation, DoesAtStation, WantsAtStation};
 ghost use Rattle.ft_world.specs.Does as does;
 ghost use Rattle.ft_world.specs.Shows.{IsStation};
 
-use crate::hosts::Station;
 use crate::input_list::Inputs;
 use arbiter_core::{Arbiter, Won};
 use disk_dcdd::{SECTOR_BYTES, SectorAddress};
@@ -25,6 +23,15 @@ use i8080_words::R;
 use plain_single::{Bare, Timed};
 use replayer::Replayed;
 use std::alloc::Global;
+
+/// A node beside the inputs that its machine has taken or is to take, and the count up to which it is settled by them.
+/// No node reads either.
+#[derive(Drop)]
+pub struct Station<B> {
+    pub(crate) node: Node<B>,
+    pub(crate) inputs: Inputs,
+    pub(crate) count: u64,
+}
 
 impl<B: Lockstep + Drop> Station<B> {
     // A node that begins, with no inputs yet, settled by the count of its machine.
@@ -52,12 +59,11 @@ impl<B: Lockstep + Drop> Station<B> {
 
     /// The machine of a node makes at most `turns` steps, up to the first that gives an operation.
     pub(crate) fn step(&mut self, turns: u64) -> R<Ran>
-        requires counts { Counts B.machine }
-        requires operations { ComesAndGoes B.machine }
         requires few { MayRun B.state B.machine self.old.node }
-        ensures { (x : protocol.Node B.State) → IsStation B.state B.machine self.old x
+        ensures answer { (x : protocol.Node B.State) → IsStation B.state B.machine self.old x
             → WantsAtStation (refusals.step_refusal B.machine turns x) result (does.WantsSteps turns) x
             (IsStation B.state B.machine self.new) (does.Stepped B.machine turns) }
+        ensures unchanged { OnErr result (self.new ≡ self.old) }
     {
         let ran = self.node.step(turns)?;
         self.count = ran.count;
@@ -66,12 +72,11 @@ impl<B: Lockstep + Drop> Station<B> {
 
     /// A node takes the key that was typed at an index, from 0.
     pub(crate) fn key(&mut self, port: u8, index: u64, byte: u8) -> R<()>
-        requires counts { Counts B.machine }
-        requires operations { ComesAndGoes B.machine }
         requires port { port < PORTS }
-        ensures { (x : protocol.Node B.State) → IsStation B.state B.machine self.old x
+        ensures answer { (x : protocol.Node B.State) → IsStation B.state B.machine self.old x
             → AtStation (refusals.key_refusal B.machine port index x) result x
             (IsStation B.state B.machine self.new) (does.Took B.machine (input.Rx port byte)) }
+        ensures unchanged { OnErr result (self.new ≡ self.old) }
     {
         self.node.check_key(port, index)?;
         let before = self.inputs.len();
@@ -90,12 +95,11 @@ impl<B: Lockstep + Drop> Station<B> {
 
     /// A node takes the acceptance of the byte of a number, from 1.
     pub(crate) fn sent(&mut self, port: u8, number: u64) -> R<()>
-        requires counts { Counts B.machine }
-        requires operations { ComesAndGoes B.machine }
         requires port { port < PORTS }
-        ensures { (x : protocol.Node B.State) → IsStation B.state B.machine self.old x
+        ensures answer { (x : protocol.Node B.State) → IsStation B.state B.machine self.old x
             → AtStation (refusals.sent_refusal B.machine port number x) result x
             (IsStation B.state B.machine self.new) (does.Took B.machine (input.Sent port)) }
+        ensures unchanged { OnErr result (self.new ≡ self.old) }
     {
         self.node.check_sent(port, number)?;
         let before = self.inputs.len();
@@ -114,11 +118,10 @@ impl<B: Lockstep + Drop> Station<B> {
 
     /// A node takes the completion of the write of a number.
     pub(crate) fn done(&mut self, number: u64) -> R<()>
-        requires counts { Counts B.machine }
-        requires operations { ComesAndGoes B.machine }
-        ensures { (x : protocol.Node B.State) → IsStation B.state B.machine self.old x
+        ensures answer { (x : protocol.Node B.State) → IsStation B.state B.machine self.old x
             → AtStation (refusals.done_refusal B.machine number x) result x
             (IsStation B.state B.machine self.new) (does.Took B.machine (input.Written number)) }
+        ensures unchanged { OnErr result (self.new ≡ self.old) }
     {
         self.node.check_done(number)?;
         let before = self.inputs.len();
@@ -142,14 +145,13 @@ impl<B: Lockstep + Drop> Station<B> {
         number: u64,
         bytes: [u8; SECTOR_BYTES],
     ) -> R<()>
-        requires counts { Counts B.machine }
-        requires operations { ComesAndGoes B.machine }
         requires drive { address.drive < DRIVES }
         requires sector { address.sector < SECTORS }
-        ensures { (x : protocol.Node B.State) → IsStation B.state B.machine self.old x
+        ensures answer { (x : protocol.Node B.State) → IsStation B.state B.machine self.old x
             → AtStation (refusals.under_refusal B.machine address number bytes x) result x
             (IsStation B.state B.machine self.new)
             (does.Took B.machine (input.Sector address.drive address.sector number bytes)) }
+        ensures unchanged { OnErr result (self.new ≡ self.old) }
     {
         self.node.check_under(address, number, bytes)?;
         let before = self.inputs.len();
@@ -169,10 +171,11 @@ impl<B: Lockstep + Drop> Station<B> {
     /// A node takes a packet of the log: true where its entry comes next, and is held; a repeat, or one past a gap,
     /// is false.
     pub(crate) fn on_log(&mut self, bytes: &[u8]) -> R<bool>
-        ensures { (x : protocol.Node B.State) → IsStation B.state B.machine self.old x
+        ensures answer { (x : protocol.Node B.State) → IsStation B.state B.machine self.old x
             → WantsAtStation (does.log_packet_refusal (packet_at bytes.now) x) result
             (does.WantsNext (packet_at bytes.now)) x (IsStation B.state B.machine self.new)
             (does.Held (packet_at bytes.now)) }
+        ensures unchanged { OnErr result (self.new ≡ self.old) }
     {
         let next = self.node.next_entry(bytes)?;
         match next {
@@ -196,31 +199,32 @@ impl<B: Lockstep + Drop> Station<B> {
 
     /// A node takes an acknowledgement, and gives how many entries are acknowledged then.
     pub(crate) fn on_ack(&mut self, bytes: &[u8]) -> R<u64>
-        ensures { (x : protocol.Node B.State) → IsStation B.state B.machine self.old x
+        ensures answer { (x : protocol.Node B.State) → IsStation B.state B.machine self.old x
             → DoesAtStation (does.ack_packet_refusal (packet_at bytes.now) x) result x
             (IsStation B.state B.machine self.new) (does.Heard (packet_at bytes.now)) }
+        ensures unchanged { OnErr result (self.new ≡ self.old) }
     {
         self.node.on_ack(bytes)
     }
 
     /// A backup makes at most `turns` moves of what it holds.
     pub(crate) fn replay(&mut self, turns: u64) -> R<Replayed>
-        requires counts { Counts B.machine }
         requires on_trace { MayReplay B.state B.machine self.old.node }
-        ensures { (x : protocol.Node B.State) → IsStation B.state B.machine self.old x
+        ensures answer { (x : protocol.Node B.State) → IsStation B.state B.machine self.old x
             → WantsAtStation (refusals.replay_refusal x) result (does.WantsMoves B.machine turns) x
             (IsStation B.state B.machine self.new) (does.Repeated B.machine turns) }
+        ensures unchanged { OnErr result (self.new ≡ self.old) }
     {
         self.node.replay(turns)
     }
 
     /// A node that won makes at most `turns` moves of what it still holds; with nothing left it is alone.
     pub(crate) fn drain(&mut self, turns: u64) -> R<Drained>
-        requires counts { Counts B.machine }
         requires on_trace { MayReplay B.state B.machine self.old.node }
-        ensures { (x : protocol.Node B.State) → IsStation B.state B.machine self.old x
+        ensures answer { (x : protocol.Node B.State) → IsStation B.state B.machine self.old x
             → WantsAtStation (refusals.drain_refusal x) result (does.WantsMoves B.machine turns) x
             (IsStation B.state B.machine self.new) (does.Emptied B.machine turns) }
+        ensures unchanged { OnErr result (self.new ≡ self.old) }
     {
         let drained = self.node.drain(turns)?;
         self.count = self.settled_count(drained.alone);
@@ -229,17 +233,21 @@ impl<B: Lockstep + Drop> Station<B> {
 
     /// A node halts.
     pub(crate) fn stop(&mut self) -> R<()>
-        ensures { (x : protocol.Node B.State) → IsStation B.state B.machine self.old x
+        ensures answer { (x : protocol.Node B.State) → IsStation B.state B.machine self.old x
             → DoesAtStation (refusals.stop_refusal x) result x
             (IsStation B.state B.machine self.new) does.Halted }
+        ensures unchanged { OnErr result (self.new ≡ self.old) }
     {
         self.node.stop()
     }
 
     /// Asks the arbiter for the generation: whoever asks first goes on alone, a backup once it is drained.
     pub(crate) fn suspect(&mut self, id: u64, arbiter: &mut Arbiter) -> R<Won>
-        ensures { (x : protocol.Node B.State) → IsStation B.state B.machine self.old x
+        ensures answer { (x : protocol.Node B.State) → IsStation B.state B.machine self.old x
             → calls.Asks arbiter.old id x result arbiter.new (IsStation B.state B.machine self.new) }
+        ensures beside { self.new ≡ record self.old { node = self.new.node } }
+        ensures unchanged { IfErr result (λ fault. fault ≢ Lost → self.new ≡ self.old) }
+        ensures arbiter { OnErr result (arbiter.new ≡ arbiter.old) }
     {
         self.node.suspect(id, arbiter)
     }

@@ -43,9 +43,9 @@ impl<B: Lockstep + Drop, D: SectorStore, H: Drop> World<B, D, H> {
     ghost use Rattle.ft_world.specs.Beginning.{MayBegin, beginning};
     ghost use Rattle.ft_world.specs.Shows.{Agree, IsStatusAt};
     ghost use Rattle.ft_world.specs.Standing.{Course, machine_of};
-    ghost use Rattle.ft_world.specs.Staying.{SpareHostsStay};
+    ghost use Rattle.ft_world.specs.Staying.{SpareHostsStay, Stays};
     ghost use Rattle.ft_world.specs.Words.{IsMessage};
-    ghost use Rattle.ft_world.specs.declared.hosts.Host.TheVariants as host;
+    ghost use Rattle.ft_world.specs.declared.host.Host.TheVariants as host;
 
     /// A pair begins: nodes 0 and 1 are primary and backup of generation 1, and both guests stand alike. `OutOfMemory`
     /// hands the guests and the disk's store back.
@@ -76,10 +76,12 @@ impl<B: Lockstep + Drop, D: SectorStore, H: Drop> World<B, D, H> {
     }
 
     /// An event happens: the reply, or why it is refused, and the world after it are the event's row, whatever world of the
-    /// protocol this one showed. A refused event changes nothing, but for a node that asked the arbiter and lost.
+    /// protocol this one showed. A refused event leaves all as it was, except that a node that asked the arbiter and lost is
+    /// halted, and that a disk that failed may have counted the failure.
     pub fn apply(&mut self, alloc: Global, event: Event) -> R<Reply>
         ensures row { Happens B.state B.machine D.records self.old event result self.new }
         ensures counted { D.failures self.new.disk ≡ D.failures self.old.disk + failures_told event result }
+        ensures unchanged { IfErr result (λ fault. Stays D.records event fault self.old self.new) }
         ensures spares { SpareHostsStay self.old.hosts self.new.hosts }
     {
         self.pair.apply(alloc, event)

@@ -1,31 +1,29 @@
--- The node refuses, or its packet is sent.
-use Rattle.std.proofs.Common.{◌≡◌, Err, subst, sym}
-use Rattle.ft_world.specs.Applies.{Applies}
+-- There is no such node, or it refuses, or its acknowledgement is sent.
+use Rattle.ft_world.specs.Does as does
 use Rattle.ft_world.specs.Pairs.{running_of}
-use Rattle.ft_world.specs.Shows.{AreHosts}
-use Rattle.pair_events.specs.declared.event.Event.TheVariants as event
-use Rattle.ft_world.proofs.Applying.{handed_on}
+use Rattle.ft_world.proofs.Applying.{hands_on}
+use Rattle.ft_world.proofs.AtHosts.{asks_host, no_host}
 use Rattle.ft_world.proofs.Sending.{acknowledges_applies, acknowledges_refused}
 use Rattle.ft_world.proofs.pair.Pair.acknowledge.Goals as goal
 
+pub returns-in_err-station-clause-row : goal.returns-in_err-station-clause-row
+returns-in_err-station-clause-row g c = λ course h.
+    hands_on c.from_residual.result c.in_err-station.field-0.0 c.from_residual.ensures.1
+    (acknowledges_refused g.B.Lockstep.state g.B.Lockstep.machine g.D.SectorStore.records (running_of c.args.self.now)
+    course c.args.node c.in_err-station.field-0.0 h
+    (no_host h _ c.args.node _ _ _ c.in_err-station.ensures.absent.0 c.in_err-station.ensures.absent.1 tt))
+
 pub returns-in_err-bytes-clause-row : goal.returns-in_err-bytes-clause-row
 returns-in_err-bytes-clause-row g c = λ course h.
-    let e : c.from_residual.result ≡ Err c.in_err-bytes.field-0.0 =
-    handed_on c.from_residual.result c.in_err-bytes.field-0.0 c.from_residual.ensures.1 in
-    subst
-    (λ r. Applies g.B.Lockstep.state g.B.Lockstep.machine g.D.SectorStore.records course
-    (event.Acknowledge c.args.node) r (running_of c.args.self.now)) (sym e)
+    hands_on c.from_residual-in_err-bytes.result c.in_err-bytes.field-0.0 c.from_residual-in_err-bytes.ensures.1
     (acknowledges_refused g.B.Lockstep.state g.B.Lockstep.machine g.D.SectorStore.records (running_of c.args.self.now)
     course c.args.node c.in_err-bytes.field-0.0 h
-    (c.in_err-bytes.ensures course.world.nodes
-    (subst (λ hs. AreHosts g.B.Lockstep.state g.B.Lockstep.machine hs course.world.nodes)
-    (sym c.deref.ensures.value) h.parts.hosts)))
+    (asks_host h c.args.node c.in_ok-station.station.now c.in_ok-station.ensures.found _ _ does.Acknowledges
+    c.in_err-bytes.ensures))
 
 pub returns-clause-row : goal.returns-clause-row
 returns-clause-row g c = λ course h.
-    acknowledges_applies g.B.Lockstep.state g.B.Lockstep.machine g.D.SectorStore.records (running_of c.args.self.now) course
-    c.args.node c.in_ok-bytes.bytes c.say.result c.say.new.messages.items h
-    (c.in_ok-bytes.ensures course.world.nodes
-    (subst (λ hs. AreHosts g.B.Lockstep.state g.B.Lockstep.machine hs course.world.nodes)
-    (sym c.deref.ensures.value) h.parts.hosts))
-    c.say.ensures
+    acknowledges_applies g.B.Lockstep.state g.B.Lockstep.machine g.D.SectorStore.records (running_of c.args.self.now)
+    course c.args.node c.in_ok-bytes.bytes c.say.result c.say.new.messages.items h
+    (asks_host h c.args.node c.in_ok-station.station.now c.in_ok-station.ensures.found _ _ does.Acknowledges
+    c.in_ok-bytes.ensures) c.say.ensures

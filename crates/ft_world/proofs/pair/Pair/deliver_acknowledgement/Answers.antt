@@ -1,40 +1,49 @@
--- The message brings an acknowledgement, or none; the node refuses it, or hears it.
-use Rattle.std.proofs.Common.{◌≡◌, Err, None, Some, subst, sym}
+-- The message brings an acknowledgement, or none; there is no such node, or it refuses it, or hears it.
+use Rattle.std.proofs.Common.{◌≡◌, None, Some, ap, is_ok, sym}
 use Rattle.std.specs.Option.{option_and_then}
 use Rattle.std.specs.Prelude.{slice_get}
-use Rattle.ft_world.specs.Applies.{Applies}
+use Rattle.log_channel.specs.Packet.{packet_at}
+use Rattle.ft_world.specs.Does as does
 use Rattle.ft_world.specs.Messages.{ack_of}
 use Rattle.ft_world.specs.Pairs.{running_of}
-use Rattle.pair_events.specs.declared.event.Event.TheVariants as event
-use Rattle.ft_world.proofs.Applying.{handed_on}
+use Rattle.ft_world.proofs.Applying.{hands_on}
+use Rattle.ft_world.proofs.AtHosts.{does_at_host, no_host, same_hosts}
 use Rattle.ft_world.proofs.AtLog.{hears_applies, hears_refused, hears_unknown}
 use Rattle.ft_world.proofs.pair.Pair.deliver_acknowledgement.Goals as goal
 
 pub returns-in_default-clause-row : goal.returns-in_default-clause-row
 returns-in_default-clause-row g c = λ course h.
-    let e : option_and_then ack_of (slice_get c.args.self.now.messages.items c.args.message) ≡ None =
-    sym c.in_default.ensures in
+    let brings : option_and_then ack_of (slice_get c.args.self.now.messages.items c.args.message) ≡ None = sym c.in_default.ensures in
     hears_unknown g.B.Lockstep.state g.B.Lockstep.machine g.D.SectorStore.records (running_of c.args.self.now) course
-    c.args.message c.args.node e h
+    c.args.message c.args.node brings h
+
+pub returns-in_err-station-clause-row : goal.returns-in_err-station-clause-row
+returns-in_err-station-clause-row g c = λ course h.
+    let brings : option_and_then ack_of (slice_get c.args.self.now.messages.items c.args.message) ≡ Some c.in-Some.packet.now = sym c.in-Some.ensures in
+    hands_on c.from_residual.result c.in_err-station.field-0.0 c.from_residual.ensures.1
+    (hears_refused g.B.Lockstep.state g.B.Lockstep.machine g.D.SectorStore.records (running_of c.args.self.now) course
+    c.args.message c.args.node c.in-Some.packet.now c.in_err-station.field-0.0
+    c.station_mut.follows.lender-at-none.items brings h
+    (no_host h _ c.args.node _ _ _ c.in_err-station.ensures.absent.0 c.in_err-station.ensures.absent.1
+    (same_hosts h _ (rw c.in_err-station.was at c.station_mut.follows.holds-at-none))))
 
 pub returns-in_err-held-clause-row : goal.returns-in_err-held-clause-row
 returns-in_err-held-clause-row g c = λ course h.
-    let e : option_and_then ack_of (slice_get c.args.self.now.messages.items c.args.message)
-    ≡ Some c.in-Some.packet.now = sym c.in-Some.ensures in
-    let is : c.from_residual.result ≡ Err c.in_err-held.field-0.0 =
-    handed_on c.from_residual.result c.in_err-held.field-0.0 c.from_residual.ensures.1 in
-    subst
-    (λ r. Applies g.B.Lockstep.state g.B.Lockstep.machine g.D.SectorStore.records course
-    (event.DeliverAcknowledgement c.args.message c.args.node) r
-    (record (running_of c.args.self.now) { hosts = c.on_ack.new.hosts.items })) (sym is)
-    (hears_refused g.B.Lockstep.state g.B.Lockstep.machine g.D.SectorStore.records (running_of c.args.self.now)
-    course c.args.message c.args.node c.in-Some.packet.now c.in_err-held.field-0.0 c.on_ack.new.hosts.items e h
-    (c.in_err-held.ensures.answer course.world.nodes h.parts.hosts))
+    let brings : option_and_then ack_of (slice_get c.args.self.now.messages.items c.args.message) ≡ Some c.in-Some.packet.now = sym c.in-Some.ensures in
+    hands_on c.from_residual-in_err-held.result c.in_err-held.field-0.0 c.from_residual-in_err-held.ensures.1
+    (hears_refused g.B.Lockstep.state g.B.Lockstep.machine g.D.SectorStore.records (running_of c.args.self.now) course
+    c.args.message c.args.node c.in-Some.packet.now c.in_err-held.field-0.0
+    (c.station_mut.follows.lender c.on_ack.new.self).items brings h
+    (does_at_host h c.in_ok-station.ensures.found
+    (c.station_mut.follows.holds c.on_ack.new.self (ap is_ok c.in_ok-station.was)) _ _
+    (does.Heard (packet_at c.in-Some.packet.now)) c.in_err-held.ensures.answer))
 
 pub returns-clause-row : goal.returns-clause-row
 returns-clause-row g c = λ course h.
-    let e : option_and_then ack_of (slice_get c.args.self.now.messages.items c.args.message)
-    ≡ Some c.in-Some.packet.now = sym c.in-Some.ensures in
-    hears_applies g.B.Lockstep.state g.B.Lockstep.machine g.D.SectorStore.records (running_of c.args.self.now)
-    course c.args.message c.args.node c.in-Some.packet.now c.in_ok-held.held c.on_ack.new.hosts.items e h
-    (c.in_ok-held.ensures.answer course.world.nodes h.parts.hosts)
+    let brings : option_and_then ack_of (slice_get c.args.self.now.messages.items c.args.message) ≡ Some c.in-Some.packet.now = sym c.in-Some.ensures in
+    hears_applies g.B.Lockstep.state g.B.Lockstep.machine g.D.SectorStore.records (running_of c.args.self.now) course
+    c.args.message c.args.node c.in-Some.packet.now c.in_ok-held.held
+    (c.station_mut.follows.lender c.on_ack.new.self).items brings h
+    (does_at_host h c.in_ok-station.ensures.found
+    (c.station_mut.follows.holds c.on_ack.new.self (ap is_ok c.in_ok-station.was)) _ _
+    (does.Heard (packet_at c.in-Some.packet.now)) c.in_ok-held.ensures.answer)

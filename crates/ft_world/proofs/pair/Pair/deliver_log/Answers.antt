@@ -1,57 +1,70 @@
--- The message brings an entry of the log, or none; the node refuses, holds the entry, or leaves it.
-use Rattle.std.proofs.Common.{◌≡◌, Err, None, Ok, Some, cond, subst, sym}
+-- The message brings an entry of the log, or none; there is no such node, or it refuses, holds the entry, or leaves it.
+use Rattle.std.proofs.Common.{◌≡◌, None, Ok, Some, ap, cond, is_ok, subst, sym}
 use Rattle.std.specs.Option.{option_and_then}
 use Rattle.std.specs.Prelude.{slice_get}
+use Rattle.log_channel.specs.Packet.{packet_at}
 use Rattle.ft_world.specs.Applies.{Applies}
+use Rattle.ft_world.specs.Does as does
 use Rattle.ft_world.specs.Messages.{log_of}
 use Rattle.ft_world.specs.Pairs.{running_of}
 use Rattle.pair_events.specs.declared.event.Event.TheVariants as event
 use Rattle.pair_events.specs.declared.reply.Reply.TheVariants as reply
-use Rattle.ft_world.proofs.Applying.{handed_on}
+use Rattle.ft_world.proofs.Applying.{hands_on}
+use Rattle.ft_world.proofs.AtHosts.{at_host, no_host, same_hosts, wants_at_host}
 use Rattle.ft_world.proofs.AtLog.{delivers_applies, delivers_refused, delivers_unknown}
 use Rattle.ft_world.proofs.pair.Pair.deliver_log.Goals as goal
 
 pub returns-in_default-clause-row : goal.returns-in_default-clause-row
 returns-in_default-clause-row g c = λ course h.
-    let e : option_and_then log_of (slice_get c.args.self.now.messages.items c.args.message) ≡ None =
-    sym c.in_default.ensures in
-    delivers_unknown g.B.Lockstep.state g.B.Lockstep.machine g.D.SectorStore.records (running_of c.args.self.now) course
-    c.args.message c.args.node e h
+    let brings : option_and_then log_of (slice_get c.args.self.now.messages.items c.args.message) ≡ None = sym c.in_default.ensures in
+    delivers_unknown g.B.Lockstep.state g.B.Lockstep.machine g.D.SectorStore.records (running_of c.args.self.now)
+    course c.args.message c.args.node brings h
+
+pub returns-in_err-station-clause-row : goal.returns-in_err-station-clause-row
+returns-in_err-station-clause-row g c = λ course h.
+    let brings : option_and_then log_of (slice_get c.args.self.now.messages.items c.args.message) ≡ Some c.in-Some.packet.now = sym c.in-Some.ensures in
+    hands_on c.from_residual.result c.in_err-station.field-0.0 c.from_residual.ensures.1
+    (delivers_refused g.B.Lockstep.state g.B.Lockstep.machine g.D.SectorStore.records (running_of c.args.self.now)
+    course c.args.message c.args.node c.in-Some.packet.now c.in_err-station.field-0.0
+    c.station_mut.follows.lender-at-none.items brings h
+    (no_host h _ c.args.node _ _ _ c.in_err-station.ensures.absent.0 c.in_err-station.ensures.absent.1
+    (same_hosts h _ (rw c.in_err-station.was at c.station_mut.follows.holds-at-none))))
 
 pub returns-in_err-on_log-clause-row : goal.returns-in_err-on_log-clause-row
 returns-in_err-on_log-clause-row g c = λ course h.
-    let e : option_and_then log_of (slice_get c.args.self.now.messages.items c.args.message)
-    ≡ Some c.in-Some.packet.now = sym c.in-Some.ensures in
-    let is : c.from_residual.result ≡ Err c.in_err-on_log.field-0.0 =
-    handed_on c.from_residual.result c.in_err-on_log.field-0.0 c.from_residual.ensures.1 in
-    subst
-    (λ r. Applies g.B.Lockstep.state g.B.Lockstep.machine g.D.SectorStore.records course
-    (event.DeliverLog c.args.message c.args.node) r
-    (record (running_of c.args.self.now) { hosts = c.on_log.new.hosts.items })) (sym is)
+    let brings : option_and_then log_of (slice_get c.args.self.now.messages.items c.args.message) ≡ Some c.in-Some.packet.now = sym c.in-Some.ensures in
+    hands_on c.from_residual-in_err-on_log.result c.in_err-on_log.field-0.0 c.from_residual-in_err-on_log.ensures.1
     (delivers_refused g.B.Lockstep.state g.B.Lockstep.machine g.D.SectorStore.records (running_of c.args.self.now)
-    course c.args.message c.args.node c.in-Some.packet.now c.in_err-on_log.field-0.0 c.on_log.new.hosts.items e h
-    (c.in_err-on_log.ensures.answer course.world.nodes h.parts.hosts))
+    course c.args.message c.args.node c.in-Some.packet.now c.in_err-on_log.field-0.0
+    (c.station_mut.follows.lender c.on_log.new.self).items brings h
+    (wants_at_host h c.in_ok-station.ensures.found
+    (c.station_mut.follows.holds c.on_log.new.self (ap is_ok c.in_ok-station.was)) _ _
+    (does.WantsNext (packet_at c.in-Some.packet.now)) (does.Held (packet_at c.in-Some.packet.now)) c.in_err-on_log.ensures.answer))
 
 pub returns-then-branch-clause-row : goal.returns-then-branch-clause-row
 returns-then-branch-clause-row g c = λ course h.
-    let e : option_and_then log_of (slice_get c.args.self.now.messages.items c.args.message)
-    ≡ Some c.in-Some.packet.now = sym c.in-Some.ensures in
+    let brings : option_and_then log_of (slice_get c.args.self.now.messages.items c.args.message) ≡ Some c.in-Some.packet.now = sym c.in-Some.ensures in
     subst
     (λ b. Applies g.B.Lockstep.state g.B.Lockstep.machine g.D.SectorStore.records course
     (event.DeliverLog c.args.message c.args.node) (Ok (cond b reply.New reply.Old))
-    (record (running_of c.args.self.now) { hosts = c.on_log.new.hosts.items })) c.if-branch.true
+    (record (running_of c.args.self.now) { hosts = (c.station_mut.follows.lender c.on_log.new.self).items })) c.if-branch.true
     (delivers_applies g.B.Lockstep.state g.B.Lockstep.machine g.D.SectorStore.records (running_of c.args.self.now)
-    course c.args.message c.args.node c.in-Some.packet.now c.in_ok-on_log.field-0 c.on_log.new.hosts.items e h
-    (c.in_ok-on_log.ensures.answer course.world.nodes h.parts.hosts))
+    course c.args.message c.args.node c.in-Some.packet.now c.in_ok-on_log.field-0
+    (c.station_mut.follows.lender c.on_log.new.self).items brings h
+    (at_host h c.in_ok-station.ensures.found
+    (c.station_mut.follows.holds c.on_log.new.self (ap is_ok c.in_ok-station.was)) _ _
+    (does.Held (packet_at c.in-Some.packet.now)) c.in_ok-on_log.ensures.answer))
 
 pub returns-else-branch-clause-row : goal.returns-else-branch-clause-row
 returns-else-branch-clause-row g c = λ course h.
-    let e : option_and_then log_of (slice_get c.args.self.now.messages.items c.args.message)
-    ≡ Some c.in-Some.packet.now = sym c.in-Some.ensures in
+    let brings : option_and_then log_of (slice_get c.args.self.now.messages.items c.args.message) ≡ Some c.in-Some.packet.now = sym c.in-Some.ensures in
     subst
     (λ b. Applies g.B.Lockstep.state g.B.Lockstep.machine g.D.SectorStore.records course
     (event.DeliverLog c.args.message c.args.node) (Ok (cond b reply.New reply.Old))
-    (record (running_of c.args.self.now) { hosts = c.on_log.new.hosts.items })) c.if-branch.false
+    (record (running_of c.args.self.now) { hosts = (c.station_mut.follows.lender c.on_log.new.self).items })) c.if-branch.false
     (delivers_applies g.B.Lockstep.state g.B.Lockstep.machine g.D.SectorStore.records (running_of c.args.self.now)
-    course c.args.message c.args.node c.in-Some.packet.now c.in_ok-on_log.field-0 c.on_log.new.hosts.items e h
-    (c.in_ok-on_log.ensures.answer course.world.nodes h.parts.hosts))
+    course c.args.message c.args.node c.in-Some.packet.now c.in_ok-on_log.field-0
+    (c.station_mut.follows.lender c.on_log.new.self).items brings h
+    (at_host h c.in_ok-station.ensures.found
+    (c.station_mut.follows.holds c.on_log.new.self (ap is_ok c.in_ok-station.was)) _ _
+    (does.Held (packet_at c.in-Some.packet.now)) c.in_ok-on_log.ensures.answer))

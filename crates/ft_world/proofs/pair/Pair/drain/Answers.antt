@@ -1,29 +1,39 @@
--- The node refuses, or moves by what it still holds, and is alone where nothing of it is left.
-use Rattle.std.proofs.Common.{◌≡◌, Err, Ok, cond, false, subst, sym}
+-- There is no such node, or it refuses, or moves by what it still holds, and is alone where nothing of it is left.
+use Rattle.std.proofs.Common.{Ok, ap, cond, false, is_ok, subst}
 use Rattle.ft_world.specs.Applies.{Applies}
+use Rattle.ft_world.specs.Does as does
 use Rattle.ft_world.specs.Pairs.{running_of}
 use Rattle.pair_events.specs.declared.event.Event.TheVariants as event
 use Rattle.pair_events.specs.declared.reply.Reply.TheVariants as reply
-use Rattle.ft_world.proofs.Applying.{handed_on}
-use Rattle.ft_world.proofs.AtReplays.{all_may_replay, drains_applies, drains_refused}
+use Rattle.ft_world.proofs.Applying.{hands_on}
+use Rattle.ft_world.proofs.AtHosts.{at_host, no_host, same_hosts, wants_at_host}
+use Rattle.ft_world.proofs.AtReplays.{drains_applies, drains_refused, station_may_replay}
 use Rattle.ft_world.proofs.pair.Pair.drain.Goals as goal
 
-pub drain-requires-clause-on_trace : goal.drain-requires-clause-on_trace
-drain-requires-clause-on_trace g c =
-    all_may_replay g.B.Lockstep.state g.B.Lockstep.machine g.D.SectorStore.records (running_of c.args.self.now)
-    c.requires.shown
+pub drain-requires : goal.drain-requires
+drain-requires g c =
+    record {
+      on_trace =
+          station_may_replay g.B.Lockstep.state g.B.Lockstep.machine g.D.SectorStore.records (running_of c.args.self.now)
+          c.args.node c.in_ok-station.station.now c.requires.shown c.in_ok-station.ensures.found;
+    }
+
+pub returns-in_err-station-clause-row : goal.returns-in_err-station-clause-row
+returns-in_err-station-clause-row g c = λ course h.
+    hands_on c.from_residual.result c.in_err-station.field-0.0 c.from_residual.ensures.1
+    (drains_refused g.B.Lockstep.state g.B.Lockstep.machine g.D.SectorStore.records (running_of c.args.self.now)
+    course c.args.node c.args.turns c.in_err-station.field-0.0 c.station_mut.follows.lender-at-none.items h
+    (no_host h _ c.args.node _ _ _ c.in_err-station.ensures.absent.0 c.in_err-station.ensures.absent.1
+    (same_hosts h _ (rw c.in_err-station.was at c.station_mut.follows.holds-at-none))))
 
 pub returns-in_err-drained-clause-row : goal.returns-in_err-drained-clause-row
 returns-in_err-drained-clause-row g c = λ course h.
-    let e : c.from_residual.result ≡ Err c.in_err-drained.field-0.0 =
-    handed_on c.from_residual.result c.in_err-drained.field-0.0 c.from_residual.ensures.1 in
-    subst
-    (λ r. Applies g.B.Lockstep.state g.B.Lockstep.machine g.D.SectorStore.records course
-    (event.Drain c.args.node c.args.turns) r
-    (record (running_of c.args.self.now) { hosts = c.drain.new.hosts.items })) (sym e)
+    hands_on c.from_residual-in_err-drained.result c.in_err-drained.field-0.0 c.from_residual-in_err-drained.ensures.1
     (drains_refused g.B.Lockstep.state g.B.Lockstep.machine g.D.SectorStore.records (running_of c.args.self.now)
-    course c.args.node c.args.turns c.in_err-drained.field-0.0 c.drain.new.hosts.items h
-    (c.in_err-drained.ensures.answer course.world.nodes h.parts.hosts))
+    course c.args.node c.args.turns c.in_err-drained.field-0.0 (c.station_mut.follows.lender c.drain.new.self).items h
+    (wants_at_host h c.in_ok-station.ensures.found
+    (c.station_mut.follows.holds c.drain.new.self (ap is_ok c.in_ok-station.was)) _ _
+    (does.WantsMoves g.B.Lockstep.machine c.args.turns) (does.Emptied g.B.Lockstep.machine c.args.turns) c.in_err-drained.ensures.answer))
 
 pub returns-then-drained-clause-row : goal.returns-then-drained-clause-row
 returns-then-drained-clause-row g c = λ course h.
@@ -31,10 +41,12 @@ returns-then-drained-clause-row g c = λ course h.
     subst
     (λ b. Applies g.B.Lockstep.state g.B.Lockstep.machine g.D.SectorStore.records course
     (event.Drain c.args.node c.args.turns) (Ok (cond b (reply.MovedAlone d.moves) (reply.Moved d.moves false)))
-    (record (running_of c.args.self.now) { hosts = c.drain.new.hosts.items })) c.if-drained.true
-    (drains_applies g.B.Lockstep.state g.B.Lockstep.machine g.D.SectorStore.records (running_of c.args.self.now) course
-    c.args.node c.args.turns d c.drain.new.hosts.items h
-    (c.in_ok-drained.ensures.answer course.world.nodes h.parts.hosts))
+    (record (running_of c.args.self.now) { hosts = (c.station_mut.follows.lender c.drain.new.self).items })) c.if-drained.true
+    (drains_applies g.B.Lockstep.state g.B.Lockstep.machine g.D.SectorStore.records (running_of c.args.self.now)
+    course c.args.node c.args.turns d (c.station_mut.follows.lender c.drain.new.self).items h
+    (at_host h c.in_ok-station.ensures.found
+    (c.station_mut.follows.holds c.drain.new.self (ap is_ok c.in_ok-station.was)) _ _
+    (does.Emptied g.B.Lockstep.machine c.args.turns) c.in_ok-drained.ensures.answer))
 
 pub returns-else-drained-clause-row : goal.returns-else-drained-clause-row
 returns-else-drained-clause-row g c = λ course h.
@@ -42,7 +54,9 @@ returns-else-drained-clause-row g c = λ course h.
     subst
     (λ b. Applies g.B.Lockstep.state g.B.Lockstep.machine g.D.SectorStore.records course
     (event.Drain c.args.node c.args.turns) (Ok (cond b (reply.MovedAlone d.moves) (reply.Moved d.moves false)))
-    (record (running_of c.args.self.now) { hosts = c.drain.new.hosts.items })) c.if-drained.false
-    (drains_applies g.B.Lockstep.state g.B.Lockstep.machine g.D.SectorStore.records (running_of c.args.self.now) course
-    c.args.node c.args.turns d c.drain.new.hosts.items h
-    (c.in_ok-drained.ensures.answer course.world.nodes h.parts.hosts))
+    (record (running_of c.args.self.now) { hosts = (c.station_mut.follows.lender c.drain.new.self).items })) c.if-drained.false
+    (drains_applies g.B.Lockstep.state g.B.Lockstep.machine g.D.SectorStore.records (running_of c.args.self.now)
+    course c.args.node c.args.turns d (c.station_mut.follows.lender c.drain.new.self).items h
+    (at_host h c.in_ok-station.ensures.found
+    (c.station_mut.follows.holds c.drain.new.self (ap is_ok c.in_ok-station.was)) _ _
+    (does.Emptied g.B.Lockstep.machine c.args.turns) c.in_ok-drained.ensures.answer))

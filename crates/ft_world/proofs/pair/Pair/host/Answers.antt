@@ -4,7 +4,7 @@ use Rattle.pair_protocol.specs.World.{with_host}
 use Rattle.ft_world.specs.Applies.{Shows}
 use Rattle.ft_world.specs.Pairs.{running_of}
 use Rattle.ft_world.specs.Standing.{machine_of}
-use Rattle.ft_world.specs.declared.hosts.Host.TheVariants as host
+use Rattle.ft_world.specs.declared.host.Host.TheVariants as host
 use Rattle.ft_world.proofs.Applying.{shown_is_faithful}
 use Rattle.ft_world.proofs.Hosting.{host_comes}
 use Rattle.ft_world.proofs.pair.Pair.host.Goals as goal

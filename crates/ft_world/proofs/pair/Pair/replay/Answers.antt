@@ -1,31 +1,43 @@
--- The node refuses, or moves by what it holds.
-use Rattle.std.proofs.Common.{◌≡◌, Err, subst, sym}
-use Rattle.ft_world.specs.Applies.{Applies}
+-- There is no such node, or it refuses, or moves by what it holds.
+use Rattle.std.proofs.Common.{ap, is_ok}
+use Rattle.ft_world.specs.Does as does
 use Rattle.ft_world.specs.Pairs.{running_of}
-use Rattle.pair_events.specs.declared.event.Event.TheVariants as event
-use Rattle.ft_world.proofs.Applying.{handed_on}
-use Rattle.ft_world.proofs.AtReplays.{all_may_replay, replays_applies, replays_refused}
+use Rattle.ft_world.proofs.Applying.{hands_on}
+use Rattle.ft_world.proofs.AtHosts.{at_host, no_host, same_hosts, wants_at_host}
+use Rattle.ft_world.proofs.AtReplays.{replays_applies, replays_refused, station_may_replay}
 use Rattle.ft_world.proofs.pair.Pair.replay.Goals as goal
 
-pub replay-requires-clause-on_trace : goal.replay-requires-clause-on_trace
-replay-requires-clause-on_trace g c =
-    all_may_replay g.B.Lockstep.state g.B.Lockstep.machine g.D.SectorStore.records (running_of c.args.self.now)
-    c.requires.shown
+pub replay-requires : goal.replay-requires
+replay-requires g c =
+    record {
+      on_trace =
+          station_may_replay g.B.Lockstep.state g.B.Lockstep.machine g.D.SectorStore.records (running_of c.args.self.now)
+          c.args.node c.in_ok-station.station.now c.requires.shown c.in_ok-station.ensures.found;
+    }
+
+pub returns-in_err-station-clause-row : goal.returns-in_err-station-clause-row
+returns-in_err-station-clause-row g c = λ course h.
+    hands_on c.from_residual.result c.in_err-station.field-0.0 c.from_residual.ensures.1
+    (replays_refused g.B.Lockstep.state g.B.Lockstep.machine g.D.SectorStore.records (running_of c.args.self.now)
+    course c.args.node c.args.turns c.in_err-station.field-0.0 c.station_mut.follows.lender-at-none.items h
+    (no_host h _ c.args.node _ _ _ c.in_err-station.ensures.absent.0 c.in_err-station.ensures.absent.1
+    (same_hosts h _ (rw c.in_err-station.was at c.station_mut.follows.holds-at-none))))
 
 pub returns-in_err-replayed-clause-row : goal.returns-in_err-replayed-clause-row
 returns-in_err-replayed-clause-row g c = λ course h.
-    let e : c.from_residual.result ≡ Err c.in_err-replayed.field-0.0 =
-    handed_on c.from_residual.result c.in_err-replayed.field-0.0 c.from_residual.ensures.1 in
-    subst
-    (λ r. Applies g.B.Lockstep.state g.B.Lockstep.machine g.D.SectorStore.records course
-    (event.Replay c.args.node c.args.turns) r
-    (record (running_of c.args.self.now) { hosts = c.replay.new.hosts.items })) (sym e)
+    hands_on c.from_residual-in_err-replayed.result c.in_err-replayed.field-0.0
+    c.from_residual-in_err-replayed.ensures.1
     (replays_refused g.B.Lockstep.state g.B.Lockstep.machine g.D.SectorStore.records (running_of c.args.self.now)
-    course c.args.node c.args.turns c.in_err-replayed.field-0.0 c.replay.new.hosts.items h
-    (c.in_err-replayed.ensures.answer course.world.nodes h.parts.hosts))
+    course c.args.node c.args.turns c.in_err-replayed.field-0.0 (c.station_mut.follows.lender c.replay.new.self).items
+    h
+    (wants_at_host h c.in_ok-station.ensures.found
+    (c.station_mut.follows.holds c.replay.new.self (ap is_ok c.in_ok-station.was)) _ _
+    (does.WantsMoves g.B.Lockstep.machine c.args.turns) (does.Repeated g.B.Lockstep.machine c.args.turns) c.in_err-replayed.ensures.answer))
 
 pub returns-clause-row : goal.returns-clause-row
 returns-clause-row g c = λ course h.
-    replays_applies g.B.Lockstep.state g.B.Lockstep.machine g.D.SectorStore.records (running_of c.args.self.now) course
-    c.args.node c.args.turns c.in_ok-replayed.replayed c.replay.new.hosts.items h
-    (c.in_ok-replayed.ensures.answer course.world.nodes h.parts.hosts)
+    replays_applies g.B.Lockstep.state g.B.Lockstep.machine g.D.SectorStore.records (running_of c.args.self.now)
+    course c.args.node c.args.turns c.in_ok-replayed.replayed (c.station_mut.follows.lender c.replay.new.self).items h
+    (at_host h c.in_ok-station.ensures.found
+    (c.station_mut.follows.holds c.replay.new.self (ap is_ok c.in_ok-station.was)) _ _
+    (does.Repeated g.B.Lockstep.machine c.args.turns) c.in_ok-replayed.ensures.answer)

@@ -1,9 +1,8 @@
 -- The winner settles, or the backup where nobody has won.
-use Rattle.std.proofs.Common.{◌≡◌, Some, subst, sym}
-use Rattle.std.specs.Prelude.{slice_get, unwrap_or}
+use Rattle.std.proofs.Common.{◌≡◌}
+use Rattle.std.specs.Prelude.{unwrap_or}
 use Rattle.arbiter_core.specs.Winners.{winner_of}
 use Rattle.ft_world.specs.Pairs.{running_of}
-use Rattle.ft_world.specs.declared.hosts.Host.TheVariants as host
 use Rattle.ft_world.proofs.Settling.{settled_is}
 use Rattle.ft_world.proofs.pair.Pair.settled.Goals as goal
 
@@ -12,6 +11,4 @@ returns g c = λ course h.
     let found : c.unwrap_or-node.result
     ≡ unwrap_or (winner_of c.args.self.now.arbiter c.args.self.now.generation) c.args.self.now.backup = (cc) in
     settled_is g.B.Lockstep.state g.B.Lockstep.machine g.D.SectorStore.records (running_of c.args.self.now) course
-    c.unwrap_or-node.result c.settled.result.0.now c.settled.result.1 h found
-    (λ station e. c.settled.ensures station
-    (subst (λ hs. slice_get hs c.unwrap_or-node.result ≡ Some (host.Node station)) (sym c.deref.ensures.value) e))
+    c.unwrap_or-node.result c.settled.result.0.now c.settled.result.1 h found c.settled.ensures

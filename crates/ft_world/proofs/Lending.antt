@@ -1,0 +1,53 @@
+-- A station that was lent is in its place again, changed or not. A host that has no role keeps its resources.
+use Rattle.std.proofs.Common.{◌≡◌, ◌∙◌, ◌∷◌, [], Err, IsOk, List, MutBor, None, Ok, Result, Some, ap, refl, suc, sym, zero, ℕ}
+use Rattle.std.specs.Prelude.{IfErr, IfOk, OnErr, map, slice_get, slice_set}
+use Rattle.i8080_words.specs.declared.refusal.Fault.{Fault}
+use Rattle.i8080_words.specs.declared.refusal.Fault.TheVariants.{Unknown}
+use Rattle.pair_protocol.proofs.Moves.{same_some}
+use Rattle.pair_protocol.proofs.OneNode.{set_get}
+use Rattle.ft_world.specs.Lending.{HasNoNode, IsSpare, WithStation}
+use Rattle.ft_world.specs.Staying.{SpareHostsStay, spare_of}
+use Rattle.ft_world.specs.declared.host.Host.{Host}
+use Rattle.ft_world.specs.declared.host.Host.TheVariants as host
+use Rattle.ft_world.specs.declared.station.Station.{Station}
+
+spares_set : {B H : Type 0} (hosts : List (Host B H)) (n : ℕ) (here new : Host B H) → slice_get hosts n ≡ Some here
+    → spare_of new ≡ spare_of here → SpareHostsStay hosts (slice_set hosts n new)
+spares_set [] n here new there same = absurd (cc)
+spares_set {B} {H} (x ∷ hosts) zero here new there same =
+    ap (λ o. o ∷ map (spare_of {B = B} {H = H}) hosts)
+    (same ∙ ap (spare_of {B = B} {H = H}) (sym (same_some x here (Some x) refl there)))
+spares_set {B} {H} (x ∷ hosts) (suc n) here new there same =
+    ap (λ os. spare_of {B = B} {H = H} x ∷ os) (spares_set hosts n here new there same)
+
+module _ {B H : Type 0} (hosts : List (Host B H)) (n : ℕ) (here : Host B H) (there : slice_get hosts n ≡ Some here)
+  where
+    pub put_back : (r : Result (MutBor (Station B)) Fault) (station : Station B) → IsOk r
+        → IfOk r (λ lent. here ≡ host.Node lent.now) → WithStation hosts n station (slice_set hosts n (host.Node station))
+    put_back (Ok lent) station ok is = record {
+      put = refl;
+      spares = spares_set hosts n here (host.Node station) there (sym (ap spare_of is));
+      same = λ same. set_get hosts n (host.Node station) same;
+    }
+    put_back (Err fault) station ok is = absurd (cc)
+
+    pub not_lent : (r : Result (MutBor (Station B)) Fault) → OnErr r (slice_set hosts n here ≡ hosts)
+    not_lent (Ok lent) = tt
+    not_lent (Err fault) = set_get hosts n here there
+
+    pub found_there : (r : Result (MutBor (Station B)) Fault) → IfOk r (λ lent. here ≡ host.Node lent.now)
+        → IfOk r (λ lent. slice_get hosts n ≡ Some (host.Node lent.now))
+    found_there (Ok lent) is = there ∙ ap Some is
+    found_there (Err fault) is = tt
+
+    pub absent_there : (r : Result (MutBor (Station B)) Fault) → IfErr r (λ fault. (fault ≡ Unknown) × IsSpare here)
+        → IfErr r (λ fault. (fault ≡ Unknown) × HasNoNode hosts n)
+    absent_there (Ok lent) is = tt
+    absent_there (Err fault) is = (is.0, go here is.1 there)
+      where
+        go : (here : Host B H) → IsSpare here → slice_get hosts n ≡ Some here → HasNoNode hosts n
+        go (host.Node station) spare there = absurd spare
+        go (host.Spare resources) spare there = λ station e. (cc)
+
+pub absent_past : {B H : Type 0} (hosts : List (Host B H)) (n : ℕ) → slice_get hosts n ≡ None → HasNoNode hosts n
+absent_past hosts n past = λ station e. (cc)

@@ -1,8 +1,0 @@
-use Rattle.ft_world.proofs.Stations.{drains_on}
-use Rattle.ft_world.proofs.hosts.Station.drain.Goals as goal
-
-pub returns : goal.returns
-returns g c = λ x is.
-    drains_on g.B.Lockstep.state g.B.Lockstep.machine c.args.turns c.args.self.now c.drain.new.self
-    c.in_ok-drained.drained c.settled_count-self.result x is (c.in_ok-drained.ensures.answer x is.node)
-    c.settled_count-self.ensures

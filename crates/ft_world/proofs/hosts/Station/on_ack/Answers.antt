@@ -1,8 +1,0 @@
-use Rattle.log_channel.specs.Packet.{packet_at}
-use Rattle.ft_world.proofs.Stations.{hears_on}
-use Rattle.ft_world.proofs.hosts.Station.on_ack.Goals as goal
-
-pub returns : goal.returns
-returns g c = λ x is.
-    hears_on g.B.Lockstep.state g.B.Lockstep.machine (packet_at c.args.bytes.now) c.args.self.now c.on_ack.new.self
-    c.on_ack.result x is (c.on_ack.ensures.answer x is.node)

@@ -1,7 +1,0 @@
-use Rattle.ft_world.proofs.Stations.{repeats_on}
-use Rattle.ft_world.proofs.hosts.Station.replay.Goals as goal
-
-pub returns : goal.returns
-returns g c = λ x is.
-    repeats_on g.B.Lockstep.state g.B.Lockstep.machine c.args.turns c.args.self.now c.replay.new.self c.replay.result x
-    is (c.replay.ensures.answer x is.node)

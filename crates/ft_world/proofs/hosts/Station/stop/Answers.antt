@@ -1,7 +1,0 @@
-use Rattle.ft_world.proofs.Stations.{stops_on}
-use Rattle.ft_world.proofs.hosts.Station.stop.Goals as goal
-
-pub returns : goal.returns
-returns g c = λ x is.
-    stops_on g.B.Lockstep.state g.B.Lockstep.machine c.args.self.now c.stop.new.self c.stop.result x is
-    (c.stop.ensures.answer x is.node)

@@ -1,7 +1,0 @@
-use Rattle.ft_world.proofs.Stations.{suspects_on}
-use Rattle.ft_world.proofs.hosts.Station.suspect.Goals as goal
-
-pub returns : goal.returns
-returns g c = λ x is.
-    suspects_on g.B.Lockstep.state g.B.Lockstep.machine c.args.self.now c.suspect.new.self _ _ c.args.id
-    c.suspect.result x is (c.suspect.ensures.answer x is.node)
