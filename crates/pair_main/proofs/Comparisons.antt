@@ -52,7 +52,6 @@ there_at drives drive track sector d t s =
 
 module _ (drives : ℕ) (d : Deeds) (records : List Record) (output : ℕ → List ℕ) (writes : List SectorWrite)
     (image : SectorAddress → List ℕ) where
-
   abbrev pub Good : SectorAddress → Type 0
   Good address = MayHave (image address) writes d.settled address (d.sector address)
 

@@ -102,7 +102,6 @@ settled_kept (Some a) (Some b) None first rest none p q = absurd q
 settled_kept (Some a) (Some b) (Some c) first rest none p q = q ∙ p ∙ ap (λ l. a ++ l) none ∙ append-nil a
 
 module _ (a b c : Option (List ℕ)) (first rest : List ℕ) (none : first ≡ []) (q : Appends b c rest) where
-
   settled_line : (shown : Option (List ℕ)) → AddsLine shown (append_known a first) (append_known b rest)
       → AddsLine shown a c
   settled_line shown one = record {

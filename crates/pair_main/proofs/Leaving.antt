@@ -12,7 +12,6 @@ use Rattle.pair_main.specs.declared.options.Order.TheVariants.{Script, Check}
 use Rattle.pair_main.proofs.Handing.{adds_none, keeps_refl}
 
 module _ {R W : Type 0} (contents : W → Option (List ℕ)) (reader reader' : R) (writer writer' : W) where
-
   nothing : writer' ≡ writer → PrintsScript (Err failure.OutOfMemory) (contents writer) (contents writer')
   nothing same = record {
     order = Script;

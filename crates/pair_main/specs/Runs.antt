@@ -29,7 +29,6 @@ pub record PrintsScript (result : Result (Unit {0}) Failure) (old new : Option (
   pub prints : Prints order lines (λ verdict. ⊤) result old new
 
 module _ {R W : Type 0} (contents : W → Option (List ℕ)) (reader reader' : R) (writer writer' : W) where
-
   -- what a failure leaves: a refused command line reads nothing, and a refused script prints nothing
   abbrev pub Leaves : Failure → Type 0
   Leaves (CommandLine text) = (reader' ≡ reader) × (writer' ≡ writer)

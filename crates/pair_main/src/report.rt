@@ -9,17 +9,21 @@ use std::alloc::Global;
 use std::fmt;
 use std::io::Write;
 
+// How many bytes of output are written line by line; after them lines are gathered.
+const UNGATHERED_BYTES: usize = 65_536;
+
 // How many bytes are gathered, at least, before they are written.
 const BLOCK_BYTES: usize = 16_384;
 
 // How many turns guests may make, at most, while lines wait.
 const TURNS: u64 = 10_000;
 
-/// Lines on their way to a writer, which takes many at a time and never a part of one.
+/// Lines on their way to a writer: one by one at first, and many at a time once there are many; never a part of one.
 #[derive(Drop)]
 pub struct Report {
     lines: String,
     line: String,
+    written: usize,
     turns: u64,
 }
 
@@ -31,6 +35,7 @@ impl Report {
         Report {
             lines: String::new(alloc),
             line: String::new(alloc),
+            written: 0,
             turns: 0,
         }
     }
@@ -50,7 +55,7 @@ impl Report {
         self.line.clear();
         writeln!(self.line, "{text}")?;
         self.lines.push_str(&self.line)?;
-        if self.lines.len() < BLOCK_BYTES {
+        if self.written >= UNGATHERED_BYTES && self.lines.len() < BLOCK_BYTES {
             return Ok(());
         }
         self.flush(writer)
@@ -77,6 +82,7 @@ impl Report {
         ensures errors { IfErr result (λ e. e ≡ failure.InputOrOutput) }
     {
         writer.write_all(self.lines.as_bytes())?;
+        self.written = self.written.saturating_add(self.lines.len());
         self.lines.clear();
         self.turns = 0;
         writer.flush()?;

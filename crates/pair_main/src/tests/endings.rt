@@ -165,19 +165,26 @@ fn the_example_of_the_help_runs_as_it_is(rt: HostRuntime) -> Result<(), Fail> {
         .split_once("\npair script << END\n")
         .ok_or("no example")?;
     let (script, _) = example.split_once("\nEND\n").ok_or("no end")?;
-    let output = "ran 6 count 6 byte 0 1\nmessage 0\nnew\nmessage 1\nheld 1\nmessage 2\naccepted\nport 0: 48\n";
+    let output =
+        "ran 6 count 6 byte 0 1\nmessage 0\nnew\nmessage 1\nheld 1\nmessage 2\naccepted\nport 0: 48\n";
     expect(&rt, "script", script.as_bytes(), output, WELL)
 }
 
-// Lines wait while guests make at most 10,000 turns.
+// A line is written as it comes. After 65,536 bytes lines wait, while guests make at most 10,000 turns.
 #[test]
-fn lines_are_written_before_guests_run_for_long(rt: HostRuntime) -> Result<(), Fail> {
+fn lines_wait_only_after_many(rt: HostRuntime) -> Result<(), Fail> {
     let mut report = Report::new(rt.alloc());
     let mut printed: Vec<u8> = Vec::new(rt.alloc());
+    let long = "x".repeat(rt.alloc(), 65_533)?;
+    for (text, written) in [("x", 2), (long.as_str(), 65_536)] {
+        let line = report.line(&mut printed, &text);
+        assert!(rt; line.is_ok());
+        assert_eq!(rt; printed.len(), written);
+    }
     for (turns, written) in [(9_999, 0), (1, 0), (1, 4), (10_000, 4), (1_000_000, 8)] {
         let before = report.before_turns(&mut printed, turns);
         assert!(rt; before.is_ok());
-        assert_eq!(rt; printed.len(), written);
+        assert_eq!(rt; printed.len(), 65_536 + written);
         let line = report.line(&mut printed, &"x");
         assert!(rt; line.is_ok());
     }
