@@ -29,6 +29,7 @@ pub fn run_program<R: Read + Drop, W: Write + Drop>(
     }
 }
 
+#[tactic(auto, using(crate::proofs::Leaving::is_run))]
 fn run<R: Read + Drop, W: Write + Drop>(
     alloc: Global,
     arguments: &[String],
@@ -52,6 +53,7 @@ fn script_of<R: Read + Drop>(alloc: Global, reader: &mut R) -> Result<Script, Fa
 }
 
 // Runs a script, and writes what it prints. What was answered before a failure is written too.
+#[tactic(auto, using(crate::proofs::Handing::settled_prints))]
 fn run_script<W: Write + Drop>(
     alloc: Global,
     order: Order,
