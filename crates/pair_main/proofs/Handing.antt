@@ -2,11 +2,14 @@
 use Rattle.std.proofs.Common.{◌≡◌, ℕ, ◌+◌, ◌<◌, ◌≤◌, Option, Some, None, List, [], ◌∷◌, ◌++◌, length, length-append, append-nil, append_assoc, Result, Ok, Err, refl, sym, ap, ◌∙◌, arith, subst, inl, inr}
 use Rattle.std.specs.Prelude.{◌⊎◌, IfErr, OnOk}
 use Rattle.std.specs.Result.{IsErrAnd}
+use Rattle.std.proofs.lemmas.List.Elements.{All-append, All-cons, All-nil}
 use Rattle.std.proofs.lemmas.List.Folds.{concat-append}
 use Rattle.std.specs.List.{concat}
 use Rattle.std.specs.Io.KnownBytes.{Appends, Keeps, append_known}
+use Rattle.pair_events.specs.Printed.{answer_text}
+use Rattle.pair_events.specs.declared.answer.Answer.{Answer}
 use Rattle.pair_main.specs.Printing.{AnswersBut, AnswersLines, Prints, PrintsBut, PrintsVerdict}
-use Rattle.pair_main.specs.Reports.{AddsLine, AddsLines}
+use Rattle.pair_main.specs.Reports.{AddsLine, AddsAnswers, TellsAnswer}
 use Rattle.pair_main.specs.declared.failure.Failure.{Failure}
 use Rattle.pair_main.specs.declared.failure.Failure.TheVariants as failure
 use Rattle.pair_main.specs.declared.options.Order.{Order}
@@ -30,38 +33,42 @@ pub keeps_refl : (a : Option (List ℕ)) → Keeps a a
 keeps_refl None = tt
 keeps_refl (Some a) = refl
 
--- no line, and one more
-pub adds_none : (old new : Option (List ℕ)) → Keeps old new → AddsLines 0 old new
-adds_none old new k = record { lines = []; many = refl; added = keeps-appends old new k }
+-- no answer, and one more
+pub adds_none : (old new : Option (List ℕ)) → Keeps old new → AddsAnswers 0 old new
+adds_none old new k = record { lines = []; many = refl; answers = All-nil TellsAnswer; added = keeps-appends old new k }
 
-pub adds_none_more : (n : ℕ) (old mid new : Option (List ℕ)) → AddsLines n old mid → Keeps mid new → AddsLines n old new
+pub adds_none_more : (n : ℕ) (old mid new : Option (List ℕ)) → AddsAnswers n old mid → Keeps mid new → AddsAnswers n old new
 adds_none_more n old mid new all k = record {
   lines = all.lines;
   many = all.many;
+  answers = all.answers;
   added = subst (λ bytes. Appends old new bytes) (append-nil (concat all.lines))
       (appends_on old mid new (concat all.lines) [] all.added (keeps-appends mid new k));
 }
 
-pub adds_one : (shown old new : Option (List ℕ)) → AddsLine shown old new → AddsLines 1 old new
-adds_one shown old new one = record {
+pub adds_one : (answer : Answer) (old new : Option (List ℕ)) → AddsLine (Some (answer_text answer)) old new
+    → AddsAnswers 1 old new
+adds_one answer old new one = record {
   lines = one.line ∷ [];
   many = refl;
+  answers = All-cons TellsAnswer one.line [] (answer, one.is_shown) (All-nil TellsAnswer);
   added = subst (λ bytes. Appends old new bytes) (sym (append-nil one.line)) one.added;
 }
 
--- more lines after the first ones
-pub adds_more : (n m : ℕ) (old mid next new : Option (List ℕ)) → AddsLines n old mid → Keeps mid next
-    → AddsLines m next new → AddsLines (n + m) old new
+-- more answers after the first ones
+pub adds_more : (n m : ℕ) (old mid next new : Option (List ℕ)) → AddsAnswers n old mid → Keeps mid next
+    → AddsAnswers m next new → AddsAnswers (n + m) old new
 adds_more n m old mid next new all k more =
     let first = adds_none_more n old mid next all k in record {
       lines = first.lines ++ more.lines;
       many = length-append first.lines more.lines ∙ ap (λ i. i + length more.lines) first.many ∙ ap (λ i. n + i) more.many;
+      answers = All-append TellsAnswer first.lines more.lines first.answers more.answers;
       added = subst (λ bytes. Appends old new bytes) (sym (concat-append first.lines more.lines))
           (appends_on old next new (concat first.lines) (concat more.lines) first.added more.added);
     }
 
 -- a failure after the first ones
-pub fails_after : (n lines : ℕ) (e : Failure) (old mid next new : Option (List ℕ)) → n < lines → AddsLines n old mid
+pub fails_after : (n lines : ℕ) (e : Failure) (old mid next new : Option (List ℕ)) → n < lines → AddsAnswers n old mid
     → Keeps mid next → AnswersBut 1 e next new → AnswersBut lines e old new
 fails_after n lines failure.OutOfMemory old mid next new more all k h =
     (n + h.0, (let few : h.0 ≤ 1 = h.1 in omega arith), adds_more n h.0 old mid next new all k h.2)
@@ -76,14 +83,14 @@ pub fails_broken : (lines : ℕ) (e : Failure) (old new : Option (List ℕ)) →
     → AnswersBut lines e old new
 fails_broken lines e old new is = subst (λ f. AnswersBut lines f old new) (sym is) tt
 
--- a line is the answer to one
-pub answered : (result : Result (Unit {0}) Failure) (shown old new : Option (List ℕ))
-    → OnOk result (AddsLine shown old new) → (result ≡ Err failure.OutOfMemory → Keeps old new)
+-- a line is answered
+pub answered : (result : Result (Unit {0}) Failure) (answer : Answer) (old new : Option (List ℕ))
+    → OnOk result (AddsLine (Some (answer_text answer)) old new) → (result ≡ Err failure.OutOfMemory → Keeps old new)
     → IfErr result (λ e. (e ≡ failure.OutOfMemory) ⊎ (e ≡ failure.InputOrOutput)) → AnswersLines 1 result old new
-answered (Ok done) shown old new one kept why = adds_one shown old new one
-answered (Err e) shown old new one kept (inl is) =
+answered (Ok done) answer old new one kept why = adds_one answer old new one
+answered (Err e) answer old new one kept (inl is) =
     subst (λ f. AnswersBut 1 f old new) (sym is) (0, omega arith, adds_none old new (kept (ap (λ f. Err f) is)))
-answered (Err e) shown old new one kept (inr is) = fails_broken 1 e old new is
+answered (Err e) answer old new one kept (inr is) = fails_broken 1 e old new is
 
 -- what was handed in to a report without lines, all of which is written then, is what the writer got
 pub settled : (a b c : Option (List ℕ)) (first rest bytes : List ℕ) → first ≡ []
@@ -110,10 +117,11 @@ module _ (a b c : Option (List ℕ)) (first rest : List ℕ) (none : first ≡ [
     added = settled a b c first rest one.line none one.added q;
   }
 
-  settled_lines : (n : ℕ) → AddsLines n (append_known a first) (append_known b rest) → AddsLines n a c
+  settled_lines : (n : ℕ) → AddsAnswers n (append_known a first) (append_known b rest) → AddsAnswers n a c
   settled_lines n all = record {
     lines = all.lines;
     many = all.many;
+    answers = all.answers;
     added = settled a b c first rest (concat all.lines) none all.added q;
   }
 
@@ -149,18 +157,10 @@ answers_residual lines (Ok done) e old new is h = absurd is
 answers_residual lines (Err k) e old new is h = subst (λ f. AnswersBut lines f old new) (sym is) h
 
 -- a run that prints nothing for want of memory
-pub prints_nothing : (order : Order) (lines : ℕ) (holds : Verdict → Type 0) (e : Failure) (old new : Option (List ℕ))
-    → e ≡ failure.OutOfMemory → Keeps old new → Prints order lines holds (Err e) old new
-prints_nothing Script lines holds e old new is k =
-    subst (λ f. AnswersBut lines f old new) (sym is) (0, omega arith, adds_none old new k)
-prints_nothing Check lines holds e old new is k = subst (λ f. PrintsBut holds f old new) (sym is) k
-
--- a run whose output fails
-pub prints_broken : (order : Order) (lines : ℕ) (holds : Verdict → Type 0) (result : Result (Unit {0}) Failure) (e : Failure)
-    (old new : Option (List ℕ)) → IsErrAnd result (λ k. k ≡ e) → e ≡ failure.InputOrOutput
+pub prints_nothing : (order : Order) (lines : ℕ) (holds : Verdict → Type 0) (result : Result (Unit {0}) Failure)
+    (old new : Option (List ℕ)) → IsErrAnd result (λ e. e ≡ failure.OutOfMemory) → Keeps old new
     → Prints order lines holds result old new
-prints_broken order lines holds (Ok done) e old new is broken = absurd is
-prints_broken Script lines holds (Err k) e old new is broken =
-    subst (λ f. AnswersBut lines f old new) (sym (is ∙ broken)) tt
-prints_broken Check lines holds (Err k) e old new is broken =
-    subst (λ f. PrintsBut holds f old new) (sym (is ∙ broken)) tt
+prints_nothing order lines holds (Ok done) old new is k = absurd is
+prints_nothing Script lines holds (Err e) old new is k =
+    subst (λ f. AnswersBut lines f old new) (sym is) (0, omega arith, adds_none old new k)
+prints_nothing Check lines holds (Err e) old new is k = subst (λ f. PrintsBut holds f old new) (sym is) k

@@ -1,7 +1,7 @@
 -- What a run of a script prints, by how it ends.
 use Rattle.std.specs.Prelude.{ℕ, ◌≤◌, Option, Some, List, Result, MatchResult, length}
 use Rattle.std.specs.Io.KnownBytes.{Keeps}
-use Rattle.pair_main.specs.Reports.{AddsLine, AddsLines}
+use Rattle.pair_main.specs.Reports.{AddsLine, AddsAnswers}
 use Rattle.pair_main.specs.Verdicts.{words_of}
 use Rattle.pair_main.specs.declared.failure.Failure.{Failure}
 use Rattle.pair_main.specs.declared.failure.Failure.TheVariants.{OutOfMemory, InputOrOutput, Differs}
@@ -24,12 +24,12 @@ PrintsVerdict holds result old new = MatchResult result
 
 -- each line is answered by a line; or the first ones are, where memory is refused for the next
 abbrev pub AnswersBut : ℕ → Failure → Option (List ℕ) → Option (List ℕ) → Type 0
-AnswersBut lines OutOfMemory old new = (some : ℕ) × (some ≤ lines) × AddsLines some old new
+AnswersBut lines OutOfMemory old new = (some : ℕ) × (some ≤ lines) × AddsAnswers some old new
 AnswersBut lines InputOrOutput old new = Unit {0}
 AnswersBut lines _ old new = ⊥
 
 abbrev pub AnswersLines : ℕ → Result (Unit {0}) Failure → Option (List ℕ) → Option (List ℕ) → Type 0
-AnswersLines lines result old new = MatchResult result (λ _. AddsLines lines old new)
+AnswersLines lines result old new = MatchResult result (λ _. AddsAnswers lines old new)
     (λ failure. AnswersBut lines failure old new)
 
 -- a run of a script of so many lines after the setup

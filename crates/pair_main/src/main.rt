@@ -8,7 +8,6 @@ mod options;
 mod program;
 mod report;
 mod session;
-mod show;
 mod verdict;
 
 use crate::program::run_program;

@@ -14,14 +14,13 @@ use crate::checking::compare;
 use crate::failure::Failure;
 use crate::options::Order;
 use crate::report::Report;
-use crate::show::Answer;
 use crate::verdict::Verdict;
 use disk_dcdd::SectorWrite;
 use event_callbacks::{Callbacks, Completes, PORTS};
-use ft_world::{Message, World};
+use ft_world::{Message, NodeStatus, World};
 use guest_board::{Board, Lockstep, Setup};
 use i8080_words::{Fault, R};
-use pair_events::Event;
+use pair_events::{Answer, Event};
 use script_language::{BootSector, Line, Query, Script, ScriptSetup};
 use shared_disk::MemoryStore;
 use std::alloc::Global;
@@ -208,7 +207,17 @@ fn find<'a, B: Lockstep + Drop, H: Drop>(
             _ => Answer::Refused(Fault::Unknown),
         },
         Query::Node { node } => match world.node(node) {
-            Some(status) => Answer::Node(status),
+            Some(
+                NodeStatus {
+                    role,
+                    generation,
+                    count,
+                },
+            ) => Answer::Node {
+                role,
+                generation,
+                count,
+            },
             None => Answer::Refused(Fault::Unknown),
         },
     }
