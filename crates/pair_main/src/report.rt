@@ -1,5 +1,5 @@
 //! The program's output.
-ghost use Rattle.std.specs.Prelude.{◌≡◌, ◌⊎◌, [], Err, IfErr, OnOk, string_bytes};
+ghost use Rattle.std.specs.Prelude.{◌≡◌, ◌<◌, ◌⊎◌, [], Err, IfErr, OnOk, string_bytes};
 ghost use Rattle.std.specs.Io.KnownBytes.{Appends, Keeps};
 ghost use Rattle.pair_main.specs.Reports.{AddsLine, handed};
 ghost use Rattle.pair_main.specs.declared.failure.Failure.TheVariants as failure;
@@ -50,6 +50,7 @@ impl Report {
             (handed (W.contents writer.old) self.old) (handed (W.contents writer.new) self.new)) }
         ensures no_line { result ≡ Err failure.OutOfMemory
             → Keeps (handed (W.contents writer.old) self.old) (handed (W.contents writer.new) self.new) }
+        ensures at_once { OnOk result (self.old.written < 65536 → string_bytes self.new.lines ≡ []) }
         ensures errors { IfErr result (λ e. (e ≡ failure.OutOfMemory) ⊎ (e ≡ failure.InputOrOutput)) }
     {
         self.line.clear();
@@ -65,6 +66,7 @@ impl Report {
     pub fn before_turns<W: Write>(&mut self, writer: &mut W, turns: u64) -> Result<(), Failure>
         ensures ok { OnOk result
             (Keeps (handed (W.contents writer.old) self.old) (handed (W.contents writer.new) self.new)) }
+        ensures none_left { OnOk result (10000 < turns → string_bytes self.new.lines ≡ []) }
         ensures errors { IfErr result (λ e. e ≡ failure.InputOrOutput) }
     {
         self.turns = self.turns.saturating_add(turns);
