@@ -20,7 +20,8 @@ abbrev pub of_script : ScriptError → Failure
 of_script (script.BadScript line) = BadScript line
 of_script script.OutOfMemory = OutOfMemory
 
--- the exit status of a failure; 0 is that of a run that ends well, and 6 is kept for a pair on threads that stalls
+-- the exit status of a failure; with 2 the command line is refused, or asks for help or the version. 0 is that of a run that
+-- ends well, and 6 is kept for a pair on threads that stalls
 abbrev pub status_of : Failure → ℕ
 status_of (CommandLine text) = 2
 status_of NotLive = 2

@@ -13,7 +13,7 @@ use std::io;
 /// Why a run ends other than well.
 #[derive(Drop)]
 pub enum Failure {
-    /// The command line was refused, or asks for help; the text is for the user.
+    /// The command line was refused, or asks for help or the version; the text is for the user.
     CommandLine(String),
     /// A pair on threads was asked for.
     NotLive,

@@ -168,6 +168,7 @@ fn turns_of(line: Line) -> u64 {
 }
 
 // Answers a line.
+#[tactic(auto, using(crate::proofs::Handing::answered))]
 fn answer<B: Lockstep + Drop, H: Drop, O: Write + Drop>(
     alloc: Global,
     world: &mut World<B, MemoryStore, H>,
