@@ -29,7 +29,7 @@ pub fn run_program<R: Read + Drop, W: Write + Drop>(
     }
 }
 
-#[tactic(auto, using(crate::proofs::Leaving::is_run))]
+#[tactic(auto, using(crate::proofs::Runs::is_run))]
 fn run<R: Read + Drop, W: Write + Drop>(
     alloc: Global,
     arguments: &[String],
