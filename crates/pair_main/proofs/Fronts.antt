@@ -1,23 +1,23 @@
--- What is left of the bytes behind those that were accepted is as long as what was not accepted.
+-- What is left of an output after the bytes that were accepted, if they are its first, is all that is missing.
 use Rattle.std.proofs.Common.{◌≡◌, ℕ, ◌+◌, ◌≤◌, List, ◌++◌, length, length-append, IsTrue, leb, sym, ap, ◌∙◌, arith}
 use Rattle.std.proofs.lemmas.Bool.{leb-true, le-leb}
-use Rattle.pair_main.specs.Fronts.{IsFront}
+use Rattle.pair_main.specs.Comparing.{IsFront}
 
--- two rests behind the same bytes are equally long
+-- two rests after the same bytes are equally long
 rests : (accepted one other : List ℕ) → accepted ++ one ≡ accepted ++ other → length one ≡ length other
 rests accepted one other same =
     let all : length accepted + length one ≡ length accepted + length other
     = sym (length-append accepted one) ∙ ap length same ∙ length-append accepted other in
     omega arith
 
-pub front_is : (missing : ℕ) (accepted sent rest : List ℕ) → sent ≡ accepted ++ rest
-    → IsTrue (leb (length rest) missing) → IsFront missing accepted sent
-front_is missing accepted sent rest all few =
-    record { rest = rest; all = all; few = leb-true (length rest) missing few }
+pub front_is : (accepted output rest : List ℕ) → output ≡ accepted ++ rest → IsTrue (leb (length rest) 16)
+    → IsFront accepted output
+front_is accepted output rest all few =
+    record { missing = rest; all = all; few = leb-true (length rest) 16 few }
 
-pub is_front : (missing : ℕ) (accepted sent rest : List ℕ) → sent ≡ accepted ++ rest
-    → IsFront missing accepted sent → IsTrue (leb (length rest) missing)
-is_front missing accepted sent rest all front =
-    let longer : length rest ≡ length front.rest = rests accepted rest front.rest (sym all ∙ front.all) in
-    let few : length front.rest ≤ missing = front.few in
-    le-leb (length rest) missing (omega arith)
+pub is_front : (accepted output rest : List ℕ) → output ≡ accepted ++ rest → IsFront accepted output
+    → IsTrue (leb (length rest) 16)
+is_front accepted output rest all front =
+    let longer : length rest ≡ length front.missing = rests accepted rest front.missing (sym all ∙ front.all) in
+    let few : length front.missing ≤ 16 = front.few in
+    le-leb (length rest) 16 (omega arith)

@@ -1,1 +1,4 @@
+pub mod Comparisons
 pub mod Fronts
+pub mod Handing
+pub mod Runs

@@ -1,3 +1,7 @@
-pub mod Failures
-pub mod Fronts
+pub mod Comparing
+pub mod Printing
+pub mod Reports
+pub mod Runs
+pub mod Sectors
 pub mod Statuses
+pub mod Verdicts

@@ -1,7 +1,45 @@
--- How the program ends.
-use Rattle.std.specs.Prelude.{ℕ, [], ◌∷◌, IsTrue, nat_eq}
-use Rattle.std.specs.List.{list_any}
+-- How the program ends: its exit statuses, and what standard error gets.
+use Rattle.std.specs.Prelude.{◌≡◌, ℕ, List, [], ◌++◌, codes, string_bytes}
+use Rattle.std.specs.Fmt.{decimal}
+use Rattle.std.specs.Cow.{cow_str_bytes}
+use Rattle.std.specs.declared.borrow.CowStr.{CowStr}
+use Rattle.pair_main.specs.declared.failure.Failure.{Failure}
+use Rattle.pair_main.specs.declared.failure.Failure.TheVariants.{CommandLine, NotLive, BadScript}
+use Rattle.pair_main.specs.declared.failure.Failure.TheVariants.{OutOfMemory, InputOrOutput, Differs}
+use Rattle.script_language.specs.declared.error.InputError.{InputError}
+use Rattle.script_language.specs.declared.error.InputError.TheVariants as input
+use Rattle.script_language.specs.declared.error.ScriptError.{ScriptError}
+use Rattle.script_language.specs.declared.error.ScriptError.TheVariants as script
 
--- an exit status of the program
-abbrev pub IsStatus : ℕ → Type 0
-IsStatus status = IsTrue (list_any (nat_eq status) (0 ∷ 2 ∷ 3 ∷ 4 ∷ 5 ∷ 7 ∷ []))
+-- why the input is not read, and why it is no script, as failures
+abbrev pub of_input : InputError → Failure
+of_input input.Failed = InputOrOutput
+of_input input.OutOfMemory = OutOfMemory
+
+abbrev pub of_script : ScriptError → Failure
+of_script (script.BadScript line) = BadScript line
+of_script script.OutOfMemory = OutOfMemory
+
+-- the exit status of a failure; with 2 the command line is refused, or asks for help or the version. 0 is that of a run that
+-- ends well, and 6 is kept for a pair on threads that stalls
+abbrev pub status_of : Failure → ℕ
+status_of (CommandLine text) = 2
+status_of NotLive = 2
+status_of (BadScript line) = 3
+status_of OutOfMemory = 4
+status_of InputOrOutput = 5
+status_of Differs = 7
+
+-- its text for standard error; what differs is told on standard output
+abbrev pub text_of : Failure → List ℕ
+text_of (CommandLine text) = string_bytes text
+text_of NotLive = codes "pair live: not there yet; `pair script` and `pair check` run a pair step by step"
+text_of (BadScript line) = codes "bad script at line " ++ decimal line
+text_of OutOfMemory = codes "out of memory"
+text_of InputOrOutput = codes "input or output failed"
+text_of Differs = []
+
+-- a status and a text are those of a failure
+pub record EndsBy {Z : Type 0} (failure : Failure) (ending : ℕ × CowStr Z) : Type 0 where
+  pub status : ending.0 ≡ status_of failure
+  pub text : cow_str_bytes ending.1 ≡ text_of failure

@@ -1,181 +1,174 @@
 //! Whether a pair has done what one machine that never fails does.
-ghost use Rattle.std.specs.Prelude.{◌↔◌, IsTrue};
-ghost use Rattle.pair_main.specs.Fronts.{IsFront};
-ghost use Rattle.pair_main.specs.declared.checking.TheConstants.{WINDOW};
-ghost use Rattle.plain_single.specs.Reaching.{NeverFall};
+ghost use Rattle.std.specs.Prelude.{◌≡◌, ◌↔◌, ℕ, ◌<◌, IfErr, IfOk, IsTrue};
+ghost use Rattle.disk_dcdd.specs.declared.drive.TheConstants.{TRACKS};
+ghost use Rattle.disk_dcdd.specs.declared.sector.TheConstants.{SECTORS};
+ghost use Rattle.guest_board.specs.Guest.{altair};
+ghost use Rattle.i8080_words.specs.declared.refusal.Fault.TheVariants.{OutOfMemory};
+ghost use Rattle.plain_single.specs.Alone.{output_of};
+ghost use Rattle.plain_single.specs.Image.{boot_sectors, sector_at};
+ghost use Rattle.pair_protocol.specs.World.{accepted};
+ghost use Rattle.ft_world.specs.Applies.{Shows};
+ghost use Rattle.ft_world.specs.Standing.{Course, machine_of};
+ghost use Rattle.pair_main.specs.Comparing.{IsAnswer, IsFront, IsVerdictOn, deeds_of};
+ghost use Rattle.pair_main.specs.Sectors.{EachOf, IsBad, IsGood, SomeOf, Tells, address_at};
 
-use crate::session::Altairs;
+use crate::judging::{is_front, may_have, never_fall};
+use crate::verdict::Verdict;
 use disk_dcdd::{SECTORS, SectorAddress, SectorWrite, TRACKS};
-use event_callbacks::{Completes, PORTS};
-use guest_board::Setup;
+use ft_world::World;
+use guest_board::{Lockstep, Setup};
 use i8080_words::{Fault, R};
-use plain_single::{Bare, Single, Timed};
+use plain_single::{Single, Timed};
+use shared_disk::MemoryStore;
 use std::alloc::Global;
-use std::collections::BTreeSet;
-use std::fmt;
-
-// How many bytes of a port the terminal may not have accepted yet.
-const WINDOW: usize = 16;
-
-/// What a comparison found.
-#[derive(Clone, Copy, Debug, PartialEq, Eq)]
-pub enum Verdict {
-    /// The pair has done the same, up to this count.
-    Same { count: u64 },
-    Differs,
-}
-
-impl fmt::Display for Verdict {
-    fn fmt<W: fmt::Write>(&self, f: &mut fmt::Formatter<W>) -> fmt::Result {
-        match self {
-            Verdict::Same { count } => write!(f, "same {count}"),
-            Verdict::Differs => write!(f, "differs"),
-        }
-    }
-}
 
 /// Runs the single machine of this setup from what is settled in a pair. `Same` where each terminal has accepted its
 /// output, or all but the last 16 bytes, and each sector of the pair's disk has the bytes of the machine's disk or of a
 /// write of the machine that is not settled as done. `OutOfMemory` is the allocator's refusal.
-pub fn compare<T: Completes + Drop, S: Completes + Drop, W: Completes + Drop>(
+pub fn compare<B: Lockstep + Drop, H: Drop>(
     alloc: Global,
-    world: &mut Altairs<T, S, W>,
+    world: &mut World<B, MemoryStore, H>,
     setup: &Setup,
     sectors: &[SectorWrite],
-) -> R<Verdict> {
+) -> R<Verdict>
+    ensures verdict { IfOk result (λ verdict. (c : Course B.State)
+        → Shows B.state B.machine (λ records. records) world.old c
+        → IsVerdictOn (altair setup.now (boot_sectors sectors.now)) setup.now.drives (machine_of B.machine c) c.world
+        world.old.disk verdict) }
+    ensures only_memory { IfErr result (λ fault. fault ≡ OutOfMemory) }
+    ensures unchanged { world.new ≡ world.old }
+{
     let single = Single::boot(alloc, setup, sectors)?;
     let (inputs, count) = world.settled();
-    if !never_fall(inputs) {
+    let inputs = inputs.to_vec(alloc)?;
+    if !never_fall(&inputs) {
         return Ok(Verdict::Differs);
     }
-    let single = match single.run(alloc, inputs, count) {
+    let single = match single.run(alloc, &inputs, count) {
         Ok(single) => single,
-        Err(Fault::OutOfMemory) => return Err(Fault::OutOfMemory),
-        Err(_) => return Ok(Verdict::Differs),
+        Err(fault) => match fault {
+            Fault::OutOfMemory => return Err(fault),
+            _ => return Ok(Verdict::Differs),
+        },
     };
-    let outstanding = outstanding(alloc, single.writes(), inputs)?;
-    if has_output(world, &single) && has_disk(world, &single, setup.drives, &outstanding) {
+    if is_alike(world, &single, setup.drives, &inputs) {
         Ok(Verdict::Same { count })
     } else {
         Ok(Verdict::Differs)
     }
 }
 
-// Whether counts never fall.
-fn never_fall(inputs: &[Timed]) -> bool
-    ensures { IsTrue result → NeverFall 0 inputs.now }
+// Whether the pair has done as the machine.
+fn is_alike<B: Lockstep + Drop, H: Drop>(
+    world: &mut World<B, MemoryStore, H>,
+    single: &Single,
+    drives: u8,
+    inputs: &[Timed],
+) -> bool
+    ensures answer { (c : Course B.State) → Shows B.state B.machine (λ records. records) world.old c
+        → IsAnswer drives (deeds_of (machine_of B.machine c) c.world inputs.now) world.old.disk
+        (output_of single.now) single.now.behind.writes (sector_at single.now.disk) result }
+    ensures unchanged { world.new ≡ world.old }
 {
-    let mut last = 0u64;
-    for input in inputs {
-        if input.count < last {
-            return false;
-        }
-        last = input.count;
-    }
-    true
-}
-
-// The writes that no input says are done.
-fn outstanding(alloc: Global, writes: &[SectorWrite], inputs: &[Timed]) -> R<Vec<SectorWrite>> {
-    let mut done = BTreeSet::new(alloc);
-    for timed in inputs {
-        if let Bare::Written(number) = timed.input {
-            done.insert(number)?;
-        }
-    }
-    let mut outstanding = Vec::new(alloc);
-    for write in writes {
-        if !done.contains(&write.number) {
-            outstanding.push(*write)?;
-        }
-    }
-    Ok(outstanding)
+    has_output(world, single) && has_disk(world, single, drives, inputs)
 }
 
 // Whether each terminal has accepted what the machine has sent, or all but its end.
-fn has_output<T: Completes + Drop, S: Completes + Drop, W: Completes + Drop>(
-    world: &Altairs<T, S, W>,
+fn has_output<B: Lockstep + Drop, H: Drop>(
+    world: &World<B, MemoryStore, H>,
     single: &Single,
-) -> bool {
-    for port in 0..PORTS as u8 {
-        if !is_front(world.accepted(port), single.outputs(port)) {
-            return false;
-        }
-    }
-    true
-}
-
-// Whether a terminal has accepted all that was sent, or all but the window.
-fn is_front(accepted: &[u8], sent: &[u8]) -> bool
-    ensures { IsTrue result ↔ IsFront WINDOW accepted.now sent.now }
+) -> bool
+    ensures { (c : Course B.State) → Shows B.state B.machine (λ records. records) world.now c
+        → IsTrue result ↔ ((port : ℕ) → port < 2 → IsFront (accepted c.world port) (output_of single.now port)) }
 {
-    match sent.strip_prefix(accepted) {
-        Some(rest) => rest.len() <= WINDOW,
-        None => false,
-    }
+    is_front(world.accepted(0), single.outputs(0)) && is_front(world.accepted(1), single.outputs(1))
 }
 
 // Whether each sector is as the machine's disk has it, or as an outstanding write does.
-fn has_disk<T: Completes + Drop, S: Completes + Drop, W: Completes + Drop>(
-    world: &mut Altairs<T, S, W>,
+fn has_disk<B: Lockstep + Drop, H: Drop>(
+    world: &mut World<B, MemoryStore, H>,
     single: &Single,
     drives: u8,
-    outstanding: &[SectorWrite],
-) -> bool {
+    inputs: &[Timed],
+) -> bool
+    ensures tells { Tells
+        (EachOf drives (λ drive. EachOf TRACKS (λ track. EachOf SECTORS
+        (λ sector. IsGood B.state B.machine world.old single.now inputs.now (address_at drive track sector)))))
+        (SomeOf drives (λ drive. SomeOf TRACKS (λ track. SomeOf SECTORS
+        (λ sector. IsBad B.state B.machine world.old single.now inputs.now (address_at drive track sector)))))
+        result }
+    ensures unchanged { world.new ≡ world.old }
+{
     for drive in 0..drives {
-        if !has_drive(world, single, drive, outstanding) {
+        if !has_drive(world, single, drive, inputs) {
             return false;
         }
     }
     true
 }
 
-fn has_drive<T: Completes + Drop, S: Completes + Drop, W: Completes + Drop>(
-    world: &mut Altairs<T, S, W>,
+fn has_drive<B: Lockstep + Drop, H: Drop>(
+    world: &mut World<B, MemoryStore, H>,
     single: &Single,
     drive: u8,
-    outstanding: &[SectorWrite],
-) -> bool {
+    inputs: &[Timed],
+) -> bool
+    ensures tells { Tells
+        (EachOf TRACKS (λ track. EachOf SECTORS
+        (λ sector. IsGood B.state B.machine world.old single.now inputs.now (address_at drive track sector))))
+        (SomeOf TRACKS (λ track. SomeOf SECTORS
+        (λ sector. IsBad B.state B.machine world.old single.now inputs.now (address_at drive track sector))))
+        result }
+    ensures unchanged { world.new ≡ world.old }
+{
     for track in 0..TRACKS {
-        if !has_track(world, single, drive, track, outstanding) {
+        if !has_track(world, single, drive, track, inputs) {
             return false;
         }
     }
     true
 }
 
-fn has_track<T: Completes + Drop, S: Completes + Drop, W: Completes + Drop>(
-    world: &mut Altairs<T, S, W>,
+fn has_track<B: Lockstep + Drop, H: Drop>(
+    world: &mut World<B, MemoryStore, H>,
     single: &Single,
     drive: u8,
     track: u8,
-    outstanding: &[SectorWrite],
-) -> bool {
+    inputs: &[Timed],
+) -> bool
+    ensures tells { Tells
+        (EachOf SECTORS (λ sector. IsGood B.state B.machine world.old single.now inputs.now (address_at drive track sector)))
+        (SomeOf SECTORS (λ sector. IsBad B.state B.machine world.old single.now inputs.now (address_at drive track sector)))
+        result }
+    ensures unchanged { world.new ≡ world.old }
+{
     for sector in 0..SECTORS {
         let address = SectorAddress {
             drive,
             track,
             sector,
         };
-        if !has_sector(world, single, address, outstanding) {
+        if !has_sector(world, single, address, inputs) {
             return false;
         }
     }
     true
 }
 
-fn has_sector<T: Completes + Drop, S: Completes + Drop, W: Completes + Drop>(
-    world: &mut Altairs<T, S, W>,
+fn has_sector<B: Lockstep + Drop, H: Drop>(
+    world: &mut World<B, MemoryStore, H>,
     single: &Single,
     address: SectorAddress,
-    outstanding: &[SectorWrite],
-) -> bool {
-    let Ok(read) = world.sector(address) else {
-        return false;
-    };
-    let bytes = read.bytes;
-    bytes == single.image(address)
-        || outstanding
-            .iter()
-            .any(|write| write.address() == address && write.bytes == bytes)
+    inputs: &[Timed],
+) -> bool
+    ensures tells { Tells
+        (IsGood B.state B.machine world.old single.now inputs.now address)
+        (IsBad B.state B.machine world.old single.now inputs.now address)
+        result }
+    ensures unchanged { world.new ≡ world.old }
+{
+    match world.sector(address) {
+        Ok(read) => may_have(single, inputs, address, &read.bytes),
+        Err(_) => false,
+    }
 }

@@ -1,7 +1,7 @@
 //! How a run of the program ends other than well.
-ghost use Rattle.std.specs.Prelude.{◌≡◌, ◌⊎◌, IsTrue};
-ghost use Rattle.pair_main.specs.Failures.{is_refusal};
-ghost use Rattle.pair_main.specs.Statuses.{IsStatus};
+ghost use Rattle.std.specs.Prelude.{◌≡◌};
+ghost use Rattle.pair_main.specs.Runs.{EndsIn};
+ghost use Rattle.pair_main.specs.Statuses.{EndsBy, of_input, of_script};
 ghost use Rattle.pair_main.specs.declared.failure.Failure.TheVariants as failure;
 
 use i8080_words::Fault;
@@ -13,7 +13,7 @@ use std::io;
 /// Why a run ends other than well.
 #[derive(Drop)]
 pub enum Failure {
-    /// The command line was refused, or asks for help; the text is for the user.
+    /// The command line was refused, or asks for help or the version; the text is for the user.
     CommandLine(String),
     /// A pair on threads was asked for.
     NotLive,
@@ -30,26 +30,29 @@ pub enum Failure {
 const NOT_LIVE: &str =
     "pair live: not there yet; `pair script` and `pair check` run a pair step by step";
 
-const OUT_OF_MEMORY: (u8, CowStr<'static>) = (4, CowStr::Borrowed("out of memory"));
-
 impl Failure {
-    /// The exit status, and the text for standard error.
+    /// The exit status, and the text for standard error. Where memory for the text is refused, those of that failure.
     pub fn ending(self, alloc: Global) -> (u8, CowStr<'static>)
-        ensures status { IsStatus result.0 }
-        ensures refusal { (result.0 ≡ 2) ⊎ (result.0 ≡ 3) → IsTrue (is_refusal self) }
+        ensures { EndsIn self result }
     {
         match self {
             Failure::CommandLine(text) => (2, CowStr::Owned(text)),
             Failure::NotLive => (2, CowStr::Borrowed(NOT_LIVE)),
             Failure::BadScript(line) => match format!(in alloc; "bad script at line {line}") {
                 Ok(text) => (3, CowStr::Owned(text)),
-                Err(_) => OUT_OF_MEMORY,
+                Err(_) => out_of_memory(),
             },
-            Failure::OutOfMemory => OUT_OF_MEMORY,
+            Failure::OutOfMemory => out_of_memory(),
             Failure::InputOrOutput => (5, CowStr::Borrowed("input or output failed")),
             Failure::Differs => (7, CowStr::Borrowed("")),
         }
     }
+}
+
+fn out_of_memory() -> (u8, CowStr<'static>)
+    ensures { EndsBy failure.OutOfMemory result }
+{
+    (4, CowStr::Borrowed("out of memory"))
 }
 
 impl From<AllocError> for Failure {
@@ -77,6 +80,8 @@ impl From<io::Error> for Failure {
 }
 
 impl From<InputError> for Failure {
+    ghost from_gives = { λ error e. e ≡ of_input error };
+
     fn from(error: InputError) -> Failure {
         match error {
             InputError::Failed => Failure::InputOrOutput,
@@ -86,6 +91,8 @@ impl From<InputError> for Failure {
 }
 
 impl From<ScriptError> for Failure {
+    ghost from_gives = { λ error e. e ≡ of_script error };
+
     fn from(error: ScriptError) -> Failure {
         match error {
             ScriptError::BadScript { line } => Failure::BadScript(line),

@@ -3,11 +3,12 @@
 
 mod checking;
 mod failure;
+mod judging;
 mod options;
 mod program;
 mod report;
 mod session;
-mod show;
+mod verdict;
 
 use crate::program::run_program;
 use std::env;

@@ -1,4 +1,6 @@
 //! The command line.
+ghost use Rattle.std.specs.Prelude.{◌≡◌, IfErr, true};
+ghost use Rattle.pair_main.specs.Runs.{is_of_command_line};
 
 use crate::failure::Failure;
 use clap::error::ErrorKind;
@@ -12,44 +14,55 @@ pub enum Order {
     Script,
     /// To compare the pair at the end of a script with a single machine.
     Check,
-    /// To run a pair on threads.
-    Live,
 }
 
 const EXAMPLE: &str = "\
 The script comes from standard input: a setup, and then one event or query a line.
-The guest below sends the byte 48 and halts; the backup acknowledges it, and the
-terminal of port 0 accepts it.
+Here the guest sends the byte 48 and halts, the backup acknowledges it, and the
+terminal of port 0 accepts it:
 
-Example: pair script << END
-  mem 0000 3E 03 D3 10 3E 15 D3 10 3E 48 D3 11 76
-  step 0 10
-  send 0 0
-  log 0 1
-  ack 1
-  acked 1 0
-  release 0 byte 0 1
-  arrive 2
-  show 0
-  END";
+pair script << END
+mem 0000 3E 03 D3 10 3E 15 D3 10 3E 48 D3 11 76
+step 0 10
+send 0 0
+log 0 1
+ack 1
+acked 1 0
+release 0 byte 0 1
+arrive 2
+show 0
+END
+
+Exit status: 0 the run ended; 2 this text, or a command line that is none; 3 a bad
+script; 4 out of memory; 5 input or output failed; 7 `check` found a difference.";
+
+const SCRIPT_USAGE: &str = "pair script < FILE (the script comes from standard input)";
+
+const CHECK_USAGE: &str = "pair check < FILE (the script comes from standard input)";
 
 /// What the words of a command line ask for; the first is the program's name.
-pub fn order_of(alloc: Global, arguments: &[String]) -> Result<Order, Failure> {
+pub fn order_of(alloc: Global, arguments: &[String]) -> Result<Order, Failure>
+    ensures { IfErr result (λ e. is_of_command_line e ≡ true) }
+{
     match parse(alloc, arguments) {
-        Ok(order) => Ok(order),
+        Ok(Some(order)) => Ok(order),
+        Ok(None) => Err(Failure::NotLive),
         Err(error) => Err(refusal(alloc, &error)),
     }
 }
 
-fn parse(alloc: Global, arguments: &[String]) -> Result<Order, Error> {
-    let script = Command::new(alloc, "script").about(
-        "Runs a script, and prints a line for each event and query",
-    );
-    let check = Command::new(alloc, "check").about(
-        "Runs a script silently, and compares the pair with a single machine",
-    );
+// The order; none where a pair on threads is asked for.
+fn parse(alloc: Global, arguments: &[String]) -> Result<Option<Order>, Error> {
+    let script = Command::new(alloc, "script")
+        .about("Runs a script, and prints a line for each event and query")
+        .override_usage(SCRIPT_USAGE);
+    let check = Command::new(alloc, "check")
+        .about("Runs a script silently, and compares the pair with a single machine")
+        .override_usage(CHECK_USAGE);
     let live = Command::new(alloc, "live").about("Runs a pair on threads (not there yet)");
     let pair = Command::new(alloc, "pair")
+        .bin_name("pair")?
+        .version("0.1.0")
         .about("A fault-tolerant pair of Altair 8800s")
         .after_help(EXAMPLE)
         .subcommand_required(true)
@@ -58,14 +71,16 @@ fn parse(alloc: Global, arguments: &[String]) -> Result<Order, Error> {
         .subcommand(live)?;
     let matches = pair.try_get_matches_from(arguments)?;
     match matches.subcommand() {
-        Some(("check", _)) => Ok(Order::Check),
-        Some(("live", _)) => Ok(Order::Live),
-        _ => Ok(Order::Script),
+        Some(("check", _)) => Ok(Some(Order::Check)),
+        Some(("live", _)) => Ok(None),
+        _ => Ok(Some(Order::Script)),
     }
 }
 
-// The text of the error, without the line end behind it.
-fn refusal(alloc: Global, error: &Error) -> Failure {
+// The text of the error, without the line end after it.
+fn refusal(alloc: Global, error: &Error) -> Failure
+    ensures { is_of_command_line result ≡ true }
+{
     if matches!(error.kind(), ErrorKind::OutOfMemory) {
         return Failure::OutOfMemory;
     }

@@ -1,7 +1,7 @@
 //! One run of the program.
-ghost use Rattle.std.specs.Prelude.{◌≡◌, ◌⊎◌, IfErr, true};
-ghost use Rattle.pair_main.specs.Failures.{is_refusal};
-ghost use Rattle.pair_main.specs.Statuses.{IsStatus};
+ghost use Rattle.std.specs.Prelude.{◌≡◌, IfErr, length, true, ⊤};
+ghost use Rattle.pair_main.specs.Printing.{Prints};
+ghost use Rattle.pair_main.specs.Runs.{IsRun, IsEnding, is_of_input};
 
 use crate::failure::Failure;
 use crate::options::{Order, order_of};
@@ -21,8 +21,7 @@ pub fn run_program<R: Read + Drop, W: Write + Drop>(
     reader: &mut R,
     writer: &mut W,
 ) -> (u8, CowStr<'static>)
-    ensures status { IsStatus result.0 }
-    ensures untouched { (result.0 ≡ 2) ⊎ (result.0 ≡ 3) → W.contents writer.new ≡ W.contents writer.old }
+    ensures { IsEnding W.contents reader.old reader.new writer.old writer.new result }
 {
     match run(alloc, arguments, reader, writer) {
         Ok(()) => (0, CowStr::Borrowed("")),
@@ -30,37 +29,51 @@ pub fn run_program<R: Read + Drop, W: Write + Drop>(
     }
 }
 
+#[tactic(auto, using(crate::proofs::Runs::is_run))]
 fn run<R: Read + Drop, W: Write + Drop>(
     alloc: Global,
     arguments: &[String],
     reader: &mut R,
     writer: &mut W,
 ) -> Result<(), Failure>
-    ensures { IfErr result (λ failure. is_refusal failure ≡ true → W.contents writer.new ≡ W.contents writer.old) }
+    ensures { IsRun W.contents reader.old reader.new writer.old writer.new result }
 {
     let order = order_of(alloc, arguments)?;
-    if order == Order::Live {
-        return Err(Failure::NotLive);
-    }
     let script = script_of(alloc, reader)?;
-    let mut report = Report::new(alloc, writer);
+    run_script(alloc, order, &script, writer)
+}
+
+// The reader's whole script.
+fn script_of<R: Read + Drop>(alloc: Global, reader: &mut R) -> Result<Script, Failure>
+    ensures { IfErr result (λ e. is_of_input e ≡ true) }
+{
+    let bytes = read_script(alloc, reader)?;
+    let script = parse(alloc, &bytes)?;
+    Ok(script)
+}
+
+// Runs a script, and writes what it prints. What was answered before a failure is written too.
+#[tactic(auto, using(crate::proofs::Handing::settled_prints))]
+fn run_script<W: Write + Drop>(
+    alloc: Global,
+    order: Order,
+    script: &Script,
+    writer: &mut W,
+) -> Result<(), Failure>
+    ensures { Prints order (length script.now.lines.items) (λ verdict. ⊤) result
+        (W.contents writer.old) (W.contents writer.new) }
+{
+    let mut report = Report::new(alloc);
     let ended = session::run(
         alloc,
         order,
-        &script,
+        script,
         &mut report,
+        writer,
         plain_completions::sent,
         plain_completions::sector,
         plain_completions::written,
     );
-    // What was answered before a failure is written too.
-    report.flush()?;
+    report.flush(writer)?;
     ended
-}
-
-// The reader's whole script.
-fn script_of<R: Read + Drop>(alloc: Global, reader: &mut R) -> Result<Script, Failure> {
-    let bytes = read_script(alloc, reader)?;
-    let script = parse(alloc, &bytes)?;
-    Ok(script)
 }

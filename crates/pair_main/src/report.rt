@@ -1,49 +1,93 @@
 //! The program's output.
-ghost use Rattle.std.specs.Prelude.{◌≡◌, IfErr, false};
-ghost use Rattle.pair_main.specs.Failures.{is_refusal};
+ghost use Rattle.std.specs.Prelude.{◌≡◌, ◌<◌, ◌⊎◌, [], Err, IfErr, OnOk, string_bytes};
+ghost use Rattle.std.specs.Io.KnownBytes.{Appends, Keeps};
+ghost use Rattle.pair_main.specs.Reports.{AddsLine, handed};
+ghost use Rattle.pair_main.specs.declared.failure.Failure.TheVariants as failure;
 
 use crate::failure::Failure;
 use std::alloc::Global;
 use std::fmt;
 use std::io::Write;
 
+// How many bytes of output are written line by line; after them lines are gathered.
+const UNGATHERED_BYTES: usize = 65_536;
+
 // How many bytes are gathered, at least, before they are written.
 const BLOCK_BYTES: usize = 16_384;
 
-/// Lines that are written many at a time, and never a part of one.
+// How many turns guests may make, at most, while lines wait.
+const TURNS: u64 = 10_000;
+
+/// Lines on their way to a writer: one by one at first, and many at a time once there are many; never a part of one.
 #[derive(Drop)]
-pub struct Report<'a, W: Write + Drop> {
+pub struct Report {
     lines: String,
-    writer: &'a mut W,
+    line: String,
+    written: usize,
+    turns: u64,
 }
 
-impl<'a, W: Write + Drop> Report<'a, W> {
-    /// No lines yet, for this writer.
-    pub fn new(alloc: Global, writer: &'a mut W) -> Report<'a, W> {
+impl Report {
+    /// No lines yet.
+    pub fn new(alloc: Global) -> Report
+        ensures { string_bytes result.lines ≡ [] }
+    {
         Report {
             lines: String::new(alloc),
-            writer,
+            line: String::new(alloc),
+            written: 0,
+            turns: 0,
         }
     }
 
-    /// A line with this text.
-    pub fn line<D: fmt::Display>(&mut self, text: &D) -> Result<(), Failure>
-        ensures { IfErr result (λ failure. is_refusal failure ≡ false) }
+    /// Hands in a line with this text. After `OutOfMemory` there is no such line, and all others are as they were.
+    pub fn line<D: fmt::Display, W: Write>(
+        &mut self,
+        writer: &mut W,
+        text: &D,
+    ) -> Result<(), Failure>
+        ensures ok { OnOk result (AddsLine (D.output text.now)
+            (handed (W.contents writer.old) self.old) (handed (W.contents writer.new) self.new)) }
+        ensures no_line { result ≡ Err failure.OutOfMemory
+            → Keeps (handed (W.contents writer.old) self.old) (handed (W.contents writer.new) self.new) }
+        ensures at_once { OnOk result (self.old.written < 65536 → string_bytes self.new.lines ≡ []) }
+        ensures errors { IfErr result (λ e. (e ≡ failure.OutOfMemory) ⊎ (e ≡ failure.InputOrOutput)) }
     {
-        writeln!(self.lines, "{text}")?;
-        if self.lines.len() < BLOCK_BYTES {
+        self.line.clear();
+        writeln!(self.line, "{text}")?;
+        self.lines.push_str(&self.line)?;
+        if self.written >= UNGATHERED_BYTES && self.lines.len() < BLOCK_BYTES {
             return Ok(());
         }
-        self.flush()
+        self.flush(writer)
+    }
+
+    /// To be called before guests make so many turns, so that lines wait for at most 10,000 of them.
+    pub fn before_turns<W: Write>(&mut self, writer: &mut W, turns: u64) -> Result<(), Failure>
+        ensures ok { OnOk result
+            (Keeps (handed (W.contents writer.old) self.old) (handed (W.contents writer.new) self.new)) }
+        ensures none_left { OnOk result (10000 < turns → string_bytes self.new.lines ≡ []) }
+        ensures errors { IfErr result (λ e. e ≡ failure.InputOrOutput) }
+    {
+        self.turns = self.turns.saturating_add(turns);
+        if self.turns <= TURNS {
+            return Ok(());
+        }
+        self.flush(writer)
     }
 
     /// Writes all lines.
-    pub fn flush(&mut self) -> Result<(), Failure>
-        ensures { IfErr result (λ failure. is_refusal failure ≡ false) }
+    pub fn flush<W: Write>(&mut self, writer: &mut W) -> Result<(), Failure>
+        ensures written { OnOk result
+            (Appends (W.contents writer.old) (W.contents writer.new) (string_bytes self.old.lines)) }
+        ensures none_left { OnOk result (string_bytes self.new.lines ≡ []) }
+        ensures errors { IfErr result (λ e. e ≡ failure.InputOrOutput) }
     {
-        self.writer.write_all(self.lines.as_bytes())?;
+        writer.write_all(self.lines.as_bytes())?;
+        self.written = self.written.saturating_add(self.lines.len());
         self.lines.clear();
-        self.writer.flush()?;
+        self.turns = 0;
+        writer.flush()?;
         Ok(())
     }
 }

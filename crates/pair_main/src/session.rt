@@ -1,19 +1,26 @@
 //! A pair of Altairs, from its boot to the end of a script.
-ghost use Rattle.std.specs.Prelude.{◌≡◌, IfErr, false};
-ghost use Rattle.pair_main.specs.Failures.{is_refusal};
+ghost use Rattle.std.specs.Prelude.{◌≡◌, length, ⊤};
 ghost use Rattle.event_callbacks.specs.declared.devices.TheConstants.{SENT, SECTOR, WRITTEN};
 ghost use Rattle.event_callbacks.specs.Keeping.{Keeps};
+ghost use Rattle.ft_world.specs.Applies.{Shows};
+ghost use Rattle.ft_world.specs.Standing.{Course, machine_of};
+ghost use Rattle.guest_board.specs.Guest.{altair};
+ghost use Rattle.plain_single.specs.Image.{boot_sectors};
+ghost use Rattle.pair_main.specs.Comparing.{IsVerdictOn};
+ghost use Rattle.pair_main.specs.Printing.{AnswersLines, Prints, PrintsVerdict};
+ghost use Rattle.pair_main.specs.Reports.{handed};
 
-use crate::checking::{Verdict, compare};
+use crate::checking::compare;
 use crate::failure::Failure;
 use crate::options::Order;
 use crate::report::Report;
-use crate::show::Answer;
+use crate::verdict::Verdict;
 use disk_dcdd::SectorWrite;
 use event_callbacks::{Callbacks, Completes, PORTS};
-use ft_world::{Message, World};
-use guest_board::Board;
+use ft_world::{Message, NodeStatus, World};
+use guest_board::{Board, Lockstep, Setup};
 use i8080_words::{Fault, R};
+use pair_events::{Answer, Event};
 use script_language::{BootSector, Line, Query, Script, ScriptSetup};
 use shared_disk::MemoryStore;
 use std::alloc::Global;
@@ -33,7 +40,8 @@ pub fn run<
     alloc: Global,
     order: Order,
     script: &Script,
-    report: &mut Report<'_, O>,
+    report: &mut Report,
+    writer: &mut O,
     sent: T,
     sector: S,
     written: W,
@@ -41,21 +49,43 @@ pub fn run<
     requires sent { Keeps (T.may sent) (T.gives sent) SENT }
     requires sector { Keeps (S.may sector) (S.gives sector) SECTOR }
     requires written { Keeps (W.may written) (W.gives written) WRITTEN }
-    ensures { IfErr result (λ failure. is_refusal failure ≡ false) }
+    ensures { Prints order (length script.now.lines.items) (λ verdict. ⊤) result
+        (handed (O.contents writer.old) report.old) (handed (O.contents writer.new) report.new) }
 {
-    let sectors = writes_of(alloc, &script.setup.sectors)?;
-    let mut world = boot(alloc, &script.setup, &sectors, sent, sector, written)?;
+    let setup = &script.setup;
+    let sectors = writes_of(alloc, &setup.sectors)?;
+    let mut world = boot(alloc, setup, &sectors, sent, sector, written)?;
     match order {
+        Order::Script => answer_each(alloc, &mut world, &script.lines, report, writer),
         Order::Check => {
             run_silently(alloc, &mut world, &script.lines);
-            let verdict = compare(alloc, &mut world, &script.setup.guest, &sectors)?;
-            report.line(&verdict)?;
-            match verdict {
-                Verdict::Same { .. } => Ok(()),
-                Verdict::Differs => Err(Failure::Differs),
-            }
+            check(alloc, &mut world, &setup.guest, &sectors, report, writer)
         }
-        _ => answer_each(alloc, &mut world, &script.lines, report),
+    }
+}
+
+// Compares a pair with the single machine of its setup, and tells the verdict.
+fn check<B: Lockstep + Drop, H: Drop, O: Write + Drop>(
+    alloc: Global,
+    world: &mut World<B, MemoryStore, H>,
+    setup: &Setup,
+    sectors: &[SectorWrite],
+    report: &mut Report,
+    writer: &mut O,
+) -> Result<(), Failure>
+    ensures verdict { (c : Course B.State) → Shows B.state B.machine (λ records. records) world.old c
+        → PrintsVerdict (IsVerdictOn (altair setup.now (boot_sectors sectors.now)) setup.now.drives
+        (machine_of B.machine c) c.world world.old.disk) result
+        (handed (O.contents writer.old) report.old) (handed (O.contents writer.new) report.new) }
+    ensures printed { PrintsVerdict (λ verdict. ⊤) result
+        (handed (O.contents writer.old) report.old) (handed (O.contents writer.new) report.new) }
+    ensures unchanged { world.new ≡ world.old }
+{
+    let verdict = compare(alloc, world, setup, sectors)?;
+    report.line(writer, &verdict)?;
+    match verdict {
+        Verdict::Same { .. } => Ok(()),
+        Verdict::Differs => Err(Failure::Differs),
     }
 }
 
@@ -97,9 +127,9 @@ fn boot<T: Completes + Drop + Copy, S: Completes + Drop + Copy, W: Completes + D
 }
 
 // Lets every event happen; nothing is answered.
-fn run_silently<T: Completes + Drop, S: Completes + Drop, W: Completes + Drop>(
+fn run_silently<B: Lockstep + Drop, H: Drop>(
     alloc: Global,
-    world: &mut Altairs<T, S, W>,
+    world: &mut World<B, MemoryStore, H>,
     lines: &[Line],
 ) {
     for line in lines {
@@ -109,33 +139,61 @@ fn run_silently<T: Completes + Drop, S: Completes + Drop, W: Completes + Drop>(
     }
 }
 
-// Answers one line after another.
-fn answer_each<T: Completes + Drop, S: Completes + Drop, W: Completes + Drop, O: Write + Drop>(
+// Answers one line after another. What was answered is written before guests run for long.
+fn answer_each<B: Lockstep + Drop, H: Drop, O: Write + Drop>(
     alloc: Global,
-    world: &mut Altairs<T, S, W>,
+    world: &mut World<B, MemoryStore, H>,
     lines: &[Line],
-    report: &mut Report<'_, O>,
+    report: &mut Report,
+    writer: &mut O,
 ) -> Result<(), Failure>
-    ensures { IfErr result (λ failure. is_refusal failure ≡ false) }
+    ensures { AnswersLines (length lines.now) result
+        (handed (O.contents writer.old) report.old) (handed (O.contents writer.new) report.new) }
 {
     for line in lines {
-        match line {
-            Line::Event(event) => {
-                let answer = match world.apply(alloc, *event) {
-                    Ok(reply) => Answer::Reply(reply),
-                    Err(fault) => Answer::Refused(fault),
-                };
-                report.line(&answer)?;
-            }
-            Line::Query(query) => report.line(&find(world, *query))?,
-        }
+        report.before_turns(writer, turns_of(*line))?;
+        answer(alloc, world, *line, report, writer)?;
     }
     Ok(())
 }
 
+// How many turns a guest may make by a line.
+fn turns_of(line: Line) -> u64 {
+    match line {
+        Line::Event(Event::Step { turns, .. }) => turns,
+        Line::Event(Event::Replay { turns, .. }) => turns,
+        Line::Event(Event::Drain { turns, .. }) => turns,
+        _ => 0,
+    }
+}
+
+// Answers a line.
+#[tactic(auto, using(crate::proofs::Handing::answered))]
+fn answer<B: Lockstep + Drop, H: Drop, O: Write + Drop>(
+    alloc: Global,
+    world: &mut World<B, MemoryStore, H>,
+    line: Line,
+    report: &mut Report,
+    writer: &mut O,
+) -> Result<(), Failure>
+    ensures { AnswersLines 1 result
+        (handed (O.contents writer.old) report.old) (handed (O.contents writer.new) report.new) }
+{
+    match line {
+        Line::Event(event) => {
+            let answer = match world.apply(alloc, event) {
+                Ok(reply) => Answer::Reply(reply),
+                Err(fault) => Answer::Refused(fault),
+            };
+            report.line(writer, &answer)
+        }
+        Line::Query(query) => report.line(writer, &find(world, query)),
+    }
+}
+
 // What a query finds.
-fn find<'a, T: Completes + Drop, S: Completes + Drop, W: Completes + Drop>(
-    world: &'a Altairs<T, S, W>,
+fn find<'a, B: Lockstep + Drop, H: Drop>(
+    world: &'a World<B, MemoryStore, H>,
     query: Query,
 ) -> Answer<'a> {
     match query {
@@ -150,7 +208,17 @@ fn find<'a, T: Completes + Drop, S: Completes + Drop, W: Completes + Drop>(
             _ => Answer::Refused(Fault::Unknown),
         },
         Query::Node { node } => match world.node(node) {
-            Some(status) => Answer::Node(status),
+            Some(
+                NodeStatus {
+                    role,
+                    generation,
+                    count,
+                },
+            ) => Answer::Node {
+                role,
+                generation,
+                count,
+            },
             None => Answer::Refused(Fault::Unknown),
         },
     }

@@ -14,10 +14,10 @@ type Ending<'a> = (u8, &'a str);
 
 const WELL: Ending<'static> = (0, "");
 
-// The program's name, and these words behind it.
+// The program's path, and these words after it.
 fn command_line(alloc: Global, words: &[&str]) -> Result<Vec<String>, AllocError> {
     let mut arguments = Vec::new(alloc);
-    arguments.push(String::from_str(alloc, "pair")?)?;
+    arguments.push(String::from_str(alloc, "out/pair_main")?)?;
     for word in words {
         arguments.push(String::from_str(alloc, word)?)?;
     }

@@ -1,7 +1,8 @@
 //! Scripts that are none, input and output that fail, and command lines.
 use super::{Ending, WELL, expect, run_on};
-use crate::checking::Verdict;
 use crate::failure::Failure;
+use crate::report::Report;
+use crate::verdict::Verdict;
 use std::io::{self, ErrorKind, Read, Write};
 use std::test::Fail;
 
@@ -124,16 +125,19 @@ fn output_fails_at_its_end_too(rt: HostRuntime) -> Result<(), Fail> {
     Ok(())
 }
 
-// Words behind the program's name, and what the text about them says.
-static COMMAND_LINES: [(&[&str], &str); 8] = [
-    (&[], "Usage"),
-    (&["--help"], "Example: pair script"),
-    (&["help"], "Example: pair script"),
+// Words after the program's name, and what the text about them says.
+static COMMAND_LINES: [(&[&str], &str); 11] = [
+    (&[], "Usage: pair <COMMAND>"),
+    (&["--help"], "Usage: pair <COMMAND>"),
+    (&["help"], "pair script << END"),
+    (&["--version"], "pair 0.1.0"),
     (&["script", "--help"], "Runs a script"),
     (&["run"], "run"),
-    (&["script", "first"], "first"),
+    (&["script", "first"], "the script comes from standard input"),
+    (&["check", "first"], "pair check < FILE"),
     (&["check", "--quiet"], "--quiet"),
     (&["live"], "not there yet"),
+    (&["live", "first"], "Usage: pair live"),
 ];
 
 #[test]
@@ -144,8 +148,45 @@ fn command_lines_are_refused_or_explained(rt: HostRuntime) -> Result<(), Fail> {
         let (status, text) = run_on(&rt, words, &mut reader, &mut printed)?;
         assert_eq!(rt; status, 2, "{part}");
         assert!(rt; text.contains(part), "{part}");
+        assert!(rt; !text.contains("pair_main"), "{part}");
         assert!(rt; !text.ends_with("\n"), "{part}");
-        assert!(rt; printed.is_empty(), "{part}");
+    }
+    Ok(())
+}
+
+// The script that the help gives is taken as it stands, from the line after its first to the one before its last.
+#[test]
+fn the_example_of_the_help_runs_as_it_is(rt: HostRuntime) -> Result<(), Fail> {
+    let mut reader: &[u8] = b"";
+    let mut printed = Vec::new(rt.alloc());
+    let (_, text) = run_on(&rt, &["--help"], &mut reader, &mut printed)?;
+    let (_, example) = text
+        .as_str()
+        .split_once("\npair script << END\n")
+        .ok_or("no example")?;
+    let (script, _) = example.split_once("\nEND\n").ok_or("no end")?;
+    let output =
+        "ran 6 count 6 byte 0 1\nmessage 0\nnew\nmessage 1\nheld 1\nmessage 2\naccepted\nport 0: 48\n";
+    expect(&rt, "script", script.as_bytes(), output, WELL)
+}
+
+// A line is written as it comes. After 65,536 bytes lines wait, while guests make at most 10,000 turns.
+#[test]
+fn lines_wait_only_after_many(rt: HostRuntime) -> Result<(), Fail> {
+    let mut report = Report::new(rt.alloc());
+    let mut printed: Vec<u8> = Vec::new(rt.alloc());
+    let long = "x".repeat(rt.alloc(), 65_533)?;
+    for (text, written) in [("x", 2), (long.as_str(), 65_536)] {
+        let line = report.line(&mut printed, &text);
+        assert!(rt; line.is_ok());
+        assert_eq!(rt; printed.len(), written);
+    }
+    for (turns, written) in [(9_999, 0), (1, 0), (1, 4), (10_000, 4), (1_000_000, 8)] {
+        let before = report.before_turns(&mut printed, turns);
+        assert!(rt; before.is_ok());
+        assert_eq!(rt; printed.len(), 65_536 + written);
+        let line = report.line(&mut printed, &"x");
+        assert!(rt; line.is_ok());
     }
     Ok(())
 }

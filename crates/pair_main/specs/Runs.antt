@@ -1,0 +1,60 @@
+-- One run of the program: what it has read and printed, and how it ends.
+use Rattle.std.specs.Prelude.{◌≡◌, ℕ, ◌⊎◌, ⊤, Bool, true, false, Option, List, [], Result, Ok, Err}
+use Rattle.std.specs.Cow.{cow_str_bytes}
+use Rattle.std.specs.declared.borrow.CowStr.{CowStr}
+use Rattle.pair_main.specs.Printing.{Prints}
+use Rattle.pair_main.specs.Statuses.{EndsBy}
+use Rattle.pair_main.specs.declared.failure.Failure.{Failure}
+use Rattle.pair_main.specs.declared.failure.Failure.TheVariants.{CommandLine, NotLive, BadScript}
+use Rattle.pair_main.specs.declared.failure.Failure.TheVariants.{OutOfMemory, InputOrOutput, Differs}
+use Rattle.pair_main.specs.declared.options.Order.{Order}
+
+-- what may be wrong before anything is read, and with what is read
+abbrev pub is_of_command_line : Failure → Bool
+is_of_command_line (CommandLine text) = true
+is_of_command_line NotLive = true
+is_of_command_line OutOfMemory = true
+is_of_command_line _ = false
+
+abbrev pub is_of_input : Failure → Bool
+is_of_input (BadScript line) = true
+is_of_input OutOfMemory = true
+is_of_input InputOrOutput = true
+is_of_input _ = false
+
+-- a script was run, by one order or the other
+pub record PrintsScript (result : Result (Unit {0}) Failure) (old new : Option (List ℕ)) : Type 0 where
+  pub order : Order
+  pub lines : ℕ
+  pub prints : Prints order lines (λ verdict. ⊤) result old new
+
+module _ {R W : Type 0} (contents : W → Option (List ℕ)) (reader reader' : R) (writer writer' : W) where
+  -- what a failure leaves: a refused command line reads nothing, and a refused script prints nothing
+  abbrev pub Leaves : Failure → Type 0
+  Leaves (CommandLine text) = (reader' ≡ reader) × (writer' ≡ writer)
+  Leaves NotLive = (reader' ≡ reader) × (writer' ≡ writer)
+  Leaves (BadScript line) = writer' ≡ writer
+  Leaves OutOfMemory = PrintsScript (Err OutOfMemory) (contents writer) (contents writer')
+  Leaves InputOrOutput = PrintsScript (Err InputOrOutput) (contents writer) (contents writer')
+  Leaves Differs = PrintsScript (Err Differs) (contents writer) (contents writer')
+
+  abbrev pub IsRun : Result (Unit {0}) Failure → Type 0
+  IsRun (Ok done) = PrintsScript (Ok done) (contents writer) (contents writer')
+  IsRun (Err failure) = Leaves failure
+
+-- the status and the text of a failure; those of `OutOfMemory` where memory for the text is refused
+abbrev pub EndsIn : {Z : Type 0} → Failure → ℕ × CowStr Z → Type 0
+EndsIn (BadScript line) ending = EndsBy (BadScript line) ending ⊎ EndsBy OutOfMemory ending
+EndsIn failure ending = EndsBy failure ending
+
+-- status 0 and no text where all went well
+abbrev pub EndsAs : {Z : Type 0} → Result (Unit {0}) Failure → ℕ × CowStr Z → Type 0
+EndsAs (Ok done) ending = (ending.0 ≡ 0) × (cow_str_bytes ending.1 ≡ [])
+EndsAs (Err failure) ending = EndsIn failure ending
+
+-- some run ends with this status and this text
+pub record IsEnding {R W Z : Type 0} (contents : W → Option (List ℕ)) (reader reader' : R) (writer writer' : W)
+    (ending : ℕ × CowStr Z) : Type 0 where
+  pub result : Result (Unit {0}) Failure
+  pub run : IsRun contents reader reader' writer writer' result
+  pub ends : EndsAs result ending
