@@ -27,11 +27,10 @@ at_boot = record { count = 0; keys = 0; key = None; byte = None; sent = 0; waits
 
 -- a byte that was read is sent, while none waits; otherwise the key is read
 abbrev pub sends : Echo → ℕ → Echo × Option Operation
-sends e byte =
-    (
-      record e { count = suc e.count; byte = None; sent = suc e.sent; waits = true; outgoing = byte },
-      Some (Byte 0 (suc e.sent) byte),
-    )
+sends e byte = (
+  record e { count = suc e.count; byte = None; sent = suc e.sent; waits = true; outgoing = byte },
+  Some (Byte 0 (suc e.sent) byte),
+)
 
 abbrev pub reads : Echo → Echo × Option Operation
 reads e = (record e { count = suc e.count; key = None; byte = e.key }, None)

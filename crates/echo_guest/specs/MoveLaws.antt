@@ -101,7 +101,7 @@ none_else e (id.Write number) other = refl
 
 -- the byte is found under its own name
 found : (s : Echo) (byte : ℕ) → find_at (sends s byte).0 (id.Byte 0 (suc s.sent)) ≡ Some (Byte 0 (suc s.sent) byte)
-found s byte = ap (λ b. cond b (Some (Byte 0 (suc s.sent) byte)) None) 
+found s byte = ap (λ b. cond b (Some (Byte 0 (suc s.sent) byte)) None)
     (eq-eqb (suc s.sent) (suc s.sent) refl)
 
 -- ---- the laws
@@ -127,8 +127,7 @@ goes s t (input.Sent port) name e c =
     let a = accepted_is _ s t e in
     let at : port ≡ 0 = eqb-true port 0 (and_parts _ _ a.0).1 in
     let is : id.Byte 0 s.sent ≡ name = ap (λ p. id.Byte p s.sent) (sym at) ∙ due_is s.waits (port == 0) port s.sent name c in
-    let free : t.waits ≡ false = sym (ap (λ (u : Echo). u.waits) a.1) in
-    (
+    let free : t.waits ≡ false = sym (ap (λ (u : Echo). u.waits) a.1) in (
       none_free t name free,
       λ other differs. none_free t other free ∙ sym (none_else s other (λ k. differs (k ∙ is))),
     )
@@ -156,9 +155,8 @@ comes s t o x =
     subst (λ u. (find_at u (id_of o) ≡ Some o) × ((name : OpId) → name ≢ id_of o → find_at u name ≡ find_at s name))
     x.after
     (subst (λ p. (find_at (sends s x.byte).0 (id_of p) ≡ Some p)
-        × ((name : OpId) → name ≢ id_of p → find_at (sends s x.byte).0 name ≡ find_at s name))
-    x.given
-    (
+    × ((name : OpId) → name ≢ id_of p → find_at (sends s x.byte).0 name ≡ find_at s name))
+    x.given (
       found s x.byte,
       λ name differs. none_else (sends s x.byte).0 name differs ∙ sym (none_free s name x.free),
     ))

@@ -9,10 +9,10 @@ ghost use Rattle.ft_world.specs.Beginning.{beginning};
 
 use crate::room::Room;
 use crate::world::World;
+use altair_laws::{altairs_are_lawful, altairs_stay_on_their_disks};
 use event_callbacks::{Callbacks, Completes};
 use guest_board::{Board, BoardMemory, Setup};
 use i8080_words::Fault;
-use altair_laws::{altairs_are_lawful, altairs_stay_on_their_disks};
 use shared_disk::SectorStore;
 use std::alloc::Global;
 
