@@ -8,7 +8,7 @@ use Rattle.std.specs.List.{concat}
 use Rattle.std.specs.Io.KnownBytes.{Appends, Keeps, append_known}
 use Rattle.pair_events.specs.Printed.{answer_text}
 use Rattle.pair_events.specs.declared.answer.Answer.{Answer}
-use Rattle.pair_main.specs.Printing.{AnswersBut, AnswersLines, Prints, PrintsBut, PrintsVerdict}
+use Rattle.pair_main.specs.Printing.{AnswersBut, AnswersLines, Prints, PrintsBut}
 use Rattle.pair_main.specs.Reports.{AddsLine, AddsAnswers, TellsAnswer}
 use Rattle.pair_main.specs.declared.failure.Failure.{Failure}
 use Rattle.pair_main.specs.declared.failure.Failure.TheVariants as failure

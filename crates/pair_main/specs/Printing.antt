@@ -1,5 +1,5 @@
 -- What a run of a script prints, by how it ends.
-use Rattle.std.specs.Prelude.{ℕ, ◌≤◌, Option, Some, List, Result, MatchResult, length}
+use Rattle.std.specs.Prelude.{ℕ, ◌≤◌, Option, Some, List, Result, MatchResult}
 use Rattle.std.specs.Io.KnownBytes.{Keeps}
 use Rattle.pair_main.specs.Reports.{AddsLine, AddsAnswers}
 use Rattle.pair_main.specs.Verdicts.{words_of}
