@@ -1,6 +1,6 @@
--- A run that a recorder logs call by call, and the entries of it that come to a receiver: what is held there are the next
--- entries of that run, for whoever stands where it began.
-use Rattle.std.proofs.Common.{◌≡◌, ℕ, zero, suc, ◌-◌, Bool, true, false, cond, List, [], ◌∷◌, ◌++◌, drop, Option, Some, None, Result, Ok, Err, refl, sym, ap, subst, ◌∙◌, arith, nat_lt}
+-- A run that a recorder logs call by call, and those of its entries that came to a receiver: for a guest that stands where
+-- the run began, they are the next entries of that run.
+use Rattle.std.proofs.Common.{◌≡◌, ℕ, ◌-◌, Bool, false, cond, List, [], ◌∷◌, ◌++◌, drop, Option, Some, None, Result, Ok, Err, refl, sym, ap, subst, ◌∙◌, arith, nat_lt}
 use Rattle.std.specs.List.{slice_get}
 use Rattle.std.proofs.lemmas.Bool.{le-ltb}
 use Rattle.std.proofs.lemmas.List.{take-append-drop}
@@ -13,7 +13,6 @@ use Rattle.log_channel.proofs.SentEntries.{keeps_holding}
 use Rattle.log_channel.specs.Channel.{Receiving, Answers, heard}
 use Rattle.log_channel.specs.Laws.{HoldsFirst, IsSent}
 use Rattle.log_channel.specs.Packet.{packet_at}
-use Rattle.log_channel.specs.declared.packet.Packet.{Packet}
 use Rattle.log_channel.specs.declared.packet.Packet.TheVariants as packet
 use Rattle.log_entry.specs.Standing.{IsOnTrace}
 use Rattle.log_entry.specs.declared.entry.Entry.{Entry}
@@ -53,7 +52,7 @@ offer_logs M s t before new input result index taken answer =
       },
     )
 
--- what is logged after something else is logged with it
+-- two runs, one after the other, are one run, and what both log is what it logs
 pub and_then : {S : Type 0} {M : Machine S} {s t u : S} {before middle new : Log} → Counts M → Logged M s before t middle
     → Logged M t middle u new → Logged M s before u new
 and_then {S} {M} {s} {t} {u} {before} {middle} {new} counts a b =
@@ -61,6 +60,7 @@ and_then {S} {M} {s} {t} {u} {before} {middle} {new} counts a b =
 
 -- ---- what is held
 
+-- a log from which nothing was dropped keeps each entry at its index
 kept_from_0 : (first : ℕ) (es : List Entry) (index : ℕ) (e : Entry) → first ≡ 0
     → kept_at (log first es) index ≡ Some e → slice_get es index ≡ Some e
 kept_from_0 first es index e at_0 kept =
@@ -69,7 +69,9 @@ kept_from_0 first es index e at_0 kept =
     subst (λ place. slice_get es place ≡ Some e) place
     (subst (λ below. cond below None (slice_get es (index - first)) ≡ Some e) inside kept)
 
-pub holds_next : (l : Log) (old new : Receiving) (index : ℕ) (e : Entry) (bytes : List ℕ) (result : Result Bool Fault) → l.first ≡ 0 → old.generation ≡ 1 → HoldsFirst l.entries [] old
+-- what is held after the packet of an entry came, where the packet was read as that entry
+pub holds_next : (l : Log) (old new : Receiving) (index : ℕ) (e : Entry) (bytes : List ℕ) (result : Result Bool Fault)
+    → l.first ≡ 0 → old.generation ≡ 1 → HoldsFirst l.entries [] old
     → kept_at l index ≡ Some e → packet_at bytes ≡ Some (packet.Log 1 index e)
     → Answers (heard old (packet_at bytes)) old result new → HoldsFirst l.entries [] new
 holds_next l old new index e bytes result at_0 generation holds kept found answers =
@@ -95,7 +97,7 @@ on_trace M s t new r logged holds = record {
   };
 }
 
--- where a guest booted, and what is held of a log that was empty then
+-- a guest that stands where the recorder began, with an empty log, stands on the run that was logged
 pub repeats : {S : Type 0} (M : Machine S) (start s t : S) (before new sent : Log) (r : Receiving) → s ≡ start
     → before ≡ log 0 [] → Logged M s before t new → sent ≡ new → HoldsFirst sent.entries [] r
     → IsOnTrace M start r.entries

@@ -14,7 +14,7 @@ ghost use Rattle.recorder.specs.Laws.{Records};
 
 use super::came;
 use crate::Replayer;
-use disk_dcdd::SECTOR_BYTES;
+use disk_dcdd::{SECTOR_BYTES, SectorAddress};
 use event_callbacks::{Callbacks, Completes, Devices, Done, OpId, Operation, plain_completions};
 use guest_board::{Board, Input, Lockstep, Setup};
 use guest_memory::BYTES;
@@ -38,8 +38,15 @@ const ECHO_AND_WRITE: [u8; 57] = [
     0x3e, 0xe5, 0xd3, 0x0a, 0x05, 0xc2, 0x2a, 0x00, 0x76,
 ];
 
-// Sector 5 of track 0 on drive 0, which was never written.
-const UNWRITTEN: Input = Input::Sector {
+// Sector 5 of track 0 on drive 0.
+const PLACE: SectorAddress = SectorAddress {
+    drive: 0,
+    track: 0,
+    sector: 5,
+};
+
+// It comes under the head, before it was ever written.
+const FIRST_READ: Input = Input::Sector {
     drive: 0,
     sector: 5,
     number: 0,
@@ -122,7 +129,7 @@ fn write_sector<B: Lockstep>(rt: &impl Abort, recorder: &mut Recorder<B>)
         (B.state recorder.new.board) recorder.new.log }
 {
     advance(rt, recorder, 10, 10, Why::Turns);
-    offer(rt, recorder, UNWRITTEN, 5);
+    offer(rt, recorder, FIRST_READ, 5);
     advance(rt, recorder, 9999, 962, Why::Operation(OpId::Write(1), 6));
     advance(rt, recorder, 1, 1, Why::Turns);
     offer(rt, recorder, Input::Written(1), 7);
@@ -249,7 +256,7 @@ fn compare<B: Lockstep, C: Lockstep>(rt: &impl Abort, recorded: &B, replayed: &C
     }
 }
 
-// The boards alone: processors, memories and drives are alike.
+// Both boards have the same processor, memory and devices.
 fn compare_boards<
     T: Completes,
     S: Completes,
@@ -268,6 +275,8 @@ fn compare_boards<
             replayed.port(port).unaccepted()
         );
     }
+    assert_eq!(rt; recorded.disk().status(), replayed.disk().status());
+    assert_eq!(rt; (recorded.done(PLACE), replayed.done(PLACE)), (1, 1));
 }
 
 // A board with the first three closures is recorded, and one with the others repeats it.
