@@ -1,11 +1,8 @@
 -- A recorded run of the small guest: it takes a key at count 0, reads it at its first step, and sends it at the second.
-use Rattle.std.proofs.Common.{eq-eqb, nat_eq, ◌-◌, ◌^◌, ◌≡◌, ℕ, suc, ◌<◌, Bool, true, false, cond, ◌||◌, List, [], ◌∷◌, Option, Some, None, Result, Ok, refl, sym, ap, subst, ◌∙◌, arith}
-use Rattle.echo_guest.specs.Echo.{Echo, at_boot, echo, moved, reads, sends, is_spent, is_idle, after}
-use Rattle.event_callbacks.specs.declared.operations.Operation.{Operation}
+use Rattle.std.proofs.Common.{eq-eqb, nat_eq, ◌-◌, ◌^◌, ◌≡◌, ℕ, ◌<◌, Bool, true, false, List, [], ◌∷◌, Some, None, Result, Ok, refl, sym, ap, subst, ◌∙◌, arith}
+use Rattle.echo_guest.specs.Echo.{Echo, at_boot, echo}
 use Rattle.event_callbacks.specs.declared.operations.Operation.TheVariants.{Byte}
 use Rattle.guest_board.specs.Machine.{Do, Take}
-use Rattle.guest_board.specs.Recorded.{Counts}
-use Rattle.guest_board.specs.declared.input.Input.{Input}
 use Rattle.guest_board.specs.declared.input.Input.TheVariants as input
 use Rattle.i8080_words.specs.declared.refusal.Fault.{Fault}
 use Rattle.log_channel.specs.Channel.{Receiving, Answers, heard, holding, Next}
@@ -16,7 +13,6 @@ use Rattle.log_entry.specs.Spelling.{IsEntry}
 use Rattle.log_entry.specs.Standing.{IsOnTrace}
 use Rattle.log_entry.specs.declared.entry.Entry.{Entry}
 use Rattle.log_entry.specs.declared.entry.Entry.TheVariants.{Mark, Rx}
-use Rattle.replayer.proofs.Fronts.{same_value}
 
 -- ---- its run
 

@@ -5,3 +5,4 @@ pub mod OneMove
 pub mod Stretches
 pub mod Runs
 pub mod EchoTrace
+pub mod LoggedRun

@@ -3,6 +3,8 @@ ghost use Rattle.std.specs.Prelude.{◌≡◌, ◌<◌};
 ghost use Rattle.log_channel.specs.Channel.{holding};
 ghost use Rattle.log_entry.specs.Spelling.{IsEntry};
 
+mod boards;
+
 use crate::{Replayed, Replayer};
 use echo_guest::Echo;
 use guest_board::{Input, Lockstep};

@@ -4,9 +4,11 @@ use Rattle.log_entry.specs.declared.entry.Entry.TheVariants.{Mark, Rx}
 use Rattle.replayer.proofs.EchoTrace.{on_trace}
 use Rattle.replayer.proofs.tests.a_replayer_ends_where_the_recorder_ended.Goals as goal
 
-pub replay-requires-clause-on_trace : goal.replay-requires-clause-on_trace
-replay-requires-clause-on_trace g c =
-    on_trace c.new-replayer.result.board c.hold-2.new.receiver.entries (c.new-replayer.ensures ∙ c.new-3.ensures)
-    (ap (λ (r : Receiving). r.entries) c.hold-2.ensures
-    ∙ ap (λ (r : Receiving). r.entries ++ Mark 2 ∷ [])
-    (c.hold.ensures ∙ ap (λ (r : Receiving). holding r (Rx 0 0 0x48)) c.new-receiver.ensures))
+pub replay-requires : goal.replay-requires
+replay-requires g c = record {
+  on_trace =
+      on_trace c.new-replayer.result.board c.hold-2.new.receiver.entries (c.new-replayer.ensures ∙ c.new-3.ensures)
+      (ap (λ (r : Receiving). r.entries) c.hold-2.ensures
+      ∙ ap (λ (r : Receiving). r.entries ++ Mark 2 ∷ [])
+      (c.hold.ensures ∙ ap (λ (r : Receiving). holding r (Rx 0 0 0x48)) c.new-receiver.ensures));
+}

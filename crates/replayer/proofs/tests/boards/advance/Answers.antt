@@ -1,0 +1,11 @@
+use Rattle.recorder.specs.Recording.{advance_refusal}
+use Rattle.replayer.proofs.LoggedRun.{advance_logs}
+use Rattle.replayer.proofs.tests.boards.advance.Goals as goal
+
+pub returns : goal.returns
+returns g c =
+    advance_logs g.B.Lockstep.machine (g.B.Lockstep.state c.args.recorder.now.board)
+    (g.B.Lockstep.state c.advance.new.self.board) c.args.recorder.now.log c.advance.new.self.log c.args.turns
+    (advance_refusal g.B.Lockstep.machine (g.B.Lockstep.state c.args.recorder.now.board) c.args.recorder.now.log
+    c.args.turns)
+    c.advance.result c.in-Ok.advanced g.met.B.Lockstep.counts c.in-Ok.is c.advance.ensures.answer
