@@ -3,7 +3,9 @@ use Rattle.pair_protocol.specs.Node.{Backup}
 use Rattle.ft_node.proofs.EchoNodes.{begun, begins, may_replay}
 use Rattle.ft_node.proofs.tests.the_first_that_asks_goes_on.Goals as goal
 
-pub replay-requires-clause-on_trace : goal.replay-requires-clause-on_trace
-replay-requires-clause-on_trace g c =
-    may_replay c.backup-backup.result (begun Backup 1 c.new.result) refl
-    (c.backup-backup.ensures (begun Backup 1 c.new.result) (begins Backup 1 c.new.result))
+pub replay-requires : goal.replay-requires
+replay-requires g c = record {
+  on_trace =
+      may_replay c.backup-backup.result (begun Backup 1 c.new.result) refl
+      (c.backup-backup.ensures (begun Backup 1 c.new.result) (begins Backup 1 c.new.result));
+}

@@ -4,11 +4,13 @@ use Rattle.log_entry.specs.declared.entry.Entry.TheVariants.{Mark, Rx}
 use Rattle.replayer.proofs.EchoTrace.{on_trace}
 use Rattle.go_live.proofs.tests.a_guest_is_alone_after_its_last_entry.Goals as goal
 
-pub drain-requires-clause-on_trace : goal.drain-requires-clause-on_trace
-drain-requires-clause-on_trace g c =
-    on_trace c.begin-draining.result.replayer.board c.begin-draining.result.receiver.entries
-    (ap (λ r. r.board) c.begin-draining.ensures.replayer ∙ c.new-replayer.ensures ∙ c.new.ensures)
-    (ap (λ (r : Receiving). r.entries) c.begin-draining.ensures.receiver
-    ∙ ap (λ (r : Receiving). r.entries) c.hold-2.ensures
-    ∙ ap (λ (r : Receiving). r.entries ++ Mark 2 ∷ [])
-    (c.hold.ensures ∙ ap (λ (r : Receiving). holding r (Rx 0 0 0x48)) c.new-receiver.ensures))
+pub drain-requires : goal.drain-requires
+drain-requires g c = record {
+  on_trace =
+      on_trace c.begin-draining.result.replayer.board c.begin-draining.result.receiver.entries
+      (ap (λ r. r.board) c.begin-draining.ensures.replayer ∙ c.new-replayer.ensures ∙ c.new.ensures)
+      (ap (λ (r : Receiving). r.entries) c.begin-draining.ensures.receiver
+      ∙ ap (λ (r : Receiving). r.entries) c.hold-2.ensures
+      ∙ ap (λ (r : Receiving). r.entries ++ Mark 2 ∷ [])
+      (c.hold.ensures ∙ ap (λ (r : Receiving). holding r (Rx 0 0 0x48)) c.new-receiver.ensures));
+}
