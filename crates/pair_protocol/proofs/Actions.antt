@@ -1,4 +1,4 @@
--- Every action keeps what holds, and the settled moves only go on.
+-- Every action keeps the invariant, and the settled moves only go on.
 use Rattle.std.proofs.Common.{◌≡◌, ◌≤◌, [], ◌∷◌, ◌++◌, ◌⊎◌, ◌∙◌, List, None, Option, Some, ap, arith, inl, inr, length, max, refl, subst, suc, sym, zero, ℕ}
 use Rattle.std.specs.Prelude.{slice_get}
 use Rattle.event_callbacks.specs.declared.operations.Operation.{Operation}
@@ -147,7 +147,7 @@ hears_keep M C w i n x h r acts k told =
     (subst (λ j. slice_get w.nodes j ≡ Some x) q.spot acts.there) u refl gb acts.role_is nb in
     let c = told b u gb nb in omega (arith, a, c)))
 
--- the back, otherwise as before, in another state
+-- the back in another state, otherwise as before
 back_keep : {S : Type 0} (M : Machine S) (C : Copying S) (w : World S) (i : Inv M C w) (n : ℕ) (x y : Node S)
     (r : Role) → Acts w n x r → IsBackRole r → (y.role ≡ Spare → ⊥) → y.generation ≡ x.generation → y.held ≡ x.held →
     y.copy ≡ x.copy → y.start ≡ x.start →

@@ -1,4 +1,4 @@
--- Every action keeps what holds.
+-- Every action keeps the invariant: what is known of the node that acts, and of a world at boot.
 use Rattle.std.proofs.Common.{◌≡◌, ◌+◌, ◌≤◌, ◌<◌, [], ◌∷◌, ◌++◌, ◌⊎◌, ◌∙◌, Bool, List, Some, ap, append-nil, arith, false, inl, inr, length, ltb-true, refl, subst, suc, sym, take, true, zero, ℕ}
 use Rattle.std.specs.Prelude.{slice_get, nat_lt, nat_le, ◌&&◌}
 use Rattle.event_callbacks.specs.Operations.{id_of}
@@ -85,7 +85,7 @@ backing {S} M C w i n x r acts role =
     go (IsBack e h b p) = record { spot = e; held = h; backs = b; place = p }
     go (IsLead e l p) = absurd (lead_is_no_back M _ _ _ _ _ x l (subst IsBackRole (sym acts.role_is) role))
 
--- The settled moves have the front of each generation that was held.
+-- The settled moves begin with the front of each generation that was held.
 pub covers-below : (stage : Stage) (base own more : List Move) (k n : ℕ) → k ≤ n →
     IsPrefix (base ++ cut k own) (settled_moves stage base own more n)
 covers-below Undecided base own more k n h = prefix-under base (cut k own) (cut n own) (cut-more k n own h)
@@ -137,7 +137,7 @@ released {S} M C laws w i n x name o acts pending cover =
         (subst (λ zs. Among o zs) (sym (operations-append l.base (cut (suc r.note.index) l.own)))
         (among-right o (operations l.base) (operations (cut (suc r.note.index) l.own)) r.given))
 
--- in its own line
+-- released in its own generation
 pub released_here : {S : Type 0} (M : Machine S) (C : Copying S) (laws : Lawful M) (w : World S) (i : Inv M C w) (n : ℕ)
     (x : Node S) (name : OpId) (o : Operation) → Acts w n x Primary → M.find x.machine name ≡ Some o →
     covers x.covered x.reported (note_of x.notes name) ≡ true → Among o (operations (settled (i.each x.generation).line))

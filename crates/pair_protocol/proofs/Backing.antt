@@ -1,4 +1,4 @@
--- The backup of a generation: it changes otherwise and its moves stay; or it is alone and makes a move.
+-- The backup of a generation: either it changes and its moves stay, or it is alone and makes a move.
 use Rattle.std.proofs.Common.{◌≡◌, ◌+◌, ◌≤◌, [], ◌∷◌, ◌++◌, ◌∙◌, List, None, Option, Some, ap, append_assoc, arith, inl, inr, length, refl, subst, suc, sym, take, ℕ, ◌⊎◌}
 use Rattle.std.specs.Prelude.{slice_get, slice_set}
 use Rattle.event_callbacks.specs.declared.operations.Operation.{Operation}
@@ -93,7 +93,7 @@ back-line {S} M C w high n T new x y o more stage held ws e presence tied few pr
       | inr q ↦ q
     ]
 
--- a node that has replayed no less of the same entries
+-- a node that has replayed as many of the same entries, or more
 pub back-later : {S : Type 0} (M : Machine S) (C : Copying S) (w : World S) (i : Inv M C w) (n : ℕ) (x y : Node S)
     (stage : Stage) → slice_get w.nodes n ≡ Some x → (x.role ≡ Spare → ⊥) → n ≡ (i.each x.generation).line.back →
     x.replayed ≤ y.replayed → y.held ≡ x.held → (Repeats y.role → Repeats x.role) ⊎ (y.held ≡ []) →
@@ -125,7 +125,7 @@ pub front_gone : {S : Type 0} (M : Machine S) (C : Copying S) (w : World S) (hig
     Gone (slice_set w.nodes n y) x.generation o.line.lead
 front_gone M C w high n T x y o e gone z t s g = gone z (sym (front_there M C w high n T x y o e) ∙ t) s g
 
--- The back changes, what it holds and the stage stay.
+-- The back changes; what it holds and the stage stay.
 pub back-stays : {S : Type 0} (M : Machine S) (C : Copying S) (w : World S) (i : Inv M C w) (n : ℕ) (x y : Node S) →
     slice_get w.nodes n ≡ Some x → (x.role ≡ Spare → ⊥) → (y.role ≡ Spare → ⊥) → y.generation ≡ x.generation →
     n ≡ (i.each x.generation).line.back → BackPlace M w.nodes i.top i.trace x.generation (i.each x.generation).line →
@@ -174,7 +174,7 @@ settled-more BackWon base own more xs n =
 abbrev pub moved : {S : Type 0} → Node S → S → List Timed → Node S
 moved b s l = record b { machine = s; list = l }
 
--- The back, alone, makes a move.
+-- The back is alone and makes a move.
 pub back-moves : {S : Type 0} (M : Machine S) (C : Copying S) (w : World S) (i : Inv M C w) (n : ℕ) (x : Node S)
     (m : Move) (s : S) (ts : List Timed) →
     slice_get w.nodes n ≡ Some x → x.role ≡ Alone →

@@ -1,4 +1,4 @@
--- A new generation keeps what holds.
+-- A new generation keeps the invariant.
 use Rattle.std.proofs.Common.{◌≡◌, ◌+◌, ◌≤◌, ◌<◌, [], ◌++◌, ◌⊎◌, ◌∙◌, List, None, Some, ap, append-nil, arith, inl, inr, length, refl, subst, suc, sym, zero, ℕ}
 use Rattle.std.proofs.lemmas.List.{length-replicate}
 use Rattle.std.specs.Prelude.{replicate, slice_get, slice_set}
@@ -135,7 +135,7 @@ keep-begins {S} M C copies w i n h x y acts there spare_is = record {
     at_h : slice_get nodes h ≡ Some jx
     at_h = get_set (slice_set w.nodes n bx) h y jx there1
 
-    -- a node with a role, at another place, stays
+    -- a node with a role, in another place, stays
     stays : (m : ℕ) (z : Node S) → slice_get w.nodes m ≡ Some z → (z.role ≡ Spare → ⊥) → (m ≡ n → ⊥) →
         slice_get nodes m ≡ Some z
     stays m z t nz mn =
@@ -345,7 +345,7 @@ keep-begins {S} M C copies w i n h x y acts there spare_is = record {
     each : (k : ℕ) → LineOf M C new (suc x.generation) i.trace k
     each k = pick k (same_or_not k (suc x.generation))
 
-    -- the generation that begins does so with all that is settled
+    -- the new generation begins with all that is settled
     based : (s : (suc x.generation ≡ suc x.generation) ⊎ (suc x.generation ≡ suc x.generation → ⊥)) →
         (pick (suc x.generation) s).line.base ≡ i.trace
     based (inl e) = ap (λ (l : Line S). l.base)

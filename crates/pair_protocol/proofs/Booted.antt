@@ -1,5 +1,5 @@
 -- A node whose machine boots elsewhere advances, replays and refuses as before: none of these asks where its machine
--- boots. Each fact is carried to the machine that boots elsewhere, and by the same lemma back.
+-- boots. Each fact is carried to the machine that boots elsewhere, and back by the same lemma.
 use Rattle.std.proofs.Common.{◌≡◌, ℕ, Bool, List, refl}
 use Rattle.disk_dcdd.specs.declared.address.SectorAddress.{SectorAddress}
 use Rattle.event_callbacks.specs.declared.operations.OpId.{OpId}

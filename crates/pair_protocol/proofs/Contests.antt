@@ -1,4 +1,4 @@
--- Test-and-set: the first node of a generation that asks has won, and what is settled goes on from what it has.
+-- Test-and-set: the first node of a generation to ask has won, and what is settled goes on from what that node has.
 use Rattle.std.proofs.Common.{◌≡◌, [], ◌∷◌, ◌++◌, ◌⊎◌, ◌∙◌, Bool, List, None, Some, ap, append-nil, arith, cond, eq-eqb, eqb-true, false, inl, inr, length, refl, subst, sym, true, ℕ}
 use Rattle.std.specs.Prelude.{slice_get, slice_set, ◌==◌}
 use Rattle.guest_board.specs.Machine.{Machine, Move}

@@ -51,7 +51,7 @@ entries-cut (suc n) c (Do None ∷ ms) = entries-cut (suc n) (suc c) ms
 entries-cut (suc n) c (Do (Some o) ∷ ms) = ap (λ es. Mark (suc c) ∷ es) (entries-cut n (suc c) ms)
 entries-cut (suc n) c (Take i ∷ ms) = ap (λ es. entry_of c i ∷ es) (entries-cut n c ms)
 
--- all operations whose mark is among the first n entries are there
+-- all operations whose mark is among the first n entries are in the cut
 pub among-cut : (n c : ℕ) (o : Operation) (ms : List Move) → length (entries c ms) ≤ n → Among o (operations ms) →
     Among o (operations (cut n ms))
 among-cut zero c o [] h k = k
@@ -83,7 +83,7 @@ cut_ends (suc n) c (Take i ∷ own) (Do (Some o) ∷ ms) rest h k = (cc)
 cut_ends (suc n) c (Take i ∷ own) (Take j ∷ ms) rest h k = let l : n ≤ length (entries c ms) = omega arith in
     cut_ends n c own ms rest (cc) l
 
--- the count of the last entry is the count that the moves end at
+-- the count of the last entry is the count at which the moves end
 last_from : (c d : ℕ) (es : List Entry) → 1 ≤ length es → last_count c es ≡ last_count d es
 last_from c d [] h = absurd (omega arith)
 last_from c d (e ∷ es) h = refl

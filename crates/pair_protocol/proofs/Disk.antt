@@ -1,4 +1,4 @@
--- What the disk has of a sector is its record at boot, or the write of greatest number that arrived there.
+-- What the disk has for a sector is its record at boot, or the write of greatest number that arrived there.
 use Rattle.std.proofs.Common.{◌≡◌, ◌≤◌, ◌<◌, [], ◌∷◌, ◌∙◌, Bool, List, ap, arith, cond, eq-eqb, eqb-true, false, inl, inr, ltb-false, ltb-true, refl, sym, true}
 use Rattle.std.specs.Prelude.{nat_lt, ◌==◌, ◌&&◌}
 use Rattle.disk_dcdd.specs.Address.{address_of, same_address}
@@ -10,7 +10,7 @@ use Rattle.pair_protocol.specs.Lawful.{Among}
 use Rattle.pair_protocol.specs.World.{SectorRecord, World, latest, record_after, sector_record}
 use Rattle.pair_protocol.proofs.Lines.{AtStart, Inv, IsRecord, OfWrite}
 
--- the record of a sector is that at boot or a settled write's
+-- the record of a sector is its record at boot or a settled write's
 
 pub and_parts : (b c : Bool) → (b && c) ≡ true → (b ≡ true) × (c ≡ true)
 and_parts true c h = (refl, h)
@@ -35,7 +35,7 @@ same_address-refl a b h =
 abbrev pub record_of : SectorWrite → SectorRecord
 record_of v = record { number = v.number; bytes = v.bytes }
 
--- a write that arrives leaves the record of a sector, or replaces one of a lower number
+-- a write that arrives leaves the record of a sector, or replaces one with a lower number
 pub data Replaced (r : SectorRecord) (v : SectorWrite) (q : SectorAddress) (new : SectorRecord) : Type 0 where
   Kept : new ≡ r → (address_of v ≡ q → v.number ≤ r.number) → Replaced r v q new
   Came : address_of v ≡ q → r.number < v.number → new ≡ record_of v → Replaced r v q new

@@ -1,4 +1,4 @@
--- Where one generation's node acts, the lines of all others stay.
+-- When a node of one generation acts, the lines of all other generations stay.
 use Rattle.std.proofs.Common.{◌≡◌, ◌≤◌, ◌<◌, ◌⊎◌, ◌∙◌, List, Some, ap, arith, inl, inr, length, refl, subst, sym, ℕ}
 use Rattle.std.specs.Prelude.{slice_get, slice_set}
 use Rattle.guest_board.specs.Machine.{Machine, Move}
@@ -10,7 +10,7 @@ use Rattle.pair_protocol.proofs.Moves.{prefix-trans, same_some}
 use Rattle.pair_protocol.proofs.Generations.{AsAlone, AsBackup, AsDraining, AsJoining, BackState, BackWon, Backs, LeadWon, Leads, Stage}
 use Rattle.pair_protocol.proofs.Lines.{AtTop, BackHere, BackLeft, Global, Gone, Inv, LeadHere, LeadLeft, Line, LineOf, Next, Presence, Unused, get_set_cases, get_set_other, line_over, same_or_not, settled}
 
--- Another generation than the one that acts.
+-- A generation other than the one that acts.
 
 pub lead_no_spare : {S : Type 0} (M : Machine S) (stage : Stage) (base own : List Move) (mid : S) (n : ℕ)
     (a : Node S) → Leads M stage base own mid n a → a.role ≡ Spare → ⊥
@@ -40,7 +40,7 @@ gone_other nodes n m k y no_k gone z t s e =
       | inr q ↦ gone z q s e
     ]
 
--- the frame of a node's change: of another generation everything stays
+-- the frame of a node's change: for another generation everything stays
 pub line-other : {S : Type 0} (M : Machine S) (C : Copying S) (w : World S) (top k n : ℕ) (T new : List Move)
     (x y : Node S) (ws : List Winner) →
     slice_get w.nodes n ≡ Some x → (x.generation ≡ k → x.role ≡ Spare) → (y.generation ≡ k → ⊥) →
@@ -160,7 +160,7 @@ line-retop {S} M C w top higher k T not_top le not_higher o = record {
     presence (BackLeft g s b l) = BackLeft (omega arith) s b l
     presence (Unused g u) = Unused not_higher u
 
--- One generation's line anew, the others as they were.
+-- One generation has a new line, the others stay as they were.
 pub relined : {S : Type 0} (M : Machine S) (C : Copying S) (w : World S) (i : Inv M C w) (g n : ℕ) (x y : Node S)
     (ws : List Winner) (new : List Move) →
     slice_get w.nodes n ≡ Some x → (x.role ≡ Spare → ⊥) → (y.role ≡ Spare → ⊥) → x.generation ≡ g → y.generation ≡ g →

@@ -1,6 +1,6 @@
--- A write that is released waits for each read that the highest generation's backup holds and has not replayed. One that
--- a primary releases was outstanding when its generation began, or waits for the reads up to its note, which the backup
--- has told that it has replayed; and beside an alone node of the highest generation nobody replays.
+-- A write that is released waits for each read that the highest generation's backup holds and has not replayed. A write
+-- that a primary releases was outstanding when its generation began, or waits for the reads up to its note, which the
+-- backup has reported as replayed; and beside an alone node of the highest generation nobody replays.
 use Rattle.std.proofs.lemmas.Bool.Decides.{nat_tests}
 use Rattle.event_callbacks.specs.Operations.{id_of}
 use Rattle.pair_protocol.specs.Traces.{cut}
@@ -57,7 +57,7 @@ frees {S} M C laws w i n x name o acts pending cover k t s b u gb role v is = pl
     runs : Runs M M.boot (l.base ++ l.own) x.machine
     runs = lead-runs M C w i x q.leads
 
-    -- of the generation itself: noted, or of its beginning
+    -- of the generation itself: noted, or there when it began
     noted : (at : x.generation ≡ i.top) → (c : BackHere M C w.nodes x.generation l) → c.b ≡ b → WaitsAt l b v
     noted at c same j e low got read = go
         (among-split o (operations l.base) (operations l.own)
@@ -111,7 +111,7 @@ frees {S} M C laws w i n x name o acts pending cover k t s b u gb role v is = pl
         (subst (Among o) (sym (operations-append top_line.base (cut j top_line.own)))
         (among-left o (operations top_line.base) (operations (cut j top_line.own)) f)))
 
--- an alone node is of the highest generation, and then nobody there replays unless its primary has won
+-- an alone node is of the highest generation; then nobody there replays unless its primary has won
 pub alone_frees : {S : Type 0} (M : Machine S) (C : Copying S) (w : World S) (i : Inv M C w) (n : ℕ) (x : Node S) →
     Acts w n x Alone → x.generation ≡ i.top → (k : ℕ) → k ≡ i.top → ((i.each k).line.stage ≡ LeadWon → ⊥) →
     (b : Node S) → slice_get w.nodes (i.each k).line.back ≡ Some b → b.generation ≡ k → Repeats b.role → ⊥

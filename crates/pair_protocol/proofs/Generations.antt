@@ -1,4 +1,4 @@
--- What holds of every world that the actions reach: the promises, made strong enough to last.
+-- What holds of every world that actions reach: the promises, made strong enough to be kept by every action.
 use Rattle.std.proofs.Common.{◌≡◌, ◌+◌, ◌≤◌, ◌<◌, [], ◌∷◌, ◌++◌, ◌⊎◌, ◌∙◌, List, None, Option, Some, ap, append-nil, inl, inr, length, refl, suc, sym, take, true, ℕ}
 use Rattle.std.specs.Prelude.{slice_get}
 use Rattle.event_callbacks.specs.Operations.{id_of}
@@ -22,8 +22,8 @@ pub data Stage : Type 0 where
   LeadWon : Stage
   BackWon : Stage
 
--- The settled moves: base is what the generation began with, own what its primary made of it,
--- n how many entries its backup holds, more what the backup made after it had won and drained.
+-- The settled moves: base is what the generation began with, own is what its primary did in it, n is how many entries
+-- its backup holds, and more is what the backup did after it had won and drained.
 abbrev pub settled_moves : Stage → List Move → List Move → List Move → ℕ → List Move
 settled_moves Undecided base own more n = base ++ cut n own
 settled_moves LeadWon base own more n = base ++ own
@@ -34,7 +34,7 @@ winner_at Undecided lead back = None
 winner_at LeadWon lead back = Some lead
 winner_at BackWon lead back = Some back
 
--- The note of an operation: it was given by its entry, and a write waits for each read up to there.
+-- The note of an operation: the operation was given at the noted entry, and a write waits for each read up to there.
 pub record IsNoted (c : ℕ) (own : List Move) (notes : List Note) (o : Operation) : Type 0 where
   pub note : Note
   pub found : note_of notes (id_of o) ≡ Some note
@@ -54,7 +54,7 @@ pub record Leads {S : Type 0} (M : Machine S) (stage : Stage) (base own : List M
   pub log : a.role ≡ Primary → a.log ≡ entries (steps base) own
   pub covered : a.covered ≤ n
   pub image : (s : S) → a.image ≡ Some s → s ≡ mid
-  -- each operation of the generation is noted, at its mark or a later one
+  -- each operation of the generation is noted, at its mark or at a later one
   pub notes : a.role ≡ Primary → (o : Operation) → Among o (operations own) → IsNoted (steps base) own a.notes o
 
 -- the moves have the replayed entries, or one mark more
@@ -73,7 +73,7 @@ pub record Follows {S : Type 0} (M : Machine S) (base own : List Move) (mid : S)
   pub few : b.replayed ≤ length b.held
   pub place : AtPlace (steps base) ms b.held b.replayed
 
--- A node to which a copy is given: the parts that came are the copy's.
+-- A node that is given a copy: the parts that arrived are the copy's.
 pub record Gets {S : Type 0} (M : Machine S) (C : Copying S) (mid : S) (b : Node S) : Type 0 where
   pub empty : b.held ≡ []
   pub none : b.replayed ≡ 0
@@ -102,7 +102,7 @@ pub record Backs {S : Type 0} (M : Machine S) (C : Copying S) (stage : Stage) (b
 pub same_prefix : {A : Type 0} (xs ys : List A) → xs ≡ ys → IsPrefix xs ys
 same_prefix xs ys e = ([], append-nil xs ∙ e)
 
--- a longer own: the settled moves stay, or are all that the lead made
+-- own gets longer: the settled moves stay, or are all that the lead did
 pub settled-longer : (stage : Stage) (base own more xs : List Move) (n : ℕ) → cut n (own ++ xs) ≡ cut n own →
     (settled_moves stage base (own ++ xs) more n ≡ settled_moves stage base own more n)
     ⊎ ((stage ≡ LeadWon) × (settled_moves stage base (own ++ xs) more n ≡ base ++ (own ++ xs)))

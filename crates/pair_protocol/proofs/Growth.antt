@@ -1,5 +1,5 @@
--- What is settled grows with each event. Who wins has a list that begins with what was settled before: of all events
--- the suspicion alone makes a winner, in the highest generation, and the winner settles then.
+-- What is settled grows with each event. The list of a new winner begins with what was settled before: only a suspicion
+-- makes a winner, it does so in the highest generation, and the winner settles from then on.
 use Rattle.std.proofs.Common.{◌≡◌, [], ◌∷◌, ◌++◌, ◌⊎◌, ◌∙◌, Bool, List, None, Some, ap, append-nil, append_assoc, cond, eqb-true, false, inl, inr, max, refl, subst, suc, sym, true, zero, ℕ}
 use Rattle.std.specs.Prelude.{slice_get, slice_set, ◌==◌}
 use Rattle.guest_board.specs.Machine.{Machine}
@@ -146,7 +146,7 @@ part_winners C w n x index part r new (Again k) = refl
 part_winners C w n x index part r new (Comes k v) = refl
 part_winners C w n x index part r new (Completes parts s k v made) = refl
 
--- every event but a suspicion leaves the winners
+-- every event except a suspicion leaves the winners as they are
 abbrev IsSuspicion : Event → Type 0
 IsSuspicion (Suspect n) = Unit {0}
 IsSuspicion e = ⊥
@@ -182,7 +182,7 @@ leaves_winners : {S : Type 0} (w : World S) (e : Event) (fault : Fault) (new : W
 leaves_winners w (Suspect n) Lost new d = ap (λ v. v.winners) d.after
 leaves_winners w e fault new d = ap (λ v. v.winners) d
 
--- where the winners stay, nobody wins
+-- if the winners stay, nobody wins
 nobody_wins : {S : Type 0} (M : Machine S) (w new : World S) → new.winners ≡ w.winners → WonList M w new
 nobody_wins M w new e list count g m y settled before after there = let k = ap (λ ws. winner_in ws g) e in (cc)
 

@@ -1,4 +1,4 @@
--- A backup holds one more entry: what is settled goes on up to it, while nobody has won.
+-- A backup holds one more entry: while nobody has won, what is settled goes on up to that entry.
 use Rattle.pair_protocol.specs.Lawful.{Among}
 use Rattle.event_callbacks.specs.declared.operations.Operation.TheVariants.{Write}
 use Rattle.disk_dcdd.specs.declared.sector.SectorWrite.{SectorWrite}
@@ -103,7 +103,7 @@ back-holds {S} M C w i n x en h role e place held b there = by_state b.state pla
         by LeadWon s z = absurd (z refl)
         by BackWon s z = absurd (s refl)
 
-    -- what was released is settled, so it was issued before the entry that comes
+    -- what was released is settled, so it was issued before the new entry
     reads : (x.generation ≡ i.top → (l.stage ≡ LeadWon → ⊥) → i.trace ≡ l.base ++ cut (length x.held) l.own) →
         BackReads w.nodes w.messages i.top x.generation l l.stage y
     reads moves = record {

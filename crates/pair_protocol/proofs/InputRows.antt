@@ -1,4 +1,4 @@
--- The rows by which a primary or alone node takes an input: what the refusals leave possible is what an input may be.
+-- The rows by which a primary or alone node takes an input: what passes the refusals is what an input may be.
 use Rattle.std.proofs.Common.{◌≡◌, ◌≤◌, [], ◌∷◌, ◌∙◌, List, None, Option, Some, ap, eqb-true, inl, inr, length, ltb-false, not, refl, subst, suc, sym, true, zero, ℕ}
 use Rattle.std.specs.Prelude.{slice_get, ◌==◌}
 use Rattle.disk_dcdd.specs.Address.{same_address}

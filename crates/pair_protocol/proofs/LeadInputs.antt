@@ -82,7 +82,7 @@ typed-take M w x (input.Written n) c h taken typed p =
     subst (λ zs. IsPrefix zs (terminal w p).typed)
     (sym (keys-append p x.list (record { count = c; input = Written n } ∷ []) ∙ append-nil (keys p x.list))) (typed p)
 
--- What the lead is after each.
+-- What the lead is after each move.
 
 pub leads-steps : {S : Type 0} (M : Machine S) (stage : Stage) (base own : List Move) (mid : S) (n : ℕ) (a : Node S)
     (s : S) (o : Option Operation) → a.role ≡ Primary → M.step a.machine ≡ Some (s, o) →

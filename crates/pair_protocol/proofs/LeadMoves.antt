@@ -33,7 +33,7 @@ pub slice_get_prefix : {A : Type 0} (xs ys : List A) (i : ℕ) (x : A) → IsPre
     slice_get ys i ≡ Some x
 slice_get_prefix xs ys i x p h = subst (λ zs. slice_get zs i ≡ Some x) p.1 (slice_get_longer xs p.0 i x h)
 
--- an element that stands right behind a prefix
+-- an element that comes right after a prefix
 pub slice_get_behind : {A : Type 0} (xs rest : List A) (x : A) → slice_get (xs ++ rest) (length xs) ≡ Some x →
     (more : List A) × (rest ≡ x ∷ more)
 slice_get_behind [] [] x h = (cc)
@@ -141,7 +141,7 @@ up_to-some : (n : ℕ) → 0 < up_to_read true n
 up_to-some zero = omega arith
 up_to-some (suc n) = omega arith
 
--- each read of a log is among those that a write behind it waits for
+-- each read of a log is among those that a write after it waits for
 pub reads_before : (log : List Entry) (k : ℕ) (e : Entry) → slice_get log k ≡ Some e → is_read e ≡ true →
     k < reads_in log
 reads_before [] k e h read = (cc)
@@ -150,7 +150,7 @@ reads_before (x ∷ log) zero e h read =
     subst (λ b. 0 < up_to_read b (reads_in log)) (sym (ap is_read same ∙ read)) (up_to-some (reads_in log))
 reads_before (x ∷ log) (suc k) e h read = up_to-more (is_read x) (reads_in log) k (reads_before log k e h read)
 
--- an entry below the length of a log is that of the longer log
+-- an entry at an index below the length of a log is the same entry of the longer log
 pub front_same : {A : Type 0} (xs ys : List A) (k : ℕ) (e : A) → k < length xs → slice_get (xs ++ ys) k ≡ Some e →
     slice_get xs k ≡ Some e
 front_same [] ys k e l h = absurd (omega (arith, l))
@@ -187,7 +187,7 @@ mark_no_read : (n : ℕ) (e : Entry) (more : List Entry) → Mark n ∷ [] ≡ e
 unfolding is_read
 mark_no_read n e more h read = let same : Mark n ≡ e = (cc) in let f : false ≡ true = ap is_read same ∙ read in (cc)
 
--- the reads up to a mark that comes are those of the log before it
+-- the reads up to a new mark are those of the log before it
 reads_to_mark : (log : List Entry) (n k : ℕ) (e : Entry) → k ≤ length log → slice_get (log ++ Mark n ∷ []) k ≡ Some e →
     is_read e ≡ true → k < reads_in log
 reads_to_mark log n k e few there read = elim (le_cases k (length log) few) [
@@ -223,7 +223,7 @@ notes-do c own log notes (Some o) h k y m = go (bool_cases (same_name (id_of y) 
     there k e t = subst (λ es. slice_get (es ++ Mark (suc (c + steps own)) ∷ []) k ≡ Some e) (sym h)
         (subst (λ es. slice_get es k ≡ Some e) (entries-append c own (Do (Some o) ∷ [])) t)
 
-    -- of an operation of this name, the note is the one that comes
+    -- for an operation of this name, the note is the new one
     named : same_name (id_of y) (id_of o) ≡ true → ((w : SectorWrite) → y ≡ Write w → waits_for o log ≡ reads_in log) →
         IsNoted c (own ++ Do (Some o) ∷ []) (come ∷ notes) y
     named t waits = record {

@@ -1,4 +1,4 @@
--- The primary of a generation: it makes a move, or changes otherwise and its moves stay.
+-- The primary of a generation: either it makes a move, or it changes and its moves stay.
 use Rattle.std.proofs.Common.{◌≡◌, ◌≤◌, [], ◌∷◌, ◌++◌, ◌∙◌, List, Some, ap, arith, inl, inr, length, refl, subst, sym, ℕ}
 use Rattle.std.specs.Prelude.{slice_get, slice_set}
 use Rattle.disk_dcdd.specs.declared.address.SectorAddress.{SectorAddress}
@@ -255,7 +255,7 @@ lead-moves {S} M C w i n x y m h nx ny gy e place leads run done typed put owns 
         (λ z. z))
         (λ lt. same) refl i.global
 
--- The lead changes, its moves stay.
+-- The lead changes; its moves stay.
 pub lead-stays : {S : Type 0} (M : Machine S) (C : Copying S) (w : World S) (i : Inv M C w) (n : ℕ) (x y : Node S) →
     slice_get w.nodes n ≡ Some x → (x.role ≡ Spare → ⊥) → (y.role ≡ Spare → ⊥) → y.generation ≡ x.generation →
     n ≡ (i.each x.generation).line.lead → LeadPlace M C w.nodes i.top i.trace x.generation (i.each x.generation).line →

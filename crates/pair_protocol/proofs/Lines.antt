@@ -83,7 +83,7 @@ pub record BackHere {S : Type 0} (M : Machine S) (C : Copying S) (nodes : List (
   pub held : b.held ≡ l.held
   pub backs : Backs M C l.stage l.base l.own l.more l.mid b
 
--- the node isn't of the generation any more
+-- the node is no longer of the generation
 abbrev pub Gone : {S : Type 0} → List (Node S) → ℕ → ℕ → Type 0
 Gone {S} nodes g n = (x : Node S) → slice_get nodes n ≡ Some x → (x.role ≡ Spare → ⊥) → x.generation ≡ g → ⊥
 
@@ -115,7 +115,7 @@ WaitsAt l b v = (k : ℕ) (e : Entry) → b.replayed ≤ k → slice_get b.held 
 abbrev pub Repeats : Role → Type 0
 Repeats role = (role ≡ Backup) ⊎ (role ≡ Draining)
 
--- what was told of the back's replay is so; and while it replays, each write that was released waits for its reads
+-- what was told about the back's replay is true; and while it replays, each write that was released waits for its reads
 pub record ReadsOf {S : Type 0} (nodes : List (Node S)) (messages : List Message) (top g : ℕ) (l : Line S) : Type 0 where
   pub heard : (a b : Node S) → slice_get nodes l.lead ≡ Some a → slice_get nodes l.back ≡ Some b →
       a.generation ≡ g → b.generation ≡ g → a.role ≡ Primary → (b.role ≡ Spare → ⊥) → a.reported ≤ b.replayed
@@ -124,7 +124,7 @@ pub record ReadsOf {S : Type 0} (nodes : List (Node S)) (messages : List Message
   pub waits : g ≡ top → (l.stage ≡ LeadWon → ⊥) → (b : Node S) → slice_get nodes l.back ≡ Some b → b.generation ≡ g →
       Repeats b.role → (v : SectorWrite) → Among (Released (Write v)) messages → WaitsAt l b v
 
--- the same of one node that takes the back's place
+-- the same, for a node that takes the back's place
 pub record BackReads {S : Type 0} (nodes : List (Node S)) (messages : List Message) (top g : ℕ) (l : Line S)
     (stage : Stage) (y : Node S) : Type 0 where
   pub heard : (a : Node S) → slice_get nodes l.lead ≡ Some a → a.generation ≡ g → a.role ≡ Primary →
@@ -187,7 +187,7 @@ pub record Inv {S : Type 0} (M : Machine S) (C : Copying S) (w : World S) : Type
   -- the highest generation began with all that was settled before
   pub earlier : (g : ℕ) → g < top → IsPrefix (settled (each g).line) (each top).line.base
 
--- the line at a number that is another one's
+-- the line at a number that equals another one
 pub line_over : {S : Type 0} (M : Machine S) (C : Copying S) (w : World S) (top : ℕ) (T : List Move) (j k : ℕ)
     (e : j ≡ k) (o : LineOf M C w top T j) → (subst (λ z. LineOf M C w top T z) e o).line ≡ o.line
 line_over M C w top T j k e o =

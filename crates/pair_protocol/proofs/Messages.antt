@@ -1,4 +1,4 @@
--- A message more, from a node or from the disk, keeps the invariant.
+-- One more message, from a node or from the disk, keeps the invariant.
 use Rattle.std.proofs.Common.{◌≡◌, ◌≤◌, [], ◌∷◌, ◌++◌, ◌⊎◌, List, Some, inl, inr, length, refl, subst, sym, ℕ}
 use Rattle.std.specs.Prelude.{slice_get}
 use Rattle.disk_dcdd.specs.declared.address.SectorAddress.{SectorAddress}
@@ -17,7 +17,7 @@ use Rattle.pair_protocol.proofs.Moves.{HasPut, among-left, among-right, among-sp
 use Rattle.pair_protocol.proofs.Generations.{LeadWon}
 use Rattle.pair_protocol.proofs.Lines.{AtTop, BackLeft, Inv, Repeats, WaitsAt, IsRecord, LeadLeft, Line, LineOf, Next, Presence, Unseen, Unused, same_or_not}
 
--- A message more.
+-- One more message.
 
 abbrev pub NotOf : ℕ → Message → Type 0
 NotOf k (LogEntry g i e) = k ≡ g → ⊥
@@ -122,7 +122,8 @@ line-message {S} M C w top k T m o true_at unused frees = record {
       no_winner = u.no_winner;
     })
 
--- of a message of a node's generation, it is true there; a write that is released waits for the reads of the highest
+-- a message of a node's generation is true there; a write that is released waits for the reads of the highest
+-- generation
 pub keep-message : {S : Type 0} (M : Machine S) (C : Copying S) (w : World S) (i : Inv M C w) (n : ℕ) (x : Node S)
     (m : Message) → slice_get w.nodes n ≡ Some x → (x.role ≡ Spare → ⊥) →
     ((k : ℕ) → (k ≡ x.generation → ⊥) → NotOf k m) → IsTrueAt M C w.nodes (i.each x.generation).line x.generation m →

@@ -67,7 +67,7 @@ pub acceptances-append : (p : ℕ) (xs ys : List Timed) → acceptances p (xs ++
 acceptances-append p [] ys = omega arith
 acceptances-append p (t ∷ xs) ys = let h = acceptances-append p xs ys in omega arith
 
--- keys and completions don't depend on the count
+-- keys and completions do not depend on the count
 pub keys_from : (p c d : ℕ) (ms : List Move) → keys p (inputs c ms) ≡ keys p (inputs d ms)
 keys_from p c d [] = refl
 keys_from p c d (Do o ∷ ms) = keys_from p (suc c) (suc d) ms
@@ -95,7 +95,7 @@ inputs_of-append [] ys = refl
 inputs_of-append (e ∷ xs) ys = ap (λ os. timed_in (timed_of e) ++ os) (inputs_of-append xs ys)
     ∙ sym (append_assoc (timed_in (timed_of e)) (inputs_of xs) (inputs_of ys))
 
--- the timed input of the entry of an input
+-- the timed input in the entry of an input
 pub timed_entry : (c : ℕ) (i : Input) → timed_in (timed_of (entry_of c i)) ≡ timed c i ∷ []
 timed_entry c (input.Rx port byte) = refl
 timed_entry c (input.Sent port) = refl
@@ -115,7 +115,7 @@ count_entry c (input.Sent port) = refl
 count_entry c (input.Sector drive sector number bytes) = refl
 count_entry c (input.Written number) = refl
 
--- an entry is that of its input and its count
+-- an entry is the one that its input and its count make
 pub entry_is : (e : Entry) (i : Input) → input_of e ≡ Some i → entry_of (count_of e) i ≡ e
 entry_is (Mark c) i h = (cc)
 entry_is (entry.Rx c port byte) i h =
@@ -146,7 +146,7 @@ runs-split M s u [] ys h = (s, refl, h)
 runs-split M s u (Do o ∷ xs) ys h = let r = runs-split M h.0 u xs ys h.2 in (r.0, (h.0, h.1, r.1), r.2)
 runs-split M s u (Take i ∷ xs) ys h = let r = runs-split M h.0 u xs ys h.2 in (r.0, (h.0, h.1, r.1), r.2)
 
--- from a state the moves lead to one state
+-- from any state, moves lead to one state only
 pub runs_rest : {S : Type 0} (M : Machine S) (s t u : S) (xs ys : List Move) → Runs M s xs t → Runs M s (xs ++ ys) u →
     Runs M t ys u
 runs_rest M s t u [] ys h k = subst (λ v. Runs M v ys u) h k
@@ -157,7 +157,7 @@ runs_rest M s t u (Take i ∷ xs) ys h k =
     let e : h.0 ≡ k.0 = same_some h.0 k.0 (M.take s i) h.1 k.1 in
     runs_rest M h.0 t u xs ys h.2 (subst (λ v. Runs M v (xs ++ ys) u) (sym e) k.2)
 
--- what is among and what is a prefix
+-- elements of lists, and prefixes
 
 pub among-left : {A : Type 0} (x : A) (xs ys : List A) → Among x xs → Among x (xs ++ ys)
 among-left x [] ys h = absurd h
@@ -177,7 +177,7 @@ among-split x (y ∷ xs) ys (inr h) = go (among-split x xs ys h)
     go (inl k) = inl (inr k)
     go (inr k) = inr k
 
--- where an element stands
+-- the place of an element
 pub among-place : {A : Type 0} (x : A) (xs : List A) → Among x xs → (front rest : List A) × (xs ≡ front ++ x ∷ rest)
 among-place x [] h = absurd h
 among-place x (y ∷ xs) (inl h) = ([], xs, ap (λ z. z ∷ xs) (sym h))
@@ -248,7 +248,7 @@ pub owns-prefix : {S : Type 0} (M : Machine S) (s : S) (xs ys : List Move) → I
     Owns M [] s xs
 owns-prefix M s xs ys p h = owns-front M [] s xs p.0 (subst (λ zs. Owns M [] s zs) (sym p.1) h)
 
--- a write of that number arrived at the disk
+-- a write of this number arrived at the disk
 abbrev pub HasPut : List SectorWrite → ℕ → Type 0
 HasPut puts n = (v : SectorWrite) × Among v puts × (v.number ≡ n)
 
@@ -288,7 +288,7 @@ count-takes M laws ms s u i r h =
     let c = steps-append ms (Take i ∷ []) in
     omega arith
 
--- few operations of a lawful machine are outstanding wherever it goes
+-- few operations of a lawful machine are outstanding, wherever it goes
 
 pub frugal-reached : {S : Type 0} (M : Machine S) → Lawful M → (ms : List Move) (s : S) → Runs M M.boot ms s →
     IsFrugal M s

@@ -1,4 +1,4 @@
--- A node's other changes keep what its generation knows of it: replay, hearing, halting, going live, joining.
+-- A node's other changes keep what its generation knows of it: replaying, hearing, halting, going live, joining.
 use Rattle.std.proofs.Common.{◌≡◌, ◌+◌, ◌≤◌, [], ◌∷◌, ◌++◌, ◌⊎◌, ◌∙◌, List, None, Option, Some, ap, append-nil, arith, inl, inr, length, length-set, refl, subst, suc, sym, take, ℕ}
 use Rattle.std.specs.Prelude.{slice_get, slice_set}
 use Rattle.guest_board.specs.Machine.{Machine, Move, Runs}
@@ -14,7 +14,7 @@ use Rattle.pair_protocol.proofs.Generations.{AsAlone, AsBackup, AsDraining, AsJo
 use Rattle.pair_protocol.proofs.Replay.{follow-ends, settled_list}
 use Rattle.pair_protocol.proofs.Lines.{get_set_cases}
 
--- Replay.
+-- Replaying.
 
 pub follower : {S : Type 0} (M : Machine S) (C : Copying S) (stage : Stage) (base own more : List Move) (mid : S)
     (x : Node S) (r : Role) → x.role ≡ r → (r ≡ Backup) ⊎ (r ≡ Draining) → BackState M C stage base own more mid x →
@@ -99,7 +99,7 @@ state-finishes M C stage base own more mid b role done copy held (AsDraining k s
     (subst (λ zs. M.count b.machine ≡ steps base + steps zs) e f.count)
     (settled_list base own b.copy b.held copy held ∙ ap (λ zs. inputs 0 (base ++ zs)) d)
 
--- Parts.
+-- Joining.
 
 pub set_part : (ps : List (Option (List ℕ))) (i j : ℕ) (p q : List ℕ) →
     slice_get (slice_set ps i (Some p)) j ≡ Some (Some q) → ((j ≡ i) × (q ≡ p)) ⊎ (slice_get ps j ≡ Some (Some q))
@@ -144,7 +144,7 @@ gathered_is (Some p ∷ slots) (w ∷ whole) ps l h k =
         let r : qs ≡ whole = rest qs e in
         sym t ∙ ap (λ (z : List ℕ). z ∷ qs) first ∙ ap (λ zs. w ∷ zs) r
 
--- all parts came: the node follows from the copy on
+-- all parts arrived: the node follows from the copy on
 pub state-joins : {S : Type 0} (M : Machine S) (C : Copying S) (laws : Lawful M) (copies : IsCopying M C)
     (stage : Stage) (base own more : List Move) (mid s : S) (b : Node S) (ps : List (List ℕ)) → b.role ≡ Joining →
     gathered b.parts ≡ Some ps → C.assemble ps ≡ Some s → b.copy ≡ inputs 0 base → b.start ≡ steps base →

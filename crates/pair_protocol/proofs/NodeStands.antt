@@ -1,6 +1,6 @@
--- How each node of a reached world stands. A primary or alone node has made all the moves of its line, so it has taken
--- their keys. A node that replays has made some of the primary's moves, each of whose inputs was accepted: the entries
--- that it has not replayed are those of the moves that are left, behind the mark of a step that was just made.
+-- What holds of each node of a reached world. A primary or alone node has made all the moves of its line, so it has
+-- taken their keys. A node that replays has made some of the primary's moves, each of whose inputs was accepted: the
+-- entries that it has not replayed are those of the remaining moves, after the mark of a step that it has just made.
 use Rattle.std.proofs.Common.{◌≡◌, ◌+◌, ◌≤◌, [], ◌∷◌, ◌++◌, ◌⊎◌, ◌∙◌, List, Some, ap, append-nil, arith, drop, false, inl, inr, length, subst, sym, take, true, ℕ}
 use Rattle.std.specs.Prelude.{slice_get}
 use Rattle.guest_board.specs.Machine.{Machine, Move, Runs}

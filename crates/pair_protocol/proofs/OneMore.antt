@@ -1,5 +1,5 @@
--- One more of what a world has. One more arrival is accepted exactly where its number is the next, one more write
--- replaces the record of its sector where its number is greater, and one more winner is that of its own generation.
+-- One more of what a world has. One more arrival is accepted exactly if its number is the next one, one more write
+-- replaces the record of its sector if its number is greater, and one more winner is the winner of its own generation.
 use Rattle.std.proofs.Common.{◌≡◌, ◌+◌, ◌<◌, [], ◌∷◌, ◌++◌, ◌∙◌, Bool, List, None, Some, ap, arith, cond, eq-eqb, eqb-true, false, inl, inr, length, length-append, ltb-false, ltb-true, refl, subst, suc, sym, true, zero, ℕ}
 use Rattle.std.specs.Prelude.{nat_lt, slice_set, ◌==◌}
 use Rattle.disk_dcdd.specs.declared.address.SectorAddress.{SectorAddress}
@@ -11,7 +11,7 @@ use Rattle.pair_protocol.proofs.Contests.{winner-other, winner-push}
 
 -- An arrival.
 
--- the byte that it brings, where its number is the next after this many
+-- the byte that it brings, if its number is the next after this many
 abbrev pub next_byte : ℕ → Arrival → List ℕ
 next_byte n a = cond (a.number == n + 1) (a.byte ∷ []) []
 
@@ -60,7 +60,7 @@ accepted-arrives w p a h =
     ap (λ (t : Terminal). accepted_after 0 t.arrivals) (terminal-set w.terminals p t h)
     ∙ accepted-one (terminal w p).arrivals a
 
--- a terminal has accepted more exactly where the number was the next
+-- a terminal has accepted more exactly if the number was the next one
 pub arrival-counts : (xs : List Arrival) (a : Arrival) →
     nat_lt (length (accepted_after 0 xs)) (length (accepted_after 0 (xs ++ a ∷ [])))
     ≡ (a.number == length (accepted_after 0 xs) + 1)

@@ -1,5 +1,5 @@
 -- What terminals have accepted is a front of the settled trace's output: each byte that arrives is one of the trace,
--- numbered in order, and a terminal takes byte k as its k-th.
+-- numbered in order, and a terminal takes byte k only as its k-th.
 use Rattle.std.proofs.Common.{◌≡◌, ◌+◌, [], ◌∷◌, ◌++◌, ◌⊎◌, ◌∙◌, List, None, Some, ap, append-nil, append_assoc, arith, cond, eq-eqb, eqb-true, false, inl, inr, length, length-append, refl, subst, sym, true, ℕ}
 use Rattle.std.specs.Prelude.{slice_get, ◌==◌}
 use Rattle.event_callbacks.specs.declared.operations.Operation.{Operation}
@@ -19,13 +19,13 @@ use Rattle.pair_protocol.proofs.Generations.{AsAlone, AsBackup, AsDraining, AsJo
 use Rattle.pair_protocol.proofs.LeadMoves.{bool_cases, prefix_next}
 use Rattle.pair_protocol.proofs.Lines.{AtTop, BackHere, BackLeft, Inv, LeadHere, LeadLeft, Line, LineOf, Presence, Unused, settled}
 
--- A byte of the trace stands in the whole at its number.
+-- A byte of the trace is at its number's place in the whole.
 
 pub slice_get_at : {A : Type 0} (xs ys : List A) (x : A) → slice_get (xs ++ x ∷ ys) (length xs) ≡ Some x
 slice_get_at [] ys x = refl
 slice_get_at (y ∷ xs) ys x = slice_get_at xs ys x
 
--- where an operation stands in a trace
+-- the place of an operation in a trace
 pub operations_place : (ms : List Move) (o : Operation) → Among o (operations ms) →
     (front rest : List Move) × (ms ≡ front ++ Do (Some o) ∷ rest)
 operations_place [] o h = absurd h

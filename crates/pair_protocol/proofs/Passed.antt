@@ -1,4 +1,4 @@
--- What is known of a node and of a message where a refusal passes.
+-- What is known of a node and of a message if no refusal applies.
 use Rattle.std.proofs.Common.{◌≡◌, [], ◌∷◌, ◌⊎◌, ◌∙◌, Bool, List, None, Option, Some, ap, cond, false, inl, inr, not, refl, subst, sym, true, ℕ}
 use Rattle.std.specs.Prelude.{slice_get, ◌&&◌, ◌||◌}
 use Rattle.guest_board.specs.Machine.{Machine}
@@ -26,7 +26,7 @@ pub changes-append : {S : Type 0} (M : Machine S) (C : Copying S) (w v new : Wor
 changes-append M C w v new Stays d = d
 changes-append M C w v new (Then {mid = u} c cs) d = Then c (changes-append M C u v new cs d)
 
--- ---- what is known where a refusal passes
+-- ---- what is known if no refusal applies
 
 pub first-passed : (o : Option Fault) (rest : List (Option Fault)) → first_of (o ∷ rest) ≡ None →
     (o ≡ None) × (first_of rest ≡ None)
@@ -101,7 +101,7 @@ is_role-refl Draining = refl
 is_role-refl Alone = refl
 is_role-refl Spare = refl
 
--- the role that it acts in
+-- the role in which it acts
 pub acts-role : {S : Type 0} (w : World S) (n : ℕ) (x : Node S) (rs : List Role) → slice_get w.nodes n ≡ Some x →
     acts_as x rs ≡ true → (r : Role) × Acts w n x r × Among r rs
 acts-role w n x [] t h = (cc)
@@ -133,7 +133,7 @@ pub serving : {S : Type 0} (w : World S) (n : ℕ) (x : Node S) → slice_get w.
 serving w n x t h = let a = acts-role w n x (Primary ∷ Alone ∷ []) t
     (passes-if (acts_as x (Primary ∷ Alone ∷ [])) WrongRole h) in (a.0, a.1, two_roles a.0 Primary Alone a.2)
 
--- the node's part passes, and the node is no spare host
+-- no refusal of the node's part applies, and the node is no spare host
 pub node-passed : {S : Type 0} (o : Option (Node S)) (x : Node S) (part : Node S → Option Fault) → o ≡ Some x →
     at_node o part ≡ None → (x.role ≡ Spare → ⊥) × (part x ≡ None)
 node-passed o x part e h = go (is_role x.role Spare) refl (subst (λ z. at_node z part ≡ None) e h)

@@ -1,4 +1,4 @@
--- The invariant gives every promise of a faithful world, and that what is settled grows.
+-- The invariant gives every promise of a faithful world, and the growth of what is settled.
 use Rattle.std.proofs.Common.{◌≡◌, ◌+◌, ◌≤◌, [], ◌∷◌, ◌++◌, ◌⊎◌, ◌∙◌, Bool, List, None, Some, ap, arith, cond, false, inl, inr, not, refl, subst, suc, sym, true, ℕ}
 use Rattle.std.specs.Prelude.{slice_get}
 use Rattle.disk_dcdd.specs.Address.{address_of}

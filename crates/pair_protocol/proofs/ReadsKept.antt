@@ -1,5 +1,5 @@
--- Where no write past a read has arrived, the disk has what the read was of. And none has arrived past a read that is
--- held and not replayed, since each was released, and waited.
+-- If no write after a read has arrived, the disk still has what was read. And none has arrived after a read that is
+-- held and not replayed, since each write was released, and waited for that read.
 use Rattle.std.proofs.lemmas.List.{take-append-le}
 use Rattle.std.proofs.lemmas.Option.{slice_get_within}
 use Rattle.pair_protocol.proofs.Generations.{AsAlone, AsBackup, AsDraining, AsJoining, BackState, LeadWon, winner_at}
@@ -73,7 +73,7 @@ read_is_kept {S} M laws base xs mid s puts drive sector number bytes based run o
     here : SectorRecord
     here = sector_record M puts q
 
-    -- no write of the sector that arrived is past the last completed one
+    -- no write of the sector that arrived comes after the last completed one
     early : (v : SectorWrite) → Among v puts → address_of v ≡ q → v.number ≤ M.done s q
     early v m e = elim (laws.write_is (base ++ xs) s v runs (before v m)) [
       | inl l ↦ subst (λ z. v.number ≤ M.done s z) e l

@@ -1,5 +1,5 @@
--- Recorded runs, each of whose inputs was accepted. Such a run is a run; its front is one, and so is what follows a
--- front; and one more move behind it makes another, where an input is accepted too.
+-- Recorded runs, each of whose inputs was accepted. Such a run is a run; a front of it is recorded too, and so is what
+-- follows a front; and one more move after it makes another recorded run, if an input there is also accepted.
 use Rattle.std.proofs.Common.{◌≡◌, [], ◌∷◌, ◌++◌, List, Option, ap, refl, subst, sym}
 use Rattle.event_callbacks.specs.declared.operations.Operation.{Operation}
 use Rattle.guest_board.specs.Machine.{Do, Machine, Move, Runs, Take}
@@ -29,7 +29,7 @@ pub recorded-prefix : {S : Type 0} (M : Machine S) (s t : S) (xs ys : List Move)
     Recorded M s ys t → (u : S) × Recorded M s xs u
 recorded-prefix M s t xs ys h k = recorded-front M s t xs h.0 (subst (λ zs. Recorded M s zs t) (sym h.1) k)
 
--- from a state the moves lead to one state
+-- from any state, moves lead to one state only
 pub recorded_rest : {S : Type 0} (M : Machine S) (s t u : S) (xs ys : List Move) → Runs M s xs t →
     Recorded M s (xs ++ ys) u → Recorded M t ys u
 recorded_rest M s t u [] ys h k = subst (λ v. Recorded M v ys u) h k

@@ -1,4 +1,4 @@
--- A node that replays what it holds goes along the lead's moves.
+-- A node that replays what it holds makes the lead's moves.
 use Rattle.std.proofs.Common.{◌≡◌, ◌+◌, ◌≤◌, ◌<◌, [], ◌∷◌, ◌++◌, ◌∙◌, List, None, Option, Some, ap, append-nil, append_assoc, arith, drop, inl, inr, length, length-append, length-take-le, refl, subst, suc, sym, take, take-append-drop, zero, ℕ}
 use Rattle.std.proofs.lemmas.List.{append_cancel_left, take-append-le, take_at}
 use Rattle.std.proofs.lemmas.Option.{slice_get_within}
@@ -51,7 +51,7 @@ pub entries_held : (c : ℕ) (own : List Move) (held : List Entry) → IsPrefix 
 entries_held c own held p = entries-cut (length held) c own ∙ ap (take (length held)) (sym p.1)
     ∙ take_at held p.0 (length held) refl
 
--- the entries of moves that begin at a count stand at that count or later
+-- the entries of moves that begin at a count are at that count or later
 entries_later : (c : ℕ) (ms : List Move) (e : Entry) (es : List Entry) → entries c ms ≡ e ∷ es → c ≤ count_of e
 entries_later c [] e es h = (cc)
 entries_later c (Do None ∷ ms) e es h = let k = entries_later (suc c) ms e es h in omega arith
@@ -252,7 +252,7 @@ follow-takes {S} M base own mid last b e i s p r g l w h counted f = by_place f.
         (head_is m e (entries (M.count b.machine) a.rest) (drop (suc b.replayed) b.held) j) in
         (cc)
 
--- a node that has replayed all that it holds stands at the end of the settled moves
+-- a node that has replayed all that it holds is at the end of the settled moves
 pub follow-ends : {S : Type 0} (M : Machine S) (base own : List Move) (mid : S) (b : Node S) →
     b.replayed ≡ length b.held → (f : Follows M base own mid b) → f.ms ≡ cut (length b.held) own
 follow-ends M base own mid b h f = by_place f.place
@@ -287,7 +287,7 @@ follow-holds M base own mid b e f =
       ];
     }
 
--- the copy's inputs and those of the entries held are the inputs of the settled moves
+-- the inputs of the copy and of the held entries are the inputs of the settled moves
 pub settled_list : (base own : List Move) (copy : List Timed) (held : List Entry) → copy ≡ inputs 0 base →
     IsPrefix held (entries (steps base) own) → copy ++ inputs_of held ≡ inputs 0 (base ++ cut (length held) own)
 settled_list base own copy held h p =

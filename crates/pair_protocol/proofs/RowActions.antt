@@ -1,4 +1,4 @@
--- A row is some actions, one after another: what the refusals leave possible is what the actions ask for.
+-- A row is a sequence of actions: what passes the refusals meets what the actions ask for.
 use Rattle.std.proofs.Common.{◌≡◌, [], ◌∷◌, ◌∙◌, Bool, None, Some, ap, arith, eqb-true, false, inl, inr, length, not, refl, subst, suc, true, zero, ℕ}
 use Rattle.std.specs.Prelude.{is_none, slice_get, ◌&&◌}
 use Rattle.event_callbacks.specs.declared.operations.OpId.{OpId}

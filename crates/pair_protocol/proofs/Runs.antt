@@ -1,4 +1,4 @@
--- What a world that actions reach promises, and what one event may change of it.
+-- What a world that actions reach promises, and how one event may change it.
 use Rattle.std.proofs.Common.{◌≡◌, List, ap, length, refl, suc}
 use Rattle.guest_board.specs.Machine.{Machine}
 use Rattle.pair_protocol.specs.Change.{After, AtBoot, Changes, HostComes, Reached, Stays, Then}

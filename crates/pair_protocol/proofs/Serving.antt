@@ -1,4 +1,4 @@
--- A primary's steps and inputs keep the invariant: what it reads of the disk is what its own disk has.
+-- A primary's steps and inputs keep the invariant: what it reads from the shared disk is what its own disk has.
 use Rattle.std.proofs.Common.{◌≡◌, ◌+◌, ◌≤◌, [], ◌∷◌, ◌++◌, ◌⊎◌, ◌∙◌, Bool, List, None, Option, Some, ap, append_assoc, arith, cond, eqb-true, false, inl, inr, length, not, refl, subst, sym, true, ℕ}
 use Rattle.std.specs.Prelude.{slice_get, ◌==◌}
 use Rattle.disk_dcdd.specs.declared.address.SectorAddress.{SectorAddress}
@@ -29,7 +29,7 @@ use Rattle.pair_protocol.proofs.Lines.{AtStart, Inv, IsRecord, Line, Next, OfWri
 use Rattle.pair_protocol.proofs.Frames.{LeadOld, LeadPlace, LeadTop}
 use Rattle.pair_protocol.proofs.Leading.{Hears, lead-moves}
 
--- What is read of the disk is what the machine's own disk has.
+-- What is read from the shared disk is what the machine's own disk has.
 
 -- a sector that is not refused has the number of the machine's own last completed write there
 pub sector-done : {S : Type 0} (M : Machine S) (s : S) (address : SectorAddress) (number : ℕ) →

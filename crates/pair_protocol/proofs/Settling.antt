@@ -1,4 +1,4 @@
--- The node that settles gives the list and the count of the settled trace, and there is one.
+-- The node that settles gives the list and the count of the settled trace, and there is such a node.
 use Rattle.std.proofs.Common.{◌≡◌, ◌≤◌, [], ◌∷◌, ◌++◌, ◌⊎◌, ◌∙◌, List, None, Some, ap, append-nil, arith, inl, inr, length, refl, subst, suc, sym, true, zero, ℕ}
 use Rattle.std.specs.Prelude.{slice_get}
 use Rattle.guest_board.specs.Machine.{Machine, Move}
@@ -130,7 +130,7 @@ back-settles {S} M C l x held b not_lead = go b.state
               ∙ sym (steps-append l.base (cut (length x.held) l.own ++ l.more)) ∙ ap steps (sym t),
         )
 
--- whatever node settles, it gives the trace's list and count
+-- whichever node settles, it gives the trace's list and count
 pub settles_trace : {S : Type 0} (M : Machine S) (C : Copying S) (w : World S) (i : Inv M C w) (n : ℕ) (x : Node S) →
     Settles w n x → IsSettled M x i.trace
 settles_trace {S} M C w i n x s = go (acting M C w i.top i.trace n x o s.there s.a_node) s.who

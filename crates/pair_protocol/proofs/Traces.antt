@@ -1,4 +1,4 @@
--- One trace for each list and count: the count says where an input stands, a step gives what it gives, and the bytes of
+-- One trace for each list and count: the count says where an input comes, a step gives what it gives, and the bytes of
 -- a sector are those of the machine's own disk. And what the first entries of a trace give.
 use Rattle.std.proofs.Common.{◌≡◌, ◌≤◌, [], ◌∷◌, ◌++◌, ◌∙◌, List, None, Option, Some, ap, arith, length, refl, subst, suc, sym, take, zero, ℕ}
 use Rattle.event_callbacks.specs.declared.operations.Operation.{Operation}
@@ -21,7 +21,7 @@ one_end M s t u (Take i ∷ xs) h k =
     let e : h.0 ≡ k.0 = same_some h.0 k.0 (M.take s i) h.1 k.1 in
     one_end M k.0 t u xs (subst (λ v. Runs M v xs t) e h.2) k.2
 
--- an input with what the log carries is given by what the machine's own disk has
+-- what the log carries of an input, and the machine's own disk, determine the input
 own_once : {S : Type 0} (M : Machine S) (before : List Move) (s : S) (i j : Input) → Own M before s i →
     Own M before s j → bare i ≡ bare j → i ≡ j
 own_once M before s (input.Rx p b) (input.Rx q c) h k e = (cc)
@@ -47,7 +47,7 @@ own_once M before s (input.Written m) (input.Sent p) h k e = (cc)
 own_once M before s (input.Written m) (input.Sector d r n bs) h k e = (cc)
 own_once M before s (input.Written m) (input.Written n) h k e = (cc)
 
--- the inputs of moves that begin at a count stand at that count or later
+-- the inputs of moves that begin at a count are at that count or later
 inputs_at : (c : ℕ) (xs : List Move) (t : Timed) (ts : List Timed) → inputs c xs ≡ t ∷ ts → c ≤ t.count
 inputs_at c [] t ts h = (cc)
 inputs_at c (Do o ∷ xs) t ts h = let k = inputs_at (suc c) xs t ts h in omega arith

@@ -1,4 +1,4 @@
--- As long as no entry counts as a read, no operation waits for one.
+-- As long as no entry counts as a read, no operation waits for a read.
 use Rattle.std.proofs.Common.{◌≡◌, List, [], ◌∷◌, refl, ap}
 use Rattle.event_callbacks.specs.declared.operations.Operation.{Operation}
 use Rattle.event_callbacks.specs.declared.operations.Operation.TheVariants.{Byte, Write}

@@ -1,4 +1,4 @@
--- Out of memory is answered only if no refusal applies and the event may want memory.
+-- Out of memory is answered only if no refusal applies and the event may need memory.
 use Rattle.std.proofs.Common.{◌≡◌, ◌≢◌, [], ◌∷◌, ◌⊎◌, ◌∙◌, Bool, List, None, Option, Some, ap, cond, false, inl, inr, not, refl, subst, suc, sym, true, ℕ, arith}
 use Rattle.std.specs.Prelude.{length, slice_get, ◌<◌, ◌==◌}
 use Rattle.guest_board.specs.Machine.{Machine}
@@ -16,7 +16,7 @@ use Rattle.pair_protocol.specs.Wanting.{WantsNone}
 use Rattle.pair_protocol.specs.World.{LogEntry, Message, World, winner_in}
 use Rattle.pair_protocol.proofs.Moves.{same_some}
 
--- ---- no refusal is want of memory
+-- ---- no refusal is out of memory
 
 -- a refusal for another reason, or none
 abbrev Other : Option Fault → Type 0
@@ -69,7 +69,7 @@ ask_other w n x =
     (other_if (is_role x.role Joining) NotWhole (λ is. (cc))) none_other))
     (other_first lost [] (other_if (is_other (winner_in w.winners x.generation) n) Lost (λ is. (cc))) none_other)
 
--- ---- so only an event that may want memory is answered that there is none
+-- ---- so only an event that may need memory is answered with out of memory
 
 wants_none : {S : Type 0} (M : Machine S) (C : Copying S) (w : World S) (e : Event) → Other (refusal M C w e)
     → ((r : Reply) (new : World S) → Does M C w e r new → r ≢ Refused OutOfMemory) → (MayWantMemory M w e → ⊥)

@@ -15,14 +15,14 @@ use Rattle.pair_protocol.specs.Copying.{Copying}
 use Rattle.pair_protocol.specs.Node.{Node, Role, Primary, Backup, Joining, Draining, Alone, Spare, primary_steps, plainly_steps, primary_takes, alone_takes, holds, passes_mark, passes_input, hears, halts, goes_live, gets_part, joins, gathered, note_of, covers, keys_covered}
 use Rattle.pair_protocol.specs.World.{World, LogEntry, Acknowledgement, ImagePart, Released, WriteDone, SectorRead, terminal, accepted, winner_in, with_node, with_message, with_key, with_arrival, with_told, with_winner, with_put, with_read, with_pair, with_host, opening}
 
--- the node of this number runs, in the role
+-- the node of this number is running, in this role
 pub record Acts {S : Type 0} (w : World S) (n : ℕ) (x : Node S) (role : Role) : Type 0 where
   pub there : slice_get w.nodes n ≡ Some x
   pub up : x.running ≡ true
   pub role_is : x.role ≡ role
 
--- Where an input may come from: a key is the next of those typed; a byte that is sent was accepted; and what the disk
--- says was answered.
+-- where an input may come from: a key is the next one typed, a byte that is heard to be sent was accepted, and what
+-- comes from the disk is one of its answers
 abbrev pub MayTake : {S : Type 0} → Machine S → World S → Node S → Input → Type 0
 MayTake M w x (Rx port byte) = slice_get (terminal w port).typed (M.keys x.machine port) ≡ Some byte
 MayTake M w x (Sent port) = (k : ℕ) × (M.due_byte x.machine port ≡ Some k) × (k ≤ length (accepted w port))
@@ -45,7 +45,7 @@ pub data Change {S : Type 0} (M : Machine S) (C : Copying S) (w : World S) : Wor
       Change M C w (with_node w n (primary_steps M x s gives))
   AloneSteps : (n : ℕ) (x : Node S) (s : S) (gives : Option Operation) →
       Acts w n x Alone → M.step x.machine ≡ Some (s, gives) → Change M C w (with_node w n (plainly_steps x s))
-  -- or takes an input that it does not refuse: no sector, then, that was read before its last completed write
+  -- or takes an input that it does not refuse; so never a sector that was read before the last completed write there
   PrimaryTakes : (n : ℕ) (x : Node S) (s : S) (i : Input) →
       Acts w n x Primary → MayTake M w x i → refusal_of M x.machine i ≡ None → M.take x.machine i ≡ Some s →
       Change M C w (with_node w n (primary_takes M x s i))
@@ -58,11 +58,11 @@ pub data Change {S : Type 0} (M : Machine S) (C : Copying S) (w : World S) : Wor
   Sends : (n : ℕ) (x : Node S) (index : ℕ) (e : Entry) →
       Acts w n x Primary → slice_get x.log index ≡ Some e →
       Change M C w (with_message w (LogEntry x.generation index e))
-  -- a backup holds the entry that comes next, and no other
+  -- a backup holds the next entry, and no other
   Holds : (n : ℕ) (x : Node S) (m : ℕ) (e : Entry) →
       Acts w n x Backup → slice_get w.messages m ≡ Some (LogEntry x.generation (length x.held) e) →
       Change M C w (with_node w n (holds x e))
-  -- it acknowledges as many entries as it holds, and may tell that it has replayed as many as it has, or fewer
+  -- it acknowledges as many entries as it holds, and may report as replayed as many as it has replayed, or fewer
   Acknowledges : (n : ℕ) (x : Node S) (replayed : ℕ) →
       Acts w n x Backup → replayed ≤ x.replayed →
       Change M C w (with_message w (Acknowledgement x.generation (length x.held) replayed))
@@ -70,7 +70,7 @@ pub data Change {S : Type 0} (M : Machine S) (C : Copying S) (w : World S) : Wor
   Hears : (n : ℕ) (x : Node S) (m held replayed : ℕ) →
       Acts w n x Primary → slice_get w.messages m ≡ Some (Acknowledgement x.generation held replayed) →
       Change M C w (with_node w n (hears x held replayed))
-  -- a node replays a step below the count of the next entry, or at its count the entry
+  -- a node replays: below the count of the next entry a step, at its count the entry itself
   ReplaysStep : (n : ℕ) (x : Node S) (role : Role) (e : Entry) (s : S) (gives : Option Operation) →
       Acts w n x role → Replaying role → slice_get x.held x.replayed ≡ Some e → M.count x.machine < count_of e →
       M.step x.machine ≡ Some (s, gives) → Change M C w (with_node w n (plainly_steps x s))
@@ -80,11 +80,11 @@ pub data Change {S : Type 0} (M : Machine S) (C : Copying S) (w : World S) : Wor
   ReplaysInput : (n : ℕ) (x : Node S) (role : Role) (e : Entry) (i : Input) (s : S) →
       Acts w n x role → Replaying role → slice_get x.held x.replayed ≡ Some e → M.count x.machine ≡ count_of e →
       input_of e ≡ Some i → M.take x.machine i ≡ Some s → Change M C w (with_node w n (passes_input x s))
-  -- output rule: a primary releases an outstanding operation only where it is covered
+  -- output rule: a primary releases an outstanding operation only if it is covered
   PrimaryReleases : (n : ℕ) (x : Node S) (name : OpId) (o : Operation) →
       Acts w n x Primary → M.find x.machine name ≡ Some o → covers x.covered x.reported (note_of x.notes name) ≡ true →
       Change M C w (with_message w (Released o))
-  -- an alone node is live: it releases any that is outstanding
+  -- an alone node is live: it releases any outstanding operation
   AloneReleases : (n : ℕ) (x : Node S) (name : OpId) (o : Operation) →
       Acts w n x Alone → M.find x.machine name ≡ Some o → Change M C w (with_message w (Released o))
   -- a byte arrives at its terminal
@@ -96,7 +96,7 @@ pub data Change {S : Type 0} (M : Machine S) (C : Copying S) (w : World S) : Wor
   -- a node halts
   Stops : (n : ℕ) (x : Node S) →
       slice_get w.nodes n ≡ Some x → (x.role ≡ Spare → ⊥) → Change M C w (with_node w n (halts x))
-  -- test-and-set: the first node of a generation that asks has won it
+  -- test-and-set: the first node of a generation to ask has won it
   Wins : (n : ℕ) (x : Node S) (role : Role) →
       Acts w n x role → (role ≡ Joining → ⊥) → (role ≡ Spare → ⊥) → winner_in w.winners x.generation ≡ None →
       Change M C w (with_winner w n x)
@@ -106,7 +106,7 @@ pub data Change {S : Type 0} (M : Machine S) (C : Copying S) (w : World S) : Wor
   -- an alone node begins the next generation with a spare host
   Begins : (n host : ℕ) (x y : Node S) →
       Acts w n x Alone → slice_get w.nodes host ≡ Some y → y.role ≡ Spare → Change M C w (with_pair M C w n host x)
-  -- its image is sent in parts, which come in any order
+  -- its image is sent in parts, which arrive in any order
   SendsPart : (n : ℕ) (x : Node S) (s : S) (index : ℕ) (part : List ℕ) →
       Acts w n x Primary → x.image ≡ Some s → slice_get (C.parts s) index ≡ Some part →
       Change M C w (with_message w (ImagePart x.generation index part))
@@ -123,7 +123,7 @@ pub data Change {S : Type 0} (M : Machine S) (C : Copying S) (w : World S) : Wor
       Change M C w (with_put w write)
   Reads : (address : SectorAddress) → Change M C w (with_read M w address)
 
--- actions, one after another
+-- a sequence of actions
 pub data Changes {S : Type 0} (M : Machine S) (C : Copying S) : World S → World S → Type 0 where
   Stays : {w : World S} → Changes M C w w
   Then : {w mid new : World S} → Change M C w mid → Changes M C mid new → Changes M C w new

@@ -1,4 +1,4 @@
--- The copy of a machine: the parts that an image of it has, and the machine that parts make.
+-- The copy of a machine: the parts of its image, and the machine that parts make.
 use Rattle.std.specs.Prelude.{◌≡◌, ℕ, Option, Some, None, List, [], length}
 use Rattle.guest_board.specs.Machine.{Machine, Move}
 use Rattle.plain_single.specs.Reach.{Owns}
@@ -13,9 +13,9 @@ pub record Copying (S : Type 0) : Type 0 where
 
 -- what a pair asks of the copy of a machine that it runs
 pub record IsCopying {S : Type 0} (M : Machine S) (C : Copying S) : Type 0 where
-  -- each image has that many parts
+  -- each image has this many parts
   pub counted : (moves : List Move) (s : S) → Reaches M moves s → length (C.parts s) ≡ C.part_count
-  -- whatever the parts of a machine make is that machine, where each sector that it took had its own disk's bytes
+  -- whatever the parts of a machine make is that machine, if each sector that it took had its own disk's bytes
   pub again : (moves : List Move) (s t : S) → Reaches M moves s → Owns M [] M.boot moves
       → C.assemble (C.parts s) ≡ Some t → t ≡ s
 

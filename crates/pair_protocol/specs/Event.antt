@@ -5,39 +5,39 @@ use Rattle.i8080_words.specs.declared.refusal.Fault.{Fault}
 
 -- n is a node, m a message
 pub data Event : Type 0 where
-  -- the machine of a primary or alone node makes at most so many steps
+  -- the machine of a primary or alone node makes at most this many steps
   Step : (n turns : ℕ) → Event
-  -- a byte is typed at a terminal, and a node takes the key of an index
+  -- a byte is typed at a terminal; a node takes the key with an index
   TypeByte : (port byte : ℕ) → Event
   TakeKey : (n port index : ℕ) → Event
-  -- the log: an entry is sent, and comes; an acknowledgement is sent, and comes
+  -- the log: an entry is sent, and arrives; an acknowledgement is sent, and arrives
   Send : (n index : ℕ) → Event
   DeliverLog : (m n : ℕ) → Event
   Ack : (n : ℕ) → Event
   DeliverAck : (m n : ℕ) → Event
-  -- a backup makes at most so many moves of what it holds
+  -- a backup makes at most this many moves of what it holds
   Replay : (n turns : ℕ) → Event
-  -- an operation is released, a byte comes to its terminal, a node hears that the terminal has accepted it
+  -- an operation is released; a byte arrives at its terminal; a node hears that the terminal has accepted it
   Release : (n : ℕ) (name : OpId) → Event
   Arrive : (m : ℕ) → Event
   TellSent : (n port number : ℕ) → Event
   -- a terminal is told how many keys are covered
   Told : (n port : ℕ) → Event
-  -- a node halts; it suspects its peer, and asks the arbiter; it makes at most so many moves of what it still holds
+  -- a node halts; it suspects its peer, and asks the arbiter; it makes at most this many moves of what it still holds
   Stop : (n : ℕ) → Event
   Suspect : (n : ℕ) → Event
   Drain : (n turns : ℕ) → Event
-  -- the disk: a write comes, its answer comes; a sector is read, its bytes come
+  -- the disk: a write arrives, and its answer; a sector is read, and its bytes arrive
   Put : (m : ℕ) → Event
   PutReply : (m n : ℕ) → Event
   Get : (n sector : ℕ) → Event
   GetReply : (m n : ℕ) → Event
-  -- an alone node begins a generation with a host; a part of its image is sent, and comes
+  -- an alone node begins a generation with a host; a part of its image is sent, and arrives
   BeginPair : (n host : ℕ) → Event
   SendPart : (n index : ℕ) → Event
   PartComes : (m n : ℕ) → Event
 
--- why steps ended: as many as were asked for are made, an operation was given, the machine idles, a number has reached
+-- why steps ended: all that were asked for are made, an operation was given, the machine idles, a number has reached
 -- its limit, or no memory was left
 pub data Why : Type 0 where
   Turns Idles IsSpent Memory : Why

@@ -1,4 +1,4 @@
--- Two small machines, and a script that a pair of each runs: a backup takes over, and a sector is read and written.
+-- Two small machines, each with a script for a pair of it: a backup takes over; a sector is read and written.
 use Rattle.std.specs.Prelude.{◌≡◌, ℕ, suc, Bool, nat_le, ◌==◌, ◌&&◌, ◌||◌, if◌then◌else◌, false, Option, Some, None, List, [], ◌∷◌, slice_get, slice_index_or}
 use Rattle.std.specs.Option.{option_map}
 use Rattle.disk_dcdd.specs.Address.{address_of, same_address}
@@ -62,7 +62,7 @@ small = record {
   done = λ s address. 0;
 }
 
--- a copy of it, and of the machine with a disk below, is one part with its state
+-- a copy of it, and of the machine with a disk below, is a single part with its state
 abbrev pub small_assemble : List (List ℕ) → Option ℕ
 small_assemble ((s ∷ []) ∷ []) = Some s
 small_assemble _ = None
@@ -73,7 +73,7 @@ small_copying = record { parts = λ s. (s ∷ []) ∷ []; part_count = 1; assemb
 -- ---- a backup takes over
 
 -- the primary stops with its byte logged and not released; the backup wins, takes no key while it drains, and sends the
--- byte; what arrives again is dropped
+-- byte; when the byte arrives again it is dropped
 abbrev pub failover : List Event
 failover =
     Step 0 10 ∷ Send 0 0 ∷ DeliverLog 0 1 ∷ Ack 1 ∷ Stop 0 ∷ Suspect 1 ∷ TypeByte 0 65 ∷ TakeKey 1 0 0 ∷ Drain 1 10
@@ -90,15 +90,15 @@ TakesOver =
 
 -- ---- a machine that reads a sector and writes it
 
--- it writes one sector; a sector has two bytes here in place of 137, both 0 at boot
+-- it writes one sector; here a sector has two bytes instead of 137, both 0 at boot
 abbrev pub sector_write : SectorWrite
 sector_write = record { number = 1; drive = 0; track = 0; sector = 0; bytes = 72 ∷ 105 ∷ [] }
 
 abbrev pub is_its_sector : SectorAddress → Bool
 is_its_sector address = same_address address (address_of sector_write)
 
--- its state: 0 at boot, 1 the disk turns, 2 the sector comes, 3 it is under the head, 4 its write is outstanding, 5 the
--- write is done
+-- its state: 0 at boot, 1 the disk turns, 2 it waits for the sector, 3 the sector is under the head, 4 its write is
+-- outstanding, 5 the write is done
 abbrev pub disk_step : ℕ → Option (ℕ × Option Operation)
 disk_step s =
     if nat_le s 1 then Some (suc s, None) else if s == 3 then Some (4, Some (Write sector_write)) else None
@@ -111,7 +111,7 @@ disk_count s = slice_index_or (0 ∷ 1 ∷ 2 ∷ 2 ∷ 3 ∷ 3 ∷ []) s 3
 abbrev pub after_sector : ℕ → Option ℕ
 after_sector s = if s == 2 then Some 3 else if s == 5 then Some 5 else None
 
--- it is given its sector and the completion of its write, and no key
+-- it takes its sector and the completion of its write, and no key
 abbrev pub disk_take : ℕ → Input → Option ℕ
 disk_take s (input.Rx port byte) = None
 disk_take s (input.Sent port) = None
@@ -145,7 +145,8 @@ small_disk = record {
 -- ---- a sector is read and written
 
 -- the sector that comes is entry 0 of the log, and the mark of its write is entry 1; once the backup has acknowledged
--- both, the primary releases the write, the disk has it, and the primary hears that it is done; then it is read again
+-- both, the primary releases the write, the disk has it, and the primary hears that it is done; then the sector is read
+-- again
 abbrev pub disk_write : List Event
 disk_write =
     Step 0 2 ∷ Get 0 0 ∷ GetReply 0 0 ∷ Step 0 10 ∷ Send 0 0 ∷ Send 0 1 ∷ DeliverLog 1 1 ∷ DeliverLog 2 1 ∷ Ack 1
@@ -156,8 +157,8 @@ disk_write_replies =
     Ran 2 2 Turns ∷ MessageIs 0 ∷ Taken ∷ Ran 1 3 (Gave (id.Write 1)) ∷ MessageIs 1 ∷ MessageIs 2 ∷ New ∷ New
     ∷ MessageIs 3 ∷ HeldIs 2 ∷ MessageIs 4 ∷ MessageIs 5 ∷ Taken ∷ MessageIs 6 ∷ []
 
--- the messages 0 to 6: the sector is read first with its bytes at boot under number 0, and last with those of write 1;
--- entry 0 stands at count 2, and entry 1 at count 3
+-- messages 0 to 6: the sector is first read with its bytes at boot under number 0, and last with those of write 1;
+-- entry 0 has count 2, and entry 1 count 3
 abbrev pub disk_write_messages : List Message
 disk_write_messages =
     SectorRead (address_of sector_write) 0 (0 ∷ 0 ∷ []) ∷ LogEntry 1 0 (Sector 2 0 0 0 (0 ∷ 0 ∷ []))

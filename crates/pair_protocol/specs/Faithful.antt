@@ -1,4 +1,4 @@
--- A faithful world: what terminals and disk have is what one machine, which never fails, gives from the settled list.
+-- A faithful world: terminals and disk have what one never-failing machine gives from the settled list.
 use Rattle.std.specs.Prelude.{◌≡◌, ℕ, ◌≤◌, Some, List, ◌++◌, length, slice_get}
 use Rattle.disk_dcdd.specs.Address.{address_of}
 use Rattle.disk_dcdd.specs.declared.address.SectorAddress.{SectorAddress}
@@ -12,15 +12,15 @@ use Rattle.pair_protocol.specs.Node.{Node, Alone}
 use Rattle.pair_protocol.specs.World.{World, terminal, accepted, sector_record}
 use Rattle.pair_protocol.specs.Settled.{Settled}
 
--- a list begins with another one
+-- one list begins with another
 abbrev pub IsPrefix : {A : Type 0} → List A → List A → Type 0
 IsPrefix {A} front all = (rest : List A) × (front ++ rest ≡ all)
 
--- it is the whole list but for at most its last n elements
+-- one list is another without at most its last n elements
 abbrev pub IsAllBut : ℕ → List ℕ → List ℕ → Type 0
 IsAllBut n front all = (rest : List ℕ) × (front ++ rest ≡ all) × (length rest ≤ n)
 
--- bytes that a sector may have: those of the machine's own disk, or of an outstanding write of the sector
+-- bytes that a sector may have: those of the machine's own disk, or of an outstanding write of it
 pub data MayHave {S : Type 0} (M : Machine S) (moves : List Move) (s : S) (address : SectorAddress)
     (bytes : List ℕ) : Type 0 where
   IsImage : bytes ≡ image M moves address → MayHave M moves s address bytes
@@ -38,7 +38,7 @@ pub record Faithful {S : Type 0} (M : Machine S) (w : World S) : Type 0 where
   pub output : (port : ℕ) → IsAllBut M.window_size (accepted w port) (output port trace)
   -- disk kept: each sector has the bytes of the trace's disk, or those of an outstanding write of it
   pub disk : (address : SectorAddress) → MayHave M trace reach.last address (sector_record M w.puts address).bytes
-  -- keys kept: the keys of the list are the first of those typed, and no more were told to be covered
+  -- keys kept: the keys of the list are the first of those typed, and no terminal was told that more are covered
   pub typed : (port : ℕ) → IsPrefix (keys port list) (terminal w port).typed
   pub told : (port : ℕ) → (terminal w port).told ≤ length (keys port list)
   -- one live: at most one node is alone

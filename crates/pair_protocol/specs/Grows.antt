@@ -1,4 +1,4 @@
--- What one event may change of what is settled: it only grows, and nobody who won loses.
+-- How one event may change what is settled: it only grows, and no winner loses.
 use Rattle.std.specs.Prelude.{◌≡◌, ℕ, ◌≤◌, Some, None, List, [], ◌∷◌, ◌++◌, slice_get}
 use Rattle.guest_board.specs.Machine.{Machine}
 use Rattle.plain_single.specs.declared.timed.Timed.{Timed}
@@ -7,12 +7,12 @@ use Rattle.pair_protocol.specs.World.{World, winner_in}
 use Rattle.pair_protocol.specs.Settled.{Settled, list_of}
 use Rattle.pair_protocol.specs.Faithful.{IsPrefix}
 
--- every input of a list stands at this count or later
+-- every input of a list is at this count or later
 abbrev pub AllFrom : ℕ → List Timed → Type 0
 AllFrom count [] = Unit {0}
 AllFrom count (t ∷ list) = (count ≤ t.count) × AllFrom count list
 
--- the old list goes on: what is added stands at the old count or later
+-- the old list goes on: each added input is at the old count or later
 pub record Extends (old : List Timed) (count : ℕ) (new : List Timed) (later : ℕ) : Type 0 where
   pub added : List Timed
   pub goes_on : old ++ added ≡ new

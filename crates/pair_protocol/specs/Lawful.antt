@@ -19,7 +19,7 @@ use Rattle.plain_single.specs.declared.timed.Bare.TheVariants.{Written}
 unfoldable pub top : ℕ
 top = 2 ^ 62 - 1
 
--- it is one of the list
+-- an element is in a list
 abbrev pub Among : {A : Type 0} → A → List A → Type 0
 Among x [] = ⊥
 Among x (y ∷ ys) = (x ≡ y) ⊎ Among x ys
@@ -47,22 +47,22 @@ pub record IsWritten {S : Type 0} (M : Machine S) (moves : List Move) (s : S) (a
   pub completed : IsDone write.number moves
 
 pub record Lawful {S : Type 0} (M : Machine S) : Type 0 where
-  -- its count is that of its steps, and it has taken the keys that its inputs have
+  -- its count is the number of its steps, and it has taken the keys that its inputs have
   pub counts : (moves : List Move) (s : S) → Reaches M moves s → M.count s ≡ steps moves
   pub takes_keys : (moves : List Move) (s : S) (port : ℕ) → Reaches M moves s
       → M.keys s port ≡ length (keys port (inputs 0 moves))
   -- no count passes the limit
   pub limit : (moves : List Move) (s : S) → Reaches M moves s → M.count s ≤ top
   pub spent : (moves : List Move) (s : S) → Reaches M moves s → M.is_spent s ≡ true → M.step s ≡ None
-  -- no more bytes of a port are sent and not accepted than the window has
+  -- no more bytes of a port are sent and not accepted than the window holds
   pub window : (moves : List Move) (s : S) (port : ℕ) → Reaches M moves s
       → length (output port moves) ≤ acceptances port (inputs 0 moves) + M.window_size
-  -- bytes are numbered from 1 at each port, and the one that is accepted next is the oldest that is not
+  -- bytes are numbered from 1 at each port, and the next one to be accepted is the oldest that is not accepted
   pub numbered : (moves : List Move) (s : S) (port number byte : ℕ)
       → Reaches M (moves ++ Do (Some (Byte port number byte)) ∷ []) s → number ≡ length (output port moves) + 1
   pub due : (moves : List Move) (s : S) (port number : ℕ) → Reaches M moves s → M.due_byte s port ≡ Some number
       → number ≡ acceptances port (inputs 0 moves) + 1
-  -- what is outstanding has the name that it is found by, and was given by a step
+  -- what is outstanding has the name under which it is found, and was given by a step
   pub named : (moves : List Move) (s : S) (name : OpId) (operation : Operation) → Reaches M moves s
       → M.find s name ≡ Some operation → id_of operation ≡ name
   pub given : (moves : List Move) (s : S) (name : OpId) (operation : Operation) → Reaches M moves s
@@ -75,11 +75,11 @@ pub record Lawful {S : Type 0} (M : Machine S) : Type 0 where
   -- each sector of the machine's own disk is unwritten, or holds its last completed write
   pub own_disk : (moves : List Move) (s : S) (address : SectorAddress) → Reaches M moves s
       → IsUnwritten M moves s address ⊎ IsWritten M moves s address
-  -- a write is completed, and no later than the last completed one of its sector, or outstanding
+  -- a write is either completed, and then no later than the last completed write of its sector, or outstanding
   pub write_is : (moves : List Move) (s : S) (w : SectorWrite) → Reaches M moves s
       → Among (Write w) (operations moves)
       → (w.number ≤ M.done s (address_of w)) ⊎ (M.find s (id.Write w.number) ≡ Some (Write w))
-  -- a sector has the drive and the number that it is asked for by, and is busy while a write to it is outstanding
+  -- a sector has the drive and the number by which it is asked for, and is busy while a write to it is outstanding
   pub placed : (s : S) (drive sector : ℕ)
       → M.address s drive sector ≡ record (M.address s drive sector) { drive = drive; sector = sector }
   pub busy : (moves : List Move) (s : S) (w : SectorWrite) (drive sector : ℕ) → Reaches M moves s
@@ -87,6 +87,6 @@ pub record Lawful {S : Type 0} (M : Machine S) : Type 0 where
       → M.busy s (M.address s drive sector) ≡ true
   -- few operations are outstanding at once
   pub few : (moves : List Move) (s : S) → Reaches M moves s → AreFew M s
-  -- an input that is not refused and is taken is one of a port or a sector that is there, and there was room for it
+  -- an input that is taken and not refused is of a port or a sector that is there, and there was room for it
   pub accepts : (moves : List Move) (s t : S) (i : Input) → Reaches M moves s → refusal_of M s i ≡ None
       → M.take s i ≡ Some t → IsInput i × HasRoom M s i

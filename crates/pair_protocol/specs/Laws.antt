@@ -1,4 +1,4 @@
--- The laws of a pair, for any machine that is lawful and any copy of it.
+-- The laws of a pair, for any lawful machine and any copy of it.
 use Rattle.std.specs.Prelude.{◌≡◌, ℕ, Some, List, length, slice_get}
 use Rattle.guest_board.specs.Machine.{Machine}
 use Rattle.pair_protocol.specs.Lawful.{Lawful}
@@ -23,22 +23,22 @@ ReachedGrows S =
     (M : Machine S) (C : Copying S) → Lawful M → IsCopying M C → (w new : World S) (e : Event) (r : Reply) →
     Reached M C w → Row M C w e r new → Grows M w new
 
--- in every world that actions reach, each node stands as its role asks
+-- in every world that actions reach, each node is as its role asks
 abbrev pub NodesStand : (S : Type 0) → Type 0
 NodesStand S =
     (M : Machine S) (C : Copying S) → Lawful M → IsCopying M C → (w : World S) → Reached M C w →
     (n : ℕ) (x : Node S) → slice_get w.nodes n ≡ Some x → NodeStands M x
 
--- no copies are a copying of every machine
+-- making no copies is a copying of every machine
 abbrev pub NeedsNoCopies : (S : Type 0) → Type 0
 NeedsNoCopies S = (M : Machine S) → IsCopying M no_copies
 
--- an event is some actions
+-- an event is a sequence of actions
 abbrev pub RowIsChanges : (S : Type 0) → Type 0
 RowIsChanges S =
     (M : Machine S) (C : Copying S) (w new : World S) (e : Event) (r : Reply) → Row M C w e r new → Changes M C w new
 
--- after some actions a world is still one that actions reach
+-- after any actions the world is still one that actions reach
 abbrev pub ChangesReach : (S : Type 0) → Type 0
 ChangesReach S =
     (M : Machine S) (C : Copying S) (w new : World S) → Reached M C w → Changes M C w new → Reached M C new

@@ -1,4 +1,4 @@
--- To believe the promise: what the machine is, what a world is, what is settled, and what a faithful world has.
+-- To believe the promise, read these: what the machine is, what a world is, what is settled, what a faithful world has.
 pub mod Lawful
 pub mod Waiting
 pub mod Node

@@ -28,13 +28,13 @@ pub data Role : Type 0 where
   -- a host that has no role yet
   Spare : Role
 
--- when an operation is covered: its entry is acknowledged, and the backup has told that it has replayed so many entries
+-- when an operation is covered: its entry is acknowledged, and the backup has reported this many entries as replayed
 pub record Note : Type 0 where
   pub name : OpId
   pub index : ℕ
   pub after : ℕ
 
--- A halted node keeps its role and all that it had.
+-- a halted node keeps its role and all that it had
 pub record Node (S : Type 0) : Type 0 where
   pub role : Role
   pub running : Bool
@@ -42,19 +42,19 @@ pub record Node (S : Type 0) : Type 0 where
   -- the machine, and all its inputs
   pub machine : S
   pub list : List Timed
-  -- the inputs and the count that the generation began with
+  -- the inputs and the count with which the generation began
   pub copy : List Timed
   pub start : ℕ
   -- of a backup: the entries that it holds, and how many of them it has replayed
   pub held : List Entry
   pub replayed : ℕ
-  -- of a primary: its log, how many entries of it are acknowledged, how many the backup has told that it has replayed,
-  -- and what each operation waits for
+  -- of a primary: its log, how many of its entries are acknowledged, how many the backup has reported as replayed, and
+  -- what each operation waits for
   pub log : List Entry
   pub covered : ℕ
   pub reported : ℕ
   pub notes : List Note
-  -- of a primary: the machine that it gives copies of; of a joining node: the parts that came
+  -- of a primary: the machine whose copy it gives; of a joining node: the parts that arrived
   pub image : Option S
   pub parts : List (Option (List ℕ))
 
@@ -69,12 +69,12 @@ is_role Alone Alone = true
 is_role Spare Spare = true
 is_role _ _ = false
 
--- it runs, in one of the roles
+-- it is running, in one of the roles
 abbrev pub acts_as : {S : Type 0} → Node S → List Role → Bool
 acts_as x [] = false
 acts_as x (role ∷ roles) = x.running && (is_role x.role role) || acts_as x roles
 
--- what the winner of the test-and-set goes on as
+-- the role in which the winner of the test-and-set goes on
 abbrev pub won_role : Role → Role
 won_role Primary = Alone
 won_role Backup = Draining
@@ -83,7 +83,7 @@ won_role Draining = Draining
 won_role Alone = Alone
 won_role Spare = Spare
 
--- ---- nodes at their beginning
+-- ---- nodes as they begin
 
 -- a node at boot, in generation 1
 abbrev pub first_node : {S : Type 0} → Machine S → Role → Node S
@@ -105,7 +105,7 @@ first_node M role = record {
   parts = [];
 }
 
--- a host that came
+-- a host that has just come
 abbrev pub spare : {S : Type 0} → Machine S → Node S
 spare M = record {
   role = Spare;
@@ -167,7 +167,7 @@ joiner M C x = record {
 
 -- ---- the machine's moves at a node
 
--- a primary logs a mark for an operation, and notes that the operation waits for it and for what else
+-- a primary logs a mark for an operation, and notes that the operation waits for it, and for what else
 abbrev pub notes_after : List Note → List Entry → Option Operation → List Note
 notes_after notes log None = notes
 notes_after notes log (Some operation) =
@@ -200,19 +200,19 @@ alone_takes M x s i = record x { machine = s; list = x.list ++ timed (M.count x.
 abbrev pub holds : {S : Type 0} → Node S → Entry → Node S
 holds x e = record x { held = x.held ++ e ∷ [] }
 
--- an entry is replayed: a mark leaves the machine, an input is taken
+-- an entry is replayed: a mark leaves the machine as it is, an input is taken
 abbrev pub passes_mark : {S : Type 0} → Node S → Node S
 passes_mark x = record x { replayed = suc x.replayed }
 
 abbrev pub passes_input : {S : Type 0} → Node S → S → Node S
 passes_input x s = record x { machine = s; replayed = suc x.replayed }
 
--- how many entries a backup tells that it has replayed: none, as long as no entry counts as a read and so no operation
--- waits for it
+-- how many entries a backup reports as replayed: none, as long as no entry counts as a read and so no operation waits
+-- for one
 abbrev pub replay_told : {S : Type 0} → Node S → ℕ
 replay_told x = 0
 
--- an acknowledgement comes: one of fewer entries covers no more, and the image is needed no longer
+-- an acknowledgement arrives: one of fewer entries covers no more than before, and the image is no longer needed
 abbrev pub hears : {S : Type 0} → Node S → ℕ → ℕ → Node S
 hears x held replayed =
     record x { covered = max x.covered held; reported = max x.reported replayed; image = None }
@@ -223,18 +223,18 @@ halts x = record x { running = false }
 abbrev pub wins : {S : Type 0} → Node S → Node S
 wins x = record x { role = won_role x.role }
 
--- a drained node is alone: its inputs are the copy's and those that it held
+-- a drained node is alone: its inputs are those of the copy and those that it held
 abbrev pub goes_live : {S : Type 0} → Node S → Node S
 goes_live x = record x { role = Alone; list = x.copy ++ inputs_of x.held }
 
--- a part comes, and with the last one the node is the backup
+-- a part arrives, and with the last one the node is the backup
 abbrev pub gets_part : {S : Type 0} → Node S → ℕ → List ℕ → Node S
 gets_part x index part = record x { parts = slice_set x.parts index (Some part) }
 
 abbrev pub joins : {S : Type 0} → Node S → S → Node S
 joins x s = record x { role = Backup; machine = s; list = x.copy }
 
--- all the parts, where each came
+-- all the parts, if each has arrived
 abbrev pub with_first : List ℕ → Option (List (List ℕ)) → Option (List (List ℕ))
 with_first part None = None
 with_first part (Some parts) = Some (part ∷ parts)
@@ -246,14 +246,14 @@ gathered (Some part ∷ slots) = with_first part (gathered slots)
 
 -- ---- what a node covers
 
--- both are one name
+-- two names are the same
 abbrev pub same_name : OpId → OpId → Bool
 same_name (id.Byte port number) (id.Byte to other) = port == to && number == other
 same_name (id.Write number) (id.Write other) = number == other
 same_name (id.Byte port number) (id.Write other) = false
 same_name (id.Write number) (id.Byte to other) = false
 
--- what an operation waits for; nothing where it was outstanding in the image already
+-- what an operation waits for; nothing if it was already outstanding in the image
 abbrev pub note_of : List Note → OpId → Option Note
 note_of [] name = None
 note_of (note ∷ notes) name = if same_name name note.name then Some note else note_of notes name
@@ -263,8 +263,8 @@ abbrev pub covers : ℕ → ℕ → Option Note → Bool
 covers acknowledged reported None = true
 covers acknowledged reported (Some note) = nat_lt note.index acknowledged && nat_le note.after reported
 
--- how many keys of a port are covered: at a primary those of the copy and of the acknowledged entries, at an alone
--- node all that its machine has taken
+-- how many keys of a port are covered: at a primary those of the copy and of the acknowledged entries, at an alone node
+-- all that its machine has taken
 abbrev pub keys_covered : {S : Type 0} → Machine S → Node S → ℕ → Role → ℕ
 keys_covered M x port Primary = length (keys port (x.copy ++ inputs_of (take x.covered x.log)))
 keys_covered M x port Alone = M.keys x.machine port

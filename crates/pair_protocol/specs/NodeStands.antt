@@ -1,4 +1,4 @@
--- How each node of a world that actions reach stands: its machine, the keys that it took, its log, and what it has
+-- What holds of each node of a world that actions reach: its machine, the keys that it took, its log, and what it has
 -- still to replay.
 use Rattle.std.specs.Prelude.{◌≡◌, ℕ, ◌≤◌, ◌⊎◌, List, length, drop}
 use Rattle.guest_board.specs.Machine.{Machine, Move}
@@ -13,14 +13,14 @@ use Rattle.pair_protocol.specs.Settled.{list_of}
 abbrev pub IsReached : {S : Type 0} → Machine S → S → Type 0
 IsReached M s = (moves : List Move) × Reaches M moves s
 
--- how a node stands, by its role
+-- what holds of a node, by its role
 pub record NodeStands {S : Type 0} (M : Machine S) (x : Node S) : Type 0 where
   -- a node that serves or replays has a machine that was run from boot
   pub machine : Serving x.role ⊎ Replaying x.role → IsReached M x.machine
   -- the machine of a node that serves has taken the keys of the node's list
   pub keys : Serving x.role → (port : ℕ) → M.keys x.machine port ≡ length (keys port (list_of x x.role))
-  -- a primary has logged all that is covered
+  -- a primary has logged everything that is covered
   pub covered : x.role ≡ Primary → x.covered ≤ length x.log
-  -- a node that replays has replayed no more than it holds, and what is left are the next entries of a recorded run
+  -- a node that replays has replayed no more than it holds, and the rest are the next entries of a recorded run
   pub replayed : Replaying x.role → x.replayed ≤ length x.held
   pub on_trace : Replaying x.role → IsOnTrace M x.machine (drop x.replayed x.held)

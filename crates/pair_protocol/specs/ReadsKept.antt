@@ -1,5 +1,5 @@
 -- Reads kept: no read that is still to be replayed finds its bytes overwritten. No entry counts as a read yet, so this
--- says nothing of today's logs: it takes effect with the first entry that does.
+-- says nothing about today's logs; it takes effect with the first entry that counts as one.
 use Rattle.std.specs.Prelude.{◌≡◌, ℕ, ◌≤◌, ◌⊎◌, true, Some, None, List, ◌++◌, take, slice_get}
 use Rattle.guest_board.specs.Machine.{Machine, Move}
 use Rattle.log_entry.specs.Entries.{inputs_of}
@@ -19,7 +19,7 @@ pub record StillReplays {S : Type 0} (w : World S) (n : ℕ) (x : Node S) : Type
   pub highest_is : x.generation ≡ highest w.nodes
   pub who : ((x.role ≡ Backup) × (winner_in w.winners x.generation ≡ None)) ⊎ (x.role ≡ Draining)
 
--- of each read that such a node holds and has not replayed, the disk's record of that sector has the read's number; the
+-- for each read that such a node holds and has not replayed, the disk's record of the sector has the read's number; the
 -- trace up to the read gives the track
 pub record ReadsKept {S : Type 0} (M : Machine S) (w : World S) : Type 0 where
   pub kept : (n : ℕ) (x : Node S) → StillReplays w n x → (k count drive sector number : ℕ) (bytes : List ℕ) →
@@ -28,7 +28,7 @@ pub record ReadsKept {S : Type 0} (M : Machine S) (w : World S) : Type 0 where
       (moves : List Move) (r : Reach M (x.copy ++ inputs_of (take k x.held)) count moves) →
       (sector_record M w.puts (M.address r.last drive sector)).number ≡ number
 
--- so in every world that actions reach
+-- so it is in every world that actions reach
 abbrev pub ReachedKeepsReads : (S : Type 0) → Type 0
 ReachedKeepsReads S =
     (M : Machine S) (C : Copying S) → Lawful M → IsCopying M C → (w : World S) → Reached M C w → ReadsKept M w

@@ -16,7 +16,7 @@ use Rattle.pair_protocol.specs.Node.{Node, Role, Primary, Backup, Joining, Drain
 use Rattle.pair_protocol.specs.World.{World, Message, LogEntry, Acknowledgement, ImagePart, Released, WriteDone, SectorRead, terminal, accepted, winner_in}
 use Rattle.pair_protocol.specs.Event.{Event, Step, TypeByte, TakeKey, Send, DeliverLog, Ack, DeliverAck, Replay, Release, Arrive, TellSent, Told, Stop, Suspect, Drain, Put, PutReply, Get, GetReply, BeginPair, SendPart, PartComes}
 
--- a fault where something stands in the way
+-- a fault if the condition holds
 abbrev pub fault_if : Bool → Fault → Option Fault
 fault_if stands fault = if stands then Some fault else None
 
@@ -28,18 +28,18 @@ first_of (Some fault ∷ rest) = Some fault
 
 -- ---- the node's part
 
--- it is halted, or in none of the roles
+-- the node is halted, or has none of the roles
 abbrev pub role_refusal : {S : Type 0} → List Role → Node S → Option Fault
 role_refusal roles x = fault_if (not (acts_as x roles)) WrongRole
 
 abbrev pub serves : {S : Type 0} → Node S → Option Fault
 serves x = role_refusal (Primary ∷ Alone ∷ []) x
 
--- how many entries the log takes beyond those acknowledged
+-- how many entries a log takes past the acknowledged ones
 abbrev pub log_size : ℕ
 log_size = 256
 
--- a primary takes nothing where its log is full, or the indexes of its entries are spent
+-- a primary takes nothing if its log is full, or if no index is left for an entry
 abbrev pub log_full : {S : Type 0} → Node S → Option Fault
 log_full x = fault_if (is_role x.role Primary && nat_le log_size (length x.log - x.covered)) LogFull
 
@@ -56,7 +56,7 @@ step_refusal M (suc turns) x =
     (serves x ∷ log_full x ∷ log_spent x ∷ fault_if (M.is_spent x.machine) Spent
     ∷ fault_if (is_none (M.step x.machine)) Idle ∷ [])
 
--- the number of keys that a port may take is spent
+-- no number is left for a key of the port
 abbrev pub keys_spent : {S : Type 0} → Machine S → ℕ → Node S → Option Fault
 keys_spent M port x = fault_if (nat_le top (M.keys x.machine port)) Spent
 
@@ -66,7 +66,7 @@ key_refusal M port index x =
     (serves x ∷ fault_if (not (index == M.keys x.machine port)) WrongNumber ∷ log_full x ∷ log_spent x
     ∷ keys_spent M port x ∷ [])
 
--- the number of the byte whose acceptance is due
+-- this is the number of the byte whose acceptance is due
 abbrev pub is_number : Option ℕ → ℕ → Bool
 is_number None number = false
 is_number (Some k) number = k == number
@@ -81,7 +81,7 @@ abbrev pub done_refusal : {S : Type 0} → Machine S → ℕ → Node S → Opti
 done_refusal M number x =
     first_of (serves x ∷ refusal_of M x.machine (input.Written number) ∷ log_full x ∷ log_spent x ∷ [])
 
--- a sector that was read comes: not where the node's drive or track is another by now
+-- a sector that was read arrives; it is refused if the node's drive or track is another by now
 abbrev pub under_refusal : {S : Type 0} → Machine S → SectorAddress → ℕ → List ℕ → Node S → Option Fault
 under_refusal M address number bytes x =
     first_of
@@ -127,7 +127,7 @@ suspect_refusal x = first_of (fault_if (not x.running) WrongRole ∷ fault_if (i
 abbrev pub drain_refusal : {S : Type 0} → Node S → Option Fault
 drain_refusal x = role_refusal (Draining ∷ []) x
 
--- a sector is read at the drive that is selected
+-- a sector is read at the selected drive
 abbrev pub place_refusal : {S : Type 0} → Machine S → Node S → Option Fault
 place_refusal M x = first_of (serves x ∷ fault_if (is_none (M.selected x.machine)) NotDue ∷ [])
 
@@ -139,7 +139,7 @@ abbrev pub begin_refusal : {S : Type 0} → Node S → Option Fault
 begin_refusal x =
     first_of (role_refusal (Alone ∷ []) x ∷ fault_if (nat_le last_generation x.generation) Spent ∷ [])
 
--- only a primary has an image, until its generation's first acknowledgement
+-- only a primary has an image, until the first acknowledgement of its generation
 abbrev pub has_part : {S : Type 0} → Copying S → Option S → ℕ → Bool
 has_part C None index = false
 has_part C (Some s) index = not (is_none (slice_get (C.parts s) index))
@@ -152,12 +152,12 @@ part_refusal generation x = first_of (role_refusal (Joining ∷ []) x ∷ genera
 
 -- ---- the world's part
 
--- the node's part at the node of a number; a spare host is no node
+-- the node's part, for the node of a number; a spare host is no node
 abbrev pub at_node : {S : Type 0} → Option (Node S) → (Node S → Option Fault) → Option Fault
 at_node None part = Some Unknown
 at_node (Some x) part = if is_role x.role Spare then Some Unknown else part x
 
--- what a message brings to a node; one of another kind is unknown
+-- what a message brings to a node; a message of another kind is unknown
 abbrev pub at_log : {S : Type 0} → Option (Node S) → Option Message → Option Fault
 at_log here (Some (LogEntry generation index e)) = at_node here (log_refusal generation)
 at_log here _ = Some Unknown
@@ -178,7 +178,7 @@ abbrev pub at_part : {S : Type 0} → Option (Node S) → Option Message → Opt
 at_part here (Some (ImagePart generation index part)) = at_node here (part_refusal generation)
 at_part here _ = Some Unknown
 
--- a byte was released, or a write
+-- the message releases a byte, or a write
 abbrev pub byte_refusal : Option Message → Option Fault
 byte_refusal (Some (Released (Byte port number byte))) = None
 byte_refusal _ = Some Unknown
@@ -195,7 +195,7 @@ abbrev pub no_such : {S : Type 0} → World S → OpId → Option Fault
 no_such w (id.Byte port number) = no_port w port
 no_such w (id.Write number) = None
 
--- no such key was typed, and no such byte was accepted
+-- no such key was typed; no such byte was accepted
 abbrev pub not_typed : {S : Type 0} → World S → ℕ → ℕ → Option Fault
 not_typed w port index = fault_if (is_none (slice_get (terminal w port).typed index)) Unknown
 

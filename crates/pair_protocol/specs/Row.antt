@@ -1,4 +1,4 @@
--- One row: an event, its reply or refusal, and the world then. And whole runs.
+-- One row: an event, its reply or refusal, and the world after it. And whole runs.
 use Rattle.std.specs.Prelude.{◌≡◌, ℕ, ◌<◌, IsTrue, Some, None, length, List, [], ◌∷◌, slice_get}
 use Rattle.guest_board.specs.Machine.{Machine}
 use Rattle.i8080_words.specs.declared.refusal.Fault.{Fault}
@@ -11,7 +11,7 @@ use Rattle.pair_protocol.specs.Event.{Event, Step, DeliverLog, DeliverAck, Repla
 use Rattle.pair_protocol.specs.Refusals.{refusal}
 use Rattle.pair_protocol.specs.Rows.{Does, IsBehind}
 
--- ---- which events may want memory
+-- ---- which events may need memory
 
 -- a packet brings the entry that its node holds next
 pub record BringsNext {S : Type 0} (w : World S) (m n : ℕ) : Type 0 where
@@ -23,7 +23,7 @@ pub record BringsNext {S : Type 0} (w : World S) (m n : ℕ) : Type 0 where
   pub message : slice_get w.messages m ≡ Some (LogEntry generation index e)
   pub next : index ≡ length x.held
 
--- a node is to make moves, and the first is a step
+-- a node is to make moves, and the first one is a step
 pub record StepsFirst {S : Type 0} (M : Machine S) (w : World S) (n turns : ℕ) : Type 0 where
   pub some : 0 < turns
   pub x : Node S
@@ -36,8 +36,8 @@ pub record AsksFirst {S : Type 0} (w : World S) (n : ℕ) : Type 0 where
   pub there : slice_get w.nodes n ≡ Some x
   pub nobody : winner_in w.winners x.generation ≡ None
 
--- what holds if an event wants memory: no turns want none, and neither do moves of which the first is no step, a repeat
--- or a packet past a gap, and a winner that asks again
+-- what holds if an event is answered with out of memory: no turns need no memory, and neither do moves whose first is
+-- not a step, a repeat or a packet past a gap, and a winner that asks again
 abbrev pub MayWantMemory : {S : Type 0} → Machine S → World S → Event → Type 0
 MayWantMemory M w (Step n turns) = 0 < turns
 MayWantMemory M w (DeliverLog m n) = BringsNext w m n
@@ -57,7 +57,7 @@ pub record Halts {S : Type 0} (w : World S) (n : ℕ) (new : World S) : Type 0 w
   pub there : slice_get w.nodes n ≡ Some x
   pub after : new ≡ with_node w n (halts x)
 
--- every other refused event leaves the world as it was
+-- any other refused event leaves the world as it was
 abbrev pub Leaves : {S : Type 0} → World S → Event → Fault → World S → Type 0
 Leaves w (Suspect n) Lost new = Halts w n new
 Leaves w e fault new = new ≡ w
@@ -68,10 +68,10 @@ pub data Row {S : Type 0} (M : Machine S) (C : Copying S) (w : World S) (e : Eve
       Row M C w e (Refused fault) new
   -- the disk failed
   DeviceFails : refusal M C w e ≡ None → IsTrue (is_disk e) → Row M C w e (Refused DeviceFault) w
-  -- a growth was refused
+  -- an allocation was refused
   WantsMemory : refusal M C w e ≡ None → MayWantMemory M w e → Row M C w e (Refused OutOfMemory) w
 
--- a whole run: one reply for each event, and hosts may come at any time
+-- a whole run: one reply for each event; hosts may come at any time
 pub data Run {S : Type 0} (M : Machine S) (C : Copying S) : World S → List Event → List Reply → World S → Type 0 where
   Nothing : {w : World S} → Run M C w [] [] w
   First : {w mid new : World S} {e : Event} {events : List Event} {r : Reply} {replies : List Reply} →

@@ -1,4 +1,4 @@
--- What an event does that is not refused: the old world, the reply and the new world, one relation for each row.
+-- What an event that is not refused does: the old world, the reply and the new world, one relation for each row.
 use Rattle.std.specs.Prelude.{◌≡◌, ◌≢◌, ℕ, suc, ◌≤◌, ◌<◌, Bool, true, false, ◌==◌, nat_lt, if◌then◌else◌, ◌⊎◌, Option, Some, None, is_none, List, length, slice_get}
 use Rattle.disk_dcdd.specs.declared.address.SectorAddress.{SectorAddress}
 use Rattle.disk_dcdd.specs.declared.sector.SectorWrite.{SectorWrite}
@@ -18,7 +18,7 @@ use Rattle.pair_protocol.specs.Event.{Event, Step, TypeByte, TakeKey, Send, Deli
 
 -- ---- moves of a machine
 
--- a step and an input at a primary or alone node
+-- a step, and an input, at a primary or alone node
 abbrev pub stepped : {S : Type 0} → Machine S → Node S → Role → S → Option Operation → Node S
 stepped M x Primary s gives = primary_steps M x s gives
 stepped M x Alone s gives = plainly_steps x s
@@ -35,13 +35,13 @@ took M x Joining s i = x
 took M x Draining s i = x
 took M x Spare s i = x
 
--- x makes some of at most so many steps, up to the first that gives an operation, and is y then
+-- x makes at most this many steps, up to the first that gives an operation, and is then y
 pub data Advances {S : Type 0} (M : Machine S) : Node S → ℕ → Node S → ℕ → Why → Type 0 where
   NoneLeft : {x : Node S} → Advances M x 0 x 0 Turns
   Ends : {x : Node S} {turns : ℕ} → M.is_spent x.machine ≡ true → Advances M x (suc turns) x 0 IsSpent
   Waits : {x : Node S} {turns : ℕ} → M.is_spent x.machine ≡ false → M.step x.machine ≡ None →
       Advances M x (suc turns) x 0 Idles
-  -- a step that nothing refuses wants memory
+  -- a step that nothing else refuses is out of memory
   Short : {x : Node S} {turns : ℕ} → M.is_spent x.machine ≡ false → is_none (M.step x.machine) ≡ false →
       Advances M x (suc turns) x 0 Memory
   Gives : {x : Node S} {turns : ℕ} (s : S) (o : Operation) → M.step x.machine ≡ Some (s, Some o) →
@@ -49,17 +49,17 @@ pub data Advances {S : Type 0} (M : Machine S) : Node S → ℕ → Node S → �
   Goes : {x y : Node S} {turns made : ℕ} {why : Why} (s : S) → M.step x.machine ≡ Some (s, None) →
       Advances M (stepped M x x.role s None) turns y made why → Advances M x (suc turns) y (suc made) why
 
--- its next move is a step: the entry that comes next is at a later count
+-- its next move is a step: the next entry is at a later count
 pub record IsBehind {S : Type 0} (M : Machine S) (x : Node S) : Type 0 where
   pub next : Entry
   pub held : slice_get x.held x.replayed ≡ Some next
   pub later : M.count x.machine < count_of next
 
--- x makes some of at most so many moves of what it holds, and is y then
+-- x makes at most this many moves of what it holds, and is then y
 pub data Replays {S : Type 0} (M : Machine S) : Node S → ℕ → Node S → ℕ → Type 0 where
   NoTurns : {x : Node S} → Replays M x 0 x 0
   AtEnd : {x : Node S} {turns : ℕ} → x.replayed ≡ length x.held → Replays M x (suc turns) x 0
-  -- a step wants memory, and no other move does
+  -- a step is out of memory; no other move needs any
   NoMemory : {x : Node S} {turns : ℕ} → IsBehind M x → Replays M x (suc turns) x 0
   OneStep : {x y : Node S} {turns made : ℕ} (e : Entry) (s : S) (gives : Option Operation) →
       slice_get x.held x.replayed ≡ Some e → M.count x.machine < count_of e → M.step x.machine ≡ Some (s, gives) →
@@ -72,7 +72,7 @@ pub data Replays {S : Type 0} (M : Machine S) : Node S → ℕ → Node S → �
       M.take x.machine i ≡ Some s →
       Replays M (passes_input x s) turns y made → Replays M x (suc turns) y (suc made)
 
--- no move is made only where none was asked for, or none was left
+-- no move is made only if none was asked for, or none was left
 abbrev pub MovesSome : {S : Type 0} → Node S → ℕ → ℕ → Type 0
 MovesSome x turns made = (1 ≤ made) ⊎ (turns ≡ 0) ⊎ (x.replayed ≡ length x.held)
 
@@ -125,7 +125,7 @@ pub record Sends {S : Type 0} (w : World S) (n index : ℕ) (r : Reply) (new : W
   pub entry : slice_get x.log index ≡ Some e
   pub says : Says w (LogEntry x.generation index e) r new
 
--- a backup holds the entry that comes next; a repeat, or one past a gap, changes nothing
+-- a backup holds the next entry; a repeat, or an entry past a gap, changes nothing
 pub record Delivers {S : Type 0} (w : World S) (m n : ℕ) (r : Reply) (new : World S) : Type 0 where
   pub x : Node S
   pub there : slice_get w.nodes n ≡ Some x
@@ -170,7 +170,7 @@ pub record Releases {S : Type 0} (M : Machine S) (w : World S) (n : ℕ) (name :
   pub outstanding : M.find x.machine name ≡ Some o
   pub says : Says w (Released o) r new
 
--- a byte arrives: it is accepted where it comes next, else dropped
+-- a byte arrives: it is accepted if it is the next one, and dropped if not
 pub record Arrives {S : Type 0} (w : World S) (m : ℕ) (r : Reply) (new : World S) : Type 0 where
   pub port : ℕ
   pub number : ℕ
@@ -191,7 +191,7 @@ pub record Stops {S : Type 0} (w : World S) (n : ℕ) (r : Reply) (new : World S
   pub reply : r ≡ Stopped
   pub after : new ≡ with_node w n (halts x)
 
--- the first node of a generation that asks has won it; a winner that asks again changes nothing
+-- the first node of a generation to ask has won it; a winner that asks again changes nothing
 pub record Asks {S : Type 0} (w : World S) (n : ℕ) (r : Reply) (new : World S) : Type 0 where
   pub x : Node S
   pub there : slice_get w.nodes n ≡ Some x
@@ -200,7 +200,7 @@ pub record Asks {S : Type 0} (w : World S) (n : ℕ) (r : Reply) (new : World S)
       ((winner_in w.winners x.generation ≡ None) × (new ≡ with_winner w n x))
       ⊎ ((winner_in w.winners x.generation ≡ Some n) × (new ≡ w))
 
--- a node that won replays what it holds, and goes live once nothing of it is left
+-- a node that won replays what it holds, and goes live once none of it is left
 abbrev pub after_drain : {S : Type 0} → Node S → Bool → Node S
 after_drain y false = y
 after_drain y true = goes_live y
@@ -264,7 +264,7 @@ pub record SendsPart {S : Type 0} (C : Copying S) (w : World S) (n index : ℕ) 
   pub is_part : slice_get (C.parts s) index ≡ Some part
   pub says : Says w (ImagePart x.generation index part) r new
 
--- a part that came before changes nothing; the last missing one makes the node the backup
+-- a part that arrived before changes nothing; the last missing one makes the node the backup
 pub data PartDoes {S : Type 0} (C : Copying S) (w : World S) (n : ℕ) (x : Node S) (index : ℕ)
     (part : List ℕ) : Reply → World S → Type 0 where
   Again : {before : List ℕ} → slice_get x.parts index ≡ Some (Some before) → PartDoes C w n x index part Old w

@@ -6,7 +6,7 @@ use Rattle.plain_single.specs.declared.timed.Timed.{Timed}
 use Rattle.pair_protocol.specs.Node.{Node, Role, Primary, Backup, Joining, Draining, Alone, Spare}
 use Rattle.pair_protocol.specs.World.{World, winner_in}
 
--- the list of a node: all its inputs, or those that it began with and those that it holds
+-- the list of a node: all its inputs, or those that it began with and those of the entries that it holds
 abbrev pub list_of : {S : Type 0} → Node S → Role → List Timed
 list_of x Primary = x.list
 list_of x Alone = x.list
@@ -15,7 +15,7 @@ list_of x Draining = x.copy ++ inputs_of x.held
 list_of x Joining = x.copy ++ inputs_of x.held
 list_of x Spare = []
 
--- the count of a node: its machine's, or that of the last entry that it holds
+-- the count of a node: its machine's, or the count of the last entry that it holds
 abbrev pub count_in : {S : Type 0} → Machine S → Node S → Role → ℕ
 count_in M x Primary = M.count x.machine
 count_in M x Alone = M.count x.machine
@@ -29,7 +29,7 @@ abbrev pub highest : {S : Type 0} → List (Node S) → ℕ
 highest [] = 0
 highest (x ∷ nodes) = max x.generation (highest nodes)
 
--- a backup, or a node that is to be it
+-- a backup, or a node that is about to be one
 abbrev pub is_backup : Role → Bool
 is_backup Backup = true
 is_backup Joining = true
@@ -38,7 +38,7 @@ is_backup Draining = false
 is_backup Alone = false
 is_backup Spare = false
 
--- the node that settles: of the highest generation the winner, or the backup where nobody has won
+-- the node that settles: in the highest generation the winner, or the backup if nobody has won
 pub record Settles {S : Type 0} (w : World S) (n : ℕ) (x : Node S) : Type 0 where
   pub there : slice_get w.nodes n ≡ Some x
   pub highest_is : x.generation ≡ highest w.nodes

@@ -9,7 +9,7 @@ use Rattle.pair_protocol.specs.Event.{Suspect, Reply, Won, Refused}
 use Rattle.pair_protocol.specs.Refusals.{refusal}
 use Rattle.pair_protocol.specs.Row.{Row}
 
--- a node that may win: nobody has won its generation; it is up, and whole
+-- a node that may win: nobody has won its generation, and it is up and whole
 pub record MayWin {S : Type 0} (w : World S) (n : ℕ) (x : Node S) : Type 0 where
   pub there : slice_get w.nodes n ≡ Some x
   pub up : x.running ≡ true

@@ -1,11 +1,11 @@
--- Facts of traces alone, for the layers above: one trace for each list and count, and what its first entries give.
+-- Facts about traces alone, for the layers above: one trace for each list and count, and what its first entries give.
 use Rattle.std.specs.Prelude.{◌≡◌, ℕ, zero, suc, ◌≤◌, Some, None, List, [], ◌∷◌, length, take, replicate}
 use Rattle.guest_board.specs.Machine.{Machine, Move, Do, Take, Runs}
 use Rattle.log_entry.specs.Entries.{entries, inputs_of, last_count}
 use Rattle.plain_single.specs.Reach.{steps, Reach}
 use Rattle.plain_single.specs.declared.timed.Timed.{Timed}
 
--- the moves up to the entry of a number
+-- the moves up to the entry with a number
 abbrev pub cut : ℕ → List Move → List Move
 cut zero moves = []
 cut (suc n) [] = []
@@ -13,11 +13,11 @@ cut (suc n) (Do None ∷ moves) = Do None ∷ cut (suc n) moves
 cut (suc n) (Do (Some operation) ∷ moves) = Do (Some operation) ∷ cut n moves
 cut (suc n) (Take i ∷ moves) = Take i ∷ cut n moves
 
--- so many steps that give no operation
+-- this many steps that give no operation
 abbrev pub quiet : ℕ → List Move
 quiet k = replicate k (Do None)
 
--- a list and a count have one trace, and a trace ends at one state
+-- a list and a count have one trace, and a trace ends in one state
 abbrev pub OneTrace : (S : Type 0) → Type 0
 OneTrace S =
     (M : Machine S) (list : List Timed) (count : ℕ) (moves others : List Move) →
@@ -26,7 +26,7 @@ OneTrace S =
 abbrev pub OneEnd : (S : Type 0) → Type 0
 OneEnd S = (M : Machine S) (s t u : S) (moves : List Move) → Runs M s moves t → Runs M s moves u → t ≡ u
 
--- the first entries of a trace are those of its moves up to there, which end at the count of the last of them
+-- the first entries of a trace are those of its moves up to there, which end at the count of the last of those entries
 abbrev pub FirstEntries : (S : Type 0) → Type 0
 FirstEntries S =
     (M : Machine S) (list : List Timed) (count n : ℕ) (moves : List Move) →

@@ -1,4 +1,4 @@
--- Which events are never refused for want of memory, and where a replay may stop for it.
+-- Which events are never refused as out of memory, and where a replay may stop for lack of it.
 use Rattle.std.specs.Prelude.{◌≡◌, ◌≢◌, ℕ, ◌<◌, ◌⊎◌, Some, length, slice_get}
 use Rattle.guest_board.specs.Machine.{Machine}
 use Rattle.i8080_words.specs.declared.refusal.Fault.TheVariants.{OutOfMemory}
@@ -11,7 +11,7 @@ use Rattle.pair_protocol.specs.Event.{Event, Step, DeliverLog, Replay, Suspect, 
 use Rattle.pair_protocol.specs.Rows.{IsBehind, Replays}
 use Rattle.pair_protocol.specs.Row.{Row}
 
--- an event is not answered that there is no memory
+-- an event is never answered with out of memory
 abbrev pub WantsNone : {S : Type 0} → Machine S → Copying S → World S → Event → Type 0
 WantsNone {S} M C w e = (new : World S) (r : Reply) → Row M C w e r new → r ≢ Refused OutOfMemory
 
@@ -21,13 +21,13 @@ NoTurnsWantNone S =
     (M : Machine S) (C : Copying S) (w : World S) (n : ℕ) →
     WantsNone M C w (Step n 0) × WantsNone M C w (Replay n 0) × WantsNone M C w (Drain n 0)
 
--- a replay or a drain of which the first move is no step
+-- a replay or a drain whose first move is not a step
 abbrev pub OtherMovesWantNone : (S : Type 0) → Type 0
 OtherMovesWantNone S =
     (M : Machine S) (C : Copying S) (w : World S) (n turns : ℕ) (x : Node S) → slice_get w.nodes n ≡ Some x →
     (IsBehind M x → ⊥) → WantsNone M C w (Replay n turns) × WantsNone M C w (Drain n turns)
 
--- a packet that is a repeat, or past a gap
+-- a packet that is a repeat or past a gap
 abbrev pub OtherEntriesWantNone : (S : Type 0) → Type 0
 OtherEntriesWantNone S =
     (M : Machine S) (C : Copying S) (w : World S) (m n generation index : ℕ) (e : Entry) (x : Node S) →
@@ -40,7 +40,7 @@ WinnersWantNone S =
     (M : Machine S) (C : Copying S) (w : World S) (n : ℕ) (x : Node S) → slice_get w.nodes n ≡ Some x →
     winner_in w.winners x.generation ≡ Some n → WantsNone M C w (Suspect n)
 
--- moves end if all are made that were asked for, if nothing is left, or if the next one is a step
+-- moves end if all that were asked for are made, if nothing is left, or if the next one is a step
 abbrev pub StopsAtSteps : (S : Type 0) → Type 0
 StopsAtSteps S =
     (M : Machine S) (x y : Node S) (turns made : ℕ) → Replays M x turns y made →

@@ -9,17 +9,17 @@ use Rattle.log_entry.specs.declared.entry.Entry.{Entry}
 use Rattle.pair_protocol.specs.Copying.{Copying}
 use Rattle.pair_protocol.specs.Node.{Node, Primary, Backup, first_node, spare, begun, joiner, wins}
 
--- What was sent. A link loses, repeats and reorders messages, and alters none.
+-- what was sent; a link loses, repeats and reorders messages, and alters none
 pub data Message : Type 0 where
   -- a log entry of a generation, with its index
   LogEntry : (generation index : ℕ) (entry : Entry) → Message
-  -- a backup of a generation holds this many entries, and has replayed at least so many of them
+  -- a backup of a generation holds this many entries, and has replayed at least this many of them
   Acknowledgement : (generation held replayed : ℕ) → Message
   -- a part of the image that a generation began with
   ImagePart : (generation index : ℕ) (part : List ℕ) → Message
   -- an operation that a node released
   Released : (operation : Operation) → Message
-  -- the disk's answers: a write is done, a sector was read
+  -- the disk's answers: a write is done; a sector was read
   WriteDone : (number : ℕ) → Message
   SectorRead : (address : SectorAddress) (number : ℕ) (bytes : List ℕ) → Message
 
@@ -28,13 +28,13 @@ pub record Arrival : Type 0 where
   pub number : ℕ
   pub byte : ℕ
 
--- a terminal: all arrivals, all bytes typed, and how many of them it was told are covered
+-- a terminal: all arrivals, all bytes typed, and how many of the latter it was told are covered
 pub record Terminal : Type 0 where
   pub arrivals : List Arrival
   pub typed : List ℕ
   pub told : ℕ
 
--- the first node of a generation that asked the arbiter
+-- the first node of a generation to ask the arbiter
 pub record Winner : Type 0 where
   pub generation : ℕ
   pub node : ℕ
@@ -58,7 +58,7 @@ terminal_in terminals port = slice_index_or terminals port no_terminal
 abbrev pub terminal : {S : Type 0} → World S → ℕ → Terminal
 terminal w port = terminal_in w.terminals port
 
--- the bytes accepted after n of them: byte n + 1 where it first arrives, and then the next
+-- the bytes accepted after the first n: byte n + 1 at its first arrival, and then the next
 abbrev pub accepted_after : ℕ → List Arrival → List ℕ
 accepted_after n [] = []
 accepted_after n (a ∷ arrivals) =
@@ -78,12 +78,12 @@ winner_in [] generation = None
 winner_in (a ∷ winners) generation =
     if generation == a.generation then Some a.node else winner_in winners generation
 
--- what the disk keeps of a sector
+-- what the disk keeps for a sector
 pub record SectorRecord : Type 0 where
   pub number : ℕ
   pub bytes : List ℕ
 
--- a write replaces the record of its sector where its number is greater
+-- a write replaces the record of its sector if its number is greater
 abbrev pub record_after : SectorRecord → SectorWrite → SectorAddress → SectorRecord
 record_after r write address =
     if same_address (address_of write) address
@@ -94,7 +94,7 @@ abbrev pub latest : SectorRecord → List SectorWrite → SectorAddress → Sect
 latest r [] address = r
 latest r (write ∷ puts) address = latest (record_after r write address) puts address
 
--- what the disk has of a sector after these writes arrived
+-- what the disk has for a sector after these writes arrived
 abbrev pub sector_record : {S : Type 0} → Machine S → List SectorWrite → SectorAddress → SectorRecord
 sector_record M puts address = latest (record { number = 0; bytes = M.boot_sector address }) puts address
 
@@ -120,7 +120,7 @@ with_message w message = record w { messages = w.messages ++ message ∷ [] }
 abbrev pub with_terminal : {S : Type 0} → World S → ℕ → Terminal → World S
 with_terminal w port t = record w { terminals = slice_set w.terminals port t }
 
--- a byte is typed, a byte arrives, and a terminal is told that keys are covered
+-- a byte is typed, a byte arrives, a terminal is told that keys are covered
 abbrev pub with_key : {S : Type 0} → World S → ℕ → ℕ → World S
 with_key w port byte =
     with_terminal w port (record (terminal w port) { typed = (terminal w port).typed ++ byte ∷ [] })

@@ -1,4 +1,5 @@
-//! The protocol of a pair: worlds, events, what a faithful world is, and the law that every event keeps it. No code.
+//! The protocol of a pair: worlds, events, what a faithful world is, and the law that every event keeps a world
+//! faithful. No code.
 #![tactic(auto)]
 
 mod laws;

@@ -1,4 +1,4 @@
--- The law is that of the invariant.
+-- The invariant gives the law.
 use Rattle.pair_protocol.proofs.Runs.{always_faithful}
 use Rattle.pair_protocol.proofs.laws.actions_are_faithful.Goals as goal
 

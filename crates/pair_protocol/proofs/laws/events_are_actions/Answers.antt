@@ -1,4 +1,4 @@
--- Each law is one of rows or of runs.
+-- Each law is about rows or about runs.
 use Rattle.pair_protocol.proofs.RowActions.{row_changes}
 use Rattle.pair_protocol.proofs.Runs.{changes_reach, run_reaches}
 use Rattle.pair_protocol.proofs.laws.events_are_actions.Goals as goal

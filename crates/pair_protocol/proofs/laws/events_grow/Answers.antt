@@ -1,4 +1,4 @@
--- Both laws are one of a single event.
+-- Both laws are about a single event.
 use Rattle.pair_protocol.proofs.Growth.{row_grows}
 use Rattle.pair_protocol.proofs.Runs.{run_reaches}
 use Rattle.pair_protocol.proofs.laws.events_grow.Goals as goal

@@ -1,4 +1,4 @@
--- The law is that of the invariant.
+-- The invariant gives the law.
 use Rattle.pair_protocol.proofs.Given.{joining_is_given}
 use Rattle.pair_protocol.proofs.laws.joining_nodes_are_given.Goals as goal
 

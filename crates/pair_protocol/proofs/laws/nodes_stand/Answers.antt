@@ -1,4 +1,4 @@
--- The law is that of the invariant.
+-- The invariant gives the law.
 use Rattle.pair_protocol.proofs.NodeStands.{nodes_stand}
 use Rattle.pair_protocol.proofs.laws.nodes_stand.Goals as goal
 

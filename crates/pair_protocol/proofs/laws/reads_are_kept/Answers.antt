@@ -1,4 +1,4 @@
--- The law is that of the invariant.
+-- The invariant gives the law.
 use Rattle.pair_protocol.proofs.ReadsKept.{reached_keeps_reads}
 use Rattle.pair_protocol.proofs.laws.reads_are_kept.Goals as goal
 

@@ -1,4 +1,4 @@
--- No refusal is want of memory, and these events may want none.
+-- No refusal is out of memory, and these events need no memory.
 use Rattle.pair_protocol.proofs.Wanting.{no_turns, other_entries, other_moves, stops_at_steps, winners}
 use Rattle.pair_protocol.proofs.laws.some_events_want_no_memory.Goals as goal
 

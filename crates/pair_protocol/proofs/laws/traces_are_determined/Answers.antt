@@ -1,4 +1,4 @@
--- Each law is one of traces.
+-- Each law is about traces.
 use Rattle.pair_protocol.proofs.Traces.{one_trace, one_end, first_entries, quiet_moves, quiet_entries}
 use Rattle.pair_protocol.proofs.laws.traces_are_determined.Goals as goal
 
