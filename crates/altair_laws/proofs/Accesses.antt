@@ -1,5 +1,5 @@
--- The accesses of a step: bytes written to memory alone, or one read of a port, or one write of a port. By cases of
--- the instruction, and of the condition that it may have.
+-- The accesses of a step: only writes to memory, or one read of a port, or one write of a port. By cases on the
+-- instruction, and on its condition if it has one.
 use Rattle.std.proofs.Common.{ℕ, ◌+◌, Bool, true, false, cond, List, [], ◌∷◌, Option, Some, None}
 use Rattle.i8080_words.specs.Arithmetic.{wrapped}
 use Rattle.i8080_words.specs.Opcodes.{opcode, size_of}

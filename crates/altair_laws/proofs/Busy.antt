@@ -1,4 +1,4 @@
--- An Altair's sector is busy while a write to it is outstanding: the controller waits for each outstanding write.
+-- A sector of an Altair is busy while a write to it is outstanding: the controller waits for each outstanding write.
 use Rattle.std.proofs.Common.{◌≡◌, ℕ, Bool, true, false, List, [], ◌∷◌, inl, inr, refl, sym, ap, ◌∙◌}
 use Rattle.std.specs.Prelude.{◌||◌}
 use Rattle.std.specs.List.{list_any}

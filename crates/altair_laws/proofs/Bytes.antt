@@ -1,6 +1,6 @@
--- The bytes of a trace. At each port as many were sent as its output has, and of those the ones that no input accepts
--- are unaccepted, 16 at most. So bytes are numbered from 1, and the one that is accepted next is the oldest that is
--- not.
+-- The bytes of a trace. At each port as many were sent as its output has, and those of them that no input accepts are
+-- unaccepted, 16 at most. So bytes are numbered from 1, and the next one to be accepted is the oldest that is not
+-- accepted.
 use Rattle.std.proofs.Common.{◌≡◌, ◌≢◌, ℕ, zero, suc, ◌+◌, ◌-◌, ◌≤◌, ◌<◌, Bool, true, false, cond, List, [], ◌∷◌, ◌++◌, length, Option, Some, None, ◌⊎◌, inl, inr, refl, sym, ap, ◌∙◌, subst, arith}
 use Rattle.std.specs.Prelude.{slice_index, slice_index_or, slice_set, nat_lt, ◌==◌, ◌&&◌}
 use Rattle.std.proofs.lemmas.Bool.{ltb-true, lt-ltb, and_parts, cases_lt}
@@ -74,7 +74,7 @@ bytes-still moves m g u b no_output no_acceptance i ports unaccepted = record {
 abbrev sends : Guest → ℕ → ℕ → Move
 sends g port byte = Do (Some (Byte port (slice_index g.issued port + 1) byte))
 
--- the window has one byte more
+-- the window has one more byte
 pub sent-more : (port : serial.Port) → port.unaccepted < serial.window
     → (serial.after_data_out port).unaccepted ≡ port.unaccepted + 1
 sent-more port l =

@@ -1,6 +1,6 @@
--- OUT 09h and OUT 0Ah are calm too, but for the byte that issues a write. A command leaves the sector under the head
--- only where the head does not move, and then the drive keeps its track; and the last byte of a sector is not kept,
--- since it issues the write or is lost.
+-- OUT 09h and OUT 0Ah are calm too, except for the byte that issues a write. A command leaves the sector under the head
+-- only if the head does not move, and then the drive keeps its track; and the last byte of a sector is not kept, since
+-- it issues the write or is lost.
 use Rattle.std.proofs.Common.{◌≡◌, ℕ, ◌+◌, ◌<◌, Bool, true, false, cond, length, Option, Some, None, refl, sym, ap, ◌∙◌, subst, arith}
 use Rattle.std.specs.Prelude.{IfSome, All, ◌&&◌, ◌||◌, ◌==◌, not, nat_lt, slice_set}
 use Rattle.std.specs.List.{list_any}
@@ -45,7 +45,7 @@ no_or : (a b : Bool) → (a || b) ≡ false → (a ≡ false) × (b ≡ false)
 no_or true b e = (cc)
 no_or false b e = (refl, e)
 
--- where the head does not move, the drive is at most loaded
+-- if the head does not move, the drive is at most loaded
 unmoved : (command : ℕ) (drive : Drive) → moves_head command ≡ false
     → commanded_drive command drive ≡ where_set command HEAD_LOAD loaded drive
 unmoved command drive e =
@@ -92,7 +92,7 @@ commanded-drives d command drive h a = record {
       (sym (drop-set-lt d.attached d.drives drive _ a)) h.drives.unattached;
 }
 
--- a sector that stays under the head does so with the drive as it was
+-- if a sector stays under the head, the drive is as it was
 commanded-over : (d : Drives) (command drive : ℕ) → Stands d → drive < d.attached → d.selected ≡ Some drive
     → (o : Option CurrentSector) → IfSome o (IsOver d)
     → IfSome (commanded_sector command o) (IsOver (commanded d command drive))

@@ -1,4 +1,4 @@
--- The writes of a trace after an input. An input completes one write at most, which is then the last completed one of
+-- The writes of a trace after an input. An input completes at most one write, which is then the last completed one of
 -- its sector; all that is known of the other writes stays. So it holds after every trace from boot.
 use Rattle.std.proofs.Common.{◌≡◌, ℕ, ◌<◌, true, false, cond, List, [], ◌∷◌, ◌++◌, length, Option, Some, None, ◌⊎◌, inl, inr, refl, sym, ap, ◌∙◌, subst, arith}
 use Rattle.std.specs.Prelude.{slice_set, ◌&&◌, not, ◌==◌}

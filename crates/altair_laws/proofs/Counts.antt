@@ -1,4 +1,4 @@
--- The count of a trace is that of its steps, and at each port it has taken the keys that its inputs have.
+-- The count of a trace is the number of its steps, and at each port it has taken the keys that its inputs have.
 use Rattle.std.proofs.Common.{◌≡◌, ℕ, zero, suc, ◌+◌, ◌≤◌, ◌<◌, Bool, true, false, cond, List, [], ◌∷◌, ◌++◌, length, Option, Some, ◌⊎◌, inl, inr, refl, sym, ap, ◌∙◌, subst, arith}
 use Rattle.std.specs.Prelude.{slice_index, slice_set, nat_lt, ◌==◌, ◌&&◌}
 use Rattle.std.proofs.lemmas.Bool.{ltb-true, and_parts, cases_lt}

@@ -1,6 +1,6 @@
--- How the controller stands along a trace. All that a controller says of itself holds, but for the length of the bytes
--- of the sector under the head, which is that of the input that brought it. Most of what the guest does is calm: it
--- issues nothing, completes nothing, and leaves at most the same sector under the head.
+-- What holds of the controller along a trace: all that makes it well-formed, except the length of the sector under the
+-- head, which is that of the input that brought it. Most of what the guest does is calm: it issues nothing, completes
+-- nothing, and leaves at most the same sector under the head.
 use Rattle.std.proofs.Common.{◌≡◌, ℕ, ◌+◌, ◌≤◌, ◌<◌, Bool, true, false, cond, length, Option, Some, None, refl, sym, ap, ◌∙◌, subst, arith}
 use Rattle.std.specs.Prelude.{IsTrue, IfSome, ◌&&◌, ◌==◌, nat_lt}
 use Rattle.std.proofs.lemmas.Bool.{ltb-true, eqb-false}
@@ -17,14 +17,14 @@ use Rattle.disk_dcdd.specs.declared.sector.TheConstants.{SECTORS, SECTOR_BYTES}
 abbrev pub LAST_BYTE : ℕ
 LAST_BYTE = 136
 
--- an unfinished sector stands under the loaded head, and no write of it is outstanding
+-- an unfinished sector is under the loaded head, and no write of it is outstanding
 pub record IsOver (d : Drives) (s : CurrentSector) : Type 0 where
   pub head : IsTrue (is_head_loaded d)
   pub sector : s.sector < SECTORS
   pub unfinished : IsUnfinished s
   pub idle : is_sector_busy d s.sector ≡ false
 
--- how the controller stands
+-- what holds of the controller
 pub record Stands (d : Drives) : Type 0 where
   pub some : 1 ≤ d.attached
   pub few : d.attached ≤ DRIVES
@@ -37,7 +37,7 @@ pub record Stands (d : Drives) : Type 0 where
 abbrev pub IsWholeSector : Drives → Type 0
 IsWholeSector d = IfSome d.current (λ s. length s.bytes ≡ SECTOR_BYTES)
 
--- nothing is issued and nothing completed
+-- nothing is issued and nothing is completed
 pub record Calm (d e : Drives) : Type 0 where
   pub attached : e.attached ≡ d.attached
   pub issued : e.issued ≡ d.issued

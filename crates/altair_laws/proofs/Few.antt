@@ -1,6 +1,6 @@
--- How few operations of an Altair are outstanding. Of each port they are the last bytes that were sent, sixteen at
+-- How few operations of an Altair are outstanding. For each port they are the last bytes that were sent, sixteen at
 -- most, and the writes are those that the controller waits for, eight at most; so a list of their names has at most
--- forty.
+-- forty elements.
 use Rattle.std.proofs.Common.{◌≡◌, ℕ, zero, suc, ◌+◌, ◌-◌, ◌≤◌, ◌<◌, List, [], ◌∷◌, ◌++◌, length, map, Some, ⊎_elim, inl, inr, refl, sym, ap, subst, arith, length-append}
 use Rattle.std.specs.Prelude.{Contains, slice_index}
 use Rattle.std.proofs.lemmas.Bool.{cases_lt}
@@ -27,7 +27,7 @@ use Rattle.altair_laws.proofs.Writes.{Writes}
 
 -- ---- bytes
 
--- the last names that a port gave, as many as this
+-- the last names that a port gave, this many
 abbrev last_names : ℕ → ℕ → ℕ → List OpId
 last_names port issued zero = []
 last_names port issued (suc n) = id.Byte port (issued - n) ∷ last_names port issued n
@@ -61,7 +61,7 @@ is_port_name : (g : Guest) (port number : ℕ) → IsLast g port number → Cont
 is_port_name g port number l =
     is_last_name port (slice_index g.issued port) (port_of g.devices port).unaccepted number l.first l.last
 
--- no byte is one of a port that is not there
+-- no byte is outstanding at a port that is not there
 no_such_port : (moves : List Move) (g : Guest) (port number : ℕ) → Bytes moves g → 2 ≤ port → IsLast g port number → ⊥
 no_such_port moves g port number b past l =
     let f = l.first in

@@ -1,5 +1,5 @@
--- What a sector of the machine's own disk has after one move more: a step leaves it, and so does an input, but for one
--- that completes a write of the sector. And the table of the last completed writes, where one is set.
+-- What a sector of the machine's own disk has after one more move: a step leaves it, and so does an input, except one
+-- that completes a write of the sector. And the table of the last completed writes after one is set.
 use Rattle.std.proofs.Common.{◌≡◌, ℕ, suc, ◌+◌, ◌*◌, ◌<◌, Bool, true, false, cond, List, [], ◌∷◌, ◌++◌, length, get_or, map, Option, Some, None, ◌⊎◌, inl, inr, refl, sym, ap, ◌∙◌, subst, arith}
 use Rattle.std.specs.Prelude.{◌&&◌, ◌||◌, ◌==◌, nat_lt, slice_index, slice_set}
 use Rattle.std.specs.List.{filter, list_any}
@@ -147,7 +147,7 @@ any-find {A} f (y ∷ xs) h = go (cases_Bool (f y)) (any-find f xs)
     go (inl e) k = (y, inl refl, e)
     go (inr e) k = let r = k (ap (λ b. b || list_any f xs) (sym e) ∙ h) in (r.0, inr r.1, r.2)
 
--- the place of what is among a list
+-- the place of an element of a list
 pub place-among : {A : Type 0} (x : A) (xs : List A) → Among x xs
     → (k : ℕ) × (k < length xs) × ((d : A) → get_or xs k d ≡ x)
 place-among x [] h = absurd h

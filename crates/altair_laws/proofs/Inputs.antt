@@ -1,5 +1,5 @@
--- An input that an Altair takes is one of a port or a sector that is there, and the keys of its port have room for one
--- more: a port takes what comes to it, and of the drives one that is attached is selected, if any.
+-- An input that an Altair takes is of a port or a sector that is there, and the key count of its port has room for one
+-- more: a port takes what comes to it, and the selected drive, if any, is an attached one.
 use Rattle.std.proofs.Common.{◌≡◌, ℕ, ◌<◌, true, false, List, Option, Some, None, refl, arith}
 use Rattle.std.specs.Prelude.{IfSome, not, slice_index, nat_lt, is_none, ◌==◌, ◌&&◌}
 use Rattle.std.specs.Option.{option_map_or}
@@ -21,7 +21,7 @@ use Rattle.guest_board.specs.declared.input.Input.TheVariants.{Rx, Sent, Sector,
 use Rattle.guest_board.specs.declared.setup.Setup.{Setup}
 use Rattle.altair_laws.proofs.Drives.{Stands}
 
--- a drive that is selected is one of those that a controller may have
+-- a selected drive is one of those that a controller may have
 selected_there : (d : Drives) (drive : ℕ) → Stands d → is_selected d drive ≡ true → drive < DRIVES
 selected_there d drive h = of d.selected h.selected
   where

@@ -1,5 +1,5 @@
--- The writes of a trace after a step. A step issues one write at most, whose number is the next and whose sector no
--- outstanding write goes to; all that is known of the other writes stays.
+-- The writes of a trace after a step. A step issues at most one write, which has the next number and a sector to which
+-- no outstanding write goes; all that is known of the other writes stays.
 use Rattle.std.proofs.Common.{◌≡◌, ℕ, ◌+◌, ◌*◌, ◌≤◌, ◌<◌, List, [], ◌∷◌, ◌++◌, Option, Some, None, ◌⊎◌, inl, inr, refl, sym, ap, ◌∙◌, subst, arith}
 use Rattle.std.specs.Prelude.{slice_index}
 use Rattle.disk_dcdd.specs.Address.{address_of}

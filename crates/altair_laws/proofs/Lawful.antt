@@ -1,4 +1,4 @@
--- The laws of a pair's machine hold of the Altair, each from one of the invariants of its traces.
+-- The laws of a pair's machine hold of the Altair, each by one of the invariants of its traces.
 use Rattle.std.proofs.Common.{◌≡◌, ℕ, true, cond, List, Some, None, ◌⊎◌, inl, inr, refl, ap}
 use Rattle.std.specs.Prelude.{◌||◌}
 use Rattle.disk_dcdd.specs.declared.address.SectorAddress.{SectorAddress}
@@ -22,7 +22,7 @@ use Rattle.altair_laws.proofs.Standing.{stands}
 spent_stays : (g : Guest) → is_spent g ≡ true → step_from g ≡ None
 spent_stays g e = ap (λ b. cond (b || is_idle g) None (Some (next g, (wired_after g).given))) e
 
--- what the own disk has, in the words of the law
+-- what its own disk has, in the words of the law
 own_is : (setup : Setup) (sectors : SectorAddress → List ℕ) (moves : List Move) (g : Guest) (address : SectorAddress)
     → OwnIs (sectors address) moves g.completed address
     → IsUnwritten (altair setup sectors) moves g address ⊎ IsWritten (altair setup sectors) moves g address

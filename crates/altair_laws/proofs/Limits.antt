@@ -1,5 +1,6 @@
--- No number passes the limit. A step is made only where none stands at it, and raises the count by one, and the number
--- of bytes of one port or of writes by one at most; a key is taken only while the number of keys is below it.
+-- No number passes its limit. A step is made only if no number is at its limit, and raises the count by one and the
+-- number of bytes of one port or of writes by at most one; a key is taken only while the number of keys is below the
+-- limit.
 use Rattle.std.proofs.Common.{◌≡◌, ℕ, zero, suc, ◌+◌, ◌≤◌, ◌<◌, Bool, true, false, List, [], ◌∷◌, Some, ◌⊎◌, inl, inr, refl, sym, ap, subst, arith}
 use Rattle.std.specs.Prelude.{slice_index, slice_index_or, slice_set, nat_lt, nat_le, ◌&&◌, ◌||◌}
 use Rattle.std.proofs.lemmas.Bool.{ltb-true, leb-false, and_parts}
@@ -25,7 +26,7 @@ pub top_is : top ≡ GREATEST_NUMBER
 unfolding top
 top_is = refl
 
--- what stands in a list where one element is set
+-- the elements of a list of which one is set
 pub set-cases : {A : Type 0} (xs : List A) (i : ℕ) (x d : A) (k : ℕ)
     → (slice_index_or (slice_set xs i x) k d ≡ x) ⊎ (slice_index_or (slice_set xs i x) k d ≡ slice_index_or xs k d)
 set-cases [] i x d k = inr refl

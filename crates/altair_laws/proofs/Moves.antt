@@ -1,5 +1,5 @@
--- Claims that every move keeps hold after every trace from boot; and what a trace gives and takes in all, over moves that
--- are joined end to end.
+-- A claim that every move keeps holds after every trace from boot. And what a trace gives and takes in all, for moves
+-- joined end to end.
 use Rattle.std.proofs.Common.{◌≡◌, ◌≢◌, true, false, ℕ, ◌+◌, List, [], ◌∷◌, ◌++◌, length, ◌⊎◌, inl, refl, sym, ap, ◌∙◌, subst, append_assoc, append-nil, Option, Some, None, length-append}
 use Rattle.std.specs.Prelude.{◌==◌}
 use Rattle.event_callbacks.specs.declared.operations.Operation.{Operation}
@@ -19,7 +19,7 @@ length-keys port xs ys =
     ap length (keys_of-append port 0 xs ys)
     ∙ length-append (keys port (inputs 0 xs)) (keys port (inputs 0 ys))
 
--- the test of two numbers says whether they are one
+-- the test of two numbers says whether they are equal
 abbrev pub Tells : ℕ → ℕ → Type 0
 Tells m n = (((m == n) ≡ true) × (m ≡ n)) ⊎ (((m == n) ≡ false) × (m ≢ n))
 
@@ -46,7 +46,7 @@ pub from_boot : {S : Type 0} (M : Machine S) (P : List Move → S → Type 0) �
     → (moves : List Move) (s : S) → Runs M M.boot moves s → P moves s
 from_boot M P p k moves s r = along M P k [] moves M.boot s p r
 
--- ---- what is among a list
+-- ---- elements of a list
 
 abbrev some_or : {A : Type 0} → A → Option A → A
 some_or d None = d

@@ -1,6 +1,6 @@
--- The sectors that an Altair reads and writes. The selected drive is an attached one, every drive stands at one of its
--- tracks, and an outstanding write was issued to such a drive, at its track, for a sector under its head. None of this
--- asks how many bytes a sector that came had.
+-- The sectors that an Altair reads and writes. The selected drive is an attached one, the head of every drive is at one
+-- of its tracks, and an outstanding write was issued to such a drive, at its track, for a sector under its head. None
+-- of this depends on how many bytes a sector that came had.
 use Rattle.std.proofs.Common.{◌≡◌, ℕ, ◌<◌, List, Some, sym, subst}
 use Rattle.std.specs.Prelude.{IfSome, IsTrue, nat_lt}
 use Rattle.std.proofs.lemmas.Bool.{and_from, lt-ltb}
@@ -24,7 +24,7 @@ use Rattle.altair_laws.proofs.Writes.{Writes, known-place}
 use Rattle.altair_laws.proofs.Completions.{writes_after}
 use Rattle.altair_laws.proofs.Standing.{stands}
 
--- a sector whose drive, track and number are there
+-- a sector whose drive, track and number exist
 there : (drives : ℕ) (a : SectorAddress) → a.drive < drives → a.track < TRACKS → a.sector < SECTORS
     → IsTrue (has_sector drives a)
 there drives a d t s =
@@ -39,7 +39,7 @@ reads_there g drive sector h e s =
     let a : drive < g.devices.disk.attached = subst (λ o. IfSome o (λ n. n < g.devices.disk.attached)) e h.selected in
     there g.devices.disk.attached (address_under g drive sector) a (drive-track g.devices.disk drive h a) s
 
--- a write under any name stands under its own, where the controller knows its place
+-- an outstanding write is found under its own name, and the controller knows its place
 writes_there : (start : SectorAddress → List ℕ) (moves : List Move) (g : Guest) (name : OpId) (write : SectorWrite)
     → Writes start moves g → operation_at g.operations name ≡ Some (Write write)
     → IsTrue (has_sector g.devices.disk.attached (address_of write))

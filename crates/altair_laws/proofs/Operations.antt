@@ -1,5 +1,5 @@
--- The outstanding operations of a trace. Each stands under its own name, and was given by a step: what comes is put
--- under its name by the step that gives it, and what goes takes no other with it.
+-- The outstanding operations of a trace. Each is found under its own name, and was given by a step: the step that gives
+-- an operation puts it under its name, and one that goes takes no other with it.
 use Rattle.std.proofs.Common.{◌≡◌, ◌≢◌, ◌⊎◌, Option, Some, None, List, [], ◌∷◌, ◌++◌, sym, ap, subst, ◌∙◌, inl, inr}
 use Rattle.std.specs.FinMap as map
 use Rattle.event_callbacks.specs.Operations.{Operations, id_of, operation_at, with_operation, without_operation}
@@ -19,7 +19,7 @@ none_some x e = (cc)
 
 -- ---- the map after one comes or goes
 
--- it is what came, or stood there before
+-- the operation is the one that came, or was there before
 pub with-cases : (m : Operations) (op x : Operation) (name : OpId) → operation_at (with_operation m op) name ≡ Some x
     → ((id_of op ≡ name) × (op ≡ x)) ⊎ (operation_at m name ≡ Some x)
 with-cases m op x name h = go (name_cases name (id_of op))
@@ -28,7 +28,7 @@ with-cases m op x name h = go (name_cases name (id_of op))
     go (inl e) = inl (sym e, same_some op x (sym (operation_at-with_named m op name e) ∙ h))
     go (inr n) = inr (sym (operation_at-with_other m op name n) ∙ h)
 
--- it stood there before, and is not what went
+-- the operation was there before, and is not the one that went
 pub without-cases : (m : Operations) (gone name : OpId) (x : Operation)
     → operation_at (without_operation m gone) name ≡ Some x
     → (operation_at m name ≡ Some x) × (name ≢ gone)

@@ -1,6 +1,6 @@
--- What is not calm: a write is issued, a sector comes under the head, a write is done. Each leaves the controller
--- standing as it should, since a sector under the head is idle, so its write goes elsewhere than those that are
--- outstanding.
+-- What is not calm: a write is issued, a sector comes under the head, a write is done. Each keeps the controller
+-- well-formed, since no write of a sector under the head is outstanding, so its write goes to another sector than the
+-- outstanding ones.
 use Rattle.std.proofs.Common.{◌≡◌, ℕ, ◌+◌, ◌≤◌, ◌<◌, Bool, true, false, cond, not, ◌==◌, List, [], ◌∷◌, length, get_or, Option, Some, None, ◌⊎◌, inl, inr, refl, sym, ap, ◌∙◌, subst, arith}
 use Rattle.std.specs.Prelude.{IfSome, ◌&&◌, nat_lt, is_none}
 use Rattle.std.specs.List.{filter, list_any}
@@ -205,7 +205,7 @@ stands-written d number h = record {
               idle s.sector d.selected over.idle;
         }
 
--- ---- what controllers say of themselves
+-- ---- the controller is well-formed
 
 pub drives-stand : (d : Drives) → Stands d → IsWholeSector d → d.issued ≤ GREATEST_NUMBER → IsDrives d
 drives-stand d h whole few = record {

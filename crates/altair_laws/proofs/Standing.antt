@@ -1,5 +1,5 @@
--- How an Altair stands after any moves. Beside its writes: where each sector that came had all its bytes, so has the
--- one under the head; and no completed write has a greater number than the writes that were issued.
+-- What holds of an Altair after any moves, besides its writes: if each sector that came had all its bytes, so has the
+-- one under the head; and no completed write has a greater number than the number of writes issued.
 use Rattle.std.proofs.Common.{◌≡◌, ℕ, ◌+◌, ◌*◌, ◌≤◌, List, [], ◌∷◌, ◌++◌, length, Option, Some, None, ◌⊎◌, inl, inr, refl, sym, ap, ◌∙◌, subst, arith}
 use Rattle.std.specs.Prelude.{IfSome, slice_index, slice_set, ◌==◌}
 use Rattle.std.specs.Option.{option_map_or}
@@ -41,7 +41,7 @@ use Rattle.plain_single.specs.Reach.{operations}
 use Rattle.disk_dcdd.specs.declared.sector.TheConstants.{SECTOR_BYTES}
 use Rattle.altair_laws.proofs.Limits.{top_is, set-within, within_after}
 
--- what holds beside what is known of the writes
+-- what holds besides what is known of the writes
 record Standing (drives : ℕ) (start : SectorAddress → List ℕ) (moves : List Move) (g : Guest) : Type 0 where
   attached : g.devices.disk.attached ≡ drives
   writes : Writes start moves g

@@ -1,5 +1,5 @@
--- What a step does behind the processor. It gives nothing and is calm, or it gives one byte, or one write: a step has
--- one access to a port at most. And an input is taken where it is due. Above this file nothing sees the processor.
+-- What a step does outside the processor. It gives nothing and is calm, or it gives one byte, or one write, since a
+-- step has at most one access to a port. And an input is taken if it is due. No file above this one sees the processor.
 use Rattle.std.proofs.Common.{◌≡◌, ℕ, zero, suc, ◌<◌, Bool, true, false, cond, List, [], ◌∷◌, ◌++◌, length, Option, Some, None, refl, sym, ap, subst, lit≤}
 use Rattle.std.specs.Prelude.{slice_index, slice_index_or, slice_set, nat_lt, ◌==◌, ◌||◌}
 use Rattle.std.specs.Option.{option_map_or}
@@ -34,7 +34,7 @@ pub record Quiet (v w : Wired) : Type 0 where
 quiet-refl : (v : Wired) → Quiet v v
 quiet-refl v = record { issued = refl; ports = refl; unaccepted = λ port. refl; disk = calm-refl v.devices.disk }
 
--- a write of the disk is given
+-- a write to the disk is given
 abbrev pub after_write : Wired → ℕ → SectorWrite → Wired
 after_write v byte write =
     record v {
@@ -53,7 +53,7 @@ pub data Gave (v : Wired) : Wired → Type 0 where
 
 -- ---- ports
 
--- a port that is another, with as many unaccepted bytes
+-- a port is replaced by one with as many unaccepted bytes
 pub same_unaccepted : (ports : List serial.Port) (number : ℕ) (port : serial.Port)
     → port.unaccepted ≡ (slice_index_or ports number serial.at_boot).unaccepted → (p : ℕ)
     → (slice_index_or (slice_set ports number port) p serial.at_boot).unaccepted
@@ -77,7 +77,7 @@ quiet-disk : (v : Wired) (disk : drives.Drives) → Calm v.devices.disk disk
     → Quiet v (record v { devices = with_disk v.devices disk })
 quiet-disk v disk h = record { issued = refl; ports = refl; unaccepted = λ port. refl; disk = h }
 
--- a fact of each device of the board is one of the device at a port number
+-- what holds of each device of the board holds of the device at a port number
 at_ports : {D : Type 0} (a b c d e f g h i : D) (P : D → Type 0) (A B C D' E F G H : Bool)
     → P a → P b → P c → P d → P e → P f → P g → P h → P i
     → P (cond A a (cond B b (cond C c (cond D' d (cond E e (cond F f (cond G g (cond H h i))))))))
@@ -235,7 +235,7 @@ steps_from g u gives h =
       unspent = (no_or (is_spent g) (is_idle g) k.0).0;
     }
 
--- a claim after a step, from one of the guest that the step leaves
+-- a claim holds after a step, by what holds of the guest that the step leaves
 pub after_step : (P : List Move → Guest
     → Type 0) (moves : List Move) (g u : Guest) (gives : Option Operation) (k : Steps g u gives)
     → P (moves ++ Do k.behind.given ∷ []) (stepped g k.processor k.behind) → P (moves ++ Do gives ∷ []) u

@@ -1,5 +1,5 @@
--- The outstanding bytes of a port are the last that were sent, as many as are unaccepted: a byte that is sent has the
--- next number, and the one that is accepted is the oldest.
+-- The outstanding bytes of a port are the last ones that were sent, as many as are unaccepted: a byte that is sent has
+-- the next number, and the one that is accepted is the oldest.
 use Rattle.std.proofs.Common.{◌≡◌, ◌≢◌, ℕ, ◌+◌, ◌-◌, ◌<◌, List, length, Some, ◌⊎◌, inl, inr, refl, sym, ap, ◌∙◌, subst, arith}
 use Rattle.std.specs.Prelude.{slice_index, nat_lt, ◌&&◌}
 use Rattle.std.proofs.lemmas.Bool.{ltb-true, and_parts, cases_eq}

@@ -1,6 +1,6 @@
--- The writes of a trace: numbers from 1, each once; which are outstanding; and what each sector of the machine's own
--- disk has. Of one sector one write at most is outstanding, so the one that is completed last has the greatest number
--- of those that are completed.
+-- The writes of a trace: they are numbered from 1, each number once; which are outstanding; and what each sector of the
+-- machine's own disk has. At most one write of a sector is outstanding, so the one that is completed last has the
+-- greatest number of the completed ones.
 use Rattle.std.proofs.Common.{◌≡◌, ℕ, ◌*◌, ◌≤◌, ◌<◌, false, List, [], ◌∷◌, ◌++◌, length, get_or, Some, None, ◌⊎◌, inl, inr, sym, ap, ◌∙◌, subst, append-nil, arith, refl, Option}
 use Rattle.std.proofs.lemmas.Bool.{cases_order, both_ways}
 use Rattle.disk_dcdd.specs.Address.{address_of, same_address, index_of}
@@ -47,11 +47,11 @@ Has m w = operation_at m (id.Write w.number) ≡ Some (Write w)
 abbrev pub WasIssued : SectorWrite → List Move → Type 0
 WasIssued w moves = Among (Write w) (operations moves)
 
--- the write is completed, and no later than the last completed one of its sector, or outstanding
+-- the write is either completed, and then no later than the last completed one of its sector, or outstanding
 abbrev pub IsSettled : List ℕ → Operations → SectorWrite → Type 0
 IsSettled completed m w = (w.number ≤ number_of completed (address_of w)) ⊎ Has m w
 
--- what the own disk has at a sector: the bytes at boot, or those of the last completed write
+-- what the machine's own disk has for a sector: the bytes at boot, or those of the last completed write
 abbrev pub OwnIs : List ℕ → List Move → List ℕ → SectorAddress → Type 0
 OwnIs start moves completed q =
     ((number_of completed q ≡ 0) × (image_from [] q start moves ≡ start))
@@ -75,9 +75,9 @@ pub given : (start : SectorAddress → List ℕ) (moves : List Move) (g : Guest)
     → Has g.operations w → WasIssued w moves
 given start moves g d w h = d.are_given.given (id.Write w.number) (Write w) h
 
--- ---- what follows of one moment
+-- ---- what follows at one moment
 
--- of the outstanding writes the controller knows where they go
+-- the controller knows where each outstanding write goes
 pub known-place : (start : SectorAddress → List ℕ) (moves : List Move) (g : Guest) → Writes start moves g
     → (w : SectorWrite) → Has g.operations w
     → IsIssued g.devices.disk.attached g.devices.disk.issued (place_of w)
@@ -86,7 +86,7 @@ known-place start moves g d w h =
     subst (IsIssued g.devices.disk.attached g.devices.disk.issued) (r.2 (place_of w))
     (d.stands.outstanding.each r.0 (place_of w) r.1)
 
--- of two that are outstanding, the later goes elsewhere
+-- of two outstanding writes, the later goes elsewhere
 apart-places : (start : SectorAddress → List ℕ) (moves : List Move) (g : Guest) → Writes start moves g
     → (v w : SectorWrite) → (i j : ℕ) → i < j
     → j < length g.devices.disk.outstanding → ((d : Place) → get_or g.devices.disk.outstanding i d ≡ place_of v)
@@ -101,7 +101,7 @@ apart-places start moves g d v w i j l inside is_v is_w e =
     ∙ f.elsewhere in
     both_ways (same_address (address_of v) (address_of w)) k (same-address (address_of v) (address_of w) e)
 
--- of one sector one write at most is outstanding
+-- at most one write of a sector is outstanding
 pub single : (start : SectorAddress → List ℕ) (moves : List Move) (g : Guest) → Writes start moves g
     → (v w : SectorWrite) → Has g.operations v → Has g.operations w
     → address_of v ≡ address_of w → v ≡ w
@@ -175,7 +175,7 @@ alike start moves more g u d a = record {
     settled_at w (inl h) = inl (subst (λ xs. w.number ≤ number_of xs (address_of w)) (sym a.completed) h)
     settled_at w (inr h) = inr (a.has w h)
 
--- ---- the operations of one move more
+-- ---- the operations of one more move
 
 pub operations_none : (moves : List Move) → operations (moves ++ Do None ∷ []) ≡ operations moves
 operations_none moves = operations-append moves (Do None ∷ []) ∙ append-nil (operations moves)
@@ -187,7 +187,7 @@ pub operations_some : (moves : List Move) (x : Operation)
     → operations (moves ++ Do (Some x) ∷ []) ≡ operations moves ++ x ∷ []
 operations_some moves x = operations-append moves (Do (Some x) ∷ [])
 
--- one more that is a byte, or a write
+-- one more operation, a byte or a write
 pub not_byte : (w : SectorWrite) (port number byte : ℕ) (os : List Operation)
     → Among (Write w) (os ++ Byte port number byte ∷ []) → Among (Write w) os
 not_byte w port number byte os h = go (among-split (Write w) os (Byte port number byte ∷ []) h)

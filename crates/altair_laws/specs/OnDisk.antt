@@ -8,7 +8,7 @@ use Rattle.event_callbacks.specs.declared.operations.Operation.TheVariants.{Writ
 use Rattle.guest_board.specs.Machine.{Machine, Move}
 use Rattle.pair_protocol.specs.Lawful.{Reaches}
 
--- a machine reads and writes only sectors of so many drives
+-- a machine reads and writes only sectors of this many drives
 pub record StaysOnDisk {S : Type 0} (M : Machine S) (drives : ℕ) : Type 0 where
   -- what may come under the head of the selected drive
   pub reads : (moves : List Move) (s : S) (drive sector : ℕ) → Reaches M moves s → M.selected s ≡ Some drive

@@ -1,4 +1,4 @@
--- How an Altair stands after any moves from boot: its numbers, its controller, and its outstanding writes.
+-- What holds of an Altair after any moves from boot: its numbers, its controller, and its outstanding writes.
 use Rattle.std.specs.Prelude.{◌≡◌, ℕ, ◌+◌, ◌*◌, ◌≤◌, ◌<◌, Some, List, [], ◌∷◌, length, slice_index}
 use Rattle.serial_2sio.specs.Port as serial
 use Rattle.disk_dcdd.specs.Controller.{IsDrives}
@@ -28,7 +28,7 @@ IsWhole (Sent port) = Unit {0}
 IsWhole (Sector drive sector number bytes) = length bytes ≡ SECTOR_BYTES
 IsWhole (Written number) = Unit {0}
 
--- so has each that comes along the moves
+-- the same, for each sector that comes along the moves
 abbrev pub AreWhole : List Move → Type 0
 AreWhole [] = Unit {0}
 AreWhole (Do gives ∷ moves) = AreWhole moves
@@ -41,12 +41,12 @@ pub record IsWithin (g : Guest) : Type 0 where
   pub writes : g.devices.disk.issued ≤ top
   pub keys : (port : ℕ) → slice_index g.keys port ≤ top
 
--- the bytes of a port that are not accepted were sent, and fit the window
+-- the bytes of a port that are not accepted were sent, and fit in the window
 pub record AreUnaccepted (g : Guest) (port : ℕ) : Type 0 where
   pub sent : (port_of g.devices port).unaccepted ≤ slice_index g.issued port
   pub few : (port_of g.devices port).unaccepted ≤ serial.window
 
--- the byte of this number is one of the last that were sent to a port, as many as are not accepted
+-- the byte of this number is among the last bytes sent to a port, of which there are as many as are not accepted
 pub record IsLast (g : Guest) (port number : ℕ) : Type 0 where
   pub first : slice_index g.issued port < number + (port_of g.devices port).unaccepted
   pub last : number ≤ slice_index g.issued port
@@ -68,7 +68,7 @@ pub record AreWrites (g : Guest) : Type 0 where
   pub pending : (place : Place) → Among place g.devices.disk.outstanding
       → (write : SectorWrite) × IsPending g write × (place_of write ≡ place)
 
--- the tables have a place for each port and for each sector, and no drive came or went
+-- the tables have a place for each port and each sector, and no drive came or went
 pub record HasSizes (setup : Setup) (g : Guest) : Type 0 where
   pub ports : length g.devices.ports ≡ PORTS
   pub issued : length g.issued ≡ PORTS
@@ -81,13 +81,13 @@ abbrev pub AreWholeWrites : List Move → Type 0
 AreWholeWrites moves =
     (write : SectorWrite) → Among (operation.Write write) (operations moves) → length write.bytes ≡ SECTOR_BYTES
 
--- how an Altair stands after these moves from boot
+-- what holds of an Altair after these moves from boot
 pub record AltairStands (setup : Setup) (moves : List Move) (g : Guest) : Type 0 where
   pub sizes : HasSizes setup g
   pub within : IsWithin g
   pub unaccepted : (port : ℕ) → AreUnaccepted g port
   pub bytes : (port : ℕ) → AreBytes g port
-  -- where each sector that came had all its bytes, the controller stands as controllers do, and so has each write
+  -- if each sector that came had all its bytes, the controller is well-formed, and each write has all its bytes
   pub drives : AreWhole moves → IsDrives g.devices.disk
   pub whole : AreWhole moves → AreWholeWrites moves
   pub completed : (index : ℕ) → slice_index g.completed index ≤ g.devices.disk.issued

@@ -18,8 +18,8 @@ pub fn altairs_are_lawful()
     sectors_stand_apart();
 }
 
-/// After any moves from boot no number of an Altair has passed the limit, its controller stands as controllers do, and
-/// what is outstanding is what its ports and its controller wait for.
+/// After any moves from boot no number of an Altair has passed its limit, its controller is well-formed, and what is
+/// outstanding is what its ports and its controller wait for.
 pub fn altairs_stay_within()
     ensures { (setup : Setup) (sectors : SectorAddress → List ℕ) (moves : List Move) (g : Guest)
         → Reaches (altair setup sectors) moves g → AltairStands setup moves g }
@@ -27,15 +27,15 @@ pub fn altairs_stay_within()
     sectors_stand_apart();
 }
 
-/// An Altair reads and writes only sectors of its own drives, whatever comes to it.
+/// An Altair reads and writes only sectors of its own drives, whatever input it is given.
 pub fn altairs_stay_on_their_disks()
     ensures { (setup : Setup) (sectors : SectorAddress → List ℕ) → StaysOnDisk (altair setup sectors) setup.drives }
 {
     sectors_stand_apart();
 }
 
-/// Whatever events come, in whatever order, every world of a pair of Altairs is faithful, and each further event lets what
-/// is settled grow.
+/// Whatever events come, in whatever order, every world of a pair of Altairs is faithful, and each further event lets
+/// what is settled grow.
 pub fn altair_pairs_are_faithful()
     ensures faithful { PairsAreFaithful }
     ensures grows { PairsGrow }

@@ -1,4 +1,4 @@
-//! The Altair of every setup is a machine that a pair may run, and what holds of pairs of them. No code.
+//! The Altair of every setup is a machine that a pair may run; what holds of pairs of them. No code.
 #![tactic(auto)]
 
 mod laws;

@@ -1,4 +1,4 @@
--- The laws of any machine, for one that is lawful.
+-- The laws of any lawful machine, for the Altair.
 use Rattle.guest_board.specs.Guest.{altair}
 use Rattle.pair_protocol.proofs.Growth.{row_grows}
 use Rattle.pair_protocol.proofs.Runs.{always_faithful, run_reaches}
