@@ -1,5 +1,5 @@
--- What an alone node answers to an input. No log of its own stands in the way, so behind the tests of a check only the
--- machine's refusal is left; and where the check passed, the machine takes the input, and so does the node.
+-- What an alone node answers to an input. It has no log to refuse the input, so after the tests of a check only the
+-- machine's refusal is left; and if the check passed, the machine takes the input, and so does the node.
 use Rattle.std.proofs.Common.{◌≡◌, ℕ, ◌≤◌, ◌<◌, false, not, ◌&&◌, ok_or, eqb, leb, Option, Some, None, List, [], ◌∷◌, Result, Ok, Err, refl, sym, ap, subst, ◌∙◌, arith}
 use Rattle.std.proofs.Math.Bool.{and_assoc}
 use Rattle.std.proofs.lemmas.Bool.{eq-eqb, le-leb, lt-leb}
@@ -34,7 +34,7 @@ pub done_refusal : {S : Type 0} (M : Machine S) (x : Node S) (s : S) (generation
 done_refusal M x s generation number a =
     rw (a.role, a.up, a.machine) (only (refusal_of M s (input.Written number)))
 
--- the byte that is due is the one that was named
+-- the byte that is due is the one with the given number
 pub due_is : (due : Option ℕ) (number : ℕ) → ok_or due NotDue ≡ Ok number → due ≡ Some number
 due_is None number e = absurd cc
 due_is (Some due) number e = cc
@@ -67,7 +67,7 @@ under_refusal M x s generation number address under bytes a is same =
     rw (a.role, a.up, a.machine, here)
     (only (refusal_of M s (input.Sector address.drive address.sector number bytes)))
 
--- the one refusal
+-- a list with one refusal
 fault_alone : (r : Option Fault) → refusals.first_of (r ∷ []) ≡ r
 fault_alone None = refl
 fault_alone (Some fault) = refl
@@ -116,7 +116,7 @@ takes M i x s t generation refusal (Err fault) a passes h =
     let guest : refusal_of M s i ≡ None = ap (λ s. refusal_of M s i) (sym a.machine) ∙ passes.guest in
     let none : Some fault ≡ None = sym h.0 ∙ guest in absurd cc
 
--- where the check of a key passes at any node that is alone with this guest, a number for the key is left
+-- if the check of a key passes at any node that is alone with this guest, a number is left for the key
 pub key_room : {S : Type 0} (M : Machine S) (s : S) (generation port index byte : ℕ) (done : Unit {0})
     → ((x : Node S) → IsAlone s generation x → Ok done ≡ completion.answered (refusals.key_refusal M port index x))
     → M.keys s port < GREATEST_NUMBER

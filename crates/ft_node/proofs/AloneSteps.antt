@@ -1,6 +1,6 @@
--- How an alone node steps. Steps that give nothing come one behind another, while the protocol counts them from the
--- first; so a run of quiet steps stands in front of whatever ends it. What refuses the first step refuses the call, and
--- what refuses a later one is only why it stopped.
+-- How an alone node makes steps. Steps that give nothing come one after another, while the protocol counts them from
+-- the first; so a run of quiet steps comes before whatever ends it. A refusal of the first step refuses the call, and a
+-- refusal of a later one is only why the node stopped.
 use Rattle.std.proofs.Common.{◌≡◌, ◌≢◌, ℕ, ◌-◌, zero, suc, ◌+◌, ◌<◌, ◌≤◌, ◌⊎◌, inl, inr, Bool, true, false, cond, Option, Some, None, is_none, [], ◌∷◌, Ok, Err, refl, sym, ap, subst, ◌∙◌, arith}
 use Rattle.event_callbacks.specs.Operations.{id_of}
 use Rattle.event_callbacks.specs.declared.operations.OpId.{OpId}
@@ -52,7 +52,7 @@ first_of_two true idle = refl
 first_of_two false true = refl
 first_of_two false false = refl
 
--- the machine alone refuses a step
+-- only the machine refuses a step
 step_refusal : {S : Type 0} (M : Machine S) (x : Node S) (s : S) (generation turns : ℕ) → IsAlone s generation x
     → 0 < turns → refusals.step_refusal M turns x ≡ lockstep.step_refusal M s
 step_refusal M x s generation zero a some = absurd (omega arith)

@@ -1,4 +1,4 @@
--- Nodes of the small guest that hold nothing: they have nothing to replay, also after they asked the arbiter.
+-- Nodes of the small guest that hold nothing: they have nothing to replay, not even after they asked the arbiter.
 use Rattle.std.proofs.Common.{◌≡◌, ℕ, zero, suc, true, false, Option, Some, None, List, [], ◌∷◌, drop, Result, Ok, Err, refl, sym, subst, ◌∙◌}
 use Rattle.arbiter_core.specs.Winners.{winner_of}
 use Rattle.arbiter_core.specs.declared.arbiter.Asking.{Asking}
@@ -73,7 +73,7 @@ may_replay (seat.Draining d) x none is =
 may_replay (seat.Alone a) x none is = tt
 may_replay (seat.Halted h) x none is = tt
 
--- ---- after the arbiter was asked
+-- ---- after the arbiter has been asked
 
 by_answer : (refusal : Option Fault) (winner : Option ℕ) (old new : List Asking) (n : ℕ) (x : Node Echo)
     (result : Result Won Fault) (Is : Node Echo → Type 0)

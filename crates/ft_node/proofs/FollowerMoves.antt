@@ -1,6 +1,6 @@
--- How a follower moves. A replayer's moves come one behind another over the entries that are held, while the protocol
--- counts them from the first and knows only how many entries were replayed; those held are the ones behind them. So the
--- moves of a replayer stand in front of whatever ends them.
+-- How a follower moves. A replayer makes its moves one after another over the entries that are held, while the protocol
+-- counts from the first entry and knows only how many were replayed; those held are the ones after them. So the moves
+-- of a replayer come before whatever ends them.
 use Rattle.std.proofs.Common.{◌≡◌, ℕ, zero, suc, ◌+◌, ◌-◌, ◌<◌, ◌≤◌, inl, inr, Bool, true, false, eqb, Some, None, List, [], ◌∷◌, length, drop, Result, Ok, Err, IsTrue, refl, sym, ap, subst, ◌∙◌, arith, length-drop}
 use Rattle.std.specs.Prelude.{◌↔◌, slice_get}
 use Rattle.std.proofs.lemmas.Bool.{eq-eqb, eqb-true}
@@ -17,7 +17,7 @@ use Rattle.replayer.specs.declared.replayer.Replayed.{Replayed}
 use Rattle.ft_node.specs.Calls as calls
 use Rattle.ft_node.specs.Roles.{IsFollower}
 
--- a follower with this machine, of whose entries so many are replayed
+-- a follower with this machine, which has replayed this many entries
 abbrev pub at : {S : Type 0} → Node S → S → ℕ → Node S
 at x s k = record x { machine = s; replayed = k }
 
@@ -36,14 +36,14 @@ nothing_left xs k within e =
     let some : length (drop k xs) ≡ length xs - k = length-drop k xs in
     omega arith
 
--- ---- moves, in front of others
+-- ---- moves, before others
 
 counted : {S : Type 0} (M : Machine S) (x y : Node S) (turns more made less : ℕ) → turns ≡ more → made ≡ less
     → Replays M x turns y made → Replays M x more y less
 counted M x y turns more made less same_turns same_made r =
     subst (λ turns. Replays M x turns y less) same_turns (subst (λ made. Replays M x turns y made) same_made r)
 
--- so many moves lead to this machine, with these entries left, and others may follow
+-- this many moves lead to this machine, with these entries left, and others may follow
 record Reached {S : Type 0} (M : Machine S) (x : Node S) (s : S) (k n : ℕ) (t : S) (left : List Entry) : Type 0 where
   now : ℕ
   left_are : drop now x.held ≡ left
@@ -99,7 +99,7 @@ reached M x s k held n t left e within (replaying.Then {n = m} {t = v} {now = no
 
 -- ---- the ends
 
--- it is behind where the replayer is
+-- it is behind if the replayer is
 behind : {S : Type 0} (M : Machine S) (x : Node S) (s : S) (left : List Entry) → x.machine ≡ s
     → drop x.replayed x.held ≡ left → replaying.IsBehind M s left → IsBehind M x
 behind M x s left same e b = record {
@@ -196,7 +196,7 @@ repeats M role x s t r new turns (Ok q) f held a =
       after = follows role x s t r new now f held so_far.left_are so_far.within;
     }
 
--- nothing refuses a node in the one role
+-- nothing refuses a node in the only role allowed
 pub in_role : {S : Type 0} (role : Role) (x : Node S) (s : S) (r : Receiving) → IsFollower role s r x
     → is_role role role ≡ true → refusals.role_refusal (role ∷ []) x ≡ None
 in_role role x s r f same = rw (f.role_is, f.up, same) refl

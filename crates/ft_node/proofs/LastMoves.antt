@@ -1,5 +1,5 @@
--- How a node drains. Its moves are those of a replay, so where they leave entries it drains on; and where they leave
--- none it is what an alone node is.
+-- How a node drains. Its moves are those of a replay, so while they leave entries the node goes on draining, and when
+-- they leave none it is what an alone node is.
 use Rattle.std.proofs.Common.{◌≡◌, ℕ, ◌<◌, true, false, Ok, Err, refl, sym, subst, ◌∙◌}
 use Rattle.guest_board.specs.Machine.{Machine}
 use Rattle.i8080_words.specs.declared.refusal.Fault.{Fault}

@@ -1,5 +1,5 @@
--- What is known of a node where a check passed. Every refusal of the check's list is none: so the guest does not refuse
--- the input, a primary's log has room for its entry, and a number that the call names is the one that is due.
+-- What is known of a node if a check passed. No refusal of the check's list applies: so the guest does not refuse the
+-- input, a primary's log has room for its entry, and a number that the call names is the one that is due.
 use Rattle.std.proofs.Common.{◌≡◌, ℕ, ◌<◌, false, not, ◌==◌, cond, Option, Some, None, List, [], ◌∷◌, length, Ok, sym, ap, refl, ◌∙◌, arith}
 use Rattle.std.specs.Prelude.{nat_le}
 use Rattle.std.proofs.lemmas.Bool.{leb-false, ne_eqb}

@@ -1,4 +1,4 @@
--- What an acknowledgement makes of a primary. The entries that it covers leave the log, and their keys are covered; the
+-- What an acknowledgement does to a primary. The entries that it covers leave the log, and their keys are covered; the
 -- log that is left is the rest of the whole log.
 use Rattle.std.proofs.Common.{◌≡◌, ℕ, zero, suc, ◌+◌, ◌-◌, ◌<◌, ◌≤◌, max, Bool, true, false, cond, not, ◌==◌, Option, Some, None, Ok, Err, List, [], ◌∷◌, ◌++◌, length, take, drop, append_assoc, length-append, refl, sym, ap, subst, ◌∙◌, arith}
 use Rattle.std.specs.Prelude.{nat_lt, slice_index}
@@ -30,7 +30,7 @@ use Rattle.ft_node.proofs.PrimarySteps.{next_behind}
 
 -- ---- keys
 
--- the keys of two lists of inputs, one behind the other
+-- the keys of two lists of inputs, one after the other
 keys-append : (port : ℕ) (front back : List Timed)
     → reach.keys port (front ++ back) ≡ reach.keys port front ++ reach.keys port back
 keys-append port [] back = refl
@@ -38,14 +38,14 @@ keys-append port (t ∷ ts) back =
     ap (λ rest. reach.key_at port t.input ++ rest) (keys-append port ts back)
     ∙ sym (append_assoc (reach.key_at port t.input) (reach.keys port ts) (reach.keys port back))
 
--- how many keys of a port are in the image, and among entries behind it
+-- how many keys of a port are in the image, and in the entries after it
 keys_of_both : (port : ℕ) (copy : List Timed) (es : List Entry)
     → length (reach.keys port (copy ++ inputs_of es)) ≡ length (reach.keys port copy) + keys_in port es
 keys_of_both port copy es =
     ap length (keys-append port copy (inputs_of es))
     ∙ length-append (reach.keys port copy) (reach.keys port (inputs_of es))
 
--- the numbers of keys of an image
+-- the numbers of keys in an image
 abbrev keys_of_image : List Timed → List ℕ
 keys_of_image copy = length (reach.keys 0 copy) ∷ length (reach.keys 1 copy) ∷ []
 
@@ -81,7 +81,7 @@ keys_after M c x held port covers within bound is most =
 
 -- ---- a primary that heard
 
--- the log after it is the rest of the whole
+-- the log after that is the rest of the whole
 rest_of_log : (covered held : ℕ) (whole : List Entry) → covered ≤ held
     → dropped_to (log covered (drop covered whole)) held ≡ log held (drop held whole)
 rest_of_log covered held whole order =

@@ -1,5 +1,5 @@
--- An input that a primary takes. Its entry is pushed behind those that are kept, so the primary keeps what it kept and
--- the new entry; its machine takes the input; and the operation that the input completes has no note any more.
+-- An input that a primary takes. Its entry is pushed after those that are kept, so the primary keeps what it kept and
+-- the new entry; its machine takes the input; and the operation that the input completes no longer has a note.
 use Rattle.std.proofs.Common.{◌≡◌, ℕ, ◌≤◌, Option, Some, None, Ok, Err, List, [], ◌∷◌, ◌++◌, length, drop, length-append, refl, sym, ap, subst, ◌∙◌, arith}
 use Rattle.std.proofs.lemmas.List.{drop-append-le}
 use Rattle.std.proofs.lemmas.List.Elements.{All-push}
@@ -38,7 +38,7 @@ keeps_log M s l sd c x p limits = record {
   limits = limits;
 }
 
--- the same primary, where its parts are the same
+-- the same primary, if its parts are the same
 pub same_primary : {S : Type 0} (M : Machine S) (s t : S) (l new : Log) (sd : Sending) (c : Covering) (x : Node S)
     → t ≡ s → new ≡ l → IsPrimary M s l sd c x → IsPrimary M t new sd c x
 same_primary M s t l new sd c x same logged p =
@@ -98,7 +98,7 @@ offer_stands M s l sd c x i refusal fault p passes answer =
     answer ∙ ap (λ r. offer_answer r l) guest ∙ ap (λ r. buffer.answered r (next_of l)) room in
     cc
 
--- it is taken, with the operation that it completes
+-- the input is taken, with the operation that it completes
 pub offer_done : {S : Type 0} (M : Machine S) (s t : S) (l new : Log) (sd : Sending) (c : Covering) (x : Node S)
     (i : Input) (refusal : Option Fault) (index : ℕ) → ComesAndGoes M → IsPrimary M s l sd c x → refusal ≡ None
     → Offers M s l i (Ok index) t new → IsEntry (entry_of (M.count s) i)

@@ -1,6 +1,6 @@
--- What a coverage knows of a primary as its machine moves. An operation that comes has its note, one that goes has none
--- any more, and every other is found and noted as it was: so the notes are those of the protocol, and of outstanding
--- operations alone, of which there are few.
+-- What a coverage knows of a primary as its machine moves. A new operation has its note, one that goes no longer has
+-- one, and every other is found and noted as before: so the notes are those of the protocol, and only outstanding
+-- operations have them, of which there are few.
 use Rattle.std.proofs.Common.{◌≡◌, ◌≢◌, ℕ, zero, suc, ◌<◌, ◌≤◌, ◌⊎◌, inl, inr, ⊎_elim, Bool, true, false, cond, Option, Some, None, List, [], ◌∷◌, ◌++◌, length, take, get_or, length-append, refl, sym, ap, ◌∙◌, arith}
 use Rattle.std.specs.Prelude.{AllPairs}
 use Rattle.std.proofs.lemmas.Bool.{cases_Bool}
@@ -33,7 +33,7 @@ use Rattle.ft_node.specs.Roles.{AreOfOutstanding, Covers, index_in}
 
 -- ---- names
 
--- two names are one or not
+-- two names are equal or not
 name_cases : (one other : OpId) → (one ≡ other) ⊎ (one ≢ other)
 name_cases one other =
     ⊎_elim (λ same. inl (equal_from_same one other same))
@@ -52,9 +52,9 @@ same_name-alike one other differs =
     ⊎_elim (λ same. absurd (differs (equal_from_same one other (alike one other ∙ same)))) (λ e. e)
     (cases_Bool (protocol.same_name one other))
 
--- ---- the notes while nothing but the machine and its log moves
+-- ---- the notes while only the machine and its log move
 
--- of the operations and the notes nothing changes, but that some operation goes, with its note
+-- no operation and no note changes, except that an operation may go, with its note
 abbrev pub Keeps : {S : Type 0} → Machine S → S → List Note → S → List Note → Type 0
 Keeps M s notes t left =
     (name : OpId)
@@ -116,7 +116,7 @@ Covers-kept M x c t left list more covers within keeps = record {
 
 -- ---- an operation comes
 
--- it has the new note, whatever note of its name there was before
+-- it has the new note, whatever note its name had before
 abbrev pub noted_after : Covering → OpId → ℕ → Covering
 noted_after c name index = after_note (after_forget c name) name index
 

@@ -1,6 +1,6 @@
--- What a run leaves behind, beside the machine. Quiet steps change no operation, so what had a note is still
--- outstanding behind them; the new name is outstanding too, and since few operations are, there is room for its note.
--- The log begins where it began and has no less.
+-- What a run leaves, besides the machine. Quiet steps change no operation, so whatever had a note is still outstanding
+-- after them; the new name is outstanding too, and since few operations are, there is room for its note. The log begins
+-- where it began and is no shorter.
 use Rattle.std.proofs.Common.{◌≡◌, ℕ, ◌≤◌, Option, Some, None, Ok, [], ◌∷◌, length-append, refl, ◌∙◌, arith}
 use Rattle.event_callbacks.specs.Operations.{id_of}
 use Rattle.event_callbacks.specs.declared.operations.OpId.{OpId}
@@ -32,7 +32,7 @@ made_some M s t l new turns a (Some fault) made = let no = made.0 in absurd (cc)
 
 -- ---- the log
 
--- the log begins where it began, and has no less
+-- the log begins where it began, and is no shorter
 logged : {S : Type 0} (M : Machine S) (s t : S) (l new : Log) (turns : ℕ) (a : Advanced)
     → table.Advances M s l turns a t new → (new.first ≡ l.first) × (next_of l ≤ next_of new)
 logged M s t l new turns a (table.AllTurns q) = (refl, omega arith)

@@ -1,5 +1,5 @@
 -- Why a primary refuses a call. It serves, so what is left of each list of refusals is the call's own part and the
--- log's; and the log that it keeps is full, or has no index left, exactly where the protocol says so of the whole log.
+-- log's; and the log that it keeps is full, or has no index left, exactly if the protocol says so of the whole log.
 -- What is not refused does what its row says.
 use Rattle.std.proofs.Common.{◌≡◌, ℕ, zero, suc, ◌-◌, ◌≤◌, Bool, true, false, cond, not, ◌==◌, ◌&&◌, Option, Some, None, is_none, Result, Ok, Err, ◌⊎◌, inl, inr, ◌<◌, ◌||◌, List, [], ◌∷◌, length, drop, refl, sym, ap, subst, ◌∙◌, arith}
 use Rattle.std.specs.Prelude.{nat_le}
@@ -48,7 +48,7 @@ primary_acts x role up =
 
 -- ---- the log
 
--- what is at most the limit reaches it where it is the limit
+-- a number that is at most the limit reaches it exactly if it equals it
 reaches_limit : (n limit : ℕ) → n ≤ limit → nat_le limit n ≡ (n == limit)
 reaches_limit n limit within = go (cases_lt n limit)
   where
@@ -111,7 +111,7 @@ by_tests true spent rest = refl
 by_tests false true rest = refl
 by_tests false false rest = refl
 
--- the log's refusals, and behind them the others
+-- the log's refusals, and after them the others
 pub by_log : {S : Type 0} (x : Node S) (l : Log) (rest : List (Option Fault)) → Keeps x l
     → first_of (log_full x ∷ log_spent x ∷ rest) ≡ or_else (buffer.refusal_of l) (first_of rest)
 by_log x l rest k =

@@ -1,5 +1,5 @@
--- What a primary may release. Its coverage has the index of each outstanding operation's mark, and none waits for more;
--- so the coverage's test is the protocol's.
+-- What a primary may release. Its coverage has the index of each outstanding operation's mark, and none of them waits
+-- for more; so the coverage's test is the protocol's.
 use Rattle.std.proofs.Common.{◌≡◌, ℕ, Bool, true, false, not, Option, Some, None, is_none, [], ◌∷◌, refl, sym, ap, ◌∙◌, arith}
 use Rattle.std.proofs.lemmas.Bool.{le-leb}
 use Rattle.std.specs.Prelude.{nat_lt, nat_le, ◌&&◌, ◌||◌}
@@ -20,7 +20,7 @@ and-true : (b : Bool) → (b && true) ≡ b
 and-true true = refl
 and-true false = refl
 
--- a note that waits for its mark alone is covered where the mark is acknowledged
+-- a note that waits only for its mark is covered if the mark is acknowledged
 for_mark : (c : Covering) (acknowledged reported : ℕ) (note : Option Note) → c.acknowledged ≡ acknowledged
     → c.all ≡ false → ((n : Note) → note ≡ Some n → n.after ≡ 0)
     → covers acknowledged reported note ≡ is_covered c (index_in note)

@@ -1,5 +1,5 @@
--- Steps of a primary. Quiet steps leave its log, its notes and what is found as they were, so the protocol's run is put
--- together from its end: behind the quiet steps stands the last step, or what stops the guest. A last step that gives
+-- Steps of a primary. Quiet steps leave its log, its notes and its operations as they were, so the protocol's run is
+-- put together from its end: after the quiet steps comes the last step, or what stops the guest. A last step that gives
 -- an operation pushes its mark and notes it.
 use Rattle.std.proofs.Common.{◌≡◌, ℕ, suc, ◌+◌, ◌-◌, ◌<◌, ◌≤◌, ◌⊎◌, Bool, true, false, cond, Option, Some, None, is_none, Ok, Err, [], ◌∷◌, length, drop, length-append, refl, sym, ap, subst, ◌∙◌, arith}
 use Rattle.std.proofs.lemmas.List.{append-nil, length-drop, drop-append-le}
@@ -95,7 +95,7 @@ giving_primary M s t l sd c x given laws p made valid =
       covers = Covers-noted M x c t given laws (ap M.step p.machine ∙ made) p.covers p.within;
     }))
 
--- ---- quiet steps, and what is behind them
+-- ---- quiet steps, and what comes after them
 
 record RunsQuietly {S : Type 0} (M : Machine S) (t : S) (l : Log) (sd : Sending) (c : Covering) (x : Node S)
     (n : ℕ) : Type 0 where

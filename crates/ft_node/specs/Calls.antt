@@ -1,5 +1,5 @@
--- What each call of a node answers and leaves, by the node of the protocol that it is before the call: the refusal of the
--- event's node part, or what its row says of the node.
+-- What each call of a node returns and leaves, by the node of the protocol that it is before the call: the refusal of
+-- the event's node part, or what its row says of the node.
 use Rattle.std.specs.Prelude.{◌≡◌, ◌≢◌, ℕ, ◌<◌, ◌≤◌, ◌⊎◌, Bool, true, false, Option, Some, None, List, [], ◌∷◌, length, slice_get, ◌==◌, if◌then◌else◌, Result, Ok, Err}
 use Rattle.std.specs.Global.{Vec}
 use Rattle.disk_dcdd.specs.declared.address.SectorAddress.{SectorAddress}
@@ -26,17 +26,17 @@ use Rattle.pair_events.specs.declared.reply.Why.{Why}
 use Rattle.pair_events.specs.declared.reply.Why.TheVariants as why
 use Rattle.replayer.specs.declared.replayer.Replayed.{Replayed}
 
--- where something refuses a call, that is the answer, and the node stays; else this is what it does
+-- if something refuses a call, that is the result and the node stays; if not, this is what the call does
 abbrev pub Unless : {A : Type 0} → Option Fault → Result A Fault → Type 0 → Type 0 → Type 0
 Unless (Some fault) result stays does = (result ≡ Err fault) × stays
 Unless None result stays does = does
 
--- what a call gives where memory is there; else it wants memory, and then this holds
+-- what a call gives if there is memory; if not, it is out of memory, and this holds
 abbrev pub Gives : {A : Type 0} → Result A Fault → Type 0 → (A → Type 0) → Type 0
 Gives (Ok value) wants does = does value
 Gives (Err fault) wants does = (fault ≡ OutOfMemory) × wants
 
--- what a call gives that takes no memory
+-- what a call gives that needs no memory
 abbrev pub Always : {A : Type 0} → Result A Fault → (A → Type 0) → Type 0
 Always (Ok value) does = does value
 Always (Err fault) does = ⊥
@@ -78,7 +78,7 @@ Steps M turns x result Is =
     Unless (refusals.step_refusal M turns x) result (Is x)
     (Gives result ((0 < turns) × Is x) (Stepped M turns x Is))
 
--- an input that is taken; it takes no memory
+-- an input that is taken; it needs no memory
 pub record Took {S : Type 0} (M : Machine S) (i : Input) (x : Node S) (Is : Node S → Type 0) : Type 0 where
   pub s : S
   pub takes : M.take x.machine i ≡ Some s
@@ -92,7 +92,7 @@ Takes M i refusal x result Is = Unless refusal result (Is x) (Always result (λ 
 abbrev pub IsSpelled : Packet → Vec ℕ → Type 0
 IsSpelled packet bytes = IsPacket packet × (bytes.items ≡ packet_bytes packet)
 
--- the packet of an entry of the log
+-- the packet of a log entry
 pub record SendsEntry {S : Type 0} (index : ℕ) (x : Node S) (bytes : Vec ℕ) : Type 0 where
   pub e : Entry
   pub entry : slice_get x.log index ≡ Some e
@@ -102,12 +102,12 @@ abbrev pub Sends : {S : Type 0} → ℕ → Node S → Result (Vec ℕ) Fault �
 Sends index x result =
     Unless (refusals.send_refusal index x) result (Unit {0}) (Gives result (Unit {0}) (SendsEntry index x))
 
--- the entry that comes next is held; a repeat, or one past a gap, changes nothing
+-- the next entry is held; a repeat, or an entry past a gap, changes nothing
 abbrev pub Delivered : {S : Type 0} → ℕ → Entry → Node S → (Node S → Type 0) → Bool → Type 0
 Delivered index e x Is true = (index ≡ length x.held) × Is (holds x e)
 Delivered index e x Is false = (index ≢ length x.held) × Is x
 
--- the entry that comes next wants memory where another one is held and not replayed
+-- the next entry may need memory if another is held and not replayed
 abbrev pub WantsRoom : {S : Type 0} → ℕ → Node S → Type 0
 WantsRoom index x = (index ≡ length x.held) × (x.replayed < length x.held)
 
@@ -118,7 +118,7 @@ Delivers (Some (Log generation index e)) x result Is =
 Delivers _ x result Is =
     Unless (refusals.first_of (refusals.role_refusal (Backup ∷ []) x ∷ Some Malformed ∷ [])) result (Is x) ⊥
 
--- the entry that would be held of a packet
+-- the entry of a packet that would be held
 abbrev pub Expects : {S : Type 0} → Option Packet → Node S → Result (Option Entry) Fault → Type 0
 Expects (Some (Log generation index e)) x result =
     Unless (refusals.log_refusal generation x) result (Unit {0})
@@ -126,13 +126,13 @@ Expects (Some (Log generation index e)) x result =
 Expects _ x result =
     Unless (refusals.first_of (refusals.role_refusal (Backup ∷ []) x ∷ Some Malformed ∷ [])) result (Unit {0}) ⊥
 
--- the packet that acknowledges all that is held; it tells nothing of what is replayed
+-- the packet that acknowledges all that is held; it reports nothing as replayed
 abbrev pub Acknowledges : {S : Type 0} → Node S → Result (Vec ℕ) Fault → Type 0
 Acknowledges x result =
     Unless (refusals.ack_refusal x) result (Unit {0})
     (Gives result (Unit {0}) (IsSpelled (Ack x.generation (length x.held))))
 
--- an acknowledgement comes, which tells nothing of what is replayed
+-- an acknowledgement arrives, which reports nothing as replayed
 abbrev pub Hears : {S : Type 0} → Option Packet → Node S → Result ℕ Fault → (Node S → Type 0) → Type 0
 Hears (Some (Ack generation held)) x result Is =
     Unless (refusals.acked_refusal generation held x) result (Is x)
@@ -140,7 +140,7 @@ Hears (Some (Ack generation held)) x result Is =
 Hears _ x result Is =
     Unless (refusals.first_of (refusals.role_refusal (Primary ∷ []) x ∷ Some Malformed ∷ [])) result (Is x) ⊥
 
--- moves of a backup by what it holds
+-- moves of a backup, of what it holds
 pub record Repeats {S : Type 0} (M : Machine S) (turns : ℕ) (x : Node S) (Is : Node S → Type 0) (r : Replayed)
     : Type 0 where
   pub y : Node S
@@ -154,7 +154,7 @@ Replaying M turns x result Is =
     Unless (refusals.replay_refusal x) result (Is x)
     (Gives result ((0 < turns) × IsBehind M x × Is x) (Repeats M turns x Is))
 
--- moves of a node that drains; with nothing left to replay it is alone
+-- moves of a draining node; with nothing left to replay it is alone
 pub record Empties {S : Type 0} (M : Machine S) (turns : ℕ) (x : Node S) (Is : Node S → Type 0) (d : Drained)
     : Type 0 where
   pub y : Node S
@@ -178,7 +178,7 @@ abbrev pub Tells : {S : Type 0} → Machine S → ℕ → Node S → Result ℕ 
 Tells M port x result =
     Unless (refusals.told_refusal x) result (Unit {0}) (Always result (λ keys. keys ≡ keys_covered M x port x.role))
 
--- the sector of a number at the selected drive, where its head stands
+-- the sector with a number at the selected drive, at its head's track
 pub record IsUnder {S : Type 0} (M : Machine S) (sector : ℕ) (x : Node S) (address : SectorAddress) : Type 0 where
   pub drive : ℕ
   pub selected : M.selected x.machine ≡ Some drive
@@ -188,11 +188,11 @@ abbrev pub Finds : {S : Type 0} → Machine S → ℕ → Node S → Result Sect
 Finds M sector x result =
     Unless (refusals.place_refusal M x) result (Unit {0}) (Always result (IsUnder M sector x))
 
--- it halts
+-- a node halts
 abbrev pub Stops : {S : Type 0} → Node S → Result (Unit {0}) Fault → (Node S → Type 0) → Type 0
 Stops x result Is = Unless (refusals.stop_refusal x) result (Is x) (Always result (λ done. Is (halts x)))
 
--- it asks for its generation: the first has won, a winner has won again, and any other is halted
+-- a node asks for its generation: the first has won, a winner has won again, and any other is halted
 abbrev pub AskedOf : {S : Type 0} → Option ℕ → List Asking → ℕ → Node S → Result Won Fault → List Asking
     → (Node S → Type 0) → Type 0
 AskedOf None old n x (Ok won) new Is = (new ≡ after_asking old x.generation n) × Is (wins x)

@@ -1,4 +1,4 @@
--- What a primary notes of a run of its guest, and why the run ended.
+-- What a primary notes about a run of its guest, and why the run ended.
 use Rattle.std.specs.Prelude.{◌<◌, length}
 use Rattle.output_rule.specs.Covering.{Covering, after_note, after_forget}
 use Rattle.output_rule.specs.declared.notes.TheConstants.{PLACES}
@@ -6,7 +6,7 @@ use Rattle.pair_protocol.specs.Event as event
 use Rattle.recorder.specs.declared.advanced.Why.{Why}
 use Rattle.recorder.specs.declared.advanced.Why.TheVariants as why
 
--- an operation that was given has the note of its mark, and no other that stood under its name
+-- an operation that was given has the note of its mark, and no other note under its name
 abbrev pub noted : Covering → Why → Covering
 noted c why.Turns = c
 noted c (why.Operation name index) = after_note (after_forget c name) name index

@@ -1,4 +1,4 @@
--- What the fields of a node in each role say of the protocol's node that it is.
+-- What the fields of a node in each role say of the node of the protocol that it is.
 use Rattle.std.specs.Option.{option_map}
 use Rattle.std.specs.Prelude.{◌≡◌, ℕ, ◌<◌, ◌≤◌, true, false, Option, Some, All, length, drop, slice_index}
 use Rattle.event_callbacks.specs.declared.devices.TheConstants.{PORTS}
@@ -12,7 +12,7 @@ use Rattle.output_rule.specs.Covering.{Covering}
 use Rattle.output_rule.specs.Notes.{index_of}
 use Rattle.pair_protocol.specs.Node.{Node, Note, Role, Primary, Alone, note_of, keys_covered}
 
--- only operations that are outstanding have notes
+-- only outstanding operations have notes
 abbrev pub AreOfOutstanding : {S : Type 0} → Machine S → S → Covering → Type 0
 AreOfOutstanding M s c =
     (name : OpId) (index : ℕ) → index_of c.notes name ≡ Some index → (o : Operation) × (M.find s name ≡ Some o)
@@ -21,8 +21,8 @@ AreOfOutstanding M s c =
 abbrev pub index_in : Option Note → Option ℕ
 index_in note = option_map (λ (n : Note). n.index) note
 
--- what a coverage knows of a primary: how far its log is acknowledged, the keys that are covered so, and the notes of
--- exactly those outstanding operations that have one, each of which waits for its mark alone
+-- what a coverage knows of a primary: how far its log is acknowledged, which keys are covered by that, and the notes of
+-- exactly those outstanding operations that have one, each of which waits only for its mark
 pub record Covers {S : Type 0} (M : Machine S) (c : Covering) (x : Node S) : Type 0 where
   pub acknowledged : c.acknowledged ≡ x.covered
   pub waits : c.all ≡ false
@@ -32,7 +32,7 @@ pub record Covers {S : Type 0} (M : Machine S) (c : Covering) (x : Node S) : Typ
   pub for_mark : (name : OpId) (note : Note) → note_of x.notes name ≡ Some note → note.after ≡ 0
   pub outstanding : AreOfOutstanding M x.machine c
 
--- a primary with this guest, this log, its end of the channel and its coverage: the log keeps the entries that are not
+-- a primary with this guest, this log, its end of the channel and its coverage; the log keeps the entries that are not
 -- acknowledged
 pub record IsPrimary {S : Type 0} (M : Machine S) (s : S) (l : Log) (sending : Sending) (c : Covering) (x : Node S)
     : Type 0 where
@@ -46,7 +46,7 @@ pub record IsPrimary {S : Type 0} (M : Machine S) (s : S) (l : Log) (sending : S
   pub acknowledged : sending.held ≡ x.covered
   pub covers : Covers M c x
 
--- a backup, or one that drains, with this guest and its end of the channel: what it has not replayed is still held
+-- a backup or a draining node, with this guest and its end of the channel; what it has not replayed is still held
 pub record IsFollower {S : Type 0} (role : Role) (s : S) (r : Receiving) (x : Node S) : Type 0 where
   pub role_is : x.role ≡ role
   pub up : x.running ≡ true

@@ -1,4 +1,4 @@
--- Which node of the protocol a node is, in whatever role, and what its calls ask of its guest.
+-- Which node of the protocol a node is, in whatever role, and what its calls require of its guest.
 use Rattle.std.specs.Prelude.{◌≡◌, true, false}
 use Rattle.guest_board.specs.Machine.{Machine}
 use Rattle.pair_protocol.specs.Node.{Node, Primary, Backup, Draining, Alone}
@@ -18,10 +18,10 @@ IsNode state M (seat.Draining d) x = IsFollower Draining (state d.replayer.board
 IsNode state M (seat.Alone a) x = IsAlone (state a.board) a.generation x
 IsNode state M (seat.Halted h) x = IsHalted M h.generation h.count x
 
--- ---- what the calls of a node ask of its guest
+-- ---- what the calls of a node require of its guest
 
--- a primary's coverage has room for the note of each operation, wherever the guest goes: few are outstanding, and no
--- others have notes
+-- a primary's coverage has room for the note of each operation, wherever the guest goes: few operations are
+-- outstanding, and no others have notes
 abbrev pub MayRun : {B S : Type 0} → (B → S) → Machine S → code.Node B → Type 0
 MayRun state M (seat.Primary p) =
     IsFrugal M (state p.recorder.board) × AreOfOutstanding M (state p.recorder.board) p.coverage

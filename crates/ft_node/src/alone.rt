@@ -19,8 +19,8 @@ use guest_board::{Input, Lockstep, StopReason, Stopped};
 use i8080_words::{Fault, R};
 use pair_events::Why;
 
-/// A guest that runs with no backup: it logs nothing, and releases all that it gives (VMware FT, section 2.3,
-/// "go live").
+/// A guest that runs with no backup: it logs nothing, and releases whatever it gives (VMware FT, section 2.3, "go
+/// live").
 #[derive(Drop)]
 pub struct Alone<B> {
     pub(crate) board: B,
@@ -45,7 +45,7 @@ impl<B: Lockstep> Alone<B> {
         }
     }
 
-    // What the node answers that came so far.
+    // The node's answer after this many steps.
     fn ran(&self, steps: u64, why: Why) -> Ran
         ensures { result ≡ record { steps = steps; count = B.machine.count (B.state self.now.board); why = why } }
     {
@@ -56,7 +56,7 @@ impl<B: Lockstep> Alone<B> {
         }
     }
 
-    /// Whether `key` would take the key of an index: its refusal, and nothing changes.
+    /// Whether `key` would take the key with an index: returns its refusal, and changes nothing.
     pub(crate) fn check_key(&self, port: u8, index: u64) -> R<()>
         requires { port < PORTS }
         ensures { (x : Node B.State)
@@ -72,7 +72,7 @@ impl<B: Lockstep> Alone<B> {
         Ok(())
     }
 
-    /// Whether `sent` would take the acceptance of a byte: its refusal, and nothing changes.
+    /// Whether `sent` would take the acceptance of a byte: returns its refusal, and changes nothing.
     pub(crate) fn check_sent(&self, port: u8, number: u64) -> R<()>
         requires { port < PORTS }
         ensures { (x : Node B.State)
@@ -86,7 +86,7 @@ impl<B: Lockstep> Alone<B> {
         Ok(())
     }
 
-    /// Whether `done` would take the completion of a write: its refusal, and nothing changes.
+    /// Whether `done` would take the completion of a write: returns its refusal, and changes nothing.
     pub(crate) fn check_done(&self, number: u64) -> R<()>
         ensures { (x : Node B.State)
             → IsAlone (B.state self.now.board) self.now.generation x
@@ -95,7 +95,7 @@ impl<B: Lockstep> Alone<B> {
         self.board.check(&Input::Written(number))
     }
 
-    /// Whether `under` would take a sector: its refusal, and nothing changes.
+    /// Whether `under` would take a sector: returns its refusal, and changes nothing.
     pub(crate) fn check_under(
         &self,
         address: SectorAddress,
@@ -119,7 +119,7 @@ impl<B: Lockstep> Alone<B> {
         })
     }
 
-    /// Takes the key of an index.
+    /// Takes the key with an index.
     pub(crate) fn key(&mut self, port: u8, index: u64, byte: u8) -> R<()>
         requires { port < PORTS }
         ensures answer { (x : Node B.State)
@@ -132,7 +132,7 @@ impl<B: Lockstep> Alone<B> {
         self.board.take(Input::Rx(port, byte))
     }
 
-    /// Takes the acceptance of the byte of a number, which has to be the oldest that is not accepted.
+    /// Takes the acceptance of the byte with a number, which must be the oldest that is not accepted.
     pub(crate) fn sent(&mut self, port: u8, number: u64) -> R<()>
         requires { port < PORTS }
         ensures answer { (x : Node B.State)
@@ -182,7 +182,7 @@ impl<B: Lockstep> Alone<B> {
         })
     }
 
-    /// The sector of a number at the selected drive, where its head stands, if one is selected.
+    /// The sector with a number at the selected drive, at its head's track; `None` if no drive is selected.
     pub(crate) fn sector(&self, sector: u8) -> Option<SectorAddress>
         ensures { (x : Node B.State)
             → IsAlone (B.state self.now.board) self.now.generation x
@@ -192,7 +192,7 @@ impl<B: Lockstep> Alone<B> {
         Some(self.board.sector_under(drive, sector))
     }
 
-    /// The outstanding operation of a name.
+    /// The outstanding operation with a name.
     pub(crate) fn release(&self, id: OpId) -> R<Operation>
         ensures { (x : Node B.State)
             → IsAlone (B.state self.now.board) self.now.generation x
@@ -213,7 +213,7 @@ impl<B: Lockstep> Alone<B> {
     }
 }
 
-// Why a guest stops that is refused a step.
+// Why a guest stops when a step is refused.
 fn why_of(fault: Fault) -> Why
     ensures idle { fault ≡ Idle → result ≡ why.Idle }
     ensures spent { fault ≡ Spent → result ≡ why.Spent }

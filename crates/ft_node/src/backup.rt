@@ -21,7 +21,7 @@ pub struct Backup<B> {
 }
 
 impl<B: Lockstep> Backup<B> {
-    /// Takes a packet of the log: true where its entry is the next one, and is held.
+    /// Takes a packet of the log: true if its entry is the next one, and is now held.
     pub(crate) fn on_log(&mut self, bytes: &[u8]) -> R<bool>
         ensures answer { (x : protocol.Node B.State)
             → IsFollower protocol.Backup (B.state self.old.replayer.board) self.old.receiver x
@@ -32,7 +32,7 @@ impl<B: Lockstep> Backup<B> {
         self.receiver.on_log(bytes)
     }
 
-    /// The entry that `on_log` would hold; none where the packet is a repeat, or past a gap.
+    /// The entry that `on_log` would hold; `None` if the packet is a repeat or past a gap.
     pub(crate) fn next_entry(&self, bytes: &[u8]) -> R<Option<Entry>>
         ensures { (x : protocol.Node B.State)
             → IsFollower protocol.Backup (B.state self.now.replayer.board) self.now.receiver x
@@ -58,12 +58,12 @@ impl<B: Lockstep> Backup<B> {
             → IsFollower protocol.Backup (B.state self.now.replayer.board) self.now.receiver x
             → calls.Acknowledges x result }
     {
-        // Both are in the range of a packet.
+        // Both are in a packet's range.
         let _ = (self.receiver.generation(), self.receiver.held());
         self.receiver.ack(alloc)
     }
 
-    /// Makes at most `turns` moves, each of them a step or an entry that is held.
+    /// Makes at most `turns` moves, each of them a step or a held entry.
     pub(crate) fn replay(&mut self, turns: u64) -> R<Replayed>
         requires on_trace { IsOnTrace B.machine (B.state self.old.replayer.board) self.old.receiver.entries }
         ensures answer { (x : protocol.Node B.State)

@@ -1,4 +1,4 @@
-//! A node that halted.
+//! A halted node.
 ghost use Rattle.std.specs.Prelude.{◌<◌};
 
 /// A node that does nothing more, with the count at which it halted.

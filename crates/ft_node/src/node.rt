@@ -37,8 +37,8 @@ use replayer::{Replayed, Replayer};
 use std::alloc::Global;
 use std::mem;
 
-/// A node of a pair, by its role. A call that the role has no part in is refused with `WrongRole`; a refused call
-/// leaves the node as it was, but for one that asked the arbiter and lost: that one is halted.
+/// A node of a pair, by its role. A call in which the role has no part is refused with `WrongRole`. A refused call
+/// leaves the node as it was, except that a node that asked the arbiter and lost is halted.
 #[derive(Drop)]
 pub enum Node<B> {
     Primary(Primary<B>),
@@ -49,7 +49,7 @@ pub enum Node<B> {
 }
 
 impl<B: Lockstep + Drop> Node<B> {
-    /// The primary of a generation, with a log in which nothing was put yet.
+    /// The primary of a generation, with a log that is still empty.
     pub fn primary(board: B, log: LogBuffer, generation: u32) -> Node<B>
         requires generation { 0 < generation }
         requires unused { log ≡ logs.log 0 [] }
@@ -76,7 +76,7 @@ impl<B: Lockstep + Drop> Node<B> {
     }
 
     /// Makes at most `turns` steps of a primary's or an alone node's machine, up to the first that gives an operation.
-    /// `LogFull`, `Spent`, `Idle` and `OutOfMemory` come only where no step is made.
+    /// `LogFull`, `Spent`, `Idle` and `OutOfMemory` come only if no step is made.
     pub fn step(&mut self, turns: u64) -> R<Ran>
         requires few { MayRun B.state B.machine self.old }
         ensures answer { (x : protocol.Node B.State) → IsNode B.state B.machine self.old x
@@ -90,7 +90,7 @@ impl<B: Lockstep + Drop> Node<B> {
         }
     }
 
-    /// Whether `key` would take the key of an index: its refusal, and nothing changes.
+    /// Whether `key` would take the key with an index: returns its refusal, and changes nothing.
     pub fn check_key(&self, port: u8, index: u64) -> R<()>
         requires { port < PORTS }
         ensures { (x : protocol.Node B.State) → IsNode B.state B.machine self.now x
@@ -103,7 +103,7 @@ impl<B: Lockstep + Drop> Node<B> {
         }
     }
 
-    /// Whether `sent` would take the acceptance of a byte: its refusal, and nothing changes.
+    /// Whether `sent` would take the acceptance of a byte: returns its refusal, and changes nothing.
     pub fn check_sent(&self, port: u8, number: u64) -> R<()>
         requires { port < PORTS }
         ensures { (x : protocol.Node B.State) → IsNode B.state B.machine self.now x
@@ -116,7 +116,7 @@ impl<B: Lockstep + Drop> Node<B> {
         }
     }
 
-    /// Whether `done` would take the completion of a write: its refusal, and nothing changes.
+    /// Whether `done` would take the completion of a write: returns its refusal, and changes nothing.
     pub fn check_done(&self, number: u64) -> R<()>
         ensures { (x : protocol.Node B.State) → IsNode B.state B.machine self.now x
             → result ≡ answered (refusals.done_refusal B.machine number x) }
@@ -128,7 +128,7 @@ impl<B: Lockstep + Drop> Node<B> {
         }
     }
 
-    /// Whether `under` would take a sector: its refusal, and nothing changes.
+    /// Whether `under` would take a sector: returns its refusal, and changes nothing.
     pub fn check_under(
         &self,
         address: SectorAddress,
@@ -147,8 +147,8 @@ impl<B: Lockstep + Drop> Node<B> {
         }
     }
 
-    /// The entry that `on_log` would hold; none where the packet is a repeat, or past a gap. Refused as `on_log` is, want of
-    /// memory apart.
+    /// The entry that `on_log` would hold; `None` if the packet is a repeat or past a gap. Refused as `on_log` is,
+    /// except for out of memory.
     pub fn next_entry(&self, bytes: &[u8]) -> R<Option<Entry>>
         ensures { (x : protocol.Node B.State) → IsNode B.state B.machine self.now x
             → calls.Expects (packet_at bytes.now) x result }
@@ -159,8 +159,8 @@ impl<B: Lockstep + Drop> Node<B> {
         }
     }
 
-    /// Takes the key that was typed at an index, from 0. `WrongNumber` where it is not the next one; `LogFull` and
-    /// `Spent` as the log and the number of keys say.
+    /// Takes the key that was typed at an index, from 0. `WrongNumber` if it is not the next one; `LogFull` and `Spent`
+    /// as the log and the number of keys say.
     pub fn key(&mut self, port: u8, index: u64, byte: u8) -> R<()>
         requires port { port < PORTS }
         ensures answer { (x : protocol.Node B.State) → IsNode B.state B.machine self.old x
@@ -175,8 +175,8 @@ impl<B: Lockstep + Drop> Node<B> {
         }
     }
 
-    /// Takes the acceptance of the byte of a number. `NotDue` where no byte of the port waits, `WrongNumber` where
-    /// another one is the oldest.
+    /// Takes the acceptance of the byte with a number. `NotDue` if no byte of the port waits, `WrongNumber` if another
+    /// one is the oldest.
     pub fn sent(&mut self, port: u8, number: u64) -> R<()>
         requires port { port < PORTS }
         ensures answer { (x : protocol.Node B.State) → IsNode B.state B.machine self.old x
@@ -191,7 +191,7 @@ impl<B: Lockstep + Drop> Node<B> {
         }
     }
 
-    /// Takes the completion of a write. `NotDue` where it is not outstanding.
+    /// Takes the completion of a write. `NotDue` if the write is not outstanding.
     pub fn done(&mut self, number: u64) -> R<()>
         ensures answer { (x : protocol.Node B.State) → IsNode B.state B.machine self.old x
             → calls.Takes B.machine (input.Written number) (refusals.done_refusal B.machine number x) x result
@@ -205,7 +205,7 @@ impl<B: Lockstep + Drop> Node<B> {
         }
     }
 
-    /// The sector of a number at the selected drive, where its head stands. `NotDue` where no drive is selected.
+    /// The sector with a number at the selected drive, at its head's track. `NotDue` if no drive is selected.
     pub fn place(&self, sector: u8) -> R<SectorAddress>
         requires { sector < SECTORS }
         ensures { (x : protocol.Node B.State) → IsNode B.state B.machine self.now x
@@ -219,8 +219,8 @@ impl<B: Lockstep + Drop> Node<B> {
         selected.ok_or(Fault::NotDue)
     }
 
-    /// Takes a sector that was read, with the number of the write that brought its bytes. `NotDue` where the head is
-    /// elsewhere by now, `SectorBusy` where a write of it is outstanding, `StaleRead` where it was read too early.
+    /// Takes a sector that was read, with the number of the write that brought its bytes. `NotDue` if the head is
+    /// elsewhere by now, `SectorBusy` if a write of the sector is outstanding, `StaleRead` if it was read too early.
     pub fn under(&mut self, address: SectorAddress, number: u64, bytes: [u8; SECTOR_BYTES]) -> R<()>
         requires drive { address.drive < DRIVES }
         requires sector { address.sector < SECTORS }
@@ -236,7 +236,7 @@ impl<B: Lockstep + Drop> Node<B> {
         }
     }
 
-    /// The packet of a primary's log entry of an index. `Unknown` where it is acknowledged or not there yet, and at
+    /// The packet of a primary's log entry at an index. `Unknown` if the entry is acknowledged or not there yet, and at
     /// every other node.
     pub fn packet(&self, alloc: Global, index: u64) -> R<Vec<u8>>
         ensures { (x : protocol.Node B.State) → IsNode B.state B.machine self.now x → calls.Sends index x result }
@@ -247,7 +247,7 @@ impl<B: Lockstep + Drop> Node<B> {
         }
     }
 
-    /// Takes a packet of the log: true where its entry is the next one, and is held; a repeat, or one past a gap, is
+    /// Takes a packet of the log: true if its entry is the next one, and is now held; a repeat, or one past a gap, is
     /// false and changes nothing. `Malformed` and `WrongGeneration` as the packet is.
     pub fn on_log(&mut self, bytes: &[u8]) -> R<bool>
         ensures answer { (x : protocol.Node B.State) → IsNode B.state B.machine self.old x
@@ -270,7 +270,7 @@ impl<B: Lockstep + Drop> Node<B> {
         }
     }
 
-    /// Takes an acknowledgement, and gives how many entries are acknowledged then. `BadAck` where it is of more entries
+    /// Takes an acknowledgement, and returns how many entries are acknowledged then. `BadAck` if it is of more entries
     /// than the log has.
     pub fn on_ack(&mut self, bytes: &[u8]) -> R<u64>
         ensures answer { (x : protocol.Node B.State) → IsNode B.state B.machine self.old x
@@ -283,7 +283,7 @@ impl<B: Lockstep + Drop> Node<B> {
         }
     }
 
-    /// Makes at most `turns` moves of what a backup holds. `OutOfMemory` comes only where no move is made.
+    /// Makes at most `turns` moves of what a backup holds. `OutOfMemory` comes only if no move is made.
     pub fn replay(&mut self, turns: u64) -> R<Replayed>
         requires on_trace { MayReplay B.state B.machine self.old }
         ensures answer { (x : protocol.Node B.State) → IsNode B.state B.machine self.old x
@@ -296,7 +296,7 @@ impl<B: Lockstep + Drop> Node<B> {
         }
     }
 
-    /// The outstanding operation of a name: `NotDue` where there is none, `NotCovered` where a primary's backup has not
+    /// The outstanding operation with a name: `NotDue` if there is none, `NotCovered` if a primary's backup has not
     /// acknowledged it.
     pub fn release(&self, id: OpId) -> R<Operation>
         ensures { (x : protocol.Node B.State) → IsNode B.state B.machine self.now x
@@ -322,8 +322,8 @@ impl<B: Lockstep + Drop> Node<B> {
         }
     }
 
-    /// Makes at most `turns` moves of what a node that won still holds; with nothing left it is alone. `OutOfMemory`
-    /// comes only where no move is made.
+    /// Makes at most `turns` moves of what a node that won still holds; with nothing left the node is alone.
+    /// `OutOfMemory` comes only if no move is made.
     pub fn drain(&mut self, turns: u64) -> R<Drained>
         requires on_trace { MayReplay B.state B.machine self.old }
         ensures answer { (x : protocol.Node B.State) → IsNode B.state B.machine self.old x
@@ -343,8 +343,8 @@ impl<B: Lockstep + Drop> Node<B> {
         })
     }
 
-    /// Asks the arbiter for the generation: whoever asks first goes on alone, a backup once it is drained. `Lost` where
-    /// the other node has asked before, and then this one is halted; `OutOfMemory` where the arbiter has no room.
+    /// Asks the arbiter for the generation: the first node to ask goes on alone, a backup once it is drained. `Lost` if
+    /// the other node has asked before; this one is then halted. `OutOfMemory` if the arbiter has no room.
     pub fn suspect(&mut self, id: u64, arbiter: &mut Arbiter) -> R<Won>
         ensures answer { (x : protocol.Node B.State) → IsNode B.state B.machine self.old x
             → calls.Asks arbiter.old id x result arbiter.new (IsNode B.state B.machine self.new) }
@@ -371,7 +371,7 @@ impl<B: Lockstep + Drop> Node<B> {
         }
     }
 
-    /// Halts. `WrongRole` where it was halted before.
+    /// Halts. `WrongRole` if it was halted before.
     pub fn stop(&mut self) -> R<()>
         ensures answer { (x : protocol.Node B.State) → IsNode B.state B.machine self.old x
             → calls.Stops x result (IsNode B.state B.machine self.new) }
@@ -397,7 +397,7 @@ impl<B: Lockstep + Drop> Node<B> {
         }
     }
 
-    /// How many steps the machine has made; of a halted node, had made.
+    /// How many steps the machine has made; for a halted node, how many it had made.
     pub fn count(&self) -> u64
         ensures { (x : protocol.Node B.State) → IsNode B.state B.machine self.now x
             → B.machine.count x.machine ≡ result }
@@ -425,7 +425,7 @@ impl<B: Lockstep + Drop> Node<B> {
         }
     }
 
-    // A node that drained is alone.
+    // A node that has drained is alone.
     fn finish(&mut self)
         ensures { (y : protocol.Node B.State) → y.role ≡ protocol.Draining → at_end y ≡ true
             → IsNode B.state B.machine self.old y → IsNode B.state B.machine self.new (goes_live y) }
@@ -476,7 +476,7 @@ impl<B: Lockstep + Drop> Node<B> {
     }
 }
 
-// The node that a drained node is.
+// The alone node that a drained node becomes.
 fn alone<B: Lockstep + Drop>(draining: Draining<B>) -> Node<B>
     ensures { (y : protocol.Node B.State) → at_end y ≡ true
         → IsFollower protocol.Draining (B.state draining.replayer.board) draining.receiver y

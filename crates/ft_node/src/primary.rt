@@ -34,7 +34,7 @@ pub struct Primary<B> {
     pub(crate) recorder: Recorder<B>,
     pub(crate) sender: Sender,
     pub(crate) coverage: Coverage,
-    // The log keeps what is not acknowledged, and all three know how much is.
+    // The log keeps what is not acknowledged, and all three know how much is acknowledged.
     ghost first: { recorder.log.first ≡ sender.held },
     ghost acknowledged: { coverage.acknowledged ≡ sender.held },
     ghost within: { sender.held ≤ next_of recorder.log },
@@ -65,7 +65,7 @@ impl<B: Lockstep> Primary<B> {
         })
     }
 
-    /// Whether `key` would take the key of an index: its refusal, and nothing changes.
+    /// Whether `key` would take the key with an index: returns its refusal, and changes nothing.
     pub(crate) fn check_key(&self, port: u8, index: u64) -> R<()>
         requires { port < PORTS }
         ensures answer { (x : Node B.State)
@@ -85,7 +85,7 @@ impl<B: Lockstep> Primary<B> {
         Ok(())
     }
 
-    /// Whether `sent` would take the acceptance of a byte: its refusal, and nothing changes.
+    /// Whether `sent` would take the acceptance of a byte: returns its refusal, and changes nothing.
     pub(crate) fn check_sent(&self, port: u8, number: u64) -> R<()>
         requires { port < PORTS }
         ensures { (x : Node B.State)
@@ -101,7 +101,7 @@ impl<B: Lockstep> Primary<B> {
         self.recorder.log().room()
     }
 
-    /// Whether `done` would take the completion of a write: its refusal, and nothing changes.
+    /// Whether `done` would take the completion of a write: returns its refusal, and changes nothing.
     pub(crate) fn check_done(&self, number: u64) -> R<()>
         ensures { (x : Node B.State)
             → IsPrimary B.machine (B.state self.now.recorder.board) self.now.recorder.log self.now.sender
@@ -113,7 +113,7 @@ impl<B: Lockstep> Primary<B> {
         self.recorder.log().room()
     }
 
-    /// Whether `under` would take a sector: its refusal, and nothing changes.
+    /// Whether `under` would take a sector: returns its refusal, and changes nothing.
     pub(crate) fn check_under(
         &self,
         address: SectorAddress,
@@ -145,7 +145,7 @@ impl<B: Lockstep> Primary<B> {
         self.recorder.log().room()
     }
 
-    /// Takes the key of an index.
+    /// Takes the key with an index.
     pub(crate) fn key(&mut self, port: u8, index: u64, byte: u8) -> R<()>
         requires port { port < PORTS }
         ensures answer { (x : Node B.State)
@@ -161,7 +161,7 @@ impl<B: Lockstep> Primary<B> {
         Ok(())
     }
 
-    /// Takes the acceptance of the byte of a number, which has to be the oldest that is not accepted.
+    /// Takes the acceptance of the byte with a number, which must be the oldest that is not accepted.
     pub(crate) fn sent(&mut self, port: u8, number: u64) -> R<()>
         requires port { port < PORTS }
         ensures answer { (x : Node B.State)
@@ -222,7 +222,7 @@ impl<B: Lockstep> Primary<B> {
         Ok(())
     }
 
-    /// The packet of the entry of an index, `Unknown` where it is acknowledged or not there yet.
+    /// The packet of the entry at an index; `Unknown` if it is acknowledged or not there yet.
     pub(crate) fn packet(&self, alloc: Global, index: u64) -> R<Vec<u8>>
         ensures { (x : Node B.State)
             → IsPrimary B.machine (B.state self.now.recorder.board) self.now.recorder.log self.now.sender
@@ -234,7 +234,7 @@ impl<B: Lockstep> Primary<B> {
         self.sender.packet(alloc, self.recorder.log(), index)
     }
 
-    /// Takes an acknowledgement, and gives how many entries are acknowledged then.
+    /// Takes an acknowledgement, and returns how many entries are acknowledged then.
     pub(crate) fn on_ack(&mut self, bytes: &[u8]) -> R<u64>
         ensures answer { (x : Node B.State)
             → IsPrimary B.machine (B.state self.old.recorder.board) self.old.recorder.log self.old.sender
@@ -250,7 +250,7 @@ impl<B: Lockstep> Primary<B> {
         Ok(covered)
     }
 
-    /// The sector of a number at the selected drive, where its head stands, if one is selected.
+    /// The sector with a number at the selected drive, at its head's track; `None` if no drive is selected.
     pub(crate) fn sector(&self, sector: u8) -> Option<SectorAddress>
         ensures { (x : Node B.State)
             → IsPrimary B.machine (B.state self.now.recorder.board) self.now.recorder.log self.now.sender
@@ -261,7 +261,7 @@ impl<B: Lockstep> Primary<B> {
         Some(self.recorder.board().sector_under(drive, sector))
     }
 
-    /// The outstanding operation of a name, where its mark is acknowledged.
+    /// The outstanding operation with a name, if its mark is acknowledged.
     #[tactic(auto, using(crate::proofs::PrimaryReleases::release_refused))]
     pub(crate) fn release(&self, id: OpId) -> R<Operation>
         ensures { (x : Node B.State)

@@ -1,4 +1,4 @@
-//! How far a node came, and whether it is alone.
+//! How far a node got, and whether it is alone.
 
 use pair_events::Why;
 

@@ -1,4 +1,5 @@
-//! Nodes over a small guest. It keeps no operation and has no drive, so a node of it makes no step and takes no input here:
+//! Nodes over a small guest. The guest keeps no operation and has no drive, so its nodes make no step and take no input
+//! here: those calls are tested with boards, in the crate of the world.
 //! those calls are tested with boards, in the crate of the world.
 use crate::{Drained, Node};
 use arbiter_core::{Arbiter, Won};

@@ -1,4 +1,4 @@
--- What stands at each way out of the steps, by the lemmas of `AloneSteps`.
+-- What holds at each way out of the steps, by the lemmas of `AloneSteps`.
 use Rattle.std.proofs.Common.{Ok, sym, subst, arith}
 use Rattle.ft_node.specs.Calls as calls
 use Rattle.ft_node.specs.Roles.{IsAlone}

@@ -1,4 +1,4 @@
--- The key has the next index; what is left is the log, and whether a number for it is left.
+-- The key has the next index; what is left is the log, and whether a number is left for the key.
 use Rattle.std.proofs.Common.{◌≡◌, ◌<◌, ◌≤◌, [], ◌∷◌, sym, ap, subst, ◌∙◌}
 use Rattle.std.proofs.lemmas.Bool.{eq-eqb}
 use Rattle.std.proofs.lemmas.Result.{err_from_is_err_and}

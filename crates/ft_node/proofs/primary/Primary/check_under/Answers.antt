@@ -1,4 +1,4 @@
--- The head stands at the sector, which its guest does not refuse, so what is left is the log.
+-- The head is at the sector, which its guest does not refuse, so what is left is the log.
 use Rattle.std.proofs.Common.{◌≡◌, None, rules, sym, ap, subst, ◌∙◌}
 use Rattle.pair_protocol.proofs.Disk.{same_address-refl}
 use Rattle.guest_board.specs.Machine.{refusal_of}

@@ -1,4 +1,4 @@
--- The check let the completion pass, so the offer takes it, and the write has no note any more.
+-- The check let the completion pass, so the offer takes it, and the write no longer has a note.
 use Rattle.guest_board.specs.declared.input.Input.TheVariants as input
 use Rattle.pair_protocol.specs.Refusals.{done_refusal}
 use Rattle.ft_node.proofs.PassedChecks.{done_passes}

@@ -1,4 +1,4 @@
--- What the coverage, the log and the sender know is the acknowledged number.
+-- The coverage, the log and the sender all know the acknowledged number.
 use Rattle.std.proofs.Common.{ap, ◌∙◌}
 use Rattle.log_buffer.specs.Log.{Log, next_of}
 use Rattle.log_channel.specs.Channel.{ack_answer}

@@ -1,4 +1,5 @@
--- The check let the acceptance pass, so the offer takes it; the byte of this number was due, and has no note any more.
+-- The check let the acceptance pass, so the offer takes it; the byte with this number was due, and no longer has a
+-- note.
 use Rattle.std.proofs.Common.{◌≡◌, Some, Ok, sym, ap, subst, ◌∙◌}
 use Rattle.std.specs.Option.{option_map}
 use Rattle.event_callbacks.specs.declared.operations.OpId.TheVariants as id
