@@ -1,5 +1,5 @@
--- Two lists agree where at each place both have an element, or neither. They still agree after one of each is replaced at
--- one place, and after one more stands behind each.
+-- Two lists agree if at each place both have an element, or neither. They still agree after one element of each is
+-- replaced at one place, and after one more is appended to each.
 use Rattle.std.proofs.Common.{◌≡◌, [], ◌∷◌, ◌++◌, None, Some, List, refl, subst, suc, zero, ℕ}
 use Rattle.std.specs.Prelude.{Option, slice_get, slice_set}
 use Rattle.ft_world.specs.Shows.{Agree}
@@ -25,12 +25,12 @@ agree-push P (x ∷ xs) [] a b p h n = absurd (h 0)
 agree-push P (x ∷ xs) (y ∷ ys) a b p h zero = h zero
 agree-push P (x ∷ xs) (y ∷ ys) a b p h (suc n) = agree-push P xs ys a b p (λ m. h (suc m)) n
 
--- what both have at a place where both have something
+-- what holds of both at a place where both have something
 pub agree-both : {A B : Type 0} (P : A → B → Type 0) (o : Option A) (q : Option B) (a : A) (b : B) → o ≡ Some a →
     q ≡ Some b → Agree P o q → P a b
 agree-both P o q a b e f h = subst (λ z. Agree P (Some a) z) f (subst (λ z. Agree P z q) e h)
 
--- the other one of a place
+-- the element of the other list at a place
 pub agree-other : {A B : Type 0} (P : A → B → Type 0) (o : Option A) (q : Option B) (a : A) → o ≡ Some a →
     Agree P o q → (b : B) × (q ≡ Some b) × P a b
 agree-other P o None a e h = absurd (subst (λ z. Agree P z None) e h)

@@ -1,4 +1,4 @@
--- What a call answers, where it is refused, wants memory, or gives a value: each part may be said in other words.
+-- What a call returns if it is refused, is out of memory, or gives a value: each part may be said in other words.
 use Rattle.std.proofs.Common.{◌≡◌, ◌∙◌, ℕ, List, Err, None, Ok, Option, Result, Some, ap, refl}
 use Rattle.std.specs.Result.{IsErrAnd}
 use Rattle.disk_dcdd.specs.Completion.{answered}
@@ -19,7 +19,7 @@ pub unless : {A : Type 0} (o : Option Fault) (r : Result A Fault) (P Q D E : Typ
 unless None r P Q D E f g d = g d
 unless (Some m) r P Q D E f g d = (d.0, f d.1)
 
--- of what holds if memory is wanting, this much may be said alone
+-- of what holds if the call is out of memory, it is enough to say this much
 pub weaker : {A : Type 0} (o : Option Fault) (r : Result A Fault) (P W : Type 0) (D : A → Type 0) → (W → P)
     → Unless o r P (Gives r W D) → Unless o r P (Gives r P D)
 weaker None (Ok v) P W D f d = d

@@ -1,5 +1,5 @@
--- What a row gives of a world that is shown: the world after it is reached by actions, so it is faithful, and what was
--- settled grows. So an event applies wherever its row holds and the fields show the world after it.
+-- What follows from a row at a world that is shown: the world after it is reached by actions, so it is faithful, and
+-- what was settled grows. So an event applies if its row holds and the fields show the world after it.
 use Rattle.std.proofs.Common.{◌≡◌, Bool, Err, List, None, Ok, Some, ap, false, refl, subst, sym, true}
 use Rattle.std.specs.Prelude.{IsTrue, Result}
 use Rattle.std.specs.Result.{IsErrAnd}
@@ -93,7 +93,7 @@ device_fails state M records old new c e fault h same free disk fails =
     subst (λ f. Applies state M records c e (Err f) new) (sym fails)
     (same_world state M records old new c e DeviceFault h same (DeviceFails free disk))
 
--- a refusal that stands, and one that does not
+-- a refusal that applies, and one that does not
 pub stands : (b : Bool) (fault : Fault) → b ≡ true → fault_if b fault ≡ Some fault
 stands b fault e = ap (λ b. fault_if b fault) e
 

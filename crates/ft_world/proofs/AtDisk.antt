@@ -1,5 +1,5 @@
--- A write comes to the disk: the record of its sector is the greatest that arrived there, and every other sector keeps its
--- record. A write that was released is of a sector of the disk, so only the device itself can fail.
+-- A write arrives at the disk: the record of its sector is the greatest that arrived there, and every other sector
+-- keeps its record. A write that was released is to a sector of the disk, so only the device itself can fail.
 use Rattle.std.proofs.Common.{◌≡◌, [], ◌∷◌, ◌++◌, ◌∙◌, Bool, Err, List, None, Ok, Some, ap, cond, false, inl, inr, refl, subst, sym, true, ℕ}
 use Rattle.std.specs.Option.{option_and_then, option_map_or}
 use Rattle.std.specs.Prelude.{if◌then◌else◌, Option, Result, is_some, nat_lt, slice_get}
@@ -154,7 +154,7 @@ puts_unknown state M records old c m brings h =
     refuses state M records old old c (event.Put m) Unknown h refl
     (brings_none (slice_get old.messages m) (slice_get c.world.messages m) (h.parts.messages.each m) brings) refl
 
--- the disk fails, or wants room for its answer
+-- the disk fails, or is out of memory for its answer
 pub not_put : (rs : List Record) (a : SectorAddress) (met : Record) (fault : Fault) → record_at rs a ≡ Some met →
     fault ≡ refusal_at rs a → fault ≡ DeviceFault
 not_put rs a met fault at e = e ∙ ap (λ (o : Option Record). if is_some o then DeviceFault else Unknown) at

@@ -1,4 +1,4 @@
--- What an event does at one host is what it does at its station: each other host stays, and so does each other node.
+-- What an event does at one host is what it does at its station: every other host stays, and so does every other node.
 use Rattle.std.proofs.Common.{◌≡◌, ℕ, List, Err, None, Ok, Option, Result, Some, inl, inr, refl, subst, sym}
 use Rattle.std.specs.Prelude.{slice_get, slice_set, if◌then◌else◌}
 use Rattle.arbiter_core.specs.Winners.{winner_of}
@@ -34,14 +34,14 @@ pub record Becomes {B H S : Type 0} (state : B → S) (M : Machine S) (nodes : L
   pub done : does x y
   pub after : AreHosts state M new (slice_set nodes n y)
 
--- the refusal of the node's part, or what the event does there; out of memory, nothing changes
+-- the refusal of the node's part, or what the event does there; if out of memory, nothing changes
 abbrev pub AtHost : {A B H S : Type 0} → (B → S) → Machine S → List (Node S) → ℕ → (Node S → Option Fault)
     → Result A Fault → List (Host B H) → (A → Node S → Node S → Type 0) → Type 0
 AtHost state M nodes n part result new does =
     Unless (at_node (slice_get nodes n) part) result (AreHosts state M new nodes)
     (Gives result (AreHosts state M new nodes) (λ value. Becomes state M nodes n new (does value)))
 
--- likewise, for an event that takes no memory
+-- the same, for an event that needs no memory
 abbrev pub DoesAtHost : {A B H S : Type 0} → (B → S) → Machine S → List (Node S) → ℕ → (Node S → Option Fault)
     → Result A Fault → List (Host B H) → (A → Node S → Node S → Type 0) → Type 0
 DoesAtHost state M nodes n part result new does =
@@ -54,7 +54,7 @@ pub record Says {S : Type 0} (nodes : List (Node S)) (n : ℕ) (says : Node S �
   pub there : slice_get nodes n ≡ Some x
   pub said : says x
 
--- the refusal of the node's part, or what the event does there; memory is wanted only if this holds of the node
+-- the refusal of the node's part, or what the event does there; it is out of memory only if this holds of the node
 abbrev pub WantsAtHost : {A B H S : Type 0} → (B → S) → Machine S → List (Node S) → ℕ → (Node S → Option Fault)
     → Result A Fault → (Node S → Type 0) → List (Host B H) → (A → Node S → Node S → Type 0) → Type 0
 WantsAtHost state M nodes n part result wants new does =
@@ -67,7 +67,7 @@ AskHost nodes n part result says =
     Unless (at_node (slice_get nodes n) part) result (Unit {0})
     (Gives result (Unit {0}) (λ value. Says nodes n (says value)))
 
--- likewise, for an event that takes no memory
+-- the same, for an event that needs no memory
 abbrev pub ReadHost : {A S : Type 0} → List (Node S) → ℕ → (Node S → Option Fault) → Result A Fault
     → (A → Node S → Type 0) → Type 0
 ReadHost nodes n part result says =
@@ -119,7 +119,7 @@ module _ {B H S : Type 0} (state : B → S) (M : Machine S) (hosts : List (Host 
         m))
   ]
 
-  -- what the node's part answers at a station is what it answers at the number of that station
+  -- what the node's part returns at a station is what it returns at the number of that station
   at_station : {A : Type 0} (h : Station B) (part : Node S → Option Fault) (result : Result A Fault) (P D : Type 0)
       → slice_get hosts n ≡ Some (host.Node h)
       → ((x : Node S) → slice_get nodes n ≡ Some x → IsStation state M h x → Unless (part x) result P D)
@@ -186,7 +186,7 @@ module _ {B H D S : Type 0} {state : B → S} {M : Machine S} {records : D → L
         })
         (says x is))
 
-    -- likewise; memory is wanted only if this holds of the node
+    -- the same, for an event that is out of memory only if this holds of the node
     pub wants_at_host : {A : Type 0} (part : Node S → Option Fault) (result : Result A Fault) (wants : Node S → Type 0)
         (does : A → Node S → Node S → Type 0)
         → ((x : Node S) → IsStation state M here x
@@ -213,7 +213,7 @@ module _ {B H D S : Type 0} {state : B → S} {M : Machine S} {records : D → L
         })
         (says x is))
 
-    -- likewise, for an event that takes no memory
+    -- the same, for an event that needs no memory
     pub does_at_host : {A : Type 0} (part : Node S → Option Fault) (result : Result A Fault)
         (does : A → Node S → Node S → Type 0)
         → ((x : Node S) → IsStation state M here x → DoesAtStation (part x) result x (IsStation state M s) does)
@@ -238,7 +238,7 @@ module _ {B H D S : Type 0} {state : B → S} {M : Machine S} {records : D → L
         }
         becomes x there (Err fault) m = absurd m
 
-    -- it asks the arbiter
+    -- a node asks the arbiter
     pub suspects_host : (result : Result Won Fault) (askings : List Asking)
         → ((x : Node S) → IsStation state M here x
         → Asks old.askings n x result askings (IsStation state M s))
@@ -275,7 +275,7 @@ module _ {B H D S : Type 0} {state : B → S} {M : Machine S} {records : D → L
         (λ x there is. maps (part x) result (Unit {0}) (Unit {0}) (Unit {0}) (Unit {0}) (λ v. says v x)
         (λ v. Says c.world.nodes n (says v)) (λ p. p) (λ p. p) (λ v none s. record { x = x; there = there; said = s }) (answers x is.node))
 
-    -- likewise, for an event that takes no memory
+    -- the same, for an event that needs no memory
     pub reads_host : {A : Type 0} (part : Node S → Option Fault) (result : Result A Fault)
         (says : A → Node S → Type 0)
         → ((x : Node S) → IsNode state M here.node x

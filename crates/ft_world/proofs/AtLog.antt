@@ -1,6 +1,6 @@
--- A log entry comes to a backup, and an acknowledgement to a primary. The bytes of a message spell one packet, so what
--- the node makes of that packet is what the row says of the entry, or of the acknowledgement, that was sent; a message
--- of another kind brings neither, and is unknown.
+-- A log entry arrives at a backup, and an acknowledgement at a primary. The bytes of a message spell one packet, so
+-- what the node does with that packet is what the row says of the entry, or of the acknowledgement, that was sent; a
+-- message of another kind brings neither, and is unknown.
 use Rattle.std.proofs.Common.{◌≡◌, ◌∙◌, Bool, Err, List, None, Ok, Some, ap, cond, false, inl, inr, refl, subst, true, ℕ}
 use Rattle.std.specs.Option.{option_and_then}
 use Rattle.std.specs.Prelude.{Option, slice_get}
@@ -37,7 +37,7 @@ use Rattle.ft_world.proofs.AtOneNode.{RowAt, node_applies, node_refused_surely, 
 
 -- ---- a log entry
 
--- the message is an entry of the log, which these bytes spell
+-- the message is a log entry, which these bytes spell
 pub record BringsEntry (q : Option world.Message) (bytes : List ℕ) : Type 0 where
   pub generation : ℕ
   pub index : ℕ

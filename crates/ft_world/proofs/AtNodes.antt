@@ -1,5 +1,6 @@
--- Events at a node: one node becomes another of the same generation that is a backup no more and no less, so the highest
--- generation stays, and so does the only node that may be its backup. A machine that begins elsewhere makes the same steps.
+-- Events at a node: one node becomes another of the same generation, which is a backup exactly if it was one before; so
+-- the highest generation stays, and so does the only node that may be its backup. A machine that begins elsewhere makes
+-- the same steps.
 use Rattle.std.proofs.Common.{◌≡◌, [], ◌∷◌, ◌∙◌, Err, List, None, Ok, Some, ap, inl, inr, refl, subst, suc, sym, zero, ℕ}
 use Rattle.std.specs.Prelude.{if◌then◌else◌, max, Option, slice_get, slice_set, ◌⊎◌}
 use Rattle.event_callbacks.specs.Operations.{id_of}

@@ -1,5 +1,5 @@
--- An event that comes to one node: its row follows from what it does at that node, since every other node stays, the node
--- keeps its generation, and it is a backup after it exactly where it was one before.
+-- An event that comes to one node: its row follows from what it does at that node, since every other node stays, the
+-- node keeps its generation, and it is a backup afterwards exactly if it was one before.
 use Rattle.std.proofs.Common.{◌≡◌, ◌∷◌, ◌∙◌, [], Err, List, None, Ok, Some, ap, inl, inr, refl, subst, sym, ℕ}
 use Rattle.std.specs.Prelude.{Option, slice_get}
 use Rattle.guest_board.specs.Machine.{Machine}
@@ -33,7 +33,7 @@ pub record RowAt {S : Type 0} (M : Machine S) (c : Course S) (e : Event) (r : Re
   pub generation : y.generation ≡ x.generation
   pub backup : is_backup y.role ≡ is_backup x.role
 
--- it is answered; at a node that wants memory, and at one that does not
+-- it is answered, at a node where it may need memory, and at one where it needs none
 pub node_applies : {A B H D S : Type 0} (state : B → S) (M : Machine S) (records : D → List Record)
     (old : Running B H D) (c : Course S) (e : Event) (n : ℕ) (part : Node S → Option Fault)
     (does : A → Node S → Node S → Type 0) (value : A) (r : Reply) (hosts : List (Host B H)) →
@@ -52,7 +52,7 @@ node_applies state M records old c e n part does value r hosts h free row a =
     (Accepts (free ∙ k.0) is.row)
     (with_one_host state M records h.drives old c hosts n x y h.parts k.1.there is.generation is.backup k.1.after)
 
--- it is refused as the node refuses it, or wants memory
+-- it is refused as the node refuses it, or is out of memory
 pub node_refused : {B H D S : Type 0} (A : Type 0) (state : B → S) (M : Machine S) (records : D → List Record)
     (old : Running B H D) (c : Course S) (e : Event) (n : ℕ) (part : Node S → Option Fault)
     (does : A → Node S → Node S → Type 0) (fault : Fault) (hosts : List (Host B H)) →
@@ -73,7 +73,7 @@ node_refused A state M records old c e n part does fault hosts h free takes leav
           (sym want.1) (WantsMemory (free ∙ want.0) takes))
     ]
 
--- likewise, with what holds of the node if memory is wanting
+-- the same, with what holds of the node if the event is out of memory
 pub node_refused_wanting : {B H D S : Type 0} (A : Type 0) (state : B → S) (M : Machine S)
     (records : D → List Record) (old : Running B H D) (c : Course S) (e : Event) (n : ℕ)
     (part : Node S → Option Fault) (wants : Node S → Type 0) (does : A → Node S → Node S → Type 0) (fault : Fault)
@@ -95,7 +95,7 @@ node_refused_wanting A state M records old c e n part wants does fault hosts h f
           (sym want.1) (WantsMemory (free ∙ want.0) (takes want.2)))
     ]
 
--- at a node that wants no memory it is refused as the node refuses it
+-- at a node where it needs no memory it is refused as the node refuses it
 pub refused_surely : {A : Type 0} (o : Option Fault) (fault : Fault) (stays : Type 0) (does : A → Type 0) →
     Unless {A = A} o (Err fault) stays (Always {A = A} (Err fault) does) → (o ≡ Some fault) × stays
 refused_surely None fault stays does d = absurd d
@@ -115,7 +115,7 @@ node_refused_surely A state M records old c e n part does fault hosts h free lea
     unchanged state M records old (record old { hosts = hosts }) c e fault h
     (with_hosts state M records h.drives old c hosts h.parts k.1) (Refuses (free ∙ k.0) leaves)
 
--- the world's part refuses nothing, and what is left is the node's part
+-- the world's part refuses nothing, so what is left is the node's part
 pub second_of : (first second : Option Fault) → first ≡ None → first_of (first ∷ second ∷ []) ≡ second
 second_of first second none = ap (λ o. first_of (o ∷ second ∷ [])) none ∙ only second
   where

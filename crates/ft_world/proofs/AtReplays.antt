@@ -45,7 +45,7 @@ use Rattle.ft_world.proofs.AtOneNode.{RowAt, node_applies, node_refused_wanting}
 use Rattle.ft_world.proofs.Keeping.{acting_role, replays_keep}
 use Rattle.ft_world.proofs.Sending.{asked_ok}
 
--- ---- what the calls ask
+-- ---- what the calls require
 
 -- what a follower holds and has not replayed are the next entries of a recorded run
 follows : {B H D S : Type 0} (state : B → S) (M : Machine S) (records : D → List Record) (old : Running B H D)
@@ -81,7 +81,7 @@ station_may_replay state M records old n station some at =
 
 -- ---- a backup replays
 
--- if memory is wanting, the first move is a step
+-- if the event is out of memory, the first move is a step
 steps_first : {S : Type 0} (M : Machine S) (c : Course S) (n turns : ℕ) → Says c.world.nodes n (WantsMoves M turns) →
     StepsFirst (machine_of M c) c.world n turns
 steps_first M c n turns s = record {

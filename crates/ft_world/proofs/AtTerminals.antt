@@ -1,5 +1,5 @@
--- Events at a terminal: a byte is typed there, comes to it, or it is told how many keys are covered. What the screen of a
--- port has is what the arrivals of the terminal gave, so one more byte leaves both alike.
+-- Events at a terminal: a byte is typed there, a byte arrives, or the terminal is told how many keys are covered. The
+-- screen of a port has what the arrivals of the terminal gave, so one more byte leaves both alike.
 use Rattle.std.proofs.Common.{◌≡◌, ◌+◌, ◌<◌, ◌≤◌, [], ◌∷◌, ◌++◌, ◌∙◌, Bool, Err, List, None, Ok, Some, ap, arith, cond, false, inl, inr, length, refl, subst, sym, true, ℕ}
 use Rattle.std.specs.Option.{option_and_then}
 use Rattle.std.specs.Prelude.{Option, Result, nat_le, nat_lt, slice_get, slice_set, ◌==◌}
@@ -52,7 +52,7 @@ terminals_set screens ts port s t h i = record {
   each = agree-set IsTerminal screens ts port s t i h.each;
 }
 
--- where a port is, and is not
+-- there is such a port, and there is none
 pub port_there : {S : Type 0} (w : World S) (port : ℕ) → length w.terminals ≡ PORTS → port < PORTS →
     no_port w port ≡ None
 port_there w port e low =
@@ -115,7 +115,7 @@ types_applies state M records old c port byte (Err fault) screens h (inr (is, lo
     wants_memory state M records old (record old { terminals = screens }) c (event.TypeByte port byte) fault h
     (ap (λ l. record old { terminals = l }) same) (port_there c.world port h.parts.terminals.count low) tt is
 
--- A byte comes.
+-- A byte arrives.
 
 arrived_accepted : (s : Screen) (byte : ℕ) (b : Bool) →
     (cond b (record s { accepted = s.accepted ++ byte ∷ [] }) s).accepted ≡ s.accepted ++ cond b (byte ∷ []) []

@@ -1,6 +1,6 @@
--- How a pair begins. Its two nodes are those of the opening, since both guests stand where the machine boots and no
--- step is counted there; nothing was sent, typed or asked; and a disk on which nothing is written has its sectors at
--- boot. The Altair of a setup is a machine that a pair may run.
+-- How a pair begins. Its two nodes are those of the opening, since both guests are in the state in which the machine
+-- boots and no step is counted there; nothing was sent, typed or asked; and a disk on which nothing is written has its
+-- sectors at boot. The Altair of a setup is a machine that a pair may run.
 use Rattle.std.proofs.Common.{◌≡◌, ◌∙◌, [], ◌∷◌, ◌++◌, ◌≤◌, List, None, Option, Some, ap, refl, subst, suc, sym, true, false, zero, ℕ}
 use Rattle.std.specs.Prelude.{IsSome, slice_get}
 use Rattle.std.specs.Option.{option_map_or}
@@ -56,7 +56,7 @@ first_begins M c role s from = record {
   no_copy = refl;
 }
 
--- the node of a new station is a first node of the role that it began in, wherever its guest stands at boot
+-- the node of a new station is a first node in the role in which it began, in whatever state its guest boots
 begins_as : {B S : Type 0} (state : B → S) (M : Machine S) (c : Course S) (role : Role) (s : S) (node : code.Node B) →
     ((x : Node S) → Begins M role 1 s x → IsNode state M node x) → s ≡ c.boot →
     IsNode state M node (first_node (machine_of M c) role)
@@ -86,7 +86,7 @@ backup_station state M c s node h begins is inputs count from none =
       a_node = λ e. absurd (cc);
     }
 
--- the hosts of a new pair are one of each
+-- the hosts of a new pair are one of each role
 pub two_hosts : {B H S : Type 0} (state : B → S) (M : Machine S) (c : Course S) (none one two : List (Host B H))
     (primary backup : Station B) → none ≡ [] → one ≡ none ++ host.Node primary ∷ [] →
     two ≡ one ++ host.Node backup ∷ [] → IsStation state M primary (first_node (machine_of M c) Primary) →
@@ -107,7 +107,7 @@ only_backup M zero x here is role =
 only_backup M (suc zero) x here is role = refl
 only_backup M (suc (suc n)) x here is role = absurd (cc)
 
--- ---- all that they share
+-- ---- everything that they share
 
 no_messages : AreMessages [] []
 no_messages = record { count = refl; each = λ m. tt }

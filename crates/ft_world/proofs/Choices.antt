@@ -1,6 +1,6 @@
--- One more arrival makes what is accepted longer by its byte if its number comes next, and else leaves it; so does the
--- choice over all arrivals. One more write replaces what a sector has if its number is greater, and else leaves it; so
--- does the choice of the greatest.
+-- One more arrival makes what is accepted longer by its byte if its number is the next one, and otherwise leaves it; so
+-- does the choice over all arrivals. One more write replaces what a sector has if its number is greater, and otherwise
+-- leaves it; so does the choice of the greatest.
 use Rattle.std.proofs.Common.{◌≡◌, ◌∙◌, ◌+◌, Bool, true, false, cond, List, [], ◌∷◌, ◌++◌, length, refl, sym, ap, subst, ℕ}
 use Rattle.std.specs.Prelude.{nat_lt, map, filter, ◌==◌}
 use Rattle.std.proofs.lemmas.Bool.{eqb-false, eqb-true, ltb-false, ltb-true}
@@ -57,7 +57,7 @@ terminals_accept w port = all_arrivals [] (terminal w port).arrivals nothing_acc
 
 -- ---- the disk
 
--- what one write brings to a sector or not
+-- what one write brings to a sector, if anything
 abbrev brought : Bool → SectorWrite → List Record
 brought here write = map record_of (cond here (write ∷ []) [])
 

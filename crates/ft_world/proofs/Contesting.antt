@@ -1,5 +1,6 @@
--- A node asks the arbiter. Where the node itself does not refuse, the world's answer is the arbiter's: the first that
--- asks for a generation has won it, a winner that asks again changes nothing, and any other node has lost, and is halted.
+-- A node asks the arbiter. If the node itself does not refuse, the world's answer is the arbiter's: the first node to
+-- ask for a generation has won it, a winner that asks again changes nothing, and any other node has lost, and is
+-- halted.
 use Rattle.std.proofs.Common.{◌≡◌, [], ◌∷◌, ◌∙◌, ◌⊎◌, Bool, Err, List, None, Ok, Some, ap, eq-eqb, false, inl, inr, ne_eqb, not, refl, subst, sym, true, ℕ}
 use Rattle.std.specs.Prelude.{if◌then◌else◌, Option, slice_get, slice_set}
 use Rattle.arbiter_core.specs.Winners.{after_asking, winner_of}
@@ -80,7 +81,7 @@ refused_first w n (Some x) fault e = (
   own_leaves w n (is_role x.role Spare) (not x.running) (is_role x.role Joining) fault e,
 )
 
--- past the node's own refusal, what is left is whether another one has asked first
+-- past the node's own refusal, what is left is whether the other node has asked first
 left : {S : Type 0} (w : World S) (n : ℕ) (here : Option (Node S)) (x : Node S) → here ≡ Some x →
     at_node here suspect_refusal ≡ None →
     at_node here (ask_refusal w n) ≡ fault_if (is_other (winner_in w.winners x.generation) n) Lost
@@ -105,7 +106,7 @@ stays state M records old c n fault hosts askings h are same row =
     (unchanged state M records old (record old { hosts = hosts }) c (event.Suspect n) fault h
     (with_hosts state M records h.drives old c hosts h.parts are) row)
 
--- its own number is no other's
+-- its own number is not another's
 not_other : (winner n : ℕ) → winner ≡ n → fault_if (is_other (Some winner) n) Lost ≡ None
 not_other winner n e = ap (λ b. fault_if (not b) Lost) (eq-eqb winner n e)
 
@@ -147,7 +148,7 @@ wins_it state M records old c n won hosts askings x (Some winner) h there is fre
     (with_hosts state M records h.drives old c hosts h.parts
     (subst (AreHosts state M hosts) (set_get c.world.nodes n x there) are)))
 
--- it wants memory, or it has lost, and is halted
+-- it is out of memory, or it has lost and is halted
 loses_it : {B H D S : Type 0} (state : B → S) (M : Machine S) (records : D → List Record) (old : Running B H D)
     (c : Course S) (n : ℕ) (fault : Fault) (hosts : List (Host B H)) (askings : List Asking) (x : Node S)
     (winner : Option ℕ) → Shows state M records old c → slice_get c.world.nodes n ≡ Some x →
@@ -183,7 +184,7 @@ refused_or : (A : Type 0) (o : Option Fault) (fault : Fault) (kept does : Type 0
 refused_or A None fault kept does d = inr (refl, d)
 refused_or A (Some f) fault kept does d = let k = d.0 in inl (let e : f ≡ fault = (cc) in ap Some e, d.1)
 
--- whether another one has asked first is the same here and in the world
+-- whether the other node has asked first is the same here and in the world
 asked_first : {S : Type 0} (w : World S) (n : ℕ) (x : Node S) (winner : Option ℕ) →
     winner ≡ winner_in w.winners x.generation →
     fault_if (is_other (winner_in w.winners x.generation) n) Lost ≡ fault_if (is_other winner n) Lost

@@ -17,7 +17,7 @@ one_more (x ∷ events) (r ∷ answers) e answer same =
     let more : length answers ≡ length events = omega (arith, same) in
     omega (arith, one_more events answers e answer more)
 
--- the event of a place in a list is answered, after those before it
+-- the event at a place in a list is answered after those before it
 pub counts_on : (events : List Event) (k : ℕ) (d : Event) (answers after : List (Result Reply Fault))
     (answer : Result Reply Fault) (start old new : ℕ) → k < length events → length answers ≡ k →
     after ≡ answers ++ answer ∷ [] → old ≡ start + failures_over (take k events) answers →

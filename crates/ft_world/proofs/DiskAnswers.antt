@@ -1,4 +1,4 @@
--- The disk's answers come to a node: a write is done, or a sector was read. The message brings what it brings in the
+-- The disk's answers arrive at a node: a write is done, or a sector was read. The message brings the same as in the
 -- world that is shown, so the event is refused alike, as the node refuses the input.
 use Rattle.std.proofs.Common.{◌≡◌, ◌∙◌, Err, List, None, Ok, Some, ap, refl, ℕ}
 use Rattle.std.specs.Option.{option_and_then}

@@ -1,5 +1,5 @@
--- A sector is read: at the track where the head of a node that serves stands, and its machine was run from boot, so it is
--- a sector of the disk. What is read is what the writes that arrived have left there.
+-- A sector is read at the track of the selected drive's head, by a node that serves. Its machine was run from boot, so
+-- it is a sector of the disk; what is read is what the writes that arrived have left there.
 use Rattle.std.proofs.Common.{◌≡◌, ◌<◌, ◌+◌, ◌≤◌, [], ◌∷◌, ◌∙◌, Bool, Err, List, None, Ok, Some, ap, arith, cond, false, inl, inr, ltb-true, not, refl, subst, sym, true, ℕ}
 use Rattle.std.specs.Option.{option_map}
 use Rattle.std.specs.Prelude.{IsTrue, Option, Result, is_none, nat_le, nat_lt, slice_get}
@@ -46,7 +46,7 @@ use Rattle.ft_world.proofs.AtOneNode.{refused_surely}
 use Rattle.ft_world.proofs.Sending.{asked_ok, messages_push}
 use Rattle.ft_world.proofs.Standing.{serving_runs}
 
--- Refusals: a sector of no track, and then as the node refuses.
+-- Refusals: a sector of no track, and then those of the node.
 
 no_sector_first : (sector : ℕ) (o : Option Fault) → SECTORS ≤ sector →
     first_of (no_sector sector ∷ o ∷ []) ≡ Some Unknown
@@ -113,7 +113,7 @@ gets_no_failure M nodes n sector failures fault result is a =
 
 -- What is read.
 
--- a sector of the disk is of a drive and a track that are there
+-- a sector of the disk has a drive and a track that are there
 place_within : (drives : ℕ) (a : SectorAddress) → drives ≤ DRIVES → IsTrue (has_sector drives a) →
     (a.drive < DRIVES) × (a.sector < SECTORS)
 place_within drives a few there =
@@ -126,7 +126,7 @@ read_is : (rs : List Record) (a : SectorAddress) (met : Record) (read : SectorRe
     option_map (read_of a) (record_at rs a) ≡ Some read → read_of a met ≡ read
 read_is rs a met read at e = same_some (read_of a met) read _ (ap (λ o. option_map (read_of a) o) at) e
 
--- the node stands at a sector of the disk
+-- the node's head is at a sector of the disk
 pub record StandsAt {S : Type 0} (N : Machine S) (drives : ℕ) (w : World S) (n sector : ℕ)
     (address : SectorAddress) : Type 0 where
   pub x : Node S

@@ -26,7 +26,7 @@ use Rattle.ft_world.proofs.AtNodes.{highest_set}
 use Rattle.ft_world.proofs.AtReplays.{drained_generation}
 use Rattle.ft_world.proofs.Keeping.{advances_keep, replays_keep}
 
--- the highest generation stays, and whoever wins has won it
+-- the highest generation stays, and any new winner has won it
 pub record KeepsHighest {S : Type 0} (w new : World S) : Type 0 where
   pub highest_stays : highest new.nodes ≡ highest w.nodes
   pub wins_there : (generation n : ℕ) → winner_in w.winners generation ≡ None →

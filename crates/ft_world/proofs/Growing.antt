@@ -1,6 +1,6 @@
--- What is settled before rows of events is a beginning of what is settled after them, since they are actions, by which
--- the settled moves only get more. Whoever won meanwhile has won the highest generation, so it is who settles then, and
--- its list begins with all that was settled before.
+-- What is settled before rows of events is a beginning of what is settled after them, since rows are actions, by which
+-- the settled moves only get longer. Whoever won in between has won the highest generation, so it settles then, and its
+-- list begins with all that was settled before.
 use Rattle.std.proofs.Common.{◌≡◌, [], ◌∷◌, ◌∙◌, List, None, Option, Some, ap, inl, refl, subst, sym, ℕ}
 use Rattle.std.specs.Prelude.{map, slice_get}
 use Rattle.guest_board.specs.Machine.{Machine}

@@ -1,5 +1,5 @@
--- A station holds the next entry of the log: the input of the entry stands at the end of its inputs, and it settles up
--- to the count of the entry.
+-- A station holds the next entry of the log: the input of the entry is appended to its inputs, and it settles up to the
+-- count of the entry.
 use Rattle.std.proofs.Common.{◌≡◌, ◌∙◌, [], ◌∷◌, ◌++◌, append-nil, append_assoc, Bool, List, ℕ, Err, None, Ok, Option, Result, Some, ap, eq-eqb, false, length, refl, subst, sym, true}
 use Rattle.std.specs.Prelude.{if◌then◌else◌, ◌==◌}
 use Rattle.std.specs.Result.{IsErrAnd}
@@ -30,7 +30,7 @@ last_count-append : (c : ℕ) (es : List Entry) (e : Entry) → last_count c (es
 last_count-append c [] e = refl
 last_count-append c (k ∷ es) e = last_count-append (count_of k) es e
 
--- what is expected of a packet is what is delivered of it
+-- what is expected of a packet is what is delivered by it
 pub expected_refusal : {S : Type 0} (p : Option Packet) (x : Node S) (fault : Fault) → calls.Expects p x (Err fault)
     → does.log_packet_refusal p x ≡ Some fault
 expected_refusal {S} p x fault d = go p d

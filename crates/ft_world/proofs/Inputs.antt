@@ -1,4 +1,4 @@
--- A station takes an input: it stands at the end of its inputs, at the count that its machine has.
+-- A station takes an input: the input is appended to its inputs, at the count of its machine.
 use Rattle.std.proofs.Common.{◌≡◌, ◌∙◌, [], ◌∷◌, ◌++◌, Err, None, Ok, Option, Result, Some, ap, inl, inr, refl, subst, sym}
 use Rattle.std.specs.Result.{IsErrAnd}
 use Rattle.disk_dcdd.specs.Completion.{answered}
@@ -21,7 +21,7 @@ use Rattle.ft_world.specs.declared.station.Station.{Station}
 use Rattle.ft_world.proofs.Answering.{finds}
 use Rattle.ft_world.proofs.Keeping.{serving_role, machine_count, own_inputs}
 
--- what a node is that has taken an input
+-- a node that has taken an input
 record Takes {S : Type 0} (M : Machine S) (i : Input) (x y : Node S) : Type 0 where
   pub role : y.role ≡ x.role
   pub list : y.list ≡ x.list ++ timed (M.count x.machine) i ∷ []

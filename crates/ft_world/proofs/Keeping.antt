@@ -1,5 +1,5 @@
--- What moves of a node keep: its role, its generation, and the lists and the count that it began with. So what is
--- settled by it changes only with its machine and its own inputs.
+-- What moves of a node keep: its role, its generation, and the lists and the count that it began with. So what it
+-- settles changes only with its machine and its own inputs.
 use Rattle.std.proofs.Common.{◌≡◌, ◌∙◌, [], ◌∷◌, ◌++◌, ℕ, None, Option, Some, ap, inl, inr, refl, subst, sym}
 use Rattle.event_callbacks.specs.declared.operations.Operation.{Operation}
 use Rattle.guest_board.specs.Machine.{Machine}
@@ -72,7 +72,7 @@ replays_keep M (OneInput {x = x} {y = y} e i s g c q v rest) =
     (record { role = refl; generation = refl; list = refl; copy = refl; start = refl; held = refl })
     (replays_keep M rest)
 
--- ---- what is settled by it
+-- ---- what it settles
 
 pub held_inputs : {S : Type 0} (x y : Node S) → Kept x y → y.copy ++ inputs_of y.held ≡ x.copy ++ inputs_of x.held
 held_inputs x y k = ap (λ c. c ++ inputs_of y.held) k.copy ∙ ap (λ h. x.copy ++ inputs_of h) k.held
@@ -97,7 +97,7 @@ same_count M x y Draining k e = held_count x y k
 same_count M x y Joining k e = held_count x y k
 same_count M x y Spare k e = refl
 
--- ---- the role of a node that a call does not refuse
+-- ---- the role of a node that does not refuse a call
 
 abbrev only : {S : Type 0} → Node S → World S
 only x = record { nodes = x ∷ []; messages = []; terminals = []; winners = []; puts = [] }

@@ -1,4 +1,4 @@
--- A station that was lent is in its place again, changed or not. A host that has no role keeps its resources.
+-- A station that was lent is back in its place, changed or not. A host that has no role keeps its resources.
 use Rattle.std.proofs.Common.{◌≡◌, ◌∙◌, ◌∷◌, [], Err, IsOk, List, MutBor, None, Ok, Result, Some, ap, refl, suc, sym, zero, ℕ}
 use Rattle.std.specs.Prelude.{IfErr, IfOk, OnErr, map, slice_get, slice_set}
 use Rattle.i8080_words.specs.declared.refusal.Fault.{Fault}

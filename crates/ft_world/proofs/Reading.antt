@@ -1,4 +1,4 @@
--- What a screen shows is what the terminal of the world has, also where there is no such port.
+-- What a screen shows is what the terminal of the world has, even if there is no such port.
 use Rattle.std.proofs.Common.{◌≡◌, ◌≤◌, ◌∙◌, List, ap, inl, inr, subst, sym, ℕ}
 use Rattle.std.proofs.lemmas.Bool.Decides.{leb_tells}
 use Rattle.std.proofs.lemmas.List.{get_or_past}

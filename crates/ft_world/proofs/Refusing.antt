@@ -1,4 +1,4 @@
--- What a refused event leaves, where that is not just what was there: a node that lost is halted, and a disk that failed
+-- What a refused event leaves if that is not just what was there: a node that lost is halted, and a disk that failed
 -- has the same records.
 use Rattle.std.proofs.Common.{◌≡◌, ◌∷◌, ◌<◌, ◌∙◌, ◌≢◌, [], Bool, Err, List, None, Ok, Option, Result, Some, ap, false, inl, inr, not, refl, subst, sym, true, ℕ}
 use Rattle.std.specs.Prelude.{IfErr, slice_get, slice_set, ◌⊎◌}
@@ -46,7 +46,7 @@ use Rattle.ft_world.proofs.Released.{writes_on_disk}
 
 -- ---- a node asks the arbiter
 
--- the node itself does not refuse where it lost
+-- if the node has lost, the node itself did not refuse
 asked_where_lost : (down joining : Bool) (P D : Type 0)
     → Unless {A = Won} (first_of (fault_if down WrongRole ∷ fault_if joining NotWhole ∷ [])) (Err Lost) P D → D
 asked_where_lost true joining P D d = let no = d.0 in (cc)
@@ -58,7 +58,7 @@ halted_where_lost : {S : Type 0} (winner : Option ℕ) (old new : List Asking) (
 halted_where_lost None old new n x Is d = let no = d.0 in (cc)
 halted_where_lost (Some winner) old new n x Is d = d.3
 
--- a node that halts is in no other role
+-- a node that halts has no other role
 is_halted : {B S : Type 0} (state : B → S) (M : Machine S) (k : code.Node B) (x : Node S)
     → IsNode state M k (halts x) → (halted : Halted) × (k ≡ node.Halted halted)
 is_halted state M (node.Primary p) x is = let up = is.up in (cc)
@@ -123,7 +123,7 @@ disk_leaves records old ms disk fault why same kept untouched = (
   ]),
 )
 
--- what is written is of a sector of the disk, so nothing but the device refuses it
+-- what is written is to a sector of the disk, so nothing but the device refuses it
 pub put_stays : {B H D S : Type 0} (state : B → S) (M : Machine S) (records : D → List Record) (old : Running B H D)
     (m : ℕ) (write : SectorWrite) (r : Result Reply Fault) (ms : List Message) (disk : D)
     → ShowsSome state M records old → option_and_then write_of (slice_get old.messages m) ≡ Some write
@@ -143,7 +143,7 @@ put_stays state M records old m write (Err fault) ms disk some brings (why, same
       | inr is ↦ inr (not_put (records old.disk) (address_of write) met.0 fault met.1 is)
     ]) same kept untouched
 
--- what is read is of a sector of the disk, too
+-- what is read is a sector of the disk too
 pub get_stays : {B H D S : Type 0} (state : B → S) (M : Machine S) (records : D → List Record) (old : Running B H D)
     (n sector : ℕ) (address : SectorAddress) (r : Result Reply Fault) (ms : List Message) (disk : D)
     → (some : ShowsSome state M records old) → sector < SECTORS

@@ -1,5 +1,5 @@
--- What was released was given by a step of one trace from boot, and was outstanding right after that step. So a write that
--- was released goes to a sector of the disk.
+-- What was released was given by a step of one trace from boot, and was outstanding right after that step. So a write
+-- that was released goes to a sector of the disk.
 use Rattle.std.proofs.Common.{◌≡◌, [], ◌∷◌, ◌++◌, List, None, Some, inl, inr, refl, subst, sym, ℕ}
 use Rattle.std.specs.Prelude.{IsTrue, slice_get}
 use Rattle.disk_dcdd.specs.Address.{address_of}

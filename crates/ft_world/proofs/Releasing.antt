@@ -1,5 +1,5 @@
 -- A node releases an operation to its device, and a terminal is told how many of its keys a node has covered. Each is
--- refused where there is no such port, and then as the node refuses it. Neither changes a node: a release sends one more
+-- refused if there is no such port, and then as the node refuses it. Neither changes a node: a release sends one more
 -- message, and a telling leaves the greatest number told on the screen, here and in the world.
 use Rattle.std.proofs.Common.{◌≡◌, ◌<◌, ◌≤◌, [], ◌∷◌, ◌∙◌, Err, List, None, Ok, Some, ap, refl, subst, sym, ℕ}
 use Rattle.std.specs.Prelude.{Option, Result, length, max, nat_le, slice_get, slice_set}
@@ -40,12 +40,12 @@ use Rattle.ft_world.proofs.Sending.{asked_ok, says_applies}
 
 -- ---- an operation is released
 
--- its device is there where the world has it
+-- its device is there if the world has it
 device_is : {S : Type 0} (w : World S) (name : OpId) → length w.terminals ≡ PORTS → no_such w name ≡ no_device name
 device_is w (id.Byte port number) e = ap (λ n. fault_if (nat_le n port) Unknown) e
 device_is w (id.Write number) e = refl
 
--- what a check answers says whether it refuses
+-- what a check returns says whether it refuses
 checked : (o : Option Fault) (fault : Fault) → ◌≡◌ {A = Result (Unit {0}) Fault} (Err fault) (answered o) →
     o ≡ Some fault
 checked None fault e = absurd (cc)
@@ -68,7 +68,7 @@ releases_nowhere state M records old c n name fault h e =
     (first_stands (no_such c.world name) (at_node (slice_get c.world.nodes n) (release_refusal (machine_of M c) name))
     fault (device_is c.world name h.parts.terminals.count ∙ checked (no_device name) fault e)) refl
 
--- the device is there, so the node's part is left
+-- the device is there, so what is left is the node's part
 node_left : {B H D S : Type 0} (state : B → S) (M : Machine S) (records : D → List Record) (old : Running B H D)
     (c : Course S) (n : ℕ) (name : OpId) (done : Unit {0}) → Shows state M records old c →
     ◌≡◌ {A = Result (Unit {0}) Fault} (Ok done) (answered (no_device name)) →

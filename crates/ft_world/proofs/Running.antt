@@ -1,6 +1,6 @@
--- Events happen one after another: one more row at the end of rows makes rows again, by which what is settled grows,
--- and the world after them is shown and faithful as that row's is. So a loop over events keeps the run of those that
--- have happened.
+-- Events happen one after another: one more row after other rows makes rows again, by which what is settled grows, and
+-- the world after them is shown and faithful, as that row says. So a loop over events keeps the run of those that have
+-- happened.
 use Rattle.std.proofs.Common.{◌≡◌, ◌<◌, ◌+◌, ◌∷◌, ◌++◌, ◌∙◌, [], Err, List, Ok, ap, get_or, length, refl, subst, sym}
 use Rattle.std.proofs.Common.{take, ℕ}
 use Rattle.std.specs.Prelude.{IfOk, OnErr, Result, map}
@@ -74,7 +74,7 @@ runs_then {S = S} state M records start old new c events answers e answer h so_f
         (rows_then N c.world so_far.after a.after (map event_of events) (map answer_of answers) (event_of e)
         (answer_of answer) so_far.rows a.row))
 
--- the event of a place in a list has happened, after those before it
+-- the event at a place in a list has happened after those before it
 pub runs_on : {B H D S : Type 0} (state : B → S) (M : Machine S) (records : D → List Record)
     (start old new : Running B H D) (c : Course S) (events : List Event) (k : ℕ) (d : Event)
     (answers after : List (Result Reply Fault)) (answer : Result Reply Fault) → Shows state M records start c →

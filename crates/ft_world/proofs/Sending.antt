@@ -1,5 +1,5 @@
--- A message is sent: one more stands behind the others, here and in the world that is shown. What a node is asked for is
--- refused as its part says, or it is what the node has.
+-- A message is sent: one more is appended, here and in the world that is shown. What a node is asked for is refused as
+-- its part says, or is what the node has.
 use Rattle.std.proofs.Common.{◌≡◌, ◌+◌, [], ◌∷◌, ◌++◌, ◌∙◌, Err, List, None, Ok, Some, ap, inl, inr, length, refl, subst, sym, ℕ}
 use Rattle.std.specs.Prelude.{Option, Result, slice_get, ◌⊎◌}
 use Rattle.std.specs.Global.{Vec}
@@ -87,7 +87,7 @@ pub asked_err : {A : Type 0} (o : Option Fault) (fault : Fault) (stays : Type 0)
 asked_err None fault stays does (e, s) = (inr (refl, e), s)
 asked_err (Some f) fault stays does (e, s) = (inl (let k : f ≡ fault = (cc) in ap Some k), s)
 
--- likewise, with what holds if memory is wanting
+-- the same, with what holds if the event is out of memory
 pub asked_wanting : {A : Type 0} (o : Option Fault) (fault : Fault) (stays wants : Type 0) (does : A → Type 0) →
     Unless {A = A} o (Err fault) stays (Gives {A = A} (Err fault) (wants × stays) does) →
     ((o ≡ Some fault) ⊎ ((o ≡ None) × (fault ≡ OutOfMemory) × wants)) × stays
@@ -99,7 +99,7 @@ pub asked_ok : {A : Type 0} (o : Option Fault) (value : A) (stays : Type 0) (doe
 asked_ok None value stays does d = (refl, d)
 asked_ok (Some f) value stays does (e, s) = absurd (cc)
 
--- an event that is refused as the node refuses it, or wants memory
+-- an event that is refused as the node refuses it, or is out of memory
 pub asked_in_vain : {B H D S : Type 0} (state : B → S) (M : Machine S) (records : D → List Record)
     (old new : Running B H D) (c : Course S) (e : Event) (fault : Fault) → Shows state M records old c → new ≡ old →
     MayWantMemory (machine_of M c) c.world (event_of e) → Leaves c.world (event_of e) fault c.world →

@@ -1,4 +1,4 @@
--- The node that settles is the winner of the highest generation, or its backup where nobody has won; its host has the list
+-- The node that settles is the winner of the highest generation, or its backup if nobody has won; its host has the list
 -- and the count.
 use Rattle.std.proofs.Common.{◌≡◌, ◌∙◌, List, None, Some, ap, inl, inr, refl, subst, sym, ℕ}
 use Rattle.std.specs.Prelude.{Option, slice_get, unwrap_or}

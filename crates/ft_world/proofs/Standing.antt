@@ -1,4 +1,4 @@
--- What the calls of the hosts ask: a primary's machine was run from boot, so that few of its operations are outstanding,
+-- What the calls of the hosts require: a primary's machine was run from boot, so few of its operations are outstanding,
 -- wherever it goes. A machine that begins elsewhere runs alike.
 use Rattle.std.proofs.Common.{◌≡◌, ◌++◌, [], ◌∷◌, List, Some, inl, subst, ℕ}
 use Rattle.std.specs.Prelude.{slice_get}

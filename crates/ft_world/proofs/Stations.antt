@@ -1,4 +1,4 @@
--- A station's node moves, and its inputs and its count go on with it.
+-- A station's node moves, and its inputs and its count follow.
 use Rattle.std.proofs.Common.{◌≡◌, ◌∙◌, ℕ, Bool, List, Err, None, Ok, Option, Result, Some, ap, false, refl, subst, sym, true}
 use Rattle.std.specs.Prelude.{if◌then◌else◌, ◌<◌}
 use Rattle.std.specs.Result.{IsErrAnd}
@@ -39,7 +39,7 @@ moves_on state M h node count x y i k is e = record {
   a_node = λ s. i.a_node (sym k.role ∙ s);
 }
 
--- or no move was made of what it settles by
+-- or it made no move that changes what it settles by
 pub stays_on : {B S : Type 0} (state : B → S) (M : Machine S) (h : Station B) (node : code.Node B) (x y : Node S)
     → IsStation state M h x → Kept x y → count_in M y x.role ≡ count_in M x x.role → IsNode state M node y
     → IsStation state M (record h { node = node }) y
@@ -118,7 +118,7 @@ repeats_on {B} {S} state M turns h node r x i d =
               (ap (count_in M s.y) role ∙ held_count x s.y k ∙ ap (count_in M x) (sym role)) s.after;
         }
 
--- ---- moves of a node that drains
+-- ---- moves of a draining node
 
 drained_station : {B S : Type 0} (state : B → S) (M : Machine S) (h : Station B) (node : code.Node B) (count : ℕ)
     (x y : Node S) (b : Bool) → IsStation state M h x → x.role ≡ Draining → Kept x y

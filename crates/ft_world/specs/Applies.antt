@@ -1,4 +1,4 @@
--- What a running world stands for, and what an event makes of it.
+-- What a running world stands for, and what an event does to it.
 use Rattle.std.specs.Prelude.{◌≡◌, ℕ, ◌+◌, List, [], ◌∷◌, Result, length, map}
 use Rattle.disk_dcdd.specs.declared.address.SectorAddress.{SectorAddress}
 use Rattle.guest_board.specs.Machine.{Machine}
@@ -22,7 +22,7 @@ use Rattle.pair_events.specs.declared.event.Event.TheVariants as event
 use Rattle.pair_events.specs.declared.reply.Reply.{Reply}
 use Rattle.ft_world.specs.Running.{Running}
 
--- the fields show a world: its nodes, its messages, its terminals, its winners and its disk, the highest generation, and
+-- the fields show a world: its nodes, its messages, its terminals, its winners, its disk, the highest generation, and
 -- the only node that may be its backup
 pub record ShowsParts {B H D S : Type 0} (state : B → S) (M : Machine S) (records : D → List Record) (drives : ℕ)
     (v : Running B H D) (c : Course S) : Type 0 where
@@ -34,7 +34,7 @@ pub record ShowsParts {B H D S : Type 0} (state : B → S) (M : Machine S) (reco
   pub generation : v.generation ≡ highest c.world.nodes
   pub backup : IsOnlyBackup c.world.nodes v.generation v.backup
 
--- a world of the protocol that a pair of such machines reaches without copies, and that this one shows
+-- a world of the protocol that a pair of such machines reaches without copies, and that the running world shows
 pub record Shows {B H D S : Type 0} (state : B → S) (M : Machine S) (records : D → List Record) (v : Running B H D)
     (c : Course S) : Type 0 where
   pub drives : ℕ
@@ -57,7 +57,7 @@ pub record Applies {B H D S : Type 0} (state : B → S) (M : Machine S) (records
   pub faithful : Faithful (machine_of M c) after
   pub grows : Grows (machine_of M c) c.world after
 
--- an event happens: whatever world is shown, it applies there
+-- an event happens: it applies at whatever world is shown
 abbrev pub Happens : {B H D S : Type 0} → (B → S) → Machine S → (D → List Record) → Running B H D → Event
     → Result Reply Fault → Running B H D → Type 0
 Happens {S = S} state M records old e answer new =
@@ -67,18 +67,18 @@ Happens {S = S} state M records old e answer new =
 abbrev pub IsFaithful : {S : Type 0} → Machine S → Course S → Type 0
 IsFaithful M c = Faithful (machine_of M c) c.world
 
--- how many device failures an event's answer tells of; only a put and a get come to the device
+-- how many device failures an event's answer tells of; only a put and a get reach the device
 abbrev pub failures_told : Event → Result Reply Fault → ℕ
 failures_told (event.Put message) answer = faults_in answer
 failures_told (event.Get node sector) answer = faults_in answer
 failures_told _ answer = 0
 
--- the sum of them over the answers to a list of events
+-- the sum of these over the answers to a list of events
 abbrev pub failures_over : List Event → List (Result Reply Fault) → ℕ
 failures_over (e ∷ events) (answer ∷ answers) = failures_told e answer + failures_over events answers
 failures_over _ _ = 0
 
--- rows of events, one after another; no host comes meanwhile
+-- rows of events, one after another; no host comes in between
 pub data Rows {S : Type 0} (M : Machine S) : World S → List protocol.Event → List protocol.Reply → World S
     → Type 0 where
   Nothing : {w : World S} → Rows M w [] [] w
@@ -86,8 +86,8 @@ pub data Rows {S : Type 0} (M : Machine S) : World S → List protocol.Event →
       {replies : List protocol.Reply} → Row M no_copies w e r mid → Rows M mid events replies new →
       Rows M w (e ∷ events) (r ∷ replies) new
 
--- a run: one answer for each event, each the event's row; the world after it is shown, it is faithful, and what was
--- settled before the run grows
+-- a run: one answer for each event, each of them the event's row; the world after it is shown, it is faithful, and what
+-- was settled before the run grows
 pub record Runs {B H D S : Type 0} (state : B → S) (M : Machine S) (records : D → List Record) (c : Course S)
     (events : List Event) (answers : List (Result Reply Fault)) (new : Running B H D) : Type 0 where
   pub after : World S
@@ -97,7 +97,7 @@ pub record Runs {B H D S : Type 0} (state : B → S) (M : Machine S) (records : 
   pub faithful : Faithful (machine_of M c) after
   pub grows : Grows (machine_of M c) c.world after
 
--- what the disk of a world has in a sector
+-- what the disk of a world has for a sector
 pub record IsSectorOf {S : Type 0} (M : Machine S) (w : World S) (address : SectorAddress) (read : SectorRead)
     : Type 0 where
   pub where_it_is : read_address read ≡ address

@@ -10,19 +10,19 @@ pub record Makes {S : Type 0} (x : Node S) (Is : Node S → Type 0) (does : Node
   pub done : does x y
   pub after : Is y
 
--- the refusal of the node's part, or what the event does there; out of memory, nothing changes
+-- the refusal of the node's part, or what the event does there; if out of memory, nothing changes
 abbrev pub AtStation : {A S : Type 0} → Option Fault → Result A Fault → Node S → (Node S → Type 0)
     → (A → Node S → Node S → Type 0) → Type 0
 AtStation refusal result x Is does =
     Unless refusal result (Is x) (Gives result (Is x) (λ value. Makes x Is (does value)))
 
--- likewise; memory is wanted only if this holds of the node
+-- the same, for an event that is out of memory only if this holds of the node
 abbrev pub WantsAtStation : {A S : Type 0} → Option Fault → Result A Fault → (Node S → Type 0) → Node S
     → (Node S → Type 0) → (A → Node S → Node S → Type 0) → Type 0
 WantsAtStation refusal result wants x Is does =
     Unless refusal result (Is x) (Gives result (wants x × Is x) (λ value. Makes x Is (does value)))
 
--- likewise, for an event that takes no memory
+-- the same, for an event that needs no memory
 abbrev pub DoesAtStation : {A S : Type 0} → Option Fault → Result A Fault → Node S → (Node S → Type 0)
     → (A → Node S → Node S → Type 0) → Type 0
 DoesAtStation refusal result x Is does =

@@ -1,4 +1,4 @@
--- How a pair begins: both guests stand alike, and the disk has each sector of its drives, none written yet.
+-- How a pair begins: both guests are in the same state, and the disk has each sector of its drives, none written yet.
 use Rattle.std.specs.Prelude.{◌≡◌, ℕ, List, []}
 use Rattle.std.specs.Option.{option_map_or}
 use Rattle.disk_dcdd.specs.declared.address.SectorAddress.{SectorAddress}
@@ -12,7 +12,7 @@ use Rattle.ft_world.specs.Standing.{Course, IsMachine, machine_of}
 abbrev pub bytes_in : List Record → SectorAddress → List ℕ
 bytes_in records address = option_map_or (λ (r : Record). r.bytes) (record_at records address) []
 
--- the world that a pair begins with, where its machine stands at s
+-- the world that a pair begins with, if its machine is in the state s
 abbrev pub beginning : {S : Type 0} → Machine S → S → List Record → Course S
 beginning M s records = record {
   boot = s;

@@ -1,4 +1,4 @@
--- What the terminals of a world accepted and what its disk keeps, as choices over all that arrived.
+-- What the terminals of a world accepted and what its disk keeps, as choices over everything that arrived.
 use Rattle.std.specs.Prelude.{ℕ, List, ◌∷◌, map}
 use Rattle.disk_dcdd.specs.declared.address.SectorAddress.{SectorAddress}
 use Rattle.guest_board.specs.Machine.{Machine}
@@ -13,7 +13,7 @@ use Rattle.pair_protocol.specs.World.{World, accepted, sector_record, terminal}
 abbrev pub arrivals_of : List protocol.Arrival → List Arrival
 arrivals_of arrivals = map (λ (a : protocol.Arrival). record { number = a.number; byte = a.byte }) arrivals
 
--- what the disk keeps of a sector, in the disk's words
+-- what the disk keeps for a sector, in the disk's words
 abbrev pub kept_of : protocol.SectorRecord → Record
 kept_of r = record { number = r.number; bytes = r.bytes }
 
@@ -22,8 +22,8 @@ abbrev pub TerminalsAcceptTheLongest : (S : Type 0) → Type 0
 TerminalsAcceptTheLongest S =
     (w : World S) (port : ℕ) → IsAccepted (arrivals_of (terminal w port).arrivals) (accepted w port)
 
--- the disk of a world keeps of a sector the greatest of its bytes at boot, under number 0, and all writes to it that
--- arrived, the first where several have that number
+-- the disk of a world keeps for a sector the greatest of its bytes at boot, under number 0, and all writes to it that
+-- arrived, and the first if several have that number
 abbrev pub DisksKeepTheGreatest : (S : Type 0) → Type 0
 DisksKeepTheGreatest S =
     (M : Machine S) (w : World S) (address : SectorAddress)

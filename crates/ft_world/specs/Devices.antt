@@ -23,18 +23,18 @@ use Rattle.pair_events.specs.declared.reply.Reply.TheVariants as reply
 abbrev pub screen_in : List Screen → ℕ → Screen
 screen_in screens port = slice_index_or screens port blank
 
--- there is no such port; or there is, and memory is wanting
+-- there is no such port; or there is, and the event is out of memory
 abbrev pub LacksPort : ℕ → Fault → Type 0
 LacksPort port fault = ((fault ≡ Unknown) × (PORTS ≤ port)) ⊎ ((fault ≡ OutOfMemory) × (port < PORTS))
 
--- a byte is typed, and its index is the answer
+-- a byte is typed, and its index is the reply
 abbrev pub Types : List Screen → ℕ → ℕ → Result Reply Fault → List Screen → Type 0
 Types old port byte (Ok r) new =
     (port < PORTS) × (r ≡ reply.Typed (length (screen_in old port).typed))
     × (new ≡ slice_set old port (after_key (screen_in old port) byte))
 Types old port byte (Err fault) new = LacksPort port fault × (new ≡ old)
 
--- a byte arrives: it is accepted where it comes next, else dropped, as is each of a port that is not there
+-- a byte arrives: it is accepted if it is the next one, and dropped if not, as is each byte of a port that is not there
 abbrev pub ArrivesAt : List Screen → ℕ → ℕ → ℕ → Reply → List Screen → Type 0
 ArrivesAt old port number byte r new =
     (port < PORTS) × (r ≡ (if comes_next (screen_in old port) number then reply.Accepted else reply.Dropped))
@@ -57,7 +57,7 @@ abbrev pub not_accepted : List Screen → ℕ → ℕ → Option Fault
 not_accepted screens port number =
     fault_if (number == 0 || nat_lt (length (screen_in screens port).accepted) number) Unknown
 
--- a write comes to the disk, which answers that it is done
+-- a write arrives at the disk, which answers that it is done
 abbrev pub PutsWrite : List Message → List Record → SectorWrite → Result Reply Fault → List Message → List Record
     → Type 0
 PutsWrite old records write (Ok r) new after =
@@ -66,7 +66,7 @@ PutsWrite old records write (Ok r) new after =
 PutsWrite old records write (Err fault) new after =
     ((fault ≡ OutOfMemory) ⊎ (fault ≡ refusal_at records (address_of write))) × (new ≡ old) × (after ≡ records)
 
--- a sector is read, and what stands there is sent
+-- a sector is read, and what it has is sent
 abbrev pub GetsSector : List Message → List Record → SectorAddress → Result Reply Fault → List Message → List Record
     → Type 0
 GetsSector old records address (Ok r) new after =

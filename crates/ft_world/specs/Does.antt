@@ -1,5 +1,5 @@
--- What each event makes of a node that it comes to, and what is asked of one: the row's words, of the node before and
--- the node after it.
+-- What each event does to a node to which it comes, and what is asked of a node: the row's words, for the node before
+-- and the node after it.
 use Rattle.std.specs.Prelude.{◌≡◌, ◌≢◌, ℕ, ◌<◌, ◌≤◌, ◌⊎◌, Bool, true, false, Option, Some, [], ◌∷◌, length}
 use Rattle.std.specs.Global.{Vec}
 use Rattle.disk_dcdd.specs.declared.address.SectorAddress.{SectorAddress}
@@ -38,7 +38,7 @@ pub record Repeated {S : Type 0} (M : Machine S) (turns : ℕ) (r : Replayed) (x
   pub some : MovesSome x turns r.moves
   pub ends : r.at_end ≡ at_end y
 
--- a node that won replays, and is alone where nothing is left
+-- a node that won replays, and is alone if nothing is left
 pub record Emptied {S : Type 0} (M : Machine S) (turns : ℕ) (d : Drained) (x y : Node S) : Type 0 where
   pub z : Node S
   pub moves : Replays M x turns z d.moves
@@ -46,7 +46,7 @@ pub record Emptied {S : Type 0} (M : Machine S) (turns : ℕ) (d : Drained) (x y
   pub ends : d.alone ≡ at_end z
   pub after : y ≡ after_drain z (at_end z)
 
--- why a packet is refused that should be of an entry of the log, or of an acknowledgement
+-- why a packet is refused that should have been a log entry or an acknowledgement
 abbrev pub log_packet_refusal : {S : Type 0} → Option Packet → Node S → Option Fault
 log_packet_refusal (Some (Log generation index e)) x = log_refusal generation x
 log_packet_refusal _ x = first_of (role_refusal (Backup ∷ []) x ∷ Some Malformed ∷ [])
@@ -55,7 +55,7 @@ abbrev pub ack_packet_refusal : {S : Type 0} → Option Packet → Node S → Op
 ack_packet_refusal (Some (Ack generation held)) x = acked_refusal generation held x
 ack_packet_refusal _ x = first_of (role_refusal (Primary ∷ []) x ∷ Some Malformed ∷ [])
 
--- the entry that comes next is held; a repeat, or one past a gap, changes nothing
+-- the next entry is held; a repeat, or an entry past a gap, changes nothing
 abbrev pub HeldNext : {S : Type 0} → ℕ → Entry → Bool → Node S → Node S → Type 0
 HeldNext index e true x y = (index ≡ length x.held) × (y ≡ holds x e)
 HeldNext index e false x y = (index ≢ length x.held) × (y ≡ x)
@@ -64,7 +64,7 @@ abbrev pub Held : {S : Type 0} → Option Packet → Bool → Node S → Node S 
 Held (Some (Log generation index e)) new x y = HeldNext index e new x y
 Held _ new x y = ⊥
 
--- an acknowledgement is heard, which tells nothing of what is replayed
+-- an acknowledgement is heard, which reports nothing as replayed
 abbrev pub Heard : {S : Type 0} → Option Packet → ℕ → Node S → Node S → Type 0
 Heard (Some (Ack generation held)) covered x y = (covered ≡ (hears x held 0).covered) × (y ≡ hears x held 0)
 Heard _ covered x y = ⊥
@@ -73,7 +73,7 @@ Heard _ covered x y = ⊥
 abbrev pub Halted : {S : Type 0} → Unit {0} → Node S → Node S → Type 0
 Halted done x y = y ≡ halts x
 
--- ---- what holds of a node if memory is wanting
+-- ---- what holds of a node if the event is out of memory
 
 -- it is to make some steps
 abbrev pub WantsSteps : {S : Type 0} → ℕ → Node S → Type 0

@@ -1,4 +1,4 @@
--- What lends a station, and what the hosts are after that.
+-- What lends a station, and the hosts after that.
 use denote.RattleType.{RattleType}
 use Rattle.std.specs.Prelude.{◌≡◌, ℕ, List, Some, slice_get, slice_set}
 use Rattle.std.specs.contracts.alloc.Global as global
@@ -23,7 +23,7 @@ IsSpare (host.Spare resources) = Unit {0}
 abbrev pub HasNoNode : {B H : Type 0} → List (Host B H) → ℕ → Type 0
 HasNoNode {B} hosts n = (station : Station B) → slice_get hosts n ≡ Some (host.Node station) → ⊥
 
--- the hosts after the station of a node was lent, which is this one now: each spare host is as it was, and so is each
+-- the hosts after the station of a node was lent and became this one: each spare host is as it was, and so is every
 -- host if the station is
 pub record WithStation {B H : Type 0} (old : List (Host B H)) (n : ℕ) (station : Station B) (new : List (Host B H))
     : Type 0 where

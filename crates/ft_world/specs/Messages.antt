@@ -48,7 +48,7 @@ abbrev pub released : Operation → Message
 released (operation.Byte port number byte) = message.Byte port number byte
 released (operation.Write write) = message.Write write
 
--- a message is sent, and its number is the answer
+-- a message is sent, and its number is the reply
 abbrev pub Says : List Message → Message → Result Reply Fault → List Message → Type 0
 Says old m (Ok r) new = (r ≡ reply.Message (length old)) × (new ≡ old ++ m ∷ [])
 Says old m (Err fault) new = (fault ≡ OutOfMemory) × (new ≡ old)

@@ -21,7 +21,7 @@ use Rattle.ft_world.specs.declared.hosts.NodeStatus.{NodeStatus}
 use Rattle.ft_world.specs.declared.station.Station.{Station}
 use Rattle.ft_world.specs.declared.message.Message.{Message}
 
--- a node beside its list of inputs and its count, by which it settles
+-- a node with its list of inputs and its count, by which it settles
 pub record IsStation {B S : Type 0} (state : B → S) (M : Machine S) (h : Station B) (x : Node S) : Type 0 where
   pub node : IsNode state M h.node x
   pub inputs : h.inputs ≡ list_of x x.role

@@ -1,4 +1,4 @@
--- What a world knows of the machine that its nodes run.
+-- What a world knows about the machine that its nodes run.
 use Rattle.std.specs.Prelude.{ℕ, ◌≤◌, List}
 use Rattle.disk_dcdd.specs.declared.address.SectorAddress.{SectorAddress}
 use Rattle.disk_dcdd.specs.declared.controller.TheConstants.{DRIVES}
@@ -15,7 +15,7 @@ pub record Course (S : Type 0) : Type 0 where
   pub sectors : SectorAddress → List ℕ
   pub world : World S
 
--- the machine of a course: the one that the nodes run, from there
+-- the machine of a course: the one that the nodes run, begun there
 abbrev pub machine_of : {S : Type 0} → Machine S → Course S → Machine S
 machine_of M c = record M { boot = c.boot; boot_sector = c.sectors }
 

@@ -17,11 +17,11 @@ abbrev pub spare_of : {B H : Type 0} → Host B H → Option H
 spare_of (host.Node h) = None
 spare_of (host.Spare resources) = Some resources
 
--- no host comes, and each spare one is a spare one still, with the same resources
+-- no host comes, and each spare host is still spare, with the same resources
 abbrev pub SpareHostsStay : {B H : Type 0} → List (Host B H) → List (Host B H) → Type 0
 SpareHostsStay old new = map spare_of new ≡ map spare_of old
 
--- the node of a number is halted, beside the same inputs and the same count; all else is as it was
+-- the node of a number is halted, with the same inputs and the same count; everything else is as it was
 pub record NodeHalts {B H D : Type 0} (n : ℕ) (old new : Running B H D) : Type 0 where
   pub before : Station B
   pub there : slice_get old.hosts n ≡ Some (host.Node before)
@@ -30,17 +30,17 @@ pub record NodeHalts {B H D : Type 0} (n : ℕ) (old new : Running B H D) : Type
     hosts = slice_set old.hosts n (host.Node (record before { node = node.Halted halted }));
   }
 
--- the disk has the same records; all but the disk is as it was
+-- the disk has the same records; everything but the disk is as it was
 pub record DiskFails {B H D : Type 0} (records : D → List Record) (old new : Running B H D) : Type 0 where
   pub kept : records new.disk ≡ records old.disk
   pub rest : new ≡ record old { disk = new.disk }
 
--- a refusal leaves a change if it is this one, and else all as it was
+-- a refusal leaves a change if it is this one, and otherwise everything as it was
 abbrev pub Except : Fault → Fault → Type 0 → Type 0 → Type 0
 Except reason fault changes same = (fault ≡ reason → changes) × (fault ≢ reason → same)
 
--- a refused event leaves all as it was, except that a node that asked the arbiter and lost is halted, and that a disk
--- that failed may have counted the failure
+-- a refused event leaves everything as it was, except that a node that asked the arbiter and lost is halted, and that a
+-- disk that failed may have counted the failure
 abbrev pub Stays : {B H D : Type 0} → (D → List Record) → Event → Fault → Running B H D → Running B H D → Type 0
 Stays records (event.Suspect n) fault old new = Except Lost fault (NodeHalts n old new) (new ≡ old)
 Stays records (event.Put m) fault old new = Except DeviceFault fault (DiskFails records old new) (new ≡ old)

@@ -18,7 +18,7 @@ use Rattle.ft_world.specs.declared.message.Message.TheVariants as message
 use Rattle.pair_events.specs.declared.reply.Reply.{Reply}
 use Rattle.pair_events.specs.declared.reply.Reply.TheVariants as reply
 
--- the event of the protocol that an event is
+-- the event of the protocol that an event stands for
 abbrev pub event_of : Event → protocol.Event
 event_of (event.Step n turns) = protocol.Step n turns
 event_of (event.TypeByte port byte) = protocol.TypeByte port byte
@@ -40,7 +40,7 @@ event_of (event.Suspect n) = protocol.Suspect n
 event_of (event.Drain n turns) = protocol.Drain n turns
 event_of (event.Stop n) = protocol.Stop n
 
--- the reply of the protocol that an answer is
+-- the reply of the protocol that an answer stands for
 abbrev pub reply_of : Reply → protocol.Reply
 reply_of (reply.Ran steps count why) = protocol.Ran steps count (why_of why)
 reply_of (reply.Typed index) = protocol.TypedAt index
@@ -65,7 +65,7 @@ answer_of (Err fault) = protocol.Refused fault
 abbrev pub read_address : SectorRead → SectorAddress
 read_address r = record { drive = r.drive; track = r.track; sector = r.sector }
 
--- a message is this one of the protocol: packets by their spelling, of which none tells what is replayed
+-- a message is this one of the protocol: packets by their spelling, which reports nothing as replayed
 abbrev pub IsMessage : Message → sent.Message → Type 0
 IsMessage (message.Log bytes) (sent.LogEntry generation index e) =
     packet_at bytes.items ≡ Some (packet.Log generation index e)

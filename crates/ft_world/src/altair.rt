@@ -21,8 +21,8 @@ impl<T: Completes + Drop, S: Completes + Drop, W: Completes + Drop, D: SectorSto
     D,
     Callbacks<T, S, W>,
 > {
-    /// A pair of Altairs of this setup begins, over a disk that has the setup's drives and on which nothing is written
-    /// yet. `OutOfMemory` hands the disk's store and the closures back.
+    /// A pair of Altairs of this setup begins, over a disk that has the setup's drives and is unwritten. `OutOfMemory`
+    /// hands the disk's store and the closures back.
     pub fn boot(
         alloc: Global,
         setup: &Setup,

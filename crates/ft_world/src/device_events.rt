@@ -1,4 +1,4 @@
-//! The events at terminals and at the disk, and what nodes hear from them.
+//! The events at terminals and at the disk, and what nodes hear of them.
 ghost use Rattle.std.specs.Prelude.{◌≡◌, ◌+◌, IfErr, OnErr};
 ghost use Rattle.shared_disk.specs.Records.{faults_in};
 ghost use Rattle.ft_world.specs.Applies.{Happens, ShowsSome};
@@ -42,7 +42,7 @@ impl<B: Lockstep + Drop, D: SectorStore, H: Drop> Pair<B, D, H> {
         messages::say(&mut self.messages, Message::releasing(operation))
     }
 
-    /// A released byte comes to its terminal.
+    /// A released byte arrives at its terminal.
     pub(crate) fn arrive(&mut self, message: u64) -> R<Reply>
         ensures row { Happens B.state B.machine D.records (running_of self.old) (happens.Arrive message) result
             (running_of self.new) }
@@ -56,7 +56,7 @@ impl<B: Lockstep + Drop, D: SectorStore, H: Drop> Pair<B, D, H> {
         devices::arrive(&mut self.terminals, port, number, byte)
     }
 
-    /// A node hears that the terminal of a port has accepted the byte of a number.
+    /// A node hears that the terminal of a port has accepted the byte with a number.
     pub(crate) fn tell_sent(&mut self, node: u64, port: u8, number: u64) -> R<Reply>
         requires shown { ShowsSome B.state B.machine D.records (running_of self.old) }
         ensures row { Happens B.state B.machine D.records (running_of self.old) (happens.TellSent node port number)
@@ -88,7 +88,7 @@ impl<B: Lockstep + Drop, D: SectorStore, H: Drop> Pair<B, D, H> {
         Ok(Reply::Told { keys })
     }
 
-    /// A released write comes to the shared disk.
+    /// A released write arrives at the shared disk.
     pub(crate) fn put(&mut self, message: u64) -> R<Reply>
         requires shown { ShowsSome B.state B.machine D.records (running_of self.old) }
         ensures row { Happens B.state B.machine D.records (running_of self.old) (happens.Put message) result
@@ -104,7 +104,7 @@ impl<B: Lockstep + Drop, D: SectorStore, H: Drop> Pair<B, D, H> {
         devices::put(&mut self.messages, &mut self.disk, &write)
     }
 
-    /// The disk's answer to a write comes to a node.
+    /// The disk's answer to a write arrives at a node.
     pub(crate) fn put_reply(&mut self, message: u64, node: u64) -> R<Reply>
         requires shown { ShowsSome B.state B.machine D.records (running_of self.old) }
         ensures row { Happens B.state B.machine D.records (running_of self.old) (happens.PutReply message node) result
@@ -139,7 +139,7 @@ impl<B: Lockstep + Drop, D: SectorStore, H: Drop> Pair<B, D, H> {
         devices::get(&mut self.messages, &mut self.disk, address)
     }
 
-    /// A sector that was read comes to a node.
+    /// A sector that was read arrives at a node.
     pub(crate) fn get_reply(&mut self, message: u64, node: u64) -> R<Reply>
         requires shown { ShowsSome B.state B.machine D.records (running_of self.old) }
         ensures row { Happens B.state B.machine D.records (running_of self.old) (happens.GetReply message node) result

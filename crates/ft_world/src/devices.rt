@@ -15,7 +15,7 @@ use pair_events::Reply;
 use shared_disk::{SectorStore, SharedDisk};
 use terminals::Terminal;
 
-/// A byte is typed at the terminal of a port. `Unknown` where there is no such port.
+/// A byte is typed at the terminal of a port. `Unknown` if there is no such port.
 pub(crate) fn type_byte(terminals: &mut [Terminal; PORTS], port: u8, byte: u8) -> R<Reply>
     ensures { table.Types terminals.old port byte result terminals.new }
 {
@@ -26,7 +26,7 @@ pub(crate) fn type_byte(terminals: &mut [Terminal; PORTS], port: u8, byte: u8) -
     Ok(Reply::Typed { index })
 }
 
-/// A byte comes to the terminal of its port, if there is one.
+/// A byte arrives at the terminal of its port, if there is one.
 pub(crate) fn arrive(terminals: &mut [Terminal; PORTS], port: u8, number: u64, byte: u8) -> R<Reply>
     ensures { table.Arrives terminals.old port number byte result terminals.new }
 {
@@ -40,7 +40,7 @@ pub(crate) fn arrive(terminals: &mut [Terminal; PORTS], port: u8, number: u64, b
     }
 }
 
-/// A write comes to the disk, whose answer is sent. There is room for the answer before the disk is touched.
+/// A write arrives at the disk, whose answer is sent. Room for the answer is reserved before the disk is touched.
 pub(crate) fn put<D: SectorStore>(
     messages: &mut Vec<Message>,
     disk: &mut SharedDisk<D>,
@@ -60,7 +60,7 @@ pub(crate) fn put<D: SectorStore>(
     }
 }
 
-/// The key that was typed at the terminal of a port at an index, from 0. `Unknown` where there is none.
+/// The key that was typed at an index, from 0, at the terminal of a port. `Unknown` if there is none.
 pub(crate) fn key_at(terminals: &[Terminal; PORTS], port: u8, index: u64) -> R<u8>
     ensures answer { result ≡ ok_or (slice_get (table.screen_in terminals.now port).typed index) Unknown }
     ensures port { OnOk result (port < PORTS) }
@@ -71,7 +71,7 @@ pub(crate) fn key_at(terminals: &[Terminal; PORTS], port: u8, index: u64) -> R<u
     terminals[port as usize].key(index)
 }
 
-/// Whether the terminal of a port has accepted the byte of a number, from 1. `Unknown` where it has not.
+/// Whether the terminal of a port has accepted the byte with a number, from 1. `Unknown` if it has not.
 pub(crate) fn check_accepted(terminals: &[Terminal; PORTS], port: u8, number: u64) -> R<()>
     ensures answer { result ≡ answered (table.not_accepted terminals.now port number) }
     ensures port { OnOk result (port < PORTS) }
@@ -85,7 +85,7 @@ pub(crate) fn check_accepted(terminals: &[Terminal; PORTS], port: u8, number: u6
     Ok(())
 }
 
-/// Whether the device of an operation is there. `Unknown` where it is a byte of a port that is not there.
+/// Whether the device of an operation is there. `Unknown` if the operation is a byte for a port that is not there.
 pub(crate) fn check_device(id: OpId) -> R<()>
     ensures { result ≡ answered (table.no_device id) }
 {
@@ -95,7 +95,7 @@ pub(crate) fn check_device(id: OpId) -> R<()>
     }
 }
 
-/// The terminal of a port is told that so many of its keys are covered.
+/// The terminal of a port is told that this many of its keys are covered.
 pub(crate) fn tell(terminals: &mut [Terminal; PORTS], port: u8, keys: u64)
     requires { port < PORTS }
     ensures { terminals.new ≡ slice_set terminals.old port (after_telling (table.screen_in terminals.old port) keys) }
@@ -103,7 +103,7 @@ pub(crate) fn tell(terminals: &mut [Terminal; PORTS], port: u8, keys: u64)
     terminals[port as usize].tell(keys);
 }
 
-/// The bytes that the terminal of a port has accepted; none where there is no such port.
+/// The bytes that the terminal of a port has accepted; empty if there is no such port.
 pub(crate) fn accepted(terminals: &[Terminal; PORTS], port: u8) -> &[u8]
     ensures { result.now ≡ (table.screen_in terminals.now port).accepted }
 {
@@ -113,7 +113,7 @@ pub(crate) fn accepted(terminals: &[Terminal; PORTS], port: u8) -> &[u8]
     terminals[port as usize].accepted()
 }
 
-/// How many of its keys the terminal of a port was told are covered; 0 where there is no such port.
+/// How many of its keys the terminal of a port was told are covered; 0 if there is no such port.
 pub(crate) fn told(terminals: &[Terminal; PORTS], port: u8) -> u64
     ensures { result ≡ (table.screen_in terminals.now port).told }
 {
@@ -123,7 +123,7 @@ pub(crate) fn told(terminals: &[Terminal; PORTS], port: u8) -> u64
     terminals[port as usize].told()
 }
 
-/// A sector is read, and the disk's answer is sent. There is room for the answer before the disk is touched.
+/// A sector is read, and the disk's answer is sent. Room for the answer is reserved before the disk is touched.
 pub(crate) fn get<D: SectorStore>(
     messages: &mut Vec<Message>,
     disk: &mut SharedDisk<D>,

@@ -10,7 +10,7 @@ ghost use Rattle.ft_world.specs.declared.host.Host.TheVariants as host;
 use crate::station::Station;
 use i8080_words::{Fault, R};
 
-/// A host: a node of the pair, or one that has no role yet, with what a copied machine will be made with there.
+/// A host: a node of the pair, or one that has no role yet, with the resources for a machine that is copied there.
 #[derive(Drop)]
 pub enum Host<B, H> {
     Node(Station<B>),
@@ -18,7 +18,7 @@ pub enum Host<B, H> {
 }
 
 impl<B: Drop, H: Drop> Host<B, H> {
-    // The station, if this is a node; `Unknown` if it is spare.
+    // The station, if this is a node; `Unknown` if it is a spare host.
     pub(crate) fn station_mut(&mut self) -> R<&mut Station<B>>
         ensures* lends { sem 𝓛 (LendsIfOk (the_host.the_row B.row H.row) (the_station.the_row B.row) self.entry result
             (λ station. host.Node station) self.old) }

@@ -21,11 +21,11 @@ pub struct NodeStatus {
     pub role: Role,
     /// From 1.
     pub generation: u32,
-    /// How many steps its machine has made; of a halted node, had made.
+    /// How many steps its machine has made; for a halted node, how many it had made.
     pub count: u64,
 }
 
-/// The station of a number, for an event that comes to it. `Unknown` if no node has this number.
+/// The station of a node, for an event that comes to it. `Unknown` if no node has this number.
 pub(crate) fn station_mut<B: Lockstep + Drop, H: Drop>(
     hosts: &mut Vec<Host<B, H>>,
     node: u64,
@@ -41,7 +41,7 @@ pub(crate) fn station_mut<B: Lockstep + Drop, H: Drop>(
     }
 }
 
-/// The station of a number, to look at. `Unknown` if no node has this number.
+/// The station of a node, to look at. `Unknown` if no node has this number.
 pub(crate) fn station<B: Lockstep + Drop, H: Drop>(
     hosts: &Vec<Host<B, H>>,
     node: u64,
@@ -56,7 +56,7 @@ pub(crate) fn station<B: Lockstep + Drop, H: Drop>(
     }
 }
 
-/// What a node shows of itself; none at a number that no node has.
+/// What a node shows of itself; `None` if no node has this number.
 pub(crate) fn status<B: Lockstep + Drop, H: Drop>(
     hosts: &Vec<Host<B, H>>,
     node: u64,
@@ -72,7 +72,7 @@ pub(crate) fn status<B: Lockstep + Drop, H: Drop>(
     })
 }
 
-/// The inputs of a node, and the count up to which it is settled by them; none at a number that no node has.
+/// The inputs of a node, and the count up to which they settle it; no input and 0 if no node has this number.
 pub(crate) fn settled<B: Lockstep + Drop, H: Drop>(
     hosts: &Vec<Host<B, H>>,
     node: u64,

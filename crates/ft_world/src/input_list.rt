@@ -9,7 +9,7 @@ use plain_single::Timed;
 use std::alloc::Global;
 use std::marker::Model;
 
-/// Timed inputs, in order. How much room they have is not seen, so one that finds none changes nothing.
+/// Timed inputs, in order. How much room they have does not show, so a push that finds no room changes nothing.
 #[derive(Drop)]
 pub struct Inputs {
     list: Vec<Timed>,
@@ -41,14 +41,14 @@ impl Inputs {
         &self.list
     }
 
-    // How many they are.
+    // How many there are.
     pub(crate) fn len(&self) -> usize
         ensures { result ≡ length self.now }
     {
         self.list.len()
     }
 
-    // One more, at the end.
+    // Appends one more.
     pub(crate) fn push(&mut self, timed: Timed) -> R<()>
         ensures ok { OnOk result (self.new ≡ self.old ++ timed ∷ []) }
         ensures full { IfErr result (λ fault. fault ≡ OutOfMemory) }
@@ -58,7 +58,7 @@ impl Inputs {
         Ok(())
     }
 
-    // The input of an entry, at the end; a mark has none.
+    // Appends the input of an entry; a mark has none.
     pub(crate) fn hold(&mut self, entry: &Entry) -> R<()>
         ensures ok { OnOk result (self.new ≡ self.old ++ timed_in (timed_of entry.now)) }
         ensures full { IfErr result (λ fault. fault ≡ OutOfMemory) }
@@ -70,7 +70,7 @@ impl Inputs {
         }
     }
 
-    // The first so many.
+    // Keeps only the first ones, this many.
     pub(crate) fn truncate(&mut self, len: usize)
         ensures { self.new ≡ take len self.old }
     {

@@ -19,7 +19,7 @@ pub enum Message {
     Write(SectorWrite),
     /// The disk has taken the write of this number.
     Written(u64),
-    /// What stands in a sector of the disk.
+    /// What a sector of the disk has.
     Sector(SectorRead),
 }
 
@@ -54,7 +54,7 @@ impl Message {
         }
     }
 
-    // The port, the number and the byte, of a released byte.
+    // The port, the number and the byte that were released, if it is a byte.
     pub(crate) fn byte(&self) -> Option<(u8, u64, u8)>
         ensures { result ≡ table.byte_of self.now }
     {
@@ -74,7 +74,7 @@ impl Message {
         }
     }
 
-    // The number of the write that the disk has taken.
+    // The number of the write that the disk has taken, if it says so.
     pub(crate) fn written(&self) -> Option<u64>
         ensures { result ≡ table.written_of self.now }
     {
@@ -84,7 +84,7 @@ impl Message {
         }
     }
 
-    // The sector that was read.
+    // The sector that was read, if it is one.
     pub(crate) fn sector(&self) -> Option<SectorRead>
         ensures { result ≡ table.sector_of self.now }
     {

@@ -1,4 +1,4 @@
-//! The messages that were sent: one more is sent, and what the message of a number brings.
+//! The messages that were sent: how one more is sent, and what a message brings.
 ghost use Rattle.std.specs.Prelude.{◌≡◌, option_map};
 ghost use Rattle.ft_world.specs.Messages as table;
 
@@ -8,7 +8,7 @@ use i8080_words::R;
 use pair_events::Reply;
 use shared_disk::SectorRead;
 
-/// A message is sent; the answer is its number.
+/// A message is sent; returns its number.
 pub(crate) fn say(messages: &mut Vec<Message>, message: Message) -> R<Reply>
     ensures { table.Says messages.old.items message result messages.new.items }
 {
@@ -33,7 +33,7 @@ pub(crate) fn ack_in(messages: &Vec<Message>, message: u64) -> Option<&[u8]>
     message.ack()
 }
 
-/// The byte that a message brings to its terminal: port, number and byte.
+/// The byte that a message brings to its terminal: its port, its number and the byte.
 pub(crate) fn byte_in(messages: &Vec<Message>, message: u64) -> Option<(u8, u64, u8)>
     ensures { result ≡ table.brought table.byte_of messages.now.items message }
 {
@@ -49,7 +49,7 @@ pub(crate) fn write_in(messages: &Vec<Message>, message: u64) -> Option<SectorWr
     message.write()
 }
 
-/// The number of the write of which a message says that the disk has taken it.
+/// The number of the write that a message reports as taken by the disk.
 pub(crate) fn written_in(messages: &Vec<Message>, message: u64) -> Option<u64>
     ensures { result ≡ table.brought table.written_of messages.now.items message }
 {

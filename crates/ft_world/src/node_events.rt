@@ -1,4 +1,4 @@
-//! The events at a node alone.
+//! The events at a node itself.
 ghost use Rattle.std.specs.Prelude.{◌≡◌, IfErr, OnErr};
 ghost use Rattle.ft_world.specs.Applies.{Happens, ShowsSome};
 ghost use Rattle.ft_world.specs.Pairs.{running_of};
@@ -15,7 +15,7 @@ use shared_disk::SectorStore;
 use std::alloc::Global;
 
 impl<B: Lockstep + Drop, D: SectorStore, H: Drop> Pair<B, D, H> {
-    /// The machine of a primary or alone node makes at most so many steps.
+    /// The machine of a primary or alone node makes at most this many steps.
     pub(crate) fn step(&mut self, node: u64, turns: u64) -> R<Reply>
         requires shown { ShowsSome B.state B.machine D.records (running_of self.old) }
         ensures row { Happens B.state B.machine D.records (running_of self.old) (happens.Step node turns) result
@@ -33,7 +33,7 @@ impl<B: Lockstep + Drop, D: SectorStore, H: Drop> Pair<B, D, H> {
         })
     }
 
-    /// A node takes the key of an index from the terminal of a port.
+    /// A node takes the key at an index from the terminal of a port.
     pub(crate) fn take_key(&mut self, node: u64, port: u8, index: u64) -> R<Reply>
         requires shown { ShowsSome B.state B.machine D.records (running_of self.old) }
         ensures row { Happens B.state B.machine D.records (running_of self.old) (happens.TakeKey node port index) result
@@ -61,7 +61,7 @@ impl<B: Lockstep + Drop, D: SectorStore, H: Drop> Pair<B, D, H> {
         messages::say(&mut self.messages, Message::Log(bytes))
     }
 
-    /// A log entry comes to a backup.
+    /// A log entry arrives at a backup.
     pub(crate) fn deliver_log(&mut self, message: u64, node: u64) -> R<Reply>
         ensures row { Happens B.state B.machine D.records (running_of self.old) (happens.DeliverLog message node) result
             (running_of self.new) }
@@ -93,7 +93,7 @@ impl<B: Lockstep + Drop, D: SectorStore, H: Drop> Pair<B, D, H> {
         messages::say(&mut self.messages, Message::Ack(bytes))
     }
 
-    /// An acknowledgement comes to a primary.
+    /// An acknowledgement arrives at a primary.
     pub(crate) fn deliver_acknowledgement(&mut self, message: u64, node: u64) -> R<Reply>
         ensures row { Happens B.state B.machine D.records (running_of self.old)
             (happens.DeliverAcknowledgement message node) result (running_of self.new) }
@@ -109,7 +109,7 @@ impl<B: Lockstep + Drop, D: SectorStore, H: Drop> Pair<B, D, H> {
         Ok(Reply::Held { held })
     }
 
-    /// A backup makes at most so many moves of what it holds.
+    /// A backup makes at most this many moves of what it holds.
     pub(crate) fn replay(&mut self, node: u64, turns: u64) -> R<Reply>
         requires shown { ShowsSome B.state B.machine D.records (running_of self.old) }
         ensures row { Happens B.state B.machine D.records (running_of self.old) (happens.Replay node turns) result
@@ -141,7 +141,7 @@ impl<B: Lockstep + Drop, D: SectorStore, H: Drop> Pair<B, D, H> {
         Ok(Reply::Won)
     }
 
-    /// A node that won makes at most so many moves of what it still holds.
+    /// A node that won makes at most this many moves of what it still holds.
     pub(crate) fn drain(&mut self, node: u64, turns: u64) -> R<Reply>
         requires shown { ShowsSome B.state B.machine D.records (running_of self.old) }
         ensures row { Happens B.state B.machine D.records (running_of self.old) (happens.Drain node turns) result

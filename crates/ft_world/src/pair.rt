@@ -1,4 +1,4 @@
-//! A pair with all that it shares, how it begins, and the events that come to it.
+//! A pair with everything that it shares, how it begins, and the events that come to it.
 ghost use Rattle.std.specs.Prelude.{◌≡◌, ◌+◌, [], ◌∷◌, ◌++◌, length, IfErr, IfOk, OnErr, OnOk};
 ghost use Rattle.i8080_words.specs.declared.refusal.Fault.TheVariants.{OutOfMemory};
 ghost use Rattle.pair_protocol.specs.World.{with_host};
@@ -22,8 +22,8 @@ use shared_disk::{SectorStore, SharedDisk};
 use std::alloc::Global;
 use terminals::Terminal;
 
-/// The hosts, every message ever sent, a terminal at each port, the arbiter and the disk; with the highest generation, and
-/// the number of the node that is or is to be its backup.
+/// The hosts, every message ever sent, a terminal at each port, the arbiter and the disk; also the highest generation,
+/// and the number of the node that is or is to be its backup.
 #[derive(Drop)]
 pub(crate) struct Pair<B: Lockstep + Drop, D: SectorStore, H: Drop> {
     pub(crate) hosts: Vec<Host<B, H>>,
@@ -36,7 +36,7 @@ pub(crate) struct Pair<B: Lockstep + Drop, D: SectorStore, H: Drop> {
 }
 
 impl<B: Lockstep + Drop, D: SectorStore, H: Drop> Pair<B, D, H> {
-    /// A pair with these guests and this disk. It takes no further memory.
+    /// A pair with these guests and this disk. It allocates no further memory.
     pub(crate) fn begin(
         alloc: Global,
         room: Room<B, H>,
@@ -93,7 +93,7 @@ impl<B: Lockstep + Drop, D: SectorStore, H: Drop> Pair<B, D, H> {
         }
     }
 
-    /// Events happen, one after another. There is room for the answers before the first of them does.
+    /// Events happen, one after another. Room for the answers is reserved before the first one happens.
     pub(crate) fn run(&mut self, alloc: Global, events: &[Event]) -> R<Vec<R<Reply>>>
         requires shown { ShowsSome B.state B.machine D.records (running_of self.old) }
         ensures ok { IfOk result (λ answers. (c : Course B.State)
@@ -116,7 +116,7 @@ impl<B: Lockstep + Drop, D: SectorStore, H: Drop> Pair<B, D, H> {
         Ok(answers)
     }
 
-    /// A host without a role comes; the answer is its number. `OutOfMemory` hands its resources back.
+    /// A host without a role comes; returns its number. `OutOfMemory` hands its resources back.
     pub(crate) fn host(&mut self, resources: H) -> Result<u64, (H, Fault)>
         ensures ok { OnOk result ((c : Course B.State) → Shows B.state B.machine D.records (running_of self.old) c
             → Shows B.state B.machine D.records (running_of self.new)

@@ -21,7 +21,7 @@ use plain_single::Timed;
 use shared_disk::{SectorRead, SectorStore};
 
 impl<B: Lockstep + Drop, D: SectorStore, H: Drop> Pair<B, D, H> {
-    /// The bytes that the terminal of a port has accepted; none where there is no such port.
+    /// The bytes that the terminal of a port has accepted; empty if there is no such port.
     pub(crate) fn accepted(&self, port: u8) -> &[u8]
         ensures { (c : Course B.State) → Shows B.state B.machine D.records (running_of self.now) c
             → result.now ≡ accepted c.world port }
@@ -29,7 +29,7 @@ impl<B: Lockstep + Drop, D: SectorStore, H: Drop> Pair<B, D, H> {
         devices::accepted(&self.terminals, port)
     }
 
-    /// How many of its keys the terminal of a port was told are covered; 0 where there is no such port.
+    /// How many of its keys the terminal of a port was told are covered; 0 if there is no such port.
     pub(crate) fn told(&self, port: u8) -> u64
         ensures { (c : Course B.State) → Shows B.state B.machine D.records (running_of self.now) c
             → result ≡ (terminal c.world port).told }
@@ -37,7 +37,7 @@ impl<B: Lockstep + Drop, D: SectorStore, H: Drop> Pair<B, D, H> {
         devices::told(&self.terminals, port)
     }
 
-    /// What stands in a sector of the disk.
+    /// What a sector of the disk has.
     pub(crate) fn sector(&mut self, address: SectorAddress) -> R<SectorRead>
         ensures ok { IfOk result (λ read. (c : Course B.State)
             → Shows B.state B.machine D.records (running_of self.old) c
@@ -50,7 +50,7 @@ impl<B: Lockstep + Drop, D: SectorStore, H: Drop> Pair<B, D, H> {
         self.disk.get(address)
     }
 
-    /// What a node shows of itself; none at a number that no node has.
+    /// What a node shows of itself; `None` if no node has this number.
     pub(crate) fn node(&self, node: u64) -> Option<NodeStatus>
         ensures { (c : Course B.State) → Shows B.state B.machine D.records (running_of self.now) c
             → IsStatusAt B.machine (slice_get c.world.nodes node) result }
@@ -58,7 +58,7 @@ impl<B: Lockstep + Drop, D: SectorStore, H: Drop> Pair<B, D, H> {
         hosts::status(&self.hosts, node)
     }
 
-    /// The message of a number, if it was sent.
+    /// The message of this number, if it was sent.
     pub(crate) fn message(&self, message: u64) -> Option<&Message>
         ensures { (c : Course B.State) → Shows B.state B.machine D.records (running_of self.now) c
             → Agree IsMessage (option_map (λ found. found.now) result) (slice_get c.world.messages message) }
@@ -74,7 +74,7 @@ impl<B: Lockstep + Drop, D: SectorStore, H: Drop> Pair<B, D, H> {
         self.arbiter.winner(generation)
     }
 
-    /// The inputs that are settled, and the count up to which they are.
+    /// The inputs that are settled, and the count up to which they are settled.
     pub(crate) fn settled(&self) -> (&[Timed], u64)
         ensures { (c : Course B.State) → Shows B.state B.machine D.records (running_of self.now) c
             → Settled (machine_of B.machine c) c.world result.0.now result.1 }

@@ -1,4 +1,4 @@
-//! How a pair begins: the memory that it takes, and its two nodes there.
+//! How a pair begins: the memory that it needs, and its two nodes.
 ghost use Rattle.std.specs.Prelude.{◌≡◌, ◌+◌, ◌≤◌, [], IsOkUnless, vec_capacity, vec_len};
 ghost use Rattle.i8080_words.specs.declared.refusal.Fault.TheVariants.{OutOfMemory};
 ghost use Rattle.log_buffer.specs.Log as logs;
@@ -14,7 +14,7 @@ use i8080_words::R;
 use log_buffer::LogBuffer;
 use std::alloc::Global;
 
-/// All the memory that a pair takes when it begins: places for its two nodes, and the primary's log.
+/// All the memory that a pair needs to begin: places for its two nodes, and the primary's log.
 #[derive(Drop)]
 pub(crate) struct Room<B, H> {
     hosts: Vec<Host<B, H>>,
@@ -25,7 +25,7 @@ pub(crate) struct Room<B, H> {
 }
 
 impl<B: Lockstep + Drop, H: Drop> Room<B, H> {
-    /// Takes that memory.
+    /// Allocates that memory.
     pub(crate) fn new(alloc: Global) -> R<Room<B, H>>
         ensures { IsOkUnless result OutOfMemory }
     {
@@ -34,7 +34,7 @@ impl<B: Lockstep + Drop, H: Drop> Room<B, H> {
         Ok(Room { hosts, log })
     }
 
-    /// The primary and the backup of generation 1, with these guests. They take no further memory.
+    /// The primary and the backup of generation 1, with these guests. Allocates no further memory.
     pub(crate) fn begin(self, alloc: Global, primary: B, backup: B) -> Vec<Host<B, H>>
         ensures { (c : Course B.State) → B.state primary ≡ c.boot → B.state backup ≡ c.boot
             → B.machine.count c.boot ≡ 0

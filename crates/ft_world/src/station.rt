@@ -1,4 +1,4 @@
-//! A node beside its inputs, and what an event does there.
+//! A node with its list of inputs, and what an event does there.
 ghost use Rattle.std.specs.Prelude.{◌≡◌, ◌≢◌, ◌<◌, [], if◌then◌else◌, IfErr, OnErr};
 ghost use Rattle.disk_dcdd.specs.declared.controller.TheConstants.{DRIVES};
 ghost use Rattle.disk_dcdd.specs.declared.sector.TheConstants.{SECTORS};
@@ -24,7 +24,7 @@ use plain_single::{Bare, Timed};
 use replayer::Replayed;
 use std::alloc::Global;
 
-/// A node beside the inputs that its machine has taken or is to take, and the count up to which it is settled by them.
+/// A node with the list of inputs that its machine has taken or is to take, and the count up to which they settle it.
 /// No node reads either.
 #[derive(Drop)]
 pub struct Station<B> {
@@ -34,7 +34,7 @@ pub struct Station<B> {
 }
 
 impl<B: Lockstep + Drop> Station<B> {
-    // A node that begins, with no inputs yet, settled by the count of its machine.
+    // A node that begins, with no inputs yet, settled at the count of its machine.
     pub(crate) fn new(alloc: Global, node: Node<B>) -> Station<B>
         ensures node { result.node ≡ node }
         ensures inputs { result.inputs ≡ [] }
@@ -49,7 +49,7 @@ impl<B: Lockstep + Drop> Station<B> {
         }
     }
 
-    // The count by which a node settles after it drained: its machine's, once it is alone.
+    // The count by which a node settles once it has drained: the count of its machine, when it is alone.
     fn settled_count(&self, alone: bool) -> u64
         ensures { (x : protocol.Node B.State) → IsNode B.state B.machine self.now.node x
             → result ≡ (if alone then B.machine.count x.machine else self.now.count) }
@@ -93,7 +93,7 @@ impl<B: Lockstep + Drop> Station<B> {
         }
     }
 
-    /// A node takes the acceptance of the byte of a number, from 1.
+    /// A node takes the acceptance of the byte with a number, from 1.
     pub(crate) fn sent(&mut self, port: u8, number: u64) -> R<()>
         requires port { port < PORTS }
         ensures answer { (x : protocol.Node B.State) → IsStation B.state B.machine self.old x
@@ -116,7 +116,7 @@ impl<B: Lockstep + Drop> Station<B> {
         }
     }
 
-    /// A node takes the completion of the write of a number.
+    /// A node takes the completion of the write with a number.
     pub(crate) fn done(&mut self, number: u64) -> R<()>
         ensures answer { (x : protocol.Node B.State) → IsStation B.state B.machine self.old x
             → AtStation (refusals.done_refusal B.machine number x) result x
@@ -168,8 +168,8 @@ impl<B: Lockstep + Drop> Station<B> {
         }
     }
 
-    /// A node takes a packet of the log: true where its entry comes next, and is held; a repeat, or one past a gap,
-    /// is false.
+    /// A node takes a packet of the log: true if its entry is the next one, and is now held; a repeat, or one past a
+    /// gap, is false.
     pub(crate) fn on_log(&mut self, bytes: &[u8]) -> R<bool>
         ensures answer { (x : protocol.Node B.State) → IsStation B.state B.machine self.old x
             → WantsAtStation (does.log_packet_refusal (packet_at bytes.now) x) result
@@ -197,7 +197,7 @@ impl<B: Lockstep + Drop> Station<B> {
         }
     }
 
-    /// A node takes an acknowledgement, and gives how many entries are acknowledged then.
+    /// A node takes an acknowledgement, and returns how many entries are acknowledged then.
     pub(crate) fn on_ack(&mut self, bytes: &[u8]) -> R<u64>
         ensures answer { (x : protocol.Node B.State) → IsStation B.state B.machine self.old x
             → DoesAtStation (does.ack_packet_refusal (packet_at bytes.now) x) result x
@@ -241,7 +241,7 @@ impl<B: Lockstep + Drop> Station<B> {
         self.node.stop()
     }
 
-    /// Asks the arbiter for the generation: whoever asks first goes on alone, a backup once it is drained.
+    /// Asks the arbiter for the generation: the first node to ask goes on alone, a backup once it is drained.
     pub(crate) fn suspect(&mut self, id: u64, arbiter: &mut Arbiter) -> R<Won>
         ensures answer { (x : protocol.Node B.State) → IsStation B.state B.machine self.old x
             → calls.Asks arbiter.old id x result arbiter.new (IsStation B.state B.machine self.new) }

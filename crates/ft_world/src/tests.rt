@@ -1,5 +1,5 @@
-//! Worlds of Altairs, event by event, as tables: a program, what happens, what is answered, and what stands in the end.
-//! Each row also holds where an allocation fails: an event is refused for want of memory, and asked again it happens.
+//! Worlds of Altairs, event by event, as tables: a program, what happens, what is answered, and how it ends. Each row
+//! also holds if an allocation fails: an event is refused as out of memory, and happens when it is asked for again.
 
 mod disk;
 mod lines;

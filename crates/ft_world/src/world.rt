@@ -13,7 +13,8 @@ use shared_disk::{SectorRead, SectorStore};
 use std::alloc::Global;
 use std::marker::Model;
 
-/// A pair of nodes with all that they share: every message ever sent, a terminal at each port, the arbiter and the disk.
+/// A pair of nodes with everything that they share: every message ever sent, a terminal at each port, the arbiter, the
+/// disk.
 #[derive(Drop)]
 pub struct World<B: Lockstep + Drop, D: SectorStore, H: Drop> {
     pair: Pair<B, D, H>,
@@ -47,8 +48,8 @@ impl<B: Lockstep + Drop, D: SectorStore, H: Drop> World<B, D, H> {
     ghost use Rattle.ft_world.specs.Words.{IsMessage};
     ghost use Rattle.ft_world.specs.declared.host.Host.TheVariants as host;
 
-    /// A pair begins: nodes 0 and 1 are primary and backup of generation 1, and both guests stand alike. `OutOfMemory`
-    /// hands the guests and the disk's store back.
+    /// A pair begins: nodes 0 and 1 are primary and backup of generation 1, and both guests are in the same state.
+    /// `OutOfMemory` hands the guests and the disk's store back.
     pub fn begin(alloc: Global, primary: B, backup: B, store: D) -> Result<Self, (B, B, D, Fault)>
         requires may { MayBegin B.state B.machine D.records primary backup store }
         ensures ok { IfOk result (λ world. Shows B.state B.machine D.records world
@@ -63,7 +64,7 @@ impl<B: Lockstep + Drop, D: SectorStore, H: Drop> World<B, D, H> {
         Ok(World::begin_in(alloc, room, primary, backup, store))
     }
 
-    // A pair begins, in memory that was taken for it.
+    // A pair begins, in memory that was allocated for it.
     pub(crate) fn begin_in(alloc: Global, room: Room<B, H>, primary: B, backup: B, store: D) -> Self
         requires may { MayBegin B.state B.machine D.records primary backup store }
         ensures shows { Shows B.state B.machine D.records result
@@ -75,9 +76,9 @@ impl<B: Lockstep + Drop, D: SectorStore, H: Drop> World<B, D, H> {
         }
     }
 
-    /// An event happens: the reply, or why it is refused, and the world after it are the event's row, whatever world of the
-    /// protocol this one showed. A refused event leaves all as it was, except that a node that asked the arbiter and lost is
-    /// halted, and that a disk that failed may have counted the failure.
+    /// An event happens: the reply, or why it is refused, and the world after it are the event's row, whatever world of
+    /// the protocol this one showed. A refused event leaves everything as it was, except that a node that asked the
+    /// arbiter and lost is halted, and that a disk that failed may have counted the failure.
     pub fn apply(&mut self, alloc: Global, event: Event) -> R<Reply>
         ensures row { Happens B.state B.machine D.records self.old event result self.new }
         ensures counted { D.failures self.new.disk ≡ D.failures self.old.disk + failures_told event result }
@@ -87,8 +88,8 @@ impl<B: Lockstep + Drop, D: SectorStore, H: Drop> World<B, D, H> {
         self.pair.apply(alloc, event)
     }
 
-    /// Events happen, one after another, each as by `apply`, and each is answered. `OutOfMemory` where there is no room for
-    /// the answers: then none has happened.
+    /// Events happen, one after another, each as by `apply`, and each is answered. `OutOfMemory` if there is no room
+    /// for the answers; then none has happened.
     pub fn run(&mut self, alloc: Global, events: &[Event]) -> R<Vec<R<Reply>>>
         ensures ok { IfOk result (λ answers. (c : Course B.State) → Shows B.state B.machine D.records self.old c
             → Runs B.state B.machine D.records c events.now answers.items self.new) }
@@ -101,7 +102,7 @@ impl<B: Lockstep + Drop, D: SectorStore, H: Drop> World<B, D, H> {
         self.pair.run(alloc, events)
     }
 
-    /// A host without a role comes; the answer is its number. `OutOfMemory` hands its resources back.
+    /// A host without a role comes; returns its number. `OutOfMemory` hands its resources back.
     pub fn host(&mut self, resources: H) -> Result<u64, (H, Fault)>
         ensures ok { OnOk result ((c : Course B.State) → Shows B.state B.machine D.records self.old c
             → Shows B.state B.machine D.records self.new
@@ -117,14 +118,14 @@ impl<B: Lockstep + Drop, D: SectorStore, H: Drop> World<B, D, H> {
         self.pair.host(resources)
     }
 
-    /// The bytes that the terminal of a port has accepted, in order; none where there is no such port.
+    /// The bytes that the terminal of a port has accepted, in order; empty if there is no such port.
     pub fn accepted(&self, port: u8) -> &[u8]
         ensures { (c : Course B.State) → Shows B.state B.machine D.records self.now c → result.now ≡ accepted c.world port }
     {
         self.pair.accepted(port)
     }
 
-    /// How many of its keys the terminal of a port was told are covered; 0 where there is no such port.
+    /// How many of its keys the terminal of a port was told are covered; 0 if there is no such port.
     pub fn terminal_told(&self, port: u8) -> u64
         ensures { (c : Course B.State) → Shows B.state B.machine D.records self.now c
             → result ≡ (terminal c.world port).told }
@@ -132,7 +133,7 @@ impl<B: Lockstep + Drop, D: SectorStore, H: Drop> World<B, D, H> {
         self.pair.told(port)
     }
 
-    /// What stands in a sector of the disk. `Unknown` where no drive has it; `DeviceFault` where the device failed.
+    /// What a sector of the disk has. `Unknown` if no drive has it; `DeviceFault` if the device failed.
     pub fn sector(&mut self, address: SectorAddress) -> R<SectorRead>
         ensures ok { IfOk result (λ read. (c : Course B.State) → Shows B.state B.machine D.records self.old c
             → IsSectorOf (machine_of B.machine c) c.world address read) }
@@ -144,7 +145,7 @@ impl<B: Lockstep + Drop, D: SectorStore, H: Drop> World<B, D, H> {
         self.pair.sector(address)
     }
 
-    /// The role, the generation and the count of a node; none where there is no node of this number.
+    /// The role, the generation and the count of a node; `None` if no node has this number.
     pub fn node(&self, node: u64) -> Option<NodeStatus>
         ensures { (c : Course B.State) → Shows B.state B.machine D.records self.now c
             → IsStatusAt B.machine (slice_get c.world.nodes node) result }
@@ -152,7 +153,7 @@ impl<B: Lockstep + Drop, D: SectorStore, H: Drop> World<B, D, H> {
         self.pair.node(node)
     }
 
-    /// The message of a number, if it was sent.
+    /// The message of this number, if it was sent.
     pub fn message(&self, message: u64) -> Option<&Message>
         ensures { (c : Course B.State) → Shows B.state B.machine D.records self.now c
             → Agree IsMessage (option_map (λ found. found.now) result) (slice_get c.world.messages message) }
@@ -168,8 +169,8 @@ impl<B: Lockstep + Drop, D: SectorStore, H: Drop> World<B, D, H> {
         self.pair.winner(generation)
     }
 
-    /// The inputs that are settled, and the count up to which they are: those of the winner of the highest generation, or of
-    /// its backup where nobody has won.
+    /// The inputs that are settled, and the count up to which they are settled: those of the winner of the highest
+    /// generation, or of its backup if nobody has won.
     pub fn settled(&self) -> (&[Timed], u64)
         ensures { (c : Course B.State) → Shows B.state B.machine D.records self.now c
             → Settled (machine_of B.machine c) c.world result.0.now result.1 }

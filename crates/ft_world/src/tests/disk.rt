@@ -1,4 +1,4 @@
-//! Writes of a sector, and the sectors that are read.
+//! Writes of a sector, and sectors that are read.
 
 use crate::tests::lines::{
     Line, ack, acked, done, drain, gave, get, log, message, put, ran, release, send, step, suspect,
@@ -15,7 +15,7 @@ const FIRST: OpId = OpId::Write(1);
 const SECOND: OpId = OpId::Write(2);
 
 // B is 137; drive 0 is selected and its head loaded (OUT 08, OUT 09); at 0009 it waits for a sector, then begins to
-// write it (80 to OUT 09); at 0013 it waits for the sector to take a byte, and gives E5 to OUT 0A, B times; HLT.
+// write it (80 to OUT 09); at 0013 it waits until the sector takes a byte, and gives E5 to OUT 0A, B times; HLT.
 const DISK_WRITE: [u8; 34] = [
     0x06, 0x89, 0xaf, 0xd3, 0x08, 0x3e, 0x04, 0xd3, 0x09, 0xdb, 0x09, 0x0f, 0xda, 0x09, 0x00, 0x3e,
     0x80, 0xd3, 0x09, 0xdb, 0x08, 0x0f, 0xda, 0x13, 0x00, 0x3e, 0xe5, 0xd3, 0x0a, 0x05, 0xc2, 0x13,
@@ -45,7 +45,7 @@ const ONE_SECTOR: [Timed; 1] = [Timed {
     input: Bare::Sector(0, 0),
 }];
 
-// The backup holds the sector, at count 10, and the mark of the write; the write's completion is the primary's alone.
+// The backup holds the sector, at count 10, and the mark of the write; only the primary has the write's completion.
 fn after_disk_write() -> End<'static> {
     End {
         accepted: [&[], &[]],
@@ -65,7 +65,7 @@ fn a_sector_is_written(rt: HostRuntime) -> R<()> {
     let lines = disk_write();
     let end = after_disk_write();
     check(&rt, &DISK_WRITE, &[&lines], &end)?;
-    // The write may be put again, and is answered again; it is completed once. Nothing stood in the sector before.
+    // The write may be put again, and is answered again; it is completed once. The sector had no write before.
     let again = [
         (put(4), message(6)),
         (done(6, 0), Err(Fault::NotDue)),
@@ -79,14 +79,14 @@ fn a_sector_is_written(rt: HostRuntime) -> R<()> {
     check(&rt, &DISK_WRITE, &[&lines, &again], &read)
 }
 
-// C is 1, and then that program from 0002 on, which gives C in place of E5; in place of HLT stand INR C and JMP 0002.
+// C is 1, and then that program from 0002 on, which gives C instead of E5; instead of HLT it has INR C and JMP 0002.
 const SAME_SECTOR: [u8; 38] = [
     0x0e, 0x01, 0x06, 0x89, 0xaf, 0xd3, 0x08, 0x3e, 0x04, 0xd3, 0x09, 0xdb, 0x09, 0x0f, 0xda, 0x0b,
     0x00, 0x3e, 0x80, 0xd3, 0x09, 0xdb, 0x08, 0x0f, 0xda, 0x15, 0x00, 0x79, 0xd3, 0x0a, 0x05, 0xc2,
     0x15, 0x00, 0x0c, 0xc3, 0x02, 0x00,
 ];
 
-// Six steps load the head. With a sector there, five begin to write it, and 137 times seven give its bytes, the last
+// Six steps load the head. Once a sector is there, five begin to write it, and 137 times seven give its bytes, the last
 // one by its fifth: count 6 + 5 + 136 * 7 + 5 = 968.
 fn primary_releases_and_loses() -> [Line; 14] {
     [
@@ -108,7 +108,7 @@ fn primary_releases_and_loses() -> [Line; 14] {
     ]
 }
 
-// Behind the byte four steps go back to 0002, and five load the head again, to count 977; then 962 as before.
+// After the byte four steps go back to 0002, and five load the head again, to count 977; then 962 as before.
 fn winner_writes_twice() -> [Line; 10] {
     [
         (release(1, FIRST), message(5)),
@@ -124,7 +124,7 @@ fn winner_writes_twice() -> [Line; 10] {
     ]
 }
 
-// The winner's list: the sector of the entry that it held, and what it took alone.
+// The winner's list: the sector of the entry that it held, and what it took while alone.
 const TWO_WRITES: [Timed; 4] = [
     Timed {
         count: 6,

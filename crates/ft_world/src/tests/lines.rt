@@ -1,10 +1,10 @@
-//! Lines of a table: events and answers by the words of a script.
+//! The lines of a table: events and answers in the words of a script.
 
 use event_callbacks::OpId;
 use i8080_words::R;
 use pair_events::{Event, Reply, Why};
 
-/// An event, and what is answered.
+/// An event, and its answer.
 pub(crate) type Line = (Event, R<Reply>);
 
 pub(crate) fn step(node: u64, turns: u64) -> Event {
@@ -83,12 +83,12 @@ pub(crate) fn stop(node: u64) -> Event {
     Event::Stop { node }
 }
 
-/// So many steps were made up to this count, and then no more.
+/// This many steps were made, up to this count, and then no more.
 pub(crate) fn ran(steps: u64, count: u64, why: Why) -> R<Reply> {
     Ok(Reply::Ran { steps, count, why })
 }
 
-/// So many steps were made up to this count, and the last one gave this operation.
+/// This many steps were made, up to this count, and the last one gave this operation.
 pub(crate) fn gave(steps: u64, count: u64, id: OpId) -> R<Reply> {
     ran(steps, count, Why::Operation(id))
 }
@@ -98,7 +98,7 @@ pub(crate) fn message(number: u64) -> R<Reply> {
     Ok(Reply::Message { message: number })
 }
 
-/// So many moves were made; `at_end` where no entry is left.
+/// This many moves were made; `at_end` if no entry is left.
 pub(crate) fn moved(moves: u64, at_end: bool) -> R<Reply> {
     Ok(Reply::Moved { moves, at_end })
 }

@@ -44,7 +44,7 @@ pub(crate) fn first_byte() -> [Line; 8] {
     ]
 }
 
-// Two bytes are given before the first is accepted, and come in the wrong order: MVI A,41; OUT 11; OUT 11; HLT.
+// Two bytes are given before the first is accepted, and arrive in the wrong order: MVI A,41; OUT 11; OUT 11; HLT.
 const TWO_BYTES: [u8; 7] = [0x3e, 0x41, 0xd3, 0x11, 0xd3, 0x11, 0x76];
 
 fn two_bytes() -> [Line; 15] {
@@ -67,7 +67,7 @@ fn two_bytes() -> [Line; 15] {
     ]
 }
 
-// The backup holds the mark, and has replayed nothing: it is settled up to the mark, without an input.
+// The backup holds the mark, and has replayed nothing: what is settled reaches up to the mark, without an input.
 pub(crate) fn after_first_byte() -> End<'static> {
     End {
         accepted: [&[0x48], &[]],
@@ -87,7 +87,7 @@ fn a_byte_is_accepted_once(rt: HostRuntime) -> R<()> {
     let first = first_byte();
     let end = after_first_byte();
     check(&rt, &FIRST_BYTE, &[&first], &end)?;
-    // It comes again, twice. The acknowledgement says that one entry is held.
+    // It arrives again, twice. The acknowledgement says that one entry is held.
     let again = [
         (arrive(2), Ok(Reply::Dropped)),
         (arrive(2), Ok(Reply::Dropped)),
@@ -98,7 +98,7 @@ fn a_byte_is_accepted_once(rt: HostRuntime) -> R<()> {
         ..end
     };
     check(&rt, &FIRST_BYTE, &[&first, &again], &acknowledged)?;
-    // The primary goes on to its HLT, which is settled by no entry.
+    // The primary goes on to its HLT; no entry settles that.
     let on = [
         (step(0, 10), ran(1, 7, Why::Idle)),
         (step(0, 1), Err(Fault::Idle)),
@@ -110,7 +110,7 @@ fn a_byte_is_accepted_once(rt: HostRuntime) -> R<()> {
         ..end
     };
     check(&rt, &FIRST_BYTE, &[&first, &on], &halted)?;
-    // The backup holds the two marks. The acceptance is an entry of the primary's alone.
+    // The backup holds the two marks. Only the primary has the entry of the acceptance.
     let two = End {
         accepted: [&[0x41, 0x41], &[]],
         nodes: [node(Role::Primary, 3), node(Role::Backup, 0)],
@@ -122,7 +122,7 @@ fn a_byte_is_accepted_once(rt: HostRuntime) -> R<()> {
     check(&rt, &TWO_BYTES, &[&two_bytes()], &two)
 }
 
-// The events happen by one call of `run`, and are answered so; or memory is refused.
+// The events happen by one call of `run`, with the same answers; or memory is refused.
 fn run_at_once<T: Completes + Drop + Copy, S: Completes + Drop + Copy, W: Completes + Drop + Copy>(
     rt: &impl Abort,
     alloc: Global,

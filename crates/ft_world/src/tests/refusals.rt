@@ -1,4 +1,4 @@
-//! What is not there, a contest, and hosts without a role.
+//! What does not exist, a contest, and hosts without a role.
 ghost use Rattle.std.specs.Prelude.{◌≡◌, ◌^◌, ◌<◌, ◌≤◌, IsTrue};
 ghost use Rattle.event_callbacks.specs.declared.devices.TheConstants.{SENT, SECTOR, WRITTEN};
 ghost use Rattle.event_callbacks.specs.Keeping.{Keeps};
@@ -32,7 +32,7 @@ fn at_first() -> End<'static> {
     }
 }
 
-// Nodes, ports, sectors and messages that are not there, after the first byte, whose messages are an entry, an
+// Nodes, ports, sectors and messages that do not exist, after the first byte, whose messages are an entry, an
 // acknowledgement and a byte.
 fn absent() -> [Line; 26] {
     [
@@ -66,7 +66,7 @@ fn absent() -> [Line; 26] {
     ]
 }
 
-// What nodes refuse that are there. Only a primary has a log.
+// What existing nodes refuse. Only a primary has a log.
 fn not_due() -> [Line; 8] {
     [
         (send(1, 0), UNKNOWN),

@@ -1,5 +1,5 @@
-//! How a row of a table is run: a program at 0000, what happens to a pair that boots with it and with one drive, in
-//! parts, and what stands in the end.
+//! How a row of a table is run: a program at 0000, what happens, in parts, to a pair that boots with it and one drive,
+//! and how it ends.
 ghost use Rattle.std.specs.Prelude.{◌≡◌, ◌^◌, ◌<◌, ◌≤◌, IsTrue, IfOk, vec_len};
 ghost use Rattle.event_callbacks.specs.declared.devices.TheConstants.{SENT, SECTOR, WRITTEN};
 ghost use Rattle.event_callbacks.specs.Keeping.{Keeps};
@@ -28,9 +28,8 @@ pub(crate) enum Sent<'a> {
     Sector(SectorRead),
 }
 
-/// What stands in the end: of both ports what was accepted and how many keys were told, the first two nodes, the winner
-/// of generation 1, what is settled, what stands in the sector of this record, and what is in the message of this
-/// number.
+/// How it ends: for both ports what was accepted and how many keys were told, the first two nodes, the winner of
+/// generation 1, what is settled, what the sector of this record has, and what is in the message of this number.
 #[derive(Clone, Copy)]
 pub(crate) struct End<'a> {
     pub(crate) accepted: [&'a [u8]; 2],
@@ -53,7 +52,7 @@ pub(crate) fn node(role: Role, count: u64) -> NodeStatus {
     }
 }
 
-/// What stands in a sector of track 0 of drive 0: the write of this number, of 137 such bytes.
+/// What a sector of track 0 of drive 0 has: the write of this number, of 137 equal bytes.
 pub(crate) fn sector(sector: u8, number: u64, byte: u8) -> SectorRead {
     SectorRead {
         number,
@@ -64,7 +63,7 @@ pub(crate) fn sector(sector: u8, number: u64, byte: u8) -> SectorRead {
     }
 }
 
-/// A write of 137 such bytes to a sector of track 0 of drive 0.
+/// A write of 137 equal bytes to a sector of track 0 of drive 0.
 pub(crate) fn write(sector: u8, number: u64, byte: u8) -> SectorWrite {
     SectorWrite {
         number,
@@ -111,7 +110,7 @@ fn boot_once<T: Completes + Drop, S: Completes + Drop, W: Completes + Drop>(
     }
 }
 
-/// A pair boots with this program and one drive, at the second attempt if memory is refused at the first.
+/// Boots a pair with this program and one drive, at the second attempt if memory is refused at the first.
 pub(crate) fn boot<
     T: Completes + Drop + Copy,
     S: Completes + Drop + Copy,
@@ -133,7 +132,7 @@ pub(crate) fn boot<
     }
 }
 
-/// Each event happens and is answered so. Where memory is refused, once at most, the same event is answered so then.
+/// Each event happens and has this answer. If memory is refused, at most once, the same event has this answer next.
 pub(crate) fn happen<B: Lockstep + Drop, D: SectorStore, H: Drop>(
     rt: &impl Abort,
     alloc: Global,
@@ -164,7 +163,7 @@ fn sent_in(message: Option<&Message>) -> Sent<'_> {
     }
 }
 
-/// A world stands so in the end. It has two nodes and one drive, and its generation is the first.
+/// A world ends like this. It has two nodes and one drive, and its generation is the first.
 pub(crate) fn stands<B: Lockstep + Drop, D: SectorStore, H: Drop>(
     rt: &impl Abort,
     world: &mut World<B, D, H>,
@@ -205,7 +204,7 @@ pub(crate) fn stands<B: Lockstep + Drop, D: SectorStore, H: Drop>(
     assert_eq!(rt; sent_in(world.message(end.message)), content);
 }
 
-// The row is run, event by event.
+// Runs the row, event by event.
 fn run<T: Completes + Drop + Copy, S: Completes + Drop + Copy, W: Completes + Drop + Copy>(
     rt: &(impl Abort + AllocGlobal),
     program: &[u8],
@@ -227,7 +226,7 @@ fn run<T: Completes + Drop + Copy, S: Completes + Drop + Copy, W: Completes + Dr
     Ok(())
 }
 
-/// The row is run, with the plain completions.
+/// Runs the row, with the plain completions.
 pub(crate) fn check(
     rt: &(impl Abort + AllocGlobal),
     program: &[u8],

@@ -41,7 +41,7 @@ fn a_backup_drains_before_it_goes_on(rt: HostRuntime) -> R<()> {
         ..after_first_byte()
     };
     check(&rt, &FIRST_BYTE, &[&stops, &all], &alone)?;
-    // Three steps are not all: what it holds is settled, but it may not release yet.
+    // Three steps are not all: what it holds is settled, but it may not release anything yet.
     let part = [
         (drain(1, 3), moved(3, false)),
         (release(1, FIRST), Err(Fault::WrongRole)),
@@ -71,8 +71,8 @@ fn interrupt_key() -> [Line; 4] {
     ]
 }
 
-// The backup holds the key and replays it: five steps and an entry. It is told at the terminal only when the primary
-// knows that it is held.
+// The backup holds the key and replays it: five steps and an entry. The terminal is told of the key only when the
+// primary knows that it is held.
 fn key_is_held() -> [Line; 9] {
     [
         (told(0, 0), Ok(Reply::Told { keys: 0 })),
@@ -124,7 +124,7 @@ fn keys_stay(rt: HostRuntime) -> R<()> {
     let taken = interrupt_key();
     let held = key_is_held();
     let end = after_key_is_held();
-    // Nothing of the key is settled before it is held.
+    // Nothing about the key is settled before it is held.
     let at_first = End {
         told: [0, 0],
         nodes: [node(Role::Primary, 6), node(Role::Backup, 0)],

@@ -1,4 +1,4 @@
--- The station is lent out of the list: whatever it is after that stands in its place.
+-- The station is lent out of the list: whatever it has become is in its place afterwards.
 use Rattle.std.proofs.Common.{length, refl}
 use Rattle.std.proofs.lemmas.Option.{slice_get_past, slice_get_read}
 use Rattle.ft_world.proofs.Lending.{absent_past, absent_there, found_there, not_lent, put_back}

@@ -1,4 +1,4 @@
--- The law is that of all arrivals.
+-- The law about all arrivals gives it.
 use Rattle.ft_world.proofs.Choices.{terminals_accept}
 use Rattle.ft_world.proofs.laws.terminals_accept_the_longest_list.Goals as goal
 

@@ -1,4 +1,4 @@
--- Both guests stand as the setup has them, and the Altair of a setup is a machine that a pair may run.
+-- Both guests are as the setup has them, and the Altair of a setup is a machine that a pair may run.
 use Rattle.std.proofs.Common.{ap}
 use Rattle.guest_board.specs.Board.{OnBoard}
 use Rattle.ft_world.proofs.Beginnings.{altairs_may_begin}

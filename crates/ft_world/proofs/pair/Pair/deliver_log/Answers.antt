@@ -1,4 +1,4 @@
--- The message brings an entry of the log, or none; there is no such node, or it refuses, holds the entry, or leaves it.
+-- The message brings a log entry, or none; there is no such node, or it refuses, holds the entry, or leaves it.
 use Rattle.std.proofs.Common.{◌≡◌, None, Ok, Some, ap, cond, is_ok, subst, sym}
 use Rattle.std.specs.Option.{option_and_then}
 use Rattle.std.specs.Prelude.{slice_get}

@@ -1,4 +1,4 @@
--- There is no such node, or it refuses, or moves by what it still holds, and is alone where nothing of it is left.
+-- There is no such node, or it refuses, or it moves by what it still holds, and is alone if none of it is left.
 use Rattle.std.proofs.Common.{Ok, ap, cond, false, is_ok, subst}
 use Rattle.ft_world.specs.Applies.{Applies}
 use Rattle.ft_world.specs.Does as does

@@ -1,4 +1,4 @@
--- One more host stands behind the others, here and in the world.
+-- One more host is appended, here and in the world.
 use Rattle.std.proofs.Common.{◌≡◌, [], ◌∷◌, ◌++◌, ap, subst, sym}
 use Rattle.pair_protocol.specs.World.{with_host}
 use Rattle.ft_world.specs.Applies.{Shows}

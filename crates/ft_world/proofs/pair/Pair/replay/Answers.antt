@@ -1,4 +1,4 @@
--- There is no such node, or it refuses, or moves by what it holds.
+-- There is no such node, or it refuses, or it moves by what it holds.
 use Rattle.std.proofs.Common.{ap, is_ok}
 use Rattle.ft_world.specs.Does as does
 use Rattle.ft_world.specs.Pairs.{running_of}

@@ -1,4 +1,4 @@
--- Each event's answer stands behind the others, as its row does in the run.
+-- Each event's answer comes after the others, as its row does in the run.
 use Rattle.std.proofs.Common.{◌≡◌, ◌+◌, ◌∙◌, [], ap, arith, get_or, refl, subst, sym}
 use Rattle.std.proofs.lemmas.List.{take_all}
 use Rattle.ft_world.specs.Applies.{Runs, failures_over}

@@ -1,4 +1,4 @@
--- The winner settles, or the backup where nobody has won.
+-- The winner settles, or the backup if nobody has won.
 use Rattle.std.proofs.Common.{◌≡◌}
 use Rattle.std.specs.Prelude.{unwrap_or}
 use Rattle.arbiter_core.specs.Winners.{winner_of}

@@ -1,4 +1,4 @@
--- Some world is shown, also after a run.
+-- Some world is shown, even after a run.
 use Rattle.ft_world.specs.Pairs.{running_of}
 use Rattle.ft_world.proofs.Running.{runs_go_on}
 use Rattle.ft_world.proofs.world.World.run.Goals as goal

@@ -1,4 +1,4 @@
--- Some world is shown, also after a sector was looked at.
+-- Some world is shown, even after a sector was looked at.
 use Rattle.ft_world.specs.Pairs.{running_of}
 use Rattle.ft_world.proofs.DiskReads.{same_shown}
 use Rattle.ft_world.proofs.world.World.sector.Goals as goal
