@@ -70,7 +70,7 @@ impl Inputs {
         }
     }
 
-    // Keeps only the first ones, this many.
+    // Keeps at most the first `len` of them.
     pub(crate) fn truncate(&mut self, len: usize)
         ensures { self.new ≡ take len self.old }
     {

@@ -132,7 +132,8 @@ pub(crate) fn boot<
     }
 }
 
-/// Each event happens and has this answer. If memory is refused, at most once, the same event has this answer next.
+/// Each event happens and has this answer. If memory is refused, at most once, the same event is asked for again and
+/// then has this answer.
 pub(crate) fn happen<B: Lockstep + Drop, D: SectorStore, H: Drop>(
     rt: &impl Abort,
     alloc: Global,
