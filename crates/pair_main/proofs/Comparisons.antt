@@ -1,4 +1,4 @@
--- A comparison of a pair with the machine, from its outputs and its sectors.
+-- A comparison of a pair with the machine, by its outputs and its sectors.
 use Rattle.std.proofs.Common.{◌≡◌, ℕ, zero, suc, ◌<◌, ◌≤◌, ◌+◌, Bool, true, false, IsTrue, List, refl, sym, arith, subst, inl, inr}
 use Rattle.std.proofs.lemmas.Bool.{and_from, and_parts, lt-ltb, ltb-false, ltb-true}
 use Rattle.std.specs.Prelude.{◌⊎◌, nat_lt, if◌then◌else◌}
@@ -31,11 +31,11 @@ each_case n k P each one less false is =
     let same : n ≡ k = omega arith in
     subst P same one
 
--- each of so many, and one more
+-- each of this many, and one more
 pub each_more : (n : ℕ) (P : ℕ → Type 0) → EachOf n P → P n → EachOf (n + 1) P
 each_more n P each one k less = each_case n k P each one less (nat_lt k n) refl
 
--- where a sector is, by its drive, track and number
+-- the drive, track and number of a sector that is there are within their limits
 within : (drives : ℕ) (a : SectorAddress) → IsTrue (has_sector drives a)
     → (a.drive < drives) × (a.track < TRACKS) × (a.sector < SECTORS)
 within drives a is =
@@ -95,7 +95,7 @@ alike_by drives d output output' writes writes' image image' o w i alike = recor
       (subst (λ bytes. MayHave bytes writes d.settled address (d.sector address)) (i address is) (alike.disk address is));
 }
 
--- the same answer of equal outputs, writes and disks
+-- equal outputs, writes and disks give the same answer
 pub answer_alike : (drives : ℕ) (d : Deeds) (records : List Record) (output output' : ℕ → List ℕ)
     (writes writes' : List SectorWrite) (image image' : SectorAddress → List ℕ) (answer : Bool)
     → ((port : ℕ) → port < 2 → output port ≡ output' port) → writes ≡ writes'
@@ -109,7 +109,7 @@ answer_alike drives d records output output' writes writes' image image' false o
 answer_alike drives d records output output' writes writes' image image' false o w i (Lacks address is missing) =
     Lacks address is missing
 
--- a sector that is bad of every world that is shown is bad of one of them
+-- a sector that is bad for every world that is shown is bad for one of them
 pub some_bad : {B H S : Type 0} (state : B → S) (M : Machine S) (v : Running B H (List Record)) (single : Alone)
     (settled : List Timed) (drives : ℕ) (c : Course S) → Shows state M (λ records. records) v c
     → SomeOf drives (λ drive. SomeOf TRACKS (λ track. SomeOf SECTORS

@@ -1,4 +1,4 @@
--- What is left of an output after the bytes that were accepted, if they are its first, is all that is missing.
+-- If the accepted bytes are the first of an output, the rest after them is all that is missing.
 use Rattle.std.proofs.Common.{◌≡◌, ℕ, ◌+◌, ◌≤◌, List, ◌++◌, length, length-append, IsTrue, leb, sym, ap, ◌∙◌, arith}
 use Rattle.std.proofs.lemmas.Bool.{leb-true, le-leb}
 use Rattle.pair_main.specs.Comparing.{IsFront}

@@ -16,14 +16,14 @@ use Rattle.pair_main.specs.declared.options.Order.{Order}
 use Rattle.pair_main.specs.declared.options.Order.TheVariants.{Script, Check}
 use Rattle.pair_main.specs.declared.verdict.Verdict.{Verdict}
 
--- one after the other
+-- bytes appended one list after the other
 pub appends_on : (a b c : Option (List ℕ)) (xs ys : List ℕ) → Appends a b xs → Appends b c ys → Appends a c (xs ++ ys)
 appends_on None b c xs ys p q = tt
 appends_on (Some a) None c xs ys p q = absurd p
 appends_on (Some a) (Some b) None xs ys p q = absurd q
 appends_on (Some a) (Some b) (Some c) xs ys p q = q ∙ ap (λ l. l ++ ys) p ∙ append_assoc a xs ys
 
--- nothing more is no change
+-- nothing appended is no change
 pub keeps-appends : (a b : Option (List ℕ)) → Keeps a b → Appends a b []
 keeps-appends None b k = tt
 keeps-appends (Some a) None k = absurd k
@@ -67,7 +67,7 @@ adds_more n m old mid next new all k more =
           (appends_on old next new (concat first.lines) (concat more.lines) first.added more.added);
     }
 
--- a failure after the first ones
+-- a failure after the first answers
 pub fails_after : (n lines : ℕ) (e : Failure) (old mid next new : Option (List ℕ)) → n < lines → AddsAnswers n old mid
     → Keeps mid next → AnswersBut 1 e next new → AnswersBut lines e old new
 fails_after n lines failure.OutOfMemory old mid next new more all k h =
@@ -78,7 +78,7 @@ fails_after n lines failure.NotLive old mid next new more all k h = h
 fails_after n lines (failure.BadScript line) old mid next new more all k h = h
 fails_after n lines failure.Differs old mid next new more all k h = h
 
--- input or output that fails leaves nothing to be said
+-- if input or output fails, nothing is claimed
 pub fails_broken : (lines : ℕ) (e : Failure) (old new : Option (List ℕ)) → e ≡ failure.InputOrOutput
     → AnswersBut lines e old new
 fails_broken lines e old new is = subst (λ f. AnswersBut lines f old new) (sym is) tt
@@ -92,7 +92,7 @@ answered (Err e) answer old new one kept (inl is) =
     subst (λ f. AnswersBut 1 f old new) (sym is) (0, omega arith, adds_none old new (kept (ap (λ f. Err f) is)))
 answered (Err e) answer old new one kept (inr is) = fails_broken 1 e old new is
 
--- what was handed in to a report without lines, all of which is written then, is what the writer got
+-- if a report has no lines at first, and all that is handed in is then written, that is what the writer got
 pub settled : (a b c : Option (List ℕ)) (first rest bytes : List ℕ) → first ≡ []
     → Appends (append_known a first) (append_known b rest) bytes → Appends b c rest → Appends a c bytes
 settled None b c first rest bytes none p q = tt
@@ -150,13 +150,13 @@ module _ (a b c : Option (List ℕ)) (first rest : List ℕ) (none : first ≡ [
   settled_prints Check lines holds (Ok done) h = (h.0, h.1, settled_line _ h.2)
   settled_prints Check lines holds (Err e) h = settled_but holds e h
 
--- the failure of a call that ends this one too
+-- a failure of a call that also ends this one
 pub answers_residual : (lines : ℕ) (result : Result (Unit {0}) Failure) (e : Failure) (old new : Option (List ℕ))
     → IsErrAnd result (λ k. k ≡ e) → AnswersBut lines e old new → AnswersLines lines result old new
 answers_residual lines (Ok done) e old new is h = absurd is
 answers_residual lines (Err k) e old new is h = subst (λ f. AnswersBut lines f old new) (sym is) h
 
--- a run that prints nothing for want of memory
+-- a run that prints nothing because it is out of memory
 pub prints_nothing : (order : Order) (lines : ℕ) (holds : Verdict → Type 0) (result : Result (Unit {0}) Failure)
     (old new : Option (List ℕ)) → IsErrAnd result (λ e. e ≡ failure.OutOfMemory) → Keeps old new
     → Prints order lines holds result old new

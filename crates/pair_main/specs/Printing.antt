@@ -10,7 +10,7 @@ use Rattle.pair_main.specs.declared.options.Order.TheVariants.{Script, Check}
 use Rattle.pair_main.specs.declared.verdict.Verdict.{Verdict}
 use Rattle.pair_main.specs.declared.verdict.Verdict.TheVariants as verdict
 
--- a verdict is printed: that a pair differs is also how the run ends
+-- a verdict is printed; if it is that the pair differs, the run ends with that too
 abbrev pub PrintsBut : (Verdict → Type 0) → Failure → Option (List ℕ) → Option (List ℕ) → Type 0
 PrintsBut holds Differs old new = holds verdict.Differs × AddsLine (Some (words_of verdict.Differs)) old new
 PrintsBut holds OutOfMemory old new = Keeps old new
@@ -22,7 +22,7 @@ PrintsVerdict holds result old new = MatchResult result
     (λ _. (count : ℕ) × holds (verdict.Same count) × AddsLine (Some (words_of (verdict.Same count))) old new)
     (λ failure. PrintsBut holds failure old new)
 
--- each line is answered by a line; or the first ones are, where memory is refused for the next
+-- each line is answered by a line; or only the first ones are, if memory is refused for the next
 abbrev pub AnswersBut : ℕ → Failure → Option (List ℕ) → Option (List ℕ) → Type 0
 AnswersBut lines OutOfMemory old new = (some : ℕ) × (some ≤ lines) × AddsAnswers some old new
 AnswersBut lines InputOrOutput old new = Unit {0}
@@ -32,7 +32,7 @@ abbrev pub AnswersLines : ℕ → Result (Unit {0}) Failure → Option (List ℕ
 AnswersLines lines result old new = MatchResult result (λ _. AddsAnswers lines old new)
     (λ failure. AnswersBut lines failure old new)
 
--- a run of a script of so many lines after the setup
+-- a run of a script with this many lines after the setup
 abbrev pub Prints : Order → ℕ → (Verdict → Type 0) → Result (Unit {0}) Failure → Option (List ℕ) → Option (List ℕ)
     → Type 0
 Prints Script lines holds result old new = AnswersLines lines result old new

@@ -7,7 +7,7 @@ use Rattle.pair_events.specs.Printed.{answer_text}
 use Rattle.pair_events.specs.declared.answer.Answer.{Answer}
 use Rattle.pair_main.specs.declared.report.Report.{Report}
 
--- all that was handed in: what the writer holds, where that is known, and then what is gathered for it
+-- all that was handed in: what the writer holds, if that is known, and then what is gathered for it
 abbrev pub handed : Option (List ℕ) → Report → Option (List ℕ)
 handed contents report = append_known contents (string_bytes report.lines)
 
@@ -21,7 +21,7 @@ pub record AddsLine (shown old new : Option (List ℕ)) : Type 0 where
 abbrev pub TellsAnswer : List ℕ → Type 0
 TellsAnswer line = (answer : Answer) × (line ≡ answer_text answer ++ (10 ∷ []))
 
--- so many answers were handed in, a line each, one after another
+-- this many answers were handed in, a line each, one after another
 pub record AddsAnswers (count : ℕ) (old new : Option (List ℕ)) : Type 0 where
   pub lines : List (List ℕ)
   pub many : length lines ≡ count

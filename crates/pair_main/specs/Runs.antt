@@ -9,7 +9,7 @@ use Rattle.pair_main.specs.declared.failure.Failure.TheVariants.{CommandLine, No
 use Rattle.pair_main.specs.declared.failure.Failure.TheVariants.{OutOfMemory, InputOrOutput, Differs}
 use Rattle.pair_main.specs.declared.options.Order.{Order}
 
--- what may be wrong before anything is read, and with what is read
+-- what may be wrong before anything is read, and what may be wrong with what is read
 abbrev pub is_of_command_line : Failure → Bool
 is_of_command_line (CommandLine text) = true
 is_of_command_line NotLive = true
@@ -42,12 +42,12 @@ module _ {R W : Type 0} (contents : W → Option (List ℕ)) (reader reader' : R
   IsRun (Ok done) = PrintsScript (Ok done) (contents writer) (contents writer')
   IsRun (Err failure) = Leaves failure
 
--- the status and the text of a failure; those of `OutOfMemory` where memory for the text is refused
+-- the status and the text of a failure; those of `OutOfMemory` if memory for the text is refused
 abbrev pub EndsIn : {Z : Type 0} → Failure → ℕ × CowStr Z → Type 0
 EndsIn (BadScript line) ending = EndsBy (BadScript line) ending ⊎ EndsBy OutOfMemory ending
 EndsIn failure ending = EndsBy failure ending
 
--- status 0 and no text where all went well
+-- status 0 and no text if all went well
 abbrev pub EndsAs : {Z : Type 0} → Result (Unit {0}) Failure → ℕ × CowStr Z → Type 0
 EndsAs (Ok done) ending = (ending.0 ≡ 0) × (cow_str_bytes ending.1 ≡ [])
 EndsAs (Err failure) ending = EndsIn failure ending

@@ -1,4 +1,4 @@
--- What is found at the sectors of a world's disk, by the run of a single machine.
+-- What is found in the sectors of a world's disk, by the run of a single machine.
 use Rattle.std.specs.Prelude.{◌≡◌, ℕ, ◌<◌, ◌⊎◌, Bool, false, IsTrue, List}
 use Rattle.disk_dcdd.specs.declared.address.SectorAddress.{SectorAddress}
 use Rattle.guest_board.specs.Machine.{Machine}
@@ -17,7 +17,7 @@ use Rattle.pair_main.specs.Comparing.{MayHave}
 abbrev pub address_at : ℕ → ℕ → ℕ → SectorAddress
 address_at drive track sector = record { drive = drive; track = track; sector = sector }
 
--- a sector of the world may have what it has
+-- a sector of the world may have the bytes that it has
 abbrev pub IsGood : {B H S : Type 0} → (B → S) → Machine S → Running B H (List Record) → Alone → List Timed
     → SectorAddress → Type 0
 IsGood {S = S} state M v single settled address = (c : Course S) → Shows state M (λ records. records) v c
@@ -32,12 +32,12 @@ IsBad {S = S} state M v single settled address = (IsThere v.disk address → ⊥
     → MayHave (sector_at single.disk address) single.behind.writes settled address
     (sector_record (machine_of M c) c.world.puts address).bytes → ⊥)
 
--- an answer tells one thing or the other
+-- an answer tells one or the other
 pub record Tells (good bad : Type 0) (answer : Bool) : Type 0 where
   pub yes : IsTrue answer → good
   pub no : answer ≡ false → bad
 
--- each of so many, and some of them
+-- each of this many, and some of them
 abbrev pub EachOf : ℕ → (ℕ → Type 0) → Type 0
 EachOf n P = (k : ℕ) → k < n → P k
 

@@ -1,4 +1,4 @@
--- How the program ends: its exit statuses, and what standard error gets.
+-- How the program ends: its exit statuses, and what is written to standard error.
 use Rattle.std.specs.Prelude.{◌≡◌, ℕ, List, [], ◌++◌, codes, string_bytes}
 use Rattle.std.specs.Fmt.{decimal}
 use Rattle.std.specs.Cow.{cow_str_bytes}
@@ -11,7 +11,7 @@ use Rattle.script_language.specs.declared.error.InputError.TheVariants as input
 use Rattle.script_language.specs.declared.error.ScriptError.{ScriptError}
 use Rattle.script_language.specs.declared.error.ScriptError.TheVariants as script
 
--- why the input is not read, and why it is no script, as failures
+-- why the input is not read, and why it is not a script, as failures
 abbrev pub of_input : InputError → Failure
 of_input input.Failed = InputOrOutput
 of_input input.OutOfMemory = OutOfMemory
@@ -20,8 +20,8 @@ abbrev pub of_script : ScriptError → Failure
 of_script (script.BadScript line) = BadScript line
 of_script script.OutOfMemory = OutOfMemory
 
--- the exit status of a failure; with 2 the command line is refused, or asks for help or the version. 0 is that of a run that
--- ends well, and 6 is kept for a pair on threads that stalls
+-- the exit status of a failure; 2 if the command line is refused, or asks for help or the version. A run that ends well
+-- has 0, and 6 is kept for a pair on threads that stalls.
 abbrev pub status_of : Failure → ℕ
 status_of (CommandLine text) = 2
 status_of NotLive = 2
@@ -30,7 +30,7 @@ status_of OutOfMemory = 4
 status_of InputOrOutput = 5
 status_of Differs = 7
 
--- its text for standard error; what differs is told on standard output
+-- its text for standard error; that a pair differs is told on standard output
 abbrev pub text_of : Failure → List ℕ
 text_of (CommandLine text) = string_bytes text
 text_of NotLive = codes "pair live: not there yet; `pair script` and `pair check` run a pair step by step"

@@ -1,4 +1,4 @@
-//! Whether a pair has done what one machine that never fails does.
+//! Whether a pair has done what one never-failing machine does.
 ghost use Rattle.std.specs.Prelude.{◌≡◌, ◌↔◌, ℕ, ◌<◌, IfErr, IfOk, IsTrue};
 ghost use Rattle.disk_dcdd.specs.declared.drive.TheConstants.{TRACKS};
 ghost use Rattle.disk_dcdd.specs.declared.sector.TheConstants.{SECTORS};
@@ -22,9 +22,9 @@ use plain_single::{Single, Timed};
 use shared_disk::MemoryStore;
 use std::alloc::Global;
 
-/// Runs the single machine of this setup from what is settled in a pair. `Same` where each terminal has accepted its
-/// output, or all but the last 16 bytes, and each sector of the pair's disk has the bytes of the machine's disk or of a
-/// write of the machine that is not settled as done. `OutOfMemory` is the allocator's refusal.
+/// Runs the single machine of this setup from what is settled in a pair. `Same` if each terminal has accepted the
+/// machine's output, or all but the last 16 bytes, and each sector of the pair's disk has the bytes of the machine's
+/// disk or of a write of the machine that is not settled as done. `OutOfMemory` if the allocator refuses memory.
 pub fn compare<B: Lockstep + Drop, H: Drop>(
     alloc: Global,
     world: &mut World<B, MemoryStore, H>,
@@ -58,7 +58,7 @@ pub fn compare<B: Lockstep + Drop, H: Drop>(
     }
 }
 
-// Whether the pair has done as the machine.
+// Whether the pair has done the same as the machine.
 fn is_alike<B: Lockstep + Drop, H: Drop>(
     world: &mut World<B, MemoryStore, H>,
     single: &Single,
@@ -73,7 +73,7 @@ fn is_alike<B: Lockstep + Drop, H: Drop>(
     has_output(world, single) && has_disk(world, single, drives, inputs)
 }
 
-// Whether each terminal has accepted what the machine has sent, or all but its end.
+// Whether each terminal has accepted what the machine has sent, or all but the end of it.
 fn has_output<B: Lockstep + Drop, H: Drop>(
     world: &World<B, MemoryStore, H>,
     single: &Single,
@@ -84,7 +84,7 @@ fn has_output<B: Lockstep + Drop, H: Drop>(
     is_front(world.accepted(0), single.outputs(0)) && is_front(world.accepted(1), single.outputs(1))
 }
 
-// Whether each sector is as the machine's disk has it, or as an outstanding write does.
+// Whether each sector has what the machine's disk has, or what an outstanding write brings.
 fn has_disk<B: Lockstep + Drop, H: Drop>(
     world: &mut World<B, MemoryStore, H>,
     single: &Single,

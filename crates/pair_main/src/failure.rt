@@ -1,4 +1,4 @@
-//! How a run of the program ends other than well.
+//! How a run of the program ends if not well.
 ghost use Rattle.std.specs.Prelude.{◌≡◌};
 ghost use Rattle.pair_main.specs.Runs.{EndsIn};
 ghost use Rattle.pair_main.specs.Statuses.{EndsBy, of_input, of_script};
@@ -10,18 +10,18 @@ use std::alloc::{AllocError, AllocFailed, Global};
 use std::borrow::CowStr;
 use std::io;
 
-/// Why a run ends other than well.
+/// Why a run does not end well.
 #[derive(Drop)]
 pub enum Failure {
     /// The command line was refused, or asks for help or the version; the text is for the user.
     CommandLine(String),
     /// A pair on threads was asked for.
     NotLive,
-    /// The first line of the script that is none, from 1.
+    /// The number of the first bad line of the script, from 1.
     BadScript(u64),
     /// The allocator refused memory.
     OutOfMemory,
-    /// The input could not be read, or the output not be written.
+    /// The input could not be read, or the output could not be written.
     InputOrOutput,
     /// The pair and the single machine differ.
     Differs,
@@ -31,7 +31,8 @@ const NOT_LIVE: &str =
     "pair live: not there yet; `pair script` and `pair check` run a pair step by step";
 
 impl Failure {
-    /// The exit status, and the text for standard error. Where memory for the text is refused, those of that failure.
+    /// The exit status, and the text for standard error. If memory for the text is refused, both are those of that
+    /// failure.
     pub fn ending(self, alloc: Global) -> (u8, CowStr<'static>)
         ensures { EndsIn self result }
     {
@@ -101,7 +102,7 @@ impl From<ScriptError> for Failure {
     }
 }
 
-// Outside an event only memory can be wanting.
+// Outside an event the only refusal is out of memory.
 impl From<Fault> for Failure {
     ghost from_gives = { λ _ e. e ≡ failure.OutOfMemory };
 

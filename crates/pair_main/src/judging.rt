@@ -1,4 +1,4 @@
-//! What terminals and sectors may have, by the run of one machine that never fails.
+//! What terminals and sectors may have, by the run of one never-failing machine.
 ghost use Rattle.std.specs.Prelude.{◌↔◌, Any, IsTrue};
 ghost use Rattle.pair_main.specs.Comparing.{Brings, IsFront, IsUndone, MayHave};
 ghost use Rattle.plain_single.specs.Image.{sector_at};
@@ -7,10 +7,10 @@ ghost use Rattle.plain_single.specs.Reaching.{NeverFall};
 use disk_dcdd::{SECTOR_BYTES, SectorAddress, SectorWrite};
 use plain_single::{Bare, Single, Timed};
 
-// How many bytes of a port the terminal may not have accepted yet.
+// How many bytes of a port its terminal may not have accepted yet.
 const WINDOW: usize = 16;
 
-/// Whether the counts of inputs never fall.
+/// Whether the counts of the inputs never fall.
 pub fn never_fall(inputs: &[Timed]) -> bool
     ensures { IsTrue result ↔ NeverFall 0 inputs.now }
 {
@@ -47,7 +47,7 @@ pub fn may_have(
     *bytes == single.image(address) || is_brought(single.writes(), inputs, address, bytes)
 }
 
-// Whether one of the writes puts these bytes into a sector, and is outstanding.
+// Whether one of the writes brings these bytes to a sector, and is outstanding.
 fn is_brought(
     writes: &[SectorWrite],
     inputs: &[Timed],
@@ -64,7 +64,7 @@ fn is_brought(
     false
 }
 
-// Whether a write puts these bytes into a sector, and is outstanding.
+// Whether a write brings these bytes to a sector, and is outstanding.
 fn brings(
     write: &SectorWrite,
     inputs: &[Timed],

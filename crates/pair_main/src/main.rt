@@ -1,4 +1,4 @@
-//! The program `pair`: what happens to a fault-tolerant pair of Altairs, told by a script.
+//! The program `pair`: what happens to a fault-tolerant pair of Altairs, as a script says.
 #![tactic(auto)]
 
 mod checking;

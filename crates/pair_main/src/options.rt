@@ -40,7 +40,7 @@ const SCRIPT_USAGE: &str = "pair script < FILE (the script comes from standard i
 
 const CHECK_USAGE: &str = "pair check < FILE (the script comes from standard input)";
 
-/// What the words of a command line ask for; the first is the program's name.
+/// What the words of a command line ask for; the first word is the program's name.
 pub fn order_of(alloc: Global, arguments: &[String]) -> Result<Order, Failure>
     ensures { IfErr result (λ e. is_of_command_line e ≡ true) }
 {
@@ -51,7 +51,7 @@ pub fn order_of(alloc: Global, arguments: &[String]) -> Result<Order, Failure>
     }
 }
 
-// The order; none where a pair on threads is asked for.
+// The order; `None` if a pair on threads is asked for.
 fn parse(alloc: Global, arguments: &[String]) -> Result<Option<Order>, Error> {
     let script = Command::new(alloc, "script")
         .about("Runs a script, and prints a line for each event and query")

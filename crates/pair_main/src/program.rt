@@ -13,8 +13,8 @@ use std::alloc::Global;
 use std::borrow::CowStr;
 use std::io::{Read, Write};
 
-/// Runs the program on these words, the first of which is its name, and gives its exit status and its text for standard
-/// error. The script is read whole, and parsed whole, before anything of it is run.
+/// Runs the program on these words, the first of which is its name, and returns its exit status and its text for
+/// standard error. The whole script is read and parsed before anything of it is run.
 pub fn run_program<R: Read + Drop, W: Write + Drop>(
     alloc: Global,
     arguments: &[String],
@@ -43,7 +43,7 @@ fn run<R: Read + Drop, W: Write + Drop>(
     run_script(alloc, order, &script, writer)
 }
 
-// The reader's whole script.
+// The whole script of the reader.
 fn script_of<R: Read + Drop>(alloc: Global, reader: &mut R) -> Result<Script, Failure>
     ensures { IfErr result (λ e. is_of_input e ≡ true) }
 {

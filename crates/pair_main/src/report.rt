@@ -9,7 +9,7 @@ use std::alloc::Global;
 use std::fmt;
 use std::io::Write;
 
-// How many bytes of output are written line by line; after them lines are gathered.
+// How many bytes of output are written line by line; after that, lines are gathered.
 const UNGATHERED_BYTES: usize = 65_536;
 
 // How many bytes are gathered, at least, before they are written.
@@ -18,7 +18,7 @@ const BLOCK_BYTES: usize = 16_384;
 // How many turns guests may make, at most, while lines wait.
 const TURNS: u64 = 10_000;
 
-/// Lines on their way to a writer: one by one at first, and many at a time once there are many; never a part of one.
+/// Lines on their way to a writer: one by one at first, and many at a time once there are many; never a part of a line.
 #[derive(Drop)]
 pub struct Report {
     lines: String,
@@ -62,7 +62,7 @@ impl Report {
         self.flush(writer)
     }
 
-    /// To be called before guests make so many turns, so that lines wait for at most 10,000 of them.
+    /// To be called before guests make this many turns, so that lines wait for at most 10,000 turns.
     pub fn before_turns<W: Write>(&mut self, writer: &mut W, turns: u64) -> Result<(), Failure>
         ensures ok { OnOk result
             (Keeps (handed (W.contents writer.old) self.old) (handed (W.contents writer.new) self.new)) }

@@ -29,8 +29,8 @@ use std::io::Write;
 /// A pair of Altairs over a disk in memory.
 pub type Altairs<T, S, W> = World<Board<T, S, W>, MemoryStore, Callbacks<T, S, W>>;
 
-/// Boots a pair whose completions are these closures, and runs a script: its lines are answered, or the pair at its end
-/// is compared with a single machine.
+/// Boots a pair whose completions are these closures, and runs a script: either its lines are answered, or the pair is
+/// compared at its end with a single machine.
 pub fn run<
     T: Completes + Drop + Copy,
     S: Completes + Drop + Copy,
@@ -64,7 +64,7 @@ pub fn run<
     }
 }
 
-// Compares a pair with the single machine of its setup, and tells the verdict.
+// Compares a pair with the single machine of its setup, and prints the verdict.
 fn check<B: Lockstep + Drop, H: Drop, O: Write + Drop>(
     alloc: Global,
     world: &mut World<B, MemoryStore, H>,
@@ -126,7 +126,7 @@ fn boot<T: Completes + Drop + Copy, S: Completes + Drop + Copy, W: Completes + D
     Ok(world)
 }
 
-// Lets every event happen; nothing is answered.
+// Makes every event happen, and answers nothing.
 fn run_silently<B: Lockstep + Drop, H: Drop>(
     alloc: Global,
     world: &mut World<B, MemoryStore, H>,
@@ -157,7 +157,7 @@ fn answer_each<B: Lockstep + Drop, H: Drop, O: Write + Drop>(
     Ok(())
 }
 
-// How many turns a guest may make by a line.
+// How many turns a guest may make in a line.
 fn turns_of(line: Line) -> u64 {
     match line {
         Line::Event(Event::Step { turns, .. }) => turns,

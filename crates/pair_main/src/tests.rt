@@ -36,7 +36,7 @@ fn run_on<R: Read + Drop, W: Write + Drop>(
     Ok((status, String::from_str(rt.alloc(), text.as_str())?))
 }
 
-// A command on this script prints this and ends so.
+// A command on this script prints this, and ends like this.
 fn expect(
     rt: &(impl Abort + AllocGlobal),
     command: &str,

@@ -1,4 +1,4 @@
-//! Scripts that are none, input and output that fail, and command lines.
+//! Scripts that are not scripts, input and output that fail, and command lines.
 use super::{Ending, WELL, expect, run_on};
 use crate::failure::Failure;
 use crate::report::Report;
@@ -6,7 +6,7 @@ use crate::verdict::Verdict;
 use std::io::{self, ErrorKind, Read, Write};
 use std::test::Fail;
 
-// Scripts with what is printed and how the run ends.
+// Scripts, with what is printed and how the run ends.
 static SCRIPTS: [(&[u8], &str, Ending<'static>); 10] = [
     (b"", "", WELL),
     (b"\r\n\n# a comment, and then nothing\n", "", WELL),
@@ -55,7 +55,7 @@ fn a_script_has_at_most_1_048_576_bytes(rt: HostRuntime) -> Result<(), Fail> {
     )
 }
 
-// A reader that gives a line that is none, and then fails.
+// A reader that gives a bad line, and then fails.
 #[derive(Drop)]
 struct FailingReader {
     given: bool,
@@ -72,7 +72,7 @@ impl Read for FailingReader {
     }
 }
 
-// A writer that takes so many bytes, one at a time, and then fails; or fails when it is flushed.
+// A writer that takes this many bytes, one at a time, and then fails; or that fails when it is flushed.
 #[derive(Drop)]
 struct FailingWriter {
     room: usize,
@@ -154,7 +154,7 @@ fn command_lines_are_refused_or_explained(rt: HostRuntime) -> Result<(), Fail> {
     Ok(())
 }
 
-// The script that the help gives is taken as it stands, from the line after its first to the one before its last.
+// The script in the help is taken as it is, from the line after its first to the one before its last.
 #[test]
 fn the_example_of_the_help_runs_as_it_is(rt: HostRuntime) -> Result<(), Fail> {
     let mut reader: &[u8] = b"";
@@ -170,7 +170,7 @@ fn the_example_of_the_help_runs_as_it_is(rt: HostRuntime) -> Result<(), Fail> {
     expect(&rt, "script", script.as_bytes(), output, WELL)
 }
 
-// A line is written as it comes. After 65,536 bytes lines wait, while guests make at most 10,000 turns.
+// A line is written as soon as it is there. After 65,536 bytes lines wait, while guests make at most 10,000 turns.
 #[test]
 fn lines_wait_only_after_many(rt: HostRuntime) -> Result<(), Fail> {
     let mut report = Report::new(rt.alloc());
@@ -191,7 +191,7 @@ fn lines_wait_only_after_many(rt: HostRuntime) -> Result<(), Fail> {
     Ok(())
 }
 
-// No script makes a pair differ, so these are looked at by themselves.
+// No script makes a pair differ, so these are looked at separately.
 #[test]
 fn a_difference_is_told_on_standard_output(rt: HostRuntime) -> Result<(), Fail> {
     let verdict = format!(in rt.alloc(); "{}", Verdict::Differs)?;

@@ -1,4 +1,4 @@
-//! Scripts, and what their lines answer.
+//! Scripts, and the answers to their lines.
 use super::{WELL, expect};
 use std::alloc::{AllocError, Global};
 use std::test::Fail;
@@ -13,10 +13,10 @@ struct Row {
     checked: &'static str,
 }
 
-// The program of the guest resets and sets port 0, sends the byte 48, and halts.
+// The guest's program resets and sets port 0, sends the byte 48, and halts.
 const SENDS_A_BYTE: &str = "mem 0000 3E 03 D3 10 3E 15 D3 10 3E 48 D3 11 76\n";
 
-// It selects drive 0 and loads its head, waits for a sector, and writes 80 to all of it, again and again.
+// The guest selects drive 0 and loads its head, waits for a sector, and writes 80 to all of it, again and again.
 const WRITES_A_SECTOR: &str = "sector 0 0 5 E5
 mem 0000 3E 00 D3 08 3E 04 D3 09 DB 08 E6 80 C2 08 00
 mem 000F 3E 80 D3 09 06 89 D3 0A 05 C2 15 00 C3 08 00
@@ -91,7 +91,7 @@ const UNKNOWN: Lines = &[
     ("replay 1 5", "moved 0 end"),
 ];
 
-// To the write are 3 steps that find the sector, 3 that begin, and 3 for each of its 137 bytes but 2 fewer.
+// Up to the write there are 3 steps that find the sector, 3 that begin, and 3 for each of its 137 bytes less 2.
 const WRITE: Lines = &[
     ("suspect 0", "won"),
     ("step 0 4", "ran 4 count 4 turns"),

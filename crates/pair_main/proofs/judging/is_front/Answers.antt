@@ -1,4 +1,4 @@
--- What is left after the accepted bytes, if they are the first ones, is the only rest.
+-- If the accepted bytes are the first ones, what is left after them is the only rest.
 use Rattle.std.proofs.Common.{Some, None, true≢false, sym}
 use Rattle.std.proofs.lemmas.Bool.Decides.{Decides-eqb}
 use Rattle.std.proofs.lemmas.Slice.Eq.{strip_prefix_is}

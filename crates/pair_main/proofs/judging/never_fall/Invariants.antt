@@ -1,4 +1,4 @@
--- Where the inputs that are left never fall from the last count on, all of them never fall.
+-- If the inputs that are left never fall from the last count on, all of them never fall.
 use Rattle.std.proofs.Common.{drop}
 use Rattle.plain_single.specs.Reaching.{NeverFall}
 use Rattle.pair_main.proofs.judging.never_fall.Given as goal

@@ -1,4 +1,4 @@
--- A line's answer stands after the others; a failure leaves those that were handed in.
+-- A line's answer comes after the others; a failure leaves those that were handed in.
 use Rattle.std.proofs.Common.{length}
 use Rattle.pair_main.specs.Reports.{handed}
 use Rattle.pair_main.proofs.Handing.{adds_more, adds_none, answers_residual, fails_after, keeps_refl}

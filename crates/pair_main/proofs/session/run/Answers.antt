@@ -1,4 +1,4 @@
--- A pair that is not booted prints nothing; a check prints as it does by the order that it is run by.
+-- A pair that is not booted prints nothing; a check prints as its order says.
 use Rattle.std.proofs.Common.{sym, subst, length}
 use Rattle.std.specs.Prelude.{⊤}
 use Rattle.pair_main.specs.Printing.{Prints}
