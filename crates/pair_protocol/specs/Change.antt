@@ -21,8 +21,8 @@ pub record Acts {S : Type 0} (w : World S) (n : ℕ) (x : Node S) (role : Role) 
   pub up : x.running ≡ true
   pub role_is : x.role ≡ role
 
--- where an input may come from: a key is the next one typed, a byte that is heard to be sent was accepted, and what
--- comes from the disk is one of its answers
+-- where an input may come from: a key is the next one typed, a byte that is heard to be accepted was accepted, and
+-- what comes from the disk is one of its answers
 abbrev pub MayTake : {S : Type 0} → Machine S → World S → Node S → Input → Type 0
 MayTake M w x (Rx port byte) = slice_get (terminal w port).typed (M.keys x.machine port) ≡ Some byte
 MayTake M w x (Sent port) = (k : ℕ) × (M.due_byte x.machine port ≡ Some k) × (k ≤ length (accepted w port))

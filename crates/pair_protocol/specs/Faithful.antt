@@ -16,7 +16,7 @@ use Rattle.pair_protocol.specs.Settled.{Settled}
 abbrev pub IsPrefix : {A : Type 0} → List A → List A → Type 0
 IsPrefix {A} front all = (rest : List A) × (front ++ rest ≡ all)
 
--- one list is another without at most its last n elements
+-- one list is another but for at most its last n elements
 abbrev pub IsAllBut : ℕ → List ℕ → List ℕ → Type 0
 IsAllBut n front all = (rest : List ℕ) × (front ++ rest ≡ all) × (length rest ≤ n)
 

@@ -167,7 +167,7 @@ joiner M C x = record {
 
 -- ---- the machine's moves at a node
 
--- a primary logs a mark for an operation, and notes that the operation waits for it, and for what else
+-- a primary logs a mark for an operation, and notes what it waits for: the mark, and for a write the reads before it
 abbrev pub notes_after : List Note → List Entry → Option Operation → List Note
 notes_after notes log None = notes
 notes_after notes log (Some operation) =

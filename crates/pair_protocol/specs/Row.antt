@@ -36,8 +36,8 @@ pub record AsksFirst {S : Type 0} (w : World S) (n : ℕ) : Type 0 where
   pub there : slice_get w.nodes n ≡ Some x
   pub nobody : winner_in w.winners x.generation ≡ None
 
--- what holds if an event is answered with out of memory: no turns need no memory, and neither do moves whose first is
--- not a step, a repeat or a packet past a gap, and a winner that asks again
+-- what holds if an event is answered with out of memory: never for no turns, for moves whose first is not a step, for a
+-- repeat or a packet past a gap, or for a winner that asks again
 abbrev pub MayWantMemory : {S : Type 0} → Machine S → World S → Event → Type 0
 MayWantMemory M w (Step n turns) = 0 < turns
 MayWantMemory M w (DeliverLog m n) = BringsNext w m n

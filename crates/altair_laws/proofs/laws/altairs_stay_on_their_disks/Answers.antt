@@ -1,3 +1,4 @@
+-- The law, from the fact that no two sectors have the same index.
 use Rattle.altair_laws.proofs.OnDisk.{stays_on_disk}
 use Rattle.altair_laws.proofs.laws.altairs_stay_on_their_disks.Goals as goal
 

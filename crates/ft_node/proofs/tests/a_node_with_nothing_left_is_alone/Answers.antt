@@ -1,3 +1,4 @@
+-- A node that holds nothing may drain.
 use Rattle.std.proofs.Common.{refl}
 use Rattle.pair_protocol.specs.Node.{Backup}
 use Rattle.ft_node.proofs.EchoNodes.{begun, begins, may_drain}

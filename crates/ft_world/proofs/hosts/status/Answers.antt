@@ -1,3 +1,4 @@
+-- What a station shows is what the node of the world has at that number.
 use Rattle.std.proofs.Common.{◌≡◌, Some}
 use Rattle.std.specs.Prelude.{slice_get}
 use Rattle.ft_world.specs.declared.host.Host.TheVariants as host

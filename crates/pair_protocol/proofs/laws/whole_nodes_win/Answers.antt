@@ -1,3 +1,4 @@
+-- Nothing refuses such a node, so it has won, or is out of memory.
 use Rattle.pair_protocol.proofs.Survival.{nothing_refuses, wins}
 use Rattle.pair_protocol.proofs.laws.whole_nodes_win.Goals as goal
 

@@ -1,3 +1,4 @@
+-- Only the machine refuses a completion.
 use Rattle.std.proofs.Common.{sym, ap, ◌∙◌}
 use Rattle.disk_dcdd.specs.Completion.{answered}
 use Rattle.ft_node.proofs.AloneInputs.{done_refusal}

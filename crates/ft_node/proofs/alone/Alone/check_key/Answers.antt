@@ -1,3 +1,4 @@
+-- The key has the next index; what is left is whether a number is left for the key.
 use Rattle.std.proofs.Common.{sym, ap, ◌∙◌}
 use Rattle.disk_dcdd.specs.Completion.{answered}
 use Rattle.ft_node.proofs.AloneInputs.{keys_left, keys_spent}

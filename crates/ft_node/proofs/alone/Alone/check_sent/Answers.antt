@@ -1,3 +1,4 @@
+-- The byte with this number is due, so nothing refuses its acceptance.
 use Rattle.std.proofs.Common.{is_none, cond, Some, None, sym, ap, ◌∙◌}
 use Rattle.disk_dcdd.specs.Completion.{answered}
 use Rattle.i8080_words.specs.declared.refusal.Fault.TheVariants.{NotDue}

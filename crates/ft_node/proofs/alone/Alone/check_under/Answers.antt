@@ -1,3 +1,4 @@
+-- The head is at the sector, so only the machine refuses it.
 use Rattle.std.proofs.Common.{sym, ap, ◌∙◌}
 use Rattle.disk_dcdd.specs.Completion.{answered}
 use Rattle.ft_node.proofs.AloneInputs.{under_refusal}

@@ -1,3 +1,4 @@
+-- The check let the key pass, so the machine takes it; a number is left for it.
 use Rattle.guest_board.specs.declared.input.Input.TheVariants as input
 use Rattle.pair_protocol.specs.Refusals.{key_refusal}
 use Rattle.ft_node.proofs.AloneInputs.{key_room, takes}

@@ -1,3 +1,4 @@
+-- The check let the acceptance pass, so the machine takes it.
 use Rattle.guest_board.specs.declared.input.Input.TheVariants as input
 use Rattle.pair_protocol.specs.Refusals.{sent_refusal}
 use Rattle.ft_node.proofs.AloneInputs.{takes}

@@ -1,3 +1,4 @@
+-- The replayer's moves are the backup's.
 use Rattle.ft_node.proofs.FollowerMoves.{backup_replays}
 use Rattle.ft_node.proofs.backup.Backup.replay.Goals as goal
 

@@ -1,3 +1,4 @@
+-- With nothing left the node is alone; otherwise it goes on draining.
 use Rattle.std.proofs.lemmas.Result.{err_from_is_err_and}
 use Rattle.pair_protocol.specs.Node.{Draining}
 use Rattle.ft_node.specs.Roles.{IsFollower}

@@ -1,3 +1,4 @@
+-- The node takes the completion, which is appended to the station's inputs.
 use Rattle.std.proofs.Common.{refl}
 use Rattle.guest_board.specs.declared.input.Input.TheVariants as input
 use Rattle.pair_protocol.specs.Refusals as refusals

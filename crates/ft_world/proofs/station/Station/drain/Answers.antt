@@ -1,3 +1,4 @@
+-- A node settles by the count of its machine once it has drained, and as before until then.
 use Rattle.ft_world.proofs.Stations.{drains_on}
 use Rattle.ft_world.proofs.station.Station.drain.Goals as goal
 

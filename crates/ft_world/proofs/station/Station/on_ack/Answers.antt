@@ -1,3 +1,4 @@
+-- An acknowledgement changes nothing by which the node settles.
 use Rattle.log_channel.specs.Packet.{packet_at}
 use Rattle.ft_world.proofs.Stations.{hears_on}
 use Rattle.ft_world.proofs.station.Station.on_ack.Goals as goal

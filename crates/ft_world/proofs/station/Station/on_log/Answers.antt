@@ -1,3 +1,4 @@
+-- The packet is refused, or its entry is not the next one, or it is held and its input is appended.
 use Rattle.std.proofs.Common.{Ok, refl, subst}
 use Rattle.log_channel.specs.Packet.{packet_at}
 use Rattle.ft_node.specs.Calls as calls

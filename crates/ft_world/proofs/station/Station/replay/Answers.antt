@@ -1,3 +1,4 @@
+-- A replay changes nothing by which the backup settles.
 use Rattle.ft_world.proofs.Stations.{repeats_on}
 use Rattle.ft_world.proofs.station.Station.replay.Goals as goal
 

@@ -1,3 +1,4 @@
+-- The steps are refused, or they are made and the node settles by the count after them.
 use Rattle.ft_world.proofs.Stations.{steps_not, steps_on}
 use Rattle.ft_world.proofs.station.Station.step.Goals as goal
 

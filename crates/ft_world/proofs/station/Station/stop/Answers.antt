@@ -1,3 +1,4 @@
+-- A halt changes nothing by which the node settles.
 use Rattle.ft_world.proofs.Stations.{stops_on}
 use Rattle.ft_world.proofs.station.Station.stop.Goals as goal
 

@@ -1,3 +1,4 @@
+-- Asking the arbiter changes nothing by which the node settles.
 use Rattle.ft_world.proofs.Stations.{suspects_on}
 use Rattle.ft_world.proofs.station.Station.suspect.Goals as goal
 
