@@ -46,7 +46,7 @@ pub record AreUnaccepted (g : Guest) (port : ℕ) : Type 0 where
   pub sent : (port_of g.devices port).unaccepted ≤ slice_index g.issued port
   pub few : (port_of g.devices port).unaccepted ≤ serial.window
 
--- the byte of this number is among the last bytes sent to a port, of which there are as many as are not accepted
+-- the byte of this number is among the last ones sent to a port, as many as are not accepted
 pub record IsLast (g : Guest) (port number : ℕ) : Type 0 where
   pub first : slice_index g.issued port < number + (port_of g.devices port).unaccepted
   pub last : number ≤ slice_index g.issued port

@@ -22,7 +22,7 @@ use Rattle.ft_node.specs.Roles.{IsAlone}
 use Rattle.ft_node.proofs.PassedChecks.{Passes, key_passes}
 use Rattle.ft_node.proofs.PrimaryRefusals.{allowed}
 
--- the machine's refusal alone
+-- only the machine's refusal is left
 only : (r : Option Fault) → refusals.first_of (r ∷ None ∷ None ∷ []) ≡ r
 only None = refl
 only (Some fault) = refl

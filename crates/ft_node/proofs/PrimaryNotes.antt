@@ -1,6 +1,6 @@
 -- What a coverage knows of a primary as its machine moves. A new operation has its note, one that goes no longer has
 -- one, and every other is found and noted as before: so the notes are those of the protocol, and only outstanding
--- operations have them, of which there are few.
+-- operations, of which there are few, have notes.
 use Rattle.std.proofs.Common.{◌≡◌, ◌≢◌, ℕ, zero, suc, ◌<◌, ◌≤◌, ◌⊎◌, inl, inr, ⊎_elim, Bool, true, false, cond, Option, Some, None, List, [], ◌∷◌, ◌++◌, length, take, get_or, length-append, refl, sym, ap, ◌∙◌, arith}
 use Rattle.std.specs.Prelude.{AllPairs}
 use Rattle.std.proofs.lemmas.Bool.{cases_Bool}

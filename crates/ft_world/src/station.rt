@@ -49,7 +49,7 @@ impl<B: Lockstep + Drop> Station<B> {
         }
     }
 
-    // The count by which a node settles once it has drained: the count of its machine, when it is alone.
+    // The count by which a node settles after a drain: its machine's if it is alone now, and the same as before if not.
     fn settled_count(&self, alone: bool) -> u64
         ensures { (x : protocol.Node B.State) → IsNode B.state B.machine self.now.node x
             → result ≡ (if alone then B.machine.count x.machine else self.now.count) }
