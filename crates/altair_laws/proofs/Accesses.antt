@@ -19,6 +19,7 @@ AreWrites (Write address byte ∷ rest) = AreWrites rest
 AreWrites (Input number ∷ rest) = ⊥
 AreWrites (Output number byte ∷ rest) = ⊥
 
+-- what the accesses of a step may be
 pub data Kind : List Access → Type 0 where
   Memory : (accesses : List Access) → AreWrites accesses → Kind accesses
   Read : (number : ℕ) → Kind (Input number ∷ [])

@@ -63,6 +63,7 @@ index-is a t s =
     ap (λ b. cond b (Some (a.drive * DRIVE_SECTORS + a.track * SECTORS + a.sector)) None)
     (and_from (nat_lt a.track TRACKS) (nat_lt a.sector SECTORS) (lt-ltb a.track TRACKS t) (lt-ltb a.sector SECTORS s))
 
+-- no two sectors have the same index
 abbrev pub Apart : Type 0
 Apart = (a b : SectorAddress) (i : ℕ) → index_of a ≡ Some i → index_of b ≡ Some i → a ≡ b
 

@@ -31,6 +31,7 @@ not_refused (Some fault) done answer = absurd (cc)
 
 -- ---- an input that nothing refuses
 
+-- an input that neither the guest nor the log refuses
 pub record Passes {S : Type 0} (M : Machine S) (i : Input) (refusal : Option Fault) (x : Node S) : Type 0 where
   pub allowed : refusal ≡ None
   pub guest : refusal_of M x.machine i ≡ None

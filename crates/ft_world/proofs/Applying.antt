@@ -33,6 +33,7 @@ shown_is_faithful state M records v c h =
     let N = machine_of M c in
     always_faithful N no_copies h.machine.lawful (no_copies_copy N) c.world h.reached
 
+-- an event applies if its row holds and the fields show the world after it
 pub applies : {B H D S : Type 0} (state : B → S) (M : Machine S) (records : D → List Record) (old : Running B H D)
     (c : Course S) (e : Event) (answer : Result Reply Fault) (after : World S) (new : Running B H D) →
     (h : Shows state M records old c) →

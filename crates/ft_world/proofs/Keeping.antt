@@ -13,6 +13,7 @@ use Rattle.pair_protocol.specs.Settled.{list_of, count_in}
 use Rattle.pair_protocol.specs.World.{World}
 use Rattle.pair_protocol.proofs.Passed.{acts-in, serving}
 
+-- a node that keeps its role, its generation, and the lists and the count that it began with
 pub record Kept {S : Type 0} (x y : Node S) : Type 0 where
   pub role : y.role ≡ x.role
   pub generation : y.generation ≡ x.generation

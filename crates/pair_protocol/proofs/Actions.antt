@@ -218,6 +218,7 @@ joining_empty M C stage base own more mid x role (AsBackup r s f) = (cc)
 joining_empty M C stage base own more mid x role (AsDraining r s m f) = (cc)
 joining_empty M C stage base own more mid x role (AsAlone r s u c l) = (cc)
 
+-- An action keeps the invariant, and the settled moves after it begin with those before it.
 pub keep : {S : Type 0} (M : Machine S) (C : Copying S) → Lawful M → IsCopying M C →
     (w new : World S) (i : Inv M C w) → Change M C w new → Next M C i.trace new
 keep M C laws copies w new i (PrimarySteps n x s o acts h) = primary_steps_keep M C laws w i n x s o acts h

@@ -49,6 +49,7 @@ replaced r v q = go (same_address (address_of v) q) (nat_lt r.number v.number) r
     go true false e f = Kept refl (λ k. ltb-false r.number v.number f)
     go true true e f = Came (same_address-is (address_of v) q e) (ltb-true r.number v.number f) refl
 
+-- the record of a sector is as it was before the writes, or comes from one of them
 pub data LatestIs (r : SectorRecord) (ws : List SectorWrite) (q : SectorAddress) (new : SectorRecord) : Type 0 where
   AsBefore : new ≡ r → LatestIs r ws q new
   OfPut : (v : SectorWrite) → Among v ws → address_of v ≡ q → new ≡ record_of v → LatestIs r ws q new

@@ -246,11 +246,13 @@ pub data LeadPlace {S : Type 0} (M : Machine S) (C : Copying S) (nodes : List (N
   LeadTop : g ≡ top → settled l ≡ T → BackHere M C nodes g l → LeadPlace M C nodes top T g l
   LeadOld : g < top → l.stage ≡ BackWon → Gone nodes g l.back → LeadPlace M C nodes top T g l
 
+-- The back is of the highest generation, or of an earlier one that its lead has won and left.
 pub data BackPlace {S : Type 0} (M : Machine S) (nodes : List (Node S)) (top : ℕ) (T : List Move) (g : ℕ)
     (l : Line S) : Type 0 where
   BackTop : g ≡ top → settled l ≡ T → LeadHere M nodes g l → BackPlace M nodes top T g l
   BackOld : g < top → l.stage ≡ LeadWon → Gone nodes g l.lead → BackPlace M nodes top T g l
 
+-- A node that acts is the lead or the back of its generation.
 pub data Acting {S : Type 0} (M : Machine S) (C : Copying S) (w : World S) (top : ℕ) (T : List Move) (n : ℕ)
     (x : Node S) (o : LineOf M C w top T x.generation) : Type 0 where
   IsLead : n ≡ o.line.lead → Leads M o.line.stage o.line.base o.line.own o.line.mid (length o.line.held) x →

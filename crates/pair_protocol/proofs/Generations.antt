@@ -17,6 +17,7 @@ use Rattle.pair_protocol.specs.Waiting.{is_read}
 use Rattle.pair_protocol.specs.Traces.{cut}
 use Rattle.pair_protocol.proofs.Moves.{prefix-append, prefix-under}
 
+-- Whether nobody has won a generation, or its lead, or its back.
 pub data Stage : Type 0 where
   Undecided : Stage
   LeadWon : Stage
@@ -80,6 +81,7 @@ pub record Gets {S : Type 0} (M : Machine S) (C : Copying S) (mid : S) (b : Node
   pub long : length b.parts ≡ length (C.parts mid)
   pub each : (i : ℕ) (p : List ℕ) → slice_get b.parts i ≡ Some (Some p) → slice_get (C.parts mid) i ≡ Some p
 
+-- What the back has done, by its role.
 pub data BackState {S : Type 0} (M : Machine S) (C : Copying S) (stage : Stage) (base own more : List Move) (mid : S)
     (b : Node S) : Type 0 where
   AsJoining : b.role ≡ Joining → (stage ≡ BackWon → ⊥) → Gets M C mid b → BackState M C stage base own more mid b

@@ -66,15 +66,18 @@ pub record Line (S : Type 0) : Type 0 where
   pub back : ℕ
   pub held : List Entry
 
+-- the settled moves of a generation
 abbrev pub settled : {S : Type 0} → Line S → List Move
 settled l = settled_moves l.stage l.base l.own l.more (length l.held)
 
+-- the node that began the generation as its primary is still of that generation
 pub record LeadHere {S : Type 0} (M : Machine S) (nodes : List (Node S)) (g : ℕ) (l : Line S) : Type 0 where
   pub a : Node S
   pub there : slice_get nodes l.lead ≡ Some a
   pub generation : a.generation ≡ g
   pub leads : Leads M l.stage l.base l.own l.mid (length l.held) a
 
+-- the node that began the generation as its backup is still of that generation
 pub record BackHere {S : Type 0} (M : Machine S) (C : Copying S) (nodes : List (Node S)) (g : ℕ)
     (l : Line S) : Type 0 where
   pub b : Node S
@@ -112,6 +115,7 @@ abbrev pub WaitsAt : {S : Type 0} → Line S → Node S → SectorWrite → Type
 WaitsAt l b v = (k : ℕ) (e : Entry) → b.replayed ≤ k → slice_get b.held k ≡ Some e → is_read e ≡ true →
     Among (Write v) (operations (l.base ++ cut k l.own))
 
+-- a role that replays what it holds
 abbrev pub Repeats : Role → Type 0
 Repeats role = (role ≡ Backup) ⊎ (role ≡ Draining)
 
@@ -133,6 +137,7 @@ pub record BackReads {S : Type 0} (nodes : List (Node S)) (messages : List Messa
   pub waits : g ≡ top → (stage ≡ LeadWon → ⊥) → Repeats y.role → (v : SectorWrite) →
       Among (Released (Write v)) messages → WaitsAt l y v
 
+-- What holds of a generation: its nodes, its messages, and what was accepted, typed and put, by its line of moves.
 pub record LineOf {S : Type 0} (M : Machine S) (C : Copying S) (w : World S) (top : ℕ) (T : List Move)
     (g : ℕ) : Type 0 where
   pub line : Line S
@@ -162,6 +167,7 @@ pub data IsRecord {S : Type 0} (M : Machine S) (q : SectorAddress) (n : ℕ) (by
   OfWrite : (v : SectorWrite) → Among (Write v) (operations T) → address_of v ≡ q → v.number ≡ n → v.bytes ≡ bytes →
       IsRecord M q n bytes T
 
+-- What holds of the settled moves: whatever was released, arrived, put, read or told is theirs.
 pub record Global {S : Type 0} (M : Machine S) (messages : List Message) (terminals : List Terminal)
     (arrived_writes : List SectorWrite) (T : List Move) : Type 0 where
   pub puts : (v : SectorWrite) → Among v arrived_writes → Among (Write v) (operations T)
@@ -178,6 +184,7 @@ pub record Global {S : Type 0} (M : Machine S) (messages : List Message) (termin
   pub typed : (p : ℕ) → IsPrefix (keys p (inputs 0 T)) (terminal_in terminals p).typed
   pub told : (p : ℕ) → (terminal_in terminals p).told ≤ length (keys p (inputs 0 T))
 
+-- The invariant: the settled moves, and a line for each generation.
 pub record Inv {S : Type 0} (M : Machine S) (C : Copying S) (w : World S) : Type 0 where
   pub top : ℕ
   pub trace : List Move
@@ -194,6 +201,7 @@ line_over M C w top T j k e o =
     path_j (λ z p. (subst (λ v. LineOf M C w top T v) p o).line ≡ o.line)
     (ap (λ q. q.line) (subst_refl (λ v. LineOf M C w top T v) o)) e
 
+-- The invariant of a world whose settled moves begin with these.
 pub record Next {S : Type 0} (M : Machine S) (C : Copying S) (T : List Move) (w : World S) : Type 0 where
   pub inv : Inv M C w
   pub grows : IsPrefix T inv.trace

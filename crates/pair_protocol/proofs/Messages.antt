@@ -27,6 +27,7 @@ NotOf k (ImagePart g i p) = k ≡ g → ⊥
 NotOf k (WriteDone n) = Unit {0}
 NotOf k (SectorRead q n bytes) = Unit {0}
 
+-- what a message says is true at the line of a generation
 abbrev pub IsTrueAt : {S : Type 0} → Machine S → Copying S → List (Node S) → Line S → ℕ → Message → Type 0
 IsTrueAt M C nodes l k (LogEntry g i e) = k ≡ g → slice_get (entries (steps l.base) l.own) i ≡ Some e
 IsTrueAt {S} M C nodes l k (Acknowledgement g h r) = k ≡ g → (h ≤ length l.held) × (r ≤ h)
