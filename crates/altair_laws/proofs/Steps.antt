@@ -1,5 +1,5 @@
 -- What a step does outside the processor. It gives nothing and is calm, or it gives one byte, or one write, since a
--- step has at most one access to a port. And an input is taken if it is due. No file above this one sees the processor.
+-- step has at most one access to a port. And an input is taken if it is due. No file above this one looks into the processor.
 use Rattle.std.proofs.Common.{◌≡◌, ℕ, zero, suc, ◌<◌, Bool, true, false, cond, List, [], ◌∷◌, ◌++◌, length, Option, Some, None, refl, sym, ap, subst, lit≤}
 use Rattle.std.specs.Prelude.{slice_index, slice_index_or, slice_set, nat_lt, ◌==◌, ◌||◌}
 use Rattle.std.specs.Option.{option_map_or}

@@ -37,8 +37,8 @@ use replayer::{Replayed, Replayer};
 use std::alloc::Global;
 use std::mem;
 
-/// A node of a pair, by its role. A call in which the role has no part is refused with `WrongRole`. A refused call
-/// leaves the node as it was, except that a node that asked the arbiter and lost is halted.
+/// A node of a pair, by its role. A call in which the role has no part is refused with `WrongRole`, and `packet` with
+/// `Unknown`. A refused call leaves the node as it was, except that a node that asked the arbiter and lost is halted.
 #[derive(Drop)]
 pub enum Node<B> {
     Primary(Primary<B>),

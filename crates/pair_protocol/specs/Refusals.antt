@@ -88,7 +88,7 @@ under_refusal M address number bytes x =
     (serves x ∷ fault_if (not (same_address (M.address x.machine address.drive address.sector) address)) NotDue
     ∷ refusal_of M x.machine (input.Sector address.drive address.sector number bytes) ∷ log_full x ∷ log_spent x ∷ [])
 
--- only a primary has a log, and it begins at the covered number
+-- only a primary sends entries, from the covered number on
 abbrev pub send_refusal : {S : Type 0} → ℕ → Node S → Option Fault
 send_refusal index x =
     fault_if (not (acts_as x (Primary ∷ [])) || (nat_lt index x.covered || is_none (slice_get x.log index))) Unknown
