@@ -1,0 +1,41 @@
+-- The steps that are no event leave the world as it is, and it shows what is known then.
+use Rattle.std.proofs.Common.{◌≡◌, ℕ, zero, suc, List, [], ◌∷◌, ◌++◌, ◌⊎◌, inl, inr, sym, ap, ◌∙◌, subst}
+use Rattle.disk_dcdd.specs.declared.sector.SectorWrite.{SectorWrite}
+use Rattle.guest_board.specs.Machine.{Machine}
+use Rattle.pair_protocol.specs.Lawful.{Among}
+use Rattle.pair_rule.specs.declared.payload.DiskAnswer.{DiskAnswer}
+use Rattle.pair_rule.specs.declared.payload.DiskAnswer.TheVariants as answer
+use Rattle.pair_rule.specs.Knowledge.{HasWrite, put_by}
+use Rattle.pair_rule.specs.Law.{Silent, Carries, SeesCount, TakesByte0, TakesByte1, TakesRequest, HasAnswer, AsksRead, AnswersRead, SilentStepsShow}
+use Rattle.pair_rule.specs.Shown.{Shows}
+
+-- of the answers with one of a read more, those of writes are as before
+no_write : (n : ℕ) (r : Rattle.shared_disk.specs.declared.disk.SectorRead.SectorRead) (given : List DiskAnswer) → Among (answer.Written n) (given ++ answer.Read r ∷ []) → Among (answer.Written n) given
+no_write n r [] (inl e) = absurd (let c : answer.Written n ≡ answer.Read r = e in cc)
+no_write n r [] (inr a) = a
+no_write n r (x ∷ given) (inl e) = inl e
+no_write n r (x ∷ given) (inr a) = inr (no_write n r given a)
+
+pub silent_shows : {S : Type 0} → SilentStepsShow S
+silent_shows M typed0 typed1 k new w z (Carries p) = record { moves = z.moves; s = z.s; runs = z.runs; entries_are = z.entries_are; count = z.count; nodes = z.nodes; sent = record { logs = z.sent.logs; acks = z.sent.acks; operations = z.sent.operations; writes = z.sent.writes }; terminals = z.terminals; winners = z.winners; puts = z.puts; issued = z.issued; done = z.done }
+silent_shows M typed0 typed1 k new w z (SeesCount zero n) = record { moves = z.moves; s = z.s; runs = z.runs; entries_are = z.entries_are; count = z.count; nodes = z.nodes; sent = record { logs = z.sent.logs; acks = z.sent.acks; operations = z.sent.operations; writes = z.sent.writes }; terminals = z.terminals; winners = z.winners; puts = z.puts; issued = z.issued; done = z.done }
+silent_shows M typed0 typed1 k new w z (SeesCount (suc port) n) = record { moves = z.moves; s = z.s; runs = z.runs; entries_are = z.entries_are; count = z.count; nodes = z.nodes; sent = record { logs = z.sent.logs; acks = z.sent.acks; operations = z.sent.operations; writes = z.sent.writes }; terminals = z.terminals; winners = z.winners; puts = z.puts; issued = z.issued; done = z.done }
+silent_shows M typed0 typed1 k new w z (TakesByte0 o) = record { moves = z.moves; s = z.s; runs = z.runs; entries_are = z.entries_are; count = z.count; nodes = z.nodes; sent = record { logs = z.sent.logs; acks = z.sent.acks; operations = z.sent.operations; writes = z.sent.writes }; terminals = z.terminals; winners = z.winners; puts = z.puts; issued = z.issued; done = z.done }
+silent_shows M typed0 typed1 k new w z (TakesByte1 o) = record { moves = z.moves; s = z.s; runs = z.runs; entries_are = z.entries_are; count = z.count; nodes = z.nodes; sent = record { logs = z.sent.logs; acks = z.sent.acks; operations = z.sent.operations; writes = z.sent.writes }; terminals = z.terminals; winners = z.winners; puts = z.puts; issued = z.issued; done = z.done }
+silent_shows M typed0 typed1 k new w z (TakesRequest r) = record { moves = z.moves; s = z.s; runs = z.runs; entries_are = z.entries_are; count = z.count; nodes = z.nodes; sent = record { logs = z.sent.logs; acks = z.sent.acks; operations = z.sent.operations; writes = z.sent.writes }; terminals = z.terminals; winners = z.winners; puts = z.puts; issued = z.issued; done = z.done }
+silent_shows M typed0 typed1 k new w z (HasAnswer a) = record { moves = z.moves; s = z.s; runs = z.runs; entries_are = z.entries_are; count = z.count; nodes = z.nodes; sent = record { logs = z.sent.logs; acks = z.sent.acks; operations = z.sent.operations; writes = z.sent.writes }; terminals = z.terminals; winners = z.winners; puts = z.puts; issued = z.issued; done = z.done }
+silent_shows M typed0 typed1 k new w z (AsksRead a) = record { moves = z.moves; s = z.s; runs = z.runs; entries_are = z.entries_are; count = z.count; nodes = z.nodes; sent = record { logs = z.sent.logs; acks = z.sent.acks; operations = z.sent.operations; writes = z.sent.writes }; terminals = z.terminals; winners = z.winners; puts = z.puts; issued = z.issued; done = z.done }
+silent_shows M typed0 typed1 k new w z (AnswersRead a r is) = record {
+  moves = z.moves;
+  s = z.s;
+  runs = z.runs;
+  entries_are = z.entries_are;
+  count = z.count;
+  nodes = z.nodes;
+  sent = record { logs = z.sent.logs; acks = z.sent.acks; operations = z.sent.operations; writes = λ n at. z.sent.writes n (no_write n r k.disk.given at) };
+  terminals = z.terminals;
+  winners = z.winners;
+  puts = z.puts ∙ ap (λ t. put_by t k.disk.puts) (sym is);
+  issued = z.issued;
+  done = λ n d. subst (λ t. HasWrite (put_by t k.disk.puts) n) (sym is) (z.done n d);
+}
