@@ -16,7 +16,7 @@ use Rattle.pair_rule.specs.declared.view.Knowledge.{Knowledge}
 use Rattle.pair_rule.specs.declared.view.Core.{Core}
 use Rattle.pair_rule.specs.declared.view.SeatView.{SeatView}
 use Rattle.pair_rule.specs.Boxes.{box_index, Who, Primary, Link, Backup, Terminal, Disk, seat_index}
-use Rattle.pair_rule.specs.Rules.{SameKnow, Same, Has, has}
+use Rattle.pair_rule.specs.Rules.{SamePart, Same, Has, has}
 
 -- numbers name one seat and one box
 who_at : ℕ → Who
@@ -75,8 +75,8 @@ few_seats Disk = omega arith
 -- a change of what one seat knows
 pub record Local (s : Who) (turn : Knowledge → Knowledge) : Type 0 where
   pub generation : (k : Knowledge) → (turn k).generation ≡ k.generation
-  pub both : (n : Who) (k l : Knowledge) → SameKnow s k l → SameKnow n k l → SameKnow n (turn k) (turn l)
-  pub rest : (n : Who) (k l : Knowledge) → (n ≡ s → ⊥) → SameKnow n k l → SameKnow n k (turn l)
+  pub both : (n : Who) (k l : Knowledge) → SamePart s k l → SamePart n k l → SamePart n (turn k) (turn l)
+  pub rest : (n : Who) (k l : Knowledge) → (n ≡ s → ⊥) → SamePart n k l → SamePart n k (turn l)
 
 pub nothing : (s : Who) → Local s (λ k. k)
 nothing s = record { generation = λ k. refl; both = λ n k l own e. e; rest = λ n k l ne e. e }
@@ -85,14 +85,14 @@ module _ (f : PrimaryView → PrimaryView) where
   abbrev by_primary : Knowledge → Knowledge
   by_primary k = record k { primary = f k.primary }
 
-  primary_both : (n : Who) (k l : Knowledge) → SameKnow Primary k l → SameKnow n k l → SameKnow n (by_primary k) (by_primary l)
+  primary_both : (n : Who) (k l : Knowledge) → SamePart Primary k l → SamePart n k l → SamePart n (by_primary k) (by_primary l)
   primary_both Primary k l own e = ap f own
   primary_both Link k l own e = e
   primary_both Backup k l own e = e
   primary_both Terminal k l own e = e
   primary_both Disk k l own e = e
 
-  primary_rest : (n : Who) (k l : Knowledge) → (n ≡ Primary → ⊥) → SameKnow n k l → SameKnow n k (by_primary l)
+  primary_rest : (n : Who) (k l : Knowledge) → (n ≡ Primary → ⊥) → SamePart n k l → SamePart n k (by_primary l)
   primary_rest Primary k l ne e = absurd (ne refl)
   primary_rest Link k l ne e = e
   primary_rest Backup k l ne e = e
@@ -106,14 +106,14 @@ module _ (f : Option Packet → Option Packet) where
   abbrev by_link : Knowledge → Knowledge
   by_link k = record k { link = f k.link }
 
-  link_both : (n : Who) (k l : Knowledge) → SameKnow Link k l → SameKnow n k l → SameKnow n (by_link k) (by_link l)
+  link_both : (n : Who) (k l : Knowledge) → SamePart Link k l → SamePart n k l → SamePart n (by_link k) (by_link l)
   link_both Primary k l own e = e
   link_both Link k l own e = ap f own
   link_both Backup k l own e = e
   link_both Terminal k l own e = e
   link_both Disk k l own e = e
 
-  link_rest : (n : Who) (k l : Knowledge) → (n ≡ Link → ⊥) → SameKnow n k l → SameKnow n k (by_link l)
+  link_rest : (n : Who) (k l : Knowledge) → (n ≡ Link → ⊥) → SamePart n k l → SamePart n k (by_link l)
   link_rest Primary k l ne e = e
   link_rest Link k l ne e = absurd (ne refl)
   link_rest Backup k l ne e = e
@@ -127,14 +127,14 @@ module _ (f : BackupView → BackupView) where
   abbrev by_backup : Knowledge → Knowledge
   by_backup k = record k { backup = f k.backup }
 
-  backup_both : (n : Who) (k l : Knowledge) → SameKnow Backup k l → SameKnow n k l → SameKnow n (by_backup k) (by_backup l)
+  backup_both : (n : Who) (k l : Knowledge) → SamePart Backup k l → SamePart n k l → SamePart n (by_backup k) (by_backup l)
   backup_both Primary k l own e = e
   backup_both Link k l own e = e
   backup_both Backup k l own e = ap f own
   backup_both Terminal k l own e = e
   backup_both Disk k l own e = e
 
-  backup_rest : (n : Who) (k l : Knowledge) → (n ≡ Backup → ⊥) → SameKnow n k l → SameKnow n k (by_backup l)
+  backup_rest : (n : Who) (k l : Knowledge) → (n ≡ Backup → ⊥) → SamePart n k l → SamePart n k (by_backup l)
   backup_rest Primary k l ne e = e
   backup_rest Link k l ne e = e
   backup_rest Backup k l ne e = absurd (ne refl)
@@ -148,14 +148,14 @@ module _ (f : TerminalView → TerminalView) where
   abbrev by_terminal : Knowledge → Knowledge
   by_terminal k = record k { terminal = f k.terminal }
 
-  terminal_both : (n : Who) (k l : Knowledge) → SameKnow Terminal k l → SameKnow n k l → SameKnow n (by_terminal k) (by_terminal l)
+  terminal_both : (n : Who) (k l : Knowledge) → SamePart Terminal k l → SamePart n k l → SamePart n (by_terminal k) (by_terminal l)
   terminal_both Primary k l own e = e
   terminal_both Link k l own e = e
   terminal_both Backup k l own e = e
   terminal_both Terminal k l own e = ap f own
   terminal_both Disk k l own e = e
 
-  terminal_rest : (n : Who) (k l : Knowledge) → (n ≡ Terminal → ⊥) → SameKnow n k l → SameKnow n k (by_terminal l)
+  terminal_rest : (n : Who) (k l : Knowledge) → (n ≡ Terminal → ⊥) → SamePart n k l → SamePart n k (by_terminal l)
   terminal_rest Primary k l ne e = e
   terminal_rest Link k l ne e = e
   terminal_rest Backup k l ne e = e
@@ -169,14 +169,14 @@ module _ (f : DiskView → DiskView) where
   abbrev by_disk : Knowledge → Knowledge
   by_disk k = record k { disk = f k.disk }
 
-  disk_both : (n : Who) (k l : Knowledge) → SameKnow Disk k l → SameKnow n k l → SameKnow n (by_disk k) (by_disk l)
+  disk_both : (n : Who) (k l : Knowledge) → SamePart Disk k l → SamePart n k l → SamePart n (by_disk k) (by_disk l)
   disk_both Primary k l own e = e
   disk_both Link k l own e = e
   disk_both Backup k l own e = e
   disk_both Terminal k l own e = e
   disk_both Disk k l own e = ap f own
 
-  disk_rest : (n : Who) (k l : Knowledge) → (n ≡ Disk → ⊥) → SameKnow n k l → SameKnow n k (by_disk l)
+  disk_rest : (n : Who) (k l : Knowledge) → (n ≡ Disk → ⊥) → SamePart n k l → SamePart n k (by_disk l)
   disk_rest Primary k l ne e = e
   disk_rest Link k l ne e = e
   disk_rest Backup k l ne e = e

@@ -16,7 +16,7 @@ use Rattle.pair_rule.specs.declared.view.Core.{Core}
 use Rattle.pair_rule.specs.declared.view.SeatView.{SeatView}
 use Rattle.pair_rule.specs.Boxes.{Homes, box_index, Who, Primary, Link, Backup, Terminal, Disk, seat_index, filler, emptier, Laid}
 use Rattle.pair_rule.specs.Knowledge.{words_of, Stands}
-use Rattle.pair_rule.specs.Rules.{SameKnow, Sized, Same, Has, has, Facts, Rule, first_know, first_core, first_view, new_side}
+use Rattle.pair_rule.specs.Rules.{SamePart, Sized, Same, Has, has, Facts, Rule, first_know, first_core, first_view, new_side}
 use Rattle.pair_rule.specs.Kinds.{Mine, side_at, with_core, with_slot, takes_first_slot, gives_last_slot, nobody, without, only, which, mixed, know_of, part_of, with_part, spent_view}
 use Rattle.pair_rule.proofs.Slots.{set_both, at_or, box_stays}
 use Rattle.pair_rule.proofs.Places.{laid_first, laid_last, home_else}
@@ -188,7 +188,7 @@ first_has g Backup = refl
 first_has g Terminal = refl
 first_has g Disk = refl
 
-same_all : (n : Who) (k : Knowledge) → SameKnow n k k
+same_all : (n : Who) (k : Knowledge) → SamePart n k k
 same_all Primary k = refl
 same_all Link k = refl
 same_all Backup k = refl
@@ -273,14 +273,14 @@ know_gen Backup own rest = refl
 know_gen Terminal own rest = refl
 know_gen Disk own rest = refl
 
-know_own : (s : Who) (own rest core : Knowledge) → SameKnow s own core → SameKnow s (know_of s own rest) core
+know_own : (s : Who) (own rest core : Knowledge) → SamePart s own core → SamePart s (know_of s own rest) core
 know_own Primary own rest core e = e
 know_own Link own rest core e = e
 know_own Backup own rest core e = e
 know_own Terminal own rest core e = e
 know_own Disk own rest core e = e
 
-know_rest : (s n : Who) (own rest core : Knowledge) → (seat_index n ≢ seat_index s) → SameKnow n rest core → SameKnow n (know_of s own rest) core
+know_rest : (s n : Who) (own rest core : Knowledge) → (seat_index n ≢ seat_index s) → SamePart n rest core → SamePart n (know_of s own rest) core
 know_rest Primary Primary own rest core ne e = absurd (ne refl)
 know_rest Primary Link own rest core ne e = e
 know_rest Primary Backup own rest core ne e = e

@@ -16,7 +16,7 @@ use Rattle.pair_rule.specs.declared.payload.DiskRequest.{DiskRequest}
 use Rattle.pair_rule.specs.declared.payload.DiskAnswer.{DiskAnswer}
 use Rattle.pair_rule.specs.declared.view.Arrived.{Arrived}
 use Rattle.pair_rule.specs.declared.view.Knowledge.{Knowledge}
-use Rattle.pair_rule.specs.Knowledge.{last_or, accepted_after, winner_of, IsEntryOf, StartsWith, Rising, IsByteOf, IsAsked, Fits, WhereSome, AllAre, Decided, Stands, grown, after_empty, appended, saw, held, winner_after, primary_asked, backup_asked, arrives, byte_arrived, saw_count}
+use Rattle.pair_rule.specs.Knowledge.{accepted_at, last_or, accepted_after, winner_of, IsEntryOf, StartsWith, Rising, IsByteOf, IsAsked, Fits, WhereSome, AllAre, Decided, Stands, grown, after_empty, appended, saw, held, winner_after, primary_asked, backup_asked, arrives, byte_arrived, saw_count}
 use Rattle.pair_rule.proofs.Swaps.{Keeps}
 use Rattle.pair_rule.proofs.Knowing.{among_more, all_more, if_map, entry_more}
 
@@ -349,11 +349,6 @@ module _ (k : Knowledge) (s : Stands k) where
     came_fits (suc p),
   )
 
-  -- how many bytes of a port are accepted
-  abbrev pub accepted_at : ℕ → ℕ
-  accepted_at zero = accepted_after 0 k.terminal.arrivals0
-  accepted_at (suc p) = accepted_after 0 k.terminal.arrivals1
-
   count_fits : (port n : ℕ) (b : Mailbox) (x : Payload) → Fits b k x → Fits b (saw_count port n k) x
   count_fits zero n Outbox x f = f
   count_fits zero n Inbox x f = f
@@ -368,12 +363,12 @@ module _ (k : Knowledge) (s : Stands k) where
   count_fits (suc p) n Requests x f = f
   count_fits (suc p) n Answers x f = f
 
-  pub count_stays : (port : ℕ) → Stays (saw_count port (accepted_at port))
+  pub count_stays : (port : ℕ) → Stays (saw_count port (accepted_at port k))
   count_stays zero = (
-    record { prefix = s.prefix; in_link = s.in_link; rising = s.rising; behind = s.behind; once = s.once; decided = s.decided; counted0 = le_refl (accepted_at 0); counted1 = s.counted1; hand0 = s.hand0; hand1 = s.hand1; arrived0 = s.arrived0; arrived1 = s.arrived1; taken = s.taken; puts = s.puts; answers = s.answers; replies = s.replies },
-    count_fits zero (accepted_at zero),
+    record { prefix = s.prefix; in_link = s.in_link; rising = s.rising; behind = s.behind; once = s.once; decided = s.decided; counted0 = le_refl (accepted_at 0 k); counted1 = s.counted1; hand0 = s.hand0; hand1 = s.hand1; arrived0 = s.arrived0; arrived1 = s.arrived1; taken = s.taken; puts = s.puts; answers = s.answers; replies = s.replies },
+    count_fits zero (accepted_at zero k),
   )
   count_stays (suc p) = (
-    record { prefix = s.prefix; in_link = s.in_link; rising = s.rising; behind = s.behind; once = s.once; decided = s.decided; counted0 = s.counted0; counted1 = le_refl (accepted_at (suc p)); hand0 = s.hand0; hand1 = s.hand1; arrived0 = s.arrived0; arrived1 = s.arrived1; taken = s.taken; puts = s.puts; answers = s.answers; replies = s.replies },
-    count_fits (suc p) (accepted_at (suc p)),
+    record { prefix = s.prefix; in_link = s.in_link; rising = s.rising; behind = s.behind; once = s.once; decided = s.decided; counted0 = s.counted0; counted1 = le_refl (accepted_at (suc p) k); hand0 = s.hand0; hand1 = s.hand1; arrived0 = s.arrived0; arrived1 = s.arrived1; taken = s.taken; puts = s.puts; answers = s.answers; replies = s.replies },
+    count_fits (suc p) (accepted_at (suc p) k),
   )

@@ -21,7 +21,7 @@ use Rattle.pair_rule.specs.declared.view.DiskView.{DiskView}
 use Rattle.pair_rule.specs.declared.view.Knowledge.{Knowledge}
 use Rattle.pair_rule.specs.Boxes.{filler, emptier}
 use Rattle.pair_rule.specs.Knowledge.{IsEntryOf, IsByteOf, IsAsked, IsReplied, Fits, WhereSome, AllAre, Stands, grown, put_by, released_by, after_fill, after_empty, CanFill}
-use Rattle.pair_rule.specs.Rules.{SameKnow}
+use Rattle.pair_rule.specs.Rules.{SamePart}
 use Rattle.pair_rule.proofs.Chairs.{Local, nothing, on_primary, on_link, on_backup, on_terminal, on_disk}
 use Rattle.pair_rule.proofs.Swaps.{Keeps, keeps_all}
 
@@ -259,7 +259,7 @@ module _ (k : Knowledge) (s : Stands k) where
   fill_keeps Answers (Request r) can = absurd can
 
 -- whether it may be filled is known to the seat that fills it
-pub can_same : (b : Mailbox) (q : Payload) (k l : Knowledge) → k.generation ≡ l.generation → SameKnow (filler b) k l → CanFill b k q → CanFill b l q
+pub can_same : (b : Mailbox) (q : Payload) (k l : Knowledge) → k.generation ≡ l.generation → SamePart (filler b) k l → CanFill b k q → CanFill b l q
 can_same Outbox (Log p) k l g e can = (can.0 ∙ g, ap (λ (z : PrimaryView). get_elem? z.list p.index) (sym e) ∙ can.1)
 can_same Outbox (Out o) k l g e can = can
 can_same Outbox (Request r) k l g e can = can

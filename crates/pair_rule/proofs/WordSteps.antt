@@ -16,14 +16,14 @@ use Rattle.pair_rule.specs.declared.view.Core.{Core}
 use Rattle.pair_rule.specs.declared.view.SeatView.{SeatView}
 use Rattle.pair_rule.specs.Boxes.{Homes, Who, Primary, Backup, Terminal}
 use Rattle.pair_rule.specs.Knowledge.{last_or, words_of, winner_of, Fits, Stands, appended, saw, held, winner_after, primary_asked, backup_asked, arrives, byte_arrived, saw_count, accepted_after, accepted_with}
-use Rattle.pair_rule.specs.Rules.{SameKnow, Same, has, Facts, Rule}
+use Rattle.pair_rule.specs.Rules.{SamePart, Same, has, Facts, Moment, Rule}
 use Rattle.pair_rule.specs.Kinds.{Mine, with_known, with_core, appends, sees, holds_entries, contests_primary, contests_backup, counts, sees_count, counts_at, sees_count_at}
 use Rattle.pair_rule.proofs.Chairs.{Local, on_primary, on_backup, on_terminal, steps}
 use Rattle.pair_rule.proofs.Swaps.{Table, Goes, last_fits}
 use Rattle.pair_rule.proofs.Moves.{own, same_load}
 use Rattle.pair_rule.proofs.Growing.{append_stays, see_stays, held_low, held_short, hold_stays, hold_word, primary_asks, backup_asks, came_stays, count_stays, fewer_arrived}
 
-knows_both : (n t : Who) (turn : Knowledge → Knowledge) → Local n turn → (c d : Core) → SameKnow n c.known d.known → Same t c d → Same t (with_known turn c) (with_known turn d)
+knows_both : (n t : Who) (turn : Knowledge → Knowledge) → Local n turn → (c d : Core) → SamePart n c.known d.known → Same t c d → Same t (with_known turn c) (with_known turn d)
 knows_both n t turn l c d own e = record { sized = record { hands = e.sized.hands; has_slot = e.sized.has_slot; fills = e.sized.fills; empties = e.sized.empties }; generation = l.generation c.known ∙ e.generation ∙ sym (l.generation d.known); hand = e.hand; has_slot = e.has_slot; fills = e.fills; empties = e.empties; known = l.both t c.known d.known own e.known }
 
 knows_rest : (n t : Who) (turn : Knowledge → Knowledge) → Local n turn → (c d : Core) → (t ≡ n → ⊥) → Same t c d → Same t c (with_known turn d)
@@ -46,6 +46,10 @@ module _ (g : ℕ) (s : Table) (r : Rule g s) (id : ℕ) (me : Mine) (at : get_e
 
   abbrev words : List ℕ
   words = words_of k ++ r.boxes
+
+  -- the moment of the step, for a seat
+  moment : (n : Who) → has me.0 n → Moment n me.0.core.known k
+  moment n mine = let o = own g s r id me.0 at n mine in record { stands = r.facts.stands; generation = o.generation; same = o.known }
 
   word_goes : (n : Who) (i : ℕ) (f : ℕ → ℕ) (told : ℕ → Mine → Type 0) (turn : Knowledge → Knowledge) → has me.0 n → Local n turn
       → Stands (turn k) → ((b : Mailbox) (x : Payload) → Fits b k x → Fits b (turn k) x)
@@ -87,7 +91,7 @@ see_allowed g n id me mine s r deep at _ =
     let long : length me.0.core.known.primary.list ≡ length k.primary.list = ap (λ (z : PrimaryView). length z.list) same in
     let seen : me.0.core.known.primary.seen ≡ k.primary.seen = ap (λ (z : PrimaryView). z.seen) same in
     word_goes g s r id me at Primary 1 (λ x. x) (sees me) (saw (last_or 0 k.backup.held_values)) mine (on_primary (λ z. record z { seen = last_or 0 k.backup.held_values })) st.0 st.1 refl
-    (refl, (let b = r.facts.stands.behind in omega arith), (let b = held_short k r.facts.stands in omega arith), refl)
+    (refl, (let b = r.facts.stands.behind in omega arith), (let b = held_short k r.facts.stands in omega arith), (k, moment g s r id me at Primary mine, refl), refl)
 
 pub hold_allowed : (g n id : ℕ) (me : Mine) (x : ℕ) → has me.0 Backup → x ≡ length me.0.core.known.backup.list → Allows (Rule g) n id me 1 (λ y. max y x) (holds_entries me)
 hold_allowed g n id me x mine is s r deep at _ =
@@ -104,14 +108,14 @@ contest_primary_allowed g n id me mine s r deep at _ =
     let k : Knowledge = r.core.known in let st = primary_asks k r.facts.stands in let w : ℕ = winner_of k.primary.winner k.backup.winner in
     word_goes g s r id me at Primary 2 (λ x. either (eqb x 0) 1 x) (contests_primary me) (primary_asked w) mine (on_primary (λ z. record z { winner = winner_after 1 w })) st.0.0 st.0.1
     (λ i. length k.primary.list ∷ last_or 0 k.backup.held_values ∷ sym st.1 i ∷ accepted_after 0 k.terminal.arrivals0 ∷ accepted_after 0 k.terminal.arrivals1 ∷ r.boxes)
-    (refl, r.facts.stands.decided.few, refl)
+    (refl, r.facts.stands.decided.few, (k, moment g s r id me at Primary mine, refl), refl)
 
 pub contest_backup_allowed : (g n id : ℕ) (me : Mine) → has me.0 Backup → Allows (Rule g) n id me 2 (λ x. either (eqb x 0) 2 x) (contests_backup me)
 contest_backup_allowed g n id me mine s r deep at _ =
     let k : Knowledge = r.core.known in let st = backup_asks k r.facts.stands in let w : ℕ = winner_of k.primary.winner k.backup.winner in
     word_goes g s r id me at Backup 2 (λ x. either (eqb x 0) 2 x) (contests_backup me) (backup_asked w) mine (on_backup (λ z. record z { winner = winner_after 2 w })) st.0.0 st.0.1
     (λ i. length k.primary.list ∷ last_or 0 k.backup.held_values ∷ sym st.1 i ∷ accepted_after 0 k.terminal.arrivals0 ∷ accepted_after 0 k.terminal.arrivals1 ∷ r.boxes)
-    (refl, r.facts.stands.decided.few, refl)
+    (refl, r.facts.stands.decided.few, (k, moment g s r id me at Backup mine, refl), refl)
 
 pub count_allowed : (g n id : ℕ) (me : Mine) (port x : ℕ) → port < 2 → has me.0 Terminal → x ≡ accepted_with port me.0.core.known → Allows (Rule g) n id me (3 + port) (λ y. max y x) (counts port me)
 count_allowed g n id me zero x two mine is s r deep at _ =
@@ -137,12 +141,12 @@ sees_count_allowed g n id me zero two mine s r deep at _ =
     let k : Knowledge = r.core.known in let same : me.0.core.known.primary ≡ k.primary = (own g s r id me.0 at Primary mine).known in let st = count_stays k r.facts.stands 0 in
     let was : me.0.core.known.primary.counted0 ≡ k.primary.counted0 = ap (λ (z : PrimaryView). z.counted0) same in
     word_goes g s r id me at Primary 3 (λ y. y) (sees_count 0 me) (saw_count 0 (accepted_after 0 k.terminal.arrivals0)) mine (on_primary (λ z. record z { counted0 = accepted_after 0 k.terminal.arrivals0 })) st.0 st.1 refl
-    (refl, (let b = r.facts.stands.counted0 in omega arith), refl)
+    (refl, (let b = r.facts.stands.counted0 in omega arith), (k, moment g s r id me at Primary mine, refl), refl)
 sees_count_allowed g n id me (suc zero) two mine s r deep at _ =
     let k : Knowledge = r.core.known in let same : me.0.core.known.primary ≡ k.primary = (own g s r id me.0 at Primary mine).known in let st = count_stays k r.facts.stands 1 in
     let was : me.0.core.known.primary.counted1 ≡ k.primary.counted1 = ap (λ (z : PrimaryView). z.counted1) same in
     word_goes g s r id me at Primary 4 (λ y. y) (sees_count 1 me) (saw_count 1 (accepted_after 0 k.terminal.arrivals1)) mine (on_primary (λ z. record z { counted1 = accepted_after 0 k.terminal.arrivals1 })) st.0 st.1 refl
-    (refl, (let b = r.facts.stands.counted1 in omega arith), refl)
+    (refl, (let b = r.facts.stands.counted1 in omega arith), (k, moment g s r id me at Primary mine, refl), refl)
 sees_count_allowed g n id me (suc (suc port)) two mine s r deep at _ = absurd (omega arith)
 
 pub count_at_allowed : (g n id : ℕ) (me : Mine) (port x : ℕ) → port < 2 → has me.0 Terminal → x ≡ accepted_with port me.0.core.known → Allows (Rule g) n id me (3 + port) (λ y. max y x) (counts_at (3 + port) me)

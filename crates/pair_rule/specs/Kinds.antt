@@ -13,8 +13,8 @@ use Rattle.pair_rule.specs.declared.view.SeatView.{SeatView}
 use Rattle.pair_rule.specs.Boxes.{box_index, Who, Primary, Link, Backup, Terminal, Disk, seat_index, slot_of, is_full, number_of, filler, emptier, filler_met, side}
 use Rattle.pair_rule.specs.declared.payload.Packet.{Packet}
 use Rattle.pair_rule.specs.declared.payload.Payload.TheVariants.{Log}
-use Rattle.pair_rule.specs.Knowledge.{Fits, after_fill, after_empty, appended, saw, held, primary_asked, backup_asked, byte_arrived, saw_count}
-use Rattle.pair_rule.specs.Rules.{new_side, first_view}
+use Rattle.pair_rule.specs.Knowledge.{Fits, accepted_at, last_or, winner_of, after_fill, after_empty, appended, saw, held, primary_asked, backup_asked, byte_arrived, saw_count}
+use Rattle.pair_rule.specs.Rules.{Moment, new_side, first_view}
 
 abbrev pub Mine : Type 0
 Mine = Me (Option Payload) SeatView
@@ -54,13 +54,17 @@ with_core v c = record v { core = c }
 abbrev pub Swapped : ℕ → Mine → Type 0
 Swapped r n = (x : Option Payload) × (n.1 ≡ (slot_of r, x) ∷ []) × (slot_of r < 11)
 
--- the load is the one in the seat's slot
+-- the payload is the one in the seat's slot
 abbrev pub Filled : Mailbox → Mine → ℕ → Mine → Type 0
 Filled b m r n = Swapped r n × ((h : ℕ) (q : Payload) → m.1 ≡ (h, Some q) ∷ [] → n.0 ≡ with_core m.0 (filled b q r m.0.core))
 
--- of what lies in a box the one who empties it knows the kind
+-- at the moment of the step this lay in the box, and fitted there
+abbrev pub WasIn : Mailbox → Knowledge → Payload → Type 0
+WasIn b own q = (all : Knowledge) × Moment (emptier b) own all × Fits b all q
+
+-- what a seat finds that empties a box
 abbrev pub Emptied : Mailbox → Mine → ℕ → Mine → Bool → Type 0
-Emptied b m r n true = (q : Payload) × (k : Knowledge) × (k.generation ≡ m.0.core.known.generation) × Fits b k q × (n.1 ≡ (slot_of r, Some q) ∷ []) × ((side_at m.0.core.empties (box_index b)).met < number_of r) × (n.0 ≡ with_core m.0 (emptied b q r m.0.core))
+Emptied b m r n true = (q : Payload) × WasIn b m.0.core.known q × (n.1 ≡ (slot_of r, Some q) ∷ []) × ((side_at m.0.core.empties (box_index b)).met < number_of r) × (n.0 ≡ with_core m.0 (emptied b q r m.0.core))
 Emptied b m r n false = n.0 ≡ with_core m.0 (found_empty b r m.0.core)
 
 abbrev pub fills : ℕ → Mine → ℕ → Mine → Type 0
@@ -75,17 +79,25 @@ empties word m r n = (b : Mailbox) → word ≡ 5 + box_index b → Swapped r n 
 abbrev pub appends : Mine → ℕ → Mine → Type 0
 appends m r n = (r ≡ length m.0.core.known.primary.list) × (n.1 ≡ m.1) × ((h : ℕ) (p : Packet) → m.1 ≡ (h, Some (Log p)) ∷ [] → n.0 ≡ with_core m.0 (with_known (appended p.entry) m.0.core))
 
+-- at the moment of the step the number was the last one acknowledged
+abbrev pub WasHeld : Knowledge → ℕ → Type 0
+WasHeld own r = (all : Knowledge) × Moment Primary own all × (r ≡ last_or 0 all.backup.held_values)
+
 abbrev pub sees : Mine → ℕ → Mine → Type 0
-sees m r n = (n.1 ≡ m.1) × (m.0.core.known.primary.seen ≤ r) × (r ≤ length m.0.core.known.primary.list) × (n.0 ≡ with_core m.0 (with_known (saw r) m.0.core))
+sees m r n = (n.1 ≡ m.1) × (m.0.core.known.primary.seen ≤ r) × (r ≤ length m.0.core.known.primary.list) × WasHeld m.0.core.known r × (n.0 ≡ with_core m.0 (with_known (saw r) m.0.core))
 
 abbrev pub holds_entries : Mine → ℕ → Mine → Type 0
 holds_entries m r n = (n.1 ≡ m.1) × (r ≤ length m.0.core.known.backup.list) × (n.0 ≡ with_core m.0 (with_known held m.0.core))
 
+-- at the moment of the step this was the winner
+abbrev pub WasWinner : Who → Knowledge → ℕ → Type 0
+WasWinner who own r = (all : Knowledge) × Moment who own all × (r ≡ winner_of all.primary.winner all.backup.winner)
+
 abbrev pub contests_primary : Mine → ℕ → Mine → Type 0
-contests_primary m r n = (n.1 ≡ m.1) × (r < 3) × (n.0 ≡ with_core m.0 (with_known (primary_asked r) m.0.core))
+contests_primary m r n = (n.1 ≡ m.1) × (r < 3) × WasWinner Primary m.0.core.known r × (n.0 ≡ with_core m.0 (with_known (primary_asked r) m.0.core))
 
 abbrev pub contests_backup : Mine → ℕ → Mine → Type 0
-contests_backup m r n = (n.1 ≡ m.1) × (r < 3) × (n.0 ≡ with_core m.0 (with_known (backup_asked r) m.0.core))
+contests_backup m r n = (n.1 ≡ m.1) × (r < 3) × WasWinner Backup m.0.core.known r × (n.0 ≡ with_core m.0 (with_known (backup_asked r) m.0.core))
 
 -- the byte in hand arrives, and what is accepted is counted
 abbrev pub counts : ℕ → Mine → ℕ → Mine → Type 0
@@ -95,8 +107,12 @@ abbrev pub counted_at : ℕ → Knowledge → ℕ
 counted_at zero k = k.primary.counted0
 counted_at (suc port) k = k.primary.counted1
 
+-- at the moment of the step so many bytes of the port were accepted
+abbrev pub WasAccepted : ℕ → Knowledge → ℕ → Type 0
+WasAccepted port own r = (all : Knowledge) × Moment Primary own all × (r ≡ accepted_at port all)
+
 abbrev pub sees_count : ℕ → Mine → ℕ → Mine → Type 0
-sees_count port m r n = (n.1 ≡ m.1) × (counted_at port m.0.core.known ≤ r) × (n.0 ≡ with_core m.0 (with_known (saw_count port r) m.0.core))
+sees_count port m r n = (n.1 ≡ m.1) × (counted_at port m.0.core.known ≤ r) × WasAccepted port m.0.core.known r × (n.0 ≡ with_core m.0 (with_known (saw_count port r) m.0.core))
 
 -- ---- a seat takes its first slot, puts its last one back, comes, and is joined
 

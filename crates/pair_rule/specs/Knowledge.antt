@@ -33,6 +33,11 @@ abbrev pub accepted_after : ℕ → List Arrived → ℕ
 accepted_after n [] = n
 accepted_after n (a ∷ arrivals) = cond (a.number == n + 1) (accepted_after (n + 1) arrivals) (accepted_after n arrivals)
 
+-- how many bytes of a port are accepted
+abbrev pub accepted_at : ℕ → Knowledge → ℕ
+accepted_at zero k = accepted_after 0 k.terminal.arrivals0
+accepted_at (suc port) k = accepted_after 0 k.terminal.arrivals1
+
 -- who won: 0 for none, 1 the primary, 2 the backup
 abbrev pub winner_of : ℕ → ℕ → ℕ
 winner_of zero backup = backup

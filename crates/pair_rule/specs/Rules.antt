@@ -12,13 +12,19 @@ use Rattle.pair_rule.specs.declared.view.SeatView.{SeatView}
 use Rattle.pair_rule.specs.Boxes.{Homes, box_index, Who, Primary, Link, Backup, Terminal, Disk, seat_index, filler, emptier, side, Laid, Boxes}
 use Rattle.pair_rule.specs.Knowledge.{words_of, Fits, WhereSome, Stands}
 
--- the seat of this number knows the same
-abbrev pub SameKnow : Who → Knowledge → Knowledge → Type 0
-SameKnow Primary k l = k.primary ≡ l.primary
-SameKnow Link k l = k.link ≡ l.link
-SameKnow Backup k l = k.backup ≡ l.backup
-SameKnow Terminal k l = k.terminal ≡ l.terminal
-SameKnow Disk k l = k.disk ≡ l.disk
+-- a seat knows the same
+abbrev pub SamePart : Who → Knowledge → Knowledge → Type 0
+SamePart Primary k l = k.primary ≡ l.primary
+SamePart Link k l = k.link ≡ l.link
+SamePart Backup k l = k.backup ≡ l.backup
+SamePart Terminal k l = k.terminal ≡ l.terminal
+SamePart Disk k l = k.disk ≡ l.disk
+
+-- what all seats know at one moment, for a seat that knows its own part of it: it stands
+pub record Moment (s : Who) (own all : Knowledge) : Type 0 where
+  pub stands : Stands all
+  pub generation : own.generation ≡ all.generation
+  pub same : SamePart s own all
 
 -- five seats and six boxes
 pub record Sized (c : Core) : Type 0 where
@@ -35,7 +41,7 @@ pub record Same (s : Who) (c d : Core) : Type 0 where
   pub has_slot : get_elem? c.has_slot (seat_index s) ≡ get_elem? d.has_slot (seat_index s)
   pub fills : (b : Mailbox) → filler b ≡ s → get_elem? c.fills (box_index b) ≡ get_elem? d.fills (box_index b)
   pub empties : (b : Mailbox) → emptier b ≡ s → get_elem? c.empties (box_index b) ≡ get_elem? d.empties (box_index b)
-  pub known : SameKnow s c.known d.known
+  pub known : SamePart s c.known d.known
 
 abbrev pub has : SeatView → Who → Type 0
 has v s = get_elem? v.mine (seat_index s) ≡ some true

@@ -24,7 +24,7 @@ use Rattle.pair_rule.specs.Boxes.{Who, Primary, Link, Backup, Terminal, seat_ind
 use Rattle.pair_rule.specs.Knowledge.{accepted_after, last_or, winner_of, Stands}
 use Rattle.atomic_table.specs.Seated.{TableId}
 use Rattle.pair_rule.specs.Rules.{has, Sized, first_core}
-use Rattle.pair_rule.specs.Kinds.{Mine, with_slot, nobody, side_at, filled, emptied}
+use Rattle.pair_rule.specs.Kinds.{Mine, WasIn, with_slot, nobody, side_at, filled, emptied}
 
 pub record Holds (s : Who) (me : Mine) (slot : ℕ) : Type 0 where
   pub mine : has me.0 s
@@ -91,7 +91,7 @@ pub record IsTerminal (me : Mine) (slot : ℕ) (fills empties : List ℕ) (hand0
 
 -- a packet came out of the outbox into the hand
 abbrev pub BroughtOut : Carrier → Carrier → Type 0
-BroughtOut l m = (p : Packet) × (r : ℕ) × (m.hand ≡ Some p) × ((side_at l.core.empties (box_index Outbox)).met < number_of r) × (m.core ≡ emptied Outbox (Log p) r l.core)
+BroughtOut l m = (p : Packet) × (r : ℕ) × (m.hand ≡ Some p) × WasIn Outbox l.core.known (Log p) × ((side_at l.core.empties (box_index Outbox)).met < number_of r) × (m.core ≡ emptied Outbox (Log p) r l.core)
 
 abbrev pub BroughtIn : Carrier → Carrier → Packet → Bool → Type 0
 BroughtIn l m p keep = (m.hand ≡ cond keep (Some p) None) × ((r : ℕ) × (m.core ≡ filled Inbox (Log p) r l.core))

@@ -1,8 +1,8 @@
 //! The backup's seat.
 ghost use Rattle.std.specs.Prelude.{◌≡◌, ◌^◌, ◌<◌, ℕ, length, MatchOption, MatchResult};
-ghost use Rattle.pair_rule.specs.Boxes.{box_index, number_of};
+ghost use Rattle.pair_rule.specs.Boxes.{Backup, box_index, number_of};
 ghost use Rattle.pair_rule.specs.Knowledge.{held, backup_asked};
-ghost use Rattle.pair_rule.specs.Kinds.{side_at, emptied, found_empty, with_known};
+ghost use Rattle.pair_rule.specs.Kinds.{WasIn, WasWinner, side_at, emptied, found_empty, with_known};
 ghost use Rattle.pair_rule.specs.declared.fabric.Fault.TheVariants.{Lost};
 ghost use Rattle.pair_rule.specs.declared.mailbox.Mailbox.TheVariants.{Inbox};
 ghost use Rattle.pair_rule.specs.declared.payload.Payload.TheVariants.{Log};
@@ -38,7 +38,7 @@ impl BackupSeat {
         requires few { (side_at self.old.core.empties (box_index Inbox)).number < 2 ^ 40 }
         ensures same { self.new.table ≡ self.old.table }
         ensures taken { (r : ℕ) × MatchOption result (self.new.core ≡ found_empty Inbox r self.old.core)
-            (λ p. ((side_at self.old.core.empties (box_index Inbox)).met < number_of r) × (p.generation ≡ self.old.core.known.generation) × (self.new.core ≡ emptied Inbox (Log p) r self.old.core)) }
+            (λ p. WasIn Inbox self.old.core.known (Log p) × ((side_at self.old.core.empties (box_index Inbox)).met < number_of r) × (self.new.core ≡ emptied Inbox (Log p) r self.old.core)) }
     {
         match self.state.empty(fabric, Mailbox::Inbox) {
             Some(Payload::Log(packet)) => {
@@ -67,7 +67,7 @@ impl BackupSeat {
         requires table { self.old.table ≡ fabric.now }
         requires before { self.old.core.known.backup.winner ≡ 0 }
         ensures same { self.new.table ≡ self.old.table }
-        ensures view { (r : ℕ) × (r < 3) × (self.new.core ≡ with_known (backup_asked r) self.old.core) }
+        ensures view { (r : ℕ) × (r < 3) × WasWinner Backup self.old.core.known r × (self.new.core ≡ with_known (backup_asked r) self.old.core) }
         ensures won { MatchResult result (λ _. self.new.core.known.backup.winner ≡ 2) (λ e. (e ≡ Lost) × (self.new.core.known.backup.winner ≡ 1)) }
     {
         if self.state.contest_backup(fabric) == 1 {

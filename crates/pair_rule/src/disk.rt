@@ -1,7 +1,7 @@
 //! The disk's seat.
 ghost use Rattle.std.specs.Prelude.{◌≡◌, ◌^◌, ◌<◌, ℕ, MatchOption};
 ghost use Rattle.pair_rule.specs.Boxes.{box_index, number_of};
-ghost use Rattle.pair_rule.specs.Kinds.{side_at, filled, emptied, found_empty};
+ghost use Rattle.pair_rule.specs.Kinds.{WasIn, side_at, filled, emptied, found_empty};
 ghost use Rattle.pair_rule.specs.Seats.{Replies};
 ghost use Rattle.pair_rule.specs.declared.mailbox.Mailbox.TheVariants.{Requests, Answers};
 ghost use Rattle.pair_rule.specs.declared.payload.Payload.TheVariants.{Request, Answer};
@@ -36,7 +36,7 @@ impl DiskSeat {
         requires few { (side_at self.old.core.empties (box_index Requests)).number < 2 ^ 40 }
         ensures same { self.new.table ≡ self.old.table }
         ensures taken { (r : ℕ) × MatchOption result (self.new.core ≡ found_empty Requests r self.old.core)
-            (λ q. ((side_at self.old.core.empties (box_index Requests)).met < number_of r) × (self.new.core ≡ emptied Requests (Request q) r self.old.core)) }
+            (λ q. WasIn Requests self.old.core.known (Request q) × ((side_at self.old.core.empties (box_index Requests)).met < number_of r) × (self.new.core ≡ emptied Requests (Request q) r self.old.core)) }
     {
         match self.state.empty(fabric, Mailbox::Requests) {
             Some(Payload::Request(request)) => Some(request),

@@ -3,9 +3,9 @@ ghost use Rattle.std.specs.Prelude.{◌≡◌, ◌+◌, ◌^◌, ◌<◌, ◌≤
 ghost use mathlib.Core.Option.{some};
 ghost use lib.ListN.{get_elem?};
 ghost use Rattle.pair_protocol.specs.Lawful.{top};
-ghost use Rattle.pair_rule.specs.Boxes.{box_index, port_box, number_of};
+ghost use Rattle.pair_rule.specs.Boxes.{Primary, box_index, port_box, number_of};
 ghost use Rattle.pair_rule.specs.Knowledge.{appended, saw, saw_count, primary_asked};
-ghost use Rattle.pair_rule.specs.Kinds.{side_at, filled, emptied, found_empty, with_known, counted_at};
+ghost use Rattle.pair_rule.specs.Kinds.{WasIn, WasHeld, WasWinner, WasAccepted, side_at, filled, emptied, found_empty, with_known, counted_at};
 ghost use Rattle.pair_rule.specs.declared.fabric.Fault.TheVariants.{LogFull, Spent, Lost};
 ghost use Rattle.pair_rule.specs.declared.mailbox.Mailbox.TheVariants.{Outbox, Requests, Answers};
 ghost use Rattle.pair_rule.specs.declared.payload.Payload.TheVariants.{Log, Out, Request, Answer};
@@ -74,6 +74,7 @@ impl PrimarySeat {
     /// Puts the packet of an entry into the outbox. What lay there is lost.
     pub fn post(&mut self, fabric: &Fabric, index: u64, entry: &Entry)
         requires table { self.old.table ≡ fabric.now }
+        requires before { self.old.core.known.primary.winner ≡ 0 }
         requires stands { get_elem? self.old.core.known.primary.list index ≡ some entry.now }
         requires few { (side_at self.old.core.fills (box_index Outbox)).number < 2 ^ 40 }
         ensures same { self.new.table ≡ self.old.table }
@@ -93,6 +94,7 @@ impl PrimarySeat {
         requires table { self.old.table ≡ fabric.now }
         requires before { self.old.core.known.primary.winner ≡ 0 }
         ensures same { self.new.table ≡ self.old.table }
+        ensures held { WasHeld self.old.core.known result }
         ensures later { (self.old.core.known.primary.seen ≤ result) × (result ≤ length self.old.core.known.primary.list) }
         ensures view { self.new.core ≡ with_known (saw result) self.old.core }
     {
@@ -105,7 +107,7 @@ impl PrimarySeat {
         requires table { self.old.table ≡ fabric.now }
         requires before { self.old.core.known.primary.winner ≡ 0 }
         ensures same { self.new.table ≡ self.old.table }
-        ensures view { (r : ℕ) × (r < 3) × (self.new.core ≡ with_known (primary_asked r) self.old.core) }
+        ensures view { (r : ℕ) × (r < 3) × WasWinner Primary self.old.core.known r × (self.new.core ≡ with_known (primary_asked r) self.old.core) }
         ensures won { MatchResult result (λ _. self.new.core.known.primary.winner ≡ 1) (λ e. (e ≡ Lost) × (self.new.core.known.primary.winner ≡ 2)) }
     {
         if self.state.contest_primary(fabric) <= 1 {
@@ -135,8 +137,10 @@ impl PrimarySeat {
     /// How many bytes of a port its terminal has counted.
     pub fn counted(&mut self, fabric: &Fabric, port: u8) -> u64
         requires table { self.old.table ≡ fabric.now }
+        requires before { self.old.core.known.primary.winner ≡ 0 }
         requires port { port < 2 }
         ensures same { self.new.table ≡ self.old.table }
+        ensures accepted { WasAccepted port self.old.core.known result }
         ensures later { counted_at port self.old.core.known ≤ result }
         ensures view { self.new.core ≡ with_known (saw_count port result) self.old.core }
     {
@@ -158,10 +162,11 @@ impl PrimarySeat {
     /// Takes what the disk answers.
     pub fn answer(&mut self, fabric: &Fabric) -> Option<DiskAnswer>
         requires table { self.old.table ≡ fabric.now }
+        requires before { self.old.core.known.primary.winner ≡ 0 }
         requires few { (side_at self.old.core.empties (box_index Answers)).number < 2 ^ 40 }
         ensures same { self.new.table ≡ self.old.table }
         ensures taken { (r : ℕ) × MatchOption result (self.new.core ≡ found_empty Answers r self.old.core)
-            (λ a. ((side_at self.old.core.empties (box_index Answers)).met < number_of r) × (self.new.core ≡ emptied Answers (Answer a) r self.old.core)) }
+            (λ a. WasIn Answers self.old.core.known (Answer a) × ((side_at self.old.core.empties (box_index Answers)).met < number_of r) × (self.new.core ≡ emptied Answers (Answer a) r self.old.core)) }
     {
         match self.state.empty(fabric, Mailbox::Answers) {
             Some(Payload::Answer(answer)) => Some(answer),

@@ -1,8 +1,8 @@
 //! How a seat fills and empties a box.
 ghost use Rattle.std.specs.Prelude.{◌≡◌, ◌^◌, ◌<◌, ◌≤◌, ℕ, true, false, Some, MatchOption, length, length as len};
 ghost use Rattle.pair_rule.specs.Boxes.{box_index, filler, emptier, is_full, number_of, Primary, Backup, Terminal};
-ghost use Rattle.pair_rule.specs.Knowledge.{CanFill, Fits, appended, saw, held, primary_asked, backup_asked, accepted_with, byte_arrived, saw_count};
-ghost use Rattle.pair_rule.specs.Kinds.{side_at, filled, emptied, found_empty, with_core, with_known, counted_at};
+ghost use Rattle.pair_rule.specs.Knowledge.{CanFill, appended, saw, held, primary_asked, backup_asked, accepted_with, byte_arrived, saw_count};
+ghost use Rattle.pair_rule.specs.Kinds.{WasIn, WasHeld, WasWinner, WasAccepted, side_at, filled, emptied, found_empty, with_core, with_known, counted_at};
 ghost use Rattle.pair_rule.specs.Seats.{Keeps};
 ghost use Rattle.pair_rule.specs.declared.view.Knowledge.{Knowledge};
 
@@ -52,7 +52,7 @@ impl SeatState {
         ensures seat { Keeps (emptier mailbox) self.new.seat.me self.new.slot self.new.fills self.new.empties }
         ensures view { (r : ℕ) × MatchOption result
             (self.new.seat.me.0 ≡ with_core self.old.seat.me.0 (found_empty mailbox r self.old.seat.me.0.core))
-            (λ q. ((k : Knowledge) × (k.generation ≡ self.old.seat.me.0.core.known.generation) × Fits mailbox k q)
+            (λ q. WasIn mailbox self.old.seat.me.0.core.known q
             × ((side_at self.old.seat.me.0.core.empties (box_index mailbox)).met < number_of r)
             × (self.new.seat.me.0 ≡ with_core self.old.seat.me.0 (emptied mailbox q r self.old.seat.me.0.core))) }
     {
@@ -91,6 +91,7 @@ impl SeatState {
         requires seat { Keeps Primary self.old.seat.me self.old.slot self.old.fills self.old.empties }
         ensures table { self.new.seat.table_id ≡ self.old.seat.table_id }
         ensures seat { Keeps Primary self.new.seat.me self.new.slot self.new.fills self.new.empties }
+        ensures held { WasHeld self.old.seat.me.0.core.known result }
         ensures later { (self.old.seat.me.0.core.known.primary.seen ≤ result) × (result ≤ length self.old.seat.me.0.core.known.primary.list) }
         ensures view { self.new.seat.me.0 ≡ with_core self.old.seat.me.0 (with_known (saw result) self.old.seat.me.0.core) }
     {
@@ -135,6 +136,7 @@ impl SeatState {
         ensures table { self.new.seat.table_id ≡ self.old.seat.table_id }
         ensures seat { Keeps Primary self.new.seat.me self.new.slot self.new.fills self.new.empties }
         ensures few { result < 3 }
+        ensures winner { WasWinner Primary self.old.seat.me.0.core.known result }
         ensures view { self.new.seat.me.0 ≡ with_core self.old.seat.me.0 (with_known (primary_asked result) self.old.seat.me.0.core) }
     {
         fabric
@@ -150,6 +152,7 @@ impl SeatState {
         ensures table { self.new.seat.table_id ≡ self.old.seat.table_id }
         ensures seat { Keeps Backup self.new.seat.me self.new.slot self.new.fills self.new.empties }
         ensures few { result < 3 }
+        ensures winner { WasWinner Backup self.old.seat.me.0.core.known result }
         ensures view { self.new.seat.me.0 ≡ with_core self.old.seat.me.0 (with_known (backup_asked result) self.old.seat.me.0.core) }
     {
         fabric
@@ -165,6 +168,7 @@ impl SeatState {
         requires port { port < 2 }
         ensures table { self.new.seat.table_id ≡ self.old.seat.table_id }
         ensures seat { Keeps Primary self.new.seat.me self.new.slot self.new.fills self.new.empties }
+        ensures accepted { WasAccepted port self.old.seat.me.0.core.known result }
         ensures later { counted_at port self.old.seat.me.0.core.known ≤ result }
         ensures view { self.new.seat.me.0 ≡ with_core self.old.seat.me.0 (with_known (saw_count port result) self.old.seat.me.0.core) }
     {

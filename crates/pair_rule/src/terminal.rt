@@ -3,7 +3,7 @@ ghost use Rattle.std.specs.Prelude.{◌≡◌, ◌==◌, ◌+◌, ◌^◌, ◌<�
 ghost use Rattle.event_callbacks.specs.declared.operations.Operation.TheVariants as operation;
 ghost use Rattle.pair_rule.specs.Boxes.{box_index, port_box, number_of};
 ghost use Rattle.pair_rule.specs.Knowledge.{accepted_after, accepted_with, arrives, byte_arrived};
-ghost use Rattle.pair_rule.specs.Kinds.{side_at, emptied, found_empty, with_known};
+ghost use Rattle.pair_rule.specs.Kinds.{WasIn, side_at, emptied, found_empty, with_known};
 ghost use Rattle.pair_rule.specs.declared.payload.Payload.TheVariants.{Out};
 ghost use Rattle.pair_rule.specs.declared.view.Arrived.{Arrived};
 
@@ -80,7 +80,7 @@ impl TerminalSeat {
         requires few { (side_at self.old.core.empties (box_index (port_box port))).number < 2 ^ 40 }
         ensures same { self.new.table ≡ self.old.table }
         ensures taken { (r : ℕ) × MatchOption result (self.new.core ≡ found_empty (port_box port) r self.old.core)
-            (λ b. ((side_at self.old.core.empties (box_index (port_box port))).met < number_of r) × (self.new.core ≡ emptied (port_box port) (Out (operation.Byte port b.number b.byte)) r self.old.core)) }
+            (λ b. WasIn (port_box port) self.old.core.known (Out (operation.Byte port b.number b.byte)) × ((side_at self.old.core.empties (box_index (port_box port))).met < number_of r) × (self.new.core ≡ emptied (port_box port) (Out (operation.Byte port b.number b.byte)) r self.old.core)) }
     {
         match self.state.empty(fabric, port_box(port)) {
             Some(

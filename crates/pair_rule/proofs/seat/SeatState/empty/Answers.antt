@@ -27,7 +27,7 @@ returns-then-found-eq1-clause-seat c =
     let z = subst (Emptied c.args.mailbox c.args.self.now.seat.me c.swap-found.result c.swap-found.new.seat.me) full t.1 in let there : c.word_of-word.result - 5 ≡ box_index c.args.mailbox = omega arith in
     subst (λ (n : ℕ). Keeps (emptier c.args.mailbox) c.exchange.new.seat.me (slot_of c.swap-found.result) c.args.self.now.fills (set c.args.self.now.empties n (get_or c.args.self.now.empties (c.word_of-word.result - 5) 0 + 1))) (sym there)
     (still_keeps _ _ _ _ _ _ _ (empty_keeps (emptier c.args.mailbox) c.args.self.now.seat.me c.swap-found.new.seat.me _ _ _ _ k t.0 c.args.mailbox z.0 _ refl
-    (ap (λ (n : ℕ). get_or c.args.self.now.empties n 0 + 1) there ∙ ap (λ (n : ℕ). n + 1) (number_at _ _ c.args.mailbox k.holds.sized.empties k.empties_are)) z.6) c.exchange.ensures.3)
+    (ap (λ (n : ℕ). get_or c.args.self.now.empties n 0 + 1) there ∙ ap (λ (n : ℕ). n + 1) (number_at _ _ c.args.mailbox k.holds.sized.empties k.empties_are)) z.4) c.exchange.ensures.3)
 
 pub returns-else-found-eq1-clause-seat : goal.returns-else-found-eq1-clause-seat
 returns-else-found-eq1-clause-seat c =
