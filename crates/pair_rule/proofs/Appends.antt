@@ -5,7 +5,7 @@ use Rattle.disk_dcdd.specs.declared.address.SectorAddress.{SectorAddress}
 use Rattle.event_callbacks.specs.Operations.{id_of}
 use Rattle.event_callbacks.specs.declared.operations.Operation.{Operation}
 use Rattle.guest_board.specs.Machine.{Machine, Move, Do, Take, Runs, refusal_of}
-use Rattle.guest_board.specs.Recorded.{Counts}
+use Rattle.guest_board.specs.Recorded.{Accepts as IsAccepted, Counts, Recorded}
 use Rattle.guest_board.specs.Running.{Quiet, Begin, More}
 use Rattle.guest_board.specs.declared.input.Input.{Input}
 use Rattle.guest_board.specs.declared.input.Input.TheVariants as input
@@ -32,9 +32,12 @@ use Rattle.pair_protocol.proofs.Moves.{among-prefix, among-split, operations-pre
 use Rattle.pair_rule.specs.declared.view.Knowledge.{Knowledge}
 use Rattle.pair_rule.specs.Knowledge.{Stands, appended}
 use Rattle.pair_rule.specs.Shown.{notes_from, primary_role, primary_runs, primary_node, backup_node, Sent, Shows, Leads}
+use Rattle.pair_protocol.proofs.Recorded.{recorded-runs, recorded-append}
+use Rattle.pair_rule.proofs.QuietSteps.{QuietMoves, quiet_moves, quiet_count, quiet_first, notes_more}
 use Rattle.pair_rule.proofs.Knowing.{among_last}
 use Rattle.pair_rule.proofs.Growing.{held_short}
 use Rattle.pair_rule.proofs.Steady.{serving, first_node, more_sent, index_of}
+use Rattle.disk_dcdd.specs.declared.controller.TheConstants.{GREATEST_NUMBER}
 
 -- ---- lists
 
@@ -59,43 +62,6 @@ last_of : (c : ℕ) (es : List Entry) (e : Entry) → last_count c (es ++ e ∷ 
 last_of c [] e = refl
 last_of c (x ∷ es) e = last_of (count_of x) es e
 
-notes_more : (c : ℕ) (log : List Entry) (ns : List Note) (xs ys : List Move) → notes_from c log ns (xs ++ ys) ≡ notes_from (c + steps xs) (log ++ entries c xs) (notes_from c log ns xs) ys
-notes_more c log ns [] ys = λ i. notes_from (let e : c ≡ c + 0 = omega arith in e i) (sym (append-nil log) i) ns ys
-notes_more c log ns (Do o ∷ xs) ys = notes_more (suc c) (log ++ marks (suc c) o) (notes_after ns log o) xs ys
-    ∙ (λ i. notes_from (let e : suc c + steps xs ≡ c + suc (steps xs) = omega arith in e i) (append_assoc log (marks (suc c) o) (entries (suc c) xs) i) (notes_from (suc c) (log ++ marks (suc c) o) (notes_after ns log o) xs) ys)
-notes_more c log ns (Take x ∷ xs) ys = notes_more c (log ++ entry_of c x ∷ []) ns xs ys
-    ∙ (λ i. notes_from (c + steps xs) (append_assoc log (entry_of c x ∷ []) (entries c xs) i) (notes_from c (log ++ entry_of c x ∷ []) ns xs) ys)
-
--- ---- quiet steps
-
-pub record QuietMoves {S : Type 0} (M : Machine S) (s : S) (n : ℕ) (t : S) : Type 0 where
-  pub moves : List Move
-  pub runs : Runs M s moves t
-  pub silent : (c : ℕ) → entries c moves ≡ []
-  pub count : steps moves ≡ n
-  pub notes : (c : ℕ) (log : List Entry) (ns : List Note) → notes_from c log ns moves ≡ ns
-  pub bare : (c : ℕ) → inputs c moves ≡ []
-
-pub quiet_moves : {S : Type 0} (M : Machine S) (s : S) (n : ℕ) (t : S) → Quiet M s n t → QuietMoves M s n t
-quiet_moves M s n t Begin = record { moves = []; runs = refl; silent = λ c. refl; count = refl; notes = λ c log ns. refl; bare = λ c. refl }
-quiet_moves M s m u (More {n = n} {t = t} q free step) = let r = quiet_moves M s n t q in record {
-  moves = r.moves ++ Do None ∷ [];
-  runs = runs-append M s t u r.moves (Do None ∷ []) r.runs (u, step, refl);
-  silent = λ c. entries-append c r.moves (Do None ∷ []) ∙ ap (λ l. l ++ []) (r.silent c);
-  count = steps-append r.moves (Do None ∷ []) ∙ (let e = r.count in omega arith);
-  notes = λ c log ns. notes_more c log ns r.moves (Do None ∷ []) ∙ r.notes c log ns;
-  bare = λ c. inputs-append c r.moves (Do None ∷ []) ∙ ap (λ l. l ++ []) (r.bare c);
-}
-
-quiet_count : {S : Type 0} (M : Machine S) → Counts M → (s : S) (n : ℕ) (t : S) → Quiet M s n t → M.count t ≡ M.count s + n
-quiet_count M counts s n t Begin = (let e : M.count s ≡ M.count s + 0 = omega arith in e)
-quiet_count M counts s m u (More {n = n} {t = t} q free step) = let a = quiet_count M counts s n t q in let b = counts.by_step t u None step in omega arith
-
--- where quiet steps lead to a state that steps, the first state steps
-quiet_first : {S : Type 0} (M : Machine S) (s : S) (n : ℕ) (t : S) (x : S × Option Operation) → Quiet M s n t → M.step t ≡ Some x → (y : S × Option Operation) × (M.step s ≡ Some y)
-quiet_first M s n t x Begin e = (x, e)
-quiet_first M s m u x (More {n = n} {t = t} q free step) e = quiet_first M s n t (u, None) q step
-
 too_low : (a b : ℕ) → a < b → nat_le b a ≡ false
 too_low a b lt = grind arith
 
@@ -114,6 +80,11 @@ not_true : (b : Bool) → (b ≡ true → ⊥) → b ≡ false
 not_true true n = absurd (n refl)
 not_true false n = refl
 
+-- there is room for one more key
+key_room : {S : Type 0} (M : Machine S) (n : ℕ) → n < GREATEST_NUMBER → n < top
+unfolding top
+key_room M n room = room
+
 module _ {S : Type 0} (M : Machine S) (C : Copying S) (counts : Counts M) (laws : Lawful M) (typed0 typed1 : List ℕ) (k : Knowledge) (w : World S) (z : Shows M typed0 typed1 k w) (st : Stands k) (none : k.primary.winner ≡ 0)
     (few : length k.primary.list < top) (room : length k.primary.list < k.primary.seen + 256) where
   abbrev list : List Entry
@@ -121,6 +92,10 @@ module _ {S : Type 0} (M : Machine S) (C : Copying S) (counts : Counts M) (laws 
 
   abbrev here : Node S
   here = serving M C typed0 typed1 k w z
+
+  -- the run that is shown
+  abbrev runs : Runs M M.boot z.moves z.s
+  runs = recorded-runs M M.boot z.s z.moves z.recorded
 
   -- the primary, at a later state
   abbrev at : S → Node S
@@ -151,11 +126,11 @@ module _ {S : Type 0} (M : Machine S) (C : Copying S) (counts : Counts M) (laws 
 
   -- where events lead to a primary with the entry, the entry is sent
   finish : (e : Entry) (moves : List Move) (u : S) (v : World S) (events : List Event) (replies : List Reply)
-      → Runs M M.boot moves u → entries 0 moves ≡ list ++ e ∷ [] → M.count u ≡ count_of e → Happens M C w events replies v
+      → Recorded M M.boot moves u → entries 0 moves ≡ list ++ e ∷ [] → M.count u ≡ count_of e → Happens M C w events replies v
       → v.nodes ≡ then_node e moves u ∷ backup_node M k ∷ [] → Sent k v.messages → v.terminals ≡ w.terminals → v.winners ≡ w.winners → v.puts ≡ w.puts
       → IsPrefix z.moves moves → ((n : ℕ) → IsDone n moves → HasWrite k.disk.puts n)
       → Leads M C typed0 typed1 (appended e k) w
-  finish e moves u v events replies runs entered count run nodes sent terminals winners puts below done = let y : Node S = then_node e moves u in let message : Message = LogEntry 1 (length list) e in record {
+  finish e moves u v events replies recorded entered count run nodes sent terminals winners puts below done = let y : Node S = then_node e moves u in let message : Message = LogEntry 1 (length list) e in record {
     events = events ++ Send 0 (length list) ∷ [];
     replies = replies ++ MessageIs (length v.messages) ∷ [];
     new = with_message v message;
@@ -168,7 +143,7 @@ module _ {S : Type 0} (M : Machine S) (C : Copying S) (counts : Counts M) (laws 
     shows = record {
       moves = moves;
       s = u;
-      runs = runs;
+      recorded = recorded;
       entries_are = entered;
       count = count ∙ sym (last_of 0 list e);
       nodes = nodes ∙ (λ i. record y { role = primary_role (sym none i); running = primary_runs (sym none i) } ∷ backup_node M k ∷ []);
@@ -184,6 +159,7 @@ module _ {S : Type 0} (M : Machine S) (C : Copying S) (counts : Counts M) (laws 
       puts = puts ∙ z.puts;
       issued = λ o at. among-prefix o (operations z.moves) (operations moves) (operations-prefix z.moves moves below) (z.issued o at);
       done = done;
+      first_reads = z.first_reads;
     };
   }
 
@@ -192,14 +168,14 @@ module _ {S : Type 0} (M : Machine S) (C : Copying S) (counts : Counts M) (laws 
   longer_entries n t r last = entries-append 0 z.moves (r.moves ++ last ∷ [])
       ∙ (λ i. z.entries_are i ++ entries-append (0 + steps z.moves) r.moves (last ∷ []) i)
       ∙ ap (λ l. list ++ (l ++ entries (0 + steps z.moves + steps r.moves) (last ∷ []))) (r.silent (0 + steps z.moves))
-      ∙ ap (λ c. list ++ entries c (last ∷ [])) (let a = laws.counts z.moves z.s z.runs in let b = r.count in omega arith)
+      ∙ ap (λ c. list ++ entries c (last ∷ [])) (let a = laws.counts z.moves z.s runs in let b = r.count in omega arith)
 
   longer_notes : (n : ℕ) (t : S) (r : QuietMoves M z.s n t) (last : Move) → notes_from 0 [] [] (z.moves ++ (r.moves ++ last ∷ [])) ≡ notes_from (M.count z.s + n) list (notes_from 0 [] [] z.moves) (last ∷ [])
   longer_notes n t r last = let c : ℕ = 0 + steps z.moves in notes_more 0 [] [] z.moves (r.moves ++ last ∷ [])
       ∙ ap (λ (es : List Entry). notes_from c es (notes_from 0 [] [] z.moves) (r.moves ++ last ∷ [])) z.entries_are
       ∙ notes_more c list (notes_from 0 [] [] z.moves) r.moves (last ∷ [])
       ∙ (λ i. notes_from (c + steps r.moves) (list ++ r.silent c i) (r.notes c list (notes_from 0 [] [] z.moves) i) (last ∷ []))
-      ∙ (λ i. notes_from (let e : c + steps r.moves ≡ M.count z.s + n = (let a = laws.counts z.moves z.s z.runs in let b = r.count in omega arith) in e i) (append-nil list i) (notes_from 0 [] [] z.moves) (last ∷ []))
+      ∙ (λ i. notes_from (let e : c + steps r.moves ≡ M.count z.s + n = (let a = laws.counts z.moves z.s runs in let b = r.count in omega arith) in e i) (append-nil list i) (notes_from 0 [] [] z.moves) (last ∷ []))
 
   -- a write that is done after quiet steps and one move more
   longer_done : (n : ℕ) (t : S) (r : QuietMoves M z.s n t) (last : Move) → ((c number : ℕ) → Among (Written number) (map (λ (x : Timed). x.input) (inputs c (last ∷ []))) → HasWrite k.disk.puts number)
@@ -228,7 +204,7 @@ module _ {S : Type 0} (M : Machine S) (C : Copying S) (counts : Counts M) (laws 
       let x = quiet_first M z.s n t (u, Some o) q step in
       let same : M.count u ≡ suc (M.count z.s + n) = omega arith in
       finish e moves u (with_node w 0 y) (Step 0 (suc n) ∷ []) (Ran (suc n) (M.count u) (Gave (id_of o)) ∷ [])
-      (runs-append M M.boot z.s u z.moves (r.moves ++ Do (Some o) ∷ []) z.runs (runs-append M z.s t u r.moves (Do (Some o) ∷ []) r.runs (u, step, refl)))
+      (recorded-append M M.boot z.s u z.moves (r.moves ++ Do (Some o) ∷ []) z.recorded (recorded-append M z.s t u r.moves (Do (Some o) ∷ []) r.recorded (u, step, refl)))
       (longer_entries n t r (Do (Some o)) ∙ ap (λ c. list ++ Mark c ∷ []) (sym same)) refl
       (First (Accepts (step_allowed n x.0 x.1) record {
         x = here;
@@ -280,16 +256,16 @@ module _ {S : Type 0} (M : Machine S) (C : Copying S) (counts : Counts M) (laws 
   abbrev taken : S → S → Input → Node S
   taken t u i = primary_takes M (at t) u i
 
-  input_leads : (n : ℕ) (t u : S) (i : Input) → Quiet M z.s n t → M.take t i ≡ Some u → (events : List Event) (replies : List Reply) (v : World S)
+  input_leads : (n : ℕ) (t u : S) (i : Input) → Quiet M z.s n t → IsAccepted M t i u → (events : List Event) (replies : List Reply) (v : World S)
       → Happens M C (with_node w 0 (at t)) events replies v → v.nodes ≡ taken t u i ∷ backup_node M k ∷ [] → Sent k v.messages → v.terminals ≡ w.terminals → v.winners ≡ w.winners → v.puts ≡ w.puts → Tells i
       → Leads M C typed0 typed1 (appended (entry_of (M.count t) i) k) w
-  input_leads n t u i q takes events replies v run nodes sent terminals winners puts tells =
+  input_leads n t u i q accepts events replies v run nodes sent terminals winners puts tells =
       let r = quiet_moves M z.s n t q in let e : Entry = entry_of (M.count t) i in let moves : List Move = z.moves ++ (r.moves ++ Take i ∷ []) in
       let counted = quiet_count M counts z.s n t q in let first = quiet_event n t q in
       finish e moves u v (Step 0 n ∷ events) (first.0 ∷ replies)
-      (runs-append M M.boot z.s u z.moves (r.moves ++ Take i ∷ []) z.runs (runs-append M z.s t u r.moves (Take i ∷ []) r.runs (u, takes, refl)))
+      (recorded-append M M.boot z.s u z.moves (r.moves ++ Take i ∷ []) z.recorded (recorded-append M z.s t u r.moves (Take i ∷ []) r.recorded (u, accepts, refl)))
       (longer_entries n t r (Take i) ∙ ap (λ c. list ++ entry_of c i ∷ []) (sym counted))
-      (counts.by_input t u i takes ∙ sym (count_entry (M.count t) i))
+      (counts.by_input t u i accepts.taken ∙ sym (count_entry (M.count t) i))
       (run_more w (Step 0 n ∷ []) (first.0 ∷ []) (with_node w 0 (at t)) v events replies first.1 run)
       (nodes ∙ (λ j. record (taken t u i) {
         list = sym (inputs_of-append list (e ∷ []) ∙ ap (λ l. inputs_of list ++ (l ++ [])) (timed_entry (M.count t) i)) j;
@@ -304,54 +280,54 @@ module _ {S : Type 0} (M : Machine S) (C : Copying S) (counts : Counts M) (laws 
   then_nodes t y = ap (λ l. slice_set (slice_set l 0 (at t)) 0 y) z.nodes
 
   -- a key that was typed
-  pub key_leads : (n : ℕ) (t u : S) (port byte : ℕ) → Quiet M z.s n t → M.take t (input.Rx port byte) ≡ Some u → slice_get (terminal w port).typed (M.keys t port) ≡ Some byte → M.keys t port < top
+  pub key_leads : (n : ℕ) (t u : S) (port byte : ℕ) → Quiet M z.s n t → IsAccepted M t (input.Rx port byte) u → slice_get (terminal w port).typed (M.keys t port) ≡ Some byte
       → Leads M C typed0 typed1 (appended (entry_of (M.count t) (input.Rx port byte)) k) w
-  key_leads n t u port byte q takes typed short = let w1 : World S = with_node w 0 (at t) in
-      input_leads n t u (input.Rx port byte) q takes (TakeKey 0 port (M.keys t port) ∷ []) (Taken ∷ []) (with_node w1 0 (taken t u (input.Rx port byte)))
+  key_leads n t u port byte q accepts typed = let short : M.keys t port < top = key_room M (M.keys t port) accepts.room in let w1 : World S = with_node w 0 (at t) in
+      input_leads n t u (input.Rx port byte) q accepts (TakeKey 0 port (M.keys t port) ∷ []) (Taken ∷ []) (with_node w1 0 (taken t u (input.Rx port byte)))
       (First (Accepts ((λ i. first_of (fault_if (is_none (typed i)) Unknown ∷ at_node (there_at t i) (key_refusal M port (M.keys t port)) ∷ []))
       ∙ (λ i. first_of (first_of (fault_if (not (eq-eqb (M.keys t port) (M.keys t port) refl i)) WrongNumber ∷ fault_if (no_full i) LogFull ∷ fault_if (no_spent i) Spent ∷ fault_if (too_low (M.keys t port) top short i) Spent ∷ []) ∷ [])))
-      record { byte = byte; typed = typed; input = record { x = at t; there = there_at t; s = u; takes = takes; reply = refl; after = refl } }) Nothing)
+      record { byte = byte; typed = typed; input = record { x = at t; there = there_at t; s = u; takes = accepts.taken; reply = refl; after = refl } }) Nothing)
       (then_nodes t (taken t u (input.Rx port byte))) z.sent refl refl refl (λ m e. absurd (let c : Written m ≡ bare (input.Rx port byte) = e in cc))
 
   -- the acceptance of a byte that its terminal has counted
-  pub sent_leads : (n : ℕ) (t u : S) (port number : ℕ) → Quiet M z.s n t → M.take t (input.Sent port) ≡ Some u → M.due_byte t port ≡ Some number → 1 ≤ number → number ≤ length (accepted w port)
+  pub sent_leads : (n : ℕ) (t u : S) (port number : ℕ) → Quiet M z.s n t → IsAccepted M t (input.Sent port) u → M.due_byte t port ≡ Some number → 1 ≤ number → number ≤ length (accepted w port)
       → Leads M C typed0 typed1 (appended (entry_of (M.count t) (input.Sent port)) k) w
-  sent_leads n t u port number q takes due some came = let w1 : World S = with_node w 0 (at t) in
-      input_leads n t u (input.Sent port) q takes (TellSent 0 port number ∷ []) (Taken ∷ []) (with_node w1 0 (taken t u (input.Sent port)))
+  sent_leads n t u port number q accepts due some came = let w1 : World S = with_node w 0 (at t) in
+      input_leads n t u (input.Sent port) q accepts (TellSent 0 port number ∷ []) (Taken ∷ []) (with_node w1 0 (taken t u (input.Sent port)))
       (First (Accepts (let a : (number == 0) ≡ false = ne_eqb number 0 (λ e. omega arith) in let b : nat_lt (length (accepted w port)) number ≡ false = grind arith in
       (λ i. first_of (fault_if (a i || b i) Unknown ∷ at_node (there_at t i) (sent_refusal M port number) ∷ []))
       ∙ (λ i. first_of (first_of (fault_if (is_none (due i)) NotDue ∷ fault_if (not (is_number (due i) number)) WrongNumber ∷ fault_if (no_full i) LogFull ∷ fault_if (no_spent i) Spent ∷ []) ∷ []))
       ∙ (λ i. first_of (first_of (None ∷ fault_if (not (eq-eqb number number refl i)) WrongNumber ∷ None ∷ None ∷ []) ∷ [])))
-      record { x = at t; there = there_at t; s = u; takes = takes; reply = refl; after = refl }) Nothing)
+      record { x = at t; there = there_at t; s = u; takes = accepts.taken; reply = refl; after = refl }) Nothing)
       (then_nodes t (taken t u (input.Sent port))) z.sent refl refl refl (λ m e. absurd (let c : Written m ≡ bare (input.Sent port) = e in cc))
 
   -- a write that the disk has answered
-  pub done_leads : (n : ℕ) (t u : S) (number : ℕ) → Quiet M z.s n t → M.take t (input.Written number) ≡ Some u → refusal_of M t (input.Written number) ≡ None → Among (WriteDone number) w.messages → HasWrite k.disk.puts number
+  pub done_leads : (n : ℕ) (t u : S) (number : ℕ) → Quiet M z.s n t → IsAccepted M t (input.Written number) u → Among (WriteDone number) w.messages → HasWrite k.disk.puts number
       → Leads M C typed0 typed1 (appended (entry_of (M.count t) (input.Written number)) k) w
-  done_leads n t u number q takes free at_disk put = let w1 : World S = with_node w 0 (at t) in let m = index_of (WriteDone number) w.messages at_disk in
-      input_leads n t u (input.Written number) q takes (PutReply m.0 0 ∷ []) (Taken ∷ []) (with_node w1 0 (taken t u (input.Written number)))
+  done_leads n t u number q accepts at_disk put = let w1 : World S = with_node w 0 (at t) in let m = index_of (WriteDone number) w.messages at_disk in
+      input_leads n t u (input.Written number) q accepts (PutReply m.0 0 ∷ []) (Taken ∷ []) (with_node w1 0 (taken t u (input.Written number)))
       (First (Accepts ((λ i. at_done M (there_at t i) (m.1 i))
-      ∙ (λ i. first_of (free i ∷ fault_if (no_full i) LogFull ∷ fault_if (no_spent i) Spent ∷ [])))
-      record { number = number; message = m.1; input = record { x = at t; there = there_at t; s = u; takes = takes; reply = refl; after = refl } }) Nothing)
+      ∙ (λ i. first_of (accepts.allowed i ∷ fault_if (no_full i) LogFull ∷ fault_if (no_spent i) Spent ∷ [])))
+      record { number = number; message = m.1; input = record { x = at t; there = there_at t; s = u; takes = accepts.taken; reply = refl; after = refl } }) Nothing)
       (then_nodes t (taken t u (input.Written number))) z.sent refl refl refl (λ m e. subst (HasWrite k.disk.puts) (sym (same_number m number e)) put)
 
   -- a sector that the disk read: its record is still the same
-  pub sector_leads : (n : ℕ) (t u : S) (drive sector number : ℕ) (bytes : List ℕ) → Quiet M z.s n t → M.take t (input.Sector drive sector number bytes) ≡ Some u → refusal_of M t (input.Sector drive sector number bytes) ≡ None
-      → sector < 32 → M.selected t ≡ Some drive → M.address t drive sector ≡ record (M.address t drive sector) { drive = drive; sector = sector }
+  pub sector_leads : (n : ℕ) (t u : S) (drive sector number : ℕ) (bytes : List ℕ) → Quiet M z.s n t → IsAccepted M t (input.Sector drive sector number bytes) u
+      → M.selected t ≡ Some drive → M.address t drive sector ≡ record (M.address t drive sector) { drive = drive; sector = sector }
       → sector_record M w.puts (M.address t drive sector) ≡ record { number = number; bytes = bytes }
       → Leads M C typed0 typed1 (appended (entry_of (M.count t) (input.Sector drive sector number bytes)) k) w
-  sector_leads n t u drive sector number bytes q takes free small selected placed still =
+  sector_leads n t u drive sector number bytes q accepts selected placed still =
       let w1 : World S = with_node w 0 (at t) in let i : Input = input.Sector drive sector number bytes in let address : SectorAddress = M.address t drive sector in
       let w2 : World S = with_read M w1 address in
       let read : slice_get w2.messages (length w.messages) ≡ Some (SectorRead (record address { drive = drive; sector = sector }) number bytes) = get_last w.messages (SectorRead address (sector_record M w.puts address).number (sector_record M w.puts address).bytes)
       ∙ (λ j. Some (SectorRead (placed j) (still j).number (still j).bytes)) in
       let same : same_address (M.address t drive sector) (record address { drive = drive; sector = sector }) ≡ true = ap (λ a. same_address (M.address t drive sector) a) (sym placed) ∙ same_self (M.address t drive sector) in
-      input_leads n t u i q takes (Get 0 sector ∷ GetReply (length w.messages) 0 ∷ []) (MessageIs (length w.messages) ∷ Taken ∷ []) (with_node w2 0 (taken t u i))
-      (First (Accepts (let a : nat_le 32 sector ≡ false = too_low sector 32 small in
+      input_leads n t u i q accepts (Get 0 sector ∷ GetReply (length w.messages) 0 ∷ []) (MessageIs (length w.messages) ∷ Taken ∷ []) (with_node w2 0 (taken t u i))
+      (First (Accepts (let a : nat_le 32 sector ≡ false = too_low sector 32 accepts.is_input.1 in
       (λ j. first_of (fault_if (a j) Unknown ∷ at_node (there_at t j) (place_refusal M) ∷ []))
       ∙ (λ j. first_of (first_of (fault_if (is_none (selected j)) NotDue ∷ []) ∷ [])))
       record { x = at t; there = there_at t; drive = drive; selected = selected; reply = refl; after = refl })
       (First (Accepts ((λ j. at_under M (there_at t j) (read j))
-      ∙ (λ j. first_of (fault_if (not (same j)) NotDue ∷ free j ∷ fault_if (no_full j) LogFull ∷ fault_if (no_spent j) Spent ∷ [])))
-      record { address = record address { drive = drive; sector = sector }; number = number; bytes = bytes; message = read; input = record { x = at t; there = there_at t; s = u; takes = takes; reply = refl; after = refl } }) Nothing))
+      ∙ (λ j. first_of (fault_if (not (same j)) NotDue ∷ accepts.allowed j ∷ fault_if (no_full j) LogFull ∷ fault_if (no_spent j) Spent ∷ [])))
+      record { address = record address { drive = drive; sector = sector }; number = number; bytes = bytes; message = read; input = record { x = at t; there = there_at t; s = u; takes = accepts.taken; reply = refl; after = refl } }) Nothing))
       (then_nodes t (taken t u i)) (more_sent k w.messages (SectorRead address (sector_record M w.puts address).number (sector_record M w.puts address).bytes ∷ []) z.sent) refl refl refl (λ m e. absurd (let c : Written m ≡ bare (input.Sector drive sector number bytes) = e in cc))

@@ -9,12 +9,12 @@ use Rattle.pair_protocol.specs.Laws.{RowIsChanges, ChangesReach}
 use Rattle.pair_protocol.specs.Row.{Row, Accepts}
 use Rattle.pair_protocol.specs.World.{World, opening}
 use Rattle.pair_rule.specs.Knowledge.{Stands}
-use Rattle.pair_rule.specs.Rules.{first_know}
+use Rattle.pair_rule.specs.Rules.{first_known}
 use Rattle.pair_rule.specs.Law.{Begun, StartsShown}
 use Rattle.pair_rule.specs.Shown.{Happens, First, Nothing, Shows}
 use Rattle.pair_rule.proofs.Law.{run_reaches}
 
-first_stands : (g : ℕ) → Stands (first_know g)
+first_stands : (g : ℕ) → Stands (first_known g)
 first_stands g = record {
   prefix = ([], refl);
   in_link = tt;
@@ -64,11 +64,11 @@ module _ {S : Type 0} (M : Machine S) (C : Copying S) where
   then_on a b c es fs rs qs Nothing more = more
   then_on a b c es fs rs qs (First {mid = v} {events = es'} {replies = rs'} row rest) more = First row (then_on v b c es' fs rs' qs rest more)
 
-  shows_first : Lawful M → (typed0 typed1 : List ℕ) → Shows M typed0 typed1 (first_know 1) (typed_world typed0 typed1)
+  shows_first : Lawful M → (typed0 typed1 : List ℕ) → Shows M typed0 typed1 (first_known 1) (typed_world typed0 typed1)
   shows_first laws typed0 typed1 = record {
     moves = [];
     s = M.boot;
-    runs = refl;
+    recorded = refl;
     entries_are = refl;
     count = laws.counts [] M.boot refl;
     nodes = refl;
@@ -78,6 +78,7 @@ module _ {S : Type 0} (M : Machine S) (C : Copying S) where
     puts = refl;
     issued = λ o at. absurd at;
     done = λ n d. absurd d;
+    first_reads = λ r at. absurd at;
   }
 
 pub starts_shown : {S : Type 0} → RowIsChanges S → ChangesReach S → StartsShown S

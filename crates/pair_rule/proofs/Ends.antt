@@ -16,7 +16,7 @@ use Rattle.pair_rule.specs.declared.view.Core.{Core}
 use Rattle.pair_rule.specs.declared.view.SeatView.{SeatView}
 use Rattle.pair_rule.specs.Boxes.{Homes, box_index, Who, Primary, Link, Backup, Terminal, Disk, seat_index, filler, emptier, Laid}
 use Rattle.pair_rule.specs.Knowledge.{words_of, Stands}
-use Rattle.pair_rule.specs.Rules.{SamePart, Sized, Same, Has, has, Facts, Rule, first_know, first_core, first_view, new_side}
+use Rattle.pair_rule.specs.Rules.{SamePart, Sized, Same, Has, has, Facts, Rule, first_known, first_core, first_view, new_side}
 use Rattle.pair_rule.specs.Kinds.{Mine, side_at, with_core, with_slot, takes_first_slot, gives_last_slot, nobody, without, only, which, mixed, know_of, part_of, with_part, spent_view}
 use Rattle.pair_rule.proofs.Slots.{set_both, at_or, box_stays}
 use Rattle.pair_rule.proofs.Places.{laid_first, laid_last, home_else}
@@ -210,7 +210,7 @@ opens g = let v : SeatView = first_view g in record {
   at = λ n. 0;
   seats = λ n. record {
     here = (v, refl, first_has g n);
-    only = λ j w e hw. let a = alone v w j e in (a.0, subst (λ (z : SeatView). Same n z.core (first_core g)) a.1 record { sized = first_sized g; generation = refl; hand = refl; has_slot = refl; fills = λ b e. refl; empties = λ b e. refl; known = same_all n (first_know g) });
+    only = λ j w e hw. let a = alone v w j e in (a.0, subst (λ (z : SeatView). Same n z.core (first_core g)) a.1 record { sized = first_sized g; generation = refl; hand = refl; has_slot = refl; fills = λ b e. refl; empties = λ b e. refl; known = same_all n (first_known g) });
   };
   facts = record {
     generation = refl;
@@ -228,7 +228,7 @@ opens g = let v : SeatView = first_view g in record {
     boxed = λ b w f e aw af ae. let z = box0 b in
         subst (λ (x : ℕ × Side × Side). Rattle.pair_rule.specs.Boxes.Boxed x.0 homes0 x.1 x.2 (Rattle.pair_rule.specs.Boxes.is_full x.0))
         (λ i. (some-injective (box_index b) w (sym z.0 ∙ aw) i, some-injective new_side f (sym z.1 ∙ af) i, some-injective new_side e (sym z.1 ∙ ae) i)) z.2;
-    fitting = λ b f e. let z = box0 b in subst (λ (x : Side). Rattle.pair_rule.specs.Knowledge.WhereSome x.last (Rattle.pair_rule.specs.Knowledge.Fits b (first_know g))) (some-injective new_side f (sym z.1 ∙ e)) tt;
+    fitting = λ b f e. let z = box0 b in subst (λ (x : Side). Rattle.pair_rule.specs.Knowledge.WhereSome x.last (Rattle.pair_rule.specs.Knowledge.Fits b (first_known g))) (some-injective new_side f (sym z.1 ∙ e)) tt;
     stands = record {
       prefix = ([], refl);
       in_link = tt;

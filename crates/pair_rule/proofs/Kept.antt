@@ -27,6 +27,7 @@ use Rattle.pair_protocol.specs.Lawful.{Among, IsDone, IsUnwritten, IsWritten, La
 use Rattle.pair_protocol.specs.Refusals.{no_such, fault_if}
 use Rattle.pair_protocol.specs.World.{World, SectorRecord, sector_record, Terminal}
 use Rattle.pair_protocol.proofs.Moves.{among-left, operations-append, inputs-append, runs-append}
+use Rattle.pair_protocol.proofs.Recorded.{recorded-runs}
 use Rattle.pair_protocol.proofs.Disk.{AsBefore, LatestIs, OfPut, latest_all, latest_is, same_address-refl}
 use Rattle.pair_protocol.proofs.Serving.{sector-done}
 use Rattle.pair_rule.specs.declared.payload.DiskAnswer.TheVariants as answer
@@ -35,7 +36,15 @@ use Rattle.pair_rule.specs.Knowledge.{Stands, HasWrite, IsReplied}
 use Rattle.pair_rule.specs.Law.{HasPort}
 use Rattle.pair_rule.specs.Shown.{Shows}
 use Rattle.pair_rule.proofs.Guards.{all_in}
-use Rattle.pair_rule.proofs.Appends.{QuietMoves, quiet_moves}
+use Rattle.pair_rule.proofs.QuietSteps.{QuietMoves, quiet_moves}
+
+-- a sector that is not refused is ready
+pub is_ready : {S : Type 0} (M : Machine S) (s : S) (address : SectorAddress) (number : ℕ) → sector_refusal M s address number ≡ None → M.ready s address ≡ true
+is_ready M s address number h = go (M.ready s address) (M.busy s address) (M.done s address == number) h
+  where
+    go : (a b c : Bool) → cond (not a) (Some NotDue) (cond b (Some SectorBusy) (cond (not c) (Some StaleRead) None)) ≡ None → a ≡ true
+    go true b c k = refl
+    go false b c k = (cc)
 
 -- a sector that is not refused is not busy
 not_busy : {S : Type 0} (M : Machine S) (s : S) (address : SectorAddress) (number : ℕ) → sector_refusal M s address number ≡ None → M.busy s address ≡ false
@@ -65,7 +74,7 @@ module _ {S : Type 0} (M : Machine S) (laws : Lawful M) (typed0 typed1 : List �
 
     runs : Runs M M.boot moves t
     unfolding moves more
-    runs = runs-append M M.boot z.s t z.moves more.moves z.runs more.runs
+    runs = runs-append M M.boot z.s t z.moves more.moves (recorded-runs M M.boot z.s z.moves z.recorded) (recorded-runs M z.s t more.moves more.recorded)
 
     last : M.done t q ≡ r.number
     unfolding q

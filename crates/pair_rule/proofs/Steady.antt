@@ -28,6 +28,7 @@ use Rattle.pair_rule.specs.declared.payload.DiskAnswer.TheVariants as answer
 use Rattle.pair_rule.specs.Knowledge.{last_or, winner_of, WhereSome, IsAsked, IsEntryOf, Stands, held, saw, grown, after_empty, after_fill, put_by, arrives, byte_arrived, primary_asked, backup_asked}
 use Rattle.pair_rule.specs.Shown.{primary_role, primary_runs, backup_role, backup_runs, primary_node, backup_node, winners_of, terminals_of, arrival_of, notes_from, hand_of, Sent, Shows, Leads}
 use Rattle.plain_single.specs.Reach.{operations}
+use Rattle.shared_disk.specs.declared.disk.SectorRead.{SectorRead}
 use Rattle.pair_rule.proofs.Knowing.{among_more, among_last, put_more}
 use Rattle.pair_rule.proofs.Growing.{last_among, held_short}
 
@@ -44,9 +45,16 @@ more_sent k messages more t = record {
   writes = λ n at. among_more (WriteDone n) messages more (t.writes n at);
 }
 
-among_either : {A : Type 0} (x y : A) (xs : List A) → Among x (xs ++ y ∷ []) → Among x xs ⊎ (x ≡ y)
+pub among_either : {A : Type 0} (x y : A) (xs : List A) → Among x (xs ++ y ∷ []) → Among x xs ⊎ (x ≡ y)
 among_either x y [] a = ⊎_elim (λ e. inr e) (λ i. absurd i) a
 among_either x y (z ∷ xs) a = ⊎_elim (λ e. inl (inl e)) (λ i. ⊎_elim (λ j. inl (inr j)) (λ e. inr e) (among_either x y xs i)) a
+
+-- of the answers with one of a write more, those of reads are as before
+no_read : (r : SectorRead) (n : ℕ) (given : List DiskAnswer) → Among (answer.Read r) (given ++ answer.Written n ∷ []) → Among (answer.Read r) given
+no_read r n [] (inl e) = absurd (let c : answer.Read r ≡ answer.Written n = e in cc)
+no_read r n [] (inr a) = a
+no_read r n (x ∷ given) (inl e) = inl e
+no_read r n (x ∷ given) (inr a) = inr (no_read r n given a)
 
 -- a list that is read as tables are read
 pub read_slice : {A : Type 0} (l : List A) (i : ℕ) (x : A) → get_elem? l i ≡ some x → slice_get l i ≡ Some x
@@ -86,7 +94,7 @@ module _ {S : Type 0} (M : Machine S) (C : Copying S) (typed0 typed1 : List ℕ)
     shows = record {
       moves = z.moves;
       s = z.s;
-      runs = z.runs;
+      recorded = z.recorded;
       entries_are = z.entries_are;
       count = z.count;
       nodes = z.nodes;
@@ -101,6 +109,7 @@ module _ {S : Type 0} (M : Machine S) (C : Copying S) (typed0 typed1 : List ℕ)
       puts = z.puts;
       issued = z.issued;
       done = z.done;
+      first_reads = z.first_reads;
     };
   }
 
@@ -109,7 +118,7 @@ module _ {S : Type 0} (M : Machine S) (C : Copying S) (typed0 typed1 : List ℕ)
   saw_shows n v nodes messages terminals winners puts = record {
     moves = z.moves;
     s = z.s;
-    runs = z.runs;
+    recorded = z.recorded;
     entries_are = z.entries_are;
     count = z.count;
     nodes = nodes;
@@ -119,6 +128,7 @@ module _ {S : Type 0} (M : Machine S) (C : Copying S) (typed0 typed1 : List ℕ)
     puts = puts ∙ z.puts;
     issued = z.issued;
     done = z.done;
+    first_reads = z.first_reads;
   }
 
   see_none : (n : ℕ) → n ≡ k.primary.seen → Leads M C typed0 typed1 (saw n k) w
@@ -155,7 +165,7 @@ module _ {S : Type 0} (M : Machine S) (C : Copying S) (typed0 typed1 : List ℕ)
     shows = record {
       moves = z.moves;
       s = z.s;
-      runs = z.runs;
+      recorded = z.recorded;
       entries_are = z.entries_are;
       count = z.count;
       nodes = ap (λ l. slice_set l 1 (holds waiting p.entry)) z.nodes ∙ (λ i. primary_node k z.moves z.s ∷ record (holds waiting p.entry) { role = backup_role (sym none i); running = backup_runs (sym none i) } ∷ []);
@@ -165,6 +175,7 @@ module _ {S : Type 0} (M : Machine S) (C : Copying S) (typed0 typed1 : List ℕ)
       puts = z.puts;
       issued = z.issued;
       done = z.done;
+      first_reads = z.first_reads;
     };
   }
   take_one p none m there false is = record {
@@ -176,7 +187,7 @@ module _ {S : Type 0} (M : Machine S) (C : Copying S) (typed0 typed1 : List ℕ)
     shows = record {
       moves = z.moves;
       s = z.s;
-      runs = z.runs;
+      recorded = z.recorded;
       entries_are = z.entries_are;
       count = z.count;
       nodes = z.nodes;
@@ -186,6 +197,7 @@ module _ {S : Type 0} (M : Machine S) (C : Copying S) (typed0 typed1 : List ℕ)
       puts = z.puts;
       issued = z.issued;
       done = z.done;
+      first_reads = z.first_reads;
     };
   }
 
@@ -204,7 +216,7 @@ module _ {S : Type 0} (M : Machine S) (C : Copying S) (typed0 typed1 : List ℕ)
         shows = record {
           moves = z.moves;
           s = z.s;
-          runs = z.runs;
+          recorded = z.recorded;
           entries_are = z.entries_are;
           count = z.count;
           nodes = z.nodes;
@@ -221,6 +233,7 @@ module _ {S : Type 0} (M : Machine S) (C : Copying S) (typed0 typed1 : List ℕ)
           puts = ap (λ l. l ++ write ∷ []) z.puts ∙ ap (λ t. put_by t k.disk.puts) (sym is);
           issued = z.issued;
           done = λ n d. let h = z.done n d in (h.0, put_more k.disk.taken k.disk.puts h.0 h.1, h.2);
+          first_reads = λ r at. z.first_reads r (no_read r write.number k.disk.given at);
         };
       }
     where
@@ -241,7 +254,7 @@ module _ {S : Type 0} (M : Machine S) (C : Copying S) (typed0 typed1 : List ℕ)
         shows = record {
           moves = z.moves;
           s = z.s;
-          runs = z.runs;
+          recorded = z.recorded;
           entries_are = z.entries_are;
           count = z.count;
           nodes = ap (λ l. slice_set l 0 (wins serving)) z.nodes;
@@ -251,6 +264,7 @@ module _ {S : Type 0} (M : Machine S) (C : Copying S) (typed0 typed1 : List ℕ)
           puts = z.puts;
           issued = z.issued;
           done = z.done;
+          first_reads = z.first_reads;
         };
       }
 
@@ -266,7 +280,7 @@ module _ {S : Type 0} (M : Machine S) (C : Copying S) (typed0 typed1 : List ℕ)
         shows = record {
           moves = z.moves;
           s = z.s;
-          runs = z.runs;
+          recorded = z.recorded;
           entries_are = z.entries_are;
           count = z.count;
           nodes = ap (λ l. slice_set l 0 (halts serving)) z.nodes;
@@ -276,6 +290,7 @@ module _ {S : Type 0} (M : Machine S) (C : Copying S) (typed0 typed1 : List ℕ)
           puts = z.puts;
           issued = z.issued;
           done = z.done;
+          first_reads = z.first_reads;
         };
       }
 
@@ -291,7 +306,7 @@ module _ {S : Type 0} (M : Machine S) (C : Copying S) (typed0 typed1 : List ℕ)
         shows = record {
           moves = z.moves;
           s = z.s;
-          runs = z.runs;
+          recorded = z.recorded;
           entries_are = z.entries_are;
           count = z.count;
           nodes = ap (λ l. slice_set l 1 (wins waiting)) z.nodes;
@@ -301,6 +316,7 @@ module _ {S : Type 0} (M : Machine S) (C : Copying S) (typed0 typed1 : List ℕ)
           puts = z.puts;
           issued = z.issued;
           done = z.done;
+          first_reads = z.first_reads;
         };
       }
 
@@ -316,7 +332,7 @@ module _ {S : Type 0} (M : Machine S) (C : Copying S) (typed0 typed1 : List ℕ)
         shows = record {
           moves = z.moves;
           s = z.s;
-          runs = z.runs;
+          recorded = z.recorded;
           entries_are = z.entries_are;
           count = z.count;
           nodes = ap (λ l. slice_set l 1 (halts waiting)) z.nodes;
@@ -326,6 +342,7 @@ module _ {S : Type 0} (M : Machine S) (C : Copying S) (typed0 typed1 : List ℕ)
           puts = z.puts;
           issued = z.issued;
           done = z.done;
+          first_reads = z.first_reads;
         };
       }
 
@@ -353,13 +370,13 @@ module _ {S : Type 0} (M : Machine S) (C : Copying S) (typed0 typed1 : List ℕ)
     new = with_message w (Released o);
     run = release_event o (id_of o) there none found covered;
     once = inl refl;
-    shows = record { moves = z.moves; s = z.s; runs = z.runs; entries_are = z.entries_are; count = z.count; nodes = z.nodes; sent = release_shows o; terminals = z.terminals; winners = z.winners; puts = z.puts; issued = λ x at. ⊎_elim (λ (i : Among x k.primary.released). z.issued x i) (λ (e : x ≡ o). subst (λ y. Among y (operations z.moves)) (sym e) given) (among_either x o k.primary.released at); done = z.done };
+    shows = record { moves = z.moves; s = z.s; recorded = z.recorded; entries_are = z.entries_are; count = z.count; nodes = z.nodes; sent = release_shows o; terminals = z.terminals; winners = z.winners; puts = z.puts; issued = λ x at. ⊎_elim (λ (i : Among x k.primary.released). z.issued x i) (λ (e : x ≡ o). subst (λ y. Among y (operations z.moves)) (sym e) given) (among_either x o k.primary.released at); done = z.done; first_reads = z.first_reads };
   }
 
   -- a byte that a terminal has in hand arrives
   arrive_shows : (port : ℕ) (v : World S) → v.nodes ≡ w.nodes → v.messages ≡ w.messages → v.terminals ≡ terminals_of (byte_arrived port k) typed0 typed1 → v.winners ≡ w.winners → v.puts ≡ w.puts → Shows M typed0 typed1 (byte_arrived port k) v
-  arrive_shows zero v nodes messages terminals winners puts = record { moves = z.moves; s = z.s; runs = z.runs; entries_are = z.entries_are; count = z.count; nodes = nodes ∙ z.nodes; sent = subst (Sent (byte_arrived 0 k)) (sym messages) record { logs = z.sent.logs; acks = z.sent.acks; operations = z.sent.operations; writes = z.sent.writes }; terminals = terminals; winners = winners ∙ z.winners; puts = puts ∙ z.puts; issued = z.issued; done = z.done }
-  arrive_shows (suc p) v nodes messages terminals winners puts = record { moves = z.moves; s = z.s; runs = z.runs; entries_are = z.entries_are; count = z.count; nodes = nodes ∙ z.nodes; sent = subst (Sent (byte_arrived (suc p) k)) (sym messages) record { logs = z.sent.logs; acks = z.sent.acks; operations = z.sent.operations; writes = z.sent.writes }; terminals = terminals; winners = winners ∙ z.winners; puts = puts ∙ z.puts; issued = z.issued; done = z.done }
+  arrive_shows zero v nodes messages terminals winners puts = record { moves = z.moves; s = z.s; recorded = z.recorded; entries_are = z.entries_are; count = z.count; nodes = nodes ∙ z.nodes; sent = subst (Sent (byte_arrived 0 k)) (sym messages) record { logs = z.sent.logs; acks = z.sent.acks; operations = z.sent.operations; writes = z.sent.writes }; terminals = terminals; winners = winners ∙ z.winners; puts = puts ∙ z.puts; issued = z.issued; done = z.done; first_reads = z.first_reads }
+  arrive_shows (suc p) v nodes messages terminals winners puts = record { moves = z.moves; s = z.s; recorded = z.recorded; entries_are = z.entries_are; count = z.count; nodes = nodes ∙ z.nodes; sent = subst (Sent (byte_arrived (suc p) k)) (sym messages) record { logs = z.sent.logs; acks = z.sent.acks; operations = z.sent.operations; writes = z.sent.writes }; terminals = terminals; winners = winners ∙ z.winners; puts = puts ∙ z.puts; issued = z.issued; done = z.done; first_reads = z.first_reads }
 
   arrive_event : (port number byte m : ℕ) → slice_get w.messages m ≡ Some (Released (Byte port number byte)) → Happens M C w (Arrive m ∷ []) ((if nat_lt (length (accepted w port)) (length (accepted (with_arrival w port (record { number = number; byte = byte })) port)) then Accepted else Dropped) ∷ []) (with_arrival w port (record { number = number; byte = byte }))
   arrive_event port number byte m there = First (Accepts (ap byte_refusal there) record { port = port; number = number; byte = byte; message = there; reply = refl; after = refl }) Nothing

@@ -69,8 +69,8 @@ pub record Rule (g : ℕ) (s : State (Option Payload) SeatView) : Type 0 where
   pub seats : (n : Who) → Has s.views core n (at n)
   pub facts : Facts g boxes s.homes core
 
-abbrev pub first_know : ℕ → Knowledge
-first_know g = record {
+abbrev pub first_known : ℕ → Knowledge
+first_known g = record {
   generation = g;
   primary = record { list = []; seen = 0; winner = 0; counted0 = 0; counted1 = 0; released = []; answers = [] };
   link = None;
@@ -88,7 +88,7 @@ first_core g = record {
   has_slot = false ∷ false ∷ false ∷ false ∷ false ∷ [];
   fills = new_side ∷ new_side ∷ new_side ∷ new_side ∷ new_side ∷ new_side ∷ [];
   empties = new_side ∷ new_side ∷ new_side ∷ new_side ∷ new_side ∷ new_side ∷ [];
-  known = first_know g;
+  known = first_known g;
 }
 
 abbrev pub first_view : ℕ → SeatView

@@ -2,20 +2,22 @@
 -- copy, and what was sent, accepted and written.
 use Rattle.std.specs.Prelude.{◌≡◌, ◌⊎◌, ℕ, zero, suc, Bool, true, false, Option, Some, None, List, [], ◌∷◌, ◌++◌, map, slice_get}
 use Rattle.event_callbacks.specs.declared.operations.Operation.{Operation}
-use Rattle.guest_board.specs.Machine.{Machine, Move, Do, Take, Runs}
+use Rattle.guest_board.specs.Machine.{Machine, Move, Do, Take}
+use Rattle.guest_board.specs.Recorded.{Recorded}
 use Rattle.log_entry.specs.Entries.{entries, entry_of, inputs_of, last_count, marks}
 use Rattle.log_entry.specs.declared.entry.Entry.{Entry}
 use Rattle.plain_single.specs.Reach.{operations}
+use Rattle.shared_disk.specs.declared.disk.SectorRead.{SectorRead}
 use Rattle.pair_protocol.specs.Lawful.{Among, IsDone}
 use Rattle.pair_protocol.specs.Copying.{Copying}
 use Rattle.pair_protocol.specs.Event.{Event, Reply}
 use Rattle.pair_protocol.specs.Row.{Row}
 use Rattle.pair_protocol.specs.Node.{Node, Note, Role, Primary, Backup, Draining, Alone, notes_after}
 use Rattle.pair_protocol.specs.World.{World, Message, LogEntry, Acknowledgement, Released, WriteDone, Terminal, Arrival, Winner}
-use Rattle.pair_rule.specs.declared.payload.DiskAnswer.TheVariants.{Written}
+use Rattle.pair_rule.specs.declared.payload.DiskAnswer.TheVariants.{Written, Read}
 use Rattle.pair_rule.specs.declared.view.Arrived.{Arrived}
 use Rattle.pair_rule.specs.declared.view.Knowledge.{Knowledge}
-use Rattle.pair_rule.specs.Knowledge.{winner_of, HasWrite}
+use Rattle.pair_rule.specs.Knowledge.{winner_of, read_at, HasWrite}
 
 -- what each operation of moves waits for, at a primary with this count, this log and these notes
 abbrev pub notes_from : ℕ → List Entry → List Note → List Move → List Note
@@ -106,7 +108,7 @@ pub record Sent (k : Knowledge) (messages : List Message) : Type 0 where
 pub record Shows {S : Type 0} (M : Machine S) (typed0 typed1 : List ℕ) (k : Knowledge) (w : World S) : Type 0 where
   pub moves : List Move
   pub s : S
-  pub runs : Runs M M.boot moves s
+  pub recorded : Recorded M M.boot moves s
   pub entries_are : entries 0 moves ≡ k.primary.list
   pub count : M.count s ≡ last_count 0 k.primary.list
   pub nodes : w.nodes ≡ primary_node k moves s ∷ backup_node M k ∷ []
@@ -114,9 +116,11 @@ pub record Shows {S : Type 0} (M : Machine S) (typed0 typed1 : List ℕ) (k : Kn
   pub terminals : w.terminals ≡ terminals_of k typed0 typed1
   pub winners : w.winners ≡ winners_of (winner_of k.primary.winner k.backup.winner)
   pub puts : w.puts ≡ k.disk.puts
-  -- what was released was given by a step, and a write that is done was put
+  -- what was released was given by a step; a write that is done was put; and a sector that the disk read before any
+  -- write has the bytes that it booted with
   pub issued : (o : Operation) → Among o k.primary.released → Among o (operations moves)
   pub done : (n : ℕ) → IsDone n moves → HasWrite k.disk.puts n
+  pub first_reads : (r : SectorRead) → Among (Read r) k.disk.given → r.number ≡ 0 → r.bytes ≡ M.boot_sector (read_at r)
 
 -- events of a pair, one after another
 pub data Happens {S : Type 0} (M : Machine S) (C : Copying S) : World S → List Event → List Reply → World S → Type 0 where
