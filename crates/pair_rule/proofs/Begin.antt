@@ -64,8 +64,8 @@ module _ {S : Type 0} (M : Machine S) (C : Copying S) where
   then_on a b c es fs rs qs Nothing more = more
   then_on a b c es fs rs qs (First {mid = v} {events = es'} {replies = rs'} row rest) more = First row (then_on v b c es' fs rs' qs rest more)
 
-  shows_first : Lawful M → (typed0 typed1 : List ℕ) → Shows M typed0 typed1 (first_known 1) (typed_world typed0 typed1)
-  shows_first laws typed0 typed1 = record {
+  shows_first : Lawful M → (typed0 typed1 : List ℕ) (generation : ℕ) → Shows M typed0 typed1 (first_known generation) (typed_world typed0 typed1)
+  shows_first laws typed0 typed1 generation = record {
     moves = [];
     s = M.boot;
     recorded = refl;
@@ -82,7 +82,7 @@ module _ {S : Type 0} (M : Machine S) (C : Copying S) where
   }
 
 pub starts_shown : {S : Type 0} → RowIsChanges S → ChangesReach S → StartsShown S
-starts_shown rows changes M C laws typed0 typed1 =
+starts_shown rows changes M C laws typed0 typed1 generation =
     let a = type0 M C [] [] typed0 in let b = type1 M C typed0 [] typed1 in
     let run = then_on M C (opening M) (typed_world M C typed0 []) (typed_world M C typed0 typed1) a.0 b.0 a.1 b.1 a.2 b.2 in record {
       events = a.0 ++ b.0;
@@ -90,6 +90,6 @@ starts_shown rows changes M C laws typed0 typed1 =
       world = typed_world M C typed0 typed1;
       run = run;
       reached = run_reaches rows changes M C (opening M) (typed_world M C typed0 typed1) (a.0 ++ b.0) (a.1 ++ b.1) AtBoot run;
-      stands = first_stands 1;
-      shows = shows_first M C laws typed0 typed1;
+      stands = first_stands generation;
+      shows = shows_first M C laws typed0 typed1 generation;
     }

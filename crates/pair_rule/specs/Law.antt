@@ -170,14 +170,16 @@ SilentStepsShow S =
 
 -- ---- the opening: the bytes are typed, and the first core shows that world
 
-pub record Begun {S : Type 0} (M : Machine S) (C : Copying S) (typed0 typed1 : List ℕ) : Type 0 where
+pub record Begun {S : Type 0} (M : Machine S) (C : Copying S) (typed0 typed1 : List ℕ) (generation : ℕ) : Type 0 where
   pub events : List Event
   pub replies : List Reply
   pub world : World S
   pub run : Happens M C (opening M) events replies world
   pub reached : Reached M C world
-  pub stands : Stands (first_known 1)
-  pub shows : Shows M typed0 typed1 (first_known 1) world
+  pub stands : Stands (first_known generation)
+  pub shows : Shows M typed0 typed1 (first_known generation) world
 
 abbrev pub StartsShown : Type 0 → Type 0
-StartsShown S = (M : Machine S) (C : Copying S) → Lawful M → (typed0 typed1 : List ℕ) → Begun M C typed0 typed1
+StartsShown S =
+    (M : Machine S) (C : Copying S) → Lawful M → (typed0 typed1 : List ℕ) (generation : ℕ) →
+    Begun M C typed0 typed1 generation

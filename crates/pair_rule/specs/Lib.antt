@@ -5,3 +5,4 @@ pub mod Kinds
 pub mod Seats
 pub mod Shown
 pub mod Law
+pub mod Threads

@@ -20,7 +20,10 @@ pub use backup::BackupSeat;
 pub use close::Closed;
 pub use disk::DiskSeat;
 pub use fabric::{Fabric, Fault};
-pub use laws::{silent_steps_are_shown, starts_are_shown, steps_are_events, steps_are_faithful};
+pub use laws::{
+    altair_threads_are_faithful, silent_steps_are_shown, starts_are_shown, steps_are_events,
+    steps_are_faithful, threads_are_faithful,
+};
 pub use link::LinkSeat;
 pub use open::FiveSeats;
 pub use payload::{DiskAnswer, DiskRequest, Packet, Payload, PortByte};
