@@ -57,6 +57,15 @@ box_of Answers = refl
 pub one_box : (a b : Mailbox) → box_index a ≡ box_index b → a ≡ b
 one_box a b e = sym (box_of a) ∙ ap box_at e ∙ box_of b
 
+pub index_at : (k : ℕ) → k < 6 → (b : Mailbox) × (box_index b ≡ k)
+index_at zero few = (Outbox, refl)
+index_at (suc zero) few = (Inbox, refl)
+index_at (suc (suc zero)) few = (Bytes0, refl)
+index_at (suc (suc (suc zero))) few = (Bytes1, refl)
+index_at (suc (suc (suc (suc zero)))) few = (Requests, refl)
+index_at (suc (suc (suc (suc (suc zero))))) few = (Answers, refl)
+index_at (suc (suc (suc (suc (suc (suc k)))))) few = absurd (omega arith)
+
 pub few_boxes : (b : Mailbox) → box_index b < 6
 few_boxes Outbox = omega arith
 few_boxes Inbox = omega arith

@@ -1,5 +1,5 @@
 -- What a seat holds after a step.
-use Rattle.std.proofs.Common.{◌≡◌, ◌≢◌, ℕ, zero, suc, ◌+◌, ◌<◌, true, false, List, [], ◌∷◌, length, map, get_or, set, sym, refl, ap, ◌∙◌, subst, arith, length-set, Option, Some, None}
+use Rattle.std.proofs.Common.{◌≡◌, ◌≢◌, ◌↔◌, ℕ, zero, suc, ◌+◌, ◌<◌, ◌^◌, ◌&&◌, nat_lt, Bool, true, false, List, [], ◌∷◌, length, map, get_or, set, sym, refl, ap, ◌∙◌, subst, arith, length-set, Option, Some, None}
 use mathlib.Core.Option.{some}
 use lib.ListN.{get_elem?}
 use Rattle.atomic_table.specs.Table.{rest}
@@ -11,11 +11,11 @@ use Rattle.pair_rule.specs.declared.view.SeatView.{SeatView}
 use Rattle.pair_rule.specs.Rules.{new_side}
 use Rattle.pair_rule.specs.Boxes.{side, box_index, Who, seat_index, filler, emptier, slot_of}
 use Rattle.pair_rule.specs.Kinds.{Mine, nobody, side_at, filled, emptied, found_empty, with_known, with_core, Swapped}
-use Rattle.pair_rule.specs.Seats.{Holds, Keeps, numbers}
+use Rattle.pair_rule.specs.Seats.{Holds, Keeps, numbers, all_below, most_swaps, HasSwapsLeft}
 use Rattle.atomic_table.proofs.Lists.{set_else}
 use Rattle.pair_rule.proofs.Ends.{nobody_has}
-use Rattle.pair_rule.proofs.Chairs.{set_there, few_boxes}
-use Rattle.std.proofs.lemmas.List.{get_or-map, map-set}
+use Rattle.pair_rule.proofs.Chairs.{set_there, few_boxes, index_at}
+use Rattle.std.proofs.lemmas.List.{get_or-map, map-set, length-map}
 
 -- a value is put into the slot in hand
 pub put_in : (s : Who) (me me' : Mine) (slot : ℕ) (y : Option Payload) → Holds s me slot → me' ≡ (me.0, (slot, y) ∷ rest me.1) → me' ≡ (me.0, (slot, y) ∷ [])
@@ -116,5 +116,39 @@ module _ (s : Who) (me me' : Mine) (slot r : ℕ) (fills empties : List ℕ) (k 
   }
 
 -- it has no other seat's part
-pub single_has : (s : Who) (mine : List Rattle.std.proofs.Common.Bool) → mine ≡ set nobody (seat_index s) true → (n : Who) → (seat_index n ≢ seat_index s) → get_elem? mine (seat_index n) ≡ some false
-single_has s mine is n ne = ap (λ (l : List Rattle.std.proofs.Common.Bool). get_elem? l (seat_index n)) is ∙ set_else nobody (seat_index s) (seat_index n) true ne ∙ nobody_has n
+pub single_has : (s : Who) (mine : List Bool) → mine ≡ set nobody (seat_index s) true → (n : Who) → (seat_index n ≢ seat_index s) → get_elem? mine (seat_index n) ≡ some false
+single_has s mine is n ne = ap (λ (l : List Bool). get_elem? l (seat_index n)) is ∙ set_else nobody (seat_index s) (seat_index n) true ne ∙ nobody_has n
+
+-- ---- whether swaps are left
+
+both_true : (a b : Bool) → (a && b) ≡ true → (a ≡ true) × (b ≡ true)
+both_true true b e = (refl, e)
+both_true false b e = absurd cc
+
+true_both : (a b : Bool) → a ≡ true → b ≡ true → (a && b) ≡ true
+true_both a b e d = ap (λ c. c && b) e ∙ d
+
+each_below : (ns : List ℕ) → all_below ns ≡ true → (k : ℕ) → k < length ns → get_or ns k 0 < 2 ^ 40
+each_below [] all k few = absurd (omega arith)
+each_below (n ∷ ns) all zero few = let e = (both_true (nat_lt n most_swaps) (all_below ns) all).0 in grind arith
+each_below (n ∷ ns) all (suc k) few = each_below ns (both_true (nat_lt n most_swaps) (all_below ns) all).1 k (omega arith)
+
+below_each : (ns : List ℕ) → ((k : ℕ) → k < length ns → get_or ns k 0 < 2 ^ 40) → all_below ns ≡ true
+below_each [] each = refl
+below_each (n ∷ ns) each = true_both (nat_lt n most_swaps) (all_below ns) (let l = each 0 (omega arith) in grind arith) (below_each ns (λ k few. each (suc k) (omega arith)))
+
+module _ (sides : List Side) (ns : List ℕ) (six : length sides ≡ 6) (are : ns ≡ numbers sides) where
+  long : length ns ≡ 6
+  long = ap length are ∙ length-map sides (λ (z : Side). z.number) ∙ six
+
+  side_below : all_below ns ≡ true → (b : Mailbox) → (side_at sides (box_index b)).number < 2 ^ 40
+  side_below all b = subst (λ n. n < 2 ^ 40) (number_at sides ns b six are) (let few = few_boxes b in let l = long in each_below ns all (box_index b) (omega (arith, few, l)))
+
+  below_side : ((b : Mailbox) → (side_at sides (box_index b)).number < 2 ^ 40) → all_below ns ≡ true
+  below_side each = below_each ns (λ k few. let l = long in let i = index_at k (omega (arith, few, l)) in subst (λ j. get_or ns j 0 < 2 ^ 40) i.1 (subst (λ n. n < 2 ^ 40) (sym (number_at sides ns i.0 six are)) (each i.0)))
+
+pub swaps_left : (s : Who) (me : Mine) (slot : ℕ) (fills empties : List ℕ) (left : Bool) → Keeps s me slot fills empties → left ≡ (all_below fills && all_below empties) → (left ≡ true) ↔ HasSwapsLeft me.0.core
+swaps_left s me slot fills empties left k is = (
+  λ e. let all = both_true (all_below fills) (all_below empties) (sym is ∙ e) in λ b. (side_below me.0.core.fills fills k.holds.sized.fills k.fills_are all.0 b, side_below me.0.core.empties empties k.holds.sized.empties k.empties_are all.1 b),
+  λ h. is ∙ true_both (all_below fills) (all_below empties) (below_side me.0.core.fills fills k.holds.sized.fills k.fills_are (λ b. (h b).0)) (below_side me.0.core.empties empties k.holds.sized.empties k.empties_are (λ b. (h b).1)),
+)

@@ -1,9 +1,11 @@
 -- What a seat holds: its part of the core, one slot, and the numbers of its swaps.
-use Rattle.std.specs.Prelude.{◌≡◌, ℕ, ◌<◌, ◌≤◌, Bool, true, cond, List, [], ◌∷◌, length, map, Option, Some, None, slice_set}
+use Rattle.std.specs.Prelude.{◌≡◌, ℕ, ◌<◌, ◌≤◌, ◌^◌, nat_lt, Bool, true, cond, List, [], ◌∷◌, length, map, Option, Some, None, slice_set}
 use mathlib.Core.Option.{some}
 use lib.ListN.{get_elem?}
 use Rattle.event_callbacks.specs.declared.operations.Operation.{Operation}
 use Rattle.pair_protocol.specs.World.{latest}
+use Rattle.std.specs.List.{list_all}
+use Rattle.pair_rule.specs.declared.mailbox.Mailbox.{Mailbox}
 use Rattle.pair_rule.specs.declared.mailbox.Mailbox.TheVariants.{Outbox, Inbox}
 use Rattle.pair_rule.specs.declared.payload.Packet.{Packet}
 use Rattle.pair_rule.specs.declared.payload.Payload.{Payload}
@@ -52,6 +54,20 @@ pub record Opened (s : Who) (g : ℕ) (table id : TableId) (me : Mine) (slot : �
   pub same : id ≡ table
   pub keeps : Keeps s me slot fills empties
   pub core : me.0.core ≡ with_slot s true (first_core g)
+
+-- how often a seat may swap at one box
+abbrev pub most_swaps : ℕ
+most_swaps = 2 ^ 40
+
+-- each number is below that
+abbrev pub all_below : List ℕ → Bool
+all_below ns = list_all (λ n. nat_lt n most_swaps) ns
+
+-- a seat may swap once more at each box
+abbrev pub HasSwapsLeft : Core → Type 0
+HasSwapsLeft c =
+    (b : Mailbox) →
+    ((side_at c.fills (box_index b)).number < 2 ^ 40) × ((side_at c.empties (box_index b)).number < 2 ^ 40)
 
 -- ---- what contracts see of a seat: its table, and the core as it knows it
 

@@ -1,7 +1,8 @@
 //! The backup's seat.
-ghost use Rattle.std.specs.Prelude.{◌≡◌, ◌^◌, ◌<◌, ℕ, length, MatchOption, MatchResult};
+ghost use Rattle.std.specs.Prelude.{◌≡◌, ◌↔◌, IsTrue, ◌^◌, ◌<◌, ℕ, length, MatchOption, MatchResult};
 ghost use Rattle.pair_rule.specs.Boxes.{Backup, box_index, number_of};
 ghost use Rattle.pair_rule.specs.Knowledge.{held, backup_asked};
+ghost use Rattle.pair_rule.specs.Seats.{HasSwapsLeft};
 ghost use Rattle.pair_rule.specs.Kinds.{WasIn, WasWinner, side_at, emptied, found_empty, with_known};
 ghost use Rattle.pair_rule.specs.declared.fabric.Fault.TheVariants.{Lost};
 ghost use Rattle.pair_rule.specs.declared.mailbox.Mailbox.TheVariants.{Inbox};
@@ -31,6 +32,13 @@ impl Model for BackupSeat {
 }
 
 impl BackupSeat {
+    /// Whether the seat may swap once more at each box.
+    pub fn has_swaps_left(&self) -> bool
+        ensures { IsTrue result ↔ HasSwapsLeft self.now.core }
+    {
+        self.state.may_swap()
+    }
+
     /// Takes the packet that lies in the inbox. The list grows by it where its index is the list's length.
     pub fn take(&mut self, fabric: &Fabric) -> Option<Packet>
         requires table { self.old.table ≡ fabric.now }

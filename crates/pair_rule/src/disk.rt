@@ -1,8 +1,8 @@
 //! The disk's seat.
-ghost use Rattle.std.specs.Prelude.{◌≡◌, ◌^◌, ◌<◌, ℕ, MatchOption};
+ghost use Rattle.std.specs.Prelude.{◌≡◌, ◌↔◌, IsTrue, ◌^◌, ◌<◌, ℕ, MatchOption};
 ghost use Rattle.pair_rule.specs.Boxes.{box_index, number_of};
 ghost use Rattle.pair_rule.specs.Kinds.{WasIn, side_at, filled, emptied, found_empty};
-ghost use Rattle.pair_rule.specs.Seats.{Replies};
+ghost use Rattle.pair_rule.specs.Seats.{HasSwapsLeft, Replies};
 ghost use Rattle.pair_rule.specs.declared.mailbox.Mailbox.TheVariants.{Requests, Answers};
 ghost use Rattle.pair_rule.specs.declared.payload.Payload.TheVariants.{Request, Answer};
 
@@ -30,6 +30,13 @@ impl Model for DiskSeat {
 }
 
 impl DiskSeat {
+    /// Whether the seat may swap once more at each box.
+    pub fn has_swaps_left(&self) -> bool
+        ensures { IsTrue result ↔ HasSwapsLeft self.now.core }
+    {
+        self.state.may_swap()
+    }
+
     /// Takes what the primary asks.
     pub fn take_request(&mut self, fabric: &Fabric) -> Option<DiskRequest>
         requires table { self.old.table ≡ fabric.now }

@@ -28,6 +28,7 @@ pub use link::LinkSeat;
 pub use open::FiveSeats;
 pub use payload::{DiskAnswer, DiskRequest, Packet, Payload, PortByte};
 pub use primary::PrimarySeat;
+pub use seat::MOST_SWAPS;
 pub use terminal::TerminalSeat;
 
 #[cfg(test)]

@@ -1,8 +1,8 @@
 //! The link's seat. It carries packets from the outbox to the inbox.
-ghost use Rattle.std.specs.Prelude.{◌≡◌, ◌^◌, ◌<◌, ℕ, true, cond, None, Some, IsSome, MatchBool};
+ghost use Rattle.std.specs.Prelude.{◌≡◌, ◌↔◌, IsTrue, ◌^◌, ◌<◌, ℕ, true, cond, None, Some, IsSome, MatchBool};
 ghost use Rattle.pair_rule.specs.Boxes.{box_index, number_of};
 ghost use Rattle.pair_rule.specs.Kinds.{side_at, found_empty};
-ghost use Rattle.pair_rule.specs.Seats.{BroughtOut, BroughtIn};
+ghost use Rattle.pair_rule.specs.Seats.{HasSwapsLeft, BroughtOut, BroughtIn};
 ghost use Rattle.pair_rule.specs.declared.mailbox.Mailbox.TheVariants.{Outbox, Inbox};
 ghost use Rattle.pair_rule.specs.declared.payload.Packet.{Packet};
 
@@ -30,6 +30,13 @@ impl Model for LinkSeat {
 }
 
 impl LinkSeat {
+    /// Whether the seat may swap once more at each box.
+    pub fn has_swaps_left(&self) -> bool
+        ensures { IsTrue result ↔ HasSwapsLeft self.now.core }
+    {
+        self.state.may_swap()
+    }
+
     /// Takes what lies in the outbox, and says whether the hand then has a packet. With a full hand it takes nothing.
     pub fn carry_out(&mut self, fabric: &Fabric) -> bool
         requires table { self.old.table ≡ fabric.now }

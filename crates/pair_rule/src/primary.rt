@@ -1,10 +1,11 @@
 //! The primary's seat.
-ghost use Rattle.std.specs.Prelude.{◌≡◌, ◌+◌, ◌^◌, ◌<◌, ◌≤◌, ℕ, length, IfOk, Err, MatchOption, MatchResult};
+ghost use Rattle.std.specs.Prelude.{◌≡◌, ◌↔◌, IsTrue, ◌+◌, ◌^◌, ◌<◌, ◌≤◌, ℕ, length, IfOk, Err, MatchOption, MatchResult};
 ghost use mathlib.Core.Option.{some};
 ghost use lib.ListN.{get_elem?};
 ghost use Rattle.pair_protocol.specs.Lawful.{top};
 ghost use Rattle.pair_rule.specs.Boxes.{Primary, box_index, port_box, number_of};
 ghost use Rattle.pair_rule.specs.Knowledge.{appended, saw, saw_count, primary_asked};
+ghost use Rattle.pair_rule.specs.Seats.{HasSwapsLeft};
 ghost use Rattle.pair_rule.specs.Kinds.{WasIn, WasHeld, WasWinner, WasAccepted, side_at, filled, emptied, found_empty, with_known, counted_at};
 ghost use Rattle.pair_rule.specs.declared.fabric.Fault.TheVariants.{LogFull, Spent, Lost};
 ghost use Rattle.pair_rule.specs.declared.mailbox.Mailbox.TheVariants.{Outbox, Requests, Answers};
@@ -45,6 +46,13 @@ impl Model for PrimarySeat {
 }
 
 impl PrimarySeat {
+    /// Whether the seat may swap once more at each box.
+    pub fn has_swaps_left(&self) -> bool
+        ensures { IsTrue result ↔ HasSwapsLeft self.now.core }
+    {
+        self.state.may_swap()
+    }
+
     /// Adds an entry to the list, and gives its index.
     #[tactic(auto, unfolding(pair_protocol::specs::Lawful::top))]
     pub fn append(&mut self, fabric: &Fabric, entry: Entry) -> Result<u64, Fault>

@@ -1,9 +1,9 @@
-//! How a seat fills and empties a box.
-ghost use Rattle.std.specs.Prelude.{◌≡◌, ◌^◌, ◌<◌, ◌≤◌, ℕ, true, false, Some, MatchOption, length, length as len};
+//! How a seat steps, whichever it is.
+ghost use Rattle.std.specs.Prelude.{◌≡◌, ◌&&◌, ◌^◌, ◌<◌, ◌≤◌, ℕ, true, false, Some, MatchOption, length, length as len};
 ghost use Rattle.pair_rule.specs.Boxes.{box_index, filler, emptier, is_full, number_of, Primary, Backup, Terminal};
 ghost use Rattle.pair_rule.specs.Knowledge.{CanFill, appended, saw, held, primary_asked, backup_asked, accepted_with, byte_arrived, saw_count};
 ghost use Rattle.pair_rule.specs.Kinds.{WasIn, WasHeld, WasWinner, WasAccepted, side_at, filled, emptied, found_empty, with_core, with_known, counted_at};
-ghost use Rattle.pair_rule.specs.Seats.{Keeps};
+ghost use Rattle.pair_rule.specs.Seats.{Keeps, all_below};
 ghost use Rattle.pair_rule.specs.declared.view.Knowledge.{Knowledge};
 
 use crate::fabric::{Fabric, TableSeat};
@@ -12,6 +12,9 @@ use crate::kinds::{
 };
 use crate::mailbox::{Mailbox, word_of};
 use crate::payload::{Packet, Payload};
+
+/// How often a seat may swap at one box.
+pub const MOST_SWAPS: u64 = 1 << 40;
 
 // A seat of the table, the slot that it holds, and how often it has filled and emptied each box.
 #[derive(Drop)]
@@ -23,6 +26,13 @@ pub(crate) struct SeatState {
 }
 
 impl SeatState {
+    // Whether it may swap once more at each box.
+    pub(crate) fn may_swap(&self) -> bool
+        ensures { result ≡ (all_below self.now.fills && all_below self.now.empties) }
+    {
+        are_below(&self.fills) && are_below(&self.empties)
+    }
+
     // Puts a payload into a box. What lay there is lost.
     pub(crate) fn fill(&mut self, fabric: &Fabric, mailbox: Mailbox, payload: Payload)
         requires table { self.old.seat.table_id ≡ fabric.now }
@@ -177,4 +187,11 @@ impl SeatState {
             .shared
             .load::<SeeCount>(&mut self.seat, 3 + port as usize)
     }
+}
+
+// Whether each number of swaps leaves room for one more.
+fn are_below(numbers: &[u64; 6]) -> bool
+    ensures { result ≡ all_below numbers.now }
+{
+    numbers.iter().all(|number| *number < MOST_SWAPS)
 }

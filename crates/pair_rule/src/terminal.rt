@@ -1,8 +1,9 @@
 //! The seat of the two terminals.
-ghost use Rattle.std.specs.Prelude.{◌≡◌, ◌==◌, ◌+◌, ◌^◌, ◌<◌, ℕ, List, cond, Some, MatchOption};
+ghost use Rattle.std.specs.Prelude.{◌≡◌, ◌↔◌, IsTrue, ◌==◌, ◌+◌, ◌^◌, ◌<◌, ℕ, List, cond, Some, MatchOption};
 ghost use Rattle.event_callbacks.specs.declared.operations.Operation.TheVariants as operation;
 ghost use Rattle.pair_rule.specs.Boxes.{box_index, port_box, number_of};
 ghost use Rattle.pair_rule.specs.Knowledge.{accepted_after, accepted_with, arrives, byte_arrived};
+ghost use Rattle.pair_rule.specs.Seats.{HasSwapsLeft};
 ghost use Rattle.pair_rule.specs.Kinds.{WasIn, side_at, emptied, found_empty, with_known};
 ghost use Rattle.pair_rule.specs.declared.payload.Payload.TheVariants.{Out};
 ghost use Rattle.pair_rule.specs.declared.view.Arrived.{Arrived};
@@ -73,6 +74,13 @@ impl Model for TerminalSeat {
 }
 
 impl TerminalSeat {
+    /// Whether the seat may swap once more at each box.
+    pub fn has_swaps_left(&self) -> bool
+        ensures { IsTrue result ↔ HasSwapsLeft self.now.core }
+    {
+        self.state.may_swap()
+    }
+
     /// Takes the byte that lies in the box of a port.
     pub fn take_byte(&mut self, fabric: &Fabric, port: u8) -> Option<PortByte>
         requires table { self.old.table ≡ fabric.now }
