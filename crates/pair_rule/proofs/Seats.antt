@@ -4,6 +4,7 @@ use mathlib.Core.Option.{some}
 use lib.ListN.{get_elem?}
 use Rattle.atomic_table.specs.Table.{rest}
 use Rattle.pair_rule.specs.declared.mailbox.Mailbox.{Mailbox}
+use Rattle.pair_rule.specs.declared.mailbox.Mailbox.TheVariants.{Outbox, Inbox, Bytes0, Bytes1, Requests, Answers}
 use Rattle.pair_rule.specs.declared.payload.Payload.{Payload}
 use Rattle.pair_rule.specs.declared.view.Side.{Side}
 use Rattle.pair_rule.specs.declared.view.Knowledge.{Knowledge}
@@ -11,7 +12,7 @@ use Rattle.pair_rule.specs.declared.view.SeatView.{SeatView}
 use Rattle.pair_rule.specs.Rules.{new_side}
 use Rattle.pair_rule.specs.Boxes.{side, box_index, Who, seat_index, filler, emptier, slot_of}
 use Rattle.pair_rule.specs.Kinds.{Mine, nobody, side_at, filled, emptied, found_empty, with_known, with_core, Swapped}
-use Rattle.pair_rule.specs.Seats.{Holds, Keeps, numbers, all_below, most_swaps, HasSwapsLeft}
+use Rattle.pair_rule.specs.Seats.{Holds, Keeps, numbers, all_below, most_swaps, LeavesRoom, HasSwapsLeft}
 use Rattle.atomic_table.proofs.Lists.{set_else}
 use Rattle.pair_rule.proofs.Ends.{nobody_has}
 use Rattle.pair_rule.proofs.Chairs.{set_there, few_boxes, index_at}
@@ -147,8 +148,21 @@ module _ (sides : List Side) (ns : List ℕ) (six : length sides ≡ 6) (are : n
   below_side : ((b : Mailbox) → (side_at sides (box_index b)).number < 2 ^ 40) → all_below ns ≡ true
   below_side each = below_each ns (λ k few. let l = long in let i = index_at k (omega (arith, few, l)) in subst (λ j. get_or ns j 0 < 2 ^ 40) i.1 (subst (λ n. n < 2 ^ 40) (sym (number_at sides ns i.0 six are)) (each i.0)))
 
+-- a list of six sides, box by box
+room_at : (sides : List Side) → LeavesRoom sides → (b : Mailbox) → (side_at sides (box_index b)).number < 2 ^ 40
+room_at sides h Outbox = h.0
+room_at sides h Inbox = h.1
+room_at sides h Bytes0 = h.2
+room_at sides h Bytes1 = h.3
+room_at sides h Requests = h.4
+room_at sides h Answers = h.5
+
+room_all : (sides : List Side) → ((b : Mailbox) → (side_at sides (box_index b)).number < 2 ^ 40) → LeavesRoom sides
+room_all sides each = (each Outbox, each Inbox, each Bytes0, each Bytes1, each Requests, each Answers)
+
 pub swaps_left : (s : Who) (me : Mine) (slot : ℕ) (fills empties : List ℕ) (left : Bool) → Keeps s me slot fills empties → left ≡ (all_below fills && all_below empties) → (left ≡ true) ↔ HasSwapsLeft me.0.core
 swaps_left s me slot fills empties left k is = (
-  λ e. let all = both_true (all_below fills) (all_below empties) (sym is ∙ e) in λ b. (side_below me.0.core.fills fills k.holds.sized.fills k.fills_are all.0 b, side_below me.0.core.empties empties k.holds.sized.empties k.empties_are all.1 b),
-  λ h. is ∙ true_both (all_below fills) (all_below empties) (below_side me.0.core.fills fills k.holds.sized.fills k.fills_are (λ b. (h b).0)) (below_side me.0.core.empties empties k.holds.sized.empties k.empties_are (λ b. (h b).1)),
+  λ e. let all = both_true (all_below fills) (all_below empties) (sym is ∙ e) in
+      (room_all me.0.core.fills (side_below me.0.core.fills fills k.holds.sized.fills k.fills_are all.0), room_all me.0.core.empties (side_below me.0.core.empties empties k.holds.sized.empties k.empties_are all.1)),
+  λ h. is ∙ true_both (all_below fills) (all_below empties) (below_side me.0.core.fills fills k.holds.sized.fills k.fills_are (room_at me.0.core.fills h.0)) (below_side me.0.core.empties empties k.holds.sized.empties k.empties_are (room_at me.0.core.empties h.1)),
 )

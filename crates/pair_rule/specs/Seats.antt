@@ -1,11 +1,13 @@
 -- What a seat holds: its part of the core, one slot, and the numbers of its swaps.
-use Rattle.std.specs.Prelude.{◌≡◌, ℕ, ◌<◌, ◌≤◌, ◌^◌, nat_lt, Bool, true, cond, List, [], ◌∷◌, length, map, Option, Some, None, slice_set}
+use Rattle.std.specs.Prelude.{◌≡◌, ℕ, ◌<◌, ◌≤◌, ◌^◌, ◌-◌, if◌then◌else◌, nat_lt, nat_le, Bool, true, cond, List, [], ◌∷◌, length, map, Option, Some, None, slice_set}
 use mathlib.Core.Option.{some}
 use lib.ListN.{get_elem?}
 use Rattle.event_callbacks.specs.declared.operations.Operation.{Operation}
+use Rattle.i8080_words.specs.declared.refusal.Fault.{Fault}
+use Rattle.i8080_words.specs.declared.refusal.Fault.TheVariants.{LogFull, Spent}
+use Rattle.pair_protocol.specs.Lawful.{top}
 use Rattle.pair_protocol.specs.World.{latest}
 use Rattle.std.specs.List.{list_all}
-use Rattle.pair_rule.specs.declared.mailbox.Mailbox.{Mailbox}
 use Rattle.pair_rule.specs.declared.mailbox.Mailbox.TheVariants.{Outbox, Inbox}
 use Rattle.pair_rule.specs.declared.payload.Packet.{Packet}
 use Rattle.pair_rule.specs.declared.payload.Payload.{Payload}
@@ -63,11 +65,14 @@ most_swaps = 2 ^ 40
 abbrev pub all_below : List ℕ → Bool
 all_below ns = list_all (λ n. nat_lt n most_swaps) ns
 
--- a seat may swap once more at each box
+-- a seat may swap once more at each of the six boxes
+abbrev pub LeavesRoom : List Side → Type 0
+LeavesRoom sides =
+    ((side_at sides 0).number < 2 ^ 40) × ((side_at sides 1).number < 2 ^ 40) × ((side_at sides 2).number < 2 ^ 40)
+    × ((side_at sides 3).number < 2 ^ 40) × ((side_at sides 4).number < 2 ^ 40) × ((side_at sides 5).number < 2 ^ 40)
+
 abbrev pub HasSwapsLeft : Core → Type 0
-HasSwapsLeft c =
-    (b : Mailbox) →
-    ((side_at c.fills (box_index b)).number < 2 ^ 40) × ((side_at c.empties (box_index b)).number < 2 ^ 40)
+HasSwapsLeft c = LeavesRoom c.fills × LeavesRoom c.empties
 
 -- ---- what contracts see of a seat: its table, and the core as it knows it
 
@@ -104,6 +109,13 @@ pub record IsTerminal (me : Mine) (slot : ℕ) (fills empties : List ℕ) (hand0
   pub hand1_is : hand1 ≡ me.0.core.known.terminal.hand1
   pub accepted0_is : accepted0 ≡ accepted_after 0 me.0.core.known.terminal.arrivals0
   pub accepted1_is : accepted1 ≡ accepted_after 0 me.0.core.known.terminal.arrivals1
+
+-- why a primary appends nothing: as many entries as a log holds are past what it has seen, or the indexes are spent
+abbrev pub append_refusal : PrimaryView → Option Fault
+append_refusal p =
+    if nat_le 256 (length p.list - p.seen) then Some LogFull
+    else if nat_le top (length p.list) then Some Spent
+    else None
 
 -- a packet came out of the outbox into the hand
 abbrev pub BroughtOut : Carrier → Carrier → Type 0

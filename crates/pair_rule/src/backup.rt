@@ -4,14 +4,15 @@ ghost use Rattle.pair_rule.specs.Boxes.{Backup, box_index, number_of};
 ghost use Rattle.pair_rule.specs.Knowledge.{held, backup_asked};
 ghost use Rattle.pair_rule.specs.Seats.{HasSwapsLeft};
 ghost use Rattle.pair_rule.specs.Kinds.{WasIn, WasWinner, side_at, emptied, found_empty, with_known};
-ghost use Rattle.pair_rule.specs.declared.fabric.Fault.TheVariants.{Lost};
+ghost use Rattle.i8080_words.specs.declared.refusal.Fault.TheVariants.{Lost};
 ghost use Rattle.pair_rule.specs.declared.mailbox.Mailbox.TheVariants.{Inbox};
 ghost use Rattle.pair_rule.specs.declared.payload.Payload.TheVariants.{Log};
 
-use crate::fabric::{Fabric, Fault};
+use crate::fabric::Fabric;
 use crate::mailbox::Mailbox;
 use crate::payload::{Packet, Payload};
 use crate::seat::SeatState;
+use i8080_words::Fault;
 use std::marker::Model;
 
 /// What the backup steps with. Contracts see its table and what it knows.

@@ -23,17 +23,6 @@ pub(crate) type SharedTable = Shared<Option<Payload>, SeatView, u64, PairRule>;
 
 pub(crate) type TableSeat = Seat<Option<Payload>, SeatView>;
 
-/// Why a seat refuses.
-#[derive(Clone, Copy, Debug, PartialEq, Eq)]
-pub enum Fault {
-    /// No index is left.
-    Spent,
-    /// As many entries are not acknowledged as the log holds.
-    LogFull,
-    /// The other node goes on alone.
-    Lost,
-}
-
 /// The words and boxes of one generation. Contracts see which table it is.
 #[derive(Drop)]
 pub struct Fabric {

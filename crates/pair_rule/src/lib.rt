@@ -19,7 +19,7 @@ mod view;
 pub use backup::BackupSeat;
 pub use close::Closed;
 pub use disk::DiskSeat;
-pub use fabric::{Fabric, Fault};
+pub use fabric::Fabric;
 pub use laws::{
     altair_threads_are_faithful, silent_steps_are_shown, starts_are_shown, steps_are_events,
     steps_are_faithful, threads_are_faithful,

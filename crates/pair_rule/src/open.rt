@@ -1,9 +1,10 @@
 //! How a generation's table begins.
-ghost use Rattle.std.specs.Prelude.{◌≡◌, true, None, IfOk};
+ghost use Rattle.std.specs.Prelude.{◌≡◌, true, None, IfOk, IfErr};
 ghost use Rattle.pair_rule.specs.Boxes.{Primary, Link, Backup, Terminal, Disk};
 ghost use Rattle.pair_rule.specs.Rules.{first_core};
 ghost use Rattle.pair_rule.specs.Kinds.{with_slot};
 ghost use Rattle.pair_rule.specs.Seats.{Opened};
+ghost use Rattle.i8080_words.specs.declared.refusal.Fault.TheVariants.{OutOfMemory};
 
 use crate::backup::BackupSeat;
 use crate::disk::DiskSeat;
@@ -17,6 +18,7 @@ use crate::primary::PrimarySeat;
 use crate::seat::SeatState;
 use crate::terminal::{Line, TerminalSeat};
 use atomic_table::Table;
+use i8080_words::Fault;
 use std::alloc::{AllocError, Global};
 
 // The states of the five seats.
@@ -100,7 +102,8 @@ pub struct FiveSeats {
 
 impl Fabric {
     /// A table for one generation, and its seats.
-    pub fn open(alloc: Global, generation: u64) -> Result<(Fabric, FiveSeats), AllocError>
+    pub fn open(alloc: Global, generation: u64) -> Result<(Fabric, FiveSeats), Fault>
+        ensures refused { IfErr result (λ fault. fault ≡ OutOfMemory) }
         ensures one { IfOk result (λ t. (t.1.primary.table ≡ t.0) × (t.1.link.table ≡ t.0) × (t.1.backup.table ≡ t.0) × (t.1.terminal.table ≡ t.0) × (t.1.disk.table ≡ t.0)) }
         ensures primary { IfOk result (λ t. t.1.primary.core ≡ with_slot Primary true (first_core generation)) }
         ensures link { IfOk result (λ t. (t.1.link.core ≡ with_slot Link true (first_core generation)) × (t.1.link.hand ≡ None)) }

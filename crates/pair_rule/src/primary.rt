@@ -1,22 +1,23 @@
 //! The primary's seat.
-ghost use Rattle.std.specs.Prelude.{◌≡◌, ◌↔◌, IsTrue, ◌+◌, ◌^◌, ◌<◌, ◌≤◌, ℕ, length, IfOk, Err, MatchOption, MatchResult};
+ghost use Rattle.std.specs.Prelude.{◌≡◌, ◌↔◌, IsTrue, ◌+◌, ◌^◌, ◌<◌, ◌≤◌, ℕ, length, IfOk, IfErr, Some, None, MatchOption, MatchResult};
 ghost use mathlib.Core.Option.{some};
 ghost use lib.ListN.{get_elem?};
 ghost use Rattle.pair_protocol.specs.Lawful.{top};
 ghost use Rattle.pair_rule.specs.Boxes.{Primary, box_index, port_box, number_of};
 ghost use Rattle.pair_rule.specs.Knowledge.{appended, saw, saw_count, primary_asked};
-ghost use Rattle.pair_rule.specs.Seats.{HasSwapsLeft};
+ghost use Rattle.pair_rule.specs.Seats.{HasSwapsLeft, append_refusal};
 ghost use Rattle.pair_rule.specs.Kinds.{WasIn, WasHeld, WasWinner, WasAccepted, side_at, filled, emptied, found_empty, with_known, counted_at};
-ghost use Rattle.pair_rule.specs.declared.fabric.Fault.TheVariants.{LogFull, Spent, Lost};
+ghost use Rattle.i8080_words.specs.declared.refusal.Fault.TheVariants.{Lost};
 ghost use Rattle.pair_rule.specs.declared.mailbox.Mailbox.TheVariants.{Outbox, Requests, Answers};
 ghost use Rattle.pair_rule.specs.declared.payload.Payload.TheVariants.{Log, Out, Request, Answer};
 ghost use Rattle.event_callbacks.specs.declared.operations.Operation.TheVariants as operation;
 
-use crate::fabric::{Fabric, Fault};
+use crate::fabric::Fabric;
 use crate::mailbox::Mailbox;
 use crate::payload::{DiskAnswer, DiskRequest, Packet, Payload};
 use crate::seat::SeatState;
 use event_callbacks::Operation;
+use i8080_words::Fault;
 use log_entry::Entry;
 use std::marker::Model;
 
@@ -59,9 +60,8 @@ impl PrimarySeat {
         requires table { self.old.table ≡ fabric.now }
         requires before { self.old.core.known.primary.winner ≡ 0 }
         ensures same { self.new.table ≡ self.old.table }
-        ensures ok { IfOk result (λ n. (n ≡ length self.old.core.known.primary.list) × (n < self.old.core.known.primary.seen + 256) × (n < top) × (self.new.core ≡ with_known (appended entry) self.old.core)) }
-        ensures full { result ≡ Err LogFull → (self.new ≡ self.old) × (self.old.core.known.primary.seen + 256 ≤ length self.old.core.known.primary.list) }
-        ensures spent { result ≡ Err Spent → (self.new ≡ self.old) × (top ≤ length self.old.core.known.primary.list) }
+        ensures ok { IfOk result (λ n. (append_refusal self.old.core.known.primary ≡ None) × (n ≡ length self.old.core.known.primary.list) × (n < self.old.core.known.primary.seen + 256) × (n < top) × (self.new.core ≡ with_known (appended entry) self.old.core)) }
+        ensures refused { IfErr result (λ fault. (append_refusal self.old.core.known.primary ≡ Some fault) × (self.new ≡ self.old)) }
     {
         if self.length - self.seen >= LOG {
             return Err(Fault::LogFull);

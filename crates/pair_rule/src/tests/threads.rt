@@ -1,0 +1,1 @@
+//! Seats on threads of their own.
