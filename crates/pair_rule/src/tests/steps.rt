@@ -44,7 +44,7 @@ pub(super) fn append(fabric: &Fabric, seat: &mut PrimarySeat) -> Option<u64>
     }
 }
 
-fn post_once(fabric: &Fabric, seat: &mut PrimarySeat, index: u64) -> u64
+pub(super) fn post_once(fabric: &Fabric, seat: &mut PrimarySeat, index: u64) -> u64
     requires ready { (seat.old.table ≡ fabric.now) × (seat.old.core.known.primary.winner ≡ 0) }
     requires stands { get_elem? seat.old.core.known.primary.list index ≡ some (Mark 6) }
     ensures ready { (seat.new.table ≡ fabric.now) × (seat.new.core.known.primary.winner ≡ 0) }
