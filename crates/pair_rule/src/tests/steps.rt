@@ -74,14 +74,14 @@ pub(super) fn post(fabric: &Fabric, seat: &mut PrimarySeat, index: u64) -> u64
     seen
 }
 
-fn emit_once(fabric: &Fabric, seat: &mut PrimarySeat) -> u64
+pub(super) fn emit_once(fabric: &Fabric, seat: &mut PrimarySeat, byte: u8) -> u64
     requires ready { (seat.old.table ≡ fabric.now) × (seat.old.core.known.primary.winner ≡ 0) }
     ensures ready { (seat.new.table ≡ fabric.now) × (seat.new.core.known.primary.winner ≡ 0) }
 {
     if !seat.has_swaps_left() {
         return 0;
     }
-    seat.emit(fabric, 1, 1, 0x48);
+    seat.emit(fabric, 1, 1, byte);
     seat.counted(fabric, 1)
 }
 
@@ -92,7 +92,7 @@ pub(super) fn emit(fabric: &Fabric, seat: &mut PrimarySeat) -> u64
 {
     let mut counted = 0;
     for _ in 0..TRIES {
-        counted = emit_once(fabric, seat);
+        counted = emit_once(fabric, seat, 0x48);
         if counted > 0 {
             break;
         }
@@ -110,7 +110,7 @@ pub(super) fn ask(fabric: &Fabric, seat: &mut PrimarySeat, request: DiskRequest)
     }
 }
 
-fn answer_once(fabric: &Fabric, seat: &mut PrimarySeat) -> Option<DiskAnswer>
+pub(super) fn answer_once(fabric: &Fabric, seat: &mut PrimarySeat) -> Option<DiskAnswer>
     requires ready { (seat.old.table ≡ fabric.now) × (seat.old.core.known.primary.winner ≡ 0) }
     ensures ready { (seat.new.table ≡ fabric.now) × (seat.new.core.known.primary.winner ≡ 0) }
 {
@@ -138,14 +138,14 @@ pub(super) fn answer(fabric: &Fabric, seat: &mut PrimarySeat) -> Option<DiskAnsw
 
 // ---- the other seats
 
-fn carry_once(fabric: &Fabric, seat: &mut LinkSeat) -> bool
+pub(super) fn carry_once(fabric: &Fabric, seat: &mut LinkSeat, keep: bool) -> bool
     requires ready { seat.old.table ≡ fabric.now }
     ensures ready { seat.new.table ≡ fabric.now }
 {
     if !seat.has_swaps_left() || !seat.carry_out(fabric) || !seat.has_swaps_left() {
         return false;
     }
-    seat.carry_in(fabric, false);
+    seat.carry_in(fabric, keep);
     true
 }
 
@@ -155,14 +155,14 @@ pub(super) fn carry(fabric: &Fabric, seat: &mut LinkSeat)
     ensures ready { seat.new.table ≡ fabric.now }
 {
     for _ in 0..TRIES {
-        if carry_once(fabric, seat) {
+        if carry_once(fabric, seat, false) {
             break;
         }
         thread::yield_now();
     }
 }
 
-fn take_once(fabric: &Fabric, seat: &mut BackupSeat) -> Option<Packet>
+pub(super) fn take_once(fabric: &Fabric, seat: &mut BackupSeat) -> Option<Packet>
     requires ready { (seat.old.table ≡ fabric.now) × (seat.old.core.known.backup.winner ≡ 0) }
     ensures ready { (seat.new.table ≡ fabric.now) × (seat.new.core.known.backup.winner ≡ 0) }
 {
@@ -188,7 +188,7 @@ pub(super) fn take(fabric: &Fabric, seat: &mut BackupSeat) -> Option<Packet>
     packet
 }
 
-fn show_once(fabric: &Fabric, seat: &mut TerminalSeat) -> Option<PortByte>
+pub(super) fn show_once(fabric: &Fabric, seat: &mut TerminalSeat) -> Option<PortByte>
     requires ready { seat.old.table ≡ fabric.now }
     ensures ready { seat.new.table ≡ fabric.now }
 {
@@ -218,7 +218,7 @@ pub(super) fn show(fabric: &Fabric, seat: &mut TerminalSeat) -> Option<PortByte>
     byte
 }
 
-fn serve_once(fabric: &Fabric, seat: &mut DiskSeat) -> bool
+pub(super) fn serve_once(fabric: &Fabric, seat: &mut DiskSeat) -> bool
     requires ready { seat.old.table ≡ fabric.now }
     ensures ready { seat.new.table ≡ fabric.now }
 {
