@@ -76,10 +76,12 @@ impl LinkSeat {
         }
     }
 
-    /// Empties the hand.
-    pub fn discard(&mut self)
+    /// Empties the hand, and makes no step.
+    pub fn discard(&mut self, fabric: &Fabric)
+        requires table { self.old.table ≡ fabric.now }
         ensures { (self.new.table ≡ self.old.table) × (self.new.core ≡ self.old.core) × (self.new.hand ≡ None) }
     {
+        let _ = fabric;
         self.hand = None;
     }
 }

@@ -65,7 +65,7 @@ fn packets_are_lost_and_repeated(rt: HostRuntime) -> Result<(), Fail> {
     assert!(rt; matches!(packet, Some(packet) if packet.index == 1));
     assert!(rt; take_once(&fabric, &mut seats.backup) == None);
     assert_eq!(rt; seats.backup.hold(&fabric), 0);
-    seats.link.discard();
+    seats.link.discard(&fabric);
     assert!(rt; !carry_once(&fabric, &mut seats.link, false));
     Ok(())
 }
