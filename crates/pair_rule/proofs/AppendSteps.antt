@@ -23,8 +23,8 @@ use Rattle.pair_rule.specs.Knowledge.{Stands, appended}
 use Rattle.pair_rule.specs.Law.{HasLonger, IsTold, MayAppend, Runnable, typed_at}
 use Rattle.pair_rule.specs.Shown.{Shows, Leads}
 use Rattle.pair_rule.proofs.Appends.{mark_leads, key_leads, sent_leads, done_leads, sector_leads}
-use Rattle.pair_rule.proofs.Guards.{all_in, typed_there, accepted_there, done_there, put_there}
-use Rattle.pair_rule.proofs.Kept.{is_ready, still}
+use Rattle.pair_rule.proofs.ShownGuards.{all_in, typed_there, accepted_there, done_there, put_there}
+use Rattle.pair_rule.proofs.SameRecord.{is_ready, still}
 use Rattle.pair_rule.proofs.LongerRuns.{LastMove, Steps, Hears, last_move, run_goes_on}
 
 -- the element between two lists

@@ -34,8 +34,8 @@ use Rattle.pair_rule.specs.Knowledge.{Stands, appended}
 use Rattle.pair_rule.specs.Shown.{notes_from, primary_role, primary_runs, primary_node, backup_node, Sent, Shows, Leads}
 use Rattle.pair_protocol.proofs.Recorded.{recorded-runs, recorded-append}
 use Rattle.pair_rule.proofs.QuietSteps.{QuietMoves, quiet_moves, quiet_count, quiet_first, notes_more}
-use Rattle.pair_rule.proofs.Knowing.{among_last}
-use Rattle.pair_rule.proofs.Growing.{held_short}
+use Rattle.pair_rule.proofs.Filled.{among_last}
+use Rattle.pair_rule.proofs.WordChanges.{held_short}
 use Rattle.pair_rule.proofs.Steady.{serving, first_node, more_sent, index_of}
 use Rattle.disk_dcdd.specs.declared.controller.TheConstants.{GREATEST_NUMBER}
 

@@ -19,9 +19,9 @@ use Rattle.pair_rule.specs.Knowledge.{IsByteOf, Stands, WhereSome}
 use Rattle.pair_rule.specs.Law.{HasPort, HasRun, IsCovered, Runnable, ThreadStep, Appends, Holds, Sees, Takes, PrimaryWins, PrimaryLoses, BackupWins, BackupLoses, Releases, Arrives, Puts, StepsAreEvents, StepsAreFaithful, with_released}
 use Rattle.pair_rule.specs.Shown.{Happens, First, Nothing, Leads, Shows, hand_of, notes_from}
 use Rattle.pair_rule.proofs.AppendSteps.{append_leads}
-use Rattle.pair_rule.proofs.Kept.{port_there}
+use Rattle.pair_rule.proofs.SameRecord.{port_there}
 use Rattle.pair_rule.proofs.LongerRuns.{run_goes_on}
-use Rattle.pair_rule.proofs.Onward.{step_grows}
+use Rattle.pair_rule.proofs.Growth.{step_grows}
 use Rattle.pair_rule.proofs.QuietSteps.{notes_more, quiet_finds, silent_notes}
 use Rattle.pair_rule.proofs.Steady.{hold_leads, see_leads, take_leads, primary_wins, primary_loses, backup_wins, backup_loses, release_leads, arrive_leads, put_leads}
 

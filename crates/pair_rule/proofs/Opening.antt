@@ -10,8 +10,8 @@ use Rattle.pair_rule.specs.Boxes.{Who, Primary, Link, Backup, Terminal, Disk, se
 use Rattle.pair_rule.specs.Rules.{Rule, has, first_core, first_view}
 use Rattle.pair_rule.specs.Kinds.{Mine, with_core, with_slot, takes_first_slot, without, nobody}
 use Rattle.pair_rule.specs.Seats.{Holds, Opened, numbers, zeros}
-use Rattle.pair_rule.proofs.Chairs.{set_there}
-use Rattle.pair_rule.proofs.Ends.{first_slot_allowed}
+use Rattle.pair_rule.proofs.Parts.{set_there}
+use Rattle.pair_rule.proofs.FirstSlots.{first_slot_allowed}
 
 -- the primary's view after the splits
 abbrev pub cut1 : ℕ → SeatView

@@ -29,8 +29,9 @@ use Rattle.pair_rule.specs.Knowledge.{last_or, winner_of, WhereSome, IsAsked, Is
 use Rattle.pair_rule.specs.Shown.{primary_role, primary_runs, backup_role, backup_runs, primary_node, backup_node, winners_of, terminals_of, arrival_of, notes_from, hand_of, Sent, Shows, Leads}
 use Rattle.plain_single.specs.Reach.{operations}
 use Rattle.shared_disk.specs.declared.disk.SectorRead.{SectorRead}
-use Rattle.pair_rule.proofs.Knowing.{among_more, among_last, put_more}
-use Rattle.pair_rule.proofs.Growing.{last_among, held_short}
+use Rattle.pair_rule.proofs.Filled.{among_more, among_last, put_more}
+use Rattle.pair_rule.proofs.ListsThatGrow.{last_among}
+use Rattle.pair_rule.proofs.WordChanges.{held_short}
 
 -- a message that is among those sent has a number
 pub index_of : {A : Type 0} (x : A) (xs : List A) → Among x xs → (m : ℕ) × (slice_get xs m ≡ Some x)

@@ -19,9 +19,9 @@ use Rattle.pair_rule.specs.declared.view.Knowledge.{Knowledge}
 use Rattle.pair_rule.specs.Law.{ReadsSelected, Runnable, SilentStep, ThreadStep, typed_at}
 use Rattle.pair_rule.specs.Shown.{Shows}
 use Rattle.pair_rule.specs.Threads.{Goes, GoesSilently, IsShown, Opens, Promises, ThreadRun, ThreadsAreFaithful, bytes_accepted}
-use Rattle.pair_rule.proofs.Begin.{starts_shown}
+use Rattle.pair_rule.proofs.Beginning.{starts_shown}
 use Rattle.pair_rule.proofs.Law.{steps_stay_faithful}
-use Rattle.pair_rule.proofs.Silently.{silent_shows}
+use Rattle.pair_rule.proofs.SilentSteps.{silent_shows}
 
 module _ {S : Type 0} (M : Machine S) (C : Copying S) (typed0 typed1 : List ℕ) (k : Knowledge) (w : World S) (z : Shows M typed0 typed1 k w) (f : Faithful M C w) where
   outputs : (port : ℕ) → port < 2 → IsAllBut M.window_size (bytes_accepted port k) (output port f.trace)

@@ -18,10 +18,11 @@ use Rattle.pair_rule.specs.Boxes.{Homes, Who, Primary, Backup, Terminal}
 use Rattle.pair_rule.specs.Knowledge.{last_or, words_of, winner_of, Fits, Stands, appended, saw, held, winner_after, primary_asked, backup_asked, arrives, byte_arrived, saw_count, accepted_after, accepted_with}
 use Rattle.pair_rule.specs.Rules.{SamePart, Same, has, Facts, Moment, Rule}
 use Rattle.pair_rule.specs.Kinds.{Mine, with_known, with_core, appends, sees, holds_entries, contests_primary, contests_backup, counts, sees_count, counts_at, sees_count_at}
-use Rattle.pair_rule.proofs.Chairs.{Local, on_primary, on_backup, on_terminal, steps}
-use Rattle.pair_rule.proofs.Swaps.{Table, Goes, last_fits}
-use Rattle.pair_rule.proofs.Moves.{own, same_load}
-use Rattle.pair_rule.proofs.Growing.{append_stays, see_stays, held_low, held_short, hold_stays, hold_word, primary_asks, backup_asks, came_stays, count_stays, fewer_arrived}
+use Rattle.pair_rule.proofs.Parts.{Local, on_primary, on_backup, on_terminal, steps}
+use Rattle.pair_rule.proofs.BoxSwaps.{Table, Goes, last_fits}
+use Rattle.pair_rule.proofs.BoxSteps.{own, same_load}
+use Rattle.pair_rule.proofs.WordChanges.{append_stays, see_stays, held_low, held_short, hold_stays, hold_word, primary_asks, backup_asks, came_stays, count_stays}
+use Rattle.pair_rule.proofs.ListsThatGrow.{fewer_arrived}
 
 knows_both : (n t : Who) (turn : Knowledge → Knowledge) → Local n turn → (c d : Core) → SamePart n c.known d.known → Same t c d → Same t (with_known turn c) (with_known turn d)
 knows_both n t turn l c d own e = record { sized = record { hands = e.sized.hands; has_slot = e.sized.has_slot; fills = e.sized.fills; empties = e.sized.empties }; generation = l.generation c.known ∙ e.generation ∙ sym (l.generation d.known); hand = e.hand; has_slot = e.has_slot; fills = e.fills; empties = e.empties; known = l.both t c.known d.known own e.known }

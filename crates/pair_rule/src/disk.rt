@@ -52,7 +52,7 @@ impl DiskSeat {
     }
 
     /// Answers the request that was taken last. An answer that lay in the box is lost.
-    #[tactic(auto, using(crate::proofs::Replying::can_reply))]
+    #[tactic(auto, using(crate::proofs::Replies::can_reply))]
     pub fn reply(&mut self, fabric: &Fabric, answer: DiskAnswer)
         requires table { self.old.table ≡ fabric.now }
         requires answers { Replies self.old.core.known.disk answer }

@@ -4,8 +4,9 @@ use Rattle.atomic_table.specs.Table.{rest}
 use Rattle.pair_rule.specs.declared.view.SeatView.{SeatView}
 use Rattle.pair_rule.specs.Boxes.{Backup, seat_index}
 use Rattle.pair_rule.specs.Kinds.{Mine, know_of}
-use Rattle.pair_rule.proofs.Ends.{last_slot_allowed, joins}
-use Rattle.pair_rule.proofs.Seats.{put_in, still_keeps, single_has}
+use Rattle.pair_rule.proofs.FirstSlots.{last_slot_allowed}
+use Rattle.pair_rule.proofs.JoinSeats.{joins}
+use Rattle.pair_rule.proofs.SeatsHold.{put_in, still_keeps, single_has}
 use Rattle.pair_rule.proofs.close.join_backup.Goals as goal
 
 pub load-requires : goal.load-requires

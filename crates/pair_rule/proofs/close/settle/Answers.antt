@@ -4,7 +4,7 @@ use lib.ListN.{get_elem?}
 use Rattle.pair_rule.specs.declared.view.PrimaryView.{PrimaryView}
 use Rattle.pair_rule.specs.declared.view.BackupView.{BackupView}
 use Rattle.pair_rule.specs.Knowledge.{last_or, winner_of}
-use Rattle.pair_rule.proofs.Ends.{settles}
+use Rattle.pair_rule.proofs.JoinSeats.{settles}
 use Rattle.pair_rule.proofs.close.settle.Goals as goal
 
 pub returns : goal.returns

@@ -2,7 +2,8 @@ use Rattle.std.proofs.Common.{ap, ◌∙◌, arith, refl, subst, sym, []}
 use Rattle.pair_rule.specs.Boxes.{Primary, Link, Backup, Terminal, Disk}
 use Rattle.pair_rule.specs.Rules.{has, first_view}
 use Rattle.pair_rule.specs.Kinds.{Mine, without, only}
-use Rattle.pair_rule.proofs.Ends.{opens, splits}
+use Rattle.pair_rule.proofs.FirstTable.{opens}
+use Rattle.pair_rule.proofs.SplitSeats.{splits}
 use Rattle.pair_rule.proofs.Opening.{cut1, cut2, cut3, cut4, takes_slot_first, opened}
 use Rattle.pair_rule.proofs.open.open.Goals as goal
 

@@ -1,7 +1,7 @@
 use Rattle.std.proofs.Common.{sym, ap, ◌∙◌, eqb, cond, ℕ, ◌+◌, Some}
 use Rattle.event_callbacks.specs.declared.operations.Operation.{Operation}
 use Rattle.pair_rule.specs.Knowledge.{accepted_after, arrives}
-use Rattle.pair_rule.proofs.Growing.{more_accepted}
+use Rattle.pair_rule.proofs.ListsThatGrow.{more_accepted}
 use Rattle.pair_rule.proofs.terminal.accepted_with_one.Goals as goal
 
 pub returns-in-Byte : goal.returns-in-Byte

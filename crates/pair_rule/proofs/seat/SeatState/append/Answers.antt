@@ -3,7 +3,7 @@ use Rattle.pair_rule.specs.Knowledge.{appended}
 use Rattle.pair_rule.specs.Boxes.{Primary}
 use Rattle.pair_rule.specs.Kinds.{Mine, with_core, with_known}
 use Rattle.pair_rule.proofs.WordSteps.{append_allowed}
-use Rattle.pair_rule.proofs.Seats.{put_in, still_holds, still_keeps, knows_keeps}
+use Rattle.pair_rule.proofs.SeatsHold.{put_in, still_holds, still_keeps, knows_keeps}
 use Rattle.pair_rule.proofs.seat.SeatState.append.Goals as goal
 
 pub fetch_add-requires : goal.fetch_add-requires

@@ -2,7 +2,7 @@ use Rattle.std.proofs.Common.{sym, ◌∙◌, arith}
 use Rattle.pair_rule.specs.Boxes.{Backup}
 use Rattle.pair_rule.specs.Knowledge.{backup_asked}
 use Rattle.pair_rule.proofs.WordSteps.{contest_backup_allowed}
-use Rattle.pair_rule.proofs.Seats.{knows_keeps}
+use Rattle.pair_rule.proofs.SeatsHold.{knows_keeps}
 use Rattle.pair_rule.proofs.seat.SeatState.contest_backup.Goals as goal
 
 pub compare_exchange-requires : goal.compare_exchange-requires

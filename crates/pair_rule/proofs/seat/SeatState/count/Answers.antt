@@ -2,7 +2,7 @@ use Rattle.std.proofs.Common.{sym, ◌∙◌, arith, refl}
 use Rattle.pair_rule.specs.Boxes.{Terminal}
 use Rattle.pair_rule.specs.Knowledge.{byte_arrived}
 use Rattle.pair_rule.proofs.WordSteps.{count_at_allowed}
-use Rattle.pair_rule.proofs.Seats.{knows_keeps}
+use Rattle.pair_rule.proofs.SeatsHold.{knows_keeps}
 use Rattle.pair_rule.proofs.seat.SeatState.count.Goals as goal
 
 pub fetch_max-requires : goal.fetch_max-requires

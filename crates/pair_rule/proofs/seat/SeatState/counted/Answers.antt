@@ -2,7 +2,7 @@ use Rattle.std.proofs.Common.{sym, ◌∙◌, arith, refl}
 use Rattle.pair_rule.specs.Boxes.{Primary}
 use Rattle.pair_rule.specs.Knowledge.{saw_count}
 use Rattle.pair_rule.proofs.WordSteps.{sees_count_at_allowed}
-use Rattle.pair_rule.proofs.Seats.{knows_keeps}
+use Rattle.pair_rule.proofs.SeatsHold.{knows_keeps}
 use Rattle.pair_rule.proofs.seat.SeatState.counted.Goals as goal
 
 pub load-requires : goal.load-requires

@@ -4,9 +4,9 @@ use Rattle.pair_rule.specs.Boxes.{box_index, emptier, empty_word, is_full, slot_
 use Rattle.pair_rule.specs.Rules.{Rule}
 use Rattle.pair_rule.specs.Kinds.{side_at, Emptied, empties}
 use Rattle.pair_rule.specs.Seats.{Keeps}
-use Rattle.pair_rule.proofs.Chairs.{few_boxes}
-use Rattle.pair_rule.proofs.Moves.{empty_allowed}
-use Rattle.pair_rule.proofs.Seats.{still_keeps, empty_keeps, found_keeps, number_at}
+use Rattle.pair_rule.proofs.Parts.{few_boxes}
+use Rattle.pair_rule.proofs.BoxSteps.{empty_allowed}
+use Rattle.pair_rule.proofs.SeatsHold.{still_keeps, empty_keeps, found_keeps, number_at}
 use Rattle.pair_rule.proofs.seat.SeatState.empty.Goals as goal
 
 pub swap-found-requires : goal.swap-found-requires

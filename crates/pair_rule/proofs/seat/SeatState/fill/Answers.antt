@@ -5,9 +5,9 @@ use Rattle.pair_rule.specs.Knowledge.{CanFill}
 use Rattle.pair_rule.specs.Rules.{Rule}
 use Rattle.pair_rule.specs.Kinds.{Mine, side_at, with_core, filled, fills}
 use Rattle.pair_rule.specs.Seats.{Keeps}
-use Rattle.pair_rule.proofs.Chairs.{few_boxes}
-use Rattle.pair_rule.proofs.Moves.{fill_allowed}
-use Rattle.pair_rule.proofs.Seats.{put_in, still_holds, still_keeps, fill_keeps, number_at}
+use Rattle.pair_rule.proofs.Parts.{few_boxes}
+use Rattle.pair_rule.proofs.BoxSteps.{fill_allowed}
+use Rattle.pair_rule.proofs.SeatsHold.{put_in, still_holds, still_keeps, fill_keeps, number_at}
 use Rattle.pair_rule.proofs.seat.SeatState.fill.Goals as goal
 
 pub swap-found-requires : goal.swap-found-requires

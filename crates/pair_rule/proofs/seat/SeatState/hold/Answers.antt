@@ -2,7 +2,7 @@ use Rattle.std.proofs.Common.{sym, ◌∙◌, arith}
 use Rattle.pair_rule.specs.Boxes.{Backup}
 use Rattle.pair_rule.specs.Knowledge.{held}
 use Rattle.pair_rule.proofs.WordSteps.{hold_allowed}
-use Rattle.pair_rule.proofs.Seats.{knows_keeps}
+use Rattle.pair_rule.proofs.SeatsHold.{knows_keeps}
 use Rattle.pair_rule.proofs.seat.SeatState.hold.Goals as goal
 
 pub fetch_max-requires : goal.fetch_max-requires

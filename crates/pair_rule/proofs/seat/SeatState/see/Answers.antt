@@ -2,7 +2,7 @@ use Rattle.std.proofs.Common.{sym, ◌∙◌, arith}
 use Rattle.pair_rule.specs.Boxes.{Primary}
 use Rattle.pair_rule.specs.Knowledge.{saw}
 use Rattle.pair_rule.proofs.WordSteps.{see_allowed}
-use Rattle.pair_rule.proofs.Seats.{knows_keeps}
+use Rattle.pair_rule.proofs.SeatsHold.{knows_keeps}
 use Rattle.pair_rule.proofs.seat.SeatState.see.Goals as goal
 
 pub load-requires : goal.load-requires

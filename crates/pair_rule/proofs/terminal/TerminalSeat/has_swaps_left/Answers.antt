@@ -1,7 +1,7 @@
 use Rattle.std.proofs.Common.{◌≡◌, ◌↔◌, true, ap, subst}
 use Rattle.pair_rule.specs.Boxes.{Terminal}
 use Rattle.pair_rule.specs.Seats.{Seat, HasSwapsLeft}
-use Rattle.pair_rule.proofs.Seats.{swaps_left}
+use Rattle.pair_rule.proofs.SeatsHold.{swaps_left}
 use Rattle.pair_rule.proofs.terminal.TerminalSeat.has_swaps_left.Goals as goal
 
 pub returns : goal.returns

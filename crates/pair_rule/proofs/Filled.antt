@@ -22,8 +22,8 @@ use Rattle.pair_rule.specs.declared.view.Knowledge.{Knowledge}
 use Rattle.pair_rule.specs.Boxes.{filler, emptier}
 use Rattle.pair_rule.specs.Knowledge.{IsEntryOf, IsByteOf, IsAsked, IsReplied, Fits, WhereSome, AllAre, Stands, grown, put_by, released_by, after_fill, after_empty, CanFill}
 use Rattle.pair_rule.specs.Rules.{SamePart}
-use Rattle.pair_rule.proofs.Chairs.{Local, nothing, on_primary, on_link, on_backup, on_terminal, on_disk}
-use Rattle.pair_rule.proofs.Swaps.{Keeps, keeps_all}
+use Rattle.pair_rule.proofs.Parts.{Local, nothing, on_primary, on_link, on_backup, on_terminal, on_disk}
+use Rattle.pair_rule.proofs.BoxSwaps.{Keeps, keeps_all}
 
 -- ---- lists that only grow
 

@@ -7,7 +7,7 @@ use Rattle.pair_rule.specs.declared.payload.DiskAnswer.TheVariants as answer
 use Rattle.pair_rule.specs.declared.view.DiskView.{DiskView}
 use Rattle.pair_rule.specs.Knowledge.{IsReplied, put_by}
 use Rattle.pair_rule.specs.Seats.{Replies}
-use Rattle.pair_rule.proofs.Knowing.{among_last}
+use Rattle.pair_rule.proofs.Filled.{among_last}
 
 pub can_reply : (d : DiskView) (a : DiskAnswer) → Replies d a → IsReplied (put_by d.taken d.puts) a
 can_reply d (answer.Written n) (w, taken, is) = subst (λ t. IsReplied (put_by t d.puts) (answer.Written n)) (sym taken) (w, among_last w d.puts, sym is)

@@ -35,7 +35,7 @@ use Rattle.pair_rule.specs.declared.view.Knowledge.{Knowledge}
 use Rattle.pair_rule.specs.Knowledge.{Stands, HasWrite, IsReplied}
 use Rattle.pair_rule.specs.Law.{HasPort}
 use Rattle.pair_rule.specs.Shown.{Shows}
-use Rattle.pair_rule.proofs.Guards.{all_in}
+use Rattle.pair_rule.proofs.ShownGuards.{all_in}
 use Rattle.pair_rule.proofs.QuietSteps.{QuietMoves, quiet_moves}
 
 -- a sector that is not refused is ready

@@ -13,11 +13,11 @@ use Rattle.pair_rule.specs.Knowledge.{words_of, Fits, CanFill, after_fill, after
 use Rattle.pair_rule.specs.Rules.{Same, has, Facts, Rule, new_side}
 use Rattle.pair_rule.specs.Kinds.{Mine, side_at, filled, emptied, found_empty, with_core, Filled, Emptied, fills, empties}
 use Rattle.pair_rule.proofs.Slots.{swapped, found, within, or_both}
-use Rattle.pair_rule.proofs.Places.{apart, inside}
-use Rattle.pair_rule.proofs.Chairs.{nothing, one_box, steps}
-use Rattle.pair_rule.proofs.Swaps.{Table, Goes, word_at, word_set, by_fill, by_empty, fill_both, fill_rest, empty_both, empty_rest, at_here, at_fill, box, fill_facts, empty_facts, found_facts}
-use Rattle.pair_rule.proofs.Knowing.{local_fill, local_empty, fill_keeps, can_same}
-use Rattle.pair_rule.proofs.Growing.{empty_keeps}
+use Rattle.pair_rule.proofs.SlotSwaps.{apart, inside}
+use Rattle.pair_rule.proofs.Parts.{nothing, one_box, steps}
+use Rattle.pair_rule.proofs.BoxSwaps.{Table, Goes, word_at, word_set, by_fill, by_empty, fill_both, fill_rest, empty_both, empty_rest, at_here, at_fill, box, fill_facts, empty_facts, found_facts}
+use Rattle.pair_rule.proofs.Filled.{local_fill, local_empty, fill_keeps, can_same}
+use Rattle.pair_rule.proofs.Emptied.{empty_keeps}
 
 -- the load in the seat's slot is the one that a play names
 from_option : Payload → Option Payload → Payload

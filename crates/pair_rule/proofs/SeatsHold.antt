@@ -14,8 +14,8 @@ use Rattle.pair_rule.specs.Boxes.{side, box_index, Who, seat_index, filler, empt
 use Rattle.pair_rule.specs.Kinds.{Mine, nobody, side_at, filled, emptied, found_empty, with_known, with_core, Swapped}
 use Rattle.pair_rule.specs.Seats.{Holds, Keeps, numbers, all_below, most_swaps, LeavesRoom, HasSwapsLeft}
 use Rattle.atomic_table.proofs.Lists.{set_else}
-use Rattle.pair_rule.proofs.Ends.{nobody_has}
-use Rattle.pair_rule.proofs.Chairs.{set_there, few_boxes, index_at}
+use Rattle.pair_rule.proofs.SplitSeats.{nobody_has}
+use Rattle.pair_rule.proofs.Parts.{set_there, few_boxes, index_at}
 use Rattle.std.proofs.lemmas.List.{get_or-map, map-set, length-map}
 
 -- a value is put into the slot in hand
