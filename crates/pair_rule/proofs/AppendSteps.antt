@@ -1,5 +1,5 @@
 -- An append is events of the world: what a run of the longer list says of its last move, and what the primary was told.
-use Rattle.std.proofs.Common.{◌≡◌, ℕ, zero, suc, ◌+◌, ◌<◌, ◌≤◌, Bool, true, false, List, [], ◌∷◌, ◌++◌, length, sym, refl, ap, ◌∙◌, subst, arith, eq-eqb, Option, Some, None, is_none, if◌then◌else◌, slice_get}
+use Rattle.std.proofs.Common.{◌≡◌, ℕ, ◌+◌, ◌≤◌, List, [], ◌∷◌, ◌++◌, length, sym, refl, ap, ◌∙◌, arith, eq-eqb, Option, Some, None, is_none, if◌then◌else◌, slice_get}
 use Rattle.guest_board.specs.Machine.{Machine, Move, Runs, refusal_of, sector_refusal}
 use Rattle.guest_board.specs.Recorded.{Accepts, Recorded}
 use Rattle.guest_board.specs.Running.{Quiet}

@@ -1,16 +1,16 @@
 -- An append is events of the world: steps up to the entry's count, its input, and the entry is sent.
-use Rattle.std.proofs.Common.{◌≡◌, ℕ, zero, suc, ◌+◌, ◌-◌, ◌<◌, ◌≤◌, Bool, true, false, List, [], ◌∷◌, ◌++◌, length, map, sym, refl, ap, ◌∙◌, subst, ◌⊎◌, inl, inr, ⊎_elim, arith, eq-eqb, ne_eqb, Option, Some, None, slice_get, slice_set, nat_lt, nat_le, is_none, not, ◌||◌, append-nil, append_assoc, ◌==◌}
+use Rattle.std.proofs.Common.{◌≡◌, ℕ, zero, suc, ◌+◌, ◌-◌, ◌<◌, ◌≤◌, Bool, true, false, List, [], ◌∷◌, ◌++◌, length, map, sym, refl, ap, ◌∙◌, subst, ◌⊎◌, inl, inr, ⊎_elim, arith, eq-eqb, ne_eqb, Option, Some, None, slice_get, slice_set, nat_lt, nat_le, is_none, not, ◌||◌, append-nil, ◌==◌}
 use Rattle.disk_dcdd.specs.Address.{same_address}
 use Rattle.disk_dcdd.specs.declared.address.SectorAddress.{SectorAddress}
 use Rattle.event_callbacks.specs.Operations.{id_of}
 use Rattle.event_callbacks.specs.declared.operations.Operation.{Operation}
-use Rattle.guest_board.specs.Machine.{Machine, Move, Do, Take, Runs, refusal_of}
+use Rattle.guest_board.specs.Machine.{Machine, Move, Do, Take, Runs}
 use Rattle.guest_board.specs.Recorded.{Accepts as IsAccepted, Counts, Recorded}
 use Rattle.guest_board.specs.Running.{Quiet, Begin, More}
 use Rattle.guest_board.specs.declared.input.Input.{Input}
 use Rattle.guest_board.specs.declared.input.Input.TheVariants as input
 use Rattle.i8080_words.specs.declared.refusal.Fault.TheVariants.{LogFull, Spent, Idle, Unknown, WrongNumber, NotDue}
-use Rattle.log_entry.specs.Entries.{entries, entry_of, count_of, inputs_of, last_count, marks}
+use Rattle.log_entry.specs.Entries.{entries, entry_of, count_of, inputs_of, last_count}
 use Rattle.log_entry.specs.declared.entry.Entry.{Entry}
 use Rattle.log_entry.specs.declared.entry.Entry.TheVariants.{Mark}
 use Rattle.plain_single.specs.Reach.{steps, inputs, operations, bare}
@@ -21,14 +21,14 @@ use Rattle.pair_protocol.specs.Faithful.{IsPrefix}
 use Rattle.pair_rule.specs.Knowledge.{HasWrite}
 use Rattle.pair_protocol.specs.Lawful.{Among, IsDone, top, Lawful}
 use Rattle.pair_protocol.specs.Copying.{Copying}
-use Rattle.pair_protocol.specs.Node.{Node, Note, Primary, primary_takes, notes_after}
+use Rattle.pair_protocol.specs.Node.{Node, Primary, primary_takes, notes_after}
 use Rattle.pair_protocol.specs.World.{World, Message, LogEntry, WriteDone, with_node, with_message, SectorRead, terminal, accepted, sector_record, with_read}
 use Rattle.pair_protocol.specs.Event.{Event, Step, Send, TakeKey, TellSent, PutReply, Get, GetReply, Taken, Reply, Ran, MessageIs, Why, Turns, Gave}
 use Rattle.pair_protocol.specs.Row.{Accepts}
 use Rattle.pair_rule.specs.Shown.{Happens, First, Nothing}
 use Rattle.pair_protocol.specs.Rows.{Advances, NoneLeft, Gives, Goes}
 use Rattle.pair_protocol.specs.Refusals.{fault_if, first_of, at_node, refusal, step_refusal, send_refusal, log_size, key_refusal, sent_refusal, is_number, at_done, at_under, place_refusal}
-use Rattle.pair_protocol.proofs.Moves.{among-prefix, among-split, operations-prefix, inputs-append, map-append, steps-append, entries-append, inputs_of-append, timed_entry, count_entry, runs-append}
+use Rattle.pair_protocol.proofs.Moves.{among-prefix, among-split, operations-prefix, inputs-append, map-append, entries-append, inputs_of-append, timed_entry, count_entry}
 use Rattle.pair_rule.specs.declared.view.Knowledge.{Knowledge}
 use Rattle.pair_rule.specs.Knowledge.{Stands, appended}
 use Rattle.pair_rule.specs.Shown.{notes_from, primary_role, primary_runs, primary_node, backup_node, Sent, Shows, Leads}

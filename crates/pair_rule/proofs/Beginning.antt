@@ -1,16 +1,16 @@
 -- A generation begins: the bytes are typed, one after another.
-use Rattle.std.proofs.Common.{◌≡◌, ℕ, ◌+◌, List, [], ◌∷◌, ◌++◌, length, refl, sym, ap, ◌∙◌, subst, append_assoc, append-nil, None, le_refl, inl, arith, ◌<◌}
+use Rattle.std.proofs.Common.{ℕ, ◌+◌, List, [], ◌∷◌, ◌++◌, length, refl, sym, subst, append_assoc, append-nil, le_refl, inl, arith}
 use Rattle.guest_board.specs.Machine.{Machine}
 use Rattle.pair_protocol.specs.Lawful.{Lawful}
-use Rattle.pair_protocol.specs.Change.{Reached, AtBoot}
+use Rattle.pair_protocol.specs.Change.{AtBoot}
 use Rattle.pair_protocol.specs.Copying.{Copying}
 use Rattle.pair_protocol.specs.Event.{Event, Reply, TypeByte, TypedAt}
 use Rattle.pair_protocol.specs.Laws.{RowIsChanges, ChangesReach}
-use Rattle.pair_protocol.specs.Row.{Row, Accepts}
+use Rattle.pair_protocol.specs.Row.{Accepts}
 use Rattle.pair_protocol.specs.World.{World, opening}
 use Rattle.pair_rule.specs.Knowledge.{Stands}
 use Rattle.pair_rule.specs.Rules.{first_known}
-use Rattle.pair_rule.specs.Law.{Begun, StartsShown}
+use Rattle.pair_rule.specs.Law.{StartsShown}
 use Rattle.pair_rule.specs.Shown.{Happens, First, Nothing, Shows}
 use Rattle.pair_rule.proofs.Law.{run_reaches}
 

@@ -16,7 +16,7 @@ use Rattle.pair_rule.specs.Knowledge.{words_of, Fits, Stands, after_fill, after_
 use Rattle.pair_rule.specs.Rules.{Sized, Same, Facts, Rule, new_side}
 use Rattle.pair_rule.specs.Kinds.{Mine, side_at, filled, emptied, found_empty}
 use Rattle.pair_rule.proofs.Slots as slots
-use Rattle.pair_rule.proofs.Slots.{swapped, given, found, within, box_stays, slot_full, slot_empty, set_both, or_of, at_or, or_both}
+use Rattle.pair_rule.proofs.Slots.{swapped, given, box_stays, slot_full, slot_empty, set_both, at_or}
 use Rattle.pair_rule.proofs.SlotSwaps.{laid_swap, box_else, apart, inside}
 use Rattle.pair_rule.proofs.Parts.{Local, nothing, one_seat, one_box, few_boxes}
 

@@ -1,5 +1,5 @@
 -- Each kind of step, one after another.
-use Rattle.std.proofs.Common.{◌≡◌, ℕ, zero, suc, ◌+◌, ◌<◌, true, List, [], ◌∷◌, ◌++◌, sym, refl, ap, ◌∙◌, subst, arith, Some}
+use Rattle.std.proofs.Common.{◌≡◌, ℕ, zero, suc, ◌+◌, ◌<◌, List, [], ◌++◌, sym, refl, ap, ◌∙◌, subst, arith, Some}
 use Rattle.event_callbacks.specs.Operations.{id_of}
 use Rattle.event_callbacks.specs.declared.operations.Operation.{Operation}
 use Rattle.event_callbacks.specs.declared.operations.Operation.TheVariants.{Byte}
@@ -16,7 +16,7 @@ use Rattle.pair_protocol.specs.World.{World}
 use Rattle.pair_protocol.proofs.Recorded.{recorded-runs}
 use Rattle.pair_rule.specs.declared.view.Knowledge.{Knowledge}
 use Rattle.pair_rule.specs.Knowledge.{IsByteOf, Stands, WhereSome}
-use Rattle.pair_rule.specs.Law.{HasPort, HasRun, IsCovered, Runnable, ThreadStep, Appends, Holds, Sees, Takes, PrimaryWins, PrimaryLoses, BackupWins, BackupLoses, Releases, Arrives, Puts, StepsAreEvents, StepsAreFaithful, with_released}
+use Rattle.pair_rule.specs.Law.{HasPort, HasRun, IsCovered, Runnable, Appends, Holds, Sees, Takes, PrimaryWins, PrimaryLoses, BackupWins, BackupLoses, Releases, Arrives, Puts, StepsAreEvents, StepsAreFaithful, with_released}
 use Rattle.pair_rule.specs.Shown.{Happens, First, Nothing, Leads, Shows, hand_of, notes_from}
 use Rattle.pair_rule.proofs.AppendSteps.{append_leads}
 use Rattle.pair_rule.proofs.SameRecord.{port_there}

@@ -1,5 +1,5 @@
 -- A run whose list of entries begins with another run's goes on from where that one ends, at its last entry.
-use Rattle.std.proofs.Common.{◌≡◌, ℕ, zero, suc, ◌+◌, ◌≤◌, List, [], ◌∷◌, ◌++◌, length, sym, refl, ap, ◌∙◌, subst, arith, Option, Some, None, append-nil, le_refl}
+use Rattle.std.proofs.Common.{◌≡◌, ℕ, suc, ◌+◌, ◌≤◌, List, [], ◌∷◌, ◌++◌, sym, refl, ap, ◌∙◌, subst, arith, Option, Some, None, append-nil, le_refl}
 use Rattle.event_callbacks.specs.declared.operations.Operation.{Operation}
 use Rattle.guest_board.specs.Machine.{Machine, Move, Do, Take, Runs}
 use Rattle.guest_board.specs.Recorded.{Accepts, Counts, Recorded}
@@ -11,7 +11,7 @@ use Rattle.log_entry.specs.declared.entry.Entry.TheVariants.{Mark}
 use Rattle.plain_single.specs.Reach.{steps}
 use Rattle.pair_protocol.proofs.Moves.{same_some, entries-append, count_entry, input_entry}
 use Rattle.pair_protocol.proofs.Recorded.{recorded-runs, recorded_rest}
-use Rattle.pair_rule.specs.Law.{HasRun, HasLonger}
+use Rattle.pair_rule.specs.Law.{HasLonger}
 use Rattle.pair_rule.proofs.QuietSteps.{are_quiet}
 
 -- ---- lists

@@ -1,34 +1,26 @@
 -- The record of a sector that the disk answered is the same where its entry is appended: no write of it is outstanding then.
-use Rattle.std.proofs.Common.{◌≡◌, ℕ, ◌+◌, ◌≤◌, Bool, true, false, cond, not, List, [], ◌∷◌, ◌++◌, Some, None, ◌⊎◌, inl, inr, refl, sym, ap, subst, ◌∙◌, arith, map, append-nil, nat_le, length}
-use Rattle.std.specs.Prelude.{◌==◌, ◌&&◌, ◌||◌}
-use Rattle.std.specs.List.{list_any}
+use Rattle.std.proofs.Common.{◌≡◌, ℕ, ◌+◌, ◌≤◌, Bool, true, false, cond, not, List, ◌++◌, Some, None, ◌⊎◌, inl, inr, refl, sym, ap, subst, ◌∙◌, arith, map, append-nil, nat_le, length}
+use Rattle.std.specs.Prelude.{◌==◌}
 use Rattle.disk_dcdd.specs.Address.{address_of}
-use Rattle.disk_dcdd.specs.Completion.{is_busy_on}
-use Rattle.disk_dcdd.specs.Drive.{drive_of}
-use Rattle.disk_dcdd.specs.Sector.{is_at, place_of}
 use Rattle.disk_dcdd.specs.declared.address.SectorAddress.{SectorAddress}
 use Rattle.disk_dcdd.specs.declared.sector.SectorWrite.{SectorWrite}
-use Rattle.event_callbacks.specs.Operations.{id_of, operation_at}
-use Rattle.event_callbacks.specs.declared.operations.OpId.TheVariants as id
+use Rattle.event_callbacks.specs.Operations.{id_of}
 use Rattle.event_callbacks.specs.declared.operations.Operation.{Operation}
 use Rattle.event_callbacks.specs.declared.operations.Operation.TheVariants.{Byte, Write}
-use Rattle.guest_board.specs.Guest.{Guest, altair}
 use Rattle.guest_board.specs.Machine.{Machine, Move, Runs, refusal_of, sector_refusal}
 use Rattle.guest_board.specs.Running.{Quiet}
 use Rattle.guest_board.specs.declared.input.Input.TheVariants as input
-use Rattle.guest_board.specs.declared.setup.Setup.{Setup}
 use Rattle.i8080_words.specs.declared.refusal.Fault.TheVariants.{NotDue, SectorBusy, StaleRead, Unknown}
 use Rattle.plain_single.specs.Reach.{inputs, operations, steps}
 use Rattle.plain_single.specs.declared.timed.Timed.{Timed}
 use Rattle.plain_single.specs.declared.timed.Bare.TheVariants.{Written}
 use Rattle.shared_disk.specs.declared.disk.SectorRead.{SectorRead}
-use Rattle.pair_protocol.specs.AltairStands.{AltairStands}
 use Rattle.pair_protocol.specs.Lawful.{Among, IsDone, IsUnwritten, IsWritten, Lawful}
 use Rattle.pair_protocol.specs.Refusals.{no_such, fault_if}
 use Rattle.pair_protocol.specs.World.{World, SectorRecord, sector_record, Terminal}
 use Rattle.pair_protocol.proofs.Moves.{among-left, operations-append, inputs-append, runs-append}
 use Rattle.pair_protocol.proofs.Recorded.{recorded-runs}
-use Rattle.pair_protocol.proofs.Disk.{AsBefore, LatestIs, OfPut, latest_all, latest_is, same_address-refl}
+use Rattle.pair_protocol.proofs.Disk.{AsBefore, LatestIs, OfPut, latest_all, latest_is}
 use Rattle.pair_protocol.proofs.Serving.{sector-done}
 use Rattle.pair_rule.specs.declared.payload.DiskAnswer.TheVariants as answer
 use Rattle.pair_rule.specs.declared.view.Knowledge.{Knowledge}

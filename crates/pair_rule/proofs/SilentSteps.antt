@@ -1,14 +1,12 @@
 -- The steps that are no event leave the world as it is, and it shows what is known then.
 use Rattle.std.proofs.Common.{◌≡◌, ℕ, zero, suc, List, [], ◌∷◌, ◌++◌, ◌⊎◌, inl, inr, sym, ap, ◌∙◌, subst}
-use Rattle.disk_dcdd.specs.declared.sector.SectorWrite.{SectorWrite}
-use Rattle.guest_board.specs.Machine.{Machine}
 use Rattle.pair_protocol.specs.Lawful.{Among}
 use Rattle.pair_rule.specs.declared.payload.DiskAnswer.{DiskAnswer}
 use Rattle.pair_rule.specs.declared.payload.DiskAnswer.TheVariants as answer
 use Rattle.shared_disk.specs.declared.disk.SectorRead.{SectorRead}
 use Rattle.pair_rule.specs.Knowledge.{HasWrite, put_by, read_at, arrives}
 use Rattle.pair_rule.proofs.Steady.{among_either}
-use Rattle.pair_rule.specs.Law.{SilentStep, Keeps, CountsNone, Carries, SeesCount, TakesByte0, TakesByte1, TakesRequest, HasAnswer, AsksRead, AnswersRead, SilentStepsShow}
+use Rattle.pair_rule.specs.Law.{Keeps, CountsNone, Carries, SeesCount, TakesByte0, TakesByte1, TakesRequest, HasAnswer, AsksRead, AnswersRead, SilentStepsShow}
 use Rattle.pair_rule.specs.Shown.{Shows}
 
 -- of the answers with one of a read more, those of writes are as before

@@ -1,7 +1,7 @@
 -- One swap of a seat with a box, whichever these are.
 use Rattle.std.proofs.Common.{◌≡◌, ◌≢◌, ℕ, ◌+◌, ◌<◌, Bool, true, false, List, length, set, sym, refl, ap, ◌∙◌, ⊎_elim, arith, length-set, Option, None}
 use mathlib.Core.Option as maybe
-use mathlib.Core.Option.{some, none, some-injective, some-ne-none}
+use mathlib.Core.Option.{some, none, some-injective}
 use native.Mathlib.Decide.{ℕ_discrete}
 use lib.ListN.{get_elem?}
 use Rattle.atomic_table.proofs.Lists.{at_set, set_here, set_else}

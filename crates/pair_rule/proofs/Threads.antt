@@ -1,8 +1,8 @@
 -- Step after step, what is known is shown by a faithful world.
-use Rattle.std.proofs.Common.{◌≡◌, ℕ, zero, suc, ◌+◌, ◌<◌, Bool, true, false, cond, ◌==◌, ◌&&◌, List, [], ◌∷◌, sym, refl, ap, ◌∙◌, subst, arith, Option, Some, None}
+use Rattle.std.proofs.Common.{◌≡◌, ℕ, zero, suc, ◌<◌, Bool, true, false, ◌==◌, ◌&&◌, List, refl, ap, subst, arith, Option, Some, None}
 use Rattle.std.specs.Option.{option_map_or}
 use Rattle.disk_dcdd.specs.declared.address.SectorAddress.{SectorAddress}
-use Rattle.guest_board.specs.Guest.{Guest, altair}
+use Rattle.guest_board.specs.Guest.{altair}
 use Rattle.guest_board.specs.Inputs.{some_altair}
 use Rattle.guest_board.specs.Machine.{Machine}
 use Rattle.guest_board.specs.Outstanding.{ComesAndGoes}
@@ -16,9 +16,9 @@ use Rattle.pair_protocol.specs.Lawful.{Lawful}
 use Rattle.pair_protocol.specs.Laws.{RowIsChanges, ChangesReach, ReachedIsFaithful, ReachedGrows}
 use Rattle.pair_protocol.specs.World.{World, accepted_in, sector_record, terminal_in}
 use Rattle.pair_rule.specs.declared.view.Knowledge.{Knowledge}
-use Rattle.pair_rule.specs.Law.{ReadsSelected, Runnable, SilentStep, ThreadStep, typed_at}
+use Rattle.pair_rule.specs.Law.{ReadsSelected, Runnable, typed_at}
 use Rattle.pair_rule.specs.Shown.{Shows}
-use Rattle.pair_rule.specs.Threads.{Goes, GoesSilently, IsShown, Opens, Promises, ThreadRun, ThreadsAreFaithful, bytes_accepted}
+use Rattle.pair_rule.specs.Threads.{Goes, GoesSilently, IsShown, Opens, Promises, ThreadsAreFaithful, bytes_accepted}
 use Rattle.pair_rule.proofs.Beginning.{starts_shown}
 use Rattle.pair_rule.proofs.Law.{steps_stay_faithful}
 use Rattle.pair_rule.proofs.SilentSteps.{silent_shows}

@@ -1,7 +1,7 @@
 -- What the threads of a generation promise, whatever steps they make.
-use Rattle.std.specs.Prelude.{◌≡◌, ℕ, zero, suc, ◌<◌, List, map}
+use Rattle.std.specs.Prelude.{ℕ, zero, suc, ◌<◌, List, map}
 use Rattle.disk_dcdd.specs.declared.address.SectorAddress.{SectorAddress}
-use Rattle.guest_board.specs.Guest.{Guest, altair}
+use Rattle.guest_board.specs.Guest.{altair}
 use Rattle.guest_board.specs.Machine.{Machine, Move}
 use Rattle.guest_board.specs.declared.setup.Setup.{Setup}
 use Rattle.plain_single.specs.Reach.{keys, output, Reach}

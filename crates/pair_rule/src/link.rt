@@ -1,6 +1,6 @@
 //! The link's seat. It carries packets from the outbox to the inbox.
-ghost use Rattle.std.specs.Prelude.{◌≡◌, ◌↔◌, IsTrue, ◌^◌, ◌<◌, ℕ, true, cond, None, Some, IsSome, MatchBool};
-ghost use Rattle.pair_rule.specs.Boxes.{box_index, number_of};
+ghost use Rattle.std.specs.Prelude.{◌≡◌, ◌↔◌, IsTrue, ◌^◌, ◌<◌, ℕ, true, None, Some, IsSome, MatchBool};
+ghost use Rattle.pair_rule.specs.Boxes.{box_index};
 ghost use Rattle.pair_rule.specs.Kinds.{side_at, found_empty};
 ghost use Rattle.pair_rule.specs.Seats.{HasSwapsLeft, BroughtOut, BroughtIn};
 ghost use Rattle.pair_rule.specs.declared.mailbox.Mailbox.TheVariants.{Outbox, Inbox};

@@ -1,10 +1,9 @@
 //! How a seat steps, whichever it is.
-ghost use Rattle.std.specs.Prelude.{◌≡◌, ◌&&◌, ◌^◌, ◌<◌, ◌≤◌, ℕ, true, false, Some, MatchOption, length, length as len};
-ghost use Rattle.pair_rule.specs.Boxes.{box_index, filler, emptier, is_full, number_of, Primary, Backup, Terminal};
+ghost use Rattle.std.specs.Prelude.{◌≡◌, ◌&&◌, ◌^◌, ◌<◌, ◌≤◌, ℕ, Some, MatchOption, length, length as len};
+ghost use Rattle.pair_rule.specs.Boxes.{box_index, filler, emptier, number_of, Primary, Backup, Terminal};
 ghost use Rattle.pair_rule.specs.Knowledge.{CanFill, appended, saw, held, primary_asked, backup_asked, accepted_with, byte_arrived, saw_count};
 ghost use Rattle.pair_rule.specs.Kinds.{WasIn, WasHeld, WasWinner, WasAccepted, side_at, filled, emptied, found_empty, with_core, with_known, counted_at};
 ghost use Rattle.pair_rule.specs.Seats.{Keeps, all_below};
-ghost use Rattle.pair_rule.specs.declared.view.Knowledge.{Knowledge};
 
 use crate::fabric::{Fabric, TableSeat};
 use crate::kinds::{

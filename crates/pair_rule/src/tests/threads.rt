@@ -1,6 +1,5 @@
 //! Seats on threads of their own.
 ghost use Rattle.std.specs.Prelude.{◌≡◌};
-ghost use Rattle.std.specs.Thread.{IsSync};
 
 use super::steps::{
     answer, append, ask, carry, emit, mark, post, post_once, serve, show, take, write,
