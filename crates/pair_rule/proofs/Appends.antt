@@ -36,7 +36,7 @@ use Rattle.pair_protocol.proofs.Recorded.{recorded-runs, recorded-append}
 use Rattle.pair_rule.proofs.QuietSteps.{QuietMoves, quiet_moves, quiet_count, quiet_first, notes_more}
 use Rattle.pair_rule.proofs.Filled.{among_last}
 use Rattle.pair_rule.proofs.WordChanges.{held_short}
-use Rattle.pair_rule.proofs.Steady.{serving, first_node, more_sent, index_of}
+use Rattle.pair_rule.proofs.ShownNodes.{serving, first_node, more_sent, index_of}
 use Rattle.disk_dcdd.specs.declared.controller.TheConstants.{GREATEST_NUMBER}
 
 -- ---- lists

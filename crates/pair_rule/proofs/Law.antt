@@ -23,7 +23,9 @@ use Rattle.pair_rule.proofs.SameRecord.{port_there}
 use Rattle.pair_rule.proofs.LongerRuns.{run_goes_on}
 use Rattle.pair_rule.proofs.Growth.{step_grows}
 use Rattle.pair_rule.proofs.QuietSteps.{notes_more, quiet_finds, silent_notes}
-use Rattle.pair_rule.proofs.Steady.{hold_leads, see_leads, take_leads, primary_wins, primary_loses, backup_wins, backup_loses, release_leads, arrive_leads, put_leads}
+use Rattle.pair_rule.proofs.Acknowledged.{hold_leads, see_leads, take_leads}
+use Rattle.pair_rule.proofs.Asked.{primary_wins, primary_loses, backup_wins, backup_loses}
+use Rattle.pair_rule.proofs.Released.{release_leads, arrive_leads, put_leads}
 
 -- what a run of the list covers, the shown primary covers
 release : {S : Type 0} (M : Machine S) (C : Copying S) (may : Runnable M) (typed0 typed1 : List ℕ) (k : Knowledge) (w : World S) (z : Shows M typed0 typed1 k w) (st : Stands k) (o : Operation) (run : HasRun M k.primary.list)

@@ -5,7 +5,7 @@ use Rattle.pair_rule.specs.declared.payload.DiskAnswer.{DiskAnswer}
 use Rattle.pair_rule.specs.declared.payload.DiskAnswer.TheVariants as answer
 use Rattle.shared_disk.specs.declared.disk.SectorRead.{SectorRead}
 use Rattle.pair_rule.specs.Knowledge.{HasWrite, put_by, read_at, arrives}
-use Rattle.pair_rule.proofs.Steady.{among_either}
+use Rattle.pair_rule.proofs.ShownNodes.{among_either}
 use Rattle.pair_rule.specs.Law.{Keeps, CountsNone, Carries, SeesCount, TakesByte0, TakesByte1, TakesRequest, HasAnswer, AsksRead, AnswersRead, SilentStepsShow}
 use Rattle.pair_rule.specs.Shown.{Shows}
 
