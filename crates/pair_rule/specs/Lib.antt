@@ -5,4 +5,5 @@ pub mod Kinds
 pub mod Seats
 pub mod Shown
 pub mod Law
+pub mod Steps
 pub mod Threads

@@ -13,16 +13,16 @@ use Rattle.pair_protocol.specs.World.{World, accepted_after, sector_record}
 use Rattle.pair_rule.specs.declared.view.Arrived.{Arrived}
 use Rattle.pair_rule.specs.declared.view.Knowledge.{Knowledge}
 use Rattle.pair_rule.specs.Knowledge.{Stands}
-use Rattle.pair_rule.specs.Law.{Runnable, SilentStep, ThreadStep, typed_at}
+use Rattle.pair_rule.specs.Law.{Runnable, typed_at}
 use Rattle.pair_rule.specs.Rules.{first_known}
 use Rattle.pair_rule.specs.Shown.{Shows, arrival_of}
+use Rattle.pair_rule.specs.Steps.{TableStep}
 
 -- what is known after steps of the threads, one after another, in a generation at whose terminals these bytes were typed
 pub data ThreadRun {S : Type 0} (M : Machine S) (typed0 typed1 : List ℕ) : Knowledge → Type 0 where
   Opens : (generation : ℕ) → ThreadRun M typed0 typed1 (first_known generation)
-  Goes : {k new : Knowledge} → ThreadRun M typed0 typed1 k → Stands k → ThreadStep M typed0 typed1 k new →
+  Goes : {k new : Knowledge} → ThreadRun M typed0 typed1 k → TableStep M typed0 typed1 k new →
       ThreadRun M typed0 typed1 new
-  GoesSilently : {k new : Knowledge} → ThreadRun M typed0 typed1 k → SilentStep M k new → ThreadRun M typed0 typed1 new
 
 -- the bytes of a port that its terminal has accepted
 abbrev pub arrivals_at : ℕ → Knowledge → List Arrived
@@ -45,6 +45,7 @@ pub record Promises {S : Type 0} (M : Machine S) (typed0 typed1 : List ℕ) (k :
 
 -- a world that actions reach shows what is known; it is faithful, so the threads keep their promises
 pub record IsShown {S : Type 0} (M : Machine S) (C : Copying S) (typed0 typed1 : List ℕ) (k : Knowledge) : Type 0 where
+  pub stands : Stands k
   pub world : World S
   pub shows : Shows M typed0 typed1 k world
   pub reached : Reached M C world

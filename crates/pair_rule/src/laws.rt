@@ -1,9 +1,16 @@
 //! What the threads of a generation are: a pair, one event after another. Nothing here runs.
 ghost use Rattle.pair_rule.specs.Law.{SilentStepsShow, StartsShown, StepsAreEvents, StepsAreFaithful};
+ghost use Rattle.pair_rule.specs.Steps.{TableStepsAreSteps};
 ghost use Rattle.pair_rule.specs.Threads.{AltairsAreRunnable, AltairThreadsAreFaithful, ThreadsAreFaithful};
 
 use guest_board::{boards_count, boards_issue_and_complete};
 use pair_protocol::{actions_are_faithful, altairs_are_lawful, events_are_actions, events_grow};
+
+/// Each kind of step of the table keeps what stands of all that the seats know, and it is a step of the law below: one that
+/// is events of a pair, or one that is none.
+pub fn table_steps_are_steps<S>()
+    ensures steps { TableStepsAreSteps S }
+{}
 
 /// A generation begins in a world that its first core shows: a new pair, at whose terminals the bytes are typed.
 pub fn starts_are_shown<S>()

@@ -22,7 +22,7 @@ pub use disk::DiskSeat;
 pub use fabric::Fabric;
 pub use laws::{
     altair_threads_are_faithful, silent_steps_are_shown, starts_are_shown, steps_are_events,
-    steps_are_faithful, threads_are_faithful,
+    steps_are_faithful, table_steps_are_steps, threads_are_faithful,
 };
 pub use link::LinkSeat;
 pub use open::FiveSeats;
