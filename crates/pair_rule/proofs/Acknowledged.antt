@@ -20,7 +20,7 @@ use Rattle.plain_single.specs.Reach.{operations}
 use Rattle.pair_rule.proofs.Filled.{among_last}
 use Rattle.pair_rule.proofs.ListsThatGrow.{last_among}
 use Rattle.pair_rule.proofs.WordChanges.{held_short}
-use Rattle.pair_rule.proofs.ShownNodes.{index_of, more_sent, among_either, read_slice, not_below, serving, waiting, first_node, second_node}
+use Rattle.pair_rule.proofs.ShownNodes.{later_covered, index_of, more_sent, among_either, read_slice, not_below, serving, waiting, first_node, second_node}
 
 module _ {S : Type 0} (M : Machine S) (C : Copying S) (typed0 typed1 : List ℕ) (k : Knowledge) (w : World S) (z : Shows M typed0 typed1 k w) where
   abbrev primary : Node S
@@ -62,12 +62,13 @@ module _ {S : Type 0} (M : Machine S) (C : Copying S) (typed0 typed1 : List ℕ)
       issued = z.issued;
       done = z.done;
       first_reads = z.first_reads;
+      covered = z.covered;
     };
   }
 
   -- the primary sees what the backup acknowledged
-  saw_shows : (n : ℕ) (v : World S) → v.nodes ≡ primary_node (saw n k) z.moves z.s ∷ backup_node M k ∷ [] → v.messages ≡ w.messages → v.terminals ≡ w.terminals → v.winners ≡ w.winners → v.puts ≡ w.puts → Shows M typed0 typed1 (saw n k) v
-  saw_shows n v nodes messages terminals winners puts = record {
+  saw_shows : (n : ℕ) (v : World S) → k.primary.seen ≤ n → v.nodes ≡ primary_node (saw n k) z.moves z.s ∷ backup_node M k ∷ [] → v.messages ≡ w.messages → v.terminals ≡ w.terminals → v.winners ≡ w.winners → v.puts ≡ w.puts → Shows M typed0 typed1 (saw n k) v
+  saw_shows n v more nodes messages terminals winners puts = record {
     moves = z.moves;
     s = z.s;
     recorded = z.recorded;
@@ -81,10 +82,11 @@ module _ {S : Type 0} (M : Machine S) (C : Copying S) (typed0 typed1 : List ℕ)
     issued = z.issued;
     done = z.done;
     first_reads = z.first_reads;
+    covered = λ o at. later_covered z.moves k.primary.seen n o more (z.covered o at);
   }
 
   see_none : (n : ℕ) → n ≡ k.primary.seen → Leads M C typed0 typed1 (saw n k) w
-  see_none n e = record { events = []; replies = []; new = w; run = Nothing; once = inl refl; shows = saw_shows n w (z.nodes ∙ (λ i. primary_node (saw (sym e i) k) z.moves z.s ∷ backup_node M k ∷ [])) refl refl refl refl }
+  see_none n e = record { events = []; replies = []; new = w; run = Nothing; once = inl refl; shows = saw_shows n w (omega (arith, e)) (z.nodes ∙ (λ i. primary_node (saw (sym e i) k) z.moves z.s ∷ backup_node M k ∷ [])) refl refl refl refl }
 
   see_one : (n : ℕ) → k.primary.winner ≡ 0 → k.primary.seen ≤ n → n ≤ length k.primary.list → Among n k.backup.held_values → Leads M C typed0 typed1 (saw n k) w
   see_one n none more short at = let m = index_of (Acknowledgement 1 n 0) w.messages (z.sent.acks n at) in
@@ -94,7 +96,7 @@ module _ {S : Type 0} (M : Machine S) (C : Copying S) (typed0 typed1 : List ℕ)
         new = with_node w 0 (hears primary n 0);
         run = First (Accepts ((λ i. at_acked (at_primary none i) (m.1 i)) ∙ ap (λ b. first_of (fault_if b BadAck ∷ [])) (not_below (length k.primary.list) n short)) record { x = primary; there = at_primary none; generation = 1; held = n; replayed = 0; message = m.1; reply = refl; after = refl }) Nothing;
         once = inl refl;
-        shows = saw_shows n (with_node w 0 (hears primary n 0))
+        shows = saw_shows n (with_node w 0 (hears primary n 0)) more
             (ap (λ l. slice_set l 0 (hears primary n 0)) z.nodes ∙ (λ i. record primary { role = primary_role (sym none i); running = primary_runs (sym none i); covered = greater i } ∷ backup_node M k ∷ []))
             refl refl refl refl;
       }
@@ -128,6 +130,7 @@ module _ {S : Type 0} (M : Machine S) (C : Copying S) (typed0 typed1 : List ℕ)
       issued = z.issued;
       done = z.done;
       first_reads = z.first_reads;
+      covered = z.covered;
     };
   }
   take_one p none m there false is = record {
@@ -150,6 +153,7 @@ module _ {S : Type 0} (M : Machine S) (C : Copying S) (typed0 typed1 : List ℕ)
       issued = z.issued;
       done = z.done;
       first_reads = z.first_reads;
+      covered = z.covered;
     };
   }
 

@@ -25,7 +25,7 @@ use Rattle.pair_protocol.specs.Node.{Node, Primary, primary_takes, notes_after}
 use Rattle.pair_protocol.specs.World.{World, Message, LogEntry, WriteDone, with_node, with_message, SectorRead, terminal, accepted, sector_record, with_read}
 use Rattle.pair_protocol.specs.Event.{Event, Step, Send, TakeKey, TellSent, PutReply, Get, GetReply, Taken, Reply, Ran, MessageIs, Why, Turns, Gave}
 use Rattle.pair_protocol.specs.Row.{Accepts}
-use Rattle.pair_rule.specs.Shown.{Happens, First, Nothing}
+use Rattle.pair_rule.specs.Shown.{IsAcknowledged, Happens, First, Nothing}
 use Rattle.pair_protocol.specs.Rows.{Advances, NoneLeft, Gives, Goes}
 use Rattle.pair_protocol.specs.Refusals.{fault_if, first_of, at_node, refusal, step_refusal, send_refusal, log_size, key_refusal, sent_refusal, is_number, at_done, at_under, place_refusal}
 use Rattle.pair_protocol.proofs.Moves.{among-prefix, among-split, operations-prefix, inputs-append, map-append, entries-append, inputs_of-append, timed_entry, count_entry}
@@ -36,7 +36,7 @@ use Rattle.pair_protocol.proofs.Recorded.{recorded-runs, recorded-append}
 use Rattle.pair_rule.proofs.QuietSteps.{QuietMoves, quiet_moves, quiet_count, quiet_first, notes_more}
 use Rattle.pair_rule.proofs.Filled.{among_last}
 use Rattle.pair_rule.proofs.WordChanges.{held_short}
-use Rattle.pair_rule.proofs.ShownNodes.{serving, first_node, more_sent, index_of}
+use Rattle.pair_rule.proofs.ShownNodes.{longer_covered, serving, first_node, more_sent, index_of}
 use Rattle.disk_dcdd.specs.declared.controller.TheConstants.{GREATEST_NUMBER}
 
 -- ---- lists
@@ -160,6 +160,7 @@ module _ {S : Type 0} (M : Machine S) (C : Copying S) (counts : Counts M) (laws 
       issued = λ o at. among-prefix o (operations z.moves) (operations moves) (operations-prefix z.moves moves below) (z.issued o at);
       done = done;
       first_reads = z.first_reads;
+      covered = λ o at. subst (λ l. IsAcknowledged l k.primary.seen o) below.1 (longer_covered z.moves below.0 k.primary.seen o (z.covered o at));
     };
   }
 

@@ -52,6 +52,7 @@ module _ {S : Type 0} (M : Machine S) (C : Copying S) (typed0 typed1 : List ℕ)
           issued = z.issued;
           done = z.done;
           first_reads = z.first_reads;
+          covered = z.covered;
         };
       }
 
@@ -78,6 +79,7 @@ module _ {S : Type 0} (M : Machine S) (C : Copying S) (typed0 typed1 : List ℕ)
           issued = z.issued;
           done = z.done;
           first_reads = z.first_reads;
+          covered = z.covered;
         };
       }
 
@@ -104,6 +106,7 @@ module _ {S : Type 0} (M : Machine S) (C : Copying S) (typed0 typed1 : List ℕ)
           issued = z.issued;
           done = z.done;
           first_reads = z.first_reads;
+          covered = z.covered;
         };
       }
 
@@ -130,5 +133,6 @@ module _ {S : Type 0} (M : Machine S) (C : Copying S) (typed0 typed1 : List ℕ)
           issued = z.issued;
           done = z.done;
           first_reads = z.first_reads;
+          covered = z.covered;
         };
       }

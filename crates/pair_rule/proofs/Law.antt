@@ -20,6 +20,7 @@ use Rattle.pair_rule.specs.Law.{HasPort, HasRun, IsCovered, Runnable, Appends, H
 use Rattle.pair_rule.specs.Shown.{Happens, First, Nothing, Leads, Shows, hand_of, notes_from}
 use Rattle.pair_rule.proofs.AppendSteps.{append_leads}
 use Rattle.pair_rule.proofs.SameRecord.{port_there}
+use Rattle.pair_rule.proofs.Covered.{is_acknowledged}
 use Rattle.pair_rule.proofs.LongerRuns.{run_goes_on}
 use Rattle.pair_rule.proofs.Growth.{step_grows}
 use Rattle.pair_rule.proofs.QuietSteps.{notes_more, quiet_finds, silent_notes}
@@ -35,7 +36,7 @@ release M C may typed0 typed1 k w z st o run there serves (found, covered) =
     let g = run_goes_on M may.counts boot k.primary.list z.moves z.s z.recorded z.entries_are z.count run.moves run.last run.recorded run.entries_are in
     let found_here : M.find z.s (id_of o) ≡ Some o = sym (quiet_finds M may.operations z.s g.further run.last (id_of o) g.quietly) ∙ found in
     let notes : notes_from 0 [] [] run.moves ≡ notes_from 0 [] [] z.moves = ap (notes_from 0 [] []) g.all ∙ notes_more 0 [] [] z.moves g.rest ∙ silent_notes (0 + steps z.moves) (0 + steps z.moves) ([] ++ entries 0 z.moves) (notes_from 0 [] [] z.moves) g.rest g.none in
-    release_leads M C typed0 typed1 k w z o (may.lawful.given z.moves z.s (id_of o) o (recorded-runs M M.boot z.s z.moves z.recorded) found_here) (port_there M may.lawful typed0 typed1 k w z st o there) serves found_here
+    release_leads M C typed0 typed1 k w z o (may.lawful.given z.moves z.s (id_of o) o (recorded-runs M M.boot z.s z.moves z.recorded) found_here) (is_acknowledged M may.operations may.lawful z.moves z.s k.primary.seen o (recorded-runs M M.boot z.s z.moves z.recorded) found_here (ap (λ ns. covers k.primary.seen 0 (note_of ns (id_of o))) (sym notes) ∙ covered)) (port_there M may.lawful typed0 typed1 k w z st o there) serves found_here
     (ap (λ ns. covers k.primary.seen 0 (note_of ns (id_of o))) (sym notes) ∙ covered)
 
 -- a byte in a hand was released

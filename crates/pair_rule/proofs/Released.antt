@@ -14,7 +14,7 @@ use Rattle.pair_protocol.specs.Refusals.{fault_if, first_of, byte_refusal, write
 use Rattle.pair_protocol.specs.World.{World, Message, Released, WriteDone, with_arrival, with_put, with_message, accepted, terminal_in}
 use Rattle.pair_protocol.specs.Event.{Release, Arrive, Put, MessageIs, Accepted, Dropped}
 use Rattle.pair_protocol.specs.Row.{Accepts}
-use Rattle.pair_rule.specs.Shown.{Happens, First, Nothing}
+use Rattle.pair_rule.specs.Shown.{IsAcknowledged, Happens, First, Nothing}
 use Rattle.pair_rule.specs.declared.view.Knowledge.{Knowledge}
 use Rattle.pair_rule.specs.declared.mailbox.Mailbox.TheVariants.{Answers}
 use Rattle.pair_rule.specs.declared.payload.Payload.TheVariants.{Answer}
@@ -50,21 +50,21 @@ module _ {S : Type 0} (M : Machine S) (C : Copying S) (typed0 typed1 : List ℕ)
       ∙ (λ i. first_of (first_of (fault_if (is_none (found i)) NotDue ∷ fault_if (not (covered i)) NotCovered ∷ []) ∷ [])))
       record { x = primary; there = at_primary none; o = o; outstanding = found; says = record { reply = refl; after = refl } }) Nothing
 
-  pub release_leads : (o : Operation) → Among o (operations z.moves) → no_such w (id_of o) ≡ None → k.primary.winner ≡ 0 → M.find z.s (id_of o) ≡ Some o → covers k.primary.seen 0 (note_of (notes_from 0 [] [] z.moves) (id_of o)) ≡ true
+  pub release_leads : (o : Operation) → Among o (operations z.moves) → IsAcknowledged z.moves k.primary.seen o → no_such w (id_of o) ≡ None → k.primary.winner ≡ 0 → M.find z.s (id_of o) ≡ Some o → covers k.primary.seen 0 (note_of (notes_from 0 [] [] z.moves) (id_of o)) ≡ true
       → Leads M C typed0 typed1 (record k { primary = record k.primary { released = k.primary.released ++ o ∷ [] } }) w
-  release_leads o given there none found covered = record {
+  release_leads o given marked there none found covered = record {
     events = Release 0 (id_of o) ∷ [];
     replies = MessageIs (length w.messages) ∷ [];
     new = with_message w (Released o);
     run = release_event o (id_of o) there none found covered;
     once = inl refl;
-    shows = record { moves = z.moves; s = z.s; recorded = z.recorded; entries_are = z.entries_are; count = z.count; nodes = z.nodes; sent = release_shows o; terminals = z.terminals; winners = z.winners; puts = z.puts; issued = λ x at. ⊎_elim (λ (i : Among x k.primary.released). z.issued x i) (λ (e : x ≡ o). subst (λ y. Among y (operations z.moves)) (sym e) given) (among_either x o k.primary.released at); done = z.done; first_reads = z.first_reads };
+    shows = record { moves = z.moves; s = z.s; recorded = z.recorded; entries_are = z.entries_are; count = z.count; nodes = z.nodes; sent = release_shows o; terminals = z.terminals; winners = z.winners; puts = z.puts; issued = λ x at. ⊎_elim (λ (i : Among x k.primary.released). z.issued x i) (λ (e : x ≡ o). subst (λ y. Among y (operations z.moves)) (sym e) given) (among_either x o k.primary.released at); done = z.done; first_reads = z.first_reads; covered = λ x at. ⊎_elim (λ (i : Among x k.primary.released). z.covered x i) (λ (e : x ≡ o). subst (IsAcknowledged z.moves k.primary.seen) (sym e) marked) (among_either x o k.primary.released at) };
   }
 
   -- a byte that a terminal has in hand arrives
   arrive_shows : (port : ℕ) (v : World S) → v.nodes ≡ w.nodes → v.messages ≡ w.messages → v.terminals ≡ terminals_of (byte_arrived port k) typed0 typed1 → v.winners ≡ w.winners → v.puts ≡ w.puts → Shows M typed0 typed1 (byte_arrived port k) v
-  arrive_shows zero v nodes messages terminals winners puts = record { moves = z.moves; s = z.s; recorded = z.recorded; entries_are = z.entries_are; count = z.count; nodes = nodes ∙ z.nodes; sent = subst (Sent (byte_arrived 0 k)) (sym messages) record { logs = z.sent.logs; acks = z.sent.acks; operations = z.sent.operations; writes = z.sent.writes }; terminals = terminals; winners = winners ∙ z.winners; puts = puts ∙ z.puts; issued = z.issued; done = z.done; first_reads = z.first_reads }
-  arrive_shows (suc p) v nodes messages terminals winners puts = record { moves = z.moves; s = z.s; recorded = z.recorded; entries_are = z.entries_are; count = z.count; nodes = nodes ∙ z.nodes; sent = subst (Sent (byte_arrived (suc p) k)) (sym messages) record { logs = z.sent.logs; acks = z.sent.acks; operations = z.sent.operations; writes = z.sent.writes }; terminals = terminals; winners = winners ∙ z.winners; puts = puts ∙ z.puts; issued = z.issued; done = z.done; first_reads = z.first_reads }
+  arrive_shows zero v nodes messages terminals winners puts = record { moves = z.moves; s = z.s; recorded = z.recorded; entries_are = z.entries_are; count = z.count; nodes = nodes ∙ z.nodes; sent = subst (Sent (byte_arrived 0 k)) (sym messages) record { logs = z.sent.logs; acks = z.sent.acks; operations = z.sent.operations; writes = z.sent.writes }; terminals = terminals; winners = winners ∙ z.winners; puts = puts ∙ z.puts; issued = z.issued; done = z.done; first_reads = z.first_reads; covered = z.covered }
+  arrive_shows (suc p) v nodes messages terminals winners puts = record { moves = z.moves; s = z.s; recorded = z.recorded; entries_are = z.entries_are; count = z.count; nodes = nodes ∙ z.nodes; sent = subst (Sent (byte_arrived (suc p) k)) (sym messages) record { logs = z.sent.logs; acks = z.sent.acks; operations = z.sent.operations; writes = z.sent.writes }; terminals = terminals; winners = winners ∙ z.winners; puts = puts ∙ z.puts; issued = z.issued; done = z.done; first_reads = z.first_reads; covered = z.covered }
 
   arrive_event : (port number byte m : ℕ) → slice_get w.messages m ≡ Some (Released (Byte port number byte)) → Happens M C w (Arrive m ∷ []) ((if nat_lt (length (accepted w port)) (length (accepted (with_arrival w port (record { number = number; byte = byte })) port)) then Accepted else Dropped) ∷ []) (with_arrival w port (record { number = number; byte = byte }))
   arrive_event port number byte m there = First (Accepts (ap byte_refusal there) record { port = port; number = number; byte = byte; message = there; reply = refl; after = refl }) Nothing
@@ -126,6 +126,7 @@ module _ {S : Type 0} (M : Machine S) (C : Copying S) (typed0 typed1 : List ℕ)
           issued = z.issued;
           done = λ n d. let h = z.done n d in (h.0, put_more k.disk.taken k.disk.puts h.0 h.1, h.2);
           first_reads = λ r at. z.first_reads r (no_read r write.number k.disk.given at);
+          covered = z.covered;
         };
       }
     where

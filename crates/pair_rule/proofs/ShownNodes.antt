@@ -1,8 +1,9 @@
 -- The nodes that a world shows, and its messages.
-use Rattle.std.proofs.Common.{◌≡◌, ℕ, zero, suc, ◌≤◌, true, false, List, [], ◌∷◌, ◌++◌, map, sym, refl, ap, ◌∙◌, ◌⊎◌, inl, inr, ⊎_elim, arith, Some, slice_get, nat_lt}
+use Rattle.std.proofs.Common.{append_assoc, ◌∙◌, ◌≤◌, arith, ◌≡◌, ℕ, zero, suc, ◌≤◌, true, false, List, [], ◌∷◌, ◌++◌, map, sym, refl, ap, ◌∙◌, ◌⊎◌, inl, inr, ⊎_elim, arith, Some, slice_get, nat_lt}
 use mathlib.Core.Option.{some, some-injective, some-ne-none}
 use lib.ListN.{get_elem?}
-use Rattle.guest_board.specs.Machine.{Machine}
+use Rattle.event_callbacks.specs.declared.operations.Operation.{Operation}
+use Rattle.guest_board.specs.Machine.{Machine, Move, Do}
 use Rattle.pair_protocol.specs.Lawful.{Among}
 use Rattle.pair_protocol.specs.Copying.{Copying}
 use Rattle.pair_protocol.specs.Node.{Node, Primary, Backup}
@@ -10,7 +11,7 @@ use Rattle.pair_protocol.specs.World.{World, Message, LogEntry, Acknowledgement,
 use Rattle.pair_rule.specs.declared.view.Knowledge.{Knowledge}
 use Rattle.pair_rule.specs.declared.payload.DiskAnswer.{DiskAnswer}
 use Rattle.pair_rule.specs.declared.payload.DiskAnswer.TheVariants as answer
-use Rattle.pair_rule.specs.Shown.{primary_role, primary_runs, backup_role, backup_runs, primary_node, backup_node, Sent, Shows}
+use Rattle.pair_rule.specs.Shown.{IsAcknowledged, primary_role, primary_runs, backup_role, backup_runs, primary_node, backup_node, Sent, Shows}
 use Rattle.plain_single.specs.Reach.{operations}
 use Rattle.shared_disk.specs.declared.disk.SectorRead.{SectorRead}
 use Rattle.pair_rule.proofs.Filled.{among_more}
@@ -51,6 +52,13 @@ not_below a b le = grind arith
 pub map_more : {A B : Type 0} (f : A → B) (xs : List A) (x : A) → map f (xs ++ x ∷ []) ≡ map f xs ++ f x ∷ []
 map_more f [] x = refl
 map_more f (y ∷ xs) x = ap (λ l. f y ∷ l) (map_more f xs x)
+
+-- what is acknowledged stays so, where more is seen and more moves are made
+pub later_covered : (moves : List Move) (seen more : ℕ) (o : Operation) → seen ≤ more → IsAcknowledged moves seen o → IsAcknowledged moves more o
+later_covered moves seen more o le a = record { front = a.front; rest = a.rest; given = a.given; marked = (let m = a.marked in omega (arith, m, le)) }
+
+pub longer_covered : (moves more : List Move) (seen : ℕ) (o : Operation) → IsAcknowledged moves seen o → IsAcknowledged (moves ++ more) seen o
+longer_covered moves more seen o a = record { front = a.front; rest = a.rest ++ more; given = ap (λ l. l ++ more) a.given ∙ append_assoc a.front (Do (Some o) ∷ a.rest) more; marked = a.marked }
 
 module _ {S : Type 0} (M : Machine S) (C : Copying S) (typed0 typed1 : List ℕ) (k : Knowledge) (w : World S) (z : Shows M typed0 typed1 k w) where
   -- the nodes, while nobody has asked

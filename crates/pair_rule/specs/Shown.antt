@@ -1,6 +1,6 @@
 -- The world that the core stands for: a primary that has the list and stands at its last count, a backup that holds its
 -- copy, and what was sent, accepted and written.
-use Rattle.std.specs.Prelude.{◌≡◌, ◌⊎◌, ℕ, zero, suc, Bool, true, false, Option, Some, None, List, [], ◌∷◌, ◌++◌, map, slice_get}
+use Rattle.std.specs.Prelude.{◌≡◌, ◌⊎◌, ◌<◌, length, ℕ, zero, suc, Bool, true, false, Option, Some, None, List, [], ◌∷◌, ◌++◌, map, slice_get}
 use Rattle.event_callbacks.specs.declared.operations.Operation.{Operation}
 use Rattle.guest_board.specs.Machine.{Machine, Move, Do, Take}
 use Rattle.guest_board.specs.Recorded.{Recorded}
@@ -105,6 +105,13 @@ pub record Sent (k : Knowledge) (messages : List Message) : Type 0 where
   pub operations : (o : Operation) → Among o k.primary.released → Among (Released o) messages
   pub writes : (n : ℕ) → Among (Written n) k.disk.given → Among (WriteDone n) messages
 
+-- a step of the moves gave the operation, and so many entries are acknowledged that its mark is one of them
+pub record IsAcknowledged (moves : List Move) (seen : ℕ) (o : Operation) : Type 0 where
+  pub front : List Move
+  pub rest : List Move
+  pub given : moves ≡ front ++ Do (Some o) ∷ rest
+  pub marked : length (entries 0 front) < seen
+
 pub record Shows {S : Type 0} (M : Machine S) (typed0 typed1 : List ℕ) (k : Knowledge) (w : World S) : Type 0 where
   pub moves : List Move
   pub s : S
@@ -120,6 +127,8 @@ pub record Shows {S : Type 0} (M : Machine S) (typed0 typed1 : List ℕ) (k : Kn
   -- write has the bytes that it booted with
   pub issued : (o : Operation) → Among o k.primary.released → Among o (operations moves)
   pub done : (n : ℕ) → IsDone n moves → HasWrite k.disk.puts n
+  -- output rule: whatever was released is acknowledged
+  pub covered : (o : Operation) → Among o k.primary.released → IsAcknowledged moves k.primary.seen o
   pub first_reads : (r : SectorRead) → Among (Read r) k.disk.given → r.number ≡ 0 → r.bytes ≡ M.boot_sector (read_at r)
 
 -- events of a pair, one after another
