@@ -26,7 +26,7 @@ use Rattle.pair_rule.specs.Steps.{IsStep}
 use Rattle.pair_rule.proofs.SilentSteps.{silent_shows}
 use Rattle.pair_rule.proofs.TableSteps.{table_steps}
 
-module _ {S : Type 0} (M : Machine S) (C : Copying S) (typed0 typed1 : List ℕ) (k : Knowledge) (w : World S) (z : Shows M typed0 typed1 k w) (f : Faithful M C w) where
+module _ {S : Type 0} (M : Machine S) (C : Copying S) (typed0 typed1 : List ℕ) (k : Knowledge) (w : World S) (z : Shows M typed0 typed1 k w) (f : Faithful M w) where
   outputs : (port : ℕ) → port < 2 → IsAllBut M.window_size (bytes_accepted port k) (output port f.trace)
   outputs zero two = subst (λ l. IsAllBut M.window_size (accepted_in l 0) (output 0 f.trace)) z.terminals (f.output 0)
   outputs (suc zero) two = subst (λ l. IsAllBut M.window_size (accepted_in l 1) (output 1 f.trace)) z.terminals (f.output 1)
@@ -48,7 +48,7 @@ module _ {S : Type 0} (M : Machine S) (C : Copying S) (typed0 typed1 : List ℕ)
     keys_kept = keys_kept;
   }
 
-pub shown : {S : Type 0} (M : Machine S) (C : Copying S) (typed0 typed1 : List ℕ) (k : Knowledge) (w : World S) → Stands k → Shows M typed0 typed1 k w → Reached M C w → Faithful M C w → IsShown M C typed0 typed1 k
+pub shown : {S : Type 0} (M : Machine S) (C : Copying S) (typed0 typed1 : List ℕ) (k : Knowledge) (w : World S) → Stands k → Shows M typed0 typed1 k w → Reached M C w → Faithful M w → IsShown M C typed0 typed1 k
 shown M C typed0 typed1 k w st z reached f = record { stands = st; world = w; shows = z; reached = reached; faithful = f; promises = promises M C typed0 typed1 k w z f }
 
 -- a step of the table leads from what is shown to what is shown

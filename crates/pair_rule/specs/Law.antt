@@ -153,7 +153,7 @@ pub record LeadsFaithfully {S : Type 0} (M : Machine S) (C : Copying S) (typed0 
     (w : World S) : Type 0 where
   pub leads : Leads M C typed0 typed1 k w
   pub reached : Reached M C leads.new
-  pub faithful : Faithful M C leads.new
+  pub faithful : Faithful M leads.new
   pub grows : Grows M w leads.new
 
 abbrev pub StepsAreFaithful : Type 0 → Type 0

@@ -49,7 +49,7 @@ pub record IsShown {S : Type 0} (M : Machine S) (C : Copying S) (typed0 typed1 :
   pub world : World S
   pub shows : Shows M typed0 typed1 k world
   pub reached : Reached M C world
-  pub faithful : Faithful M C world
+  pub faithful : Faithful M world
   pub promises : Promises M typed0 typed1 k
 
 abbrev pub ThreadsAreFaithful : Type 0 → Type 0

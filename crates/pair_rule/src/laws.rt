@@ -4,7 +4,8 @@ ghost use Rattle.pair_rule.specs.Steps.{TableStepsAreSteps};
 ghost use Rattle.pair_rule.specs.Threads.{AltairsAreRunnable, AltairThreadsAreFaithful, ThreadsAreFaithful};
 
 use guest_board::{boards_count, boards_issue_and_complete};
-use pair_protocol::{actions_are_faithful, altairs_are_lawful, events_are_actions, events_grow};
+use altair_laws::altairs_are_lawful;
+use pair_protocol::{actions_are_faithful, events_are_actions, events_grow};
 
 /// Each kind of step of the table keeps what stands of all that the seats know, and it is a step of the law below: one that
 /// is events of a pair, or one that is none.
