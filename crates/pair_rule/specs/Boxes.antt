@@ -71,8 +71,12 @@ emptier Answers = Primary
 -- a full word has the filler's number, which is above what the emptier has met; an empty word has the emptier's number
 module _ (word : ℕ) (homes : Homes) (fill empty : Side) where
   abbrev pub Boxed : Bool → Type 0
-  Boxed true = (number_of word ≡ fill.number) × (empty.met < fill.number) × (fill.met ≡ empty.number) × ((p : Payload) × (fill.last ≡ Some p) × (get_elem? homes (slot_of word) ≡ some (some (Some p))))
-  Boxed false = (number_of word ≡ empty.number) × (empty.met ≡ fill.number) × ((x : Option Payload) × (get_elem? homes (slot_of word) ≡ some (some x)))
+  Boxed true =
+      (number_of word ≡ fill.number) × (empty.met < fill.number) × (fill.met ≡ empty.number)
+      × ((p : Payload) × (fill.last ≡ Some p) × (get_elem? homes (slot_of word) ≡ some (some (Some p))))
+  Boxed false =
+      (number_of word ≡ empty.number) × (empty.met ≡ fill.number)
+      × ((x : Option Payload) × (get_elem? homes (slot_of word) ≡ some (some x)))
 
 -- what a side has met after a swap that found this word
 abbrev pub filler_met : Bool → ℕ → ℕ → ℕ
@@ -93,9 +97,13 @@ pub record Laid (words hands : List ℕ) (has_slot : List Bool) (homes : Homes) 
   pub paired : length has_slot ≡ length hands
   pub boxes : (j w : ℕ) → get_elem? words j ≡ some w → owner (slot_of w) ≡ j
   pub seats : (s h : ℕ) → get_elem? hands s ≡ some h → (owner h ≡ length words + s) × (h < length homes)
-  pub full : (j w : ℕ) → get_elem? words j ≡ some w → (x : Option Payload) × (get_elem? homes (slot_of w) ≡ some (some x))
-  pub bare : (s h : ℕ) → get_elem? hands s ≡ some h → get_elem? has_slot s ≡ some false → get_elem? homes h ≡ some (some None)
+  pub full :
+      (j w : ℕ) → get_elem? words j ≡ some w → (x : Option Payload) × (get_elem? homes (slot_of w) ≡ some (some x))
+  pub bare : (s h : ℕ) → get_elem? hands s ≡ some h → get_elem? has_slot s ≡ some false →
+      get_elem? homes h ≡ some (some None)
 
 -- each box stands as its two sides say
 abbrev pub Boxes : List ℕ → Homes → List Side → List Side → Type 0
-Boxes words homes fills empties = (b : Mailbox) (w : ℕ) (f e : Side) → get_elem? words (box_index b) ≡ some w → get_elem? fills (box_index b) ≡ some f → get_elem? empties (box_index b) ≡ some e → Boxed w homes f e (is_full w)
+Boxes words homes fills empties =
+    (b : Mailbox) (w : ℕ) (f e : Side) → get_elem? words (box_index b) ≡ some w →
+    get_elem? fills (box_index b) ≡ some f → get_elem? empties (box_index b) ≡ some e → Boxed w homes f e (is_full w)

@@ -45,7 +45,9 @@ winner_of (suc primary) backup = suc primary
 
 -- word 0 is the length of the list, 1 what is acknowledged, 2 the winner, 3 and 4 the bytes accepted at ports 0 and 1
 abbrev pub words_of : Knowledge → List ℕ
-words_of k = length k.primary.list ∷ last_or 0 k.backup.held_values ∷ winner_of k.primary.winner k.backup.winner ∷ accepted_after 0 k.terminal.arrivals0 ∷ accepted_after 0 k.terminal.arrivals1 ∷ []
+words_of k =
+    length k.primary.list ∷ last_or 0 k.backup.held_values ∷ winner_of k.primary.winner k.backup.winner
+    ∷ accepted_after 0 k.terminal.arrivals0 ∷ accepted_after 0 k.terminal.arrivals1 ∷ []
 
 -- ---- what stands
 

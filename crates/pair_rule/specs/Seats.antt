@@ -162,7 +162,9 @@ Empties b None old new =
 -- sector as it was, with number 0
 abbrev pub Replies : DiskView → DiskAnswer → Type 0
 Replies d (answer.Written n) = (w : SectorWrite) × (d.taken ≡ Some (ask.Write w)) × (n ≡ w.number)
-Replies d (answer.Read r) = (a : SectorAddress) × (d.taken ≡ Some (ask.Read a)) × (a ≡ record { drive = r.drive; track = r.track; sector = r.sector })
+Replies d (answer.Read r) =
+    (a : SectorAddress) × (d.taken ≡ Some (ask.Read a))
+    × (a ≡ record { drive = r.drive; track = r.track; sector = r.sector })
     × (latest (record { number = 0; bytes = r.bytes }) d.puts a ≡ record { number = r.number; bytes = r.bytes })
 
 -- the words, and what the seats know, are those of one moment

@@ -76,7 +76,8 @@ impl BackupSeat {
         requires table { self.old.table ≡ fabric.now }
         requires before { self.old.core.known.backup.winner ≡ 0 }
         ensures same { self.new.table ≡ self.old.table }
-        ensures view { (r : ℕ) × (r < 3) × WasWinner Backup self.old.core.known r × (self.new.core ≡ with_known (backup_asked r) self.old.core) }
+        ensures view { (r : ℕ) × (r < 3) × WasWinner Backup self.old.core.known r
+            × (self.new.core ≡ with_known (backup_asked r) self.old.core) }
         ensures won { MatchResult result (λ _. self.new.core.known.backup.winner ≡ 2) (λ e. (e ≡ Lost) × (self.new.core.known.backup.winner ≡ 1)) }
     {
         if self.state.contest_backup(fabric) == 1 {

@@ -44,7 +44,8 @@ impl LinkSeat {
         requires few { swaps_at self.old.core.empties Outbox < 2 ^ 40 }
         ensures same { self.new.table ≡ self.old.table }
         ensures full { IsSome self.old.hand → (result ≡ true) × (self.new ≡ self.old) }
-        ensures empty { self.old.hand ≡ None → (result ≡ is_some self.new.hand) × Empties Outbox (option_map Log self.new.hand) self.old.core self.new.core }
+        ensures empty { self.old.hand ≡ None →
+            (result ≡ is_some self.new.hand) × Empties Outbox (option_map Log self.new.hand) self.old.core self.new.core }
     {
         if self.hand.is_some() {
             return true;
@@ -65,7 +66,8 @@ impl LinkSeat {
         requires few { swaps_at self.old.core.fills Inbox < 2 ^ 40 }
         ensures same { self.new.table ≡ self.old.table }
         ensures empty { self.old.hand ≡ None → self.new ≡ self.old }
-        ensures full { (p : Packet) → self.old.hand ≡ Some p → (self.new.hand ≡ cond keep (Some p) None) × Fills Inbox (Log p) self.old.core self.new.core }
+        ensures full { (p : Packet) → self.old.hand ≡ Some p →
+            (self.new.hand ≡ cond keep (Some p) None) × Fills Inbox (Log p) self.old.core self.new.core }
     {
         let Some(packet) = self.hand else {
             return;

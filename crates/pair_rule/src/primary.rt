@@ -117,7 +117,8 @@ impl PrimarySeat {
         requires table { self.old.table ≡ fabric.now }
         requires before { self.old.core.known.primary.winner ≡ 0 }
         ensures same { self.new.table ≡ self.old.table }
-        ensures view { (r : ℕ) × (r < 3) × WasWinner Primary self.old.core.known r × (self.new.core ≡ with_known (primary_asked r) self.old.core) }
+        ensures view { (r : ℕ) × (r < 3) × WasWinner Primary self.old.core.known r
+            × (self.new.core ≡ with_known (primary_asked r) self.old.core) }
         ensures won { MatchResult result (λ _. self.new.core.known.primary.winner ≡ 1) (λ e. (e ≡ Lost) × (self.new.core.known.primary.winner ≡ 2)) }
     {
         if self.state.contest_primary(fabric) <= 1 {

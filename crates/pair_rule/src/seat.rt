@@ -97,7 +97,8 @@ impl SeatState {
         ensures table { self.new.seat.table_id ≡ self.old.seat.table_id }
         ensures seat { Keeps Primary self.new.seat.me self.new.slot self.new.fills self.new.empties }
         ensures held { WasHeld self.old.seat.me.0.core.known result }
-        ensures later { (self.old.seat.me.0.core.known.primary.seen ≤ result) × (result ≤ length self.old.seat.me.0.core.known.primary.list) }
+        ensures later { (self.old.seat.me.0.core.known.primary.seen ≤ result)
+            × (result ≤ length self.old.seat.me.0.core.known.primary.list) }
         ensures view { self.new.seat.me.0 ≡ with_core self.old.seat.me.0 (with_known (saw result) self.old.seat.me.0.core) }
     {
         fabric.table.shared.load::<See>(&mut self.seat, 1)

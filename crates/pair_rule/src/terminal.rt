@@ -26,7 +26,8 @@ pub(crate) struct Line {
 impl Line {
     // How many bytes are accepted with the byte in hand.
     fn with_hand(&self) -> u64
-        ensures { (arrivals : List Arrived) → self.now.accepted ≡ accepted_after 0 arrivals → result ≡ accepted_after 0 (arrives self.now.hand arrivals) }
+        ensures { (arrivals : List Arrived) → self.now.accepted ≡ accepted_after 0 arrivals →
+            result ≡ accepted_after 0 (arrives self.now.hand arrivals) }
     {
         match self.hand {
             Some(operation) => accepted_with_one(self.accepted, operation),
@@ -37,7 +38,8 @@ impl Line {
 
 // How many bytes are accepted after one more.
 fn accepted_with_one(accepted: u64, operation: Operation) -> u64
-    ensures { (arrivals : List Arrived) → accepted ≡ accepted_after 0 arrivals → result ≡ accepted_after 0 (arrives (Some operation) arrivals) }
+    ensures { (arrivals : List Arrived) → accepted ≡ accepted_after 0 arrivals →
+        result ≡ accepted_after 0 (arrives (Some operation) arrivals) }
 {
     match operation {
         Operation::Byte { number, .. } => accepted_then(accepted, number),
@@ -134,7 +136,8 @@ impl TerminalSeat {
         requires table { self.old.table ≡ fabric.now }
         requires port { port < 2 }
         ensures same { self.new.table ≡ self.old.table }
-        ensures counted { (result ≡ accepted_with port self.old.core.known) × (self.new.core ≡ with_known (byte_arrived port) self.old.core) }
+        ensures counted { (result ≡ accepted_with port self.old.core.known)
+            × (self.new.core ≡ with_known (byte_arrived port) self.old.core) }
     {
         if port == 0 {
             let accepted = self.line0.with_hand();
