@@ -12,15 +12,19 @@ use Rattle.pair_rule.specs.declared.view.Side.{Side}
 abbrev pub Homes : Type 0
 Homes = List (maybe.Option (Option Payload))
 
+-- the parts of a box word
 abbrev pub slot_of : ℕ → ℕ
 slot_of word = word % 16
 
+-- whether it says that the box is full
 abbrev pub is_full : ℕ → Bool
 is_full word = (word / 16) % 2 == 1
 
+-- its last writer's number of swaps there
 abbrev pub number_of : ℕ → ℕ
 number_of word = word / 32
 
+-- the word of a full box and of an empty one
 abbrev pub full_word : ℕ → ℕ → ℕ
 full_word number slot = number * 32 + 16 + slot
 
@@ -36,6 +40,7 @@ box_index Bytes1 = 3
 box_index Requests = 4
 box_index Answers = 5
 
+-- the box of a port's bytes
 abbrev pub port_box : ℕ → Mailbox
 port_box zero = Bytes0
 port_box (suc port) = Bytes1
@@ -44,6 +49,7 @@ port_box (suc port) = Bytes1
 pub data Who : Type 0 where
   Primary Link Backup Terminal Disk : Who
 
+-- their places in lists
 abbrev pub seat_index : Who → ℕ
 seat_index Primary = 0
 seat_index Link = 1
@@ -87,6 +93,7 @@ abbrev pub emptier_met : Bool → ℕ → ℕ → ℕ
 emptier_met true word met = number_of word
 emptier_met false word met = met
 
+-- a side of a box
 abbrev pub side : ℕ → ℕ → Option Payload → Side
 side number met last = record { number = number; met = met; last = last }
 

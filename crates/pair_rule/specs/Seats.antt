@@ -34,6 +34,7 @@ use Rattle.atomic_table.specs.Seated.{TableId}
 use Rattle.pair_rule.specs.Rules.{has, Sized, first_core}
 use Rattle.pair_rule.specs.Kinds.{Mine, WasIn, with_slot, nobody, side_at, filled, emptied, found_empty}
 
+-- a seat has its part, its slot, and one value in it
 pub record Holds (s : Who) (me : Mine) (slot : ℕ) : Type 0 where
   pub mine : has me.0 s
   pub hand : get_elem? me.0.core.hands (seat_index s) ≡ some slot
@@ -42,6 +43,7 @@ pub record Holds (s : Who) (me : Mine) (slot : ℕ) : Type 0 where
   pub small : slot < 11
   pub sized : Sized me.0.core
 
+-- the numbers of swaps of sides
 abbrev pub numbers : List Side → List ℕ
 numbers sides = map (λ (z : Side). z.number) sides
 
@@ -52,6 +54,7 @@ pub record Keeps (s : Who) (me : Mine) (slot : ℕ) (fills empties : List ℕ) :
   pub fills_are : fills ≡ numbers me.0.core.fills
   pub empties_are : empties ≡ numbers me.0.core.empties
 
+-- no swaps yet
 abbrev pub zeros : List ℕ
 zeros = 0 ∷ 0 ∷ 0 ∷ 0 ∷ 0 ∷ 0 ∷ []
 
@@ -75,11 +78,13 @@ LeavesRoom sides =
     ((side_at sides 0).number < 2 ^ 40) × ((side_at sides 1).number < 2 ^ 40) × ((side_at sides 2).number < 2 ^ 40)
     × ((side_at sides 3).number < 2 ^ 40) × ((side_at sides 4).number < 2 ^ 40) × ((side_at sides 5).number < 2 ^ 40)
 
+-- at every box that it fills or empties
 abbrev pub HasSwapsLeft : Core → Type 0
 HasSwapsLeft c = LeavesRoom c.fills × LeavesRoom c.empties
 
 -- ---- what contracts see of a seat: its table, and the core as it knows it
 
+-- its table and the core
 pub record Seat : Type 0 where
   pub table : TableId
   pub core : Core
@@ -90,6 +95,7 @@ pub record Carrier : Type 0 where
   pub core : Core
   pub hand : Option Packet
 
+-- the numbers that a primary keeps beside are those of its view
 pub record IsPrimary (me : Mine) (slot : ℕ) (fills empties : List ℕ) (generation count seen : ℕ) : Type 0 where
   pub keeps : Keeps Primary me slot fills empties
   pub generation_is : generation ≡ me.0.core.known.generation
@@ -97,6 +103,7 @@ pub record IsPrimary (me : Mine) (slot : ℕ) (fills empties : List ℕ) (genera
   pub seen_is : seen ≡ me.0.core.known.primary.seen
   pub seen_low : seen ≤ count
 
+-- the packet in the link's hand is the one that it took out last
 pub record IsLink (me : Mine) (slot : ℕ) (fills empties : List ℕ) (hand : Option Packet) : Type 0 where
   pub keeps : Keeps Link me slot fills empties
   pub hand_is : (p : Packet) → hand ≡ Some p → me.0.core.known.link ≡ Some p
@@ -107,6 +114,7 @@ pub record IsBackup (me : Mine) (slot : ℕ) (fills empties : List ℕ) (count :
   pub count_is : count ≡ length me.0.core.known.backup.list
   pub count_low : count ≤ (side_at me.0.core.empties (box_index Inbox)).number
 
+-- what terminals keep beside is of their view
 pub record IsTerminal (me : Mine) (slot : ℕ) (fills empties : List ℕ) (hand0 : Option Operation) (accepted0 : ℕ) (hand1 : Option Operation) (accepted1 : ℕ) : Type 0 where
   pub keeps : Keeps Terminal me slot fills empties
   pub hand0_is : hand0 ≡ me.0.core.known.terminal.hand0
