@@ -1,5 +1,5 @@
 -- What a seat holds: its part of the core, one slot, and the numbers of its swaps.
-use Rattle.std.specs.Prelude.{◌≡◌, ◌+◌, ℕ, ◌<◌, ◌≤◌, ◌^◌, ◌-◌, if◌then◌else◌, nat_lt, nat_le, Bool, true, cond, List, [], ◌∷◌, length, map, Option, Some, None, slice_set}
+use Rattle.std.specs.Prelude.{◌≡◌, ◌+◌, ℕ, ◌<◌, ◌≤◌, ◌^◌, ◌-◌, if◌then◌else◌, nat_lt, nat_le, Bool, true, List, [], ◌∷◌, length, map, Option, Some, None, slice_set}
 use mathlib.Core.Option.{some}
 use lib.ListN.{get_elem?}
 use Rattle.event_callbacks.specs.declared.operations.Operation.{Operation}
@@ -11,7 +11,7 @@ use Rattle.pair_protocol.specs.Lawful.{top}
 use Rattle.pair_protocol.specs.World.{latest}
 use Rattle.std.specs.List.{list_all}
 use Rattle.pair_rule.specs.declared.mailbox.Mailbox.{Mailbox}
-use Rattle.pair_rule.specs.declared.mailbox.Mailbox.TheVariants.{Outbox, Inbox}
+use Rattle.pair_rule.specs.declared.mailbox.Mailbox.TheVariants.{Inbox}
 use Rattle.pair_rule.specs.declared.payload.Packet.{Packet}
 use Rattle.pair_rule.specs.declared.payload.Payload.{Payload}
 use Rattle.pair_rule.specs.declared.payload.Payload.TheVariants.{Out}
@@ -28,7 +28,7 @@ use Rattle.pair_rule.specs.declared.view.Side.{Side}
 use Rattle.pair_rule.specs.declared.view.Core.{Core}
 use Rattle.disk_dcdd.specs.declared.sector.SectorWrite.{SectorWrite}
 use Rattle.disk_dcdd.specs.declared.address.SectorAddress.{SectorAddress}
-use Rattle.pair_rule.specs.Boxes.{Who, Primary, Link, Backup, Terminal, seat_index, box_index, number_of}
+use Rattle.pair_rule.specs.Boxes.{Who, Primary, Link, Backup, Terminal, seat_index, box_index}
 use Rattle.pair_rule.specs.Knowledge.{grown, accepted_after, last_or, winner_of, Stands}
 use Rattle.atomic_table.specs.Seated.{TableId}
 use Rattle.pair_rule.specs.Rules.{has, Sized, first_core}
@@ -115,7 +115,8 @@ pub record IsBackup (me : Mine) (slot : ℕ) (fills empties : List ℕ) (count :
   pub count_low : count ≤ (side_at me.0.core.empties (box_index Inbox)).number
 
 -- what terminals keep beside is of their view
-pub record IsTerminal (me : Mine) (slot : ℕ) (fills empties : List ℕ) (hand0 : Option Operation) (accepted0 : ℕ) (hand1 : Option Operation) (accepted1 : ℕ) : Type 0 where
+pub record IsTerminal (me : Mine) (slot : ℕ) (fills empties : List ℕ) (hand0 : Option Operation) (accepted0 : ℕ)
+    (hand1 : Option Operation) (accepted1 : ℕ) : Type 0 where
   pub keeps : Keeps Terminal me slot fills empties
   pub hand0_is : hand0 ≡ me.0.core.known.terminal.hand0
   pub hand1_is : hand1 ≡ me.0.core.known.terminal.hand1
@@ -176,7 +177,8 @@ Replies d (answer.Read r) =
     × (latest (record { number = 0; bytes = r.bytes }) d.puts a ≡ record { number = r.number; bytes = r.bytes })
 
 -- the words, and what the seats know, are those of one moment
-pub record Settled (primary : PrimaryView) (backup : BackupView) (terminal : TerminalView) (disk : DiskView) (tail held winner : ℕ) : Type 0 where
+pub record Settled (primary : PrimaryView) (backup : BackupView) (terminal : TerminalView) (disk : DiskView)
+    (tail held winner : ℕ) : Type 0 where
   pub known : Knowledge
   pub stands : Stands known
   pub primary_is : known.primary ≡ primary

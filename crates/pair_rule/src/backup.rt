@@ -1,9 +1,9 @@
 //! The backup's seat.
 ghost use Rattle.std.specs.Prelude.{◌≡◌, ◌↔◌, IsTrue, ◌^◌, ◌<◌, ℕ, length, option_map, MatchResult};
-ghost use Rattle.pair_rule.specs.Boxes.{Backup, box_index, number_of};
+ghost use Rattle.pair_rule.specs.Boxes.{Backup};
 ghost use Rattle.pair_rule.specs.Knowledge.{held, backup_asked};
 ghost use Rattle.pair_rule.specs.Seats.{HasSwapsLeft, Empties, swaps_at, with_packet};
-ghost use Rattle.pair_rule.specs.Kinds.{WasIn, WasWinner, side_at, emptied, found_empty, with_known};
+ghost use Rattle.pair_rule.specs.Kinds.{WasWinner, with_known};
 ghost use Rattle.i8080_words.specs.declared.refusal.Fault.TheVariants.{Lost};
 ghost use Rattle.pair_rule.specs.declared.mailbox.Mailbox.TheVariants.{Inbox};
 ghost use Rattle.pair_rule.specs.declared.payload.Payload.TheVariants.{Log};

@@ -1,7 +1,5 @@
 //! The disk's seat.
-ghost use Rattle.std.specs.Prelude.{◌≡◌, ◌↔◌, IsTrue, ◌^◌, ◌<◌, ℕ, option_map};
-ghost use Rattle.pair_rule.specs.Boxes.{box_index, number_of};
-ghost use Rattle.pair_rule.specs.Kinds.{WasIn, side_at, filled, emptied, found_empty};
+ghost use Rattle.std.specs.Prelude.{◌≡◌, ◌↔◌, IsTrue, ◌^◌, ◌<◌, option_map};
 ghost use Rattle.pair_rule.specs.Seats.{HasSwapsLeft, Fills, Empties, Replies, swaps_at};
 ghost use Rattle.pair_rule.specs.declared.mailbox.Mailbox.TheVariants.{Requests, Answers};
 ghost use Rattle.pair_rule.specs.declared.payload.Payload.TheVariants.{Request, Answer};

@@ -1,7 +1,5 @@
 //! The link's seat. It carries packets from the outbox to the inbox.
-ghost use Rattle.std.specs.Prelude.{cond, ◌≡◌, ◌↔◌, IsTrue, ◌^◌, ◌<◌, ℕ, true, None, Some, IsSome, is_some, option_map};
-ghost use Rattle.pair_rule.specs.Boxes.{box_index};
-ghost use Rattle.pair_rule.specs.Kinds.{side_at, found_empty};
+ghost use Rattle.std.specs.Prelude.{cond, ◌≡◌, ◌↔◌, IsTrue, ◌^◌, ◌<◌, true, None, Some, IsSome, is_some, option_map};
 ghost use Rattle.pair_rule.specs.Seats.{HasSwapsLeft, Fills, Empties, swaps_at};
 ghost use Rattle.pair_rule.specs.declared.mailbox.Mailbox.TheVariants.{Outbox, Inbox};
 ghost use Rattle.pair_rule.specs.declared.payload.Packet.{Packet};

@@ -3,10 +3,10 @@ ghost use Rattle.std.specs.Prelude.{◌≡◌, ◌↔◌, IsTrue, ◌+◌, ◌^�
 ghost use mathlib.Core.Option.{some};
 ghost use lib.ListN.{get_elem?};
 ghost use Rattle.pair_protocol.specs.Lawful.{top};
-ghost use Rattle.pair_rule.specs.Boxes.{Primary, box_index, port_box, number_of};
+ghost use Rattle.pair_rule.specs.Boxes.{Primary, port_box};
 ghost use Rattle.pair_rule.specs.Knowledge.{appended, saw, saw_count, primary_asked};
 ghost use Rattle.pair_rule.specs.Seats.{HasSwapsLeft, Fills, Empties, append_refusal, swaps_at};
-ghost use Rattle.pair_rule.specs.Kinds.{WasIn, WasHeld, WasWinner, WasAccepted, side_at, filled, emptied, found_empty, with_known, counted_at};
+ghost use Rattle.pair_rule.specs.Kinds.{WasHeld, WasWinner, WasAccepted, with_known, counted_at};
 ghost use Rattle.i8080_words.specs.declared.refusal.Fault.TheVariants.{Lost};
 ghost use Rattle.pair_rule.specs.declared.mailbox.Mailbox.TheVariants.{Outbox, Requests, Answers};
 ghost use Rattle.pair_rule.specs.declared.payload.Payload.TheVariants.{Log, Out, Request, Answer};

@@ -1,8 +1,8 @@
 //! How a seat steps, whichever it is.
-ghost use Rattle.std.specs.Prelude.{◌≡◌, ◌&&◌, ◌^◌, ◌<◌, ◌≤◌, ℕ, Some, MatchOption, length, length as len};
-ghost use Rattle.pair_rule.specs.Boxes.{box_index, filler, emptier, number_of, Primary, Backup, Terminal};
+ghost use Rattle.std.specs.Prelude.{◌≡◌, ◌&&◌, ◌^◌, ◌<◌, ◌≤◌, Some, length, length as len};
+ghost use Rattle.pair_rule.specs.Boxes.{filler, emptier, Primary, Backup, Terminal};
 ghost use Rattle.pair_rule.specs.Knowledge.{CanFill, appended, saw, held, primary_asked, backup_asked, accepted_with, byte_arrived, saw_count};
-ghost use Rattle.pair_rule.specs.Kinds.{WasIn, WasHeld, WasWinner, WasAccepted, side_at, filled, emptied, found_empty, with_core, with_known, counted_at};
+ghost use Rattle.pair_rule.specs.Kinds.{WasHeld, WasWinner, WasAccepted, filled, emptied, with_core, with_known, counted_at};
 ghost use Rattle.pair_rule.specs.Seats.{Keeps, Fills, Empties, swaps_at, all_below};
 
 use crate::fabric::{Fabric, TableSeat};

@@ -1,10 +1,10 @@
 //! The seat of the two terminals.
-ghost use Rattle.std.specs.Prelude.{◌≡◌, ◌↔◌, IsTrue, ◌==◌, ◌+◌, ◌^◌, ◌<◌, ℕ, List, cond, Some, option_map};
+ghost use Rattle.std.specs.Prelude.{◌≡◌, ◌↔◌, IsTrue, ◌==◌, ◌+◌, ◌^◌, ◌<◌, List, cond, Some, option_map};
 ghost use Rattle.event_callbacks.specs.declared.operations.Operation.TheVariants as operation;
-ghost use Rattle.pair_rule.specs.Boxes.{box_index, port_box, number_of};
+ghost use Rattle.pair_rule.specs.Boxes.{port_box};
 ghost use Rattle.pair_rule.specs.Knowledge.{accepted_after, accepted_with, arrives, byte_arrived};
 ghost use Rattle.pair_rule.specs.Seats.{HasSwapsLeft, Empties, byte_of, swaps_at};
-ghost use Rattle.pair_rule.specs.Kinds.{WasIn, side_at, emptied, found_empty, with_known};
+ghost use Rattle.pair_rule.specs.Kinds.{with_known};
 ghost use Rattle.pair_rule.specs.declared.mailbox.Mailbox.TheVariants.{Bytes0, Bytes1};
 ghost use Rattle.pair_rule.specs.declared.payload.Payload.TheVariants.{Out};
 ghost use Rattle.pair_rule.specs.declared.view.Arrived.{Arrived};

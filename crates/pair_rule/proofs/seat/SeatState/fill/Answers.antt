@@ -3,7 +3,7 @@ use Rattle.atomic_table.specs.Table.{Allows}
 use Rattle.pair_rule.specs.Boxes.{box_index, filler, full_word, slot_of}
 use Rattle.pair_rule.specs.Knowledge.{CanFill}
 use Rattle.pair_rule.specs.Rules.{Rule}
-use Rattle.pair_rule.specs.Kinds.{Mine, side_at, with_core, filled, fills}
+use Rattle.pair_rule.specs.Kinds.{Mine, side_at, filled, fills}
 use Rattle.pair_rule.specs.declared.view.SeatView.{SeatView}
 use Rattle.pair_rule.specs.Seats.{Keeps}
 use Rattle.pair_rule.proofs.Parts.{few_boxes}
