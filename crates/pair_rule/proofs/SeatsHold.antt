@@ -1,5 +1,5 @@
 -- What a seat holds after a step.
-use Rattle.std.proofs.Common.{◌≡◌, ◌≢◌, ◌↔◌, ℕ, zero, suc, ◌+◌, ◌<◌, ◌^◌, ◌&&◌, nat_lt, Bool, true, false, List, [], ◌∷◌, length, get_or, set, sym, refl, ap, ◌∙◌, subst, arith, length-set, Option}
+use Rattle.std.proofs.Common.{◌≡◌, ◌≢◌, ◌↔◌, ℕ, zero, suc, ◌+◌, ◌<◌, ◌^◌, ◌&&◌, nat_lt, Bool, true, false, List, [], ◌∷◌, length, get_or, set, Some, None, sym, refl, ap, ◌∙◌, subst, arith, length-set, Option}
 use mathlib.Core.Option.{some}
 use lib.ListN.{get_elem?}
 use Rattle.atomic_table.specs.Table.{rest}
@@ -8,12 +8,14 @@ use Rattle.pair_rule.specs.declared.mailbox.Mailbox.TheVariants.{Outbox, Inbox, 
 use Rattle.pair_rule.specs.declared.payload.Payload.{Payload}
 use Rattle.pair_rule.specs.declared.view.Side.{Side}
 use Rattle.pair_rule.specs.declared.view.Knowledge.{Knowledge}
+use Rattle.pair_rule.specs.declared.view.Core.{Core}
 use Rattle.pair_rule.specs.declared.view.SeatView.{SeatView}
 use Rattle.pair_rule.specs.Rules.{new_side}
-use Rattle.pair_rule.specs.Boxes.{side, box_index, Who, seat_index, filler, emptier, slot_of}
-use Rattle.pair_rule.specs.Kinds.{Mine, nobody, side_at, filled, emptied, found_empty, with_known, with_core, Swapped}
-use Rattle.pair_rule.specs.Seats.{Holds, Keeps, numbers, all_below, most_swaps, LeavesRoom, HasSwapsLeft}
-use Rattle.atomic_table.proofs.Lists.{set_else}
+use Rattle.pair_rule.specs.Boxes.{number_of, side, box_index, Who, seat_index, filler, emptier, slot_of}
+use Rattle.pair_rule.specs.Kinds.{Mine, WasIn, nobody, side_at, filled, emptied, found_empty, with_known, with_core, Swapped}
+use Rattle.pair_rule.specs.Seats.{Holds, Keeps, numbers, all_below, most_swaps, LeavesRoom, HasSwapsLeft, Fills, Empties}
+use Rattle.atomic_table.proofs.Lists.{set_else, set_here}
+use Rattle.pair_rule.proofs.Slots.{or_of}
 use Rattle.pair_rule.proofs.SplitSeats.{nobody_has}
 use Rattle.pair_rule.proofs.Parts.{set_there, few_boxes, index_at}
 use Rattle.std.proofs.lemmas.List.{get_or-map, map-set, length-map}
@@ -166,3 +168,26 @@ swaps_left s me slot fills empties left k is = (
       (room_all me.0.core.fills (side_below me.0.core.fills fills k.holds.sized.fills k.fills_are all.0), room_all me.0.core.empties (side_below me.0.core.empties empties k.holds.sized.empties k.empties_are all.1)),
   λ h. is ∙ true_both (all_below fills) (all_below empties) (below_side me.0.core.fills fills k.holds.sized.fills k.fills_are (room_at me.0.core.fills h.0)) (below_side me.0.core.empties empties k.holds.sized.empties k.empties_are (room_at me.0.core.empties h.1)),
 )
+
+-- ---- what a swap tells
+
+side_set : (sides : List Side) (b : Mailbox) (z : Side) → length sides ≡ 6 → side_at (set sides (box_index b) z) (box_index b) ≡ z
+side_set sides b z six = let few = few_boxes b in or_of (set sides (box_index b) z) (box_index b) new_side z (set_here sides (box_index b) z (omega (arith, few, six)))
+
+pub says_filled : (b : Mailbox) (q : Payload) (r : ℕ) (old new : Core) → length old.fills ≡ 6 → new ≡ filled b q r old → Fills b q old new
+says_filled b q r old new six is =
+    let s : side_at new.fills (box_index b) ≡ side_at (filled b q r old).fills (box_index b) = ap (λ (c : Core). side_at c.fills (box_index b)) is in
+    let e = s ∙ side_set old.fills b _ six in
+    ((r, is), ap (λ (z : Side). z.number) e, ap (λ (z : Side). z.last) e)
+
+pub says_emptied : (b : Mailbox) (q : Payload) (r : ℕ) (old new : Core) → length old.empties ≡ 6 → new ≡ emptied b q r old → (side_at old.empties (box_index b)).met < number_of r → WasIn b old.known q → Empties b (Some q) old new
+says_emptied b q r old new six is met was =
+    let s : side_at new.empties (box_index b) ≡ side_at (emptied b q r old).empties (box_index b) = ap (λ (c : Core). side_at c.empties (box_index b)) is in
+    let e = s ∙ side_set old.empties b _ six in
+    (was, (r, is), ap (λ (z : Side). z.number) e, subst (λ (z : Side). (side_at old.empties (box_index b)).met < z.met) (sym e) met)
+
+pub says_found : (b : Mailbox) (r : ℕ) (old new : Core) → length old.empties ≡ 6 → new ≡ found_empty b r old → Empties b None old new
+says_found b r old new six is =
+    let s : side_at new.empties (box_index b) ≡ side_at (found_empty b r old).empties (box_index b) = ap (λ (c : Core). side_at c.empties (box_index b)) is in
+    let e = s ∙ side_set old.empties b _ six in
+    ((r, is), ap (λ (z : Side). z.number) e, ap (λ (z : Side). z.met) e)

@@ -1,5 +1,5 @@
 -- Each kind of step of the table is events of the world, or none; and what stands goes on to stand.
-use Rattle.std.proofs.Common.{◌≡◌, ◌≢◌, ℕ, zero, suc, ◌+◌, ◌<◌, List, sym, refl, ap, ◌∙◌, subst, inl, inr, ◌⊎◌, arith, Option, Some, None}
+use Rattle.std.proofs.Common.{◌≡◌, ℕ, zero, suc, ◌<◌, List, sym, refl, ap, ◌∙◌, subst, inl, inr, ◌⊎◌, arith, Option, Some, None}
 use Rattle.event_callbacks.specs.declared.operations.Operation.{Operation}
 use Rattle.event_callbacks.specs.declared.operations.Operation.TheVariants.{Byte, Write}
 use Rattle.guest_board.specs.Machine.{Machine}
@@ -11,11 +11,11 @@ use Rattle.pair_rule.specs.declared.payload.Payload.{Payload}
 use Rattle.pair_rule.specs.declared.payload.Payload.TheVariants.{Log, Out, Request, Answer}
 use Rattle.pair_rule.specs.declared.view.Knowledge.{Knowledge}
 use Rattle.pair_rule.specs.Boxes.{filler, emptier}
-use Rattle.pair_rule.specs.Knowledge.{CanFill, Decided, Fits, IsByteOf, Stands, WhereSome, after_empty, after_fill, backup_asked, byte_arrived, primary_asked, winner_of}
+use Rattle.pair_rule.specs.Knowledge.{CanFill, Fits, IsByteOf, Stands, WhereSome, after_empty, after_fill, backup_asked, byte_arrived, primary_asked, winner_of}
 use Rattle.pair_rule.specs.Law as law
 use Rattle.pair_rule.specs.Law.{SilentStep, ThreadStep, Keeps, CountsNone, Carries, TakesByte0, TakesByte1, TakesRequest, HasAnswer, AsksRead, AnswersRead}
 use Rattle.pair_rule.specs.Shown.{hand_of}
-use Rattle.pair_rule.specs.Steps.{AsksNot, IsStep, Promised, Stays, Fills, Empties, Appends, Sees, Holds, PrimaryAsks, BackupAsks, Counts, SeesCount, TableStepsAreSteps}
+use Rattle.pair_rule.specs.Steps.{AsksNot, Promised, Stays, Fills, Empties, Appends, Sees, Holds, PrimaryAsks, BackupAsks, Counts, SeesCount, TableStepsAreSteps}
 use Rattle.pair_rule.proofs.Emptied.{empty_keeps}
 use Rattle.pair_rule.proofs.Filled.{fill_keeps}
 use Rattle.pair_rule.proofs.WordChanges.{append_stays, see_stays, hold_stays, primary_asks, backup_asks, came_stays, count_stays}

@@ -12,15 +12,19 @@ use Rattle.pair_rule.specs.declared.view.Side.{Side}
 abbrev pub Homes : Type 0
 Homes = List (maybe.Option (Option Payload))
 
+-- the parts of a box word
 abbrev pub slot_of : ℕ → ℕ
 slot_of word = word % 16
 
+-- whether it says that the box is full
 abbrev pub is_full : ℕ → Bool
 is_full word = (word / 16) % 2 == 1
 
+-- its last writer's number of swaps there
 abbrev pub number_of : ℕ → ℕ
 number_of word = word / 32
 
+-- the word of a full box and of an empty one
 abbrev pub full_word : ℕ → ℕ → ℕ
 full_word number slot = number * 32 + 16 + slot
 
@@ -36,6 +40,7 @@ box_index Bytes1 = 3
 box_index Requests = 4
 box_index Answers = 5
 
+-- the box of a port's bytes
 abbrev pub port_box : ℕ → Mailbox
 port_box zero = Bytes0
 port_box (suc port) = Bytes1
@@ -44,6 +49,7 @@ port_box (suc port) = Bytes1
 pub data Who : Type 0 where
   Primary Link Backup Terminal Disk : Who
 
+-- their places in lists
 abbrev pub seat_index : Who → ℕ
 seat_index Primary = 0
 seat_index Link = 1
@@ -71,8 +77,12 @@ emptier Answers = Primary
 -- a full word has the filler's number, which is above what the emptier has met; an empty word has the emptier's number
 module _ (word : ℕ) (homes : Homes) (fill empty : Side) where
   abbrev pub Boxed : Bool → Type 0
-  Boxed true = (number_of word ≡ fill.number) × (empty.met < fill.number) × (fill.met ≡ empty.number) × ((p : Payload) × (fill.last ≡ Some p) × (get_elem? homes (slot_of word) ≡ some (some (Some p))))
-  Boxed false = (number_of word ≡ empty.number) × (empty.met ≡ fill.number) × ((x : Option Payload) × (get_elem? homes (slot_of word) ≡ some (some x)))
+  Boxed true =
+      (number_of word ≡ fill.number) × (empty.met < fill.number) × (fill.met ≡ empty.number)
+      × ((p : Payload) × (fill.last ≡ Some p) × (get_elem? homes (slot_of word) ≡ some (some (Some p))))
+  Boxed false =
+      (number_of word ≡ empty.number) × (empty.met ≡ fill.number)
+      × ((x : Option Payload) × (get_elem? homes (slot_of word) ≡ some (some x)))
 
 -- what a side has met after a swap that found this word
 abbrev pub filler_met : Bool → ℕ → ℕ → ℕ
@@ -83,6 +93,7 @@ abbrev pub emptier_met : Bool → ℕ → ℕ → ℕ
 emptier_met true word met = number_of word
 emptier_met false word met = met
 
+-- a side of a box
 abbrev pub side : ℕ → ℕ → Option Payload → Side
 side number met last = record { number = number; met = met; last = last }
 
@@ -93,9 +104,13 @@ pub record Laid (words hands : List ℕ) (has_slot : List Bool) (homes : Homes) 
   pub paired : length has_slot ≡ length hands
   pub boxes : (j w : ℕ) → get_elem? words j ≡ some w → owner (slot_of w) ≡ j
   pub seats : (s h : ℕ) → get_elem? hands s ≡ some h → (owner h ≡ length words + s) × (h < length homes)
-  pub full : (j w : ℕ) → get_elem? words j ≡ some w → (x : Option Payload) × (get_elem? homes (slot_of w) ≡ some (some x))
-  pub bare : (s h : ℕ) → get_elem? hands s ≡ some h → get_elem? has_slot s ≡ some false → get_elem? homes h ≡ some (some None)
+  pub full :
+      (j w : ℕ) → get_elem? words j ≡ some w → (x : Option Payload) × (get_elem? homes (slot_of w) ≡ some (some x))
+  pub bare : (s h : ℕ) → get_elem? hands s ≡ some h → get_elem? has_slot s ≡ some false →
+      get_elem? homes h ≡ some (some None)
 
 -- each box stands as its two sides say
 abbrev pub Boxes : List ℕ → Homes → List Side → List Side → Type 0
-Boxes words homes fills empties = (b : Mailbox) (w : ℕ) (f e : Side) → get_elem? words (box_index b) ≡ some w → get_elem? fills (box_index b) ≡ some f → get_elem? empties (box_index b) ≡ some e → Boxed w homes f e (is_full w)
+Boxes words homes fills empties =
+    (b : Mailbox) (w : ℕ) (f e : Side) → get_elem? words (box_index b) ≡ some w →
+    get_elem? fills (box_index b) ≡ some f → get_elem? empties (box_index b) ≡ some e → Boxed w homes f e (is_full w)

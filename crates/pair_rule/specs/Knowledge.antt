@@ -24,6 +24,7 @@ use Rattle.pair_rule.specs.declared.view.Knowledge.{Knowledge}
 
 -- ---- the words that what is known gives
 
+-- the last of a list
 abbrev pub last_or : ℕ → List ℕ → ℕ
 last_or x [] = x
 last_or x (y ∷ ys) = last_or y ys
@@ -45,7 +46,9 @@ winner_of (suc primary) backup = suc primary
 
 -- word 0 is the length of the list, 1 what is acknowledged, 2 the winner, 3 and 4 the bytes accepted at ports 0 and 1
 abbrev pub words_of : Knowledge → List ℕ
-words_of k = length k.primary.list ∷ last_or 0 k.backup.held_values ∷ winner_of k.primary.winner k.backup.winner ∷ accepted_after 0 k.terminal.arrivals0 ∷ accepted_after 0 k.terminal.arrivals1 ∷ []
+words_of k =
+    length k.primary.list ∷ last_or 0 k.backup.held_values ∷ winner_of k.primary.winner k.backup.winner
+    ∷ accepted_after 0 k.terminal.arrivals0 ∷ accepted_after 0 k.terminal.arrivals1 ∷ []
 
 -- ---- what stands
 
@@ -53,6 +56,7 @@ words_of k = length k.primary.list ∷ last_or 0 k.backup.held_values ∷ winner
 abbrev pub IsEntryOf : ℕ → List Entry → Packet → Type 0
 IsEntryOf g list p = (p.generation ≡ g) × (get_elem? list p.index ≡ some p.entry)
 
+-- the list begins with the copy
 abbrev pub StartsWith : List Entry → List Entry → Type 0
 StartsWith list copy = (more : List Entry) × (list ≡ copy ++ more)
 
@@ -81,10 +85,12 @@ Fits Requests k (Request r) = IsAsked k.primary.released r
 Fits Answers k (Answer a) = Among a k.disk.given
 Fits _ k _ = ⊥
 
+-- it holds of what is there, if anything is
 abbrev pub WhereSome : {A : Type 0} → Option A → (A → Type 0) → Type 0
 WhereSome None holds = Unit {0}
 WhereSome (Some x) holds = holds x
 
+-- it holds of each element
 abbrev pub AllAre : {A : Type 0} → List A → (A → Type 0) → Type 0
 AllAre [] holds = Unit {0}
 AllAre (x ∷ xs) holds = holds x × AllAre xs holds
@@ -105,10 +111,12 @@ read_at r = record { drive = r.drive; track = r.track; sector = r.sector }
 abbrev pub HasWrite : List SectorWrite → ℕ → Type 0
 HasWrite puts n = (w : SectorWrite) × Among w puts × (w.number ≡ n)
 
+-- an answer is of a write that was put, or of a read
 abbrev pub IsReplied : List SectorWrite → DiskAnswer → Type 0
 IsReplied puts (answer.Written n) = HasWrite puts n
 IsReplied puts (answer.Read r) = (r.number ≡ 0) ⊎ ((w : SectorWrite) × Among w puts × (address_of w ≡ read_at r) × (w.number ≡ r.number) × (w.bytes ≡ r.bytes))
 
+-- what stands of all that the seats know
 pub record Stands (k : Knowledge) : Type 0 where
   pub prefix : StartsWith k.primary.list k.backup.list
   pub in_link : WhereSome k.link (IsEntryOf k.generation k.primary.list)
@@ -132,6 +140,7 @@ pub record Stands (k : Knowledge) : Type 0 where
 
 -- ---- how each step changes what is known
 
+-- a list after a packet: longer if the packet is the next one
 abbrev pub grown : List Entry → Packet → List Entry
 grown list p = cond (p.index == length list) (list ++ p.entry ∷ []) list
 
@@ -141,6 +150,7 @@ put_by None puts = puts
 put_by (Some (ask.Write w)) puts = puts ++ w ∷ []
 put_by (Some (ask.Read a)) puts = puts
 
+-- what is released with a request
 abbrev pub released_by : List Operation → DiskRequest → List Operation
 released_by released (ask.Write w) = released ++ Write w ∷ []
 released_by released (ask.Read a) = released
@@ -163,6 +173,7 @@ after_empty Requests (Request r) k = record k { disk = record k.disk { taken = S
 after_empty Answers (Answer a) k = record k { primary = record k.primary { answers = k.primary.answers ++ a ∷ [] } }
 after_empty _ _ k = k
 
+-- the list, what was seen, and what is acknowledged grow
 abbrev pub appended : Entry → Knowledge → Knowledge
 appended e k = record k { primary = record k.primary { list = k.primary.list ++ e ∷ [] } }
 
@@ -172,6 +183,7 @@ saw n k = record k { primary = record k.primary { seen = n } }
 abbrev pub held : Knowledge → Knowledge
 held k = record k { backup = record k.backup { held_values = k.backup.held_values ++ length k.backup.list ∷ [] } }
 
+-- who asks is told the first that asked, itself where nobody had
 abbrev pub winner_after : ℕ → ℕ → ℕ
 winner_after me found = cond (found == 0) me found
 
@@ -187,6 +199,7 @@ arrives None arrivals = arrivals
 arrives (Some (Byte port number byte)) arrivals = arrivals ++ record { number = number; byte = byte } ∷ []
 arrives (Some (Write w)) arrivals = arrivals
 
+-- a byte in hand arrives, and what is counted is seen
 abbrev pub byte_arrived : ℕ → Knowledge → Knowledge
 byte_arrived zero k = record k { terminal = record k.terminal { arrivals0 = arrives k.terminal.hand0 k.terminal.arrivals0 } }
 byte_arrived (suc port) k = record k { terminal = record k.terminal { arrivals1 = arrives k.terminal.hand1 k.terminal.arrivals1 } }

@@ -89,6 +89,7 @@ IsCovered M k run o =
     (M.find run.last (id_of o) ≡ Some o)
     × (covers k.primary.seen 0 (note_of (notes_from 0 [] [] run.moves) (id_of o)) ≡ true)
 
+-- what is known after a release
 abbrev pub with_released : Operation → Knowledge → Knowledge
 with_released o k = record k { primary = record k.primary { released = k.primary.released ++ o ∷ [] } }
 
@@ -156,6 +157,7 @@ pub record LeadsFaithfully {S : Type 0} (M : Machine S) (C : Copying S) (typed0 
   pub faithful : Faithful M leads.new
   pub grows : Grows M w leads.new
 
+-- and faithful ones
 abbrev pub StepsAreFaithful : Type 0 → Type 0
 StepsAreFaithful S =
     (M : Machine S) (C : Copying S) → Runnable M → IsCopying M C → (typed0 typed1 : List ℕ) (k new : Knowledge)
@@ -170,6 +172,7 @@ SilentStepsShow S =
 
 -- ---- the opening: the bytes are typed, and the first core shows that world
 
+-- events that type all bytes, and the world that they lead to
 pub record Begun {S : Type 0} (M : Machine S) (C : Copying S) (typed0 typed1 : List ℕ) (generation : ℕ) : Type 0 where
   pub events : List Event
   pub replies : List Reply
@@ -179,6 +182,7 @@ pub record Begun {S : Type 0} (M : Machine S) (C : Copying S) (typed0 typed1 : L
   pub stands : Stands (first_known generation)
   pub shows : Shows M typed0 typed1 (first_known generation) world
 
+-- a generation begins so
 abbrev pub StartsShown : Type 0 → Type 0
 StartsShown S =
     (M : Machine S) (C : Copying S) → Lawful M → (typed0 typed1 : List ℕ) (generation : ℕ) →

@@ -43,6 +43,7 @@ pub record Same (s : Who) (c d : Core) : Type 0 where
   pub empties : (b : Mailbox) → emptier b ≡ s → get_elem? c.empties (box_index b) ≡ get_elem? d.empties (box_index b)
   pub known : SamePart s c.known d.known
 
+-- a view has a seat's part
 abbrev pub has : SeatView → Who → Type 0
 has v s = get_elem? v.mine (seat_index s) ≡ some true
 
@@ -61,6 +62,7 @@ pub record Facts (g : ℕ) (boxes : List ℕ) (homes : Homes) (c : Core) : Type 
   pub fitting : (b : Mailbox) (f : Side) → get_elem? c.fills (box_index b) ≡ some f → WhereSome f.last (Fits b c.known)
   pub stands : Stands c.known
 
+-- the rule: words, views and slots of the table are those of one core
 pub record Rule (g : ℕ) (s : State (Option Payload) SeatView) : Type 0 where
   pub core : Core
   pub boxes : List ℕ
@@ -69,6 +71,7 @@ pub record Rule (g : ℕ) (s : State (Option Payload) SeatView) : Type 0 where
   pub seats : (n : Who) → Has s.views core n (at n)
   pub facts : Facts g boxes s.homes core
 
+-- what is known at the start
 abbrev pub first_known : ℕ → Knowledge
 first_known g = record {
   generation = g;
@@ -79,9 +82,11 @@ first_known g = record {
   disk = record { taken = None; puts = []; given = [] };
 }
 
+-- a side before any swap
 abbrev pub new_side : Side
 new_side = side 0 0 None
 
+-- the core at the start, and the view that has all of it
 abbrev pub first_core : ℕ → Core
 first_core g = record {
   hands = 6 ∷ 7 ∷ 8 ∷ 9 ∷ 10 ∷ [];

@@ -1,17 +1,21 @@
 -- What a seat holds: its part of the core, one slot, and the numbers of its swaps.
-use Rattle.std.specs.Prelude.{◌≡◌, ℕ, ◌<◌, ◌≤◌, ◌^◌, ◌-◌, if◌then◌else◌, nat_lt, nat_le, Bool, true, cond, List, [], ◌∷◌, length, map, Option, Some, None, slice_set}
+use Rattle.std.specs.Prelude.{◌≡◌, ◌+◌, ℕ, ◌<◌, ◌≤◌, ◌^◌, ◌-◌, if◌then◌else◌, nat_lt, nat_le, Bool, true, List, [], ◌∷◌, length, map, Option, Some, None, slice_set}
 use mathlib.Core.Option.{some}
 use lib.ListN.{get_elem?}
 use Rattle.event_callbacks.specs.declared.operations.Operation.{Operation}
+use Rattle.event_callbacks.specs.declared.operations.Operation.TheVariants.{Byte}
+use Rattle.log_entry.specs.declared.entry.Entry.{Entry}
 use Rattle.i8080_words.specs.declared.refusal.Fault.{Fault}
 use Rattle.i8080_words.specs.declared.refusal.Fault.TheVariants.{LogFull, Spent}
 use Rattle.pair_protocol.specs.Lawful.{top}
 use Rattle.pair_protocol.specs.World.{latest}
 use Rattle.std.specs.List.{list_all}
-use Rattle.pair_rule.specs.declared.mailbox.Mailbox.TheVariants.{Outbox, Inbox}
+use Rattle.pair_rule.specs.declared.mailbox.Mailbox.{Mailbox}
+use Rattle.pair_rule.specs.declared.mailbox.Mailbox.TheVariants.{Inbox}
 use Rattle.pair_rule.specs.declared.payload.Packet.{Packet}
 use Rattle.pair_rule.specs.declared.payload.Payload.{Payload}
-use Rattle.pair_rule.specs.declared.payload.Payload.TheVariants.{Log}
+use Rattle.pair_rule.specs.declared.payload.Payload.TheVariants.{Out}
+use Rattle.pair_rule.specs.declared.payload.PortByte.{PortByte}
 use Rattle.pair_rule.specs.declared.payload.DiskRequest.TheVariants as ask
 use Rattle.pair_rule.specs.declared.payload.DiskAnswer.{DiskAnswer}
 use Rattle.pair_rule.specs.declared.payload.DiskAnswer.TheVariants as answer
@@ -24,12 +28,13 @@ use Rattle.pair_rule.specs.declared.view.Side.{Side}
 use Rattle.pair_rule.specs.declared.view.Core.{Core}
 use Rattle.disk_dcdd.specs.declared.sector.SectorWrite.{SectorWrite}
 use Rattle.disk_dcdd.specs.declared.address.SectorAddress.{SectorAddress}
-use Rattle.pair_rule.specs.Boxes.{Who, Primary, Link, Backup, Terminal, seat_index, box_index, number_of}
-use Rattle.pair_rule.specs.Knowledge.{accepted_after, last_or, winner_of, Stands}
+use Rattle.pair_rule.specs.Boxes.{Who, Primary, Link, Backup, Terminal, seat_index, box_index}
+use Rattle.pair_rule.specs.Knowledge.{grown, accepted_after, last_or, winner_of, Stands}
 use Rattle.atomic_table.specs.Seated.{TableId}
 use Rattle.pair_rule.specs.Rules.{has, Sized, first_core}
-use Rattle.pair_rule.specs.Kinds.{Mine, WasIn, with_slot, nobody, side_at, filled, emptied}
+use Rattle.pair_rule.specs.Kinds.{Mine, WasIn, with_slot, nobody, side_at, filled, emptied, found_empty}
 
+-- a seat has its part, its slot, and one value in it
 pub record Holds (s : Who) (me : Mine) (slot : ℕ) : Type 0 where
   pub mine : has me.0 s
   pub hand : get_elem? me.0.core.hands (seat_index s) ≡ some slot
@@ -38,6 +43,7 @@ pub record Holds (s : Who) (me : Mine) (slot : ℕ) : Type 0 where
   pub small : slot < 11
   pub sized : Sized me.0.core
 
+-- the numbers of swaps of sides
 abbrev pub numbers : List Side → List ℕ
 numbers sides = map (λ (z : Side). z.number) sides
 
@@ -48,6 +54,7 @@ pub record Keeps (s : Who) (me : Mine) (slot : ℕ) (fills empties : List ℕ) :
   pub fills_are : fills ≡ numbers me.0.core.fills
   pub empties_are : empties ≡ numbers me.0.core.empties
 
+-- no swaps yet
 abbrev pub zeros : List ℕ
 zeros = 0 ∷ 0 ∷ 0 ∷ 0 ∷ 0 ∷ 0 ∷ []
 
@@ -71,11 +78,13 @@ LeavesRoom sides =
     ((side_at sides 0).number < 2 ^ 40) × ((side_at sides 1).number < 2 ^ 40) × ((side_at sides 2).number < 2 ^ 40)
     × ((side_at sides 3).number < 2 ^ 40) × ((side_at sides 4).number < 2 ^ 40) × ((side_at sides 5).number < 2 ^ 40)
 
+-- at every box that it fills or empties
 abbrev pub HasSwapsLeft : Core → Type 0
 HasSwapsLeft c = LeavesRoom c.fills × LeavesRoom c.empties
 
 -- ---- what contracts see of a seat: its table, and the core as it knows it
 
+-- its table and the core
 pub record Seat : Type 0 where
   pub table : TableId
   pub core : Core
@@ -86,6 +95,7 @@ pub record Carrier : Type 0 where
   pub core : Core
   pub hand : Option Packet
 
+-- the numbers that a primary keeps beside are those of its view
 pub record IsPrimary (me : Mine) (slot : ℕ) (fills empties : List ℕ) (generation count seen : ℕ) : Type 0 where
   pub keeps : Keeps Primary me slot fills empties
   pub generation_is : generation ≡ me.0.core.known.generation
@@ -93,6 +103,7 @@ pub record IsPrimary (me : Mine) (slot : ℕ) (fills empties : List ℕ) (genera
   pub seen_is : seen ≡ me.0.core.known.primary.seen
   pub seen_low : seen ≤ count
 
+-- the packet in the link's hand is the one that it took out last
 pub record IsLink (me : Mine) (slot : ℕ) (fills empties : List ℕ) (hand : Option Packet) : Type 0 where
   pub keeps : Keeps Link me slot fills empties
   pub hand_is : (p : Packet) → hand ≡ Some p → me.0.core.known.link ≡ Some p
@@ -103,7 +114,9 @@ pub record IsBackup (me : Mine) (slot : ℕ) (fills empties : List ℕ) (count :
   pub count_is : count ≡ length me.0.core.known.backup.list
   pub count_low : count ≤ (side_at me.0.core.empties (box_index Inbox)).number
 
-pub record IsTerminal (me : Mine) (slot : ℕ) (fills empties : List ℕ) (hand0 : Option Operation) (accepted0 : ℕ) (hand1 : Option Operation) (accepted1 : ℕ) : Type 0 where
+-- what terminals keep beside is of their view
+pub record IsTerminal (me : Mine) (slot : ℕ) (fills empties : List ℕ) (hand0 : Option Operation) (accepted0 : ℕ)
+    (hand1 : Option Operation) (accepted1 : ℕ) : Type 0 where
   pub keeps : Keeps Terminal me slot fills empties
   pub hand0_is : hand0 ≡ me.0.core.known.terminal.hand0
   pub hand1_is : hand1 ≡ me.0.core.known.terminal.hand1
@@ -117,22 +130,55 @@ append_refusal p =
     else if nat_le top (length p.list) then Some Spent
     else None
 
--- a packet came out of the outbox into the hand
-abbrev pub BroughtOut : Carrier → Carrier → Type 0
-BroughtOut l m = (p : Packet) × (r : ℕ) × (m.hand ≡ Some p) × WasIn Outbox l.core.known (Log p) × ((side_at l.core.empties (box_index Outbox)).met < number_of r) × (m.core ≡ emptied Outbox (Log p) r l.core)
+-- ---- what a seat that swapped tells
 
-abbrev pub BroughtIn : Carrier → Carrier → Packet → Bool → Type 0
-BroughtIn l m p keep = (m.hand ≡ cond keep (Some p) None) × ((r : ℕ) × (m.core ≡ filled Inbox (Log p) r l.core))
+-- of a seat's sides: how often it has swapped at a box, the other side's number as last found, and what it put in or
+-- took out last
+abbrev pub swaps_at : List Side → Mailbox → ℕ
+swaps_at sides b = (side_at sides (box_index b)).number
+
+abbrev pub met_at : List Side → Mailbox → ℕ
+met_at sides b = (side_at sides (box_index b)).met
+
+abbrev pub last_at : List Side → Mailbox → Option Payload
+last_at sides b = (side_at sides (box_index b)).last
+
+-- a byte that came, as an operation of its port
+abbrev pub byte_of : ℕ → PortByte → Payload
+byte_of port b = Out (Byte port b.number b.byte)
+
+-- a list after a packet came, or none
+abbrev pub with_packet : List Entry → Option Packet → List Entry
+with_packet list None = list
+with_packet list (Some p) = grown list p
+
+-- it filled a box: it swapped once more there, and this is what it put in last
+abbrev pub Fills : Mailbox → Payload → Core → Core → Type 0
+Fills b q old new =
+    ((r : ℕ) × (new ≡ filled b q r old)) × (swaps_at new.fills b ≡ swaps_at old.fills b + 1)
+    × (last_at new.fills b ≡ Some q)
+
+-- it emptied a box: it swapped once more there, and it found something exactly if it met a new number
+abbrev pub Empties : Mailbox → Option Payload → Core → Core → Type 0
+Empties b (Some q) old new =
+    WasIn b old.known q × ((r : ℕ) × (new ≡ emptied b q r old))
+    × (swaps_at new.empties b ≡ swaps_at old.empties b + 1) × (met_at old.empties b < met_at new.empties b)
+Empties b None old new =
+    ((r : ℕ) × (new ≡ found_empty b r old)) × (swaps_at new.empties b ≡ swaps_at old.empties b + 1)
+    × (met_at new.empties b ≡ met_at old.empties b)
 
 -- it is the answer to the request that was taken last: for a read what the greatest answered write there left, or the
 -- sector as it was, with number 0
 abbrev pub Replies : DiskView → DiskAnswer → Type 0
 Replies d (answer.Written n) = (w : SectorWrite) × (d.taken ≡ Some (ask.Write w)) × (n ≡ w.number)
-Replies d (answer.Read r) = (a : SectorAddress) × (d.taken ≡ Some (ask.Read a)) × (a ≡ record { drive = r.drive; track = r.track; sector = r.sector })
+Replies d (answer.Read r) =
+    (a : SectorAddress) × (d.taken ≡ Some (ask.Read a))
+    × (a ≡ record { drive = r.drive; track = r.track; sector = r.sector })
     × (latest (record { number = 0; bytes = r.bytes }) d.puts a ≡ record { number = r.number; bytes = r.bytes })
 
 -- the words, and what the seats know, are those of one moment
-pub record Settled (primary : PrimaryView) (backup : BackupView) (terminal : TerminalView) (disk : DiskView) (tail held winner : ℕ) : Type 0 where
+pub record Settled (primary : PrimaryView) (backup : BackupView) (terminal : TerminalView) (disk : DiskView)
+    (tail held winner : ℕ) : Type 0 where
   pub known : Knowledge
   pub stands : Stands known
   pub primary_is : known.primary ≡ primary

@@ -28,6 +28,7 @@ notes_from count log notes (Take i ∷ moves) = notes_from count (log ++ entry_o
 
 -- ---- the nodes: a seat whose view names a winner has the role that its asking gave
 
+-- a primary that asked and has won is alone, one that lost is halted; a backup that won drains
 abbrev pub primary_role : ℕ → Role
 primary_role (suc zero) = Alone
 primary_role _ = Primary
@@ -45,6 +46,7 @@ abbrev pub backup_runs : ℕ → Bool
 backup_runs (suc zero) = false
 backup_runs _ = true
 
+-- the primary has the list, stands at its last count, and is covered as far as it has seen; the backup holds its list
 abbrev pub primary_node : {S : Type 0} → Knowledge → List Move → S → Node S
 primary_node k moves s = record {
   role = primary_role k.primary.winner;
@@ -85,6 +87,7 @@ backup_node M k = record {
 
 -- ---- what stands beside them
 
+-- the terminals have the arrivals of their view
 abbrev pub arrival_of : Arrived → Arrival
 arrival_of a = record { number = a.number; byte = a.byte }
 
@@ -93,6 +96,7 @@ terminals_of k typed0 typed1 =
     record { arrivals = map arrival_of k.terminal.arrivals0; typed = typed0; told = 0 }
     ∷ record { arrivals = map arrival_of k.terminal.arrivals1; typed = typed1; told = 0 } ∷ []
 
+-- the winner
 abbrev pub winners_of : ℕ → List Winner
 winners_of zero = []
 winners_of (suc zero) = record { generation = 1; node = 0 } ∷ []
@@ -112,6 +116,7 @@ pub record IsAcknowledged (moves : List Move) (seen : ℕ) (o : Operation) : Typ
   pub given : moves ≡ front ++ Do (Some o) ∷ rest
   pub marked : length (entries 0 front) < seen
 
+-- the world is shown by what is known
 pub record Shows {S : Type 0} (M : Machine S) (typed0 typed1 : List ℕ) (k : Knowledge) (w : World S) : Type 0 where
   pub moves : List Move
   pub s : S

@@ -65,6 +65,7 @@ pub record IsStep {S : Type 0} (M : Machine S) (typed0 typed1 : List ℕ) (k new
   pub stands : Stands new
   pub step : ThreadStep M typed0 typed1 k new ⊎ SilentStep M k new
 
+-- so with each kind of step
 abbrev pub TableStepsAreSteps : Type 0 → Type 0
 TableStepsAreSteps S =
     (M : Machine S) (typed0 typed1 : List ℕ) (k new : Knowledge) → Stands k → TableStep M typed0 typed1 k new →

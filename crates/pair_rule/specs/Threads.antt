@@ -52,6 +52,7 @@ pub record IsShown {S : Type 0} (M : Machine S) (C : Copying S) (typed0 typed1 :
   pub faithful : Faithful M world
   pub promises : Promises M typed0 typed1 k
 
+-- whatever is known after steps of the threads is shown so
 abbrev pub ThreadsAreFaithful : Type 0 → Type 0
 ThreadsAreFaithful S =
     (M : Machine S) (C : Copying S) → Runnable M → IsCopying M C → (typed0 typed1 : List ℕ) (k : Knowledge) →
@@ -59,9 +60,11 @@ ThreadsAreFaithful S =
 
 -- ---- the Altair of any setup, with any sectors
 
+-- it is a machine that the threads may run
 abbrev pub AltairsAreRunnable : Type 0
 AltairsAreRunnable = (setup : Setup) (sectors : SectorAddress → List ℕ) → Runnable (altair setup sectors)
 
+-- and they keep their promises with it
 abbrev pub AltairThreadsAreFaithful : Type 0
 AltairThreadsAreFaithful =
     (setup : Setup) (sectors : SectorAddress → List ℕ) (typed0 typed1 : List ℕ) (k : Knowledge) →

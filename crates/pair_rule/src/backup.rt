@@ -1,9 +1,9 @@
 //! The backup's seat.
-ghost use Rattle.std.specs.Prelude.{◌≡◌, ◌↔◌, IsTrue, ◌^◌, ◌<◌, ℕ, length, MatchOption, MatchResult};
-ghost use Rattle.pair_rule.specs.Boxes.{Backup, box_index, number_of};
+ghost use Rattle.std.specs.Prelude.{◌≡◌, ◌↔◌, IsTrue, ◌^◌, ◌<◌, ℕ, length, option_map, MatchResult};
+ghost use Rattle.pair_rule.specs.Boxes.{Backup};
 ghost use Rattle.pair_rule.specs.Knowledge.{held, backup_asked};
-ghost use Rattle.pair_rule.specs.Seats.{HasSwapsLeft};
-ghost use Rattle.pair_rule.specs.Kinds.{WasIn, WasWinner, side_at, emptied, found_empty, with_known};
+ghost use Rattle.pair_rule.specs.Seats.{HasSwapsLeft, Empties, swaps_at, with_packet};
+ghost use Rattle.pair_rule.specs.Kinds.{WasWinner, with_known};
 ghost use Rattle.i8080_words.specs.declared.refusal.Fault.TheVariants.{Lost};
 ghost use Rattle.pair_rule.specs.declared.mailbox.Mailbox.TheVariants.{Inbox};
 ghost use Rattle.pair_rule.specs.declared.payload.Payload.TheVariants.{Log};
@@ -44,10 +44,10 @@ impl BackupSeat {
     pub fn take(&mut self, fabric: &Fabric) -> Option<Packet>
         requires table { self.old.table ≡ fabric.now }
         requires before { self.old.core.known.backup.winner ≡ 0 }
-        requires few { (side_at self.old.core.empties (box_index Inbox)).number < 2 ^ 40 }
+        requires few { swaps_at self.old.core.empties Inbox < 2 ^ 40 }
         ensures same { self.new.table ≡ self.old.table }
-        ensures taken { (r : ℕ) × MatchOption result (self.new.core ≡ found_empty Inbox r self.old.core)
-            (λ p. WasIn Inbox self.old.core.known (Log p) × ((side_at self.old.core.empties (box_index Inbox)).met < number_of r) × (self.new.core ≡ emptied Inbox (Log p) r self.old.core)) }
+        ensures taken { Empties Inbox (option_map Log result) self.old.core self.new.core }
+        ensures grown { self.new.core.known.backup.list ≡ with_packet self.old.core.known.backup.list result }
     {
         match self.state.empty(fabric, Mailbox::Inbox) {
             Some(Payload::Log(packet)) => {
@@ -76,7 +76,8 @@ impl BackupSeat {
         requires table { self.old.table ≡ fabric.now }
         requires before { self.old.core.known.backup.winner ≡ 0 }
         ensures same { self.new.table ≡ self.old.table }
-        ensures view { (r : ℕ) × (r < 3) × WasWinner Backup self.old.core.known r × (self.new.core ≡ with_known (backup_asked r) self.old.core) }
+        ensures view { (r : ℕ) × (r < 3) × WasWinner Backup self.old.core.known r
+            × (self.new.core ≡ with_known (backup_asked r) self.old.core) }
         ensures won { MatchResult result (λ _. self.new.core.known.backup.winner ≡ 2) (λ e. (e ≡ Lost) × (self.new.core.known.backup.winner ≡ 1)) }
     {
         if self.state.contest_backup(fabric) == 1 {

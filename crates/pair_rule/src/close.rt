@@ -30,7 +30,8 @@ pub struct Closed {
 
 // The backup's seat ends, and the primary's has its part.
 fn join_backup(table: &SharedTable, lead: &mut TableSeat, state: SeatState)
-    requires table { (lead.old.table_id ≡ table.now.table_id) × (state.seat.table_id ≡ table.now.table_id) × (table.now.table_id.words ≡ 11) }
+    requires table { (lead.old.table_id ≡ table.now.table_id) × (state.seat.table_id ≡ table.now.table_id)
+        × (table.now.table_id.words ≡ 11) }
     requires lead { has lead.old.me.0 Primary × (get_elem? lead.old.me.0.mine (seat_index Backup) ≡ some false) }
     requires seat { Keeps Backup state.seat.me state.slot state.fills state.empties }
     ensures table { lead.new.table_id ≡ lead.old.table_id }
@@ -49,7 +50,8 @@ fn join_backup(table: &SharedTable, lead: &mut TableSeat, state: SeatState)
 
 // The terminal's seat ends, and the primary's has its part.
 fn join_terminal(table: &SharedTable, lead: &mut TableSeat, state: SeatState)
-    requires table { (lead.old.table_id ≡ table.now.table_id) × (state.seat.table_id ≡ table.now.table_id) × (table.now.table_id.words ≡ 11) }
+    requires table { (lead.old.table_id ≡ table.now.table_id) × (state.seat.table_id ≡ table.now.table_id)
+        × (table.now.table_id.words ≡ 11) }
     requires lead { has lead.old.me.0 Primary × (get_elem? lead.old.me.0.mine (seat_index Terminal) ≡ some false) }
     requires seat { Keeps Terminal state.seat.me state.slot state.fills state.empties }
     ensures table { lead.new.table_id ≡ lead.old.table_id }
@@ -68,7 +70,8 @@ fn join_terminal(table: &SharedTable, lead: &mut TableSeat, state: SeatState)
 
 // The disk's seat ends, and the primary's has its part.
 fn join_disk(table: &SharedTable, lead: &mut TableSeat, state: SeatState)
-    requires table { (lead.old.table_id ≡ table.now.table_id) × (state.seat.table_id ≡ table.now.table_id) × (table.now.table_id.words ≡ 11) }
+    requires table { (lead.old.table_id ≡ table.now.table_id) × (state.seat.table_id ≡ table.now.table_id)
+        × (table.now.table_id.words ≡ 11) }
     requires lead { has lead.old.me.0 Primary × (get_elem? lead.old.me.0.mine (seat_index Disk) ≡ some false) }
     requires seat { Keeps Disk state.seat.me state.slot state.fills state.empties }
     ensures table { lead.new.table_id ≡ lead.old.table_id }
@@ -112,7 +115,8 @@ fn settle(table: PairTable, seat: TableSeat) -> Closed
 impl Fabric {
     /// Ends the generation. The words and what its seats know are those of one moment.
     pub fn close(self, seats: FiveSeats) -> Closed
-        requires { (seats.primary.table ≡ self) × (seats.backup.table ≡ self) × (seats.terminal.table ≡ self) × (seats.disk.table ≡ self) }
+        requires { (seats.primary.table ≡ self) × (seats.backup.table ≡ self) × (seats.terminal.table ≡ self)
+            × (seats.disk.table ≡ self) }
         ensures { Settled seats.primary.core.known.primary seats.backup.core.known.backup seats.terminal.core.known.terminal seats.disk.core.known.disk result.tail result.held result.winner }
     {
         let FiveSeats {

@@ -1,8 +1,6 @@
 //! The disk's seat.
-ghost use Rattle.std.specs.Prelude.{◌≡◌, ◌↔◌, IsTrue, ◌^◌, ◌<◌, ℕ, MatchOption};
-ghost use Rattle.pair_rule.specs.Boxes.{box_index, number_of};
-ghost use Rattle.pair_rule.specs.Kinds.{WasIn, side_at, filled, emptied, found_empty};
-ghost use Rattle.pair_rule.specs.Seats.{HasSwapsLeft, Replies};
+ghost use Rattle.std.specs.Prelude.{◌≡◌, ◌↔◌, IsTrue, ◌^◌, ◌<◌, option_map};
+ghost use Rattle.pair_rule.specs.Seats.{HasSwapsLeft, Fills, Empties, Replies, swaps_at};
 ghost use Rattle.pair_rule.specs.declared.mailbox.Mailbox.TheVariants.{Requests, Answers};
 ghost use Rattle.pair_rule.specs.declared.payload.Payload.TheVariants.{Request, Answer};
 
@@ -40,10 +38,9 @@ impl DiskSeat {
     /// Takes what the primary asks.
     pub fn take_request(&mut self, fabric: &Fabric) -> Option<DiskRequest>
         requires table { self.old.table ≡ fabric.now }
-        requires few { (side_at self.old.core.empties (box_index Requests)).number < 2 ^ 40 }
+        requires few { swaps_at self.old.core.empties Requests < 2 ^ 40 }
         ensures same { self.new.table ≡ self.old.table }
-        ensures taken { (r : ℕ) × MatchOption result (self.new.core ≡ found_empty Requests r self.old.core)
-            (λ q. WasIn Requests self.old.core.known (Request q) × ((side_at self.old.core.empties (box_index Requests)).met < number_of r) × (self.new.core ≡ emptied Requests (Request q) r self.old.core)) }
+        ensures taken { Empties Requests (option_map Request result) self.old.core self.new.core }
     {
         match self.state.empty(fabric, Mailbox::Requests) {
             Some(Payload::Request(request)) => Some(request),
@@ -56,9 +53,9 @@ impl DiskSeat {
     pub fn reply(&mut self, fabric: &Fabric, answer: DiskAnswer)
         requires table { self.old.table ≡ fabric.now }
         requires answers { Replies self.old.core.known.disk answer }
-        requires few { (side_at self.old.core.fills (box_index Answers)).number < 2 ^ 40 }
+        requires few { swaps_at self.old.core.fills Answers < 2 ^ 40 }
         ensures same { self.new.table ≡ self.old.table }
-        ensures replied { (r : ℕ) × (self.new.core ≡ filled Answers (Answer answer) r self.old.core) }
+        ensures replied { Fills Answers (Answer answer) self.old.core self.new.core }
     {
         self.state
             .fill(fabric, Mailbox::Answers, Payload::Answer(answer));

@@ -6,6 +6,7 @@ use crate::payload::Payload;
 use crate::view::SeatView;
 use atomic_table::{Join, Play, Split};
 
+// A box is filled, and emptied.
 pub struct Fill;
 
 impl Play<Option<Payload>, SeatView> for Fill {
@@ -18,6 +19,7 @@ impl Play<Option<Payload>, SeatView> for Empty {
     ghost then = { λ step. empties step.word };
 }
 
+// An entry is appended; what is acknowledged is seen, and grows.
 pub struct Append;
 
 impl Play<Option<Payload>, SeatView> for Append {
@@ -36,6 +38,7 @@ impl Play<Option<Payload>, SeatView> for Hold {
     ghost then = { λ _. holds_entries };
 }
 
+// Primary and backup ask who goes on alone.
 pub struct ContestPrimary;
 
 impl Play<Option<Payload>, SeatView> for ContestPrimary {
@@ -48,6 +51,7 @@ impl Play<Option<Payload>, SeatView> for ContestBackup {
     ghost then = { λ _. contests_backup };
 }
 
+// A byte is counted, and what is counted is seen.
 pub struct Count;
 
 impl Play<Option<Payload>, SeatView> for Count {
@@ -60,6 +64,7 @@ impl Play<Option<Payload>, SeatView> for SeeCount {
     ghost then = { λ step. sees_count_at step.word };
 }
 
+// A seat takes its first slot.
 pub struct FirstSlotPrimary;
 
 impl Play<Option<Payload>, SeatView> for FirstSlotPrimary {
@@ -90,6 +95,7 @@ impl Play<Option<Payload>, SeatView> for FirstSlotDisk {
     ghost then = { λ _. takes_first_slot Disk };
 }
 
+// A seat is split off the primary's.
 pub struct SplitLink;
 
 impl Split<SeatView> for SplitLink {
@@ -122,6 +128,7 @@ impl Split<SeatView> for SplitDisk {
     ghost right = { only Disk };
 }
 
+// A seat gives its last slot back, and is joined into the primary's.
 pub struct LastSlotBackup;
 
 impl Play<Option<Payload>, SeatView> for LastSlotBackup {

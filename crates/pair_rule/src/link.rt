@@ -1,10 +1,9 @@
 //! The link's seat. It carries packets from the outbox to the inbox.
-ghost use Rattle.std.specs.Prelude.{◌≡◌, ◌↔◌, IsTrue, ◌^◌, ◌<◌, ℕ, true, None, Some, IsSome, MatchBool};
-ghost use Rattle.pair_rule.specs.Boxes.{box_index};
-ghost use Rattle.pair_rule.specs.Kinds.{side_at, found_empty};
-ghost use Rattle.pair_rule.specs.Seats.{HasSwapsLeft, BroughtOut, BroughtIn};
+ghost use Rattle.std.specs.Prelude.{cond, ◌≡◌, ◌↔◌, IsTrue, ◌^◌, ◌<◌, true, None, Some, IsSome, is_some, option_map};
+ghost use Rattle.pair_rule.specs.Seats.{HasSwapsLeft, Fills, Empties, swaps_at};
 ghost use Rattle.pair_rule.specs.declared.mailbox.Mailbox.TheVariants.{Outbox, Inbox};
 ghost use Rattle.pair_rule.specs.declared.payload.Packet.{Packet};
+ghost use Rattle.pair_rule.specs.declared.payload.Payload.TheVariants.{Log};
 
 use crate::fabric::Fabric;
 use crate::mailbox::Mailbox;
@@ -40,10 +39,11 @@ impl LinkSeat {
     /// Takes what lies in the outbox, and says whether the hand then has a packet. With a full hand it takes nothing.
     pub fn carry_out(&mut self, fabric: &Fabric) -> bool
         requires table { self.old.table ≡ fabric.now }
-        requires few { (side_at self.old.core.empties (box_index Outbox)).number < 2 ^ 40 }
+        requires few { swaps_at self.old.core.empties Outbox < 2 ^ 40 }
         ensures same { self.new.table ≡ self.old.table }
         ensures full { IsSome self.old.hand → (result ≡ true) × (self.new ≡ self.old) }
-        ensures empty { self.old.hand ≡ None → MatchBool result (BroughtOut self.old self.new) ((self.new.hand ≡ None) × ((r : ℕ) × (self.new.core ≡ found_empty Outbox r self.old.core))) }
+        ensures empty { self.old.hand ≡ None →
+            (result ≡ is_some self.new.hand) × Empties Outbox (option_map Log self.new.hand) self.old.core self.new.core }
     {
         if self.hand.is_some() {
             return true;
@@ -61,10 +61,11 @@ impl LinkSeat {
     /// empty hand it does nothing.
     pub fn carry_in(&mut self, fabric: &Fabric, keep: bool)
         requires table { self.old.table ≡ fabric.now }
-        requires few { (side_at self.old.core.fills (box_index Inbox)).number < 2 ^ 40 }
+        requires few { swaps_at self.old.core.fills Inbox < 2 ^ 40 }
         ensures same { self.new.table ≡ self.old.table }
         ensures empty { self.old.hand ≡ None → self.new ≡ self.old }
-        ensures full { (p : Packet) → self.old.hand ≡ Some p → BroughtIn self.old self.new p keep }
+        ensures full { (p : Packet) → self.old.hand ≡ Some p →
+            (self.new.hand ≡ cond keep (Some p) None) × Fills Inbox (Log p) self.old.core self.new.core }
     {
         let Some(packet) = self.hand else {
             return;

@@ -1,12 +1,12 @@
 //! The primary's seat.
-ghost use Rattle.std.specs.Prelude.{◌≡◌, ◌↔◌, IsTrue, ◌+◌, ◌^◌, ◌<◌, ◌≤◌, ℕ, length, IfOk, IfErr, Some, None, MatchOption, MatchResult};
+ghost use Rattle.std.specs.Prelude.{◌≡◌, ◌↔◌, IsTrue, ◌+◌, ◌^◌, ◌<◌, ◌≤◌, ℕ, length, IfOk, IfErr, Some, None, option_map, MatchResult};
 ghost use mathlib.Core.Option.{some};
 ghost use lib.ListN.{get_elem?};
 ghost use Rattle.pair_protocol.specs.Lawful.{top};
-ghost use Rattle.pair_rule.specs.Boxes.{Primary, box_index, port_box, number_of};
+ghost use Rattle.pair_rule.specs.Boxes.{Primary, port_box};
 ghost use Rattle.pair_rule.specs.Knowledge.{appended, saw, saw_count, primary_asked};
-ghost use Rattle.pair_rule.specs.Seats.{HasSwapsLeft, append_refusal};
-ghost use Rattle.pair_rule.specs.Kinds.{WasIn, WasHeld, WasWinner, WasAccepted, side_at, filled, emptied, found_empty, with_known, counted_at};
+ghost use Rattle.pair_rule.specs.Seats.{HasSwapsLeft, Fills, Empties, append_refusal, swaps_at};
+ghost use Rattle.pair_rule.specs.Kinds.{WasHeld, WasWinner, WasAccepted, with_known, counted_at};
 ghost use Rattle.i8080_words.specs.declared.refusal.Fault.TheVariants.{Lost};
 ghost use Rattle.pair_rule.specs.declared.mailbox.Mailbox.TheVariants.{Outbox, Requests, Answers};
 ghost use Rattle.pair_rule.specs.declared.payload.Payload.TheVariants.{Log, Out, Request, Answer};
@@ -60,7 +60,9 @@ impl PrimarySeat {
         requires table { self.old.table ≡ fabric.now }
         requires before { self.old.core.known.primary.winner ≡ 0 }
         ensures same { self.new.table ≡ self.old.table }
-        ensures ok { IfOk result (λ n. (append_refusal self.old.core.known.primary ≡ None) × (n ≡ length self.old.core.known.primary.list) × (n < self.old.core.known.primary.seen + 256) × (n < top) × (self.new.core ≡ with_known (appended entry) self.old.core)) }
+        ensures ok { IfOk result (λ n. (append_refusal self.old.core.known.primary ≡ None) × (n ≡ length self.old.core.known.primary.list)) }
+        ensures room { IfOk result (λ n. (n < self.old.core.known.primary.seen + 256) × (n < top)) }
+        ensures appended { IfOk result (λ n. self.new.core ≡ with_known (appended entry) self.old.core) }
         ensures refused { IfErr result (λ fault. (append_refusal self.old.core.known.primary ≡ Some fault) × (self.new ≡ self.old)) }
     {
         if self.length - self.seen >= LOG {
@@ -84,9 +86,9 @@ impl PrimarySeat {
         requires table { self.old.table ≡ fabric.now }
         requires before { self.old.core.known.primary.winner ≡ 0 }
         requires stands { get_elem? self.old.core.known.primary.list index ≡ some entry.now }
-        requires few { (side_at self.old.core.fills (box_index Outbox)).number < 2 ^ 40 }
+        requires few { swaps_at self.old.core.fills Outbox < 2 ^ 40 }
         ensures same { self.new.table ≡ self.old.table }
-        ensures posted { (r : ℕ) × (self.new.core ≡ filled Outbox (Log (record { generation = self.old.core.known.generation; index = index; entry = entry.now })) r self.old.core) }
+        ensures posted { Fills Outbox (Log (record { generation = self.old.core.known.generation; index = index; entry = entry.now })) self.old.core self.new.core }
     {
         let packet = Packet {
             generation: self.generation,
@@ -115,7 +117,8 @@ impl PrimarySeat {
         requires table { self.old.table ≡ fabric.now }
         requires before { self.old.core.known.primary.winner ≡ 0 }
         ensures same { self.new.table ≡ self.old.table }
-        ensures view { (r : ℕ) × (r < 3) × WasWinner Primary self.old.core.known r × (self.new.core ≡ with_known (primary_asked r) self.old.core) }
+        ensures view { (r : ℕ) × (r < 3) × WasWinner Primary self.old.core.known r
+            × (self.new.core ≡ with_known (primary_asked r) self.old.core) }
         ensures won { MatchResult result (λ _. self.new.core.known.primary.winner ≡ 1) (λ e. (e ≡ Lost) × (self.new.core.known.primary.winner ≡ 2)) }
     {
         if self.state.contest_primary(fabric) <= 1 {
@@ -130,9 +133,9 @@ impl PrimarySeat {
         requires table { self.old.table ≡ fabric.now }
         requires before { self.old.core.known.primary.winner ≡ 0 }
         requires port { port < 2 }
-        requires few { (side_at self.old.core.fills (box_index (port_box port))).number < 2 ^ 40 }
+        requires few { swaps_at self.old.core.fills (port_box port) < 2 ^ 40 }
         ensures same { self.new.table ≡ self.old.table }
-        ensures emitted { (r : ℕ) × (self.new.core ≡ filled (port_box port) (Out (operation.Byte port number byte)) r self.old.core) }
+        ensures emitted { Fills (port_box port) (Out (operation.Byte port number byte)) self.old.core self.new.core }
     {
         let mailbox = port_box(port);
         self.state.fill(
@@ -159,9 +162,9 @@ impl PrimarySeat {
     pub fn request(&mut self, fabric: &Fabric, request: DiskRequest)
         requires table { self.old.table ≡ fabric.now }
         requires before { self.old.core.known.primary.winner ≡ 0 }
-        requires few { (side_at self.old.core.fills (box_index Requests)).number < 2 ^ 40 }
+        requires few { swaps_at self.old.core.fills Requests < 2 ^ 40 }
         ensures same { self.new.table ≡ self.old.table }
-        ensures asked { (r : ℕ) × (self.new.core ≡ filled Requests (Request request) r self.old.core) }
+        ensures asked { Fills Requests (Request request) self.old.core self.new.core }
     {
         self.state
             .fill(fabric, Mailbox::Requests, Payload::Request(request));
@@ -171,10 +174,9 @@ impl PrimarySeat {
     pub fn answer(&mut self, fabric: &Fabric) -> Option<DiskAnswer>
         requires table { self.old.table ≡ fabric.now }
         requires before { self.old.core.known.primary.winner ≡ 0 }
-        requires few { (side_at self.old.core.empties (box_index Answers)).number < 2 ^ 40 }
+        requires few { swaps_at self.old.core.empties Answers < 2 ^ 40 }
         ensures same { self.new.table ≡ self.old.table }
-        ensures taken { (r : ℕ) × MatchOption result (self.new.core ≡ found_empty Answers r self.old.core)
-            (λ a. WasIn Answers self.old.core.known (Answer a) × ((side_at self.old.core.empties (box_index Answers)).met < number_of r) × (self.new.core ≡ emptied Answers (Answer a) r self.old.core)) }
+        ensures taken { Empties Answers (option_map Answer result) self.old.core self.new.core }
     {
         match self.state.empty(fabric, Mailbox::Answers) {
             Some(Payload::Answer(answer)) => Some(answer),
@@ -184,7 +186,7 @@ impl PrimarySeat {
 }
 
 // The box of a port's bytes.
-pub(crate) fn port_box(port: u8) -> Mailbox
+fn port_box(port: u8) -> Mailbox
     requires { port < 2 }
     ensures { result ≡ port_box port }
 {

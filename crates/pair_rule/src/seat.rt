@@ -1,9 +1,9 @@
 //! How a seat steps, whichever it is.
-ghost use Rattle.std.specs.Prelude.{◌≡◌, ◌&&◌, ◌^◌, ◌<◌, ◌≤◌, ℕ, Some, MatchOption, length, length as len};
-ghost use Rattle.pair_rule.specs.Boxes.{box_index, filler, emptier, number_of, Primary, Backup, Terminal};
+ghost use Rattle.std.specs.Prelude.{◌≡◌, ◌&&◌, ◌^◌, ◌<◌, ◌≤◌, Some, length, length as len};
+ghost use Rattle.pair_rule.specs.Boxes.{filler, emptier, Primary, Backup, Terminal};
 ghost use Rattle.pair_rule.specs.Knowledge.{CanFill, appended, saw, held, primary_asked, backup_asked, accepted_with, byte_arrived, saw_count};
-ghost use Rattle.pair_rule.specs.Kinds.{WasIn, WasHeld, WasWinner, WasAccepted, side_at, filled, emptied, found_empty, with_core, with_known, counted_at};
-ghost use Rattle.pair_rule.specs.Seats.{Keeps, all_below};
+ghost use Rattle.pair_rule.specs.Kinds.{WasHeld, WasWinner, WasAccepted, filled, emptied, with_core, with_known, counted_at};
+ghost use Rattle.pair_rule.specs.Seats.{Keeps, Fills, Empties, swaps_at, all_below};
 
 use crate::fabric::{Fabric, TableSeat};
 use crate::kinds::{
@@ -36,11 +36,11 @@ impl SeatState {
     pub(crate) fn fill(&mut self, fabric: &Fabric, mailbox: Mailbox, payload: Payload)
         requires table { self.old.seat.table_id ≡ fabric.now }
         requires seat { Keeps (filler mailbox) self.old.seat.me self.old.slot self.old.fills self.old.empties }
-        requires few { (side_at self.old.seat.me.0.core.fills (box_index mailbox)).number < 2 ^ 40 }
+        requires few { swaps_at self.old.seat.me.0.core.fills mailbox < 2 ^ 40 }
         requires can { CanFill mailbox self.old.seat.me.0.core.known payload }
         ensures table { self.new.seat.table_id ≡ self.old.seat.table_id }
         ensures seat { Keeps (filler mailbox) self.new.seat.me self.new.slot self.new.fills self.new.empties }
-        ensures view { (r : ℕ) × (self.new.seat.me.0 ≡ with_core self.old.seat.me.0 (filled mailbox payload r self.old.seat.me.0.core)) }
+        ensures filled { Fills mailbox payload self.old.seat.me.0.core self.new.seat.me.0.core }
     {
         let table = &fabric.table.shared;
         let word = word_of(mailbox);
@@ -56,14 +56,10 @@ impl SeatState {
     pub(crate) fn empty(&mut self, fabric: &Fabric, mailbox: Mailbox) -> Option<Payload>
         requires table { self.old.seat.table_id ≡ fabric.now }
         requires seat { Keeps (emptier mailbox) self.old.seat.me self.old.slot self.old.fills self.old.empties }
-        requires few { (side_at self.old.seat.me.0.core.empties (box_index mailbox)).number < 2 ^ 40 }
+        requires few { swaps_at self.old.seat.me.0.core.empties mailbox < 2 ^ 40 }
         ensures table { self.new.seat.table_id ≡ self.old.seat.table_id }
         ensures seat { Keeps (emptier mailbox) self.new.seat.me self.new.slot self.new.fills self.new.empties }
-        ensures view { (r : ℕ) × MatchOption result
-            (self.new.seat.me.0 ≡ with_core self.old.seat.me.0 (found_empty mailbox r self.old.seat.me.0.core))
-            (λ q. WasIn mailbox self.old.seat.me.0.core.known q
-            × ((side_at self.old.seat.me.0.core.empties (box_index mailbox)).met < number_of r)
-            × (self.new.seat.me.0 ≡ with_core self.old.seat.me.0 (emptied mailbox q r self.old.seat.me.0.core))) }
+        ensures emptied { Empties mailbox result self.old.seat.me.0.core self.new.seat.me.0.core }
     {
         let table = &fabric.table.shared;
         let word = word_of(mailbox);
@@ -101,7 +97,8 @@ impl SeatState {
         ensures table { self.new.seat.table_id ≡ self.old.seat.table_id }
         ensures seat { Keeps Primary self.new.seat.me self.new.slot self.new.fills self.new.empties }
         ensures held { WasHeld self.old.seat.me.0.core.known result }
-        ensures later { (self.old.seat.me.0.core.known.primary.seen ≤ result) × (result ≤ length self.old.seat.me.0.core.known.primary.list) }
+        ensures later { (self.old.seat.me.0.core.known.primary.seen ≤ result)
+            × (result ≤ length self.old.seat.me.0.core.known.primary.list) }
         ensures view { self.new.seat.me.0 ≡ with_core self.old.seat.me.0 (with_known (saw result) self.old.seat.me.0.core) }
     {
         fabric.table.shared.load::<See>(&mut self.seat, 1)

@@ -1,16 +1,17 @@
 //! The seat of the two terminals.
-ghost use Rattle.std.specs.Prelude.{◌≡◌, ◌↔◌, IsTrue, ◌==◌, ◌+◌, ◌^◌, ◌<◌, ℕ, List, cond, Some, MatchOption};
+ghost use Rattle.std.specs.Prelude.{◌≡◌, ◌↔◌, IsTrue, ◌==◌, ◌+◌, ◌^◌, ◌<◌, List, cond, Some, option_map};
 ghost use Rattle.event_callbacks.specs.declared.operations.Operation.TheVariants as operation;
-ghost use Rattle.pair_rule.specs.Boxes.{box_index, port_box, number_of};
+ghost use Rattle.pair_rule.specs.Boxes.{port_box};
 ghost use Rattle.pair_rule.specs.Knowledge.{accepted_after, accepted_with, arrives, byte_arrived};
-ghost use Rattle.pair_rule.specs.Seats.{HasSwapsLeft};
-ghost use Rattle.pair_rule.specs.Kinds.{WasIn, side_at, emptied, found_empty, with_known};
+ghost use Rattle.pair_rule.specs.Seats.{HasSwapsLeft, Empties, byte_of, swaps_at};
+ghost use Rattle.pair_rule.specs.Kinds.{with_known};
+ghost use Rattle.pair_rule.specs.declared.mailbox.Mailbox.TheVariants.{Bytes0, Bytes1};
 ghost use Rattle.pair_rule.specs.declared.payload.Payload.TheVariants.{Out};
 ghost use Rattle.pair_rule.specs.declared.view.Arrived.{Arrived};
 
 use crate::fabric::Fabric;
+use crate::mailbox::Mailbox;
 use crate::payload::{Payload, PortByte};
-use crate::primary::port_box;
 use crate::seat::SeatState;
 use event_callbacks::Operation;
 use std::marker::Model;
@@ -25,7 +26,8 @@ pub(crate) struct Line {
 impl Line {
     // How many bytes are accepted with the byte in hand.
     fn with_hand(&self) -> u64
-        ensures { (arrivals : List Arrived) → self.now.accepted ≡ accepted_after 0 arrivals → result ≡ accepted_after 0 (arrives self.now.hand arrivals) }
+        ensures { (arrivals : List Arrived) → self.now.accepted ≡ accepted_after 0 arrivals →
+            result ≡ accepted_after 0 (arrives self.now.hand arrivals) }
     {
         match self.hand {
             Some(operation) => accepted_with_one(self.accepted, operation),
@@ -36,7 +38,8 @@ impl Line {
 
 // How many bytes are accepted after one more.
 fn accepted_with_one(accepted: u64, operation: Operation) -> u64
-    ensures { (arrivals : List Arrived) → accepted ≡ accepted_after 0 arrivals → result ≡ accepted_after 0 (arrives (Some operation) arrivals) }
+    ensures { (arrivals : List Arrived) → accepted ≡ accepted_after 0 arrivals →
+        result ≡ accepted_after 0 (arrives (Some operation) arrivals) }
 {
     match operation {
         Operation::Byte { number, .. } => accepted_then(accepted, number),
@@ -85,31 +88,43 @@ impl TerminalSeat {
     pub fn take_byte(&mut self, fabric: &Fabric, port: u8) -> Option<PortByte>
         requires table { self.old.table ≡ fabric.now }
         requires port { port < 2 }
-        requires few { (side_at self.old.core.empties (box_index (port_box port))).number < 2 ^ 40 }
+        requires few { swaps_at self.old.core.empties (port_box port) < 2 ^ 40 }
         ensures same { self.new.table ≡ self.old.table }
-        ensures taken { (r : ℕ) × MatchOption result (self.new.core ≡ found_empty (port_box port) r self.old.core)
-            (λ b. WasIn (port_box port) self.old.core.known (Out (operation.Byte port b.number b.byte)) × ((side_at self.old.core.empties (box_index (port_box port))).met < number_of r) × (self.new.core ≡ emptied (port_box port) (Out (operation.Byte port b.number b.byte)) r self.old.core)) }
+        ensures taken { Empties (port_box port) (option_map (byte_of port) result) self.old.core self.new.core }
     {
-        match self.state.empty(fabric, port_box(port)) {
-            Some(
-                Payload::Out(
-                    Operation::Byte {
-                        port: to,
-                        number,
-                        byte,
-                    },
-                ),
-            ) => {
-                let hand = Some(Operation::Byte {
-                    port: to,
-                    number,
-                    byte,
-                });
-                if port == 0 {
-                    self.line0.hand = hand;
-                } else {
-                    self.line1.hand = hand;
-                }
+        if port == 0 {
+            self.take0(fabric)
+        } else {
+            self.take1(fabric)
+        }
+    }
+
+    // Takes the byte that lies in the box of port 0.
+    fn take0(&mut self, fabric: &Fabric) -> Option<PortByte>
+        requires table { self.old.table ≡ fabric.now }
+        requires few { swaps_at self.old.core.empties Bytes0 < 2 ^ 40 }
+        ensures same { self.new.table ≡ self.old.table }
+        ensures taken { Empties Bytes0 (option_map (byte_of 0) result) self.old.core self.new.core }
+    {
+        match self.state.empty(fabric, Mailbox::Bytes0) {
+            Some(Payload::Out(Operation::Byte { port, number, byte })) => {
+                self.line0.hand = Some(Operation::Byte { port, number, byte });
+                Some(PortByte { number, byte })
+            }
+            _ => None,
+        }
+    }
+
+    // Takes the byte that lies in the box of port 1.
+    fn take1(&mut self, fabric: &Fabric) -> Option<PortByte>
+        requires table { self.old.table ≡ fabric.now }
+        requires few { swaps_at self.old.core.empties Bytes1 < 2 ^ 40 }
+        ensures same { self.new.table ≡ self.old.table }
+        ensures taken { Empties Bytes1 (option_map (byte_of 1) result) self.old.core self.new.core }
+    {
+        match self.state.empty(fabric, Mailbox::Bytes1) {
+            Some(Payload::Out(Operation::Byte { port, number, byte })) => {
+                self.line1.hand = Some(Operation::Byte { port, number, byte });
                 Some(PortByte { number, byte })
             }
             _ => None,
@@ -121,7 +136,8 @@ impl TerminalSeat {
         requires table { self.old.table ≡ fabric.now }
         requires port { port < 2 }
         ensures same { self.new.table ≡ self.old.table }
-        ensures counted { (result ≡ accepted_with port self.old.core.known) × (self.new.core ≡ with_known (byte_arrived port) self.old.core) }
+        ensures counted { (result ≡ accepted_with port self.old.core.known)
+            × (self.new.core ≡ with_known (byte_arrived port) self.old.core) }
     {
         if port == 0 {
             let accepted = self.line0.with_hand();

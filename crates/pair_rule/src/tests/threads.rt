@@ -168,8 +168,10 @@ fn all_goes_there_and_back(rt: HostRuntime) -> Result<(), Fail> {
             LinkSeat,
             (BackupSeat, ((TerminalSeat, Option<PortByte>), DiskSeat)),
         )
-            requires { (link.table ≡ shared.now) × (backup.table ≡ shared.now) × (backup.core.known.backup.winner ≡ 0) × (terminal.table ≡ shared.now) × (disk.table ≡ shared.now) }
-            ensures { (result.0.table ≡ shared.entry.now) × (result.1.0.table ≡ shared.entry.now) × (result.1.1.0.0.table ≡ shared.entry.now) × (result.1.1.1.table ≡ shared.entry.now) }
+            requires { (link.table ≡ shared.now) × (backup.table ≡ shared.now) × (backup.core.known.backup.winner ≡ 0)
+                × (terminal.table ≡ shared.now) × (disk.table ≡ shared.now) }
+            ensures { (result.0.table ≡ shared.entry.now) × (result.1.0.table ≡ shared.entry.now)
+                × (result.1.1.0.0.table ≡ shared.entry.now) × (result.1.1.1.table ≡ shared.entry.now) }
         {
             thread::join(
                 host,
@@ -178,8 +180,10 @@ fn all_goes_there_and_back(rt: HostRuntime) -> Result<(), Fail> {
                     ensures { result.table ≡ shared.entry.now }
                 { carry_one(shared, link) },
                 move || -> (BackupSeat, ((TerminalSeat, Option<PortByte>), DiskSeat))
-                    requires { (backup.table ≡ shared.now) × (backup.core.known.backup.winner ≡ 0) × (terminal.table ≡ shared.now) × (disk.table ≡ shared.now) }
-                    ensures { (result.0.table ≡ shared.entry.now) × (result.1.0.0.table ≡ shared.entry.now) × (result.1.1.table ≡ shared.entry.now) }
+                    requires { (backup.table ≡ shared.now) × (backup.core.known.backup.winner ≡ 0)
+                        × (terminal.table ≡ shared.now) × (disk.table ≡ shared.now) }
+                    ensures { (result.0.table ≡ shared.entry.now) × (result.1.0.0.table ≡ shared.entry.now)
+                        × (result.1.1.table ≡ shared.entry.now) }
                 {
                     thread::join(
                         host,

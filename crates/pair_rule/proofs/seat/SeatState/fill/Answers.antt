@@ -3,11 +3,12 @@ use Rattle.atomic_table.specs.Table.{Allows}
 use Rattle.pair_rule.specs.Boxes.{box_index, filler, full_word, slot_of}
 use Rattle.pair_rule.specs.Knowledge.{CanFill}
 use Rattle.pair_rule.specs.Rules.{Rule}
-use Rattle.pair_rule.specs.Kinds.{Mine, side_at, with_core, filled, fills}
+use Rattle.pair_rule.specs.Kinds.{Mine, side_at, filled, fills}
+use Rattle.pair_rule.specs.declared.view.SeatView.{SeatView}
 use Rattle.pair_rule.specs.Seats.{Keeps}
 use Rattle.pair_rule.proofs.Parts.{few_boxes}
 use Rattle.pair_rule.proofs.BoxSteps.{fill_allowed}
-use Rattle.pair_rule.proofs.SeatsHold.{put_in, still_holds, still_keeps, fill_keeps, number_at}
+use Rattle.pair_rule.proofs.SeatsHold.{says_filled, put_in, still_holds, still_keeps, fill_keeps, number_at}
 use Rattle.pair_rule.proofs.seat.SeatState.fill.Goals as goal
 
 pub swap-found-requires : goal.swap-found-requires
@@ -32,8 +33,8 @@ returns-clause-seat c =
     (ap (λ (n : ℕ). get_or c.args.self.now.fills n 0 + 1) there ∙ ap (λ (n : ℕ). n + 1) (number_at _ _ c.args.mailbox j.holds.sized.fills j.fills_are))
     (t.1 _ c.args.payload (ap (λ (m : Mine). m.1) put)))
 
-pub returns-clause-view : goal.returns-clause-view
-returns-clause-view c =
+pub returns-clause-filled : goal.returns-clause-filled
+returns-clause-filled c =
     let e = c.exchange.ensures in let h = c.requires.seat.holds in let put = put_in _ _ _ _ _ h e.3 in let at = c.word_of-word.ensures in
     let t = c.swap-found.ensures.2 c.args.mailbox at in
-    (c.swap-found.result, t.1 _ c.args.payload (ap (λ (m : Mine). m.1) put) ∙ ap (λ (m : Mine). with_core m.0 (filled c.args.mailbox c.args.payload c.swap-found.result m.0.core)) put)
+    says_filled c.args.mailbox c.args.payload c.swap-found.result _ _ h.sized.fills (ap (λ (v : SeatView). v.core) (t.1 _ c.args.payload (ap (λ (m : Mine). m.1) put)) ∙ ap (λ (m : Mine). filled c.args.mailbox c.args.payload c.swap-found.result m.0.core) put)
