@@ -1,0 +1,161 @@
+-- Steps that are events of the world: an acknowledgement is sent and heard, a packet comes.
+use Rattle.std.proofs.Common.{◌≡◌, ℕ, ◌≤◌, max, eqb, cond, Bool, true, false, List, [], ◌∷◌, ◌++◌, length, sym, refl, ap, ◌∙◌, subst, ◌⊎◌, inl, inr, ⊎_elim, arith, eq-eqb, Some, slice_get, slice_set}
+use Rattle.guest_board.specs.Machine.{Machine}
+use Rattle.pair_protocol.specs.Lawful.{Among}
+use Rattle.pair_protocol.specs.Copying.{Copying}
+use Rattle.i8080_words.specs.declared.refusal.Fault.TheVariants.{BadAck}
+use Rattle.pair_protocol.specs.Node.{Node, hears, holds}
+use Rattle.pair_protocol.specs.Refusals.{fault_if, first_of, at_log, at_node, at_acked, ack_refusal}
+use Rattle.pair_protocol.specs.World.{World, LogEntry, Acknowledgement, with_node}
+use Rattle.pair_protocol.specs.Event.{DeliverLog, Ack, DeliverAck, MessageIs, HeldIs, New, Old}
+use Rattle.pair_protocol.specs.Row.{Accepts}
+use Rattle.pair_rule.specs.Shown.{First, Nothing}
+use Rattle.pair_rule.specs.declared.view.Knowledge.{Knowledge}
+use Rattle.pair_rule.specs.declared.mailbox.Mailbox.TheVariants.{Inbox}
+use Rattle.pair_rule.specs.declared.payload.Packet.{Packet}
+use Rattle.pair_rule.specs.declared.payload.Payload.TheVariants.{Log}
+use Rattle.pair_rule.specs.Knowledge.{last_or, IsEntryOf, Stands, held, saw, grown, after_empty}
+use Rattle.pair_rule.specs.Shown.{primary_role, primary_runs, backup_role, backup_runs, primary_node, backup_node, Sent, Shows, Leads}
+use Rattle.plain_single.specs.Reach.{operations}
+use Rattle.pair_rule.proofs.Filled.{among_last}
+use Rattle.pair_rule.proofs.ListsThatGrow.{last_among}
+use Rattle.pair_rule.proofs.WordChanges.{held_short}
+use Rattle.pair_rule.proofs.ShownNodes.{later_covered, index_of, more_sent, among_either, read_slice, not_below, serving, waiting, first_node, second_node}
+
+module _ {S : Type 0} (M : Machine S) (C : Copying S) (typed0 typed1 : List ℕ) (k : Knowledge) (w : World S) (z : Shows M typed0 typed1 k w) where
+  abbrev primary : Node S
+  primary = serving M C typed0 typed1 k w z
+
+  abbrev backup : Node S
+  backup = waiting M C typed0 typed1 k w z
+
+  at_primary : k.primary.winner ≡ 0 → slice_get w.nodes 0 ≡ Some primary
+  at_primary none = first_node M C typed0 typed1 k w z none
+
+  at_backup : k.backup.winner ≡ 0 → slice_get w.nodes 1 ≡ Some backup
+  at_backup none = second_node M C typed0 typed1 k w z none
+
+  -- the backup acknowledges what it holds
+  pub hold_leads : k.backup.winner ≡ 0 → Leads M C typed0 typed1 (held k) w
+  hold_leads none = record {
+    events = Ack 1 ∷ [];
+    replies = MessageIs (length w.messages) ∷ [];
+    new = record w { messages = w.messages ++ Acknowledgement 1 (length k.backup.list) 0 ∷ [] };
+    run = First (Accepts (ap (λ o. at_node o ack_refusal) (at_backup none)) record { x = backup; there = at_backup none; says = record { reply = refl; after = refl } }) Nothing;
+    once = inl refl;
+    shows = record {
+      moves = z.moves;
+      s = z.s;
+      recorded = z.recorded;
+      entries_are = z.entries_are;
+      count = z.count;
+      nodes = z.nodes;
+      sent = let t = more_sent k w.messages (Acknowledgement 1 (length k.backup.list) 0 ∷ []) z.sent in record {
+        logs = t.logs;
+        acks = λ h at. ⊎_elim (λ (i : Among h k.backup.held_values). t.acks h i) (λ (e : h ≡ length k.backup.list). subst (λ n. Among (Acknowledgement 1 n 0) (w.messages ++ Acknowledgement 1 (length k.backup.list) 0 ∷ [])) (sym e) (among_last (Acknowledgement 1 (length k.backup.list) 0) w.messages)) (among_either h (length k.backup.list) k.backup.held_values at);
+        operations = t.operations;
+        writes = t.writes;
+      };
+      terminals = z.terminals;
+      winners = z.winners;
+      puts = z.puts;
+      issued = z.issued;
+      done = z.done;
+      first_reads = z.first_reads;
+      covered = z.covered;
+    };
+  }
+
+  -- the primary sees what the backup acknowledged
+  saw_shows : (n : ℕ) (v : World S) → k.primary.seen ≤ n → v.nodes ≡ primary_node (saw n k) z.moves z.s ∷ backup_node M k ∷ [] → v.messages ≡ w.messages → v.terminals ≡ w.terminals → v.winners ≡ w.winners → v.puts ≡ w.puts → Shows M typed0 typed1 (saw n k) v
+  saw_shows n v more nodes messages terminals winners puts = record {
+    moves = z.moves;
+    s = z.s;
+    recorded = z.recorded;
+    entries_are = z.entries_are;
+    count = z.count;
+    nodes = nodes;
+    sent = subst (Sent (saw n k)) (sym messages) record { logs = z.sent.logs; acks = z.sent.acks; operations = z.sent.operations; writes = z.sent.writes };
+    terminals = terminals ∙ z.terminals;
+    winners = winners ∙ z.winners;
+    puts = puts ∙ z.puts;
+    issued = z.issued;
+    done = z.done;
+    first_reads = z.first_reads;
+    covered = λ o at. later_covered z.moves k.primary.seen n o more (z.covered o at);
+  }
+
+  see_none : (n : ℕ) → n ≡ k.primary.seen → Leads M C typed0 typed1 (saw n k) w
+  see_none n e = record { events = []; replies = []; new = w; run = Nothing; once = inl refl; shows = saw_shows n w (omega (arith, e)) (z.nodes ∙ (λ i. primary_node (saw (sym e i) k) z.moves z.s ∷ backup_node M k ∷ [])) refl refl refl refl }
+
+  see_one : (n : ℕ) → k.primary.winner ≡ 0 → k.primary.seen ≤ n → n ≤ length k.primary.list → Among n k.backup.held_values → Leads M C typed0 typed1 (saw n k) w
+  see_one n none more short at = let m = index_of (Acknowledgement 1 n 0) w.messages (z.sent.acks n at) in
+      let greater : max k.primary.seen n ≡ n = omega arith in record {
+        events = DeliverAck m.0 0 ∷ [];
+        replies = HeldIs (hears primary n 0).covered ∷ [];
+        new = with_node w 0 (hears primary n 0);
+        run = First (Accepts ((λ i. at_acked (at_primary none i) (m.1 i)) ∙ ap (λ b. first_of (fault_if b BadAck ∷ [])) (not_below (length k.primary.list) n short)) record { x = primary; there = at_primary none; generation = 1; held = n; replayed = 0; message = m.1; reply = refl; after = refl }) Nothing;
+        once = inl refl;
+        shows = saw_shows n (with_node w 0 (hears primary n 0)) more
+            (ap (λ l. slice_set l 0 (hears primary n 0)) z.nodes ∙ (λ i. record primary { role = primary_role (sym none i); running = primary_runs (sym none i); covered = greater i } ∷ backup_node M k ∷ []))
+            refl refl refl refl;
+      }
+
+  pub see_leads : Stands k → k.primary.winner ≡ 0 → Leads M C typed0 typed1 (saw (last_or 0 k.backup.held_values) k) w
+  see_leads st none = ⊎_elim (λ (e : last_or 0 k.backup.held_values ≡ 0). see_none (last_or 0 k.backup.held_values) (let b = st.behind in omega arith)) (λ (at : Among (last_or 0 k.backup.held_values) k.backup.held_values). see_one (last_or 0 k.backup.held_values) none st.behind (held_short k st) at) (last_among 0 k.backup.held_values)
+
+  -- a packet comes to the backup
+  abbrev took : Packet → Knowledge
+  took p = record k { backup = record k.backup { list = grown k.backup.list p } }
+
+  take_one : (p : Packet) → k.backup.winner ≡ 0 → (m : ℕ) → slice_get w.messages m ≡ Some (LogEntry 1 p.index p.entry) → (b : Bool) → eqb p.index (length k.backup.list) ≡ b
+      → Leads M C typed0 typed1 (record k { backup = record k.backup { list = cond b (k.backup.list ++ p.entry ∷ []) k.backup.list } }) w
+  take_one p none m there true is = let next : p.index ≡ length k.backup.list = grind arith in record {
+    events = DeliverLog m 1 ∷ [];
+    replies = New ∷ [];
+    new = with_node w 1 (holds backup p.entry);
+    run = First (Accepts (λ i. at_log (at_backup none i) (there i)) record { x = backup; there = at_backup none; generation = 1; index = p.index; e = p.entry; message = there; holds = inl (next, refl, refl) }) Nothing;
+    once = inl refl;
+    shows = record {
+      moves = z.moves;
+      s = z.s;
+      recorded = z.recorded;
+      entries_are = z.entries_are;
+      count = z.count;
+      nodes = ap (λ l. slice_set l 1 (holds backup p.entry)) z.nodes ∙ (λ i. primary_node k z.moves z.s ∷ record (holds backup p.entry) { role = backup_role (sym none i); running = backup_runs (sym none i) } ∷ []);
+      sent = record { logs = z.sent.logs; acks = z.sent.acks; operations = z.sent.operations; writes = z.sent.writes };
+      terminals = z.terminals;
+      winners = z.winners;
+      puts = z.puts;
+      issued = z.issued;
+      done = z.done;
+      first_reads = z.first_reads;
+      covered = z.covered;
+    };
+  }
+  take_one p none m there false is = record {
+    events = DeliverLog m 1 ∷ [];
+    replies = Old ∷ [];
+    new = w;
+    run = First (Accepts (λ i. at_log (at_backup none i) (there i)) record { x = backup; there = at_backup none; generation = 1; index = p.index; e = p.entry; message = there; holds = inr ((λ e. let c : true ≡ false = sym (eq-eqb p.index (length k.backup.list) e) ∙ is in absurd (cc)), refl, refl) }) Nothing;
+    once = inl refl;
+    shows = record {
+      moves = z.moves;
+      s = z.s;
+      recorded = z.recorded;
+      entries_are = z.entries_are;
+      count = z.count;
+      nodes = z.nodes;
+      sent = record { logs = z.sent.logs; acks = z.sent.acks; operations = z.sent.operations; writes = z.sent.writes };
+      terminals = z.terminals;
+      winners = z.winners;
+      puts = z.puts;
+      issued = z.issued;
+      done = z.done;
+      first_reads = z.first_reads;
+      covered = z.covered;
+    };
+  }
+
+  pub take_leads : (p : Packet) → k.backup.winner ≡ 0 → IsEntryOf k.generation k.primary.list p → Leads M C typed0 typed1 (after_empty Inbox (Log p) k) w
+  take_leads p none is = let m = index_of (LogEntry 1 p.index p.entry) w.messages (z.sent.logs p.index p.entry (read_slice k.primary.list p.index p.entry is.1)) in take_one p none m.0 m.1 (eqb p.index (length k.backup.list)) refl

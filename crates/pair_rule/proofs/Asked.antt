@@ -1,0 +1,138 @@
+-- Steps that are events of the world: a seat asks the arbiter, and has won or is halted.
+use Rattle.std.proofs.Common.{◌≡◌, ℕ, List, [], ◌∷◌, ◌++◌, sym, refl, ap, ◌∙◌, inl, inr, Some, slice_get, slice_set}
+use Rattle.guest_board.specs.Machine.{Machine}
+use Rattle.pair_protocol.specs.Copying.{Copying}
+use Rattle.i8080_words.specs.declared.refusal.Fault.TheVariants.{Lost}
+use Rattle.pair_protocol.specs.Node.{Node, halts, wins}
+use Rattle.pair_protocol.specs.Refusals.{fault_if, first_of, at_node, ask_refusal, is_other}
+use Rattle.pair_protocol.specs.World.{World, with_node, with_winner, Winner, winner_in}
+use Rattle.pair_protocol.specs.Event.{Suspect, Won, Refused}
+use Rattle.pair_protocol.specs.Row.{Row, Accepts, Refuses}
+use Rattle.pair_rule.specs.Shown.{First, Nothing}
+use Rattle.pair_rule.specs.declared.view.Knowledge.{Knowledge}
+use Rattle.pair_rule.specs.Knowledge.{winner_of, primary_asked, backup_asked}
+use Rattle.pair_rule.specs.Shown.{winners_of, Shows, Leads}
+use Rattle.plain_single.specs.Reach.{operations}
+use Rattle.pair_rule.proofs.ShownNodes.{serving, waiting, first_node, second_node}
+
+module _ {S : Type 0} (M : Machine S) (C : Copying S) (typed0 typed1 : List ℕ) (k : Knowledge) (w : World S) (z : Shows M typed0 typed1 k w) where
+  abbrev primary : Node S
+  primary = serving M C typed0 typed1 k w z
+
+  abbrev backup : Node S
+  backup = waiting M C typed0 typed1 k w z
+
+  at_primary : k.primary.winner ≡ 0 → slice_get w.nodes 0 ≡ Some primary
+  at_primary none = first_node M C typed0 typed1 k w z none
+
+  at_backup : k.backup.winner ≡ 0 → slice_get w.nodes 1 ≡ Some backup
+  at_backup none = second_node M C typed0 typed1 k w z none
+
+  -- a primary asks: it has won, or it is halted
+  pub primary_wins : k.primary.winner ≡ 0 → k.backup.winner ≡ 0 → Leads M C typed0 typed1 (primary_asked 0 k) w
+  primary_wins none nobody = let undecided : w.winners ≡ [] = z.winners ∙ (λ i. winners_of (winner_of (none i) (nobody i))) in
+      let row : Row M C w (Suspect 0) (Won) (with_winner w 0 primary) = Accepts (ap (λ o. at_node o (ask_refusal w 0)) (at_primary none) ∙ ap (λ (l : List Winner). first_of (fault_if (is_other (winner_in l 1) 0) Lost ∷ [])) undecided)
+      record { x = primary; there = at_primary none; reply = refl; after = inl (ap (λ l. winner_in l 1) undecided, refl) } in record {
+        events = Suspect 0 ∷ [];
+        replies = Won ∷ [];
+        new = with_winner w 0 primary;
+        run = First row Nothing;
+        once = inr (Suspect 0, Won, row);
+        shows = record {
+          moves = z.moves;
+          s = z.s;
+          recorded = z.recorded;
+          entries_are = z.entries_are;
+          count = z.count;
+          nodes = ap (λ l. slice_set l 0 (wins primary)) z.nodes;
+          sent = record { logs = z.sent.logs; acks = z.sent.acks; operations = z.sent.operations; writes = z.sent.writes };
+          terminals = z.terminals;
+          winners = ap (λ l. l ++ record { generation = 1; node = 0 } ∷ []) undecided;
+          puts = z.puts;
+          issued = z.issued;
+          done = z.done;
+          first_reads = z.first_reads;
+          covered = z.covered;
+        };
+      }
+
+  pub primary_loses : k.primary.winner ≡ 0 → k.backup.winner ≡ 2 → Leads M C typed0 typed1 (primary_asked 2 k) w
+  primary_loses none other = let decided : w.winners ≡ record { generation = 1; node = 1 } ∷ [] = z.winners ∙ (λ i. winners_of (winner_of (none i) (other i))) in
+      let row : Row M C w (Suspect 0) (Refused Lost) (with_node w 0 (halts primary)) = Refuses (ap (λ o. at_node o (ask_refusal w 0)) (at_primary none) ∙ ap (λ (l : List Winner). first_of (fault_if (is_other (winner_in l 1) 0) Lost ∷ [])) decided)
+      record { x = primary; there = at_primary none; after = refl } in record {
+        events = Suspect 0 ∷ [];
+        replies = Refused Lost ∷ [];
+        new = with_node w 0 (halts primary);
+        run = First row Nothing;
+        once = inr (Suspect 0, Refused Lost, row);
+        shows = record {
+          moves = z.moves;
+          s = z.s;
+          recorded = z.recorded;
+          entries_are = z.entries_are;
+          count = z.count;
+          nodes = ap (λ l. slice_set l 0 (halts primary)) z.nodes;
+          sent = record { logs = z.sent.logs; acks = z.sent.acks; operations = z.sent.operations; writes = z.sent.writes };
+          terminals = z.terminals;
+          winners = decided;
+          puts = z.puts;
+          issued = z.issued;
+          done = z.done;
+          first_reads = z.first_reads;
+          covered = z.covered;
+        };
+      }
+
+  pub backup_wins : k.primary.winner ≡ 0 → k.backup.winner ≡ 0 → Leads M C typed0 typed1 (backup_asked 0 k) w
+  backup_wins none nobody = let undecided : w.winners ≡ [] = z.winners ∙ (λ i. winners_of (winner_of (none i) (nobody i))) in
+      let row : Row M C w (Suspect 1) (Won) (with_winner w 1 backup) = Accepts (ap (λ o. at_node o (ask_refusal w 1)) (at_backup nobody) ∙ ap (λ (l : List Winner). first_of (fault_if (is_other (winner_in l 1) 1) Lost ∷ [])) undecided)
+      record { x = backup; there = at_backup nobody; reply = refl; after = inl (ap (λ l. winner_in l 1) undecided, refl) } in record {
+        events = Suspect 1 ∷ [];
+        replies = Won ∷ [];
+        new = with_winner w 1 backup;
+        run = First row Nothing;
+        once = inr (Suspect 1, Won, row);
+        shows = record {
+          moves = z.moves;
+          s = z.s;
+          recorded = z.recorded;
+          entries_are = z.entries_are;
+          count = z.count;
+          nodes = ap (λ l. slice_set l 1 (wins backup)) z.nodes;
+          sent = record { logs = z.sent.logs; acks = z.sent.acks; operations = z.sent.operations; writes = z.sent.writes };
+          terminals = z.terminals;
+          winners = ap (λ l. l ++ record { generation = 1; node = 1 } ∷ []) undecided ∙ (λ i. winners_of (winner_of (sym none i) 2));
+          puts = z.puts;
+          issued = z.issued;
+          done = z.done;
+          first_reads = z.first_reads;
+          covered = z.covered;
+        };
+      }
+
+  pub backup_loses : k.primary.winner ≡ 1 → k.backup.winner ≡ 0 → Leads M C typed0 typed1 (backup_asked 1 k) w
+  backup_loses other nobody = let decided : w.winners ≡ record { generation = 1; node = 0 } ∷ [] = z.winners ∙ (λ i. winners_of (winner_of (other i) (nobody i))) in
+      let row : Row M C w (Suspect 1) (Refused Lost) (with_node w 1 (halts backup)) = Refuses (ap (λ o. at_node o (ask_refusal w 1)) (at_backup nobody) ∙ ap (λ (l : List Winner). first_of (fault_if (is_other (winner_in l 1) 1) Lost ∷ [])) decided)
+      record { x = backup; there = at_backup nobody; after = refl } in record {
+        events = Suspect 1 ∷ [];
+        replies = Refused Lost ∷ [];
+        new = with_node w 1 (halts backup);
+        run = First row Nothing;
+        once = inr (Suspect 1, Refused Lost, row);
+        shows = record {
+          moves = z.moves;
+          s = z.s;
+          recorded = z.recorded;
+          entries_are = z.entries_are;
+          count = z.count;
+          nodes = ap (λ l. slice_set l 1 (halts backup)) z.nodes;
+          sent = record { logs = z.sent.logs; acks = z.sent.acks; operations = z.sent.operations; writes = z.sent.writes };
+          terminals = z.terminals;
+          winners = decided ∙ (λ i. winners_of (winner_of (sym other i) 1));
+          puts = z.puts;
+          issued = z.issued;
+          done = z.done;
+          first_reads = z.first_reads;
+          covered = z.covered;
+        };
+      }

@@ -1,0 +1,96 @@
+-- A generation begins: the bytes are typed, one after another.
+use Rattle.std.proofs.Common.{ℕ, ◌+◌, List, [], ◌∷◌, ◌++◌, length, refl, sym, subst, append_assoc, append-nil, le_refl, inl, arith}
+use Rattle.guest_board.specs.Machine.{Machine}
+use Rattle.pair_protocol.specs.Lawful.{Lawful}
+use Rattle.pair_protocol.specs.Change.{AtBoot}
+use Rattle.pair_protocol.specs.Copying.{Copying}
+use Rattle.pair_protocol.specs.Event.{Event, Reply, TypeByte, TypedAt}
+use Rattle.pair_protocol.specs.Laws.{RowIsChanges, ChangesReach}
+use Rattle.pair_protocol.specs.Row.{Accepts}
+use Rattle.pair_protocol.specs.World.{World, opening}
+use Rattle.pair_rule.specs.Knowledge.{Stands}
+use Rattle.pair_rule.specs.Rules.{first_known}
+use Rattle.pair_rule.specs.Law.{StartsShown}
+use Rattle.pair_rule.specs.Shown.{Happens, First, Nothing, Shows}
+use Rattle.pair_rule.proofs.Law.{run_reaches}
+
+first_stands : (g : ℕ) → Stands (first_known g)
+first_stands g = record {
+  prefix = ([], refl);
+  in_link = tt;
+  rising = le_refl 0;
+  behind = le_refl 0;
+  once = inl refl;
+  decided = record { few = omega arith; same = λ x y. absurd (x refl); primary_lost = λ e. absurd (omega arith); backup_lost = λ e. absurd (omega arith) };
+  counted0 = le_refl 0;
+  counted1 = le_refl 0;
+  hand0 = tt;
+  hand1 = tt;
+  arrived0 = tt;
+  arrived1 = tt;
+  taken = tt;
+  puts = tt;
+  answers = tt;
+  replies = tt;
+}
+
+module _ {S : Type 0} (M : Machine S) (C : Copying S) where
+  abbrev typed_world : List ℕ → List ℕ → World S
+  typed_world a b = record (opening M) { terminals = record { arrivals = []; typed = a; told = 0 } ∷ record { arrivals = []; typed = b; told = 0 } ∷ [] }
+
+  -- events and replies from one world to another
+  abbrev Comes : World S → World S → Type 0
+  Comes v w = (events : List Event) × (replies : List Reply) × Happens M C v events replies w
+
+  type0 : (a b xs : List ℕ) → Comes (typed_world a b) (typed_world (a ++ xs) b)
+  type0 a b [] = ([], [], subst (λ l. Happens M C (typed_world a b) [] [] (typed_world l b)) (sym (append-nil a)) Nothing)
+  type0 a b (x ∷ xs) = let r = type0 (a ++ x ∷ []) b xs in (
+    TypeByte 0 x ∷ r.0,
+    TypedAt (length a) ∷ r.1,
+    First (Accepts refl record { reply = refl; after = refl })
+        (subst (λ l. Happens M C (typed_world (a ++ x ∷ []) b) r.0 r.1 (typed_world l b)) (append_assoc a (x ∷ []) xs) r.2),
+  )
+
+  type1 : (a b xs : List ℕ) → Comes (typed_world a b) (typed_world a (b ++ xs))
+  type1 a b [] = ([], [], subst (λ l. Happens M C (typed_world a b) [] [] (typed_world a l)) (sym (append-nil b)) Nothing)
+  type1 a b (x ∷ xs) = let r = type1 a (b ++ x ∷ []) xs in (
+    TypeByte 1 x ∷ r.0,
+    TypedAt (length b) ∷ r.1,
+    First (Accepts refl record { reply = refl; after = refl })
+        (subst (λ l. Happens M C (typed_world a (b ++ x ∷ [])) r.0 r.1 (typed_world a l)) (append_assoc b (x ∷ []) xs) r.2),
+  )
+
+  then_on : (a b c : World S) (es fs : List Event) (rs qs : List Reply) → Happens M C a es rs b → Happens M C b fs qs c → Happens M C a (es ++ fs) (rs ++ qs) c
+  then_on a b c es fs rs qs Nothing more = more
+  then_on a b c es fs rs qs (First {mid = v} {events = es'} {replies = rs'} row rest) more = First row (then_on v b c es' fs rs' qs rest more)
+
+  shows_first : Lawful M → (typed0 typed1 : List ℕ) (generation : ℕ) → Shows M typed0 typed1 (first_known generation) (typed_world typed0 typed1)
+  shows_first laws typed0 typed1 generation = record {
+    moves = [];
+    s = M.boot;
+    recorded = refl;
+    entries_are = refl;
+    count = laws.counts [] M.boot refl;
+    nodes = refl;
+    sent = record { logs = λ i e at. absurd (cc); acks = λ h at. absurd at; operations = λ o at. absurd at; writes = λ n at. absurd at };
+    terminals = refl;
+    winners = refl;
+    puts = refl;
+    issued = λ o at. absurd at;
+    done = λ n d. absurd d;
+    first_reads = λ r at. absurd at;
+    covered = λ o at. absurd at;
+  }
+
+pub starts_shown : {S : Type 0} → RowIsChanges S → ChangesReach S → StartsShown S
+starts_shown rows changes M C laws typed0 typed1 generation =
+    let a = type0 M C [] [] typed0 in let b = type1 M C typed0 [] typed1 in
+    let run = then_on M C (opening M) (typed_world M C typed0 []) (typed_world M C typed0 typed1) a.0 b.0 a.1 b.1 a.2 b.2 in record {
+      events = a.0 ++ b.0;
+      replies = a.1 ++ b.1;
+      world = typed_world M C typed0 typed1;
+      run = run;
+      reached = run_reaches rows changes M C (opening M) (typed_world M C typed0 typed1) (a.0 ++ b.0) (a.1 ++ b.1) AtBoot run;
+      stands = first_stands generation;
+      shows = shows_first M C laws typed0 typed1 generation;
+    }

@@ -1,0 +1,288 @@
+-- What each step does to what is known: who may make it, and that what stands goes on to stand.
+use Rattle.std.proofs.Common.{◌≡◌, ℕ, List, [], ◌∷◌, ◌++◌, sym, refl, ap, ◌∙◌, subst, inl, inr, ⊎_elim, Option, Some, None}
+use lib.ListN.{get_elem?}
+use Rattle.atomic_table.proofs.Lists.{at_longer}
+use Rattle.disk_dcdd.specs.declared.sector.SectorWrite.{SectorWrite}
+use Rattle.event_callbacks.specs.declared.operations.Operation.{Operation}
+use Rattle.event_callbacks.specs.declared.operations.Operation.TheVariants.{Byte, Write}
+use Rattle.log_entry.specs.declared.entry.Entry.{Entry}
+use Rattle.pair_protocol.specs.Lawful.{Among}
+use Rattle.pair_rule.specs.declared.mailbox.Mailbox.{Mailbox}
+use Rattle.pair_rule.specs.declared.mailbox.Mailbox.TheVariants.{Outbox, Inbox, Bytes0, Bytes1, Requests, Answers}
+use Rattle.pair_rule.specs.declared.payload.Packet.{Packet}
+use Rattle.pair_rule.specs.declared.payload.Payload.{Payload}
+use Rattle.pair_rule.specs.declared.payload.Payload.TheVariants.{Log, Out, Request, Answer}
+use Rattle.pair_rule.specs.declared.payload.DiskRequest.{DiskRequest}
+use Rattle.pair_rule.specs.declared.payload.DiskRequest.TheVariants as ask
+use Rattle.pair_rule.specs.declared.payload.DiskAnswer.{DiskAnswer}
+use Rattle.pair_rule.specs.declared.payload.DiskAnswer.TheVariants as answer
+use Rattle.pair_rule.specs.declared.view.PrimaryView.{PrimaryView}
+use Rattle.pair_rule.specs.declared.view.DiskView.{DiskView}
+use Rattle.pair_rule.specs.declared.view.Knowledge.{Knowledge}
+use Rattle.pair_rule.specs.Boxes.{filler, emptier}
+use Rattle.pair_rule.specs.Knowledge.{IsEntryOf, IsByteOf, IsAsked, IsReplied, Fits, WhereSome, AllAre, Stands, grown, put_by, released_by, after_fill, after_empty, CanFill}
+use Rattle.pair_rule.specs.Rules.{SamePart}
+use Rattle.pair_rule.proofs.Parts.{Local, nothing, on_primary, on_link, on_backup, on_terminal, on_disk}
+use Rattle.pair_rule.proofs.BoxSwaps.{Keeps, keeps_all}
+
+-- ---- lists that only grow
+
+module _ {A : Type 0} where
+  pub among_more : (x : A) (xs ys : List A) → Among x xs → Among x (xs ++ ys)
+  among_more x [] ys a = absurd a
+  among_more x (y ∷ xs) ys a = ⊎_elim (λ e. inl e) (λ i. inr (among_more x xs ys i)) a
+
+  pub among_last : (x : A) (xs : List A) → Among x (xs ++ x ∷ [])
+  among_last x [] = inl refl
+  among_last x (y ∷ xs) = inr (among_last x xs)
+
+  pub all_map : (xs : List A) (P Q : A → Type 0) → ((x : A) → P x → Q x) → AllAre xs P → AllAre xs Q
+  all_map [] P Q f a = a
+  all_map (x ∷ xs) P Q f a = (f x a.0, all_map xs P Q f a.1)
+
+  pub all_more : (xs : List A) (x : A) (P : A → Type 0) → AllAre xs P → P x → AllAre (xs ++ x ∷ []) P
+  all_more [] x P a p = (p, tt)
+  all_more (y ∷ xs) x P a p = (a.0, all_more xs x P a.1 p)
+
+  pub if_map : (x : Option A) (P Q : A → Type 0) → ((x : A) → P x → Q x) → WhereSome x P → WhereSome x Q
+  if_map None P Q f i = i
+  if_map (Some x) P Q f i = f x i
+
+byte_more : (port : ℕ) (xs ys : List Operation) (o : Operation) → IsByteOf port xs o → IsByteOf port (xs ++ ys) o
+byte_more port xs ys (Byte to number byte) i = (i.0, among_more (Byte to number byte) xs ys i.1)
+byte_more port xs ys (Write w) i = i
+
+asked_more : (xs ys : List Operation) (r : DiskRequest) → IsAsked xs r → IsAsked (xs ++ ys) r
+asked_more xs ys (ask.Write w) i = among_more (Write w) xs ys i
+asked_more xs ys (ask.Read a) i = i
+
+pub entry_more : (g : ℕ) (list : List Entry) (e : Entry) (p : Packet) → IsEntryOf g list p → IsEntryOf g (list ++ e ∷ []) p
+entry_more g list e p i = (i.0, at_longer list (e ∷ []) p.index p.entry i.1)
+
+-- what was put stays put
+pub put_more : (t : Option DiskRequest) (puts : List SectorWrite) (w : SectorWrite) → Among w puts → Among w (put_by t puts)
+put_more None puts w i = i
+put_more (Some (ask.Write v)) puts w i = among_more w puts (v ∷ []) i
+put_more (Some (ask.Read a)) puts w i = i
+
+replied_more : (t : Option DiskRequest) (puts : List SectorWrite) (a : DiskAnswer) → IsReplied puts a → IsReplied (put_by t puts) a
+replied_more t puts (answer.Written n) i = (i.0, put_more t puts i.0 i.1, i.2)
+replied_more t puts (answer.Read r) (inl e) = inl e
+replied_more t puts (answer.Read r) (inr i) = inr (i.0, put_more t puts i.0 i.1, i.2, i.3, i.4)
+
+-- ---- whose each change is
+
+pub local_fill : (b : Mailbox) (q : Payload) → Local (filler b) (after_fill b q)
+local_fill Outbox q = nothing _
+local_fill Inbox q = nothing _
+local_fill Bytes0 (Out o) = on_primary (λ p. record p { released = p.released ++ o ∷ [] })
+local_fill Bytes0 (Log p) = nothing _
+local_fill Bytes0 (Request r) = nothing _
+local_fill Bytes0 (Answer a) = nothing _
+local_fill Bytes1 (Out o) = on_primary (λ p. record p { released = p.released ++ o ∷ [] })
+local_fill Bytes1 (Log p) = nothing _
+local_fill Bytes1 (Request r) = nothing _
+local_fill Bytes1 (Answer a) = nothing _
+local_fill Requests (Request r) = on_primary (λ p. record p { released = released_by p.released r })
+local_fill Requests (Log p) = nothing _
+local_fill Requests (Out o) = nothing _
+local_fill Requests (Answer a) = nothing _
+local_fill Answers (Answer a) = on_disk (λ d. record d { puts = put_by d.taken d.puts; given = d.given ++ a ∷ [] })
+local_fill Answers (Log p) = nothing _
+local_fill Answers (Out o) = nothing _
+local_fill Answers (Request r) = nothing _
+
+pub local_empty : (b : Mailbox) (q : Payload) → Local (emptier b) (after_empty b q)
+local_empty Outbox (Log p) = on_link (λ _. Some p)
+local_empty Outbox (Out o) = nothing _
+local_empty Outbox (Request r) = nothing _
+local_empty Outbox (Answer a) = nothing _
+local_empty Inbox (Log p) = on_backup (λ b. record b { list = grown b.list p })
+local_empty Inbox (Out o) = nothing _
+local_empty Inbox (Request r) = nothing _
+local_empty Inbox (Answer a) = nothing _
+local_empty Bytes0 (Out o) = on_terminal (λ t. record t { hand0 = Some o })
+local_empty Bytes0 (Log p) = nothing _
+local_empty Bytes0 (Request r) = nothing _
+local_empty Bytes0 (Answer a) = nothing _
+local_empty Bytes1 (Out o) = on_terminal (λ t. record t { hand1 = Some o })
+local_empty Bytes1 (Log p) = nothing _
+local_empty Bytes1 (Request r) = nothing _
+local_empty Bytes1 (Answer a) = nothing _
+local_empty Requests (Request r) = on_disk (λ d. record d { taken = Some r })
+local_empty Requests (Log p) = nothing _
+local_empty Requests (Out o) = nothing _
+local_empty Requests (Answer a) = nothing _
+local_empty Answers (Answer a) = on_primary (λ p. record p { answers = p.answers ++ a ∷ [] })
+local_empty Answers (Log p) = nothing _
+local_empty Answers (Out o) = nothing _
+local_empty Answers (Request r) = nothing _
+
+-- ---- what stands goes on to stand: where boxes are filled
+
+module _ (k : Knowledge) (s : Stands k) where
+  -- the primary released more
+  released : (more : List Operation) → Stands (record k { primary = record k.primary { released = k.primary.released ++ more } })
+  released more = record {
+    prefix = s.prefix;
+    in_link = s.in_link;
+    rising = s.rising;
+    behind = s.behind;
+    once = s.once;
+    decided = s.decided;
+    counted0 = s.counted0;
+    counted1 = s.counted1;
+    hand0 = if_map k.terminal.hand0 _ _ (byte_more 0 k.primary.released more) s.hand0;
+    hand1 = if_map k.terminal.hand1 _ _ (byte_more 1 k.primary.released more) s.hand1;
+    arrived0 = all_map k.terminal.arrivals0 _ _ (λ a i. among_more (Byte 0 a.number a.byte) k.primary.released more i) s.arrived0;
+    arrived1 = all_map k.terminal.arrivals1 _ _ (λ a i. among_more (Byte 1 a.number a.byte) k.primary.released more i) s.arrived1;
+    taken = if_map k.disk.taken _ _ (asked_more k.primary.released more) s.taken;
+    puts = all_map k.disk.puts _ _ (λ w i. among_more (Write w) k.primary.released more i) s.puts;
+    answers = s.answers;
+    replies = s.replies;
+  }
+
+  released_fits : (more : List Operation) (b : Mailbox) (x : Payload) → Fits b k x → Fits b (record k { primary = record k.primary { released = k.primary.released ++ more } }) x
+  released_fits more Outbox (Log p) f = f
+  released_fits more Outbox (Out o) f = f
+  released_fits more Outbox (Request r) f = f
+  released_fits more Outbox (Answer a) f = f
+  released_fits more Inbox (Log p) f = f
+  released_fits more Inbox (Out o) f = f
+  released_fits more Inbox (Request r) f = f
+  released_fits more Inbox (Answer a) f = f
+  released_fits more Bytes0 (Out o) f = byte_more 0 k.primary.released more o f
+  released_fits more Bytes0 (Log p) f = f
+  released_fits more Bytes0 (Request r) f = f
+  released_fits more Bytes0 (Answer a) f = f
+  released_fits more Bytes1 (Out o) f = byte_more 1 k.primary.released more o f
+  released_fits more Bytes1 (Log p) f = f
+  released_fits more Bytes1 (Request r) f = f
+  released_fits more Bytes1 (Answer a) f = f
+  released_fits more Requests (Request r) f = asked_more k.primary.released more r f
+  released_fits more Requests (Log p) f = f
+  released_fits more Requests (Out o) f = f
+  released_fits more Requests (Answer a) f = f
+  released_fits more Answers (Answer a) f = f
+  released_fits more Answers (Log p) f = f
+  released_fits more Answers (Out o) f = f
+  released_fits more Answers (Request r) f = f
+
+  release_keeps : (more : List Operation) → Keeps (λ k. record k { primary = record k.primary { released = k.primary.released ++ more } }) k
+  release_keeps more = record { stands = released more; words = refl; fits = released_fits more }
+
+  -- the disk answered
+  abbrev answered : DiskAnswer → Knowledge
+  answered a = record k { disk = record k.disk { puts = put_by k.disk.taken k.disk.puts; given = k.disk.given ++ a ∷ [] } }
+
+  puts_more : (t : Option DiskRequest) → WhereSome t (IsAsked k.primary.released) → AllAre (put_by t k.disk.puts) (λ w. Among (Write w) k.primary.released)
+  puts_more None i = s.puts
+  puts_more (Some (ask.Write w)) i = all_more k.disk.puts w (λ w. Among (Write w) k.primary.released) s.puts i
+  puts_more (Some (ask.Read a)) i = s.puts
+
+  answered_stands : (a : DiskAnswer) → IsReplied (put_by k.disk.taken k.disk.puts) a → Stands (answered a)
+  answered_stands a can = record {
+    prefix = s.prefix;
+    in_link = s.in_link;
+    rising = s.rising;
+    behind = s.behind;
+    once = s.once;
+    decided = s.decided;
+    counted0 = s.counted0;
+    counted1 = s.counted1;
+    hand0 = s.hand0;
+    hand1 = s.hand1;
+    arrived0 = s.arrived0;
+    arrived1 = s.arrived1;
+    taken = s.taken;
+    puts = puts_more k.disk.taken s.taken;
+    answers = all_map k.primary.answers _ _ (λ x i. among_more x k.disk.given (a ∷ []) i) s.answers;
+    replies = all_more k.disk.given a (IsReplied (put_by k.disk.taken k.disk.puts)) (all_map k.disk.given _ _ (λ x i. replied_more k.disk.taken k.disk.puts x i) s.replies) can;
+  }
+
+  answered_fits : (a : DiskAnswer) (b : Mailbox) (x : Payload) → Fits b k x → Fits b (answered a) x
+  answered_fits a Answers (Answer x) f = among_more x k.disk.given (a ∷ []) f
+  answered_fits a Answers (Log p) f = f
+  answered_fits a Answers (Out o) f = f
+  answered_fits a Answers (Request r) f = f
+  answered_fits a Outbox (Log p) f = f
+  answered_fits a Outbox (Out o) f = f
+  answered_fits a Outbox (Request r) f = f
+  answered_fits a Outbox (Answer x) f = f
+  answered_fits a Inbox (Log p) f = f
+  answered_fits a Inbox (Out o) f = f
+  answered_fits a Inbox (Request r) f = f
+  answered_fits a Inbox (Answer x) f = f
+  answered_fits a Bytes0 (Out o) f = f
+  answered_fits a Bytes0 (Log p) f = f
+  answered_fits a Bytes0 (Request r) f = f
+  answered_fits a Bytes0 (Answer x) f = f
+  answered_fits a Bytes1 (Out o) f = f
+  answered_fits a Bytes1 (Log p) f = f
+  answered_fits a Bytes1 (Request r) f = f
+  answered_fits a Bytes1 (Answer x) f = f
+  answered_fits a Requests (Request r) f = f
+  answered_fits a Requests (Log p) f = f
+  answered_fits a Requests (Out o) f = f
+  answered_fits a Requests (Answer x) f = f
+
+  abbrev MayFill : Mailbox → Payload → Type 0
+  MayFill b q = Keeps (after_fill b q) k × Fits b (after_fill b q k) q
+
+  pub fill_keeps : (b : Mailbox) (q : Payload) → CanFill b k q → MayFill b q
+  fill_keeps Outbox (Log p) can = (keeps_all k s, can)
+  fill_keeps Outbox (Out o) can = absurd can
+  fill_keeps Outbox (Request r) can = absurd can
+  fill_keeps Outbox (Answer a) can = absurd can
+  fill_keeps Inbox (Log p) can = (keeps_all k s, subst (λ x. WhereSome x (IsEntryOf k.generation k.primary.list)) can s.in_link)
+  fill_keeps Inbox (Out o) can = absurd can
+  fill_keeps Inbox (Request r) can = absurd can
+  fill_keeps Inbox (Answer a) can = absurd can
+  fill_keeps Bytes0 (Out (Byte to number byte)) can = (release_keeps (Byte to number byte ∷ []), (can, among_last (Byte to number byte) k.primary.released))
+  fill_keeps Bytes0 (Out (Write w)) can = absurd can
+  fill_keeps Bytes0 (Log p) can = absurd can
+  fill_keeps Bytes0 (Request r) can = absurd can
+  fill_keeps Bytes0 (Answer a) can = absurd can
+  fill_keeps Bytes1 (Out (Byte to number byte)) can = (release_keeps (Byte to number byte ∷ []), (can, among_last (Byte to number byte) k.primary.released))
+  fill_keeps Bytes1 (Out (Write w)) can = absurd can
+  fill_keeps Bytes1 (Log p) can = absurd can
+  fill_keeps Bytes1 (Request r) can = absurd can
+  fill_keeps Bytes1 (Answer a) can = absurd can
+  fill_keeps Requests (Request (ask.Write w)) can = (release_keeps (Write w ∷ []), among_last (Write w) k.primary.released)
+  fill_keeps Requests (Request (ask.Read a)) can = (keeps_all k s, tt)
+  fill_keeps Requests (Log p) can = absurd can
+  fill_keeps Requests (Out o) can = absurd can
+  fill_keeps Requests (Answer a) can = absurd can
+  fill_keeps Answers (Answer a) can = (record { stands = answered_stands a can; words = refl; fits = answered_fits a }, among_last a k.disk.given)
+  fill_keeps Answers (Log p) can = absurd can
+  fill_keeps Answers (Out o) can = absurd can
+  fill_keeps Answers (Request r) can = absurd can
+
+-- whether it may be filled is known to the seat that fills it
+pub can_same : (b : Mailbox) (q : Payload) (k l : Knowledge) → k.generation ≡ l.generation → SamePart (filler b) k l → CanFill b k q → CanFill b l q
+can_same Outbox (Log p) k l g e can = (can.0 ∙ g, ap (λ (z : PrimaryView). get_elem? z.list p.index) (sym e) ∙ can.1)
+can_same Outbox (Out o) k l g e can = can
+can_same Outbox (Request r) k l g e can = can
+can_same Outbox (Answer a) k l g e can = can
+can_same Inbox (Log p) k l g e can = sym e ∙ can
+can_same Inbox (Out o) k l g e can = can
+can_same Inbox (Request r) k l g e can = can
+can_same Inbox (Answer a) k l g e can = can
+can_same Bytes0 (Out (Byte to number byte)) k l g e can = can
+can_same Bytes0 (Out (Write w)) k l g e can = can
+can_same Bytes0 (Log p) k l g e can = can
+can_same Bytes0 (Request r) k l g e can = can
+can_same Bytes0 (Answer a) k l g e can = can
+can_same Bytes1 (Out (Byte to number byte)) k l g e can = can
+can_same Bytes1 (Out (Write w)) k l g e can = can
+can_same Bytes1 (Log p) k l g e can = can
+can_same Bytes1 (Request r) k l g e can = can
+can_same Bytes1 (Answer a) k l g e can = can
+can_same Requests (Request r) k l g e can = can
+can_same Requests (Log p) k l g e can = can
+can_same Requests (Out o) k l g e can = can
+can_same Requests (Answer a) k l g e can = can
+can_same Answers (Answer a) k l g e can = subst (λ (d : DiskView). IsReplied (put_by d.taken d.puts) a) e can
+can_same Answers (Log p) k l g e can = can
+can_same Answers (Out o) k l g e can = can
+can_same Answers (Request r) k l g e can = can

@@ -1,0 +1,75 @@
+-- The nodes that a world shows, and its messages.
+use Rattle.std.proofs.Common.{append_assoc, ◌∙◌, ◌≤◌, arith, ◌≡◌, ℕ, zero, suc, ◌≤◌, true, false, List, [], ◌∷◌, ◌++◌, map, sym, refl, ap, ◌∙◌, ◌⊎◌, inl, inr, ⊎_elim, arith, Some, slice_get, nat_lt}
+use mathlib.Core.Option.{some, some-injective, some-ne-none}
+use lib.ListN.{get_elem?}
+use Rattle.event_callbacks.specs.declared.operations.Operation.{Operation}
+use Rattle.guest_board.specs.Machine.{Machine, Move, Do}
+use Rattle.pair_protocol.specs.Lawful.{Among}
+use Rattle.pair_protocol.specs.Copying.{Copying}
+use Rattle.pair_protocol.specs.Node.{Node, Primary, Backup}
+use Rattle.pair_protocol.specs.World.{World, Message, LogEntry, Acknowledgement, Released, WriteDone}
+use Rattle.pair_rule.specs.declared.view.Knowledge.{Knowledge}
+use Rattle.pair_rule.specs.declared.payload.DiskAnswer.{DiskAnswer}
+use Rattle.pair_rule.specs.declared.payload.DiskAnswer.TheVariants as answer
+use Rattle.pair_rule.specs.Shown.{IsAcknowledged, primary_role, primary_runs, backup_role, backup_runs, primary_node, backup_node, Sent, Shows}
+use Rattle.plain_single.specs.Reach.{operations}
+use Rattle.shared_disk.specs.declared.disk.SectorRead.{SectorRead}
+use Rattle.pair_rule.proofs.Filled.{among_more}
+
+-- a message that is among those sent has a number
+pub index_of : {A : Type 0} (x : A) (xs : List A) → Among x xs → (m : ℕ) × (slice_get xs m ≡ Some x)
+index_of x [] a = absurd a
+index_of x (y ∷ xs) a = ⊎_elim (λ e. (0, ap Some (sym e))) (λ i. let r = index_of x xs i in (suc r.0, r.1)) a
+
+pub more_sent : (k : Knowledge) (messages more : List Message) → Sent k messages → Sent k (messages ++ more)
+more_sent k messages more t = record {
+  logs = λ i e at. among_more (LogEntry 1 i e) messages more (t.logs i e at);
+  acks = λ h at. among_more (Acknowledgement 1 h 0) messages more (t.acks h at);
+  operations = λ o at. among_more (Released o) messages more (t.operations o at);
+  writes = λ n at. among_more (WriteDone n) messages more (t.writes n at);
+}
+
+pub among_either : {A : Type 0} (x y : A) (xs : List A) → Among x (xs ++ y ∷ []) → Among x xs ⊎ (x ≡ y)
+among_either x y [] a = ⊎_elim (λ e. inr e) (λ i. absurd i) a
+among_either x y (z ∷ xs) a = ⊎_elim (λ e. inl (inl e)) (λ i. ⊎_elim (λ j. inl (inr j)) (λ e. inr e) (among_either x y xs i)) a
+
+-- of the answers with one of a write more, those of reads are as before
+pub no_read : (r : SectorRead) (n : ℕ) (given : List DiskAnswer) → Among (answer.Read r) (given ++ answer.Written n ∷ []) → Among (answer.Read r) given
+no_read r n [] (inl e) = absurd (let c : answer.Read r ≡ answer.Written n = e in cc)
+no_read r n [] (inr a) = a
+no_read r n (x ∷ given) (inl e) = inl e
+no_read r n (x ∷ given) (inr a) = inr (no_read r n given a)
+
+-- a list that is read as tables are read
+pub read_slice : {A : Type 0} (l : List A) (i : ℕ) (x : A) → get_elem? l i ≡ some x → slice_get l i ≡ Some x
+read_slice [] i x e = absurd (some-ne-none x (sym e))
+read_slice (y ∷ l) zero x e = ap Some (some-injective y x e)
+read_slice (y ∷ l) (suc i) x e = read_slice l i x e
+
+pub not_below : (a b : ℕ) → b ≤ a → nat_lt a b ≡ false
+not_below a b le = grind arith
+
+pub map_more : {A B : Type 0} (f : A → B) (xs : List A) (x : A) → map f (xs ++ x ∷ []) ≡ map f xs ++ f x ∷ []
+map_more f [] x = refl
+map_more f (y ∷ xs) x = ap (λ l. f y ∷ l) (map_more f xs x)
+
+-- what is acknowledged stays so, where more is seen and more moves are made
+pub later_covered : (moves : List Move) (seen more : ℕ) (o : Operation) → seen ≤ more → IsAcknowledged moves seen o → IsAcknowledged moves more o
+later_covered moves seen more o le a = record { front = a.front; rest = a.rest; given = a.given; marked = (let m = a.marked in omega (arith, m, le)) }
+
+pub longer_covered : (moves more : List Move) (seen : ℕ) (o : Operation) → IsAcknowledged moves seen o → IsAcknowledged (moves ++ more) seen o
+longer_covered moves more seen o a = record { front = a.front; rest = a.rest ++ more; given = ap (λ l. l ++ more) a.given ∙ append_assoc a.front (Do (Some o) ∷ a.rest) more; marked = a.marked }
+
+module _ {S : Type 0} (M : Machine S) (C : Copying S) (typed0 typed1 : List ℕ) (k : Knowledge) (w : World S) (z : Shows M typed0 typed1 k w) where
+  -- the nodes, while nobody has asked
+  abbrev pub serving : Node S
+  serving = record (primary_node k z.moves z.s) { role = Primary; running = true }
+
+  abbrev pub waiting : Node S
+  waiting = record (backup_node M k) { role = Backup; running = true }
+
+  pub first_node : k.primary.winner ≡ 0 → slice_get w.nodes 0 ≡ Some serving
+  first_node none = ap (λ l. slice_get l 0) z.nodes ∙ (λ i. Some (record serving { role = primary_role (none i); running = primary_runs (none i) }))
+
+  pub second_node : k.backup.winner ≡ 0 → slice_get w.nodes 1 ≡ Some waiting
+  second_node none = ap (λ l. slice_get l 1) z.nodes ∙ (λ i. Some (record waiting { role = backup_role (none i); running = backup_runs (none i) }))

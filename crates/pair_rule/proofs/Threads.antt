@@ -1,0 +1,92 @@
+-- Step after step, what is known is shown by a faithful world.
+use Rattle.std.proofs.Common.{◌≡◌, ℕ, zero, suc, ◌<◌, Bool, true, false, ◌==◌, ◌&&◌, List, refl, ap, subst, arith, inl, inr, Option, Some, None}
+use Rattle.std.specs.Option.{option_map_or}
+use Rattle.disk_dcdd.specs.declared.address.SectorAddress.{SectorAddress}
+use Rattle.guest_board.specs.Guest.{altair}
+use Rattle.guest_board.specs.Inputs.{some_altair}
+use Rattle.guest_board.specs.Machine.{Machine}
+use Rattle.guest_board.specs.Outstanding.{ComesAndGoes}
+use Rattle.guest_board.specs.Recorded.{Counts}
+use Rattle.guest_board.specs.declared.setup.Setup.{Setup}
+use Rattle.plain_single.specs.Reach.{keys, output}
+use Rattle.pair_protocol.specs.Change.{Reached}
+use Rattle.pair_protocol.specs.Copying.{Copying, IsCopying, no_copies}
+use Rattle.pair_protocol.specs.Faithful.{Faithful, IsAllBut, IsPrefix, MayHave}
+use Rattle.pair_protocol.specs.Lawful.{Lawful}
+use Rattle.pair_protocol.specs.Laws.{RowIsChanges, ChangesReach, ReachedIsFaithful, ReachedGrows}
+use Rattle.pair_protocol.specs.World.{World, accepted_in, sector_record, terminal_in}
+use Rattle.pair_rule.specs.declared.view.Knowledge.{Knowledge}
+use Rattle.pair_rule.specs.Law.{ReadsSelected, Runnable, typed_at}
+use Rattle.pair_rule.specs.Shown.{Shows}
+use Rattle.pair_rule.specs.Threads.{Goes, IsShown, Opens, Promises, ThreadsAreFaithful, bytes_accepted}
+use Rattle.pair_rule.proofs.Beginning.{starts_shown}
+use Rattle.pair_rule.proofs.Law.{steps_stay_faithful}
+use Rattle.pair_rule.specs.Knowledge.{Stands}
+use Rattle.pair_rule.specs.Steps.{IsStep}
+use Rattle.pair_rule.proofs.SilentSteps.{silent_shows}
+use Rattle.pair_rule.proofs.TableSteps.{table_steps}
+
+module _ {S : Type 0} (M : Machine S) (C : Copying S) (typed0 typed1 : List ℕ) (k : Knowledge) (w : World S) (z : Shows M typed0 typed1 k w) (f : Faithful M w) where
+  outputs : (port : ℕ) → port < 2 → IsAllBut M.window_size (bytes_accepted port k) (output port f.trace)
+  outputs zero two = subst (λ l. IsAllBut M.window_size (accepted_in l 0) (output 0 f.trace)) z.terminals (f.output 0)
+  outputs (suc zero) two = subst (λ l. IsAllBut M.window_size (accepted_in l 1) (output 1 f.trace)) z.terminals (f.output 1)
+  outputs (suc (suc port)) two = absurd (omega arith)
+
+  keys_kept : (port : ℕ) → port < 2 → IsPrefix (keys port f.list) (typed_at port typed0 typed1)
+  keys_kept zero two = subst (λ l. IsPrefix (keys 0 f.list) (terminal_in l 0).typed) z.terminals (f.typed 0)
+  keys_kept (suc zero) two = subst (λ l. IsPrefix (keys 1 f.list) (terminal_in l 1).typed) z.terminals (f.typed 1)
+  keys_kept (suc (suc port)) two = absurd (omega arith)
+
+  pub promises : Promises M typed0 typed1 k
+  promises = record {
+    list = f.list;
+    count = f.count;
+    trace = f.trace;
+    reach = f.reach;
+    outputs = outputs;
+    disk = λ address. subst (λ l. MayHave M f.trace f.reach.last address (sector_record M l address).bytes) z.puts (f.disk address);
+    keys_kept = keys_kept;
+  }
+
+pub shown : {S : Type 0} (M : Machine S) (C : Copying S) (typed0 typed1 : List ℕ) (k : Knowledge) (w : World S) → Stands k → Shows M typed0 typed1 k w → Reached M C w → Faithful M w → IsShown M C typed0 typed1 k
+shown M C typed0 typed1 k w st z reached f = record { stands = st; world = w; shows = z; reached = reached; faithful = f; promises = promises M C typed0 typed1 k w z f }
+
+-- a step of the table leads from what is shown to what is shown
+next_shown : {S : Type 0} → RowIsChanges S → ChangesReach S → ReachedIsFaithful S → ReachedGrows S → (M : Machine S) (C : Copying S) → Runnable M → IsCopying M C → (typed0 typed1 : List ℕ) (k new : Knowledge) → IsShown M C typed0 typed1 k → IsStep M typed0 typed1 k new → IsShown M C typed0 typed1 new
+next_shown rows changes faithful grow M C may copies typed0 typed1 k new s is = elim is.step [
+  | inl t ↦ (let l = steps_stay_faithful rows changes faithful grow M C may copies typed0 typed1 k new s.world s.shows s.stands s.reached t in
+      shown M C typed0 typed1 new l.leads.new is.stands l.leads.shows l.reached l.faithful)
+  | inr q ↦ shown M C typed0 typed1 new s.world is.stands (silent_shows M typed0 typed1 k new s.world s.shows q) s.reached s.faithful
+]
+
+pub runs_shown : {S : Type 0} → RowIsChanges S → ChangesReach S → ReachedIsFaithful S → ReachedGrows S → ThreadsAreFaithful S
+runs_shown rows changes faithful grow M C may copies typed0 typed1 k (Opens generation) =
+    let b = starts_shown rows changes M C may.lawful typed0 typed1 generation in shown M C typed0 typed1 k b.world b.stands b.shows b.reached (faithful M C may.lawful copies b.world b.reached)
+runs_shown rows changes faithful grow M C may copies typed0 typed1 new (Goes {k = k} run step) =
+    let s = runs_shown rows changes faithful grow M C may copies typed0 typed1 k run in
+    next_shown rows changes faithful grow M C may copies typed0 typed1 k new s (table_steps M typed0 typed1 k new s.stands step)
+
+-- ---- the Altair
+
+and_first : (a b : Bool) → (a && b) ≡ true → a ≡ true
+and_first true b e = refl
+and_first false b e = absurd cc
+
+is_that : (selected : Option ℕ) (drive : ℕ) → option_map_or (λ d. d == drive) selected false ≡ true → selected ≡ Some drive
+is_that None drive e = absurd cc
+is_that (Some d) drive e = ap Some (let same : d ≡ drive = grind arith in same)
+
+altair_selects : (setup : Setup) (sectors : SectorAddress → List ℕ) → ReadsSelected (altair setup sectors)
+altair_selects setup sectors g drive sector ready = is_that g.devices.disk.selected drive (and_first _ _ ready)
+
+-- where it boots and what its sectors hold does not matter to how it counts, and how operations come and go
+pub altair_runnable : (setup : Setup) (sectors : SectorAddress → List ℕ) → Lawful (altair setup sectors) → Counts some_altair → ComesAndGoes some_altair → Runnable (altair setup sectors)
+altair_runnable setup sectors laws counts operations = record {
+  lawful = laws;
+  counts = record { by_step = counts.by_step; by_input = counts.by_input; spent = counts.spent };
+  operations = record { comes = operations.comes; quiet = operations.quiet; goes = operations.goes; stays = operations.stays };
+  selected = altair_selects setup sectors;
+}
+
+pub without_copies : {S : Type 0} (M : Machine S) → IsCopying M no_copies
+without_copies M = record { counted = λ moves s runs. refl; again = λ moves s t runs owns made. absurd (let e : None ≡ Some t = made in cc) }

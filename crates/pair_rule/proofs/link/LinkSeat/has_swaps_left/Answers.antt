@@ -1,0 +1,8 @@
+use Rattle.std.proofs.Common.{◌≡◌, ◌↔◌, true, ap, subst}
+use Rattle.pair_rule.specs.Boxes.{Link}
+use Rattle.pair_rule.specs.Seats.{Carrier, HasSwapsLeft}
+use Rattle.pair_rule.proofs.SeatsHold.{swaps_left}
+use Rattle.pair_rule.proofs.link.LinkSeat.has_swaps_left.Goals as goal
+
+pub returns : goal.returns
+returns c = subst (λ core. (c.may_swap.result ≡ true) ↔ HasSwapsLeft core) (ap (λ (s : Carrier). s.core) c.self.view_is) (swaps_left Link _ _ _ _ c.may_swap.result c.self.invariant.keeps c.may_swap.ensures)

@@ -1,0 +1,8 @@
+use Rattle.std.proofs.Common.{◌≡◌, ◌↔◌, true, ap, subst}
+use Rattle.pair_rule.specs.Boxes.{Terminal}
+use Rattle.pair_rule.specs.Seats.{Seat, HasSwapsLeft}
+use Rattle.pair_rule.proofs.SeatsHold.{swaps_left}
+use Rattle.pair_rule.proofs.terminal.TerminalSeat.has_swaps_left.Goals as goal
+
+pub returns : goal.returns
+returns c = subst (λ core. (c.may_swap.result ≡ true) ↔ HasSwapsLeft core) (ap (λ (s : Seat). s.core) c.self.view_is) (swaps_left Terminal _ _ _ _ c.may_swap.result c.self.invariant.keeps c.may_swap.ensures)

@@ -1,0 +1,9 @@
+pub mod Boxes
+pub mod Knowledge
+pub mod Rules
+pub mod Kinds
+pub mod Seats
+pub mod Shown
+pub mod Law
+pub mod Steps
+pub mod Threads

@@ -1,0 +1,158 @@
+-- The world that the core stands for: a primary that has the list and stands at its last count, a backup that holds its
+-- copy, and what was sent, accepted and written.
+use Rattle.std.specs.Prelude.{◌≡◌, ◌⊎◌, ◌<◌, length, ℕ, zero, suc, Bool, true, false, Option, Some, None, List, [], ◌∷◌, ◌++◌, map, slice_get}
+use Rattle.event_callbacks.specs.declared.operations.Operation.{Operation}
+use Rattle.guest_board.specs.Machine.{Machine, Move, Do, Take}
+use Rattle.guest_board.specs.Recorded.{Recorded}
+use Rattle.log_entry.specs.Entries.{entries, entry_of, inputs_of, last_count, marks}
+use Rattle.log_entry.specs.declared.entry.Entry.{Entry}
+use Rattle.plain_single.specs.Reach.{operations}
+use Rattle.shared_disk.specs.declared.disk.SectorRead.{SectorRead}
+use Rattle.pair_protocol.specs.Lawful.{Among, IsDone}
+use Rattle.pair_protocol.specs.Copying.{Copying}
+use Rattle.pair_protocol.specs.Event.{Event, Reply}
+use Rattle.pair_protocol.specs.Row.{Row}
+use Rattle.pair_protocol.specs.Node.{Node, Note, Role, Primary, Backup, Draining, Alone, notes_after}
+use Rattle.pair_protocol.specs.World.{World, Message, LogEntry, Acknowledgement, Released, WriteDone, Terminal, Arrival, Winner}
+use Rattle.pair_rule.specs.declared.payload.DiskAnswer.TheVariants.{Written, Read}
+use Rattle.pair_rule.specs.declared.view.Arrived.{Arrived}
+use Rattle.pair_rule.specs.declared.view.Knowledge.{Knowledge}
+use Rattle.pair_rule.specs.Knowledge.{winner_of, read_at, HasWrite}
+
+-- what each operation of moves waits for, at a primary with this count, this log and these notes
+abbrev pub notes_from : ℕ → List Entry → List Note → List Move → List Note
+notes_from count log notes [] = notes
+notes_from count log notes (Do gives ∷ moves) =
+    notes_from (suc count) (log ++ marks (suc count) gives) (notes_after notes log gives) moves
+notes_from count log notes (Take i ∷ moves) = notes_from count (log ++ entry_of count i ∷ []) notes moves
+
+-- ---- the nodes: a seat whose view names a winner has the role that its asking gave
+
+-- a primary that asked and has won is alone, one that lost is halted; a backup that won drains
+abbrev pub primary_role : ℕ → Role
+primary_role (suc zero) = Alone
+primary_role _ = Primary
+
+abbrev pub primary_runs : ℕ → Bool
+primary_runs zero = true
+primary_runs (suc zero) = true
+primary_runs (suc (suc n)) = false
+
+abbrev pub backup_role : ℕ → Role
+backup_role (suc (suc n)) = Draining
+backup_role _ = Backup
+
+abbrev pub backup_runs : ℕ → Bool
+backup_runs (suc zero) = false
+backup_runs _ = true
+
+-- the primary has the list, stands at its last count, and is covered as far as it has seen; the backup holds its list
+abbrev pub primary_node : {S : Type 0} → Knowledge → List Move → S → Node S
+primary_node k moves s = record {
+  role = primary_role k.primary.winner;
+  running = primary_runs k.primary.winner;
+  generation = 1;
+  machine = s;
+  list = inputs_of k.primary.list;
+  copy = [];
+  start = 0;
+  held = [];
+  replayed = 0;
+  log = k.primary.list;
+  covered = k.primary.seen;
+  reported = 0;
+  notes = notes_from 0 [] [] moves;
+  image = None;
+  parts = [];
+}
+
+abbrev pub backup_node : {S : Type 0} → Machine S → Knowledge → Node S
+backup_node M k = record {
+  role = backup_role k.backup.winner;
+  running = backup_runs k.backup.winner;
+  generation = 1;
+  machine = M.boot;
+  list = [];
+  copy = [];
+  start = 0;
+  held = k.backup.list;
+  replayed = 0;
+  log = [];
+  covered = 0;
+  reported = 0;
+  notes = [];
+  image = None;
+  parts = [];
+}
+
+-- ---- what stands beside them
+
+-- the terminals have the arrivals of their view
+abbrev pub arrival_of : Arrived → Arrival
+arrival_of a = record { number = a.number; byte = a.byte }
+
+abbrev pub terminals_of : Knowledge → List ℕ → List ℕ → List Terminal
+terminals_of k typed0 typed1 =
+    record { arrivals = map arrival_of k.terminal.arrivals0; typed = typed0; told = 0 }
+    ∷ record { arrivals = map arrival_of k.terminal.arrivals1; typed = typed1; told = 0 } ∷ []
+
+-- the winner
+abbrev pub winners_of : ℕ → List Winner
+winners_of zero = []
+winners_of (suc zero) = record { generation = 1; node = 0 } ∷ []
+winners_of (suc (suc n)) = record { generation = 1; node = 1 } ∷ []
+
+-- of the messages: which there are
+pub record Sent (k : Knowledge) (messages : List Message) : Type 0 where
+  pub logs : (i : ℕ) (e : Entry) → slice_get k.primary.list i ≡ Some e → Among (LogEntry 1 i e) messages
+  pub acks : (h : ℕ) → Among h k.backup.held_values → Among (Acknowledgement 1 h 0) messages
+  pub operations : (o : Operation) → Among o k.primary.released → Among (Released o) messages
+  pub writes : (n : ℕ) → Among (Written n) k.disk.given → Among (WriteDone n) messages
+
+-- a step of the moves gave the operation, and so many entries are acknowledged that its mark is one of them
+pub record IsAcknowledged (moves : List Move) (seen : ℕ) (o : Operation) : Type 0 where
+  pub front : List Move
+  pub rest : List Move
+  pub given : moves ≡ front ++ Do (Some o) ∷ rest
+  pub marked : length (entries 0 front) < seen
+
+-- the world is shown by what is known
+pub record Shows {S : Type 0} (M : Machine S) (typed0 typed1 : List ℕ) (k : Knowledge) (w : World S) : Type 0 where
+  pub moves : List Move
+  pub s : S
+  pub recorded : Recorded M M.boot moves s
+  pub entries_are : entries 0 moves ≡ k.primary.list
+  pub count : M.count s ≡ last_count 0 k.primary.list
+  pub nodes : w.nodes ≡ primary_node k moves s ∷ backup_node M k ∷ []
+  pub sent : Sent k w.messages
+  pub terminals : w.terminals ≡ terminals_of k typed0 typed1
+  pub winners : w.winners ≡ winners_of (winner_of k.primary.winner k.backup.winner)
+  pub puts : w.puts ≡ k.disk.puts
+  -- what was released was given by a step; a write that is done was put; and a sector that the disk read before any
+  -- write has the bytes that it booted with
+  pub issued : (o : Operation) → Among o k.primary.released → Among o (operations moves)
+  pub done : (n : ℕ) → IsDone n moves → HasWrite k.disk.puts n
+  -- output rule: whatever was released is acknowledged
+  pub covered : (o : Operation) → Among o k.primary.released → IsAcknowledged moves k.primary.seen o
+  pub first_reads : (r : SectorRead) → Among (Read r) k.disk.given → r.number ≡ 0 → r.bytes ≡ M.boot_sector (read_at r)
+
+-- events of a pair, one after another
+pub data Happens {S : Type 0} (M : Machine S) (C : Copying S) : World S → List Event → List Reply → World S → Type 0 where
+  Nothing : {w : World S} → Happens M C w [] [] w
+  First : {w mid new : World S} {e : Event} {events : List Event} {r : Reply} {replies : List Reply} →
+      Row M C w e r mid → Happens M C mid events replies new → Happens M C w (e ∷ events) (r ∷ replies) new
+
+-- events lead from one world to a world that shows what is known then
+pub record Leads {S : Type 0} (M : Machine S) (C : Copying S) (typed0 typed1 : List ℕ) (k : Knowledge) (w : World S) : Type 0 where
+  pub events : List Event
+  pub replies : List Reply
+  pub new : World S
+  pub run : Happens M C w events replies new
+  -- nobody wins, or there is one event alone
+  pub once : (new.winners ≡ w.winners) ⊎ ((e : Event) × (r : Reply) × Row M C w e r new)
+  pub shows : Shows M typed0 typed1 k new
+
+-- the byte of a port that its terminal has in hand
+abbrev pub hand_of : ℕ → Knowledge → Option Operation
+hand_of zero k = k.terminal.hand0
+hand_of (suc p) k = k.terminal.hand1

@@ -1,0 +1,71 @@
+-- What the threads of a generation promise, whatever steps they make.
+use Rattle.std.specs.Prelude.{ℕ, zero, suc, ◌<◌, List, map}
+use Rattle.disk_dcdd.specs.declared.address.SectorAddress.{SectorAddress}
+use Rattle.guest_board.specs.Guest.{altair}
+use Rattle.guest_board.specs.Machine.{Machine, Move}
+use Rattle.guest_board.specs.declared.setup.Setup.{Setup}
+use Rattle.plain_single.specs.Reach.{keys, output, Reach}
+use Rattle.plain_single.specs.declared.timed.Timed.{Timed}
+use Rattle.pair_protocol.specs.Change.{Reached}
+use Rattle.pair_protocol.specs.Copying.{Copying, IsCopying, no_copies}
+use Rattle.pair_protocol.specs.Faithful.{Faithful, IsAllBut, IsPrefix, MayHave}
+use Rattle.pair_protocol.specs.World.{World, accepted_after, sector_record}
+use Rattle.pair_rule.specs.declared.view.Arrived.{Arrived}
+use Rattle.pair_rule.specs.declared.view.Knowledge.{Knowledge}
+use Rattle.pair_rule.specs.Knowledge.{Stands}
+use Rattle.pair_rule.specs.Law.{Runnable, typed_at}
+use Rattle.pair_rule.specs.Rules.{first_known}
+use Rattle.pair_rule.specs.Shown.{Shows, arrival_of}
+use Rattle.pair_rule.specs.Steps.{TableStep}
+
+-- what is known after steps of the threads, one after another, in a generation at whose terminals these bytes were typed
+pub data ThreadRun {S : Type 0} (M : Machine S) (typed0 typed1 : List ℕ) : Knowledge → Type 0 where
+  Opens : (generation : ℕ) → ThreadRun M typed0 typed1 (first_known generation)
+  Goes : {k new : Knowledge} → ThreadRun M typed0 typed1 k → TableStep M typed0 typed1 k new →
+      ThreadRun M typed0 typed1 new
+
+-- the bytes of a port that its terminal has accepted
+abbrev pub arrivals_at : ℕ → Knowledge → List Arrived
+arrivals_at zero k = k.terminal.arrivals0
+arrivals_at (suc port) k = k.terminal.arrivals1
+
+abbrev pub bytes_accepted : ℕ → Knowledge → List ℕ
+bytes_accepted port k = accepted_after 0 (map arrival_of (arrivals_at port k))
+
+-- the one trace of a machine that never fails, on inputs whose keys were typed: the terminals have accepted its output, or
+-- all of it but the last bytes of a window; and each sector has the bytes of its disk, or of an outstanding write
+pub record Promises {S : Type 0} (M : Machine S) (typed0 typed1 : List ℕ) (k : Knowledge) : Type 0 where
+  pub list : List Timed
+  pub count : ℕ
+  pub trace : List Move
+  pub reach : Reach M list count trace
+  pub outputs : (port : ℕ) → port < 2 → IsAllBut M.window_size (bytes_accepted port k) (output port trace)
+  pub disk : (address : SectorAddress) → MayHave M trace reach.last address (sector_record M k.disk.puts address).bytes
+  pub keys_kept : (port : ℕ) → port < 2 → IsPrefix (keys port list) (typed_at port typed0 typed1)
+
+-- a world that actions reach shows what is known; it is faithful, so the threads keep their promises
+pub record IsShown {S : Type 0} (M : Machine S) (C : Copying S) (typed0 typed1 : List ℕ) (k : Knowledge) : Type 0 where
+  pub stands : Stands k
+  pub world : World S
+  pub shows : Shows M typed0 typed1 k world
+  pub reached : Reached M C world
+  pub faithful : Faithful M world
+  pub promises : Promises M typed0 typed1 k
+
+-- whatever is known after steps of the threads is shown so
+abbrev pub ThreadsAreFaithful : Type 0 → Type 0
+ThreadsAreFaithful S =
+    (M : Machine S) (C : Copying S) → Runnable M → IsCopying M C → (typed0 typed1 : List ℕ) (k : Knowledge) →
+    ThreadRun M typed0 typed1 k → IsShown M C typed0 typed1 k
+
+-- ---- the Altair of any setup, with any sectors
+
+-- it is a machine that the threads may run
+abbrev pub AltairsAreRunnable : Type 0
+AltairsAreRunnable = (setup : Setup) (sectors : SectorAddress → List ℕ) → Runnable (altair setup sectors)
+
+-- and they keep their promises with it
+abbrev pub AltairThreadsAreFaithful : Type 0
+AltairThreadsAreFaithful =
+    (setup : Setup) (sectors : SectorAddress → List ℕ) (typed0 typed1 : List ℕ) (k : Knowledge) →
+    ThreadRun (altair setup sectors) typed0 typed1 k → IsShown (altair setup sectors) no_copies typed0 typed1 k

@@ -1,0 +1,63 @@
+//! What the threads of a generation are: a pair, one event after another. Nothing here runs.
+ghost use Rattle.pair_rule.specs.Law.{SilentStepsShow, StartsShown, StepsAreEvents, StepsAreFaithful};
+ghost use Rattle.pair_rule.specs.Steps.{TableStepsAreSteps};
+ghost use Rattle.pair_rule.specs.Threads.{AltairsAreRunnable, AltairThreadsAreFaithful, ThreadsAreFaithful};
+
+use guest_board::{boards_count, boards_issue_and_complete};
+use altair_laws::altairs_are_lawful;
+use pair_protocol::{actions_are_faithful, events_are_actions, events_grow};
+
+/// Each kind of step of the table keeps what stands of all that the seats know, and it is a step of the law below: one that
+/// is events of a pair, or one that is none.
+pub fn table_steps_are_steps<S>()
+    ensures steps { TableStepsAreSteps S }
+{}
+
+/// A generation begins in a world that its first core shows: a new pair, at whose terminals the bytes are typed.
+pub fn starts_are_shown<S>()
+    ensures shown { StartsShown S }
+{
+    events_are_actions::<S>();
+}
+
+/// Each step of the threads that changes what is shown is events of a pair: from a world that shows what was known they
+/// lead to one that shows what is known then.
+pub fn steps_are_events<S>()
+    ensures events { StepsAreEvents S }
+{}
+
+/// The other steps of the threads are no event: the same world shows what is known after them.
+pub fn silent_steps_are_shown<S>()
+    ensures shown { SilentStepsShow S }
+{}
+
+/// So between any two steps of the threads the world that they show is faithful, and what is settled only grows.
+pub fn steps_are_faithful<S>()
+    ensures faithful { StepsAreFaithful S }
+{
+    events_are_actions::<S>();
+    actions_are_faithful::<S>();
+    events_grow::<S>();
+}
+
+/// Whatever steps the threads of a generation make, in whatever order: the terminals have accepted the output of one
+/// machine that never fails, or all of it but the last bytes of a window; the disk holds what that machine wrote, or
+/// outstanding writes of it; and its keys are the first of those typed.
+pub fn threads_are_faithful<S>()
+    ensures faithful { ThreadsAreFaithful S }
+{
+    events_are_actions::<S>();
+    actions_are_faithful::<S>();
+    events_grow::<S>();
+}
+
+/// The Altair of every setup, with any sectors on its disks, is a machine that the threads may run, and so they keep
+/// these promises with it.
+pub fn altair_threads_are_faithful()
+    ensures runnable { AltairsAreRunnable }
+    ensures faithful { AltairThreadsAreFaithful }
+{
+    boards_count();
+    boards_issue_and_complete();
+    altairs_are_lawful();
+}
