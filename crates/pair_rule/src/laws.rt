@@ -3,8 +3,8 @@ ghost use Rattle.pair_rule.specs.Law.{SilentStepsShow, StartsShown, StepsAreEven
 ghost use Rattle.pair_rule.specs.Steps.{TableStepsAreSteps};
 ghost use Rattle.pair_rule.specs.Threads.{AltairsAreRunnable, AltairThreadsAreFaithful, ThreadsAreFaithful};
 
-use guest_board::{boards_count, boards_issue_and_complete};
 use altair_laws::altairs_are_lawful;
+use guest_board::{boards_count, boards_issue_and_complete};
 use pair_protocol::{actions_are_faithful, events_are_actions, events_grow};
 
 /// Each kind of step of the table keeps what stands of all that the seats know, and it is a step of the law below: one that
