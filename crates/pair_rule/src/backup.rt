@@ -40,7 +40,7 @@ impl BackupSeat {
         self.state.may_swap()
     }
 
-    /// Takes the packet that lies in the inbox. The list grows by it where its index is the list's length.
+    /// Takes the packet that is in the inbox; `None` if it is empty. The list grows by it if its index is the list's length.
     pub fn take(&mut self, fabric: &Fabric) -> Option<Packet>
         requires table { self.old.table ≡ fabric.now }
         requires before { self.old.core.known.backup.winner ≡ 0 }
@@ -60,7 +60,7 @@ impl BackupSeat {
         }
     }
 
-    /// Acknowledges the list.
+    /// Acknowledges the list, and returns how many entries it has.
     pub fn hold(&mut self, fabric: &Fabric) -> u64
         requires table { self.old.table ≡ fabric.now }
         requires before { self.old.core.known.backup.winner ≡ 0 }
@@ -71,7 +71,7 @@ impl BackupSeat {
         self.length
     }
 
-    /// Asks who goes on alone.
+    /// Asks who goes on alone: Ok if it is the backup. `Lost` if the primary asked first.
     pub fn contest(&mut self, fabric: &Fabric) -> Result<(), Fault>
         requires table { self.old.table ≡ fabric.now }
         requires before { self.old.core.known.backup.winner ≡ 0 }

@@ -35,7 +35,7 @@ impl DiskSeat {
         self.state.may_swap()
     }
 
-    /// Takes what the primary asks.
+    /// Takes what the primary asks; `None` if no request is in the box.
     pub fn take_request(&mut self, fabric: &Fabric) -> Option<DiskRequest>
         requires table { self.old.table ≡ fabric.now }
         requires few { swaps_at self.old.core.empties Requests < 2 ^ 40 }

@@ -101,7 +101,7 @@ pub struct FiveSeats {
 }
 
 impl Fabric {
-    /// A table for one generation, and its seats.
+    /// A table for one generation, and its seats. `OutOfMemory` is its only refusal.
     pub fn open(alloc: Global, generation: u64) -> Result<(Fabric, FiveSeats), Fault>
         ensures refused { IfErr result (λ fault. fault ≡ OutOfMemory) }
         ensures one { IfOk result (λ t. (t.1.primary.table ≡ t.0) × (t.1.link.table ≡ t.0) × (t.1.backup.table ≡ t.0) × (t.1.terminal.table ≡ t.0) × (t.1.disk.table ≡ t.0)) }

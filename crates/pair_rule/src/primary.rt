@@ -54,7 +54,8 @@ impl PrimarySeat {
         self.state.may_swap()
     }
 
-    /// Adds an entry to the list, and gives its index.
+    /// Adds an entry to the list, and returns its index, from 0. `LogFull` while 256 entries are past what was seen, otherwise
+    /// `Spent` at the greatest index, 2^62 - 1; neither changes anything.
     #[tactic(auto, unfolding(pair_protocol::specs::Lawful::top))]
     pub fn append(&mut self, fabric: &Fabric, entry: Entry) -> Result<u64, Fault>
         requires table { self.old.table ≡ fabric.now }
@@ -99,7 +100,7 @@ impl PrimarySeat {
             .fill(fabric, Mailbox::Outbox, Payload::Log(packet));
     }
 
-    /// What the backup has acknowledged.
+    /// How many entries the backup has acknowledged.
     pub fn see(&mut self, fabric: &Fabric) -> u64
         requires table { self.old.table ≡ fabric.now }
         requires before { self.old.core.known.primary.winner ≡ 0 }
@@ -112,7 +113,7 @@ impl PrimarySeat {
         self.seen
     }
 
-    /// Asks who goes on alone.
+    /// Asks who goes on alone: Ok if it is the primary. `Lost` if the backup asked first.
     pub fn contest(&mut self, fabric: &Fabric) -> Result<(), Fault>
         requires table { self.old.table ≡ fabric.now }
         requires before { self.old.core.known.primary.winner ≡ 0 }
@@ -145,7 +146,7 @@ impl PrimarySeat {
         );
     }
 
-    /// How many bytes of a port its terminal has counted.
+    /// How many bytes of a port, 0 or 1, its terminal has accepted.
     pub fn counted(&mut self, fabric: &Fabric, port: u8) -> u64
         requires table { self.old.table ≡ fabric.now }
         requires before { self.old.core.known.primary.winner ≡ 0 }
@@ -170,7 +171,7 @@ impl PrimarySeat {
             .fill(fabric, Mailbox::Requests, Payload::Request(request));
     }
 
-    /// Takes what the disk answers.
+    /// Takes what the disk answers; `None` if no answer is in the box.
     pub fn answer(&mut self, fabric: &Fabric) -> Option<DiskAnswer>
         requires table { self.old.table ≡ fabric.now }
         requires before { self.old.core.known.primary.winner ≡ 0 }

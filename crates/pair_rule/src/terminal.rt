@@ -84,7 +84,7 @@ impl TerminalSeat {
         self.state.may_swap()
     }
 
-    /// Takes the byte that lies in the box of a port.
+    /// Takes the byte that is in the box of a port, 0 or 1; `None` if it is empty.
     pub fn take_byte(&mut self, fabric: &Fabric, port: u8) -> Option<PortByte>
         requires table { self.old.table ≡ fabric.now }
         requires port { port < 2 }
@@ -131,7 +131,7 @@ impl TerminalSeat {
         }
     }
 
-    /// Counts the byte in hand as come, and gives how many bytes of the port are accepted.
+    /// Counts the byte in hand as arrived, and returns how many bytes of the port are accepted.
     pub fn count(&mut self, fabric: &Fabric, port: u8) -> u64
         requires table { self.old.table ≡ fabric.now }
         requires port { port < 2 }
