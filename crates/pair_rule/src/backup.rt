@@ -40,7 +40,8 @@ impl BackupSeat {
         self.state.may_swap()
     }
 
-    /// Takes the packet that is in the inbox; `None` if it is empty. The list grows by it if its index is the list's length.
+    /// Takes the packet that is in the inbox; `None` if it is empty. The list grows by it if its index is the list's
+    /// length.
     pub fn take(&mut self, fabric: &Fabric) -> Option<Packet>
         requires table { self.old.table ≡ fabric.now }
         requires before { self.old.core.known.backup.winner ≡ 0 }

@@ -54,8 +54,8 @@ impl PrimarySeat {
         self.state.may_swap()
     }
 
-    /// Adds an entry to the list, and returns its index, from 0. `LogFull` while 256 entries are past what was seen, otherwise
-    /// `Spent` at the greatest index, 2^62 - 1; neither changes anything.
+    /// Adds an entry to the list, and returns its index, from 0. `LogFull` while 256 entries are past what was seen,
+    /// otherwise `Spent` at the greatest index, 2^62 - 1; neither changes anything.
     #[tactic(auto, unfolding(pair_protocol::specs::Lawful::top))]
     pub fn append(&mut self, fabric: &Fabric, entry: Entry) -> Result<u64, Fault>
         requires table { self.old.table ≡ fabric.now }
