@@ -5,7 +5,7 @@ use Rattle.std.proofs.lemmas.Bool.{ltb-true, and_parts, cases_lt}
 use Rattle.std.proofs.lemmas.Bool.Decides.{eqb_tells}
 use Rattle.std.proofs.lemmas.List.{length-set, get_or-set_same, get_or-set_other, get_or_past}
 use Rattle.std.proofs.lemmas.Option.{cond_some}
-use Rattle.disk_dcdd.specs.declared.controller.TheConstants.{GREATEST_NUMBER}
+use Rattle.i8080_words.specs.declared.limits.TheConstants.{GREATEST_NUMBER}
 use Rattle.disk_dcdd.specs.declared.address.SectorAddress.{SectorAddress}
 use Rattle.event_callbacks.specs.declared.operations.Operation.{Operation}
 use Rattle.guest_board.specs.Guest.{Guest, guest_at_boot, take_from, altair, after_rx}

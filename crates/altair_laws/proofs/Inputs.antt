@@ -9,7 +9,8 @@ use Rattle.serial_2sio.specs.Port as serial
 use Rattle.disk_dcdd.specs.Completion.{is_selected, is_head_loaded, is_sector_due, is_sector_busy}
 use Rattle.disk_dcdd.specs.Drive.{Drives}
 use Rattle.disk_dcdd.specs.declared.address.SectorAddress.{SectorAddress}
-use Rattle.disk_dcdd.specs.declared.controller.TheConstants.{DRIVES, GREATEST_NUMBER}
+use Rattle.disk_dcdd.specs.declared.controller.TheConstants.{DRIVES}
+use Rattle.i8080_words.specs.declared.limits.TheConstants.{GREATEST_NUMBER}
 use Rattle.disk_dcdd.specs.declared.sector.TheConstants.{SECTORS}
 use Rattle.event_callbacks.specs.Completions.{port_of, is_due}
 use Rattle.event_callbacks.specs.declared.devices.Done.TheVariants as done

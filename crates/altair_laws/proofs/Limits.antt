@@ -7,7 +7,7 @@ use Rattle.std.proofs.lemmas.Bool.{ltb-true, leb-false, and_parts}
 use Rattle.std.proofs.lemmas.Option.{cond_some}
 use Rattle.disk_dcdd.specs.Drive as drives
 use Rattle.disk_dcdd.specs.declared.address.SectorAddress.{SectorAddress}
-use Rattle.disk_dcdd.specs.declared.controller.TheConstants.{GREATEST_NUMBER}
+use Rattle.i8080_words.specs.declared.limits.TheConstants.{GREATEST_NUMBER}
 use Rattle.guest_board.specs.Guest.{Guest, guest_at_boot, wired, stepped, take_from, altair, after_rx, is_spent}
 use Rattle.guest_board.specs.Machine.{Move}
 use Rattle.guest_board.specs.Ports.{Wired}

@@ -17,7 +17,8 @@ use Rattle.disk_dcdd.specs.Completion.{is_head_loaded, is_busy_on, is_sector_bus
 use Rattle.disk_dcdd.specs.Controller.{IsDrives, IsUnderHead, IsIssued, Follows}
 use Rattle.disk_dcdd.specs.Drive.{Drives, drive_of, issued_by, after_data, after_keep, after_issue, has_room, write_of}
 use Rattle.disk_dcdd.specs.Sector.{is_at, place_of, with_byte_filled}
-use Rattle.disk_dcdd.specs.declared.controller.TheConstants.{OUTSTANDING, GREATEST_NUMBER}
+use Rattle.disk_dcdd.specs.declared.controller.TheConstants.{OUTSTANDING}
+use Rattle.i8080_words.specs.declared.limits.TheConstants.{GREATEST_NUMBER}
 use Rattle.disk_dcdd.specs.declared.drive.TheConstants.{TRACKS}
 use Rattle.disk_dcdd.specs.declared.sector.CurrentSector.{CurrentSector}
 use Rattle.disk_dcdd.specs.declared.sector.Place.{Place}

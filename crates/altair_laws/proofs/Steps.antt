@@ -11,7 +11,7 @@ use Rattle.i8080_words.specs.Effects.Access.{Write, Input, Output}
 use Rattle.i8080_words.specs.declared.registers.Processor.{Processor}
 use Rattle.serial_2sio.specs.Port as serial
 use Rattle.disk_dcdd.specs.Drive as drives
-use Rattle.disk_dcdd.specs.declared.controller.TheConstants.{GREATEST_NUMBER}
+use Rattle.i8080_words.specs.declared.limits.TheConstants.{GREATEST_NUMBER}
 use Rattle.disk_dcdd.specs.declared.sector.SectorWrite.{SectorWrite}
 use Rattle.event_callbacks.specs.Completions.{port_of}
 use Rattle.event_callbacks.specs.declared.devices.Devices.{Devices}

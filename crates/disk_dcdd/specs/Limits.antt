@@ -1,7 +1,7 @@
 -- The constants that the definitions cite by their names in the code.
-use Rattle.std.specs.Prelude.{◌≡◌, ◌-◌, ◌*◌, ◌^◌}
+use Rattle.std.specs.Prelude.{◌≡◌, ◌*◌}
 use Rattle.disk_dcdd.specs.declared.address.TheConstants.{DRIVE_SECTORS}
-use Rattle.disk_dcdd.specs.declared.controller.TheConstants.{DRIVES, OUTSTANDING, GREATEST_NUMBER}
+use Rattle.disk_dcdd.specs.declared.controller.TheConstants.{DRIVES, OUTSTANDING}
 use Rattle.disk_dcdd.specs.declared.drive.TheConstants.{TRACKS}
 use Rattle.disk_dcdd.specs.declared.sector.TheConstants.{SECTORS, SECTOR_BYTES}
 
@@ -13,4 +13,3 @@ pub record Limits : Type 0 where
   pub sector_bytes : SECTOR_BYTES ≡ 137
   pub drive_sectors : DRIVE_SECTORS ≡ 77 * 32
   pub outstanding : OUTSTANDING ≡ 8
-  pub greatest_number : GREATEST_NUMBER ≡ 2 ^ 62 - 1

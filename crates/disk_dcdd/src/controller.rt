@@ -1,6 +1,7 @@
 //! The controller: its state, its ports and its interrupt line.
 ghost use Rattle.std.specs.Prelude.{◌≡◌, ◌<◌, ◌≤◌, if◌then◌else◌};
 ghost use Rattle.disk_dcdd.specs.Drive as table;
+ghost use Rattle.i8080_words.specs.declared.limits.TheConstants.{GREATEST_NUMBER};
 
 mod completions;
 mod image;
@@ -17,9 +18,6 @@ pub const DRIVES: usize = 4;
 
 /// The most writes that can be outstanding.
 pub const OUTSTANDING: usize = 8;
-
-/// The greatest number that a write can have.
-pub const GREATEST_NUMBER: u64 = 0x3fff_ffff_ffff_ffff;
 
 // The status bits, each 0 while its condition holds. Bit 1 (the head may move) is always 0, and so are bits 3 and 4,
 // which are not used.

@@ -12,7 +12,7 @@ mod sector;
 mod tests;
 
 pub use address::{DRIVE_SECTORS, SectorAddress, sectors_stand_apart};
-pub use controller::{Controller, ControllerImage, DRIVES, GREATEST_NUMBER, OUTSTANDING};
+pub use controller::{Controller, ControllerImage, DRIVES, OUTSTANDING};
 pub use drive::{Drive, TRACKS};
 pub use laws::limits;
 pub use sector::{CurrentSector, Place, SECTOR_BYTES, SECTORS, SectorWrite};

@@ -3,7 +3,7 @@ mod rows;
 mod walks;
 
 use crate::*;
-use i8080_words::Fault;
+use i8080_words::{Fault, GREATEST_NUMBER};
 use std::process::Abort;
 
 const OLD_BYTES: [u8; SECTOR_BYTES] = [0xe5; SECTOR_BYTES];

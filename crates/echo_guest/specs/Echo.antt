@@ -2,7 +2,7 @@
 -- if it waits for an acceptance and has no key to read.
 use Rattle.std.specs.Prelude.{ℕ, suc, Bool, true, false, ◌==◌, nat_le, ◌&&◌, ◌||◌, if◌then◌else◌, Option, Some, None, is_none, []}
 use Rattle.disk_dcdd.specs.declared.address.SectorAddress.{SectorAddress}
-use Rattle.disk_dcdd.specs.declared.controller.TheConstants.{GREATEST_NUMBER}
+use Rattle.i8080_words.specs.declared.limits.TheConstants.{GREATEST_NUMBER}
 use Rattle.event_callbacks.specs.declared.operations.OpId.{OpId}
 use Rattle.event_callbacks.specs.declared.operations.OpId.TheVariants as id
 use Rattle.event_callbacks.specs.declared.operations.Operation.{Operation}

@@ -2,10 +2,10 @@
 ghost use Rattle.std.specs.Prelude.{◌≡◌, false};
 ghost use Rattle.event_callbacks.specs.declared.operations.Operation.TheVariants.{Byte};
 
-use disk_dcdd::{GREATEST_NUMBER, SectorAddress};
+use disk_dcdd::SectorAddress;
 use event_callbacks::{OpId, Operation};
 use guest_board::{Input, Lockstep};
-use i8080_words::{Fault, R};
+use i8080_words::{Fault, GREATEST_NUMBER, R};
 use std::marker::Model;
 
 /// A guest that reads the key that came last and sends it at the next step. It sends no byte while one is not accepted,
@@ -27,7 +27,7 @@ pub struct Echo {
 impl Model for Echo {
     ghost use Rattle.std.specs.Prelude.{◌≡◌, ◌≤◌};
     ghost use Rattle.event_callbacks.specs.declared.operations.Operation.TheVariants.{Byte};
-    ghost use Rattle.disk_dcdd.specs.declared.controller.TheConstants.{GREATEST_NUMBER};
+    ghost use Rattle.i8080_words.specs.declared.limits.TheConstants.{GREATEST_NUMBER};
     ghost use Rattle.echo_guest.specs.Echo as echo;
 
     ghost Value = { echo.Echo };

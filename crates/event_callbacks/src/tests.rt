@@ -5,8 +5,8 @@ ghost use Rattle.event_callbacks.specs.Completions.{is_due, done_of};
 ghost use Rattle.event_callbacks.specs.Keeping.{Keeps, kind_of};
 
 use crate::*;
-use disk_dcdd::{GREATEST_NUMBER, SECTOR_BYTES, SectorWrite};
-use i8080_words::{Fault, R};
+use disk_dcdd::{SECTOR_BYTES, SectorWrite};
+use i8080_words::{Fault, GREATEST_NUMBER, R};
 use std::process::Abort;
 
 const BYTES: [u8; SECTOR_BYTES] = [0xe5; SECTOR_BYTES];

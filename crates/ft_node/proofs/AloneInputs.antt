@@ -6,7 +6,7 @@ use Rattle.std.proofs.lemmas.Bool.{eq-eqb, le-leb, lt-leb}
 use Rattle.disk_dcdd.specs.Address.{same_address}
 use Rattle.disk_dcdd.specs.Completion as completion
 use Rattle.disk_dcdd.specs.declared.address.SectorAddress.{SectorAddress}
-use Rattle.disk_dcdd.specs.declared.controller.TheConstants.{GREATEST_NUMBER}
+use Rattle.i8080_words.specs.declared.limits.TheConstants.{GREATEST_NUMBER}
 use Rattle.guest_board.specs.Lockstep as lockstep
 use Rattle.guest_board.specs.Machine.{Machine, refusal_of}
 use Rattle.guest_board.specs.declared.input.Input.{Input}

@@ -6,7 +6,7 @@ use Rattle.std.proofs.lemmas.Bool.{leb-false, ne_eqb}
 use Rattle.disk_dcdd.specs.Address.{same_address}
 use Rattle.disk_dcdd.specs.Completion.{answered}
 use Rattle.disk_dcdd.specs.declared.address.SectorAddress.{SectorAddress}
-use Rattle.disk_dcdd.specs.declared.controller.TheConstants.{GREATEST_NUMBER}
+use Rattle.i8080_words.specs.declared.limits.TheConstants.{GREATEST_NUMBER}
 use Rattle.guest_board.specs.Machine.{Machine, refusal_of}
 use Rattle.guest_board.specs.declared.input.Input.{Input}
 use Rattle.guest_board.specs.declared.input.Input.TheVariants as input
@@ -14,7 +14,7 @@ use Rattle.i8080_words.specs.declared.refusal.Fault.{Fault}
 use Rattle.i8080_words.specs.declared.refusal.Fault.TheVariants.{NotDue, WrongNumber, LogFull, Spent}
 use Rattle.log_buffer.specs.Log as buffer
 use Rattle.log_buffer.specs.Log.{Log, next_of}
-use Rattle.log_buffer.specs.declared.buffer.TheConstants.{CAPACITY, GREATEST_NEXT}
+use Rattle.log_buffer.specs.declared.buffer.TheConstants.{CAPACITY}
 use Rattle.pair_protocol.proofs.InputRows.{number-is}
 use Rattle.pair_protocol.proofs.Passed.{first-passed, not-stands, only-passed, passes-if}
 use Rattle.pair_protocol.specs.Lawful.{top}
@@ -102,6 +102,6 @@ has_room M s l sd c x p full spent =
     let few =
     below (length l.entries) CAPACITY (not-stands _ LogFull (sym (full_where x l p.role p.kept) ∙ full)) in
     let next =
-    below (next_of l) GREATEST_NEXT (not-stands _ Spent (sym (spent_where x l p.role p.kept p.within) ∙ spent)) in
-    ap (λ b. cond b (Some LogFull) (cond (next_of l == GREATEST_NEXT) (Some Spent) None)) few
+    below (next_of l) GREATEST_NUMBER (not-stands _ Spent (sym (spent_where x l p.role p.kept p.within) ∙ spent)) in
+    ap (λ b. cond b (Some LogFull) (cond (next_of l == GREATEST_NUMBER) (Some Spent) None)) few
     ∙ ap (λ b. cond b (Some Spent) None) next

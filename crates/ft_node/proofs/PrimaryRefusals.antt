@@ -7,7 +7,7 @@ use Rattle.std.proofs.lemmas.Bool.{le-leb, lt-leb, eq-eqb, ne_eqb, cases_lt}
 use Rattle.std.proofs.lemmas.List.{length-drop}
 use Rattle.disk_dcdd.specs.Address.{same_address}
 use Rattle.disk_dcdd.specs.declared.address.SectorAddress.{SectorAddress}
-use Rattle.disk_dcdd.specs.declared.controller.TheConstants.{GREATEST_NUMBER}
+use Rattle.i8080_words.specs.declared.limits.TheConstants.{GREATEST_NUMBER}
 use Rattle.guest_board.specs.Lockstep as lockstep
 use Rattle.guest_board.specs.Machine.{Machine, refusal_of}
 use Rattle.guest_board.specs.declared.input.Input.TheVariants as input
@@ -15,7 +15,7 @@ use Rattle.i8080_words.specs.declared.refusal.Fault.{Fault}
 use Rattle.i8080_words.specs.declared.refusal.Fault.TheVariants.{WrongRole, NotDue, WrongNumber, LogFull, Spent, Idle}
 use Rattle.log_buffer.specs.Log as buffer
 use Rattle.log_buffer.specs.Log.{Log, log, IsWithinLimits, next_of, answered, room_answer}
-use Rattle.log_buffer.specs.declared.buffer.TheConstants.{CAPACITY, GREATEST_NEXT}
+use Rattle.log_buffer.specs.declared.buffer.TheConstants.{CAPACITY}
 use Rattle.pair_protocol.specs.Lawful.{top}
 use Rattle.pair_protocol.specs.Node.{Node, Primary, Alone, is_role}
 use Rattle.pair_protocol.specs.Refusals.{fault_if, first_of, role_refusal, serves, log_size, log_full, log_spent, step_refusal, key_refusal, keys_spent, is_number, sent_refusal, done_refusal, under_refusal}
@@ -75,7 +75,7 @@ kept_next x l kept within =
     let first : l.first ≡ x.covered = ap (λ (l : Log). l.first) kept in
     omega arith
 
-top_is : top ≡ GREATEST_NEXT
+top_is : top ≡ GREATEST_NUMBER
 unfolding top
 top_is = refl
 
@@ -86,11 +86,11 @@ full_where x l role kept =
     ∙ ap (λ n. fault_if (nat_le log_size n) LogFull) (kept_few x l kept)
 
 pub spent_where : {S : Type 0} (x : Node S) (l : Log) → x.role ≡ Primary → l ≡ log x.covered (drop x.covered x.log)
-    → x.covered ≤ length x.log → log_spent x ≡ fault_if (nat_le GREATEST_NEXT (next_of l)) Spent
+    → x.covered ≤ length x.log → log_spent x ≡ fault_if (nat_le GREATEST_NUMBER (next_of l)) Spent
 spent_where x l role kept within =
     ap (λ r. fault_if (is_role r Primary && nat_le top (length x.log)) Spent) role
     ∙ ap (λ n. fault_if (nat_le n (length x.log)) Spent) top_is
-    ∙ ap (λ n. fault_if (nat_le GREATEST_NEXT n) Spent) (kept_next x l kept within)
+    ∙ ap (λ n. fault_if (nat_le GREATEST_NUMBER n) Spent) (kept_next x l kept within)
 
 full_alike : {S : Type 0} (x : Node S) (l : Log) → Keeps x l
     → log_full x ≡ fault_if (length l.entries == CAPACITY) LogFull
@@ -99,10 +99,10 @@ full_alike x l k =
     ∙ ap (λ b. fault_if b LogFull) (reaches_limit (length l.entries) CAPACITY k.limits.few)
 
 spent_alike : {S : Type 0} (x : Node S) (l : Log) → Keeps x l
-    → log_spent x ≡ fault_if (next_of l == GREATEST_NEXT) Spent
+    → log_spent x ≡ fault_if (next_of l == GREATEST_NUMBER) Spent
 spent_alike x l k =
     spent_where x l k.role k.kept k.within
-    ∙ ap (λ b. fault_if b Spent) (reaches_limit (next_of l) GREATEST_NEXT k.limits.next)
+    ∙ ap (λ b. fault_if b Spent) (reaches_limit (next_of l) GREATEST_NUMBER k.limits.next)
 
 by_tests : (full spent : Bool) (rest : List (Option Fault))
     → first_of (fault_if full LogFull ∷ fault_if spent Spent ∷ rest)
@@ -117,7 +117,7 @@ pub by_log : {S : Type 0} (x : Node S) (l : Log) (rest : List (Option Fault)) �
 by_log x l rest k =
     ap (λ r. first_of (r ∷ log_spent x ∷ rest)) (full_alike x l k)
     ∙ ap (λ r. first_of (fault_if (length l.entries == CAPACITY) LogFull ∷ r ∷ rest)) (spent_alike x l k)
-    ∙ by_tests (length l.entries == CAPACITY) (next_of l == GREATEST_NEXT) rest
+    ∙ by_tests (length l.entries == CAPACITY) (next_of l == GREATEST_NUMBER) rest
 
 -- a call's list, without the role
 served : {S : Type 0} (x : Node S) (l : Log) (rest : List (Option Fault)) → Keeps x l

@@ -13,10 +13,10 @@ ghost use Rattle.ft_node.specs.Roles.{IsAlone};
 ghost use Rattle.pair_events.specs.declared.reply.Why.TheVariants as why;
 
 use crate::ran::Ran;
-use disk_dcdd::{GREATEST_NUMBER, SECTOR_BYTES, SectorAddress};
+use disk_dcdd::{SECTOR_BYTES, SectorAddress};
 use event_callbacks::{OpId, Operation};
 use guest_board::{Input, Lockstep, StopReason, Stopped};
-use i8080_words::{Fault, R};
+use i8080_words::{Fault, GREATEST_NUMBER, R};
 use pair_events::Why;
 
 /// A guest that runs with no backup: it logs nothing, and releases whatever it gives (VMware FT, section 2.3, "go

@@ -1,7 +1,8 @@
 //! The primary of a generation.
 ghost use Rattle.std.specs.Prelude.{◌≡◌, ◌<◌, ◌≤◌, Ok, OnErr, OnOk, ok_or};
 ghost use Rattle.i8080_words.specs.declared.refusal.Fault.TheVariants.{NotDue};
-ghost use Rattle.disk_dcdd.specs.declared.controller.TheConstants.{DRIVES, GREATEST_NUMBER};
+ghost use Rattle.disk_dcdd.specs.declared.controller.TheConstants.{DRIVES};
+ghost use Rattle.i8080_words.specs.declared.limits.TheConstants.{GREATEST_NUMBER};
 ghost use Rattle.disk_dcdd.specs.declared.sector.TheConstants.{SECTORS};
 ghost use Rattle.event_callbacks.specs.declared.devices.TheConstants.{PORTS};
 ghost use Rattle.guest_board.specs.declared.input.Input.TheVariants as input;
@@ -16,10 +17,10 @@ ghost use Rattle.guest_board.specs.Outstanding.{IsFrugal};
 ghost use Rattle.ft_node.specs.Roles.{AreOfOutstanding, IsPrimary};
 
 use crate::ran::Ran;
-use disk_dcdd::{GREATEST_NUMBER, SECTOR_BYTES, SectorAddress};
+use disk_dcdd::{SECTOR_BYTES, SectorAddress};
 use event_callbacks::{OpId, Operation};
 use guest_board::{Input, Lockstep};
-use i8080_words::{Fault, R};
+use i8080_words::{Fault, GREATEST_NUMBER, R};
 use log_buffer::LogBuffer;
 use log_channel::Sender;
 use output_rule::Coverage;

@@ -6,10 +6,10 @@ ghost use Rattle.guest_board.specs.Inputs.{some_altair};
 ghost use Rattle.guest_board.specs.Lockstep.{HasRoom, IsInput};
 ghost use Rattle.plain_single.specs.Reaching.{NeverFall};
 
-use disk_dcdd::{GREATEST_NUMBER, SECTOR_BYTES, SectorAddress, SectorWrite};
+use disk_dcdd::{SECTOR_BYTES, SectorAddress, SectorWrite};
 use event_callbacks::{Callbacks, Completes, Operation, plain_completions};
 use guest_board::{Board, Input, Setup, StopReason};
-use i8080_words::{Fault, R};
+use i8080_words::{Fault, GREATEST_NUMBER, R};
 use plain_single::{Bare, Single, Timed};
 use rand_core::utils::NextWord;
 use rand_pcg::Pcg32;

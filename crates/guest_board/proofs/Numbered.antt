@@ -7,7 +7,7 @@ use Rattle.std.proofs.lemmas.Bool.Decides.{nat_tests}
 use Rattle.std.proofs.lemmas.List.Elements.{All-tail}
 use Rattle.disk_dcdd.specs.Completion.{answered}
 use Rattle.disk_dcdd.specs.Controller.{IsDrives, IsIssued}
-use Rattle.disk_dcdd.specs.declared.controller.TheConstants.{GREATEST_NUMBER}
+use Rattle.i8080_words.specs.declared.limits.TheConstants.{GREATEST_NUMBER}
 use Rattle.disk_dcdd.specs.declared.sector.Place.{Place}
 use Rattle.event_callbacks.specs.Operations.{Operations, operation_at}
 use Rattle.event_callbacks.specs.declared.devices.Devices.{Devices}

@@ -15,7 +15,7 @@ use Rattle.disk_dcdd.specs.Controller.{IsDrives}
 use Rattle.disk_dcdd.specs.Completion.{is_outstanding}
 use Rattle.disk_dcdd.specs.Drive as drives
 use Rattle.disk_dcdd.specs.declared.address.TheConstants.{DRIVE_SECTORS}
-use Rattle.disk_dcdd.specs.declared.controller.TheConstants.{GREATEST_NUMBER}
+use Rattle.i8080_words.specs.declared.limits.TheConstants.{GREATEST_NUMBER}
 use Rattle.disk_dcdd.specs.Sector.{place_of}
 use Rattle.disk_dcdd.specs.declared.sector.Place.{Place}
 use Rattle.disk_dcdd.specs.declared.sector.SectorWrite.{SectorWrite}

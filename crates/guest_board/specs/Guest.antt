@@ -11,7 +11,7 @@ use Rattle.disk_dcdd.specs.Completion as completion
 use Rattle.disk_dcdd.specs.Address.{address_of, index_of}
 use Rattle.disk_dcdd.specs.declared.address.TheConstants.{DRIVE_SECTORS}
 use Rattle.disk_dcdd.specs.declared.address.SectorAddress.{SectorAddress}
-use Rattle.disk_dcdd.specs.declared.controller.TheConstants.{GREATEST_NUMBER}
+use Rattle.i8080_words.specs.declared.limits.TheConstants.{GREATEST_NUMBER}
 use Rattle.event_callbacks.specs.Completions.{at_boot, port_of, is_due, done_of}
 use Rattle.event_callbacks.specs.Operations.{Operations, operation_at, with_operation, without_operation}
 use Rattle.event_callbacks.specs.declared.devices.Devices.{Devices}

@@ -8,7 +8,7 @@ use Rattle.disk_dcdd.specs.Completion.{is_outstanding}
 use Rattle.disk_dcdd.specs.Drive.{Drives}
 use Rattle.disk_dcdd.specs.Sector.{place_of}
 use Rattle.disk_dcdd.specs.declared.address.TheConstants.{DRIVE_SECTORS}
-use Rattle.disk_dcdd.specs.declared.controller.TheConstants.{GREATEST_NUMBER}
+use Rattle.i8080_words.specs.declared.limits.TheConstants.{GREATEST_NUMBER}
 use Rattle.disk_dcdd.specs.declared.sector.Place.{Place}
 use Rattle.disk_dcdd.specs.declared.sector.SectorWrite.{SectorWrite}
 use Rattle.event_callbacks.specs.Completions.{port_of}

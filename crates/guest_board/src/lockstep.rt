@@ -6,7 +6,8 @@ ghost use Rattle.guest_board.specs.Recorded.{Counts};
 ghost use Rattle.guest_board.specs.Running.{Quiet};
 ghost use Rattle.guest_board.specs.Lockstep.{Executes, Takes, IsInput, IsNumbered, HasRoom};
 ghost use Rattle.disk_dcdd.specs.Completion.{answered};
-ghost use Rattle.disk_dcdd.specs.declared.controller.TheConstants.{DRIVES, GREATEST_NUMBER};
+ghost use Rattle.disk_dcdd.specs.declared.controller.TheConstants.{DRIVES};
+ghost use Rattle.i8080_words.specs.declared.limits.TheConstants.{GREATEST_NUMBER};
 ghost use Rattle.event_callbacks.specs.Operations.{id_of};
 ghost use Rattle.event_callbacks.specs.declared.devices.TheConstants.{PORTS};
 

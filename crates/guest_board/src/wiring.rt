@@ -8,10 +8,10 @@ ghost use Rattle.event_callbacks.specs.declared.devices.TheConstants.{PORTS};
 ghost use Rattle.guest_board.specs.Fields.{wired_of};
 
 use crate::ports::{Device, OPEN_BUS};
-use disk_dcdd::GREATEST_NUMBER;
 use event_callbacks::{Devices, Operation, PORTS};
 use guest_memory::Memory;
 use i8080_core::Bus;
+use i8080_words::GREATEST_NUMBER;
 
 /// Memory, the devices, how many bytes each port was sent, the sense switches, and the operation that this step has given.
 #[derive(Drop)]

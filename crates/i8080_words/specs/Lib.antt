@@ -1,4 +1,5 @@
 pub mod Refusals
+pub mod Limits
 pub mod Arithmetic
 pub mod Opcodes
 pub mod Effects

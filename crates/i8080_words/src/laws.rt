@@ -2,6 +2,7 @@
 ghost use Rattle.std.specs.Prelude.{ℕ, ◌≡◌, ◌≤◌, Option, length, IsTrue, ◌↔◌};
 ghost use Rattle.i8080_words.specs.declared.registers.Processor.{Processor};
 ghost use Rattle.i8080_words.specs.declared.registers.Stepped.TheVariants as stepped;
+ghost use Rattle.i8080_words.specs.Limits.{Limits};
 ghost use Rattle.i8080_words.specs.Steps.{step, idles};
 
 /// No step makes more than two accesses to memory and ports, not counting reads of memory.
@@ -14,4 +15,9 @@ pub fn few_accesses()
 pub fn idles_where_halted()
     ensures { (p : Processor) (memory : ℕ → ℕ) (ports : ℕ → ℕ) (line : Option ℕ)
         → IsTrue (idles p line) ↔ ((step p memory ports line).kind ≡ stepped.Idle) }
+{}
+
+/// The greatest number is 2^62 - 1.
+pub fn greatest_number()
+    ensures { Limits }
 {}

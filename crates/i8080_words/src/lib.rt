@@ -5,6 +5,7 @@ mod arithmetic;
 mod decoder;
 mod instruction;
 mod laws;
+mod limits;
 mod opcodes;
 mod refusal;
 mod registers;
@@ -18,7 +19,8 @@ pub use decoder::{decode, length};
 pub use instruction::{
     AccumulatorOperation, AluOperation, Condition, Op, Register, RegisterPair, StackPair,
 };
-pub use laws::{few_accesses, idles_where_halted};
+pub use laws::{few_accesses, greatest_number, idles_where_halted};
+pub use limits::GREATEST_NUMBER;
 pub use opcodes::opcode;
 pub use refusal::{Fault, R};
 pub use registers::{AddressRegister, Interrupts, Processor, Regs, Stepped};

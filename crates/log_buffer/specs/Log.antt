@@ -3,7 +3,8 @@ use Rattle.std.specs.Prelude.{ℕ, ◌+◌, ◌-◌, ◌≤◌, ◌==◌, nat_lt
 use Rattle.i8080_words.specs.declared.refusal.Fault.{Fault}
 use Rattle.i8080_words.specs.declared.refusal.Fault.TheVariants.{LogFull, Spent}
 use Rattle.log_entry.specs.declared.entry.Entry.{Entry}
-use Rattle.log_buffer.specs.declared.buffer.TheConstants.{CAPACITY, GREATEST_NEXT}
+use Rattle.log_buffer.specs.declared.buffer.TheConstants.{CAPACITY}
+use Rattle.i8080_words.specs.declared.limits.TheConstants.{GREATEST_NUMBER}
 
 -- consecutive entries, the first of them at this index
 pub record Log : Type 0 where
@@ -24,14 +25,14 @@ kept_at l index = if nat_lt index l.first then None else slice_get l.entries (in
 -- what holds of every log
 pub record IsWithinLimits (l : Log) : Type 0 where
   pub few : length l.entries ≤ CAPACITY
-  pub next : next_of l ≤ GREATEST_NEXT
+  pub next : next_of l ≤ GREATEST_NUMBER
 
 -- why no entry can come: the log is full, or its last index is used
 abbrev pub refusal_of : Log → Option Fault
 refusal_of l =
     if length l.entries == CAPACITY
     then Some LogFull
-    else (if next_of l == GREATEST_NEXT then Some Spent else None)
+    else (if next_of l == GREATEST_NUMBER then Some Spent else None)
 
 -- a value, or why there is none
 abbrev pub answered : {A : Type 0} → Option Fault → A → Result A Fault

@@ -1,19 +1,17 @@
 //! A ring of entries with consecutive indexes.
 ghost use Rattle.std.specs.Prelude.{◌≡◌, ◌≤◌, [], length, IfOk, IfErr, option_copied};
+ghost use Rattle.i8080_words.specs.declared.limits.TheConstants.{GREATEST_NUMBER};
 ghost use Rattle.i8080_words.specs.declared.refusal.Fault.TheVariants.{OutOfMemory};
 ghost use Rattle.log_buffer.specs.Log as table;
 
 use circular_buffer::HeapCircularBuffer;
-use i8080_words::{Fault, R};
+use i8080_words::{Fault, GREATEST_NUMBER, R};
 use log_entry::Entry;
 use std::alloc::Global;
 use std::marker::Model;
 
 /// The most entries that are kept.
 pub const CAPACITY: usize = 256;
-
-/// The greatest number that `next` reaches. No entry has it as its index.
-pub const GREATEST_NEXT: u64 = 0x3fff_ffff_ffff_ffff;
 
 /// The entries that are not acknowledged yet, in order of index, in a ring of `CAPACITY` places.
 #[derive(Drop)]
@@ -37,7 +35,7 @@ impl Model for LogBuffer {
 impl LogBuffer {
     /// An empty log whose first entry will have this index. Allocates all the memory that the log will ever need.
     pub fn new(alloc: Global, first: u64) -> R<LogBuffer>
-        requires { first ≤ GREATEST_NEXT }
+        requires { first ≤ GREATEST_NUMBER }
         ensures ok { IfOk result (λ log. log ≡ table.log first []) }
         ensures full { IfErr result (λ fault. fault ≡ OutOfMemory) }
     {
@@ -52,7 +50,7 @@ impl LogBuffer {
         self.first
     }
 
-    /// The index that the next entry will have, at most `GREATEST_NEXT`.
+    /// The index that the next entry will have, at most `GREATEST_NUMBER`, which no entry has.
     pub fn next(&self) -> u64
         ensures { result ≡ table.next_of self.now }
     {
@@ -74,14 +72,14 @@ impl LogBuffer {
     }
 
     /// Whether `push` would append an entry: `LogFull` if `CAPACITY` entries are kept, otherwise `Spent` if `next` is
-    /// at `GREATEST_NEXT`.
+    /// at `GREATEST_NUMBER`.
     pub fn room(&self) -> R<()>
         ensures { result ≡ table.room_answer self.now }
     {
         if self.entries.len() == CAPACITY {
             return Err(Fault::LogFull);
         }
-        if self.next() == GREATEST_NEXT {
+        if self.next() == GREATEST_NUMBER {
             return Err(Fault::Spent);
         }
         Ok(())

@@ -6,5 +6,5 @@ mod laws;
 #[cfg(test)]
 mod tests;
 
-pub use buffer::{CAPACITY, GREATEST_NEXT, LogBuffer};
+pub use buffer::{CAPACITY, LogBuffer};
 pub use laws::{entries_keep_their_indexes, limits};

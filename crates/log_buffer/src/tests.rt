@@ -1,6 +1,6 @@
 //! The log at its limits, and each call on its happy path.
-use crate::{CAPACITY, GREATEST_NEXT, LogBuffer};
-use i8080_words::{Fault, R};
+use crate::{CAPACITY, LogBuffer};
+use i8080_words::{Fault, GREATEST_NUMBER, R};
 use log_entry::Entry;
 
 // The entry that these tests push at an index.
@@ -10,11 +10,11 @@ fn mark(index: u64) -> Entry {
 
 #[test]
 fn one_entry_comes_before_the_greatest_index(rt: HostRuntime) -> R<()> {
-    let mut log = LogBuffer::new(rt.alloc(), GREATEST_NEXT - 1)?;
+    let mut log = LogBuffer::new(rt.alloc(), GREATEST_NUMBER - 1)?;
     assert_eq!(rt; log.room(), Ok(()));
     assert_eq!(rt; log.push(mark(0)), Ok(0x3fff_ffff_ffff_fffe));
     assert_eq!(rt; log.push(mark(1)), Err(Fault::Spent));
-    assert_eq!(rt; log.next(), GREATEST_NEXT);
+    assert_eq!(rt; log.next(), GREATEST_NUMBER);
     log.stands();
     Ok(())
 }
@@ -50,7 +50,7 @@ fn a_full_log_is_full_before_it_is_spent(rt: HostRuntime) -> R<()> {
     for count in 0..256 {
         assert!(rt; log.push(mark(count)).is_ok());
     }
-    assert_eq!(rt; log.next(), GREATEST_NEXT);
+    assert_eq!(rt; log.next(), GREATEST_NUMBER);
     assert_eq!(rt; log.push(mark(256)), Err(Fault::LogFull));
     Ok(())
 }

@@ -5,8 +5,8 @@ ghost use Rattle.byteorder.specs.Endian.{big_bytes};
 ghost use Rattle.i8080_words.specs.declared.refusal.Fault.TheVariants.{Malformed, OutOfMemory};
 
 use byteorder::{BigEndian, ByteOrder};
-use i8080_words::{Fault, R};
-use log_entry::{Entry, NUMBER_LIMIT, number_at, spelled_number};
+use i8080_words::{Fault, GREATEST_NUMBER, R};
+use log_entry::{Entry, number_at, spelled_number};
 
 /// The byte that a packet of the log begins with, the letter `L`.
 const LOG_TAG: u8 = 0x4c;
@@ -116,7 +116,7 @@ fn log_of(generation: u32, bytes: &[u8]) -> Option<Packet>
     ensures { result ≡ log_at generation bytes.now }
 {
     let (index, rest) = number_at(bytes)?;
-    if index == NUMBER_LIMIT - 1 {
+    if index == GREATEST_NUMBER {
         return None;
     }
     let entry = Entry::read(rest).ok()?;

@@ -11,5 +11,5 @@ mod tests;
 
 pub use entry::Entry;
 pub use laws::{entries_keep_the_inputs, entries_spell_one_way, entries_stand_in_order};
-pub use numbers::{NUMBER_LIMIT, number_at, spelled_number};
+pub use numbers::{number_at, spelled_number};
 pub use spelling::size;

@@ -5,9 +5,7 @@ ghost use Rattle.byteorder.specs.Endian.{big_bytes};
 ghost use Rattle.log_entry.specs.Numbers.{number_from};
 
 use byteorder::{BigEndian, ByteOrder};
-
-/// Counts, indexes and write numbers are below this.
-pub const NUMBER_LIMIT: u64 = 1 << 62;
+use i8080_words::GREATEST_NUMBER;
 
 /// The eight bytes of a number, highest first.
 pub fn spelled_number(number: u64) -> [u8; 8]
@@ -18,14 +16,14 @@ pub fn spelled_number(number: u64) -> [u8; 8]
     bytes
 }
 
-/// The number that the first eight bytes spell, if it is below the limit, and the bytes after it.
+/// The number that the first eight bytes spell, if it is not past the greatest one, and the bytes after it.
 #[tactic(auto, unfolding(crate::specs::Numbers::number_from))]
 pub fn number_at(bytes: &[u8]) -> Option<(u64, &[u8])>
     ensures { option_map (λ found. (found.0, found.1.now)) result ≡ number_from bytes.now }
 {
     let (word, rest) = bytes.split_first_chunk::<8>()?;
     let number = u64::from_be_bytes(*word);
-    if number >= NUMBER_LIMIT {
+    if number > GREATEST_NUMBER {
         return None;
     }
     Some((number, rest))

@@ -5,10 +5,9 @@ use Rattle.std.specs.Prelude.{slice_index}
 use Rattle.std.specs.List.{filter}
 use Rattle.std.proofs.lemmas.List.{length-append}
 use Rattle.std.proofs.lemmas.List.Kept.{AllPairs-filter}
-use Rattle.disk_dcdd.specs.declared.controller.TheConstants.{GREATEST_NUMBER}
+use Rattle.i8080_words.specs.declared.limits.TheConstants.{GREATEST_NUMBER}
 use Rattle.event_callbacks.specs.declared.operations.OpId.{OpId}
 use Rattle.log_buffer.specs.Log.{Log}
-use Rattle.log_buffer.specs.declared.buffer.TheConstants.{GREATEST_NEXT}
 use Rattle.output_rule.specs.Covering.{Covering, IsCovering, after_note, after_forget}
 use Rattle.output_rule.specs.Keys.{between, with_keys}
 use Rattle.output_rule.specs.Notes.{index_of, same_name, AreApart}
@@ -58,7 +57,7 @@ keys-raised keys l from to order fits (suc zero) =
 keys-raised keys l from to order fits (suc (suc port)) = omega arith
 
 -- an acknowledgement, if all was covered before, and if it was not
-pub IsCovering-held : (c : Covering) (held : ℕ) → IsCovering c → c.acknowledged ≤ held → held ≤ GREATEST_NEXT
+pub IsCovering-held : (c : Covering) (held : ℕ) → IsCovering c → c.acknowledged ≤ held → held ≤ GREATEST_NUMBER
     → IsCovering (record c { acknowledged = held })
 IsCovering-held c held h order limit = record {
   few = h.few;
@@ -68,7 +67,7 @@ IsCovering-held c held h order limit = record {
   keys = λ port. let before = h.keys port in omega arith;
 }
 
-pub IsCovering-told : (c : Covering) (l : Log) (held : ℕ) → IsCovering c → c.acknowledged ≤ held → held ≤ GREATEST_NEXT
+pub IsCovering-told : (c : Covering) (l : Log) (held : ℕ) → IsCovering c → c.acknowledged ≤ held → held ≤ GREATEST_NUMBER
     → IsCovering (record c { acknowledged = held; keys = with_keys c.keys (between l c.acknowledged held) })
 IsCovering-told c l held h order limit = record {
   few = h.few;

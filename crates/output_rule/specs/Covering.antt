@@ -1,12 +1,11 @@
 -- What is covered: how far the log is acknowledged, where the outstanding operations are in it, and how many keys.
 use Rattle.std.specs.Prelude.{◌≡◌, ℕ, ◌+◌, ◌≤◌, max, nat_lt, Bool, true, false, ◌||◌, if◌then◌else◌, List, [], length, slice_index, AllPairs, Option, Some, None, Result, Ok, Err}
-use Rattle.disk_dcdd.specs.declared.controller.TheConstants.{GREATEST_NUMBER}
+use Rattle.i8080_words.specs.declared.limits.TheConstants.{GREATEST_NUMBER}
 use Rattle.event_callbacks.specs.declared.devices.TheConstants.{PORTS}
 use Rattle.event_callbacks.specs.declared.operations.OpId.{OpId}
 use Rattle.i8080_words.specs.declared.refusal.Fault.{Fault}
 use Rattle.i8080_words.specs.declared.refusal.Fault.TheVariants.{NotCovered}
 use Rattle.log_buffer.specs.Log.{Log}
-use Rattle.log_buffer.specs.declared.buffer.TheConstants.{GREATEST_NEXT}
 use Rattle.output_rule.specs.Keys.{between, with_keys}
 use Rattle.output_rule.specs.Notes.{index_of, with_note, without_note, AreApart}
 use Rattle.output_rule.specs.declared.notes.TheConstants.{PLACES}
@@ -56,6 +55,6 @@ after_all c keys = record c { all = true; keys = keys }
 pub record IsCovering (c : Covering) : Type 0 where
   pub few : length c.notes ≤ PLACES
   pub apart : AllPairs AreApart c.notes
-  pub acknowledged : c.acknowledged ≤ GREATEST_NEXT
+  pub acknowledged : c.acknowledged ≤ GREATEST_NUMBER
   pub ports : length c.keys ≡ PORTS
   pub keys : (port : ℕ) → slice_index c.keys port ≤ GREATEST_NUMBER + c.acknowledged

@@ -1,6 +1,6 @@
 //! Which operations may be released, and how many keys the backup is known to have.
 ghost use Rattle.std.specs.Prelude.{◌≡◌, ◌<◌, ◌≤◌, ℕ, length, slice_index, None};
-ghost use Rattle.disk_dcdd.specs.declared.controller.TheConstants.{GREATEST_NUMBER};
+ghost use Rattle.i8080_words.specs.declared.limits.TheConstants.{GREATEST_NUMBER};
 ghost use Rattle.event_callbacks.specs.Operations.{id_of};
 ghost use Rattle.event_callbacks.specs.declared.devices.TheConstants.{PORTS};
 ghost use Rattle.log_buffer.specs.Log.{next_of};

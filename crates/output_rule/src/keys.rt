@@ -1,6 +1,6 @@
 //! How many keys are in a part of the log.
 ghost use Rattle.std.specs.Prelude.{◌≡◌, ◌+◌, ◌≤◌, ℕ, option_copied, slice_index};
-ghost use Rattle.disk_dcdd.specs.declared.controller.TheConstants.{GREATEST_NUMBER};
+ghost use Rattle.i8080_words.specs.declared.limits.TheConstants.{GREATEST_NUMBER};
 ghost use Rattle.log_buffer.specs.Log.{next_of};
 ghost use Rattle.output_rule.specs.Keys as table;
 ghost use Rattle.output_rule.specs.Keys.{between, keys_at, keys_in};

@@ -37,7 +37,7 @@ use Rattle.pair_rule.proofs.QuietSteps.{QuietMoves, quiet_moves, quiet_count, qu
 use Rattle.pair_rule.proofs.Filled.{among_last}
 use Rattle.pair_rule.proofs.WordChanges.{held_short}
 use Rattle.pair_rule.proofs.ShownNodes.{longer_covered, serving, first_node, more_sent, index_of}
-use Rattle.disk_dcdd.specs.declared.controller.TheConstants.{GREATEST_NUMBER}
+use Rattle.i8080_words.specs.declared.limits.TheConstants.{GREATEST_NUMBER}
 
 -- ---- lists
 

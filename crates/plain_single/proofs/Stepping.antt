@@ -10,7 +10,7 @@ use Rattle.i8080_words.specs.declared.refusal.Fault.{Fault}
 use Rattle.i8080_words.specs.declared.refusal.Fault.TheVariants.{Spent}
 use Rattle.i8080_words.specs.declared.registers.Processor.{Processor}
 use Rattle.serial_2sio.specs.Port as serial
-use Rattle.disk_dcdd.specs.declared.controller.TheConstants.{GREATEST_NUMBER}
+use Rattle.i8080_words.specs.declared.limits.TheConstants.{GREATEST_NUMBER}
 use Rattle.event_callbacks.specs.Operations.{Operations}
 use Rattle.event_callbacks.specs.declared.devices.Devices.{Devices}
 use Rattle.guest_board.specs.Guest.{Guest, step_of, wired, wired_after, with_given, step_from, next, is_spent, is_idle}

@@ -8,7 +8,7 @@ use Rattle.serial_2sio.specs.Port as serial
 use Rattle.disk_dcdd.specs.Drive as drives
 use Rattle.disk_dcdd.specs.Completion as completion
 use Rattle.disk_dcdd.specs.declared.address.SectorAddress.{SectorAddress}
-use Rattle.disk_dcdd.specs.declared.controller.TheConstants.{GREATEST_NUMBER}
+use Rattle.i8080_words.specs.declared.limits.TheConstants.{GREATEST_NUMBER}
 use Rattle.event_callbacks.specs.Operations.{Operations}
 use Rattle.guest_board.specs.Guest.{Guest, step_of, wired_after, is_spent, is_idle}
 use Rattle.plain_single.specs.Behind.{Behind, behind_of, devices_of, after_wired}

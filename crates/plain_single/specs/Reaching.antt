@@ -3,7 +3,7 @@ use Rattle.std.specs.Prelude.{◌≡◌, ℕ, ◌<◌, ◌≤◌, min, Bool, tru
 use Rattle.i8080_words.specs.declared.refusal.Fault.{Fault}
 use Rattle.i8080_words.specs.declared.refusal.Fault.TheVariants.{OutOfMemory, Spent, NotDue, SectorBusy, Idle}
 use Rattle.disk_dcdd.specs.declared.address.SectorAddress.{SectorAddress}
-use Rattle.disk_dcdd.specs.declared.controller.TheConstants.{GREATEST_NUMBER}
+use Rattle.i8080_words.specs.declared.limits.TheConstants.{GREATEST_NUMBER}
 use Rattle.guest_board.specs.Guest.{Guest}
 use Rattle.guest_board.specs.Machine.{Machine, Move}
 use Rattle.guest_board.specs.declared.input.Input.{Input}

@@ -10,9 +10,9 @@ mod completions;
 mod head;
 mod passing;
 
-use disk_dcdd::{GREATEST_NUMBER, SectorWrite};
+use disk_dcdd::SectorWrite;
 use head::{Head, bits};
-use i8080_words::R;
+use i8080_words::{GREATEST_NUMBER, R};
 use passing::{LAST_BYTE, NOTHING, SECTOR_BYTES, Selection, Stage};
 use std::alloc::Global;
 

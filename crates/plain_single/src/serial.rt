@@ -3,12 +3,11 @@
 ghost use Rattle.std.specs.Prelude.{◌≡◌, ◌<◌, nat_lt, IfOk, IfErr, OnOk};
 ghost use Rattle.disk_dcdd.specs.Completion.{answered};
 ghost use Rattle.serial_2sio.specs.Port as table;
-ghost use Rattle.disk_dcdd.specs.declared.controller.TheConstants.{GREATEST_NUMBER};
+ghost use Rattle.i8080_words.specs.declared.limits.TheConstants.{GREATEST_NUMBER};
 ghost use Rattle.plain_single.specs.Serial.{port_of, line_of, line_at_boot, with_port, after_send, after_key, due_unless};
 ghost use Rattle.i8080_words.specs.declared.refusal.Fault.TheVariants.{OutOfMemory};
 
-use disk_dcdd::GREATEST_NUMBER;
-use i8080_words::{Fault, R};
+use i8080_words::{Fault, GREATEST_NUMBER, R};
 use std::alloc::Global;
 
 // How many sent bytes may be unaccepted.

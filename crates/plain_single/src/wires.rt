@@ -13,9 +13,8 @@ use crate::drives::DiskDrives;
 use crate::executor::Stores;
 use crate::memory::Memory;
 use crate::serial::SerialLine;
-use disk_dcdd::GREATEST_NUMBER;
 use guest_board::Setup;
-use i8080_words::R;
+use i8080_words::{GREATEST_NUMBER, R};
 use std::alloc::Global;
 
 // The port numbers (MITS 88-2SIO and 88-DCDD manuals).

@@ -7,11 +7,11 @@ ghost use Rattle.disk_dcdd.specs.Image.{imaged};
 ghost use Rattle.disk_dcdd.specs.declared.controller.TheConstants.{DRIVES, OUTSTANDING};
 ghost use Rattle.i8080_words.specs.declared.refusal.Fault.TheVariants.{Malformed};
 
-use super::{Controller, DRIVES, GREATEST_NUMBER, OUTSTANDING};
+use super::{Controller, DRIVES, OUTSTANDING};
 use crate::drive::{Drive, TRACKS};
 use crate::sector::{CurrentSector, Place, SECTORS};
 use arrayvec::ArrayVec;
-use i8080_words::{Fault, R};
+use i8080_words::{Fault, GREATEST_NUMBER, R};
 
 /// What an image says of a controller, as a controller's readers return it. `rebuild` decides whether a controller can
 /// be in that state.

@@ -5,7 +5,7 @@
 //! from x = r, has r mod 4 + 1 drives, and makes 2,000 rounds. A round draws which call it makes, modulo 16, and a byte
 //! for it; it folds what the call returns, and at its end the status and the line.
 use crate::*;
-use i8080_words::R;
+use i8080_words::{GREATEST_NUMBER, R};
 use std::process::Abort;
 
 #[rattlefmt::skip]

@@ -3,7 +3,7 @@ ghost use Rattle.std.specs.Prelude.{◌≡◌, ◌+◌, ◌-◌, ◌<◌, ◌≤
 ghost use Rattle.std.specs.Option.{option_copied, option_map_or};
 ghost use Rattle.disk_dcdd.specs.Address.{index_of};
 ghost use Rattle.event_callbacks.specs.Completions.{port_of};
-ghost use Rattle.disk_dcdd.specs.declared.controller.TheConstants.{GREATEST_NUMBER};
+ghost use Rattle.i8080_words.specs.declared.limits.TheConstants.{GREATEST_NUMBER};
 ghost use Rattle.event_callbacks.specs.Operations.{operation_at, id_of};
 ghost use Rattle.event_callbacks.specs.declared.devices.TheConstants.{PORTS};
 ghost use Rattle.guest_memory.specs.Pages as pages;

@@ -10,8 +10,9 @@ ghost use Rattle.guest_board.specs.Board.{IsBoard};
 ghost use Rattle.guest_board.specs.Parts as table;
 
 use super::BoardParts;
-use disk_dcdd::{Controller, DRIVE_SECTORS, GREATEST_NUMBER, Place, SectorWrite};
+use disk_dcdd::{Controller, DRIVE_SECTORS, Place, SectorWrite};
 use event_callbacks::{Devices, PORTS};
+use i8080_words::GREATEST_NUMBER;
 
 impl BoardParts {
     /// A board can be in the state that the parts describe exactly if what holds of every board's guest holds of

@@ -5,12 +5,10 @@ ghost use Rattle.event_callbacks.specs.Keeping.{Keeps};
 
 use super::{accept_a_byte, memory, old_bytes, step, wait_for_a_key};
 use crate::{Board, BoardParts, Input};
-use disk_dcdd::{
-    Controller, ControllerImage, DRIVE_SECTORS, DRIVES, Drive, GREATEST_NUMBER, Place, SectorWrite,
-};
+use disk_dcdd::{Controller, ControllerImage, DRIVE_SECTORS, DRIVES, Drive, Place, SectorWrite};
 use event_callbacks::{Callbacks, Completes, Devices, OpId, Operation, PORTS, plain_completions};
 use i8080_core::Cpu;
-use i8080_words::{AddressRegister, Fault, R};
+use i8080_words::{AddressRegister, Fault, GREATEST_NUMBER, R};
 use serial_2sio::{Acia, Receiver, WINDOW};
 use std::alloc::Global;
 use std::process::Abort;

@@ -11,8 +11,7 @@ ghost use Rattle.plain_single.specs.Behind.{behind_of, devices_of, wired_of, aft
 use super::Machine;
 use crate::step::{accept, run};
 use crate::wires::Wires;
-use disk_dcdd::GREATEST_NUMBER;
-use i8080_words::{Fault, Interrupts, Processor, R};
+use i8080_words::{Fault, GREATEST_NUMBER, Interrupts, Processor, R};
 
 impl Machine {
     // The level of the request that is accepted next, if any.

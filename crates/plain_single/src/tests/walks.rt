@@ -1,8 +1,7 @@
 //! The drives in 64 long random walks, each checked against a number from an independent program.
 use super::folds::{Fold, Random};
 use crate::drives::DiskDrives;
-use disk_dcdd::GREATEST_NUMBER;
-use i8080_words::R;
+use i8080_words::{GREATEST_NUMBER, R};
 use std::alloc::Global;
 use std::process::Abort;
 use std::test::Fail;

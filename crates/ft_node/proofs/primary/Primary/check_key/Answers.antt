@@ -2,7 +2,7 @@
 use Rattle.std.proofs.Common.{◌≡◌, ◌<◌, ◌≤◌, [], ◌∷◌, sym, ap, subst, ◌∙◌}
 use Rattle.std.proofs.lemmas.Bool.{eq-eqb}
 use Rattle.std.proofs.lemmas.Result.{err_from_is_err_and}
-use Rattle.disk_dcdd.specs.declared.controller.TheConstants.{GREATEST_NUMBER}
+use Rattle.i8080_words.specs.declared.limits.TheConstants.{GREATEST_NUMBER}
 use Rattle.i8080_words.specs.declared.refusal.Fault.TheVariants.{Spent}
 use Rattle.log_buffer.specs.Log.{IsWithinLimits, refusal_of, room_answer}
 use Rattle.pair_protocol.specs.Refusals.{first_of, key_refusal, keys_spent}

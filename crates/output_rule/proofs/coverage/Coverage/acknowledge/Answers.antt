@@ -1,6 +1,6 @@
 -- The number of keys rises if not all was covered before.
 use Rattle.std.proofs.Common.{◌≤◌, arith}
-use Rattle.log_buffer.specs.declared.buffer.TheConstants.{GREATEST_NEXT}
+use Rattle.i8080_words.specs.declared.limits.TheConstants.{GREATEST_NUMBER}
 use Rattle.output_rule.specs.Coverage.{covering_of}
 use Rattle.output_rule.proofs.Standing.{IsCovering-held, IsCovering-told}
 use Rattle.output_rule.proofs.coverage.Coverage.acknowledge.Goals as goal
@@ -10,7 +10,7 @@ pub invariant_of-self : goal.invariant_of-self
 invariant_of-self c =
     let before = covering_of c.self.inside in
     let order : before.acknowledged ≤ c.args.held = omega arith in
-    let limit : c.args.held ≤ GREATEST_NEXT = omega arith in
+    let limit : c.args.held ≤ GREATEST_NUMBER = omega arith in
     elim c.if-not-self.branch [
       | then-not-self w ↦
           rw (w.self-inside-is, w.with_keys-self-inside.ensures)
