@@ -6,3 +6,4 @@ pub mod Stretches
 pub mod Runs
 pub mod EchoTrace
 pub mod LoggedRun
+pub mod FollowedEntries

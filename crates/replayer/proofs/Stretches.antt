@@ -1,7 +1,7 @@
 -- What a stretch of moves meets. Each step that the machine executes by itself raises its count by one; so as many of
 -- them as the first entry is ahead all begin below its count, and each is a move by the entries. The first of them can
 -- be executed, so it is refused only when out of memory; and an entry at the machine's count is a stretch of one move.
-use Rattle.std.proofs.Common.{◌≡◌, ℕ, ◌+◌, ◌<◌, ◌≤◌, List, ◌∷◌, drop, slice_get, Some, None, Ok, Err, refl, sym, ap, subst, ◌∙◌, arith}
+use Rattle.std.proofs.Common.{◌≡◌, ℕ, ◌+◌, ◌<◌, ◌≤◌, List, ◌∷◌, drop, slice_get, Some, Ok, Err, refl, sym, ap, subst, ◌∙◌, arith}
 use Rattle.guest_board.proofs.QuietSteps.{none_made, quiet_count}
 use Rattle.guest_board.specs.Lockstep.{step_refusal}
 use Rattle.guest_board.specs.Machine.{Machine}

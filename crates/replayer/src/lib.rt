@@ -1,11 +1,13 @@
 //! A guest that repeats the moves of another by the entries of its log.
 #![tactic(auto)]
 
+mod following;
 mod laws;
 mod replay;
 mod replayer;
 #[cfg(test)]
 mod tests;
 
-pub use laws::replays_keep_to_the_trace;
+pub use following::{Followed, follow};
+pub use laws::{following_is_recording, replays_keep_to_the_trace};
 pub use replayer::{Replayed, Replayer};

@@ -4,6 +4,7 @@ ghost use Rattle.log_channel.specs.Channel.{holding};
 ghost use Rattle.log_entry.specs.Spelling.{IsEntry};
 
 mod boards;
+mod following;
 
 use crate::{Replayed, Replayer};
 use echo_guest::Echo;
