@@ -108,9 +108,9 @@ winner_settles {S} M C w i n x there won = go l.stage o.tied
     go : (stage : Stage) → winner_in w.winners i.top ≡ winner_at stage l.primary l.backup → Settles w n x
     go Undecided e = let k = sym e ∙ here in absurd (cc)
     go PrimaryWon e = of t.primary.a (is l.primary t.primary.a (sym e ∙ here) t.primary.there) t.primary.generation
-        (primary-no_spare M l.stage l.base l.own l.mid _ t.primary.a t.primary.is_primary)
+        (primary-no_spare M l t.primary.a t.primary.is_primary)
     go BackupWon e = of t.backup.b (is l.backup t.backup.b (sym e ∙ here) t.backup.there) t.backup.generation
-        (backup-no_spare M C l.stage l.base l.own l.more l.mid t.backup.b t.backup.is_backup.state)
+        (backup-no_spare M C l t.backup.b t.backup.is_backup.state)
 
 -- rows of events let what is settled grow
 pub rows_grow : {S : Type 0} (M : Machine S) → Lawful M → (w new : World S) (events : List Event)

@@ -1,9 +1,9 @@
 -- Every action keeps the invariant, and the settled moves only go on.
-use Rattle.std.proofs.Common.{[], ◌++◌, ◌∙◌, ◌∷◌, ◌≡◌, ◌≤◌, ◌⊎◌, List, None, Option, Some, ap, arith, inl, inr, length, max, refl, subst, sym, ℕ}
+use Rattle.std.proofs.Common.{[], ◌++◌, ◌∙◌, ◌∷◌, ◌≡◌, ◌≤◌, ◌⊎◌, None, Option, Some, ap, arith, inl, inr, length, max, refl, subst, sym, ℕ}
 use Rattle.std.specs.Prelude.{slice_get}
 use Rattle.event_callbacks.specs.declared.operations.Operation.{Operation}
 use Rattle.event_callbacks.specs.declared.operations.Operation.TheVariants.{Byte, Write}
-use Rattle.guest_board.specs.Machine.{Machine, Move, refusal_of}
+use Rattle.guest_board.specs.Machine.{Machine, refusal_of}
 use Rattle.guest_board.specs.Recorded.{Recorded}
 use Rattle.guest_board.specs.declared.input.Input.{Input}
 use Rattle.log_entry.specs.Entries.{entries}
@@ -13,203 +13,142 @@ use Rattle.pair_protocol.specs.Copying.{Copying, IsCopying}
 use Rattle.pair_protocol.specs.Faithful.{IsPrefix}
 use Rattle.pair_protocol.specs.Lawful.{Among, Lawful}
 use Rattle.pair_protocol.specs.Node.{Alone, Backup, Draining, Joining, Node, Primary, Role, Spare, alone_takes, gets_part, goes_live, halts, hears, joins, keys_covered, passes_input, passes_mark, plainly_steps, primary_steps, primary_takes}
-use Rattle.pair_protocol.specs.World.{Acknowledgement, Arrival, ImagePart, LogEntry, Released, World, sector_record, terminal, winner_in, with_node}
-use Rattle.pair_protocol.proofs.Invariant.{AsAlone, AsBackup, AsDraining, AsJoining, BackupState, HasReplayed, Inv, Line, Next, Stage}
-use Rattle.pair_protocol.proofs.Invariant.Acting.{Acting, BackupActs, IsBackupRole, PrimaryActs, acting, acting_backup, acting_primary, acts-no_spare}
-use Rattle.pair_protocol.proofs.Keeps.Arbiter.{backup-wins, primary-wins, won_by}
+use Rattle.pair_protocol.specs.World.{Acknowledgement, Arrival, ImagePart, LogEntry, Released, World, sector_record, terminal, winner_in, with_node, with_winner}
+use Rattle.pair_protocol.proofs.Invariant.{BackupState, HasReplayed, Inv, Next}
+use Rattle.pair_protocol.proofs.Invariant.Acting.{Acting, BackupActs, IsBackupRole, PrimaryActs, acting, acting_backup, acting_primary, acts-no_spare, line_at}
+use Rattle.pair_protocol.proofs.Keeps.Arbiter.{backup-wins, primary-wins}
 use Rattle.pair_protocol.proofs.Keeps.Backup.{backup-accepts, backup-does, backup-later, backup-stays}
-use Rattle.pair_protocol.proofs.Keeps.BackupChanges.{backup_state-halts, backup_state-joins, backup_state-live, backup_state-replayed, backup_state-replays, gets-part, primary-halts, primary-hears}
+use Rattle.pair_protocol.proofs.Keeps.BackupChanges.{backup_state-halts, backup_state-joins, backup_state-live, backup_state-part, backup_state-replayed, backup_state-replays, joining_empty, primary-halts, primary-hears}
 use Rattle.pair_protocol.proofs.Keeps.Disk.{keep-puts, keep-reads, record-is}
 use Rattle.pair_protocol.proofs.Keeps.Holding.{backup-holds}
 use Rattle.pair_protocol.proofs.Keeps.Link.{keep-message}
-use Rattle.pair_protocol.proofs.Keeps.NewGeneration.{keep-begins}
+use Rattle.pair_protocol.proofs.Keeps.NewGeneration.{alone, keep-begins}
 use Rattle.pair_protocol.proofs.Keeps.Primary.{primary-accepts, primary-does, primary-runs, primary-stays, told-same}
 use Rattle.pair_protocol.proofs.Keeps.PrimaryMoves.{alone-after_input, alone-after_step, primary-after_input, primary-after_step}
-use Rattle.pair_protocol.proofs.Keeps.Releases.{alone, alone_frees, frees, released, told_any}
+use Rattle.pair_protocol.proofs.Keeps.Releases.{alone_frees, frees, released, told_any}
 use Rattle.pair_protocol.proofs.Keeps.Replay.{replayed-input, replayed-mark, replayed-step}
 use Rattle.pair_protocol.proofs.Keeps.Terminals.{accepted-longer, keep-hosts, keep-terminal}
 use Rattle.pair_protocol.proofs.Traces.Lists.{among-get, among-split, prefix-append, prefix-length, prefix-refl, same_some}
 use Rattle.pair_protocol.proofs.Traces.Moves.{count-does, count-takes, owns-front, runs-append}
 
-only_spare : (r q : Role) → r ≡ q → (q ≡ Spare → ⊥) → r ≡ Spare → ⊥
-only_spare r q e h k = h (sym e ∙ k)
+module _ {S : Type 0} (M : Machine S) (C : Copying S) (laws : Lawful M) (w : World S) (i : Inv M C w) (n : ℕ)
+    (x : Node S) where
+  real : (r : Role) → Acts w n x r → (r ≡ Spare → ⊥) → x.role ≡ Spare → ⊥
+  real r acts = acts-no_spare w n x r acts
 
-primary_steps_keep : {S : Type 0} (M : Machine S) (C : Copying S) (laws : Lawful M) (w : World S) (i : Inv M C w)
-    (n : ℕ) (x : Node S) (s : S) (o : Option Operation) → Acts w n x Primary → M.step x.machine ≡ Some (s, o) →
-    Next M C i.trace (with_node w n (primary_steps M x s o))
-primary_steps_keep M C laws w i n x s o acts h =
-    let q = acting_primary M C w i n x acts in
-    let l = (i.each x.generation).line in
-    let ns = acts-no_spare w n x Primary acts (λ k. (cc)) in
-    primary-does M C w i n x (primary_steps M x s o) o acts.there ns ns refl q.spot q.place q.is_primary
-    (primary-after_step M l.stage l.base l.own l.mid (length l.held) x s o acts.role_is h
-    (count-does M laws _ x.machine s o (primary-runs M C w i x q.is_primary) h) q.is_primary)
-    (told-same M C w i n x (primary_steps M x s o) acts.there q.spot (λ r. r) refl)
+  primary_steps_keep : (s : S) (o : Option Operation) → Acts w n x Primary → M.step x.machine ≡ Some (s, o) →
+      Next M C i.trace (with_node w n (primary_steps M x s o))
+  primary_steps_keep s o acts h =
+      let q = acting_primary M C w i n x acts in
+      primary-does M C w i n x (primary_steps M x s o) o q q.real refl
+      (primary-after_step M (line_at i x) x s o acts.role_is h
+      (count-does M laws _ x.machine s o (primary-runs M C w i x q.is_primary) h) q.is_primary)
+      (told-same M C w i n x (primary_steps M x s o) q (λ r. r) refl)
 
-primary_takes_keep : {S : Type 0} (M : Machine S) (C : Copying S) (laws : Lawful M) (w : World S) (i : Inv M C w)
-    (n : ℕ) (x : Node S) (s : S) (v : Input) → Acts w n x Primary → MayTake M w x v →
-    refusal_of M x.machine v ≡ None → M.take x.machine v ≡ Some s →
-    Next M C i.trace (with_node w n (primary_takes M x s v))
-primary_takes_keep M C laws w i n x s v acts may ok h =
-    let q = acting_primary M C w i n x acts in
-    let l = (i.each x.generation).line in
-    let ns = acts-no_spare w n x Primary acts (λ k. (cc)) in
-    primary-accepts M C laws w i n x (primary_takes M x s v) v may ok acts.there ns ns refl q.spot q.place q.is_primary
-    (primary-after_input M l.stage l.base l.own l.mid (length l.held) x s v acts.role_is h
-    (count-takes M laws _ x.machine s v (primary-runs M C w i x q.is_primary) h) q.is_primary)
-    (told-same M C w i n x (primary_takes M x s v) acts.there q.spot (λ r. r) refl)
+  primary_takes_keep : (s : S) (v : Input) → Acts w n x Primary → MayTake M w x v → refusal_of M x.machine v ≡ None →
+      M.take x.machine v ≡ Some s → Next M C i.trace (with_node w n (primary_takes M x s v))
+  primary_takes_keep s v acts may ok h =
+      let q = acting_primary M C w i n x acts in
+      primary-accepts M C w i laws n x (primary_takes M x s v) v may ok q q.real refl
+      (primary-after_input M (line_at i x) x s v acts.role_is h
+      (count-takes M laws _ x.machine s v (primary-runs M C w i x q.is_primary) h) q.is_primary)
+      (told-same M C w i n x (primary_takes M x s v) q (λ r. r) refl)
 
-alone_steps_keep : {S : Type 0} (M : Machine S) (C : Copying S) (laws : Lawful M) (w : World S) (i : Inv M C w)
-    (n : ℕ) (x : Node S) (s : S) (o : Option Operation) → Acts w n x Alone → M.step x.machine ≡ Some (s, o) →
-    Next M C i.trace (with_node w n (plainly_steps x s))
-alone_steps_keep {S} M C laws w i n x s o acts h =
-    go (acting M C w i.top i.trace n x (i.each x.generation) acts.there ns)
-  where
-    ns : x.role ≡ Spare → ⊥
-    ns = acts-no_spare w n x Alone acts (λ k. (cc))
+  alone_steps_keep : (s : S) (o : Option Operation) → Acts w n x Alone → M.step x.machine ≡ Some (s, o) →
+      Next M C i.trace (with_node w n (plainly_steps x s))
+  alone_steps_keep s o acts h = go (acting M C w i n x acts.there (real Alone acts (λ k. (cc))))
+    where
+      go : Acting M C w i n x → Next M C i.trace (with_node w n (plainly_steps x s))
+      go (PrimaryActs q p) = primary-does M C w i n x (plainly_steps x s) o q q.real refl
+          (alone-after_step M (line_at i x) x s o acts.role_is h
+          (count-does M laws _ x.machine s o (primary-runs M C w i x q.is_primary) h) q.is_primary)
+          (told-same M C w i n x (plainly_steps x s) q (λ r. r) refl)
+      go (BackupActs q p) = backup-does M C w i n x s o q acts.role_is h
+          (count-does M laws i.trace x.machine s o (alone M C w i n x acts).runs h)
 
-    l : Line S
-    l = (i.each x.generation).line
+  alone_takes_keep : (s : S) (v : Input) → Acts w n x Alone → MayTake M w x v → refusal_of M x.machine v ≡ None →
+      M.take x.machine v ≡ Some s → Next M C i.trace (with_node w n (alone_takes M x s v))
+  alone_takes_keep s v acts may ok h = go (acting M C w i n x acts.there (real Alone acts (λ k. (cc))))
+    where
+      go : Acting M C w i n x → Next M C i.trace (with_node w n (alone_takes M x s v))
+      go (PrimaryActs q p) = primary-accepts M C w i laws n x (alone_takes M x s v) v may ok q q.real refl
+          (alone-after_input M (line_at i x) x s v acts.role_is h
+          (count-takes M laws _ x.machine s v (primary-runs M C w i x q.is_primary) h) q.is_primary)
+          (told-same M C w i n x (alone_takes M x s v) q (λ r. r) refl)
+      go (BackupActs q p) = backup-accepts M C w i laws n x s v q acts.role_is may ok h
+          (count-takes M laws i.trace x.machine s v (alone M C w i n x acts).runs h)
 
-    go : Acting M C w i.top i.trace n x (i.each x.generation) → Next M C i.trace (with_node w n (plainly_steps x s))
-    go (PrimaryActs e is_primary p) = primary-does M C w i n x (plainly_steps x s) o acts.there ns ns refl e p is_primary
-        (alone-after_step M l.stage l.base l.own l.mid (length l.held) x s o acts.role_is h
-        (count-does M laws _ x.machine s o (primary-runs M C w i x is_primary) h) is_primary)
-        (told-same M C w i n x (plainly_steps x s) acts.there e (λ r. r) refl)
-    go (BackupActs e held b p) = backup-does M C w i n x s o acts.there acts.role_is e p held b h
-        (count-does M laws i.trace x.machine s o (alone M C w i n x acts).runs h)
+module _ {S : Type 0} (M : Machine S) (C : Copying S) (w : World S) (i : Inv M C w) (n : ℕ) (x : Node S) where
+  stops_keep : slice_get w.nodes n ≡ Some x → (x.role ≡ Spare → ⊥) → Next M C i.trace (with_node w n (halts x))
+  stops_keep h ns = go (acting M C w i n x h ns)
+    where
+      go : Acting M C w i n x → Next M C i.trace (with_node w n (halts x))
+      go (PrimaryActs q p) = primary-stays M C w i n x (halts x) q ns refl
+          (primary-halts M C (line_at i x) x q.is_primary)
+          (told-same M C w i n x (halts x) q (λ r. r) refl)
+      go (BackupActs q p) = backup-stays M C w i n x (halts x) q ns refl refl
+          (record {
+            state = backup_state-halts M C (line_at i x) x q.is_backup.state;
+            copy = q.is_backup.copy;
+            start = q.is_backup.start;
+            held = q.is_backup.held;
+          })
+          (backup-later M C w i n x (halts x) (line_at i x).stage q (omega arith) refl (inl (λ k. k)) (λ z. z))
 
-alone_takes_keep : {S : Type 0} (M : Machine S) (C : Copying S) (laws : Lawful M) (w : World S) (i : Inv M C w)
-    (n : ℕ) (x : Node S) (s : S) (v : Input) → Acts w n x Alone → MayTake M w x v →
-    refusal_of M x.machine v ≡ None → M.take x.machine v ≡ Some s →
-    Next M C i.trace (with_node w n (alone_takes M x s v))
-alone_takes_keep {S} M C laws w i n x s v acts may ok h =
-    go (acting M C w i.top i.trace n x (i.each x.generation) acts.there ns)
-  where
-    ns : x.role ≡ Spare → ⊥
-    ns = acts-no_spare w n x Alone acts (λ k. (cc))
+  wins_keep : (r : Role) → Acts w n x r → (r ≡ Joining → ⊥) → (r ≡ Spare → ⊥) →
+      winner_in w.winners x.generation ≡ None → Next M C i.trace (with_winner w n x)
+  wins_keep r acts nj ns none = go (acting M C w i n x acts.there (acts-no_spare w n x r acts ns))
+    where
+      go : Acting M C w i n x → Next M C i.trace (with_winner w n x)
+      go (PrimaryActs q p) = primary-wins M C w i n x q none
+      go (BackupActs q p) = backup-wins M C w i n x q (λ k. nj (sym acts.role_is ∙ k)) none
 
-    l : Line S
-    l = (i.each x.generation).line
+  hears_keep : (h r : ℕ) → Acts w n x Primary → h ≤ length (line_at i x).held →
+      ((b : Node S) → slice_get w.nodes (line_at i x).backup ≡ Some b → b.generation ≡ x.generation →
+      (b.role ≡ Spare → ⊥) → r ≤ b.replayed) → Next M C i.trace (with_node w n (hears x h r))
+  hears_keep h r acts k told =
+      let q = acting_primary M C w i n x acts in
+      primary-stays M C w i n x (hears x h r) q q.real refl
+      (primary-hears M C (line_at i x) x h r k q.is_primary)
+      (λ b u gb role nb. (let a = (i.each x.generation).reads.heard x b
+      (subst (λ j. slice_get w.nodes j ≡ Some x) q.spot acts.there) u refl gb acts.role_is nb in
+      let c = told b u gb nb in omega (arith, a, c)))
 
-    go : Acting M C w i.top i.trace n x (i.each x.generation) → Next M C i.trace (with_node w n (alone_takes M x s v))
-    go (PrimaryActs e is_primary p) = primary-accepts M C laws w i n x (alone_takes M x s v) v may ok acts.there ns ns refl e p is_primary
-        (alone-after_input M l.stage l.base l.own l.mid (length l.held) x s v acts.role_is h
-        (count-takes M laws _ x.machine s v (primary-runs M C w i x is_primary) h) is_primary)
-        (told-same M C w i n x (alone_takes M x s v) acts.there e (λ r. r) refl)
-    go (BackupActs e held b p) = backup-accepts M C laws w i n x s v acts.there acts.role_is e p held b may ok h
-        (count-takes M laws i.trace x.machine s v (alone M C w i n x acts).runs h)
+  -- the backup in another state, otherwise as before
+  backup_keep : (y : Node S) (r : Role) → Acts w n x r → IsBackupRole r → (y.role ≡ Spare → ⊥) →
+      y.generation ≡ x.generation → y.held ≡ x.held → y.copy ≡ x.copy → y.start ≡ x.start → x.replayed ≤ y.replayed →
+      (Replaying y.role → Replaying x.role) ⊎ (y.held ≡ []) →
+      (BackupState M C (line_at i x) x → BackupState M C (line_at i x) y) → Next M C i.trace (with_node w n y)
+  backup_keep y r acts role ny gy hy cy sy later roles state =
+      let q = acting_backup M C w i n x r acts role in
+      let l = line_at i x in
+      backup-stays M C w i n x y q ny gy hy
+      (record {
+        state = state q.is_backup.state;
+        copy = cy ∙ q.is_backup.copy;
+        start = sy ∙ q.is_backup.start;
+        held = subst (λ es. IsPrefix es (entries (steps l.base) l.own)) (sym hy) q.is_backup.held;
+      })
+      (backup-later M C w i n x y l.stage q later hy roles (λ z. z))
 
-stops_keep : {S : Type 0} (M : Machine S) (C : Copying S) (w : World S) (i : Inv M C w) (n : ℕ) (x : Node S) →
-    slice_get w.nodes n ≡ Some x → (x.role ≡ Spare → ⊥) → Next M C i.trace (with_node w n (halts x))
-stops_keep {S} M C w i n x h ns = go (acting M C w i.top i.trace n x (i.each x.generation) h ns)
-  where
-    l : Line S
-    l = (i.each x.generation).line
-
-    go : Acting M C w i.top i.trace n x (i.each x.generation) → Next M C i.trace (with_node w n (halts x))
-    go (PrimaryActs e is_primary p) = primary-stays M C w i n x (halts x) h ns ns refl e p
-        (primary-halts M l.stage l.base l.own l.mid (length l.held) x is_primary)
-        (told-same M C w i n x (halts x) h e (λ r. r) refl)
-    go (BackupActs e held b p) = backup-stays M C w i n x (halts x) h ns ns refl e p held
-        (record {
-          state = backup_state-halts M C l.stage l.base l.own l.more l.mid x b.state;
-          copy = b.copy;
-          start = b.start;
-          held = b.held;
-        })
-        (backup-later M C w i n x (halts x) l.stage h ns e (omega arith) refl (inl (λ k. k)) (λ z. z))
-
-wins_keep : {S : Type 0} (M : Machine S) (C : Copying S) (w : World S) (i : Inv M C w) (n : ℕ) (x : Node S)
-    (r : Role) → Acts w n x r → (r ≡ Joining → ⊥) → (r ≡ Spare → ⊥) → winner_in w.winners x.generation ≡ None →
-    Next M C i.trace (won_by w n x)
-wins_keep {S} M C w i n x r acts nj ns none =
-    go (acting M C w i.top i.trace n x (i.each x.generation) acts.there (acts-no_spare w n x r acts ns))
-  where
-    go : Acting M C w i.top i.trace n x (i.each x.generation) → Next M C i.trace (won_by w n x)
-    go (PrimaryActs e is_primary p) = primary-wins M C w i n x acts.there none e p is_primary
-    go (BackupActs e held b p) = backup-wins M C w i n x acts.there (λ k. nj (sym acts.role_is ∙ k)) none e p held b
-
-hears_keep : {S : Type 0} (M : Machine S) (C : Copying S) (w : World S) (i : Inv M C w) (n : ℕ) (x : Node S) (h r : ℕ) →
-    Acts w n x Primary → h ≤ length (i.each x.generation).line.held →
-    ((b : Node S) → slice_get w.nodes (i.each x.generation).line.backup ≡ Some b → b.generation ≡ x.generation →
-    (b.role ≡ Spare → ⊥) → r ≤ b.replayed) →
-    Next M C i.trace (with_node w n (hears x h r))
-hears_keep M C w i n x h r acts k told =
-    let q = acting_primary M C w i n x acts in
-    let l = (i.each x.generation).line in
-    let ns = acts-no_spare w n x Primary acts (λ k. (cc)) in
-    primary-stays M C w i n x (hears x h r) acts.there ns ns refl q.spot q.place
-    (primary-hears M l.stage l.base l.own l.mid (length l.held) x h r k q.is_primary)
-    (λ b u gb role nb. (let a = (i.each x.generation).reads.heard x b
-    (subst (λ j. slice_get w.nodes j ≡ Some x) q.spot acts.there) u refl gb acts.role_is nb in
-    let c = told b u gb nb in omega (arith, a, c)))
-
--- the backup in another state, otherwise as before
-backup_keep : {S : Type 0} (M : Machine S) (C : Copying S) (w : World S) (i : Inv M C w) (n : ℕ) (x y : Node S)
-    (r : Role) → Acts w n x r → IsBackupRole r → (y.role ≡ Spare → ⊥) → y.generation ≡ x.generation → y.held ≡ x.held →
-    y.copy ≡ x.copy → y.start ≡ x.start →
-    x.replayed ≤ y.replayed → (Replaying y.role → Replaying x.role) ⊎ (y.held ≡ []) →
-    (BackupState M C (i.each x.generation).line.stage (i.each x.generation).line.base (i.each x.generation).line.own
-    (i.each x.generation).line.more (i.each x.generation).line.mid x →
-    BackupState M C (i.each x.generation).line.stage (i.each x.generation).line.base (i.each x.generation).line.own
-    (i.each x.generation).line.more (i.each x.generation).line.mid y) →
-    Next M C i.trace (with_node w n y)
-backup_keep M C w i n x y r acts role ny gy hy cy sy later roles state =
-    let q = acting_backup M C w i n x r acts role in
-    let l = (i.each x.generation).line in
-    backup-stays M C w i n x y acts.there (acts-no_spare w n x r acts (λ k. subst IsBackupRole k role)) ny gy q.spot q.place
-    (hy ∙ q.held)
-    (record {
-      state = state q.is_backup.state;
-      copy = cy ∙ q.is_backup.copy;
-      start = sy ∙ q.is_backup.start;
-      held = subst (λ es. IsPrefix es (entries (steps l.base) l.own)) (sym hy) q.is_backup.held;
-    })
-    (backup-later M C w i n x y l.stage acts.there (acts-no_spare w n x r acts (λ k. subst IsBackupRole k role)) q.spot later hy
-    roles (λ z. z))
-
--- replay
-backup_role : (r : Role) → (r ≡ Backup) ⊎ (r ≡ Draining) → IsBackupRole r
-backup_role r (inl h) = subst IsBackupRole (sym h) tt
-backup_role r (inr h) = subst IsBackupRole (sym h) tt
-
-replays : {S : Type 0} (M : Machine S) (C : Copying S) (w : World S) (i : Inv M C w) (n : ℕ) (x y : Node S)
-    (r : Role) → Acts w n x r → (r ≡ Backup) ⊎ (r ≡ Draining) → y.role ≡ x.role → y.generation ≡ x.generation →
-    y.held ≡ x.held → y.copy ≡ x.copy → y.start ≡ x.start → x.replayed ≤ y.replayed →
-    ((last : S) → IsPrefix x.held (entries (steps (i.each x.generation).line.base) (i.each x.generation).line.own) →
-    Recorded M (i.each x.generation).line.mid (i.each x.generation).line.own last →
-    HasReplayed M (i.each x.generation).line.base (i.each x.generation).line.own (i.each x.generation).line.mid x →
-    HasReplayed M (i.each x.generation).line.base (i.each x.generation).line.own (i.each x.generation).line.mid y) →
-    Next M C i.trace (with_node w n y)
-replays M C w i n x y r acts which ry gy hy cy sy later follows =
-    let o = i.each x.generation in
-    let l = o.line in
-    let q = acting_backup M C w i n x r acts (backup_role r which) in
-    backup_keep M C w i n x y r acts (backup_role r which)
-    (λ k. acts-no_spare w n x r acts (λ z. subst IsBackupRole z (backup_role r which)) (sym ry ∙ k)) gy hy cy sy later
-    (inl (λ k. subst Replaying ry k))
-    (λ s. backup_state-replays M C l.stage l.base l.own l.more l.mid x y r acts.role_is which ry
-    (follows o.recorded.0 q.is_backup.held o.recorded.1
-    (backup_state-replayed M C l.stage l.base l.own l.more l.mid x r acts.role_is which s)) s)
+  -- replay
+  replays : (y : Node S) (r : Role) → Acts w n x r → Replaying r → y.role ≡ x.role → y.generation ≡ x.generation →
+      y.held ≡ x.held → y.copy ≡ x.copy → y.start ≡ x.start → x.replayed ≤ y.replayed →
+      ((last : S) → IsPrefix x.held (entries (steps (line_at i x).base) (line_at i x).own) →
+      Recorded M (line_at i x).mid (line_at i x).own last → HasReplayed M (line_at i x) x →
+      HasReplayed M (line_at i x) y) → Next M C i.trace (with_node w n y)
+  replays y r acts which ry gy hy cy sy later replayed =
+      let o = i.each x.generation in
+      let back : IsBackupRole r = elim which [ inl h ↦ subst IsBackupRole (sym h) tt | inr h ↦ subst IsBackupRole (sym h) tt ] in
+      let q = acting_backup M C w i n x r acts back in
+      backup_keep y r acts back (λ k. q.real (sym ry ∙ k)) gy hy cy sy later
+      (inl (λ k. subst Replaying ry k))
+      (λ s. backup_state-replays M C o.line x y r acts.role_is which ry
+      (replayed o.sound.recorded.0 q.is_backup.held o.sound.recorded.1
+      (backup_state-replayed M C o.line x r acts.role_is which s)) s)
 
 same_send : (o v : Operation) → Released o ≡ Released v → o ≡ v
 same_send o v h = (cc)
-
-backup_state-part : {S : Type 0} (M : Machine S) (C : Copying S) (stage : Stage) (base own more : List Move) (mid : S)
-    (x : Node S) (k : ℕ) (p : List ℕ) → x.role ≡ Joining → slice_get (C.parts mid) k ≡ Some p →
-    BackupState M C stage base own more mid x → BackupState M C stage base own more mid (gets_part x k p)
-backup_state-part M C stage base own more mid x k p role h (AsJoining r s g) = AsJoining r s (gets-part M C mid x k p h g)
-backup_state-part M C stage base own more mid x k p role h (AsBackup r s f) = (cc)
-backup_state-part M C stage base own more mid x k p role h (AsDraining r s m f) = (cc)
-backup_state-part M C stage base own more mid x k p role h (AsAlone r s u c l) = (cc)
-
-joining_empty : {S : Type 0} (M : Machine S) (C : Copying S) (stage : Stage) (base own more : List Move) (mid : S)
-    (x : Node S) → x.role ≡ Joining → BackupState M C stage base own more mid x → x.held ≡ []
-joining_empty M C stage base own more mid x role (AsJoining r s g) = g.empty
-joining_empty M C stage base own more mid x role (AsBackup r s f) = (cc)
-joining_empty M C stage base own more mid x role (AsDraining r s m f) = (cc)
-joining_empty M C stage base own more mid x role (AsAlone r s u c l) = (cc)
 
 -- An action keeps the invariant, and the settled moves after it begin with those before it.
 pub keep : {S : Type 0} (M : Machine S) (C : Copying S) → Lawful M → IsCopying M C →
@@ -230,43 +169,42 @@ keep M C laws copies w new i (Sends n x k e acts h) =
     (λ j z. (cc)) (λ q j b z. (cc)) (λ k t s b u gb role v z. absurd (cc))
 keep M C laws copies w new i (Holds n x m e acts h) =
     let q = acting_backup M C w i n x Backup acts tt in
-    backup-holds M C w i n x e acts.there acts.role_is q.spot q.place q.held q.is_backup
-    ((i.each x.generation).logs (length x.held) e
+    backup-holds M C w i n x e q acts.role_is ((i.each x.generation).says.logs (length x.held) e
     (among-get w.messages m (LogEntry x.generation (length x.held) e) h))
 keep {S} M C laws copies w new i (Acknowledges n x replayed acts few) =
     let q = acting_backup M C w i n x Backup acts tt in
     let e = ap length q.held in
-    let most = (backup_state-replayed M C _ _ _ _ _ x Backup acts.role_is (inl refl) q.is_backup.state).few in
+    let most = (backup_state-replayed M C (line_at i x) x Backup acts.role_is (inl refl) q.is_backup.state).few in
     keep-message M C w i n x (Acknowledgement x.generation (length x.held) replayed) acts.there
     (acts-no_spare w n x Backup acts (λ k. (cc))) (λ j d. d)
     (λ j. (
       omega arith,
       omega (arith, few, most),
       λ b u gb. (let z = ap (λ (v : Node S). v.replayed)
-          (same_some x b (slice_get w.nodes (i.each x.generation).line.backup)
+          (same_some x b (slice_get w.nodes (line_at i x).backup)
           (subst (λ j. slice_get w.nodes j ≡ Some x) q.spot acts.there) u) in omega (arith, few, z)),
     )) (λ o z. (cc)) (λ j z. (cc))
     (λ q j b z. (cc)) (λ k t s b u gb role v z. absurd (cc))
 keep M C laws copies w new i (Hears n x m h r acts k) =
     let a = among-get w.messages m (Acknowledgement x.generation h r) k in
-    hears_keep M C w i n x h r acts ((i.each x.generation).acks h r a).0
+    hears_keep M C w i n x h r acts ((i.each x.generation).says.acks h r a).0
     (λ b u gb nb. (i.each x.generation).reads.told h r b a u gb nb)
 keep M C laws copies w new i (ReplaysStep n x r e s o acts which g c h) =
-    let l = (i.each x.generation).line in
+    let l = line_at i x in
     replays M C w i n x (plainly_steps x s) r acts which refl refl refl refl refl (omega arith)
-    (λ last p run f. replayed-step M l.base l.own l.mid last x e s o p run g c h
+    (λ last p run f. replayed-step M l last x p run e s o g c h
     (count-does M laws (l.base ++ f.ms) x.machine s o
-    (runs-append M M.boot l.mid x.machine l.base f.ms (i.each x.generation).based f.runs) h) f)
+    (runs-append M M.boot l.mid x.machine l.base f.ms (i.each x.generation).sound.based f.runs) h) f)
 keep M C laws copies w new i (ReplaysMark n x r e acts which g c h) =
-    let l = (i.each x.generation).line in
+    let l = line_at i x in
     replays M C w i n x (passes_mark x) r acts which refl refl refl refl refl (omega arith)
-    (λ last p run f. replayed-mark M l.base l.own l.mid last x e p run g c h f)
+    (λ last p run f. replayed-mark M l last x p run e g c h f)
 keep M C laws copies w new i (ReplaysInput n x r e v s acts which g c h k) =
-    let l = (i.each x.generation).line in
+    let l = line_at i x in
     replays M C w i n x (passes_input x s) r acts which refl refl refl refl refl (omega arith)
-    (λ last p run f. replayed-input M l.base l.own l.mid last x e v s p run g c h k
+    (λ last p run f. replayed-input M l last x p run e v s g c h k
     (count-takes M laws (l.base ++ f.ms) x.machine s v
-    (runs-append M M.boot l.mid x.machine l.base f.ms (i.each x.generation).based f.runs) k) f)
+    (runs-append M M.boot l.mid x.machine l.base f.ms (i.each x.generation).sound.based f.runs) k) f)
 keep M C laws copies w new i (PrimaryReleases n x name o acts h c) =
     let r = released M C laws w i n x name o acts h c in
     keep-message M C w i n x (Released o) acts.there (acts-no_spare w n x Primary acts (λ k. (cc))) (λ j d. tt) tt
@@ -307,10 +245,10 @@ keep M C laws copies w new i (Stops n x h ns) = stops_keep M C w i n x h ns
 keep M C laws copies w new i (Wins n x r acts nj ns none) = wins_keep M C w i n x r acts nj ns none
 keep M C laws copies w new i (GoesLive n x acts h) =
     let q = acting_backup M C w i n x Draining acts tt in
-    let l = (i.each x.generation).line in
+    let l = line_at i x in
     backup_keep M C w i n x (goes_live x) Draining acts tt (λ k. (cc)) refl refl refl refl (omega arith)
     (inl (λ k. elim k [ inl z ↦ (cc) | inr z ↦ (cc) ]))
-    (λ s. backup_state-live M C l.stage l.base l.own l.more l.mid x acts.role_is h q.is_backup.copy q.is_backup.held s)
+    (λ s. backup_state-live M C l x acts.role_is h q.is_backup.copy q.is_backup.held s)
 keep M C laws copies w new i (Begins n h x y acts there spare_is) =
     keep-begins M C copies w i n h x y acts there spare_is
 keep M C laws copies w new i (SendsPart n x s k p acts im h) =
@@ -324,15 +262,15 @@ keep M C laws copies w new i (GetsPart n x m k p acts h) =
     let l = o.line in
     backup_keep M C w i n x (gets_part x k p) Joining acts tt
     (acts-no_spare w n x Joining acts (λ z. (cc))) refl refl refl refl (omega arith) (inl (λ k. k))
-    (λ s. backup_state-part M C l.stage l.base l.own l.more l.mid x k p acts.role_is
-    (o.parts k p (among-get w.messages m (ImagePart x.generation k p) h)) s)
+    (λ s. backup_state-part M C l x k p acts.role_is
+    (o.says.parts k p (among-get w.messages m (ImagePart x.generation k p) h)) s)
 keep M C laws copies w new i (Joins n x ps s acts got made) =
     let q = acting_backup M C w i n x Joining acts tt in
-    let l = (i.each x.generation).line in
+    let l = line_at i x in
     backup_keep M C w i n x (joins x s) Joining acts tt (λ k. (cc)) refl refl refl refl (omega arith)
-    (inr (joining_empty M C l.stage l.base l.own l.more l.mid x acts.role_is q.is_backup.state))
-    (λ z. backup_state-joins M C laws copies l.stage l.base l.own l.more l.mid s x ps acts.role_is got made q.is_backup.copy
-    q.is_backup.start (i.each x.generation).based
+    (inr (joining_empty M C l x acts.role_is q.is_backup.state))
+    (λ z. backup_state-joins M C laws copies l s x ps acts.role_is got made q.is_backup.copy
+    q.is_backup.start (i.each x.generation).sound.based
     (λ h. owns-front M [] M.boot l.base l.own ((i.each x.generation).owns h)) z)
 keep M C laws copies w new i HostComes = keep-hosts M C w i
 keep M C laws copies w new i (Puts m v h) =

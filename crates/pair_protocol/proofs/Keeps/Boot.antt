@@ -7,9 +7,9 @@ use Rattle.pair_protocol.specs.Copying.{Copying}
 use Rattle.pair_protocol.specs.Faithful.{IsPrefix}
 use Rattle.pair_protocol.specs.Lawful.{Among, Lawful}
 use Rattle.pair_protocol.specs.Node.{Backup, Node, Primary, Spare, first_node}
+use Rattle.pair_protocol.specs.Settled.{is_backup}
 use Rattle.pair_protocol.specs.World.{Arrival, no_terminal, opening, terminal_in}
-use Rattle.pair_protocol.proofs.Invariant.{AsBackup, AtTop, Inv, Line, LineOf, Presence, Undecided, Unused, settled}
-use Rattle.pair_protocol.proofs.Keeps.Releases.{covered}
+use Rattle.pair_protocol.proofs.Invariant.{AsBackup, AtTop, CameIn, Inv, Line, LineOf, Presence, Undecided, Unused, settled}
 use Rattle.pair_protocol.proofs.Traces.Lists.{same_or_not, same_some}
 
 -- At boot.
@@ -22,15 +22,12 @@ at_boot {S} M C laws = record {
   global = record {
     sends = λ o m. absurd m;
     arrived = λ p. arrived p;
-    done = λ p. omega arith;
-    typed = λ p. ((terminal_in (no_terminal ∷ no_terminal ∷ []) p).typed, refl);
-    told = λ p. told p;
-    puts = λ v m. absurd m;
+    puts_are = λ v m. absurd m;
     reads = λ q n b m. absurd m;
     written = λ n m. absurd m;
-    put = λ n m. absurd m;
-    put_sent = λ v m. absurd m;
+    came = came;
     owns = tt;
+    told = λ p. told p;
   };
   spares = λ n x h s. absurd (no_spare n x h s);
   earlier = λ g lt. nothing (settled (each g).line) (each 1).line.base (each g).below;
@@ -71,22 +68,22 @@ at_boot {S} M C laws = record {
     the_line : Line S
     the_line = record { base = []; own = []; more = []; mid = M.boot; stage = Undecided; primary = 0; backup = 1; held = [] }
 
+    came : CameIn (no_terminal ∷ no_terminal ∷ []) [] []
+    came = record {
+      done = λ p. omega arith;
+      typed = λ p. ((terminal_in (no_terminal ∷ no_terminal ∷ []) p).typed, refl);
+      put = λ n m. absurd m;
+    }
+
     made : (g : ℕ) → Presence M C nodes [] [] 1 [] g the_line → LineOf M C (opening M) 1 [] g
     made g pr = record {
       line = the_line;
       presence = pr;
-      based = refl;
-      recorded = (M.boot, refl);
-      tied = refl;
-      apart = λ e. (omega arith);
-      held = ([], refl);
+      sound = record { based = refl; recorded = (M.boot, refl); apart = λ e. (omega arith); held = ([], refl) };
       members = λ n x h s e. elim (which n x h) [ inl q ↦ inl q.0 | inr q ↦ inr q.0 ];
-      logs = λ j e m. absurd m;
-      acks = λ h r m. absurd m;
-      parts = λ j p m. absurd m;
-      done = λ p. omega arith;
-      typed = λ p. ((terminal_in (no_terminal ∷ no_terminal ∷ []) p).typed, refl);
-      put = λ n m. absurd m;
+      tied = refl;
+      says = record { logs = λ j e m. absurd m; acks = λ h r m. absurd m; parts = λ j p m. absurd m };
+      came = came;
       owns = λ h. tt;
       below = ([], refl);
       reads = record {

@@ -15,6 +15,7 @@ use Rattle.pair_protocol.specs.Node.{Node, Spare}
 use Rattle.pair_protocol.specs.Refusals.{no_sector}
 use Rattle.pair_protocol.specs.World.{Acknowledgement, ImagePart, LogEntry, Message, Released, SectorRead, World, WriteDone, with_message}
 use Rattle.pair_protocol.proofs.Invariant.{AtTop, BackupLeft, Inv, Line, LineOf, Next, Presence, PrimaryLeft, PrimaryWon, Unseen, Unused, WaitsAt}
+use Rattle.pair_protocol.proofs.Invariant.Acting.{line_at}
 use Rattle.pair_protocol.proofs.Traces.Lists.{among-left, among-split, prefix-refl, same_or_not}
 
 -- One more message.
@@ -59,40 +60,37 @@ message-split x m ms h = go (among-split x ms (m ∷ []) h)
     go (inr (inl k)) = inr k
     go (inr (inr k)) = absurd k
 
-pub line-message : {S : Type 0} (M : Machine S) (C : Copying S) (w : World S) (top k : ℕ) (T : List Move) (m : Message)
-    (o : LineOf M C w top T k) → IsTrueAt M C w.nodes o.line k m → (Unseen w.nodes w.messages w.winners k → NotOf k m) →
-    Frees w top k o.line m → LineOf M C (with_message w m) top T k
+unfoldable pub line-message : {S : Type 0} (M : Machine S) (C : Copying S) (w : World S) (top k : ℕ) (T : List Move)
+    (m : Message) (o : LineOf M C w top T k) → IsTrueAt M C w.nodes o.line k m →
+    (Unseen w.nodes w.messages w.winners k → NotOf k m) → Frees w top k o.line m → LineOf M C (with_message w m) top T k
 line-message {S} M C w top k T m o true_at unused frees = record {
   line = o.line;
+  sound = o.sound;
   presence = presence o.presence;
-  based = o.based;
-  recorded = o.recorded;
-  tied = o.tied;
-  apart = o.apart;
-  held = o.held;
   members = o.members;
-  logs = λ i e h. elim (message-split (LogEntry k i e) m w.messages h) [
-    | inl q ↦ o.logs i e q
-    | inr q ↦ subst (IsTrueAt M C w.nodes o.line k) (sym q) true_at refl
-  ];
-  acks = λ j r h. elim (message-split (Acknowledgement k j r) m w.messages h) [
-    | inl q ↦ o.acks j r q
-    | inr q ↦ (let t = subst (IsTrueAt M C w.nodes o.line k) (sym q) true_at refl in (t.0, t.1))
-  ];
-  parts = λ i p h. elim (message-split (ImagePart k i p) m w.messages h) [
-    | inl q ↦ o.parts i p q
-    | inr q ↦ subst (IsTrueAt M C w.nodes o.line k) (sym q) true_at refl
-  ];
-  done = o.done;
-  typed = o.typed;
-  put = o.put;
+  tied = o.tied;
+  says = record {
+    logs = λ i e h. elim (message-split (LogEntry k i e) m w.messages h) [
+      | inl q ↦ o.says.logs i e q
+      | inr q ↦ said (LogEntry k i e) q refl
+    ];
+    acks = λ j r h. elim (message-split (Acknowledgement k j r) m w.messages h) [
+      | inl q ↦ o.says.acks j r q
+      | inr q ↦ (let t = said (Acknowledgement k j r) q refl in (t.0, t.1))
+    ];
+    parts = λ i p h. elim (message-split (ImagePart k i p) m w.messages h) [
+      | inl q ↦ o.says.parts i p q
+      | inr q ↦ said (ImagePart k i p) q refl
+    ];
+  };
+  came = o.came;
   owns = o.owns;
   below = o.below;
   reads = record {
     heard = o.reads.heard;
     told = λ j r b h u gb ns. elim (message-split (Acknowledgement k j r) m w.messages h) [
       | inl q ↦ o.reads.told j r b q u gb ns
-      | inr q ↦ (subst (IsTrueAt M C w.nodes o.line k) (sym q) true_at refl).2 b u gb
+      | inr q ↦ (said (Acknowledgement k j r) q refl).2 b u gb
     ];
     waits = λ t s b u gb role v h. elim (message-split (Released (Write v)) m w.messages h) [
       | inl q ↦ o.reads.waits t s b u gb role v q
@@ -101,6 +99,12 @@ line-message {S} M C w top k T m o true_at unused frees = record {
   };
 }
   where
+    said : (z : Message) → z ≡ m → IsTrueAt M C w.nodes o.line k z
+    said z q = subst (IsTrueAt M C w.nodes o.line k) (sym q) true_at
+
+    absent : (z : Message) → Unseen w.nodes w.messages w.winners k → z ≡ m → NotOf k z
+    absent z u q = subst (NotOf k) (sym q) (unused u)
+
     presence : Presence M C w.nodes w.messages w.winners top T k o.line →
         Presence M C w.nodes (w.messages ++ m ∷ []) w.winners top T k o.line
     presence (AtTop g s l b) = AtTop g s l b
@@ -110,15 +114,15 @@ line-message {S} M C w top k T m o true_at unused frees = record {
       nobody = u.nobody;
       no_log = λ i e h. elim (message-split (LogEntry k i e) m w.messages h) [
         | inl q ↦ u.no_log i e q
-        | inr q ↦ subst (NotOf k) (sym q) (unused u) refl
+        | inr q ↦ absent (LogEntry k i e) u q refl
       ];
       no_ack = λ j r h. elim (message-split (Acknowledgement k j r) m w.messages h) [
         | inl q ↦ u.no_ack j r q
-        | inr q ↦ subst (NotOf k) (sym q) (unused u) refl
+        | inr q ↦ absent (Acknowledgement k j r) u q refl
       ];
       no_part = λ i p h. elim (message-split (ImagePart k i p) m w.messages h) [
         | inl q ↦ u.no_part i p q
-        | inr q ↦ subst (NotOf k) (sym q) (unused u) refl
+        | inr q ↦ absent (ImagePart k i p) u q refl
       ];
       no_winner = u.no_winner;
     })
@@ -127,13 +131,12 @@ line-message {S} M C w top k T m o true_at unused frees = record {
 -- generation
 pub keep-message : {S : Type 0} (M : Machine S) (C : Copying S) (w : World S) (i : Inv M C w) (n : ℕ) (x : Node S)
     (m : Message) → slice_get w.nodes n ≡ Some x → (x.role ≡ Spare → ⊥) →
-    ((k : ℕ) → (k ≡ x.generation → ⊥) → NotOf k m) → IsTrueAt M C w.nodes (i.each x.generation).line x.generation m →
+    ((k : ℕ) → (k ≡ x.generation → ⊥) → NotOf k m) → IsTrueAt M C w.nodes (line_at i x) x.generation m →
     ((o : Operation) → m ≡ Released o → Among o (operations i.trace)) → ((n : ℕ) → m ≡ WriteDone n → ⊥) →
     ((q : SectorAddress) (n : ℕ) (bytes : List ℕ) → m ≡ SectorRead q n bytes → ⊥) →
-    ((k : ℕ) → Frees w i.top k (i.each k).line m) →
-    Next M C i.trace (with_message w m)
+    ((k : ℕ) → Frees w i.top k (i.each k).line m) → Next M C i.trace (with_message w m)
 unfolding line-message
-keep-message {S} M C w i n x m h nx others here sends no_written no_sector frees = record {
+keep-message M C w i n x m h nx others here sends no_written no_sector frees = record {
   inv = record {
     top = i.top;
     trace = i.trace;
@@ -150,19 +153,16 @@ keep-message {S} M C w i n x m h nx others here sends no_written no_sector frees
         | inr q ↦ sends o (sym q)
       ];
       arrived = i.global.arrived;
-      done = i.global.done;
-      typed = i.global.typed;
-      told = i.global.told;
-      puts = i.global.puts;
-      put = i.global.put;
-      put_sent = λ v k. among-left (Released (Write v)) w.messages (m ∷ []) (i.global.put_sent v k);
-      owns = i.global.owns;
+      puts_are = λ v k. ((i.global.puts_are v k).0, among-left _ w.messages (m ∷ []) (i.global.puts_are v k).1);
       reads = λ q j bytes k. elim (message-split (SectorRead q j bytes) m w.messages k)
           [ inl e ↦ i.global.reads q j bytes e | inr e ↦ absurd (no_sector q j bytes (sym e)) ];
       written = λ j k. elim (message-split (WriteDone j) m w.messages k) [
         | inl e ↦ i.global.written j e
         | inr e ↦ absurd (no_written j (sym e))
       ];
+      came = i.global.came;
+      owns = i.global.owns;
+      told = i.global.told;
     };
     spares = i.spares;
     earlier = i.earlier;

@@ -1,17 +1,18 @@
 -- A new generation keeps the invariant.
-use Rattle.std.proofs.Common.{[], ◌++◌, ◌+◌, ◌<◌, ◌∙◌, ◌≡◌, ◌≤◌, ◌⊎◌, List, None, Some, ap, append-nil, arith, inl, inr, length, refl, subst, suc, sym, zero, ℕ}
+use Rattle.std.proofs.Common.{[], ◌++◌, ◌+◌, ◌<◌, ◌∙◌, ◌≡◌, ◌⊎◌, List, None, Some, ap, append-nil, arith, inl, inr, length, refl, subst, suc, sym, zero, ℕ}
 use Rattle.std.proofs.lemmas.List.{length-replicate}
 use Rattle.std.specs.Prelude.{replicate, slice_get, slice_set}
 use Rattle.guest_board.specs.Machine.{Machine, Runs}
-use Rattle.plain_single.specs.Reach.{Owns, acceptances, inputs, keys, steps}
+use Rattle.plain_single.specs.Reach.{Owns, inputs, steps}
 use Rattle.pair_protocol.specs.Change.{Acts}
 use Rattle.pair_protocol.specs.Copying.{Copying, IsCopying}
 use Rattle.pair_protocol.specs.Faithful.{IsPrefix}
 use Rattle.pair_protocol.specs.Node.{Alone, Joining, Node, Primary, Spare, begun, joiner}
+use Rattle.pair_protocol.specs.Settled.{is_backup}
 use Rattle.pair_protocol.specs.Traces.{cut}
-use Rattle.pair_protocol.specs.World.{World, accepted, terminal, with_node, with_pair}
-use Rattle.pair_protocol.proofs.Invariant.{ArePut, AsJoining, AtTop, BackupLeft, Gone, Inv, Line, LineOf, Next, Presence, PrimaryLeft, PrimaryWon, Undecided, Unseen, Unused, settled, settled_moves}
-use Rattle.pair_protocol.proofs.Invariant.Acting.{Acting, BackupActs, BackupAtTop, BackupEarlier, BackupPlace, PrimaryActs, PrimaryAtTop, PrimaryEarlier, PrimaryPlace, acting}
+use Rattle.pair_protocol.specs.World.{World, with_node, with_pair}
+use Rattle.pair_protocol.proofs.Invariant.{AsJoining, AtTop, BackupLeft, CameIn, Gone, Inv, Line, LineOf, Next, Presence, PrimaryLeft, PrimaryWon, Undecided, Unseen, Unused, settled, settled_moves}
+use Rattle.pair_protocol.proofs.Invariant.Acting.{Acting, BackupActs, BackupAtTop, BackupEarlier, BackupPlace, PrimaryActs, PrimaryAtTop, PrimaryEarlier, PrimaryPlace, acting, acts-no_spare, line_at}
 use Rattle.pair_protocol.proofs.Invariant.Frames.{backup-no_spare, line-other, line-over, line-retop, primary-no_spare}
 use Rattle.pair_protocol.proofs.Keeps.Backup.{BackupAlone, alone-trace, backup-alone}
 use Rattle.pair_protocol.proofs.Keeps.Primary.{primary-runs}
@@ -27,14 +28,11 @@ pub record AloneAt {S : Type 0} (M : Machine S) (C : Copying S) (w : World S) (i
   pub count : M.count x.machine ≡ steps i.trace
 
 pub alone_at : {S : Type 0} (M : Machine S) (C : Copying S) (w : World S) (i : Inv M C w) (n : ℕ) (x : Node S) →
-    x.role ≡ Alone → Acting M C w i.top i.trace n x (i.each x.generation) → AloneAt M C w i x
-alone_at {S} M C w i n x role (PrimaryActs e is_primary place) = go is_primary.role place
+    x.role ≡ Alone → Acting M C w i n x → AloneAt M C w i x
+alone_at {S} M C w i n x role (PrimaryActs q place) = go q.is_primary.role place
   where
-    o : LineOf M C w i.top i.trace x.generation
-    o = i.each x.generation
-
     l : Line S
-    l = o.line
+    l = line_at i x
 
     go : (x.role ≡ Primary) ⊎ ((x.role ≡ Alone) × (l.stage ≡ PrimaryWon)) →
         PrimaryPlace M C w.nodes i.top i.trace x.generation l → AloneAt M C w i x
@@ -45,33 +43,36 @@ alone_at {S} M C w i n x role (PrimaryActs e is_primary place) = go is_primary.r
         ∙ s in
         record {
           at_top = g;
-          runs = subst (λ zs. Runs M M.boot zs x.machine) t (primary-runs M C w i x is_primary);
-          list = is_primary.list ∙ ap (inputs 0) t;
-          count = is_primary.count ∙ sym (steps-append l.base l.own) ∙ ap steps t;
+          runs = subst (λ zs. Runs M M.boot zs x.machine) t (primary-runs M C w i x q.is_primary);
+          list = q.is_primary.list ∙ ap (inputs 0) t;
+          count = q.is_primary.count ∙ sym (steps-append l.base l.own) ∙ ap steps t;
         }
-alone_at {S} M C w i n x role (BackupActs e held b place) = go place
+alone_at {S} M C w i n x role (BackupActs q place) = go place
   where
-    o : LineOf M C w i.top i.trace x.generation
-    o = i.each x.generation
-
     l : Line S
-    l = o.line
+    l = line_at i x
 
     k : BackupAlone M l x
-    k = backup-alone M C l x b role
+    k = backup-alone M C l x q.is_backup.state role
 
     t : i.trace ≡ l.base ++ (cut (length x.held) l.own ++ l.more)
-    t = alone-trace M C w i x place held k
+    t = alone-trace M C w i n x q k
 
     go : BackupPlace M w.nodes i.top i.trace x.generation l → AloneAt M C w i x
-    go (BackupEarlier g q a) = (let won = k.won in (cc))
-    go (BackupAtTop g q a) = record {
+    go (BackupEarlier g s a) = (let won = k.won in (cc))
+    go (BackupAtTop g s a) = record {
       at_top = g;
       runs = subst (λ zs. Runs M M.boot zs x.machine) (sym t)
-          (runs-append M M.boot l.mid x.machine l.base (cut (length x.held) l.own ++ l.more) o.based k.runs);
+          (runs-append M M.boot l.mid x.machine l.base (cut (length x.held) l.own ++ l.more)
+          (i.each x.generation).sound.based k.runs);
       list = k.list ∙ ap (inputs 0) (sym t);
       count = k.count ∙ sym (steps-append l.base (cut (length x.held) l.own ++ l.more)) ∙ ap steps (sym t);
     }
+
+pub alone : {S : Type 0} (M : Machine S) (C : Copying S) (w : World S) (i : Inv M C w) (n : ℕ) (x : Node S) →
+    Acts w n x Alone → AloneAt M C w i x
+alone M C w i n x acts = alone_at M C w i n x acts.role_is
+    (acting M C w i n x acts.there (acts-no_spare w n x Alone acts (λ k. (cc))))
 
 no_slot : (n i : ℕ) (p : List ℕ) → slice_get (replicate n None) i ≡ Some (Some p) → ⊥
 no_slot zero i p h = (cc)
@@ -104,8 +105,8 @@ keep-begins {S} M C copies w i n h x y acts there spare_is = record {
     nx : x.role ≡ Spare → ⊥
     nx k = let r = acts.role_is in (cc)
 
-    act : Acting M C w i.top i.trace n x (i.each x.generation)
-    act = acting M C w i.top i.trace n x (i.each x.generation) acts.there nx
+    act : Acting M C w i n x
+    act = acting M C w i n x acts.there nx
 
     a : AloneAt M C w i x
     a = alone_at M C w i n x acts.role_is act
@@ -175,19 +176,12 @@ keep-begins {S} M C copies w i n h x y acts there spare_is = record {
     old_line : LineOf M C new (suc x.generation) i.trace x.generation
     old_line = record {
       line = o.line;
+      sound = o.sound;
       presence = presence act;
-      based = o.based;
-      recorded = o.recorded;
-      tied = o.tied;
-      apart = o.apart;
-      held = o.held;
       members = λ m z t s e. o.members m z (old_members m z t e) s e;
-      logs = o.logs;
-      acks = o.acks;
-      parts = o.parts;
-      done = o.done;
-      typed = o.typed;
-      put = o.put;
+      tied = o.tied;
+      says = o.says;
+      came = o.came;
       owns = o.owns;
       below = o.below;
       reads = record {
@@ -201,31 +195,29 @@ keep-begins {S} M C copies w i n h x y acts there spare_is = record {
         o : LineOf M C w i.top i.trace x.generation
         o = i.each x.generation
 
-        presence : Acting M C w i.top i.trace n x (i.each x.generation) →
+        presence : Acting M C w i n x →
             Presence M C nodes w.messages w.winners (suc x.generation) i.trace x.generation o.line
-        presence (PrimaryActs e is_primary (PrimaryEarlier g s b)) =
-            absurd (elim is_primary.role [ inl r ↦ (let k = acts.role_is in (cc)) | inr r ↦ (let k = r.1 in (cc)) ])
-        presence (PrimaryActs e is_primary (PrimaryAtTop g s b)) =
-            PrimaryLeft below (elim is_primary.role [ inl r ↦ (let k = acts.role_is in absurd (cc)) | inr r ↦ r.1 ])
-            (gone o.line.primary e)
+        presence (PrimaryActs q (PrimaryEarlier g s b)) =
+            absurd (elim q.is_primary.role [ inl r ↦ (let k = acts.role_is in (cc)) | inr r ↦ (let k = r.1 in (cc)) ])
+        presence (PrimaryActs q (PrimaryAtTop g s b)) =
+            PrimaryLeft below (elim q.is_primary.role [ inl r ↦ (let k = acts.role_is in absurd (cc)) | inr r ↦ r.1 ])
+            (gone o.line.primary q.spot)
             (record {
               b = b.b;
-              there = stays o.line.backup b.b b.there
-                  (backup-no_spare M C o.line.stage o.line.base o.line.own o.line.more o.line.mid b.b b.is_backup.state)
-                  (λ k. o.apart (sym e ∙ sym k));
+              there = stays o.line.backup b.b b.there (backup-no_spare M C o.line b.b b.is_backup.state)
+                  (λ k. o.sound.apart (sym q.spot ∙ sym k));
               generation = b.generation;
               held = b.held;
               is_backup = b.is_backup;
             })
-        presence (BackupActs e held b (BackupEarlier g q l)) =
-            (let k = backup-alone M C o.line x b acts.role_is in let won = k.won in absurd (cc))
-        presence (BackupActs e held b (BackupAtTop g q l)) =
-            BackupLeft below (backup-alone M C o.line x b acts.role_is).won (gone o.line.backup e)
+        presence (BackupActs q (BackupEarlier g s l)) =
+            (let won = (backup-alone M C o.line x q.is_backup.state acts.role_is).won in absurd (cc))
+        presence (BackupActs q (BackupAtTop g s l)) =
+            BackupLeft below (backup-alone M C o.line x q.is_backup.state acts.role_is).won (gone o.line.backup q.spot)
             (record {
               a = l.a;
-              there = stays o.line.primary l.a l.there
-                  (primary-no_spare M o.line.stage o.line.base o.line.own o.line.mid (length o.line.held) l.a l.is_primary)
-                  (λ k. o.apart (k ∙ e));
+              there = stays o.line.primary l.a l.there (primary-no_spare M o.line l.a l.is_primary)
+                  (λ k. o.sound.apart (k ∙ q.spot));
               generation = l.generation;
               is_primary = l.is_primary;
             })
@@ -293,23 +285,19 @@ keep-begins {S} M C copies w i n h x y acts there spare_is = record {
               held = ([], refl);
             };
           });
-      based = a.runs;
-      recorded = (x.machine, refl);
+      sound = record { based = a.runs; recorded = (x.machine, refl); apart = λ e. apart (sym e); held = ([], refl) };
       tied = unknown.no_winner;
-      apart = λ e. apart (sym e);
-      held = ([], refl);
       members = λ m z t s e. elim (cases m z t) [
         | inl q ↦ inr q.0
         | inr (inl q) ↦ inl q.0
         | inr (inr q) ↦ absurd (unknown.nobody m z q s e)
       ];
-      logs = λ j e k. absurd (unknown.no_log j e k);
-      acks = λ j r k. absurd (unknown.no_ack j r k);
-      parts = λ j p k. absurd (unknown.no_part j p k);
-      done = λ p. subst (λ zs. acceptances p (inputs 0 zs) ≤ length (accepted w p)) (sym same_trace) (i.global.done p);
-      typed = λ p. subst (λ zs. IsPrefix (keys p (inputs 0 zs)) (terminal w p).typed) (sym same_trace)
-          (i.global.typed p);
-      put = subst (λ zs. ArePut w.puts (inputs 0 zs)) (sym same_trace) i.global.put;
+      says = record {
+        logs = λ j e k. absurd (unknown.no_log j e k);
+        acks = λ j r k. absurd (unknown.no_ack j r k);
+        parts = λ j p k. absurd (unknown.no_part j p k);
+      };
+      came = subst (λ zs. CameIn w.terminals w.puts (inputs 0 zs)) (sym same_trace) i.global.came;
       owns = λ h. subst (λ zs. Owns M [] M.boot zs) (sym same_trace) i.global.owns;
       below = prefix-same (i.trace ++ []) i.trace same_trace;
       reads = record {

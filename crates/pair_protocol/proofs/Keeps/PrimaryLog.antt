@@ -18,7 +18,7 @@ use Rattle.pair_protocol.specs.Lawful.{Among}
 use Rattle.pair_protocol.specs.Node.{Note, note_of, notes_after, same_name}
 use Rattle.pair_protocol.specs.Traces.{cut}
 use Rattle.pair_protocol.specs.Waiting.{is_read, reads_in, up_to_read, waits_for}
-use Rattle.pair_protocol.proofs.Invariant.{IsNoted}
+use Rattle.pair_protocol.proofs.Invariant.{AreNoted, IsNoted}
 use Rattle.pair_protocol.proofs.Traces.Cuts.{among-cut, cut-both}
 use Rattle.pair_protocol.proofs.Traces.Lists.{among-prefix, among-split, bool_cases, get-after, get-front, le-cases}
 use Rattle.pair_protocol.proofs.Traces.Moves.{entries-append, inputs-append, operations-append, operations-prefix, steps-append}
@@ -66,9 +66,6 @@ log-do c k own log None h e = append-nil log ∙ h
     ∙ sym (entries-append c own (Do None ∷ []) ∙ append-nil (entries c own))
 log-do c k own log (Some o) h e = ap (λ j. log ++ Mark j ∷ []) e ∙ ap (λ es. es ++ Mark (suc (c + steps own)) ∷ []) h
     ∙ sym (entries-append c own (Do (Some o) ∷ []))
-
-abbrev pub AreNoted : ℕ → List Note → List Move → Type 0
-AreNoted c notes own = (o : Operation) → Among o (operations own) → IsNoted c own notes o
 
 up_to-more : (b : Bool) (n k : ℕ) → k < n → suc k < up_to_read b n
 up_to-more b zero k h = absurd (omega (arith, h))

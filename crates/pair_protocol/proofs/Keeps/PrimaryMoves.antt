@@ -18,14 +18,15 @@ use Rattle.pair_protocol.specs.Faithful.{IsPrefix}
 use Rattle.pair_protocol.specs.Lawful.{Among, IsUnwritten, IsWritten, Lawful}
 use Rattle.pair_protocol.specs.Node.{Alone, Node, Primary, alone_takes, plainly_steps, primary_steps, primary_takes}
 use Rattle.pair_protocol.specs.World.{SectorRead, World, WriteDone, accepted, terminal}
-use Rattle.pair_protocol.proofs.Invariant.{ArePut, AtStart, HasPut, IsPrimary, IsRecord, OfWrite, Stage}
+use Rattle.pair_protocol.proofs.Invariant.{ArePut, AtStart, CameIn, HasPut, IsPrimary, IsRecord, Line, OfWrite}
+use Rattle.pair_protocol.proofs.Invariant.Frames.{with_own}
 use Rattle.pair_protocol.proofs.Keeps.PrimaryLog.{log-do, notes-do, notes-more, steps-do, steps-take, whole-do, whole-take}
 use Rattle.pair_protocol.proofs.Traces.Lists.{among-prefix, among-split, bool_cases, map-append, prefix-next}
 use Rattle.pair_protocol.proofs.Traces.Moves.{acceptances-append, entries-append, keys-append, operations-append, operations-prefix, runs-append}
 
 -- What may be taken.
 
-pub done-take : {S : Type 0} (M : Machine S) (w : World S) (x : Node S) (i : Input) (c : ℕ) → MayTake M w x i →
+done-take : {S : Type 0} (M : Machine S) (w : World S) (x : Node S) (i : Input) (c : ℕ) → MayTake M w x i →
     ((p k : ℕ) → M.due_byte x.machine p ≡ Some k → k ≡ acceptances p x.list + 1) →
     ((p : ℕ) → acceptances p x.list ≤ length (accepted w p)) →
     (p : ℕ) → acceptances p (x.list ++ timed c i ∷ []) ≤ length (accepted w p)
@@ -55,7 +56,7 @@ done-take M w x (input.Sector d k n bytes) c h due done p = let e =
 done-take M w x (input.Written n) c h due done p = let e =
     acceptances-append p x.list (record { count = c; input = Written n } ∷ []) in let v = done p in omega arith
 
-pub typed-take : {S : Type 0} (M : Machine S) (w : World S) (x : Node S) (i : Input) (c : ℕ) → MayTake M w x i →
+typed-take : {S : Type 0} (M : Machine S) (w : World S) (x : Node S) (i : Input) (c : ℕ) → MayTake M w x i →
     ((p : ℕ) → M.keys x.machine p ≡ length (keys p x.list)) →
     ((p : ℕ) → IsPrefix (keys p x.list) (terminal w p).typed) →
     (p : ℕ) → IsPrefix (keys p (x.list ++ timed c i ∷ [])) (terminal w p).typed
@@ -87,77 +88,8 @@ typed-take M w x (input.Written n) c h taken typed p =
     subst (λ zs. IsPrefix zs (terminal w p).typed)
     (sym (keys-append p x.list (record { count = c; input = Written n } ∷ []) ∙ append-nil (keys p x.list))) (typed p)
 
--- What the primary is after each move.
-
-pub primary-after_step : {S : Type 0} (M : Machine S) (stage : Stage) (base own : List Move) (mid : S) (n : ℕ) (a : Node S)
-    (s : S) (o : Option Operation) → a.role ≡ Primary → M.step a.machine ≡ Some (s, o) →
-    M.count s ≡ suc (M.count a.machine) →
-    IsPrimary M stage base own mid n a → IsPrimary M stage base (own ++ Do o ∷ []) mid n (primary_steps M a s o)
-primary-after_step M stage base own mid n a s o r h e l = record {
-  role = inl r;
-  runs = runs-append M mid a.machine s own (Do o ∷ []) l.runs (s, h, refl);
-  count = e ∙ steps-do base own o (M.count a.machine) l.count;
-  list = l.list ∙ sym (whole-do base own o);
-  copy = l.copy;
-  log = λ k. log-do (steps base) (M.count s) own a.log o (l.log r) (e ∙ ap suc l.count);
-  covered = l.covered;
-  image = l.image;
-  notes = λ k. notes-do (steps base) own a.log a.notes o (l.log r) (l.notes r);
-}
-
-pub alone-after_step : {S : Type 0} (M : Machine S) (stage : Stage) (base own : List Move) (mid : S) (n : ℕ)
-    (a : Node S) (s : S) (o : Option Operation) → a.role ≡ Alone → M.step a.machine ≡ Some (s, o) →
-    M.count s ≡ suc (M.count a.machine) →
-    IsPrimary M stage base own mid n a → IsPrimary M stage base (own ++ Do o ∷ []) mid n (plainly_steps a s)
-alone-after_step M stage base own mid n a s o r h e l = record {
-  role = l.role;
-  runs = runs-append M mid a.machine s own (Do o ∷ []) l.runs (s, h, refl);
-  count = e ∙ steps-do base own o (M.count a.machine) l.count;
-  list = l.list ∙ sym (whole-do base own o);
-  copy = l.copy;
-  log = λ k. (cc);
-  covered = l.covered;
-  image = l.image;
-  notes = λ k. (cc);
-}
-
-pub primary-after_input : {S : Type 0} (M : Machine S) (stage : Stage) (base own : List Move) (mid : S) (n : ℕ) (a : Node S)
-    (s : S) (i : Input) → a.role ≡ Primary → M.take a.machine i ≡ Some s → M.count s ≡ M.count a.machine →
-    IsPrimary M stage base own mid n a → IsPrimary M stage base (own ++ Take i ∷ []) mid n (primary_takes M a s i)
-primary-after_input M stage base own mid n a s i r h e l = record {
-  role = inl r;
-  runs = runs-append M mid a.machine s own (Take i ∷ []) l.runs (s, h, refl);
-  count = e ∙ steps-take base own i (M.count a.machine) l.count;
-  list = ap (λ ts. ts ++ timed ((M.count a.machine)) i ∷ []) l.list
-      ∙ sym (whole-take base own i (M.count a.machine) l.count);
-  copy = l.copy;
-  log = λ k. ap (λ es. es ++ entry_of ((M.count a.machine)) i ∷ []) (l.log r)
-      ∙ ap (λ c. entries (steps base) own ++ entry_of c i ∷ []) l.count
-      ∙ sym (entries-append (steps base) own (Take i ∷ []));
-  covered = l.covered;
-  image = l.image;
-  notes = λ k o m. notes-more (steps base) a.notes own (Take i ∷ []) o
-      (l.notes r o (subst (λ zs. Among o zs) (operations-append own (Take i ∷ []) ∙ append-nil (operations own)) m));
-}
-
-pub alone-after_input : {S : Type 0} (M : Machine S) (stage : Stage) (base own : List Move) (mid : S) (n : ℕ)
-    (a : Node S) (s : S) (i : Input) → a.role ≡ Alone → M.take a.machine i ≡ Some s → M.count s ≡ M.count a.machine →
-    IsPrimary M stage base own mid n a → IsPrimary M stage base (own ++ Take i ∷ []) mid n (alone_takes M a s i)
-alone-after_input M stage base own mid n a s i r h e l = record {
-  role = l.role;
-  runs = runs-append M mid a.machine s own (Take i ∷ []) l.runs (s, h, refl);
-  count = e ∙ steps-take base own i (M.count a.machine) l.count;
-  list = ap (λ ts. ts ++ timed ((M.count a.machine)) i ∷ []) l.list
-      ∙ sym (whole-take base own i (M.count a.machine) l.count);
-  copy = l.copy;
-  log = λ k. (cc);
-  covered = l.covered;
-  image = l.image;
-  notes = λ k. (cc);
-}
-
 -- completed writes have arrived
-pub put-take : {S : Type 0} (M : Machine S) (w : World S) (x : Node S) (i : Input) (c : ℕ) → MayTake M w x i →
+put-take : {S : Type 0} (M : Machine S) (w : World S) (x : Node S) (i : Input) (c : ℕ) → MayTake M w x i →
     ((n : ℕ) → Among (WriteDone n) w.messages → HasPut w.puts n) → ArePut w.puts x.list →
     ArePut w.puts (x.list ++ timed c i ∷ [])
 put-take {S} M w x i c may told h n k =
@@ -178,6 +110,85 @@ put-take {S} M w x i c may told h n k =
     go (input.Written j) m (inr e) = absurd e
 
 -- What is read from the shared disk is what the machine's own disk has.
+
+pub came-take : {S : Type 0} (M : Machine S) (w : World S) (x : Node S) (i : Input) (c : ℕ) → MayTake M w x i →
+    ((p k : ℕ) → M.due_byte x.machine p ≡ Some k → k ≡ acceptances p x.list + 1) →
+    ((p : ℕ) → M.keys x.machine p ≡ length (keys p x.list)) →
+    ((n : ℕ) → Among (WriteDone n) w.messages → HasPut w.puts n) →
+    CameIn w.terminals w.puts x.list → CameIn w.terminals w.puts (x.list ++ timed c i ∷ [])
+came-take M w x i c may due taken written h = record {
+  done = done-take M w x i c may due h.done;
+  typed = typed-take M w x i c may taken h.typed;
+  put = put-take M w x i c may written h.put;
+}
+
+-- What the primary is after each move.
+
+module _ {S : Type 0} (M : Machine S) (l : Line S) (a : Node S) (s : S) where
+  pub primary-after_step : (o : Option Operation) → a.role ≡ Primary → M.step a.machine ≡ Some (s, o) →
+      M.count s ≡ suc (M.count a.machine) → IsPrimary M l a →
+      IsPrimary M (with_own l (l.own ++ Do o ∷ []) l.stage) (primary_steps M a s o)
+  primary-after_step o r h e p = record {
+    role = inl r;
+    runs = runs-append M l.mid a.machine s l.own (Do o ∷ []) p.runs (s, h, refl);
+    count = e ∙ steps-do l.base l.own o (M.count a.machine) p.count;
+    list = p.list ∙ sym (whole-do l.base l.own o);
+    copy = p.copy;
+    log = λ k. log-do (steps l.base) (M.count s) l.own a.log o (p.log r) (e ∙ ap suc p.count);
+    covered = p.covered;
+    image = p.image;
+    notes = λ k. notes-do (steps l.base) l.own a.log a.notes o (p.log r) (p.notes r);
+  }
+
+  pub alone-after_step : (o : Option Operation) → a.role ≡ Alone → M.step a.machine ≡ Some (s, o) →
+      M.count s ≡ suc (M.count a.machine) → IsPrimary M l a →
+      IsPrimary M (with_own l (l.own ++ Do o ∷ []) l.stage) (plainly_steps a s)
+  alone-after_step o r h e p = record {
+    role = p.role;
+    runs = runs-append M l.mid a.machine s l.own (Do o ∷ []) p.runs (s, h, refl);
+    count = e ∙ steps-do l.base l.own o (M.count a.machine) p.count;
+    list = p.list ∙ sym (whole-do l.base l.own o);
+    copy = p.copy;
+    log = λ k. (cc);
+    covered = p.covered;
+    image = p.image;
+    notes = λ k. (cc);
+  }
+
+  pub primary-after_input : (i : Input) → a.role ≡ Primary → M.take a.machine i ≡ Some s →
+      M.count s ≡ M.count a.machine → IsPrimary M l a →
+      IsPrimary M (with_own l (l.own ++ Take i ∷ []) l.stage) (primary_takes M a s i)
+  primary-after_input i r h e p = record {
+    role = inl r;
+    runs = runs-append M l.mid a.machine s l.own (Take i ∷ []) p.runs (s, h, refl);
+    count = e ∙ steps-take l.base l.own i (M.count a.machine) p.count;
+    list = ap (λ ts. ts ++ timed (M.count a.machine) i ∷ []) p.list
+        ∙ sym (whole-take l.base l.own i (M.count a.machine) p.count);
+    copy = p.copy;
+    log = λ k. ap (λ es. es ++ entry_of (M.count a.machine) i ∷ []) (p.log r)
+        ∙ ap (λ c. entries (steps l.base) l.own ++ entry_of c i ∷ []) p.count
+        ∙ sym (entries-append (steps l.base) l.own (Take i ∷ []));
+    covered = p.covered;
+    image = p.image;
+    notes = λ k o m. notes-more (steps l.base) a.notes l.own (Take i ∷ []) o (p.notes r o
+        (subst (λ zs. Among o zs) (operations-append l.own (Take i ∷ []) ∙ append-nil (operations l.own)) m));
+  }
+
+  pub alone-after_input : (i : Input) → a.role ≡ Alone → M.take a.machine i ≡ Some s →
+      M.count s ≡ M.count a.machine → IsPrimary M l a →
+      IsPrimary M (with_own l (l.own ++ Take i ∷ []) l.stage) (alone_takes M a s i)
+  alone-after_input i r h e p = record {
+    role = p.role;
+    runs = runs-append M l.mid a.machine s l.own (Take i ∷ []) p.runs (s, h, refl);
+    count = e ∙ steps-take l.base l.own i (M.count a.machine) p.count;
+    list = ap (λ ts. ts ++ timed (M.count a.machine) i ∷ []) p.list
+        ∙ sym (whole-take l.base l.own i (M.count a.machine) p.count);
+    copy = p.copy;
+    log = λ k. (cc);
+    covered = p.covered;
+    image = p.image;
+    notes = λ k. (cc);
+  }
 
 -- a sector that is not refused has the number of the machine's own last completed write there
 pub sector-done : {S : Type 0} (M : Machine S) (s : S) (address : SectorAddress) (number : ℕ) →

@@ -11,17 +11,17 @@ use Rattle.event_callbacks.specs.declared.operations.Operation.TheVariants.{Writ
 use Rattle.guest_board.specs.Machine.{Machine, Runs}
 use Rattle.log_entry.specs.Entries.{entries, inputs_of}
 use Rattle.plain_single.specs.Reach.{inputs, keys, operations, steps}
-use Rattle.pair_protocol.specs.Change.{Acts, Replaying}
+use Rattle.pair_protocol.specs.Change.{Acts, Replaying, Serving}
 use Rattle.pair_protocol.specs.Copying.{Copying}
 use Rattle.pair_protocol.specs.Faithful.{IsPrefix}
 use Rattle.pair_protocol.specs.Lawful.{Among, Lawful}
-use Rattle.pair_protocol.specs.Node.{Alone, Node, Primary, Role, Spare, covers, keys_covered, note_of}
+use Rattle.pair_protocol.specs.Node.{Alone, Node, Primary, Role, covers, keys_covered, note_of}
 use Rattle.pair_protocol.specs.Traces.{cut}
 use Rattle.pair_protocol.specs.World.{World}
-use Rattle.pair_protocol.proofs.Invariant.{BackupHere, Inv, Line, PrimaryWon, WaitsAt, settled}
-use Rattle.pair_protocol.proofs.Invariant.Acting.{Acting, ActingPrimary, BackupActs, PrimaryActs, PrimaryAtTop, PrimaryEarlier, PrimaryPlace, acting, acting_primary, acts-no_spare}
+use Rattle.pair_protocol.proofs.Invariant.{BackupHere, Inv, IsPrimary, Line, PrimaryWon, WaitsAt, settled}
+use Rattle.pair_protocol.proofs.Invariant.Acting.{Acting, ActingPrimary, BackupActs, PrimaryActs, PrimaryAtTop, PrimaryEarlier, PrimaryPlace, acting, acting_primary, acts-no_spare, line_at}
 use Rattle.pair_protocol.proofs.Invariant.Settled.{covers-below}
-use Rattle.pair_protocol.proofs.Keeps.NewGeneration.{AloneAt, alone_at}
+use Rattle.pair_protocol.proofs.Keeps.NewGeneration.{alone}
 use Rattle.pair_protocol.proofs.Keeps.Primary.{primary-runs}
 use Rattle.pair_protocol.proofs.Traces.Cuts.{cut-more, entries-cut}
 use Rattle.pair_protocol.proofs.Traces.Lists.{among-left, among-prefix, among-right, among-split, get-prefix, le-not, le-true, prefix-length, prefix-trans, same_some}
@@ -37,53 +37,23 @@ and-first : (a b : Bool) → (a && b) ≡ true → a ≡ true
 and-first true b h = refl
 and-first false b h = (cc)
 
-pub released : {S : Type 0} (M : Machine S) (C : Copying S) (laws : Lawful M) (w : World S) (i : Inv M C w) (n : ℕ)
-    (x : Node S) (name : OpId) (o : Operation) → Acts w n x Primary → M.find x.machine name ≡ Some o →
-    covers x.covered x.reported (note_of x.notes name) ≡ true → Among o (operations i.trace)
-released {S} M C laws w i n x name o acts pending cover =
-    go (among-split o (operations l.base) (operations l.own)
-    (subst (λ zs. Among o zs) (operations-append l.base l.own)
-    (laws.given (l.base ++ l.own) x.machine name o (primary-runs M C w i x q.is_primary) pending)))
-  where
-    l : Line S
-    l = (i.each x.generation).line
-
-    q : ActingPrimary M C w i n x
-    q = acting_primary M C w i n x acts
-
-    go : Among o (operations l.base) ⊎ Among o (operations l.own) → Among o (operations i.trace)
-    go (inl h) = among-prefix o (operations l.base) (operations i.trace)
-        (operations-prefix l.base i.trace
-        (subst (λ zs. IsPrefix zs i.trace) (append-nil l.base) (covered M C w i x.generation 0 (omega arith)))) h
-    go (inr h) =
-        let r = q.is_primary.notes acts.role_is o h in
-        let e : id_of o ≡ name = laws.named (l.base ++ l.own) x.machine name o (primary-runs M C w i x q.is_primary) pending in
-        let c : r.note.index < x.covered = ltb-true r.note.index x.covered
-        (and-first (nat_lt r.note.index x.covered) (nat_le r.note.after x.reported)
-        (subst (λ z. covers x.covered x.reported z ≡ true) r.found
-        (subst (λ z. covers x.covered x.reported (note_of x.notes z) ≡ true) (sym e) cover))) in
-        let d = q.is_primary.covered in
-        let k : suc r.note.index ≤ length l.held = omega arith in
-        among-prefix o (operations (l.base ++ cut (suc r.note.index) l.own)) (operations i.trace)
-        (operations-prefix (l.base ++ cut (suc r.note.index) l.own) i.trace
-        (covered M C w i x.generation (suc r.note.index) k))
-        (subst (λ zs. Among o zs) (sym (operations-append l.base (cut (suc r.note.index) l.own)))
-        (among-right o (operations l.base) (operations (cut (suc r.note.index) l.own)) r.given))
-
--- released in its own generation
+-- what a primary releases is settled in its own generation
 pub released_here : {S : Type 0} (M : Machine S) (C : Copying S) (laws : Lawful M) (w : World S) (i : Inv M C w) (n : ℕ)
     (x : Node S) (name : OpId) (o : Operation) → Acts w n x Primary → M.find x.machine name ≡ Some o →
-    covers x.covered x.reported (note_of x.notes name) ≡ true → Among o (operations (settled (i.each x.generation).line))
+    covers x.covered x.reported (note_of x.notes name) ≡ true → Among o (operations (settled (line_at i x)))
 released_here {S} M C laws w i n x name o acts pending cover =
     go (among-split o (operations l.base) (operations l.own)
     (subst (λ zs. Among o zs) (operations-append l.base l.own)
-    (laws.given (l.base ++ l.own) x.machine name o (primary-runs M C w i x q.is_primary) pending)))
+    (laws.given (l.base ++ l.own) x.machine name o runs pending)))
   where
     l : Line S
-    l = (i.each x.generation).line
+    l = line_at i x
 
-    q : ActingPrimary M C w i n x
-    q = acting_primary M C w i n x acts
+    p : IsPrimary M l x
+    p = (acting_primary M C w i n x acts).is_primary
+
+    runs : Runs M M.boot (l.base ++ l.own) x.machine
+    runs = primary-runs M C w i x p
 
     go : Among o (operations l.base) ⊎ Among o (operations l.own) → Among o (operations (settled l))
     go (inl h) = among-prefix o (operations l.base) (operations (settled l))
@@ -91,13 +61,13 @@ released_here {S} M C laws w i n x name o acts pending cover =
         (subst (λ zs. IsPrefix zs (settled l)) (append-nil l.base)
         (covers-below l.stage l.base l.own l.more 0 (length l.held) (omega arith)))) h
     go (inr h) =
-        let r = q.is_primary.notes acts.role_is o h in
-        let e : id_of o ≡ name = laws.named (l.base ++ l.own) x.machine name o (primary-runs M C w i x q.is_primary) pending in
+        let r = p.notes acts.role_is o h in
+        let e : id_of o ≡ name = laws.named (l.base ++ l.own) x.machine name o runs pending in
         let c : r.note.index < x.covered = ltb-true r.note.index x.covered
         (and-first (nat_lt r.note.index x.covered) (nat_le r.note.after x.reported)
         (subst (λ z. covers x.covered x.reported z ≡ true) r.found
         (subst (λ z. covers x.covered x.reported (note_of x.notes z) ≡ true) (sym e) cover))) in
-        let d = q.is_primary.covered in
+        let d = p.covered in
         let k : suc r.note.index ≤ length l.held = omega arith in
         among-prefix o (operations (l.base ++ cut (suc r.note.index) l.own)) (operations (settled l))
         (operations-prefix (l.base ++ cut (suc r.note.index) l.own) (settled l)
@@ -105,20 +75,24 @@ released_here {S} M C laws w i n x name o acts pending cover =
         (subst (λ zs. Among o zs) (sym (operations-append l.base (cut (suc r.note.index) l.own)))
         (among-right o (operations l.base) (operations (cut (suc r.note.index) l.own)) r.given))
 
-pub alone : {S : Type 0} (M : Machine S) (C : Copying S) (w : World S) (i : Inv M C w) (n : ℕ) (x : Node S) →
-    Acts w n x Alone → AloneAt M C w i x
-alone M C w i n x acts = alone_at M C w i n x acts.role_is
-    (acting M C w i.top i.trace n x (i.each x.generation) acts.there (acts-no_spare w n x Alone acts (λ k. (cc))))
+-- and so in the trace
+pub released : {S : Type 0} (M : Machine S) (C : Copying S) (laws : Lawful M) (w : World S) (i : Inv M C w) (n : ℕ)
+    (x : Node S) (name : OpId) (o : Operation) → Acts w n x Primary → M.find x.machine name ≡ Some o →
+    covers x.covered x.reported (note_of x.notes name) ≡ true → Among o (operations i.trace)
+released M C laws w i n x name o acts pending cover =
+    among-prefix o (operations (settled (line_at i x))) (operations i.trace)
+    (operations-prefix (settled (line_at i x)) i.trace (i.each x.generation).below)
+    (released_here M C laws w i n x name o acts pending cover)
 
 pub told_any : {S : Type 0} (M : Machine S) (C : Copying S) (laws : Lawful M) (w : World S) (i : Inv M C w) (n : ℕ)
-    (x : Node S) (p : ℕ) (r : Role) → Acts w n x r → (r ≡ Primary) ⊎ (r ≡ Alone) →
+    (x : Node S) (p : ℕ) (r : Role) → Acts w n x r → Serving r →
     keys_covered M x p x.role ≤ length (keys p (inputs 0 i.trace))
 told_any {S} M C laws w i n x p r acts which = go which
   where
     l : Line S
     l = (i.each x.generation).line
 
-    go : (r ≡ Primary) ⊎ (r ≡ Alone) → keys_covered M x p x.role ≤ length (keys p (inputs 0 i.trace))
+    go : Serving r → keys_covered M x p x.role ≤ length (keys p (inputs 0 i.trace))
     go (inl v) =
         let a = subst (λ z. Acts w n x z) v acts in
         let q = acting_primary M C w i n x a in
@@ -221,21 +195,18 @@ pub alone_frees : {S : Type 0} (M : Machine S) (C : Copying S) (w : World S) (i 
     Acts w n x Alone → x.generation ≡ i.top → (k : ℕ) → k ≡ i.top → ((i.each k).line.stage ≡ PrimaryWon → ⊥) →
     (b : Node S) → slice_get w.nodes (i.each k).line.backup ≡ Some b → b.generation ≡ k → Replaying b.role → ⊥
 alone_frees {S} M C w i n x acts at_top k t s b u gb role =
-    go (acting M C w i.top i.trace n x (i.each x.generation) acts.there ns)
+    go (acting M C w i n x acts.there (acts-no_spare w n x Alone acts (λ k. (cc))))
   where
-    ns : x.role ≡ Spare → ⊥
-    ns = acts-no_spare w n x Alone acts (λ k. (cc))
-
     here : slice_get w.nodes (i.each x.generation).line.backup ≡ Some b
     here = subst (λ m. slice_get w.nodes (i.each m).line.backup ≡ Some b) (t ∙ sym at_top) u
 
-    go : Acting M C w i.top i.trace n x (i.each x.generation) → ⊥
-    go (PrimaryActs e is_primary p) = elim is_primary.role [
+    go : Acting M C w i n x → ⊥
+    go (PrimaryActs q p) = elim q.is_primary.role [
       | inl r ↦ (let z = acts.role_is in (cc))
       | inr r ↦ s (subst (λ m. (i.each m).line.stage ≡ PrimaryWon) (at_top ∙ sym t) r.1)
     ]
-    go (BackupActs e held c p) =
-        let same : x ≡ b = same_some x b (slice_get w.nodes (i.each x.generation).line.backup)
-        (subst (λ j. slice_get w.nodes j ≡ Some x) e acts.there) here in
+    go (BackupActs q p) =
+        let same : x ≡ b = same_some x b (slice_get w.nodes (line_at i x).backup)
+        (subst (λ j. slice_get w.nodes j ≡ Some x) q.spot acts.there) here in
         let z : b.role ≡ Alone = ap (λ (y : Node S). y.role) (sym same) ∙ acts.role_is in
         elim role [ inl r ↦ (cc) | inr r ↦ (cc) ]

@@ -15,7 +15,8 @@ use Rattle.plain_single.specs.declared.timed.Timed.{Timed}
 use Rattle.pair_protocol.specs.Faithful.{IsPrefix}
 use Rattle.pair_protocol.specs.Node.{Node, holds, passes_input, passes_mark, plainly_steps}
 use Rattle.pair_protocol.specs.Traces.{cut}
-use Rattle.pair_protocol.proofs.Invariant.{AtPlace, HasReplayed}
+use Rattle.pair_protocol.proofs.Invariant.{AtPlace, HasReplayed, Line}
+use Rattle.pair_protocol.proofs.Invariant.Frames.{with_backup}
 use Rattle.pair_protocol.proofs.Keeps.PrimaryLog.{steps-do, steps-take}
 use Rattle.pair_protocol.proofs.Traces.Cuts.{cut-ends, cut-more, cut-prefix, entries-cut}
 use Rattle.pair_protocol.proofs.Traces.Lists.{drop-at, prefix-trans, same_some, take-at}
@@ -77,33 +78,6 @@ next_take c (Take j ∷ r) e es i h l m =
     let s : j ≡ i = same_some j i (Some j) refl (k ∙ m) in
     (r, ap (λ (v : Input). Take v ∷ r) s)
 
--- What is still to come, and that the moves to come lead on from here.
-pub record Ahead {S : Type 0} (M : Machine S) (base own : List Move) (b : Node S) (f : List Move) : Type 0 where
-  pub rest : List Move
-  pub whole : f ++ rest ≡ cut (length b.held) own
-  pub final : S
-  pub runs : Recorded M b.machine rest final
-  pub entries_are : entries (steps base) f ++ entries (M.count b.machine) rest ≡ b.held
-
-pub ahead : {S : Type 0} (M : Machine S) (base own : List Move) (mid last : S) (b : Node S) →
-    IsPrefix b.held (entries (steps base) own) → Recorded M mid own last → (f : HasReplayed M base own mid b) →
-    Ahead M base own b f.ms
-ahead M base own mid last b p r f =
-    let x = cut (length b.held) own in
-    let u = recorded-prefix M mid last x own (cut-prefix (length b.held) own) r in
-    record {
-      rest = f.within.0;
-      whole = f.within.1;
-      final = u.0;
-      runs = recorded-rest M mid b.machine u.0 f.ms f.within.0 f.runs
-          (subst (λ zs. Recorded M mid zs u.0) (sym f.within.1) u.1);
-      entries_are =
-          ap (λ c. entries (steps base) f.ms ++ entries c f.within.0) f.count
-          ∙ sym (entries-append (steps base) f.ms f.within.0)
-          ∙ ap (entries (steps base)) f.within.1
-          ∙ entries-held (steps base) own b.held p;
-    }
-
 -- the entry of a mark that is not replayed yet
 pub lag-is : (c : ℕ) (short ms : List Move) (o : Operation) → ms ≡ short ++ Do (Some o) ∷ [] →
     entries c ms ≡ entries c short ++ Mark (c + steps ms) ∷ []
@@ -113,162 +87,162 @@ lag-is c short ms o h =
     let e : suc (c + steps short) ≡ c + steps ms = omega arith in
     ap (entries c) h ∙ entries-append c short (Do (Some o) ∷ []) ∙ ap (λ j. entries c short ++ Mark j ∷ []) e
 
-pub replayed-step : {S : Type 0} (M : Machine S) (base own : List Move) (mid last : S) (b : Node S) (e : Entry) (s : S)
-    (o : Option Operation) →
-    IsPrefix b.held (entries (steps base) own) → Recorded M mid own last → slice_get b.held b.replayed ≡ Some e →
-    (M.count b.machine) < count_of e → M.step b.machine ≡ Some (s, o) → M.count s ≡ suc (M.count b.machine) →
-    HasReplayed M base own mid b → HasReplayed M base own mid (plainly_steps b s)
-replayed-step {S} M base own mid last b e s o p r g l h counted f = by_place f.place
-  where
-    a : Ahead M base own b f.ms
-    a = ahead M base own mid last b p r f
+-- What is still to come, and that the moves to come lead on from here.
+pub record Ahead {S : Type 0} (M : Machine S) (l : Line S) (b : Node S) (f : List Move) : Type 0 where
+  pub rest : List Move
+  pub whole : f ++ rest ≡ cut (length b.held) l.own
+  pub final : S
+  pub runs : Recorded M b.machine rest final
+  pub entries_are : entries (steps l.base) f ++ entries (M.count b.machine) rest ≡ b.held
 
-    new : entries (steps base) f.ms ≡ take b.replayed b.held → HasReplayed M base own mid (plainly_steps b s)
-    new q =
-        let j : entries (M.count b.machine) a.rest ≡ e ∷ drop (suc b.replayed) b.held =
-        behind b.held [] (entries (M.count b.machine) a.rest) b.replayed e
-        (ap (λ zs. zs ++ entries (M.count b.machine) a.rest) (append-nil (take b.replayed b.held) ∙ sym q)
-        ∙ a.entries_are) g in
-        let n = next_do (M.count b.machine) a.rest e (drop (suc b.replayed) b.held) j l in
-        let u = subst (λ zs. Recorded M b.machine zs a.final) n.2 a.runs in
-        let same : ◌≡◌ {A = S × Option Operation} (s, o) (u.0, n.0) =
-        same_some (s, o) (u.0, n.0) (M.step b.machine) h u.1 in
-        let os : o ≡ n.0 = ap (λ (v : S × Option Operation). v.1) same in
-        record {
-          ms = f.ms ++ Do o ∷ [];
-          runs = runs-append M mid b.machine s f.ms (Do o ∷ []) f.runs (s, h, refl);
-          count = counted ∙ steps-do base f.ms o (M.count b.machine) f.count;
-          within = (
-            n.1,
-            append_assoc f.ms (Do o ∷ []) n.1 ∙ ap (λ v. f.ms ++ Do v ∷ n.1) os
-                ∙ ap (λ zs. f.ms ++ zs) (sym n.2) ∙ a.whole,
-          );
-          few = f.few;
-          place = placed o q;
-        }
-      where
-        placed : (o : Option Operation) → entries (steps base) f.ms ≡ take b.replayed b.held →
-            AtPlace (steps base) (f.ms ++ Do o ∷ []) b.held b.replayed
-        placed None q = inl (entries-append (steps base) f.ms (Do None ∷ []) ∙ append-nil (entries (steps base) f.ms)
-            ∙ q)
-        placed (Some v) q = inr (f.ms, v, refl, q, slice_get_within b.held b.replayed e g)
+module _ {S : Type 0} (M : Machine S) (l : Line S) (last : S) (b : Node S) (p : IsPrefix b.held (entries (steps l.base) l.own))
+    (r : Recorded M l.mid l.own last) where
+  pub ahead : (f : HasReplayed M l b) → Ahead M l b f.ms
+  ahead f =
+      let x = cut (length b.held) l.own in
+      let u = recorded-prefix M l.mid last x l.own (cut-prefix (length b.held) l.own) r in
+      record {
+        rest = f.within.0;
+        whole = f.within.1;
+        final = u.0;
+        runs = recorded-rest M l.mid b.machine u.0 f.ms f.within.0 f.runs
+            (subst (λ zs. Recorded M l.mid zs u.0) (sym f.within.1) u.1);
+        entries_are =
+            ap (λ c. entries (steps l.base) f.ms ++ entries c f.within.0) f.count
+            ∙ sym (entries-append (steps l.base) f.ms f.within.0)
+            ∙ ap (entries (steps l.base)) f.within.1
+            ∙ entries-held (steps l.base) l.own b.held p;
+      }
 
-    by_place : AtPlace (steps base) f.ms b.held b.replayed → HasReplayed M base own mid (plainly_steps b s)
-    by_place (inl q) = new q
-    by_place (inr q) =
-        let m : Entry = Mark (steps base + steps f.ms) in
-        let k = lag-is (steps base) q.0 f.ms q.1 q.2 ∙ ap (λ zs. zs ++ m ∷ []) q.3 in
-        let j : (m ∷ []) ++ entries (M.count b.machine) a.rest ≡ e ∷ drop (suc b.replayed) b.held =
-        behind b.held (m ∷ []) (entries (M.count b.machine) a.rest) b.replayed e
-        (ap (λ zs. zs ++ entries (M.count b.machine) a.rest) (sym k) ∙ a.entries_are) g in
-        let c : steps base + steps f.ms ≡ count_of e =
-        ap count_of (head_is m e (entries (M.count b.machine) a.rest) (drop (suc b.replayed) b.held) j) in
-        let d = f.count in
-        absurd (omega arith)
+  -- what comes next begins with the next entry that is held
+  next : (f : HasReplayed M l b) (e : Entry) → slice_get b.held b.replayed ≡ Some e →
+      entries (steps l.base) f.ms ≡ take b.replayed b.held →
+      entries (M.count b.machine) (ahead f).rest ≡ e ∷ drop (suc b.replayed) b.held
+  next f e g q =
+      let n = entries (M.count b.machine) (ahead f).rest in
+      behind b.held [] n b.replayed e
+      (ap (λ zs. zs ++ n) (append-nil (take b.replayed b.held) ∙ sym q) ∙ (ahead f).entries_are) g
 
-pub replayed-mark : {S : Type 0} (M : Machine S) (base own : List Move) (mid last : S) (b : Node S) (e : Entry) →
-    IsPrefix b.held (entries (steps base) own) → Recorded M mid own last → slice_get b.held b.replayed ≡ Some e →
-    M.count b.machine ≡ count_of e → input_of e ≡ None →
-    HasReplayed M base own mid b → HasReplayed M base own mid (passes_mark b)
-replayed-mark {S} M base own mid last b e p r g l w f = by_place f.place
-  where
-    a : Ahead M base own b f.ms
-    a = ahead M base own mid last b p r f
+  -- if a mark is not replayed yet, it is that entry
+  lagging : (f : HasReplayed M l b) (e : Entry) → slice_get b.held b.replayed ≡ Some e →
+      entries (steps l.base) f.ms ≡ take b.replayed b.held ++ Mark (steps l.base + steps f.ms) ∷ [] →
+      Mark (steps l.base + steps f.ms) ≡ e
+  lagging f e g k =
+      let n = entries (M.count b.machine) (ahead f).rest in
+      let m : Entry = Mark (steps l.base + steps f.ms) in
+      head_is m e n (drop (suc b.replayed) b.held)
+      (behind b.held (m ∷ []) n b.replayed e (ap (λ zs. zs ++ n) (sym k) ∙ (ahead f).entries_are) g)
 
-    by_place : AtPlace (steps base) f.ms b.held b.replayed → HasReplayed M base own mid (passes_mark b)
-    by_place (inl q) =
-        let j : entries (M.count b.machine) a.rest ≡ e ∷ drop (suc b.replayed) b.held =
-        behind b.held [] (entries (M.count b.machine) a.rest) b.replayed e
-        (ap (λ zs. zs ++ entries (M.count b.machine) a.rest) (append-nil (take b.replayed b.held) ∙ sym q)
-        ∙ a.entries_are) g in
-        absurd (no_mark (M.count b.machine) a.rest e (drop (suc b.replayed) b.held) j l w)
-    by_place (inr q) =
-        let m : Entry = Mark (steps base + steps f.ms) in
-        let k = lag-is (steps base) q.0 f.ms q.1 q.2 ∙ ap (λ zs. zs ++ m ∷ []) q.3 in
-        let j : (m ∷ []) ++ entries (M.count b.machine) a.rest ≡ e ∷ drop (suc b.replayed) b.held =
-        behind b.held (m ∷ []) (entries (M.count b.machine) a.rest) b.replayed e
-        (ap (λ zs. zs ++ entries (M.count b.machine) a.rest) (sym k) ∙ a.entries_are) g in
-        let c : m ≡ e = head_is m e (entries (M.count b.machine) a.rest) (drop (suc b.replayed) b.held) j in
-        let t = slice_get_within b.held b.replayed e g in
-        record {
-          ms = f.ms;
-          runs = f.runs;
-          count = f.count;
-          within = f.within;
-          few = omega arith;
-          place = inl (k ∙ ap (λ (z : Entry). take b.replayed b.held ++ z ∷ []) c
-              ∙ sym (take-at b.held b.replayed e g));
-        }
+  pub replayed-step : (e : Entry) (s : S) (o : Option Operation) → slice_get b.held b.replayed ≡ Some e →
+      M.count b.machine < count_of e → M.step b.machine ≡ Some (s, o) → M.count s ≡ suc (M.count b.machine) →
+      HasReplayed M l b → HasReplayed M l (plainly_steps b s)
+  replayed-step e s o g less h counted f = by_place f.place
+    where
+      placed : (o : Option Operation) → entries (steps l.base) f.ms ≡ take b.replayed b.held →
+          AtPlace (steps l.base) (f.ms ++ Do o ∷ []) b.held b.replayed
+      placed None q = inl (entries-append (steps l.base) f.ms (Do None ∷ [])
+          ∙ append-nil (entries (steps l.base) f.ms) ∙ q)
+      placed (Some v) q = inr (f.ms, v, refl, q, slice_get_within b.held b.replayed e g)
 
-pub replayed-input : {S : Type 0} (M : Machine S) (base own : List Move) (mid last : S) (b : Node S) (e : Entry)
-    (i : Input) (s : S) →
-    IsPrefix b.held (entries (steps base) own) → Recorded M mid own last → slice_get b.held b.replayed ≡ Some e →
-    M.count b.machine ≡ count_of e → input_of e ≡ Some i → M.take b.machine i ≡ Some s →
-    M.count s ≡ M.count b.machine →
-    HasReplayed M base own mid b → HasReplayed M base own mid (passes_input b s)
-replayed-input {S} M base own mid last b e i s p r g l w h counted f = by_place f.place
-  where
-    a : Ahead M base own b f.ms
-    a = ahead M base own mid last b p r f
+      by_place : AtPlace (steps l.base) f.ms b.held b.replayed → HasReplayed M l (plainly_steps b s)
+      by_place (inl q) =
+          let a = ahead f in
+          let n = next_do (M.count b.machine) a.rest e (drop (suc b.replayed) b.held) (next f e g q) less in
+          let u = subst (λ zs. Recorded M b.machine zs a.final) n.2 a.runs in
+          let same : ◌≡◌ {A = S × Option Operation} (s, o) (u.0, n.0) =
+          same_some (s, o) (u.0, n.0) (M.step b.machine) h u.1 in
+          let os : o ≡ n.0 = ap (λ (v : S × Option Operation). v.1) same in
+          record {
+            ms = f.ms ++ Do o ∷ [];
+            runs = runs-append M l.mid b.machine s f.ms (Do o ∷ []) f.runs (s, h, refl);
+            count = counted ∙ steps-do l.base f.ms o (M.count b.machine) f.count;
+            within = (
+              n.1,
+              append_assoc f.ms (Do o ∷ []) n.1 ∙ ap (λ v. f.ms ++ Do v ∷ n.1) os
+                  ∙ ap (λ zs. f.ms ++ zs) (sym n.2) ∙ a.whole,
+            );
+            few = f.few;
+            place = placed o q;
+          }
+      by_place (inr q) =
+          let c = ap count_of (lagging f e g (lag-is (steps l.base) q.0 f.ms q.1 q.2 ∙ ap (λ zs. zs ++ Mark (steps l.base + steps f.ms) ∷ []) q.3)) in
+          let d = f.count in
+          absurd (omega (arith, c, d, less))
 
-    by_place : AtPlace (steps base) f.ms b.held b.replayed → HasReplayed M base own mid (passes_input b s)
-    by_place (inl q) =
-        let j : entries (M.count b.machine) a.rest ≡ e ∷ drop (suc b.replayed) b.held =
-        behind b.held [] (entries (M.count b.machine) a.rest) b.replayed e
-        (ap (λ zs. zs ++ entries (M.count b.machine) a.rest) (append-nil (take b.replayed b.held) ∙ sym q)
-        ∙ a.entries_are) g in
-        let n = next_take (M.count b.machine) a.rest e (drop (suc b.replayed) b.held) i j l w in
-        let u = subst (λ zs. Recorded M b.machine zs a.final) n.1 a.runs in
-        let t = slice_get_within b.held b.replayed e g in
-        let d : steps base + steps f.ms ≡ count_of e = sym f.count ∙ l in
-        let z : entry_of (steps base + steps f.ms) i ≡ e = ap (λ k. entry_of k i) d ∙ entry_is e i w in
-        record {
-          ms = f.ms ++ Take i ∷ [];
-          runs = runs-append M mid b.machine s f.ms (Take i ∷ []) f.runs (s, h, refl);
-          count = counted ∙ steps-take base f.ms i (M.count b.machine) f.count;
-          within = (n.0, append_assoc f.ms (Take i ∷ []) n.0 ∙ ap (λ zs. f.ms ++ zs) (sym n.1) ∙ a.whole);
-          few = omega arith;
-          place = inl (entries-append (steps base) f.ms (Take i ∷ [])
-              ∙ ap (λ es. es ++ entry_of (steps base + steps f.ms) i ∷ []) q
-              ∙ ap (λ (v : Entry). take b.replayed b.held ++ v ∷ []) z ∙ sym (take-at b.held b.replayed e g));
-        }
-    by_place (inr q) =
-        let m : Entry = Mark (steps base + steps f.ms) in
-        let k = lag-is (steps base) q.0 f.ms q.1 q.2 ∙ ap (λ zs. zs ++ m ∷ []) q.3 in
-        let j : (m ∷ []) ++ entries (M.count b.machine) a.rest ≡ e ∷ drop (suc b.replayed) b.held =
-        behind b.held (m ∷ []) (entries (M.count b.machine) a.rest) b.replayed e
-        (ap (λ zs. zs ++ entries (M.count b.machine) a.rest) (sym k) ∙ a.entries_are) g in
-        let c : None ≡ input_of e = ap input_of
-        (head_is m e (entries (M.count b.machine) a.rest) (drop (suc b.replayed) b.held) j) in
-        (cc)
+  pub replayed-mark : (e : Entry) → slice_get b.held b.replayed ≡ Some e → M.count b.machine ≡ count_of e →
+      input_of e ≡ None → HasReplayed M l b → HasReplayed M l (passes_mark b)
+  replayed-mark e g at w f = by_place f.place
+    where
+      by_place : AtPlace (steps l.base) f.ms b.held b.replayed → HasReplayed M l (passes_mark b)
+      by_place (inl q) =
+          absurd (no_mark (M.count b.machine) (ahead f).rest e (drop (suc b.replayed) b.held) (next f e g q) at w)
+      by_place (inr q) =
+          let k = lag-is (steps l.base) q.0 f.ms q.1 q.2 ∙ ap (λ zs. zs ++ Mark (steps l.base + steps f.ms) ∷ []) q.3 in
+          let t = slice_get_within b.held b.replayed e g in
+          record {
+            ms = f.ms;
+            runs = f.runs;
+            count = f.count;
+            within = f.within;
+            few = omega arith;
+            place = inl (k ∙ ap (λ (z : Entry). take b.replayed b.held ++ z ∷ []) (lagging f e g k)
+                ∙ sym (take-at b.held b.replayed e g));
+          }
+
+  pub replayed-input : (e : Entry) (i : Input) (s : S) → slice_get b.held b.replayed ≡ Some e →
+      M.count b.machine ≡ count_of e → input_of e ≡ Some i → M.take b.machine i ≡ Some s →
+      M.count s ≡ M.count b.machine → HasReplayed M l b → HasReplayed M l (passes_input b s)
+  replayed-input e i s g at w h counted f = by_place f.place
+    where
+      by_place : AtPlace (steps l.base) f.ms b.held b.replayed → HasReplayed M l (passes_input b s)
+      by_place (inl q) =
+          let a = ahead f in
+          let n = next_take (M.count b.machine) a.rest e (drop (suc b.replayed) b.held) i (next f e g q) at w in
+          let t = slice_get_within b.held b.replayed e g in
+          let d : steps l.base + steps f.ms ≡ count_of e = sym f.count ∙ at in
+          let z : entry_of (steps l.base + steps f.ms) i ≡ e = ap (λ k. entry_of k i) d ∙ entry_is e i w in
+          record {
+            ms = f.ms ++ Take i ∷ [];
+            runs = runs-append M l.mid b.machine s f.ms (Take i ∷ []) f.runs (s, h, refl);
+            count = counted ∙ steps-take l.base f.ms i (M.count b.machine) f.count;
+            within = (n.0, append_assoc f.ms (Take i ∷ []) n.0 ∙ ap (λ zs. f.ms ++ zs) (sym n.1) ∙ a.whole);
+            few = omega arith;
+            place = inl (entries-append (steps l.base) f.ms (Take i ∷ [])
+                ∙ ap (λ es. es ++ entry_of (steps l.base + steps f.ms) i ∷ []) q
+                ∙ ap (λ (v : Entry). take b.replayed b.held ++ v ∷ []) z ∙ sym (take-at b.held b.replayed e g));
+          }
+      by_place (inr q) =
+          let k = lag-is (steps l.base) q.0 f.ms q.1 q.2 ∙ ap (λ zs. zs ++ Mark (steps l.base + steps f.ms) ∷ []) q.3 in
+          let c : None ≡ input_of e = ap input_of (lagging f e g k) in
+          (cc)
 
 -- a node that has replayed all that it holds is at the end of the settled moves
-pub replayed-ends : {S : Type 0} (M : Machine S) (base own : List Move) (mid : S) (b : Node S) →
-    b.replayed ≡ length b.held → (f : HasReplayed M base own mid b) → f.ms ≡ cut (length b.held) own
-replayed-ends M base own mid b h f = by_place f.place
+pub replayed-ends : {S : Type 0} (M : Machine S) (l : Line S) (b : Node S) → b.replayed ≡ length b.held →
+    (f : HasReplayed M l b) → f.ms ≡ cut (length b.held) l.own
+replayed-ends M l b h f = by_place f.place
   where
-    by_place : AtPlace (steps base) f.ms b.held b.replayed → f.ms ≡ cut (length b.held) own
+    by_place : AtPlace (steps l.base) f.ms b.held b.replayed → f.ms ≡ cut (length b.held) l.own
     by_place (inl q) =
-        let l = ap length q in
+        let n = ap length q in
         let t = length-take-le b.replayed b.held f.few in
-        let k : length b.held ≤ length (entries (steps base) f.ms) = omega arith in
-        let e : f.within.0 ≡ [] = cut-ends (length b.held) (steps base) own f.ms f.within.0 f.within.1 k in
+        let k : length b.held ≤ length (entries (steps l.base) f.ms) = omega arith in
+        let e : f.within.0 ≡ [] = cut-ends (length b.held) (steps l.base) l.own f.ms f.within.0 f.within.1 k in
         sym (append-nil f.ms) ∙ ap (λ zs. f.ms ++ zs) (sym e) ∙ f.within.1
-    by_place (inr q) = let l = q.4 in absurd (omega arith)
+    by_place (inr q) = let n = q.4 in absurd (omega arith)
 
 -- one more entry held
-pub replayed-holds : {S : Type 0} (M : Machine S) (base own : List Move) (mid : S) (b : Node S) (e : Entry) →
-    HasReplayed M base own mid b → HasReplayed M base own mid (holds b e)
-replayed-holds M base own mid b e f =
+pub replayed-holds : {S : Type 0} (M : Machine S) (l : Line S) (held : List Entry) (b : Node S) (e : Entry) →
+    HasReplayed M l b → HasReplayed M (with_backup l l.more l.stage held) (holds b e)
+replayed-holds M l held b e f =
     let n = length-append b.held (e ∷ []) in
-    let l : length b.held ≤ length (b.held ++ e ∷ []) = omega arith in
+    let m : length b.held ≤ length (b.held ++ e ∷ []) = omega arith in
     let c = f.few in
     record {
       ms = f.ms;
       runs = f.runs;
       count = f.count;
-      within = prefix-trans f.ms (cut (length b.held) own) (cut (length (b.held ++ e ∷ [])) own) f.within
-          (cut-more (length b.held) (length (b.held ++ e ∷ [])) own l);
+      within = prefix-trans f.ms (cut (length b.held) l.own) (cut (length (b.held ++ e ∷ [])) l.own) f.within
+          (cut-more (length b.held) (length (b.held ++ e ∷ [])) l.own m);
       few = omega arith;
       place = elim f.place [
         | inl q ↦ inl (q ∙ sym (take-append-le b.replayed b.held (e ∷ []) c))

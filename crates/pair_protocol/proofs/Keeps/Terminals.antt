@@ -4,12 +4,14 @@ use Rattle.std.specs.Prelude.{◌==◌, slice_get, slice_set}
 use Rattle.event_callbacks.specs.declared.operations.Operation.TheVariants.{Byte}
 use Rattle.guest_board.specs.Machine.{Machine}
 use Rattle.plain_single.specs.Reach.{inputs, keys, operations}
+use Rattle.plain_single.specs.declared.timed.Timed.{Timed}
 use Rattle.pair_protocol.specs.Copying.{Copying}
 use Rattle.pair_protocol.specs.Faithful.{IsPrefix}
 use Rattle.pair_protocol.specs.Lawful.{Among}
 use Rattle.pair_protocol.specs.Node.{Node, Spare, spare}
+use Rattle.pair_protocol.specs.Settled.{is_backup}
 use Rattle.pair_protocol.specs.World.{Arrival, Terminal, World, accepted_after, terminal, terminal_in, with_host, with_terminal}
-use Rattle.pair_protocol.proofs.Invariant.{AtTop, BackupHere, BackupLeft, Gone, Inv, Line, Next, Presence, PrimaryHere, PrimaryLeft, Unused}
+use Rattle.pair_protocol.proofs.Invariant.{AtTop, BackupHere, BackupLeft, CameIn, Gone, Inv, Line, Next, Presence, PrimaryHere, PrimaryLeft, Unused}
 use Rattle.pair_protocol.proofs.Traces.Lists.{get-last, get-longer, prefix-refl, prefix-trans}
 
 -- A terminal changes.
@@ -46,30 +48,22 @@ keep-terminal {S} M C w i p t better arrived told = record {
     trace = i.trace;
     each = λ k. (let o = i.each k in record {
       line = o.line;
-      presence = presence k o.presence;
-      based = o.based;
-      recorded = o.recorded;
-      tied = o.tied;
-      apart = o.apart;
-      held = o.held;
+      sound = o.sound;
+      presence = o.presence;
       members = o.members;
-      logs = o.logs;
-      acks = o.acks;
-      parts = o.parts;
-      done = λ q. (let a = o.done q in let b = (all q).accepts in omega arith);
-      typed = λ q. prefix-trans _ _ _ (o.typed q) (all q).types;
-      put = o.put;
+      tied = o.tied;
+      says = o.says;
+      came = came (inputs 0 (o.line.base ++ o.line.own)) o.came;
       owns = o.owns;
       below = o.below;
       reads = o.reads;
     });
     global = record {
       sends = i.global.sends;
-      puts = i.global.puts;
+      puts_are = i.global.puts_are;
       reads = i.global.reads;
       written = i.global.written;
-      put = i.global.put;
-      put_sent = i.global.put_sent;
+      came = came (inputs 0 i.trace) i.global.came;
       owns = i.global.owns;
       arrived = λ q a. elim (at_set w.terminals p t q) [
         | inl e ↦ subst (λ z. Among a z.arrivals →
@@ -79,8 +73,6 @@ keep-terminal {S} M C w i p t better arrived told = record {
             (subst (λ j. Among a t.arrivals →
             Among (Byte j a.number a.byte) (operations i.trace)) (sym e.0) (arrived a))
       ];
-      done = λ q. (let a = i.global.done q in let b = (all q).accepts in omega arith);
-      typed = λ q. prefix-trans _ _ _ (i.global.typed q) (all q).types;
       told = λ q. elim (at_set w.terminals p t q) [
         | inl e ↦ subst (λ z. z.told ≤ length (keys q (inputs 0 i.trace))) (sym e) (i.global.told q)
         | inr e ↦ subst (λ z. z.told ≤ length (keys q (inputs 0 i.trace))) (sym e.1)
@@ -99,9 +91,12 @@ keep-terminal {S} M C w i p t better arrived told = record {
       | inr e ↦ subst (λ z. Serves (terminal w q) z) (sym e.1) (subst (λ j. Serves (terminal w j) t) (sym e.0) better)
     ]
 
-    presence : (k : ℕ) → Presence M C w.nodes w.messages w.winners i.top i.trace k (i.each k).line →
-        Presence M C w.nodes w.messages w.winners i.top i.trace k (i.each k).line
-    presence k h = h
+    came : (ts : List Timed) → CameIn w.terminals w.puts ts → CameIn (slice_set w.terminals p t) w.puts ts
+    came ts h = record {
+      done = λ q. (let a = h.done q in let b = (all q).accepts in omega arith);
+      typed = λ q. prefix-trans _ _ _ (h.typed q) (all q).types;
+      put = h.put;
+    }
 
 pub accepted-longer : (n : ℕ) (xs ys : List Arrival) → IsPrefix (accepted_after n xs) (accepted_after n (xs ++ ys))
 accepted-longer n [] ys = (accepted_after n ys, refl)
@@ -122,22 +117,12 @@ keep-hosts {S} M C w i = record {
     trace = i.trace;
     each = λ k. (let o = i.each k in record {
       line = o.line;
+      sound = o.sound;
       presence = presence k o.line o.presence;
-      based = o.based;
-      recorded = o.recorded;
+      members = λ m z t ns e. o.members m z (was m z t ns) ns e;
       tied = o.tied;
-      apart = o.apart;
-      held = o.held;
-      members = λ m z t ns e. elim (get-last w.nodes (spare M) z m t) [
-        | inl q ↦ o.members m z q ns e
-        | inr q ↦ absurd (ns (ap (λ (v : Node S). v.role) q))
-      ];
-      logs = o.logs;
-      acks = o.acks;
-      parts = o.parts;
-      done = o.done;
-      typed = o.typed;
-      put = o.put;
+      says = o.says;
+      came = o.came;
       owns = o.owns;
       below = o.below;
       reads = record {
@@ -183,10 +168,7 @@ keep-hosts {S} M C w i = record {
     }
 
     gone : (k m : ℕ) → Gone w.nodes k m → Gone (w.nodes ++ spare M ∷ []) k m
-    gone k m g z t ns e = elim (get-last w.nodes (spare M) z m t) [
-      | inl q ↦ g z q ns e
-      | inr q ↦ ns (ap (λ (v : Node S). v.role) q)
-    ]
+    gone k m g z t ns e = g z (was m z t ns) ns e
 
     presence : (k : ℕ) (l : Line S) → Presence M C w.nodes w.messages w.winners i.top i.trace k l →
         Presence M C (w.nodes ++ spare M ∷ []) w.messages w.winners i.top i.trace k l
@@ -194,10 +176,7 @@ keep-hosts {S} M C w i = record {
     presence k l (PrimaryLeft g q a b) = PrimaryLeft g q (gone k l.primary a) (backup_here k l b)
     presence k l (BackupLeft g q b a) = BackupLeft g q (gone k l.backup b) (primary_here k l a)
     presence k l (Unused g u) = Unused g (record {
-      nobody = λ m z t ns e. elim (get-last w.nodes (spare M) z m t) [
-        | inl q ↦ u.nobody m z q ns e
-        | inr q ↦ ns (ap (λ (v : Node S). v.role) q)
-      ];
+      nobody = λ m. gone k m (u.nobody m);
       no_log = u.no_log;
       no_ack = u.no_ack;
       no_part = u.no_part;

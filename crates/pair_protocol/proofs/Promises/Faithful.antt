@@ -17,7 +17,7 @@ use Rattle.pair_protocol.specs.Node.{Alone, Node}
 use Rattle.pair_protocol.specs.Settled.{Settled}
 use Rattle.pair_protocol.specs.World.{SectorRecord, World, sector_record}
 use Rattle.pair_protocol.proofs.Invariant.{BackupWon, Inv, PrimaryWon}
-use Rattle.pair_protocol.proofs.Invariant.Acting.{Acting, BackupActs, BackupAtTop, BackupEarlier, PrimaryActs, PrimaryAtTop, PrimaryEarlier, acting}
+use Rattle.pair_protocol.proofs.Invariant.Acting.{Acting, BackupActs, BackupAtTop, BackupEarlier, PrimaryActs, PrimaryAtTop, PrimaryEarlier, acting, line_at}
 use Rattle.pair_protocol.proofs.Keeps.All.{keep}
 use Rattle.pair_protocol.proofs.Keeps.Backup.{backup-alone}
 use Rattle.pair_protocol.proofs.Keeps.Boot.{at_boot}
@@ -43,16 +43,17 @@ won_at M C w i n g e h = elim (subst (λ k. ((n ≡ (i.each k).line.primary) × 
 
 pub alone_won : {S : Type 0} (M : Machine S) (C : Copying S) (w : World S) (i : Inv M C w) (n : ℕ) (x : Node S) →
     slice_get w.nodes n ≡ Some x → x.role ≡ Alone → HasWon M C w i n
-alone_won {S} M C w i n x h role = go (acting M C w i.top i.trace n x (i.each x.generation) h (λ k. (cc)))
+alone_won {S} M C w i n x h role = go (acting M C w i n x h (λ k. (cc)))
   where
-    go : Acting M C w i.top i.trace n x (i.each x.generation) → HasWon M C w i n
-    go (PrimaryActs e l (PrimaryAtTop g s b)) =
-        won_at M C w i n x.generation g (inl (e, elim l.role [ inl r ↦ absurd (cc) | inr r ↦ r.1 ]))
-    go (PrimaryActs e l (PrimaryEarlier g s b)) = absurd (elim l.role [ inl r ↦ (cc) | inr r ↦ (let k = r.1 in (cc)) ])
-    go (BackupActs e held b (BackupAtTop g s q)) =
-        won_at M C w i n x.generation g (inr (e, (backup-alone M C (i.each x.generation).line x b role).won))
-    go (BackupActs e held b (BackupEarlier g s q)) =
-        (let k = (backup-alone M C (i.each x.generation).line x b role).won in absurd (cc))
+    go : Acting M C w i n x → HasWon M C w i n
+    go (PrimaryActs q (PrimaryAtTop g s b)) =
+        won_at M C w i n x.generation g (inl (q.spot, elim q.is_primary.role [ inl r ↦ absurd (cc) | inr r ↦ r.1 ]))
+    go (PrimaryActs q (PrimaryEarlier g s b)) =
+        absurd (elim q.is_primary.role [ inl r ↦ (cc) | inr r ↦ (let k = r.1 in (cc)) ])
+    go (BackupActs q (BackupAtTop g s a)) =
+        won_at M C w i n x.generation g (inr (q.spot, (backup-alone M C (line_at i x) x q.is_backup.state role).won))
+    go (BackupActs q (BackupEarlier g s a)) =
+        (let k = (backup-alone M C (line_at i x) x q.is_backup.state role).won in absurd (cc))
 
 pub live_once : {S : Type 0} (M : Machine S) (C : Copying S) (w : World S) (i : Inv M C w) (n m : ℕ) (x y : Node S) →
     slice_get w.nodes n ≡ Some x → slice_get w.nodes m ≡ Some y → x.role ≡ Alone → y.role ≡ Alone → n ≡ m
@@ -86,25 +87,25 @@ disk_is {S} M C laws w i t runs q = go (latest_is start w.puts q) (laws.own_disk
     go : LatestIs start w.puts q here → IsUnwritten M i.trace t q ⊎ IsWritten M i.trace t q →
         MayHave M i.trace t q here.bytes
     go (AsBefore h) (inl o) = IsImage (ap (λ (z : SectorRecord). z.bytes) h ∙ sym o.bytes)
-    go (OfPut v put k h) (inl o) = late v (i.global.puts v put) k (ap (λ (z : SectorRecord). z.bytes) h) (λ l.
-        (let m = laws.write_some i.trace t v runs (i.global.puts v put) in let e = o.none in absurd (omega arith)))
+    go (OfPut v put k h) (inl o) = late v (i.global.puts_are v put).0 k (ap (λ (z : SectorRecord). z.bytes) h) (λ l.
+        (let m = laws.write_some i.trace t v runs (i.global.puts_are v put).0 in let e = o.none in absurd (omega arith)))
     go (AsBefore h) (inr o) =
-        let p = i.global.put o.write.number o.completed in
-        let same : p.0 ≡ o.write = laws.write_once i.trace t p.0 o.write runs (i.global.puts p.0 p.1) o.issued p.2 in
+        let p = i.global.came.put o.write.number o.completed in
+        let same : p.0 ≡ o.write = laws.write_once i.trace t p.0 o.write runs (i.global.puts_are p.0 p.1).0 o.issued p.2 in
         let g = latest_all start w.puts q p.0 p.1 (ap address_of same ∙ o.there) in
         let m = laws.write_some i.trace t o.write runs o.issued in
         let e = ap (λ (z : SectorRecord). z.number) h in
         let n = p.2 in
         absurd (omega arith)
-    go (OfPut v put k h) (inr o) = late v (i.global.puts v put) k (ap (λ (z : SectorRecord). z.bytes) h) (λ l.
-        (let p = i.global.put o.write.number o.completed in
-        let same : p.0 ≡ o.write = laws.write_once i.trace t p.0 o.write runs (i.global.puts p.0 p.1) o.issued p.2 in
+    go (OfPut v put k h) (inr o) = late v (i.global.puts_are v put).0 k (ap (λ (z : SectorRecord). z.bytes) h) (λ l.
+        (let p = i.global.came.put o.write.number o.completed in
+        let same : p.0 ≡ o.write = laws.write_once i.trace t p.0 o.write runs (i.global.puts_are p.0 p.1).0 o.issued p.2 in
         let g = latest_all start w.puts q p.0 p.1 (ap address_of same ∙ o.there) in
         let e = ap (λ (z : SectorRecord). z.number) h in
         let f = o.last in
         let n = p.2 in
         let eq : o.write.number ≡ v.number = omega arith in
-        let u : o.write ≡ v = laws.write_once i.trace t o.write v runs o.issued (i.global.puts v put) eq in
+        let u : o.write ≡ v = laws.write_once i.trace t o.write v runs o.issued (i.global.puts_are v put).0 eq in
         ap (λ (z : SectorWrite). z.bytes) (sym u) ∙ o.bytes))
 
 pub faithful : {S : Type 0} (M : Machine S) (C : Copying S) → Lawful M → (w : World S) → Inv M C w → Faithful M w
@@ -118,7 +119,7 @@ faithful M C laws w i =
       reach = record { last = r.0; runs = r.1; owns = i.global.owns; list_is = refl; count_is = refl };
       disk = λ q. disk_is M C laws w i r.0 r.1 q;
       output = output_is M C laws w i;
-      typed = i.global.typed;
+      typed = i.global.came.typed;
       told = i.global.told;
       one_live = live_once M C w i;
     }

@@ -81,7 +81,7 @@ spare_won Spare h = refl
 pub asks_at_top : {S : Type 0} (M : Machine S) (C : Copying S) (w : World S) (i : Inv M C w) (n : ℕ) (x : Node S) →
     slice_get w.nodes n ≡ Some x → (x.role ≡ Spare → ⊥) → winner_in w.winners x.generation ≡ None →
     x.generation ≡ i.top
-asks_at_top {S} M C w i n x h ns none = go (acting M C w i.top i.trace n x (i.each x.generation) h ns)
+asks_at_top {S} M C w i n x h ns none = go (acting M C w i n x h ns)
   where
     o : LineOf M C w i.top i.trace x.generation
     o = i.each x.generation
@@ -93,11 +93,11 @@ asks_at_top {S} M C w i n x h ns none = go (acting M C w i.top i.trace n x (i.ea
     nobody PrimaryWon e k = (cc)
     nobody BackupWon e k = (cc)
 
-    go : Acting M C w i.top i.trace n x (i.each x.generation) → x.generation ≡ i.top
-    go (PrimaryActs e l (PrimaryAtTop g s b)) = g
-    go (PrimaryActs e l (PrimaryEarlier g s b)) = absurd (nobody o.line.stage (sym o.tied ∙ none) (inr s))
-    go (BackupActs e l b (BackupAtTop g s q)) = g
-    go (BackupActs e l b (BackupEarlier g s q)) = absurd (nobody o.line.stage (sym o.tied ∙ none) (inl s))
+    go : Acting M C w i n x → x.generation ≡ i.top
+    go (PrimaryActs q (PrimaryAtTop g s b)) = g
+    go (PrimaryActs q (PrimaryEarlier g s b)) = absurd (nobody o.line.stage (sym o.tied ∙ none) (inr s))
+    go (BackupActs q (BackupAtTop g s a)) = g
+    go (BackupActs q (BackupEarlier g s a)) = absurd (nobody o.line.stage (sym o.tied ∙ none) (inl s))
 
 -- what is settled is a prefix of its list
 abbrev WonList : {S : Type 0} → Machine S → World S → World S → Type 0

@@ -16,7 +16,7 @@ use Rattle.pair_protocol.proofs.Traces.Moves.{owns-front}
 
 given : {S : Type 0} (M : Machine S) (C : Copying S) (makes : Makes M C) (w : World S) (i : Inv M C w) (n : ℕ)
     (x : Node S) → slice_get w.nodes n ≡ Some x → x.role ≡ Joining → IsGiven M C w x
-given {S} M C makes w i n x there role = go (acting M C w i.top i.trace n x (i.each x.generation) there (λ k. (cc)))
+given {S} M C makes w i n x there role = go (acting M C w i n x there (λ k. (cc)))
   where
     o : LineOf M C w i.top i.trace x.generation
     o = i.each x.generation
@@ -24,7 +24,7 @@ given {S} M C makes w i n x there role = go (acting M C w i.top i.trace n x (i.e
     l : Line S
     l = o.line
 
-    from : BackupState M C l.stage l.base l.own l.more l.mid x → IsGiven M C w x
+    from : BackupState M C l x → IsGiven M C w x
     from (AsBackup r s f) = (cc)
     from (AsDraining r s m f) = (cc)
     from (AsAlone r s u c k) = (cc)
@@ -33,16 +33,16 @@ given {S} M C makes w i n x there role = go (acting M C w i.top i.trace n x (i.e
         record {
           machine = l.mid;
           moves = l.base;
-          reached = o.based;
+          reached = o.sound.based;
           owns = owns;
-          sent = o.parts;
+          sent = o.says.parts;
           all = λ parts got. ap C.assemble (gathered_is x.parts (C.parts l.mid) parts g.long g.each got)
-              ∙ makes l.base l.mid o.based owns;
+              ∙ makes l.base l.mid o.sound.based owns;
         }
 
-    go : Acting M C w i.top i.trace n x (i.each x.generation) → IsGiven M C w x
-    go (PrimaryActs e is_primary place) = absurd (elim is_primary.role [ inl r ↦ (cc) | inr r ↦ (let k = r.0 in (cc)) ])
-    go (BackupActs e held b place) = from b.state
+    go : Acting M C w i n x → IsGiven M C w x
+    go (PrimaryActs q p) = absurd (elim q.is_primary.role [ inl r ↦ (cc) | inr r ↦ (let k = r.0 in (cc)) ])
+    go (BackupActs q p) = from q.is_backup.state
 
 pub joining_is_given : {S : Type 0} (M : Machine S) (C : Copying S) → Lawful M → IsCopying M C → Makes M C →
     (w : World S) → Reached M C w → (n : ℕ) (x : Node S) → slice_get w.nodes n ≡ Some x → x.role ≡ Joining →

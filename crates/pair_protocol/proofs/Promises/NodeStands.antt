@@ -19,8 +19,8 @@ use Rattle.pair_protocol.specs.NodeStands.{NodeStands}
 use Rattle.pair_protocol.specs.Settled.{list_of}
 use Rattle.pair_protocol.specs.Traces.{cut}
 use Rattle.pair_protocol.specs.World.{World}
-use Rattle.pair_protocol.proofs.Invariant.{AsAlone, AsBackup, AsDraining, AsJoining, AtPlace, BackupState, HasReplayed, Inv, IsPrimary, Line, LineOf}
-use Rattle.pair_protocol.proofs.Invariant.Acting.{Acting, BackupActs, PrimaryActs, acting}
+use Rattle.pair_protocol.proofs.Invariant.{AsAlone, AsBackup, AsDraining, AsJoining, AtPlace, BackupState, HasReplayed, Inv, IsLine, IsPrimary, Line}
+use Rattle.pair_protocol.proofs.Invariant.Acting.{Acting, BackupActs, PrimaryActs, acting, line_at}
 use Rattle.pair_protocol.proofs.Keeps.Primary.{primary-runs}
 use Rattle.pair_protocol.proofs.Keeps.Replay.{Ahead, ahead, lag-is, unreplayed}
 use Rattle.pair_protocol.proofs.Promises.Faithful.{reached}
@@ -54,31 +54,29 @@ serving_stands {S} M laws x moves role runs list covered = record {
     taken p = laws.takes_keys moves x.machine p runs ∙ ap (λ ts. length (keys p ts)) (sym list)
 
 primary_stands : {S : Type 0} (M : Machine S) (C : Copying S) (laws : Lawful M) (w : World S) (i : Inv M C w)
-    (x : Node S) →
-    IsPrimary M (i.each x.generation).line.stage (i.each x.generation).line.base (i.each x.generation).line.own
-    (i.each x.generation).line.mid (length (i.each x.generation).line.held) x → NodeStands M x
+    (x : Node S) → IsPrimary M (line_at i x) x → NodeStands M x
 primary_stands M C laws w i x is_primary =
     let o = i.each x.generation in
     let l = o.line in
     serving_stands M laws x (l.base ++ l.own) (elim is_primary.role [ inl r ↦ inl r | inr r ↦ inr r.0 ])
     (primary-runs M C w i x is_primary) is_primary.list
-    (λ r. (let c = is_primary.covered in let h = prefix-length l.held (entries (steps l.base) l.own) o.held in
+    (λ r. (let c = is_primary.covered in let h = prefix-length l.held (entries (steps l.base) l.own) o.sound.held in
     let e = ap length (is_primary.log r) in omega arith))
 
 -- A node that replays.
 
-on_trace : {S : Type 0} (M : Machine S) (base own : List Move) (mid last : S) (x : Node S) →
-    IsPrefix x.held (entries (steps base) own) → Recorded M mid own last → HasReplayed M base own mid x →
+on_trace : {S : Type 0} (M : Machine S) (l : Line S) (last : S) (x : Node S) →
+    IsPrefix x.held (entries (steps l.base) l.own) → Recorded M l.mid l.own last → HasReplayed M l x →
     IsOnTrace M x.machine (drop x.replayed x.held)
-on_trace {S} M base own mid last x p r f = by_place f.place
+on_trace {S} M l last x p r f = by_place f.place
   where
-    a : Ahead M base own x f.ms
-    a = ahead M base own mid last x p r f
+    a : Ahead M l x f.ms
+    a = ahead M l last x p r f
 
     next : List Entry
     next = entries (M.count x.machine) a.rest
 
-    by_place : AtPlace (steps base) f.ms x.held x.replayed → IsOnTrace M x.machine (drop x.replayed x.held)
+    by_place : AtPlace (steps l.base) f.ms x.held x.replayed → IsOnTrace M x.machine (drop x.replayed x.held)
     by_place (inl q) = record {
       owes = false;
       moves = a.rest;
@@ -92,8 +90,8 @@ on_trace {S} M base own mid last x p r f = by_place f.place
       };
     }
     by_place (inr q) =
-        let m : Entry = Mark (steps base + steps f.ms) in
-        let k = lag-is (steps base) q.0 f.ms q.1 q.2 ∙ ap (λ zs. zs ++ m ∷ []) q.3 in
+        let m : Entry = Mark (steps l.base + steps f.ms) in
+        let k = lag-is (steps l.base) q.0 f.ms q.1 q.2 ∙ ap (λ zs. zs ++ m ∷ []) q.3 in
         record {
           owes = true;
           moves = a.rest;
@@ -107,15 +105,14 @@ on_trace {S} M base own mid last x p r f = by_place f.place
           };
         }
 
-replaying_stands : {S : Type 0} (M : Machine S) (base own : List Move) (mid last : S) (x : Node S) →
-    Replaying x.role → Runs M M.boot base mid → IsPrefix x.held (entries (steps base) own) →
-    Recorded M mid own last → HasReplayed M base own mid x → NodeStands M x
-replaying_stands M base own mid last x role based p r f = record {
-  machine = λ h. (base ++ f.ms, runs-append M M.boot mid x.machine base f.ms based f.runs);
+replaying_stands : {S : Type 0} (M : Machine S) (l : Line S) (x : Node S) → Replaying x.role → IsLine M l →
+    IsPrefix x.held (entries (steps l.base) l.own) → HasReplayed M l x → NodeStands M x
+replaying_stands M l x role sound p f = record {
+  machine = λ h. (l.base ++ f.ms, runs-append M M.boot l.mid x.machine l.base f.ms sound.based f.runs);
   keys = λ h. absurd (apart x.role h role);
   covered = λ h. absurd (apart x.role (inl h) role);
   replayed = λ h. f.few;
-  on_trace = λ h. on_trace M base own mid last x p r f;
+  on_trace = λ h. on_trace M l sound.recorded.0 x p sound.recorded.1 f;
 }
 
 -- Any node.
@@ -130,42 +127,30 @@ idle_stands M x serves replays = record {
   on_trace = λ h. absurd (replays h);
 }
 
-backup_stands : {S : Type 0} (M : Machine S) (C : Copying S) (laws : Lawful M) (w : World S) (i : Inv M C w)
-    (x : Node S) → IsPrefix x.held (entries (steps (i.each x.generation).line.base) (i.each x.generation).line.own) →
-    BackupState M C (i.each x.generation).line.stage (i.each x.generation).line.base (i.each x.generation).line.own
-    (i.each x.generation).line.more (i.each x.generation).line.mid x → NodeStands M x
-backup_stands {S} M C laws w i x held state = go state
-  where
-    o : LineOf M C w i.top i.trace x.generation
-    o = i.each x.generation
-
-    l : Line S
-    l = o.line
-
-    go : BackupState M C l.stage l.base l.own l.more l.mid x → NodeStands M x
-    go (AsJoining r s g) =
-        idle_stands M x (λ h. elim h [ inl k ↦ (cc) | inr k ↦ (cc) ]) (λ h. elim h [ inl k ↦ (cc) | inr k ↦ (cc) ])
-    go (AsBackup r s f) =
-        replaying_stands M l.base l.own l.mid o.recorded.0 x (inl r) o.based held o.recorded.1 f
-    go (AsDraining r s m f) =
-        replaying_stands M l.base l.own l.mid o.recorded.0 x (inr r) o.based held o.recorded.1 f
-    go (AsAlone r s u c k) =
-        let z = cut (length x.held) l.own ++ l.more in
-        serving_stands M laws x (l.base ++ z) (inr r) (runs-append M M.boot l.mid x.machine l.base z o.based u) k
-        (λ h. absurd (cc))
+backup_stands : {S : Type 0} (M : Machine S) (C : Copying S) (laws : Lawful M) (l : Line S) (x : Node S) →
+    IsLine M l → IsPrefix x.held (entries (steps l.base) l.own) → BackupState M C l x → NodeStands M x
+backup_stands M C laws l x sound held (AsJoining r s g) =
+    idle_stands M x (λ h. elim h [ inl k ↦ (cc) | inr k ↦ (cc) ]) (λ h. elim h [ inl k ↦ (cc) | inr k ↦ (cc) ])
+backup_stands M C laws l x sound held (AsBackup r s f) = replaying_stands M l x (inl r) sound held f
+backup_stands M C laws l x sound held (AsDraining r s m f) = replaying_stands M l x (inr r) sound held f
+backup_stands M C laws l x sound held (AsAlone r s u c k) =
+    let z = cut (length x.held) l.own ++ l.more in
+    serving_stands M laws x (l.base ++ z) (inr r) (runs-append M M.boot l.mid x.machine l.base z sound.based u) k
+    (λ h. absurd (cc))
 
 node_stands : {S : Type 0} (M : Machine S) (C : Copying S) (laws : Lawful M) (w : World S) (i : Inv M C w) (n : ℕ)
     (x : Node S) → slice_get w.nodes n ≡ Some x → NodeStands M x
 node_stands {S} M C laws w i n x there = by_role (role_or_spare x.role)
   where
-    by_part : Acting M C w i.top i.trace n x (i.each x.generation) → NodeStands M x
-    by_part (PrimaryActs e is_primary place) = primary_stands M C laws w i x is_primary
-    by_part (BackupActs e held b place) = backup_stands M C laws w i x b.held b.state
+    by_part : Acting M C w i n x → NodeStands M x
+    by_part (PrimaryActs q p) = primary_stands M C laws w i x q.is_primary
+    by_part (BackupActs q p) =
+        backup_stands M C laws (line_at i x) x (i.each x.generation).sound q.is_backup.held q.is_backup.state
 
     by_role : (x.role ≡ Spare) ⊎ (x.role ≡ Spare → ⊥) → NodeStands M x
     by_role (inl s) =
         idle_stands M x (λ h. elim h [ inl k ↦ (cc) | inr k ↦ (cc) ]) (λ h. elim h [ inl k ↦ (cc) | inr k ↦ (cc) ])
-    by_role (inr s) = by_part (acting M C w i.top i.trace n x (i.each x.generation) there s)
+    by_role (inr s) = by_part (acting M C w i n x there s)
 
 pub nodes_stand : {S : Type 0} (M : Machine S) (C : Copying S) → Lawful M → IsCopying M C → (w : World S) →
     Reached M C w → (n : ℕ) (x : Node S) → slice_get w.nodes n ≡ Some x → NodeStands M x

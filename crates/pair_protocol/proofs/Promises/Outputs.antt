@@ -13,6 +13,7 @@ use Rattle.pair_protocol.specs.Node.{Node}
 use Rattle.pair_protocol.specs.Traces.{cut}
 use Rattle.pair_protocol.specs.World.{Arrival, World, accepted, accepted_after, terminal}
 use Rattle.pair_protocol.proofs.Invariant.{AsAlone, AsBackup, AsDraining, AsJoining, AtTop, BackupHere, BackupLeft, BackupState, BackupWon, Inv, Line, LineOf, Presence, PrimaryHere, PrimaryLeft, PrimaryWon, Stage, Undecided, Unused, settled, settled_moves}
+use Rattle.pair_protocol.proofs.Invariant.Frames.{with_own}
 use Rattle.pair_protocol.proofs.Traces.Cuts.{cut-prefix}
 use Rattle.pair_protocol.proofs.Traces.Lists.{bool_cases, get-at, prefix-next}
 use Rattle.pair_protocol.proofs.Traces.Moves.{output-append, runs-append, runs-prefix, runs-split}
@@ -112,30 +113,30 @@ trace_runs {S} M C w i = let r = by_state l.stage t.primary.is_primary.runs t.ba
     held_is = ap (λ es. cut (length es) l.own) (sym t.backup.held)
 
     front : (u : S) × Runs M l.mid (cut (length l.held) l.own) u
-    front = runs-prefix M l.mid o.recorded.0 (cut (length l.held) l.own) l.own (cut-prefix (length l.held) l.own)
-        (recorded-runs M l.mid o.recorded.0 l.own o.recorded.1)
+    front = runs-prefix M l.mid o.sound.recorded.0 (cut (length l.held) l.own) l.own (cut-prefix (length l.held) l.own)
+        (recorded-runs M l.mid o.sound.recorded.0 l.own o.sound.recorded.1)
 
     by_state : (stage : Stage) → Runs M l.mid l.own t.primary.a.machine →
-        BackupState M C stage l.base l.own l.more l.mid b →
+        BackupState M C (with_own l l.own stage) b →
         (u : S) × Runs M M.boot (settled_moves stage l.base l.own l.more (length l.held)) u
     by_state Undecided r s = (
       front.0,
       runs-append M M.boot l.mid front.0 l.base
-          (cut (length l.held) l.own) o.based front.1,
+          (cut (length l.held) l.own) o.sound.based front.1,
     )
-    by_state PrimaryWon r s = (t.primary.a.machine, runs-append M M.boot l.mid t.primary.a.machine l.base l.own o.based r)
+    by_state PrimaryWon r s = (t.primary.a.machine, runs-append M M.boot l.mid t.primary.a.machine l.base l.own o.sound.based r)
     by_state BackupWon r (AsJoining x y z) = absurd (y refl)
     by_state BackupWon r (AsBackup x y z) = absurd (y refl)
     by_state BackupWon r (AsDraining x y z f) =
         let e : cut (length l.held) l.own ++ l.more ≡ cut (length l.held) l.own =
         ap (λ zs. cut (length l.held) l.own ++ zs) z ∙ append-nil (cut (length l.held) l.own) in (
           front.0,
-          runs-append M M.boot l.mid front.0 l.base (cut (length l.held) l.own ++ l.more) o.based
+          runs-append M M.boot l.mid front.0 l.base (cut (length l.held) l.own ++ l.more) o.sound.based
               (subst (λ zs. Runs M l.mid zs front.0) (sym e) front.1),
         )
     by_state BackupWon r (AsAlone x y z c k) = (
       b.machine,
-      runs-append M M.boot l.mid b.machine l.base (cut (length l.held) l.own ++ l.more) o.based
+      runs-append M M.boot l.mid b.machine l.base (cut (length l.held) l.own ++ l.more) o.sound.based
           (subst (λ zs. Runs M l.mid (zs ++ l.more) b.machine) (sym held_is) z),
     )
 
@@ -144,7 +145,7 @@ pub output_is : {S : Type 0} (M : Machine S) (C : Copying S) → Lawful M → (w
 output_is M C laws w i p =
     let r = trace_runs M C w i in
     let window = laws.window i.trace r.0 p r.1 in
-    let done = i.global.done p in
+    let done = i.global.came.done p in
     let front : IsPrefix (accepted w p) (output p i.trace) =
     accepted_front [] (output p i.trace) (terminal w p).arrivals (output p i.trace, refl)
     (λ a m. byte_in_output M laws i.trace r.0 p a.number a.byte r.1 (i.global.arrived p a m)) in

@@ -191,7 +191,7 @@ reads_kept : {S : Type 0} (M : Machine S) (C : Copying S) (laws : Lawful M) (w :
     (moves : List Move) (r : Reach M (x.copy ++ inputs_of (take k x.held)) count moves) →
     (sector_record M w.puts (M.address r.last drive sector)).number ≡ number
 reads_kept {S} M C laws w i n x still k count drive sector number bytes low got read moves r =
-    go (acting M C w i.top i.trace n x (i.each x.generation) still.there
+    go (acting M C w i n x still.there
     (λ z. by_role (λ q. (cc)) (λ q. (cc)) still.who))
   where
     by_role : {X : Type 0} → ((x.role ≡ Backup) → X) → ((x.role ≡ Draining) → X)
@@ -205,16 +205,16 @@ reads_kept {S} M C laws w i n x still k count drive sector number bytes low got 
     l : Line S
     l = o.line
 
-    go : Acting M C w i.top i.trace n x o → (sector_record M w.puts (M.address r.last drive sector)).number ≡ number
-    go (PrimaryActs e is_primary p) = absurd (by_role (λ q. elim is_primary.role [ inl z ↦ (cc) | inr z ↦ (let y = z.0 in (cc)) ])
-        (λ q. elim is_primary.role [ inl z ↦ (cc) | inr z ↦ (let y = z.0 in (cc)) ]) still.who)
-    go (BackupActs e held is_backup p) =
+    go : Acting M C w i n x → (sector_record M w.puts (M.address r.last drive sector)).number ≡ number
+    go (PrimaryActs a p) = absurd (by_role (λ q. elim a.is_primary.role [ inl z ↦ (cc) | inr z ↦ (let y = z.0 in (cc)) ])
+        (λ q. elim a.is_primary.role [ inl z ↦ (cc) | inr z ↦ (let y = z.0 in (cc)) ]) still.who)
+    go (BackupActs a p) =
         subst (λ v. (sector_record M w.puts (M.address v drive sector)).number ≡ number) (sym same)
-        (read_is_kept M laws l.base b.front l.mid u.0 w.puts drive sector number bytes o.based u.1 accepts.1.allowed
-        (put-prefix w.puts (l.base ++ b.front) (l.base ++ l.own) whole o.put) written)
+        (read_is_kept M laws l.base b.front l.mid u.0 w.puts drive sector number bytes o.sound.based u.1 accepts.1.allowed
+        (put-prefix w.puts (l.base ++ b.front) (l.base ++ l.own) whole o.came.put) written)
       where
         there : slice_get (entries (steps l.base) l.own) k ≡ Some (entry.Sector count drive sector number bytes)
-        there = get-prefix x.held (entries (steps l.base) l.own) k _ is_backup.held got
+        there = get-prefix x.held (entries (steps l.base) l.own) k _ a.is_backup.held got
 
         b : Before (steps l.base) l.own k count drive sector number bytes
         b = before (steps l.base) l.own k count drive sector number bytes there
@@ -223,19 +223,19 @@ reads_kept {S} M C laws w i n x still k count drive sector number bytes low got 
         whole = prefix-under l.base b.front l.own (Take (Sector drive sector number bytes) ∷ b.rest, sym b.own_is)
 
         u : (v : S) × Recorded M l.mid b.front v
-        u = recorded-prefix M l.mid o.recorded.0 b.front l.own (Take (Sector drive sector number bytes) ∷ b.rest, sym b.own_is)
-            o.recorded.1
+        u = recorded-prefix M l.mid o.sound.recorded.0 b.front l.own (Take (Sector drive sector number bytes) ∷ b.rest, sym b.own_is)
+            o.sound.recorded.1
 
-        accepts : (v : S) × Accepts M u.0 (Sector drive sector number bytes) v × Recorded M v b.rest o.recorded.0
-        accepts = recorded-rest M l.mid u.0 o.recorded.0 b.front (Take (Sector drive sector number bytes) ∷ b.rest)
+        accepts : (v : S) × Accepts M u.0 (Sector drive sector number bytes) v × Recorded M v b.rest o.sound.recorded.0
+        accepts = recorded-rest M l.mid u.0 o.sound.recorded.0 b.front (Take (Sector drive sector number bytes) ∷ b.rest)
             (recorded-runs M l.mid u.0 b.front u.1)
-            (subst (λ zs. Recorded M l.mid zs o.recorded.0) b.own_is o.recorded.1)
+            (subst (λ zs. Recorded M l.mid zs o.sound.recorded.0) b.own_is o.sound.recorded.1)
 
         not_primary : l.stage ≡ PrimaryWon → ⊥
-        not_primary = won still.who is_backup.state
+        not_primary = won still.who a.is_backup.state
           where
             won : ((x.role ≡ Backup) × (winner_in w.winners x.generation ≡ None)) ⊎ (x.role ≡ Draining)
-                → BackupState M C l.stage l.base l.own l.more l.mid x → l.stage ≡ PrimaryWon → ⊥
+                → BackupState M C l x → l.stage ≡ PrimaryWon → ⊥
             won (inl h) state z =
                 let f : winner_in w.winners x.generation ≡ Some l.primary =
                 o.tied ∙ ap (λ q. winner_at q l.primary l.backup) z in
@@ -251,19 +251,19 @@ reads_kept {S} M C laws w i n x still k count drive sector number bytes low got 
         written : (v : SectorWrite) → Among v w.puts → Among (Write v) (operations (l.base ++ b.front))
         written v m =
             let z = o.reads.waits (still.highest_is ∙ highest_is M C w i) not_primary x
-            (subst (λ j. slice_get w.nodes j ≡ Some x) e still.there) refl repeats v (i.global.put_sent v m) k _ low got read
+            (subst (λ j. slice_get w.nodes j ≡ Some x) a.spot still.there) refl repeats v (i.global.puts_are v m).1 k _ low got read
             in
             subst (Among (Write v))
             (operations-append l.base (cut k l.own) ∙ ap (λ os. operations l.base ++ os) b.operations_are
             ∙ sym (operations-append l.base b.front)) z
 
         runs : Runs M M.boot (l.base ++ b.front) u.0
-        runs = runs-append M M.boot l.mid u.0 l.base b.front o.based (recorded-runs M l.mid u.0 b.front u.1)
+        runs = runs-append M M.boot l.mid u.0 l.base b.front o.sound.based (recorded-runs M l.mid u.0 b.front u.1)
 
         settled_so : IsPrefix (l.base ++ b.front) i.trace
         settled_so =
             let few = slice_get_within x.held k _ got in
-            let same = ap length held in
+            let same = ap length a.held in
             prefix-trans (l.base ++ b.front) (l.base ++ cut (suc k) l.own) i.trace
             (prefix-under l.base b.front (cut (suc k) l.own) b.within)
             (prefix-trans (l.base ++ cut (suc k) l.own) (settled l) i.trace
@@ -272,7 +272,7 @@ reads_kept {S} M C laws w i n x still k count drive sector number bytes low got 
         taken : take k x.held ≡ entries (steps l.base) b.front
         taken =
             let few = slice_get_within x.held k _ got in
-            sym (take-append-le k x.held is_backup.held.0 (omega (arith, few))) ∙ ap (take k) is_backup.held.1 ∙ sym b.entries_are
+            sym (take-append-le k x.held a.is_backup.held.0 (omega (arith, few))) ∙ ap (take k) a.is_backup.held.1 ∙ sym b.entries_are
 
         list_is : inputs 0 (l.base ++ b.front) ≡ x.copy ++ inputs_of (take k x.held)
         list_is =
@@ -280,7 +280,7 @@ reads_kept {S} M C laws w i n x still k count drive sector number bytes low got 
             ∙ ap (λ c. inputs 0 l.base ++ inputs c b.front) (let z : 0 + steps l.base ≡ steps l.base = omega arith in z)
             ∙ ap (λ ts. inputs 0 l.base ++ ts) (sym (inputs_of-entries (steps l.base) b.front))
             ∙ ap (λ es. inputs 0 l.base ++ inputs_of es) (sym taken)
-            ∙ ap (λ ts. ts ++ inputs_of (take k x.held)) (sym is_backup.copy)
+            ∙ ap (λ ts. ts ++ inputs_of (take k x.held)) (sym a.is_backup.copy)
 
         trace : Reach M (x.copy ++ inputs_of (take k x.held)) count (l.base ++ b.front)
         trace = record {

@@ -11,7 +11,7 @@ use Rattle.pair_protocol.specs.Traces.{cut}
 use Rattle.pair_protocol.specs.World.{World, winner_in}
 use Rattle.pair_protocol.proofs.Invariant.{AsAlone, AsBackup, AsDraining, AsJoining, BackupState, BackupWon, Inv, IsBackup, IsPrimary, Line, LineOf, PrimaryWon, Stage, Undecided, settled, settled_moves, winner_at}
 use Rattle.pair_protocol.proofs.Invariant.Acting.{Acting, BackupActs, BackupAtTop, BackupEarlier, PrimaryActs, PrimaryAtTop, PrimaryEarlier, acting}
-use Rattle.pair_protocol.proofs.Invariant.Frames.{backup-no_spare, primary-no_spare}
+use Rattle.pair_protocol.proofs.Invariant.Frames.{backup-no_spare, primary-no_spare, with_own}
 use Rattle.pair_protocol.proofs.Keeps.Replay.{entries-held, held-list}
 use Rattle.pair_protocol.proofs.Promises.Outputs.{Top, top_of}
 use Rattle.pair_protocol.proofs.Traces.Cuts.{last-cut}
@@ -44,14 +44,14 @@ pub generation_le : {S : Type 0} (M : Machine S) (C : Copying S) (w : World S) (
     slice_get w.nodes n ≡ Some x → x.generation ≤ i.top
 generation_le {S} M C w i n x h = elim (role_or_spare x.role) [
   | inl r ↦ (let e = i.spares n x h r in omega arith)
-  | inr r ↦ go (acting M C w i.top i.trace n x (i.each x.generation) h r)
+  | inr r ↦ go (acting M C w i n x h r)
 ]
   where
-    go : Acting M C w i.top i.trace n x (i.each x.generation) → x.generation ≤ i.top
-    go (PrimaryActs e l (PrimaryAtTop g s b)) = omega arith
-    go (PrimaryActs e l (PrimaryEarlier g s b)) = omega arith
-    go (BackupActs e l b (BackupAtTop g s q)) = omega arith
-    go (BackupActs e l b (BackupEarlier g s q)) = omega arith
+    go : Acting M C w i n x → x.generation ≤ i.top
+    go (PrimaryActs q (PrimaryAtTop g s b)) = omega arith
+    go (PrimaryActs q (PrimaryEarlier g s b)) = omega arith
+    go (BackupActs q (BackupAtTop g s a)) = omega arith
+    go (BackupActs q (BackupEarlier g s a)) = omega arith
 
 pub highest_is : {S : Type 0} (M : Machine S) (C : Copying S) (w : World S) (i : Inv M C w) → highest w.nodes ≡ i.top
 highest_is M C w i =
@@ -67,7 +67,7 @@ abbrev IsSettled : {S : Type 0} → Machine S → Node S → List Move → Type 
 IsSettled M x t = (list_of x x.role ≡ inputs 0 t) × (count_in M x x.role ≡ steps t)
 
 pub primary-settles : {S : Type 0} (M : Machine S) (l : Line S) (x : Node S) →
-    IsPrimary M l.stage l.base l.own l.mid (length l.held) x → l.stage ≡ PrimaryWon → IsSettled M x (settled l)
+    IsPrimary M l x → l.stage ≡ PrimaryWon → IsSettled M x (settled l)
 primary-settles {S} M l x is_primary h = go (roles is_primary.role)
   where
     t : settled l ≡ l.base ++ l.own
@@ -89,7 +89,7 @@ primary-settles {S} M l x is_primary h = go (roles is_primary.role)
 
 -- of a node that holds entries
 pub held-settles : {S : Type 0} (M : Machine S) (C : Copying S) (l : Line S) (x : Node S) → x.held ≡ l.held →
-    IsBackup M C l.stage l.base l.own l.more l.mid x → settled l ≡ l.base ++ cut (length x.held) l.own →
+    IsBackup M C l x → settled l ≡ l.base ++ cut (length x.held) l.own →
     (x.copy ++ inputs_of x.held ≡ inputs 0 (settled l)) × (last_count x.start x.held ≡ steps (settled l))
 held-settles M C l x held b t =
     let e = entries-held (steps l.base) l.own x.held b.held in (
@@ -100,7 +100,7 @@ held-settles M C l x held b t =
     )
 
 pub backup-settles : {S : Type 0} (M : Machine S) (C : Copying S) (l : Line S) (x : Node S) → x.held ≡ l.held →
-    IsBackup M C l.stage l.base l.own l.more l.mid x → (l.stage ≡ PrimaryWon → ⊥) → IsSettled M x (settled l)
+    IsBackup M C l x → (l.stage ≡ PrimaryWon → ⊥) → IsSettled M x (settled l)
 backup-settles {S} M C l x held b not_primary = go b.state
   where
     undecided_moves : (stage : Stage) → (stage ≡ PrimaryWon → ⊥) → (stage ≡ BackupWon → ⊥) →
@@ -109,7 +109,7 @@ backup-settles {S} M C l x held b not_primary = go b.state
     undecided_moves PrimaryWon h k = absurd (h refl)
     undecided_moves BackupWon h k = absurd (k refl)
 
-    go : BackupState M C l.stage l.base l.own l.more l.mid x → IsSettled M x (settled l)
+    go : BackupState M C l x → IsSettled M x (settled l)
     go (AsJoining r s f) = (let h = held-settles M C l x held b (undecided_moves l.stage not_primary s) in
         (ap (list_of x) r ∙ h.0, ap (count_in M x) r ∙ h.1))
     go (AsBackup r s f) = (let h = held-settles M C l x held b (undecided_moves l.stage not_primary s) in
@@ -134,7 +134,7 @@ backup-settles {S} M C l x held b not_primary = go b.state
 -- whichever node settles, it gives the trace's list and count
 pub settles_trace : {S : Type 0} (M : Machine S) (C : Copying S) (w : World S) (i : Inv M C w) (n : ℕ) (x : Node S) →
     Settles w n x → IsSettled M x i.trace
-settles_trace {S} M C w i n x s = go (acting M C w i.top i.trace n x o s.there s.a_node) s.who
+settles_trace {S} M C w i n x s = go (acting M C w i n x s.there s.a_node) s.who
   where
     at_top : x.generation ≡ i.top
     at_top = s.highest_is ∙ highest_is M C w i
@@ -148,11 +148,11 @@ settles_trace {S} M C w i n x s = go (acting M C w i.top i.trace n x o s.there s
     primary_won : (stage : Stage) → winner_at stage l.primary l.backup ≡ Some n → n ≡ l.primary → stage ≡ PrimaryWon
     primary_won Undecided h e = (cc)
     primary_won PrimaryWon h e = refl
-    primary_won BackupWon h e = absurd (o.apart (sym e ∙ sym (same_some l.backup n (Some l.backup) refl h)))
+    primary_won BackupWon h e = absurd (o.sound.apart (sym e ∙ sym (same_some l.backup n (Some l.backup) refl h)))
 
     backup_won : (stage : Stage) → winner_at stage l.primary l.backup ≡ Some n → n ≡ l.backup → stage ≡ PrimaryWon → ⊥
     backup_won Undecided h e k = (cc)
-    backup_won PrimaryWon h e k = o.apart (same_some l.primary n (Some l.primary) refl h ∙ e)
+    backup_won PrimaryWon h e k = o.sound.apart (same_some l.primary n (Some l.primary) refl h ∙ e)
     backup_won BackupWon h e k = (cc)
 
     none_won : (stage : Stage) → winner_at stage l.primary l.backup ≡ None → stage ≡ PrimaryWon → ⊥
@@ -164,18 +164,18 @@ settles_trace {S} M C w i n x s = go (acting M C w i.top i.trace n x o s.there s
     primary_is_no_backup (inl h) k = let e = ap is_backup h in (cc)
     primary_is_no_backup (inr h) k = let e = ap is_backup h.0 in (cc)
 
-    go : Acting M C w i.top i.trace n x o →
+    go : Acting M C w i n x →
         (winner_in w.winners x.generation ≡ Some n)
         ⊎ ((winner_in w.winners x.generation ≡ None) × (is_backup x.role ≡ true)) → IsSettled M x i.trace
-    go (PrimaryActs e is_primary (PrimaryEarlier g q b)) who = (let t = at_top in absurd (omega arith))
-    go (PrimaryActs e is_primary (PrimaryAtTop g q b)) (inl h) =
-        subst (λ z. IsSettled M x z) q (primary-settles M l x is_primary (primary_won l.stage (sym o.tied ∙ h) e))
-    go (PrimaryActs e is_primary (PrimaryAtTop g q b)) (inr h) = absurd (primary_is_no_backup is_primary.role h.1)
-    go (BackupActs e held b (BackupEarlier g q a)) who = (let t = at_top in absurd (omega arith))
-    go (BackupActs e held b (BackupAtTop g q a)) (inl h) =
-        subst (λ z. IsSettled M x z) q (backup-settles M C l x held b (backup_won l.stage (sym o.tied ∙ h) e))
-    go (BackupActs e held b (BackupAtTop g q a)) (inr h) =
-        subst (λ z. IsSettled M x z) q (backup-settles M C l x held b (none_won l.stage (sym o.tied ∙ h.0)))
+    go (PrimaryActs q (PrimaryEarlier g t b)) who = (let h = at_top in absurd (omega arith))
+    go (PrimaryActs q (PrimaryAtTop g t b)) (inl h) =
+        subst (λ z. IsSettled M x z) t (primary-settles M l x q.is_primary (primary_won l.stage (sym o.tied ∙ h) q.spot))
+    go (PrimaryActs q (PrimaryAtTop g t b)) (inr h) = absurd (primary_is_no_backup q.is_primary.role h.1)
+    go (BackupActs q (BackupEarlier g t a)) who = (let h = at_top in absurd (omega arith))
+    go (BackupActs q (BackupAtTop g t a)) (inl h) =
+        subst (λ z. IsSettled M x z) t (backup-settles M C l x q.held q.is_backup (backup_won l.stage (sym o.tied ∙ h) q.spot))
+    go (BackupActs q (BackupAtTop g t a)) (inr h) =
+        subst (λ z. IsSettled M x z) t (backup-settles M C l x q.held q.is_backup (none_won l.stage (sym o.tied ∙ h.0)))
 
 -- some node settles
 pub settles : {S : Type 0} (M : Machine S) (C : Copying S) (w : World S) (i : Inv M C w) →
@@ -201,22 +201,33 @@ settles {S} M C w i = go l.stage o.tied t.backup.is_backup.state
     b = t.backup.b
 
     a_node : a.role ≡ Spare → ⊥
-    a_node = primary-no_spare M l.stage l.base l.own l.mid (length l.held) a t.primary.is_primary
+    a_node = primary-no_spare M l a t.primary.is_primary
 
     b_node : b.role ≡ Spare → ⊥
-    b_node = backup-no_spare M C l.stage l.base l.own l.more l.mid b t.backup.is_backup.state
+    b_node = backup-no_spare M C l b t.backup.is_backup.state
 
-    none_is : winner_in w.winners i.top ≡ None → winner_in w.winners b.generation ≡ None
-    none_is h = ap (winner_in w.winners) t.backup.generation ∙ h
+    high_a : a.generation ≡ highest w.nodes
+    high_a = t.primary.generation ∙ sym high
+
+    high_b : b.generation ≡ highest w.nodes
+    high_b = t.backup.generation ∙ sym high
+
+    waits : winner_in w.winners i.top ≡ None → is_backup b.role ≡ true → Settles w l.backup b
+    waits h r = record {
+      there = t.backup.there;
+      highest_is = high_b;
+      a_node = b_node;
+      who = inr (ap (winner_in w.winners) t.backup.generation ∙ h, r);
+    }
 
     go : (stage : Stage) → winner_in w.winners i.top ≡ winner_at stage l.primary l.backup →
-        BackupState M C stage l.base l.own l.more l.mid b → (n : ℕ) × (x : Node S) × Settles w n x
+        BackupState M C (with_own l l.own stage) b → (n : ℕ) × (x : Node S) × Settles w n x
     go PrimaryWon e s = (
       l.primary,
       a,
       record {
         there = t.primary.there;
-        highest_is = t.primary.generation ∙ sym high;
+        highest_is = high_a;
         a_node = a_node;
         who = inl (ap (winner_in w.winners) t.primary.generation ∙ e);
       },
@@ -226,31 +237,13 @@ settles {S} M C w i = go l.stage o.tied t.backup.is_backup.state
       b,
       record {
         there = t.backup.there;
-        highest_is = t.backup.generation ∙ sym high;
+        highest_is = high_b;
         a_node = b_node;
         who = inl (ap (winner_in w.winners) t.backup.generation ∙ e);
       },
     )
-    go Undecided e (AsJoining r s f) = (
-      l.backup,
-      b,
-      record {
-        there = t.backup.there;
-        highest_is = t.backup.generation ∙ sym high;
-        a_node = b_node;
-        who = inr (none_is e, ap is_backup r);
-      },
-    )
-    go Undecided e (AsBackup r s f) = (
-      l.backup,
-      b,
-      record {
-        there = t.backup.there;
-        highest_is = t.backup.generation ∙ sym high;
-        a_node = b_node;
-        who = inr (none_is e, ap is_backup r);
-      },
-    )
+    go Undecided e (AsJoining r s f) = (l.backup, b, waits e (ap is_backup r))
+    go Undecided e (AsBackup r s f) = (l.backup, b, waits e (ap is_backup r))
     go Undecided e (AsDraining r s m f) = (cc)
     go Undecided e (AsAlone r s u c k) = (cc)
 

@@ -150,7 +150,7 @@ get-last [] s z (suc m) h = (cc)
 get-last (x ∷ xs) s z zero h = inl h
 get-last (x ∷ xs) s z (suc m) h = get-last xs s z m h
 
-among-get : {A : Type 0} (xs : List A) (k : ℕ) (x : A) → slice_get xs k ≡ Some x → Among x xs
+pub among-get : {A : Type 0} (xs : List A) (k : ℕ) (x : A) → slice_get xs k ≡ Some x → Among x xs
 among-get [] k x h = (cc)
 among-get (y ∷ xs) zero x h = inl (cc)
 among-get (y ∷ xs) (suc k) x h = inr (among-get xs k x h)
@@ -161,7 +161,7 @@ pub get-at : {A : Type 0} (xs ys : List A) (x : A) → slice_get (xs ++ x ∷ ys
 get-at [] ys x = refl
 get-at (y ∷ xs) ys x = get-at xs ys x
 
-drop-at : {A : Type 0} (xs : List A) (k : ℕ) (x : A) → slice_get xs k ≡ Some x → drop k xs ≡ x ∷ drop (suc k) xs
+pub drop-at : {A : Type 0} (xs : List A) (k : ℕ) (x : A) → slice_get xs k ≡ Some x → drop k xs ≡ x ∷ drop (suc k) xs
 drop-at [] k x h = (cc)
 drop-at {A} (y ∷ xs) zero x h = let e : y ≡ x = (cc) in ap (λ (z : A). z ∷ xs) e
 drop-at (y ∷ xs) (suc k) x h = drop-at xs k x h
@@ -172,10 +172,10 @@ take-at [] k x h = (cc)
 take-at {A} (y ∷ xs) zero x h = let e : y ≡ x = (cc) in ap (λ (z : A). z ∷ []) e
 take-at (y ∷ xs) (suc k) x h = ap (λ zs. y ∷ zs) (take-at xs k x h)
 
-le-true : (a b : ℕ) → nat_le a b ≡ true → a ≤ b
+pub le-true : (a b : ℕ) → nat_le a b ≡ true → a ≤ b
 le-true a b h = grind (arith, nat_tests)
 
-le-not : (a b : ℕ) → (a ≤ b → ⊥) → b < a
+pub le-not : (a b : ℕ) → (a ≤ b → ⊥) → b < a
 le-not zero b never = absurd (never (omega arith))
 le-not (suc a) zero never = omega arith
 le-not (suc a) (suc b) never = (let l = le-not a b (λ l. never (omega (arith, l))) in omega (arith, l))
