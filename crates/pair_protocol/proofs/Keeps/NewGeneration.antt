@@ -27,52 +27,51 @@ pub record AloneAt {S : Type 0} (M : Machine S) (C : Copying S) (w : World S) (i
   pub list : x.list ≡ inputs 0 i.trace
   pub count : M.count x.machine ≡ steps i.trace
 
-pub alone_at : {S : Type 0} (M : Machine S) (C : Copying S) (w : World S) (i : Inv M C w) (n : ℕ) (x : Node S) →
-    x.role ≡ Alone → Acting M C w i n x → AloneAt M C w i x
-alone_at {S} M C w i n x role (PrimaryActs q place) = go q.is_primary.role place
-  where
-    l : Line S
-    l = line_at i x
+module _ {S : Type 0} (M : Machine S) (C : Copying S) (w : World S) (i : Inv M C w) (n : ℕ) (x : Node S) where
+  pub alone_at : x.role ≡ Alone → Acting M C w i n x → AloneAt M C w i x
+  alone_at role (PrimaryActs q place) = go q.is_primary.role place
+    where
+      l : Line S
+      l = line_at i x
 
-    go : (x.role ≡ Primary) ⊎ ((x.role ≡ Alone) × (l.stage ≡ PrimaryWon)) →
-        PrimaryPlace M C w.nodes i.top i.trace x.generation l → AloneAt M C w i x
-    go (inl r) p = (cc)
-    go (inr r) (PrimaryEarlier g s b) = (let k = r.1 in (cc))
-    go (inr r) (PrimaryAtTop g s b) =
-        let t : l.base ++ l.own ≡ i.trace = ap (λ z. settled_moves z l.base l.own l.more (length l.held)) (sym r.1)
-        ∙ s in
-        record {
-          at_top = g;
-          runs = subst (λ zs. Runs M M.boot zs x.machine) t (primary-runs M C w i x q.is_primary);
-          list = q.is_primary.list ∙ ap (inputs 0) t;
-          count = q.is_primary.count ∙ sym (steps-append l.base l.own) ∙ ap steps t;
-        }
-alone_at {S} M C w i n x role (BackupActs q place) = go place
-  where
-    l : Line S
-    l = line_at i x
+      go : (x.role ≡ Primary) ⊎ ((x.role ≡ Alone) × (l.stage ≡ PrimaryWon)) →
+          PrimaryPlace M C w.nodes i.top i.trace x.generation l → AloneAt M C w i x
+      go (inl r) p = (cc)
+      go (inr r) (PrimaryEarlier g s b) = (let k = r.1 in (cc))
+      go (inr r) (PrimaryAtTop g s b) =
+          let t : l.base ++ l.own ≡ i.trace = ap (λ z. settled_moves z l.base l.own l.more (length l.held)) (sym r.1)
+          ∙ s in
+          record {
+            at_top = g;
+            runs = subst (λ zs. Runs M M.boot zs x.machine) t (primary-runs M C w i x q.is_primary);
+            list = q.is_primary.list ∙ ap (inputs 0) t;
+            count = q.is_primary.count ∙ sym (steps-append l.base l.own) ∙ ap steps t;
+          }
+  alone_at role (BackupActs q place) = go place
+    where
+      l : Line S
+      l = line_at i x
 
-    k : BackupAlone M l x
-    k = backup-alone M C l x q.is_backup.state role
+      k : BackupAlone M l x
+      k = backup-alone M C l x q.is_backup.state role
 
-    t : i.trace ≡ l.base ++ (cut (length x.held) l.own ++ l.more)
-    t = alone-trace M C w i n x q k
+      t : i.trace ≡ l.base ++ (cut (length x.held) l.own ++ l.more)
+      t = alone-trace M C w i n x q k
 
-    go : BackupPlace M w.nodes i.top i.trace x.generation l → AloneAt M C w i x
-    go (BackupEarlier g s a) = (let won = k.won in (cc))
-    go (BackupAtTop g s a) = record {
-      at_top = g;
-      runs = subst (λ zs. Runs M M.boot zs x.machine) (sym t)
-          (runs-append M M.boot l.mid x.machine l.base (cut (length x.held) l.own ++ l.more)
-          (i.each x.generation).sound.based k.runs);
-      list = k.list ∙ ap (inputs 0) (sym t);
-      count = k.count ∙ sym (steps-append l.base (cut (length x.held) l.own ++ l.more)) ∙ ap steps (sym t);
-    }
+      go : BackupPlace M w.nodes i.top i.trace x.generation l → AloneAt M C w i x
+      go (BackupEarlier g s a) = (let won = k.won in (cc))
+      go (BackupAtTop g s a) = record {
+        at_top = g;
+        runs = subst (λ zs. Runs M M.boot zs x.machine) (sym t)
+            (runs-append M M.boot l.mid x.machine l.base (cut (length x.held) l.own ++ l.more)
+            (i.each x.generation).sound.based k.runs);
+        list = k.list ∙ ap (inputs 0) (sym t);
+        count = k.count ∙ sym (steps-append l.base (cut (length x.held) l.own ++ l.more)) ∙ ap steps (sym t);
+      }
 
-pub alone : {S : Type 0} (M : Machine S) (C : Copying S) (w : World S) (i : Inv M C w) (n : ℕ) (x : Node S) →
-    Acts w n x Alone → AloneAt M C w i x
-alone M C w i n x acts = alone_at M C w i n x acts.role_is
-    (acting M C w i n x acts.there (acts-no_spare w n x Alone acts (λ k. (cc))))
+  pub alone : Acts w n x Alone → AloneAt M C w i x
+  alone acts = alone_at acts.role_is
+      (acting M C w i n x acts.there (acts-no_spare w n x Alone acts (λ k. (cc))))
 
 no_slot : (n i : ℕ) (p : List ℕ) → slice_get (replicate n None) i ≡ Some (Some p) → ⊥
 no_slot zero i p h = (cc)

@@ -24,90 +24,88 @@ use Rattle.pair_protocol.proofs.Keeps.PrimaryLog.{log-do, notes-do, notes-more, 
 use Rattle.pair_protocol.proofs.Traces.Lists.{among-prefix, among-split, bool_cases, map-append, prefix-next}
 use Rattle.pair_protocol.proofs.Traces.Moves.{acceptances-append, entries-append, keys-append, operations-append, operations-prefix, runs-append}
 
--- What may be taken.
+module _ {S : Type 0} (M : Machine S) (w : World S) (x : Node S) where
+  -- What may be taken.
 
-done-take : {S : Type 0} (M : Machine S) (w : World S) (x : Node S) (i : Input) (c : ℕ) → MayTake M w x i →
-    ((p k : ℕ) → M.due_byte x.machine p ≡ Some k → k ≡ acceptances p x.list + 1) →
-    ((p : ℕ) → acceptances p x.list ≤ length (accepted w p)) →
-    (p : ℕ) → acceptances p (x.list ++ timed c i ∷ []) ≤ length (accepted w p)
-done-take M w x (input.Rx q b) c h due done p = let e =
-    acceptances-append p x.list (record { count = c; input = Rx q b } ∷ []) in let d = done p in omega arith
-done-take M w x (input.Sent q) c h due done p =
-    let e = acceptances-append p x.list (record { count = c; input = Sent q } ∷ []) in
-    let d = done p in
-    go e (bool_cases (p == q))
-  where
-    go : acceptances p (x.list ++ record { count = c; input = Sent q } ∷ []) ≡ acceptances p x.list + acceptances p
-        (record { count = c; input = Sent q } ∷ []) → ((p == q) ≡ true) ⊎ ((p == q) ≡ false) →
-        acceptances p (x.list ++ record { count = c; input = Sent q } ∷ []) ≤ length (accepted w p)
-    go e (inl t) =
-        let f : acceptances p (record { count = c; input = Sent q } ∷ []) ≡ 1 = ap (λ b. cond b 1 0 + 0) t in
-        let s : p ≡ q = eqb-true p q t in
-        let k = subst (λ z. (k : ℕ) × (M.due_byte x.machine z ≡ Some k) × (k ≤ length (accepted w z))) (sym s) h in
-        let j = due p k.0 k.1 in
-        let l = k.2 in
-        omega arith
-    go e (inr t) =
-        let f : acceptances p (record { count = c; input = Sent q } ∷ []) ≡ 0 = ap (λ b. cond b 1 0 + 0) t in
-        let d = done p in
-        omega arith
-done-take M w x (input.Sector d k n bytes) c h due done p = let e =
-    acceptances-append p x.list (record { count = c; input = Sector d k } ∷ []) in let v = done p in omega arith
-done-take M w x (input.Written n) c h due done p = let e =
-    acceptances-append p x.list (record { count = c; input = Written n } ∷ []) in let v = done p in omega arith
+  done-take : (i : Input) (c : ℕ) → MayTake M w x i → ((p k : ℕ) → M.due_byte x.machine p ≡ Some k →
+      k ≡ acceptances p x.list + 1) → ((p : ℕ) → acceptances p x.list ≤ length (accepted w p)) → (p : ℕ) →
+      acceptances p (x.list ++ timed c i ∷ []) ≤ length (accepted w p)
+  done-take (input.Rx q b) c h due done p = let e =
+      acceptances-append p x.list (record { count = c; input = Rx q b } ∷ []) in let d = done p in omega arith
+  done-take (input.Sent q) c h due done p =
+      let e = acceptances-append p x.list (record { count = c; input = Sent q } ∷ []) in
+      let d = done p in
+      go e (bool_cases (p == q))
+    where
+      go : acceptances p (x.list ++ record { count = c; input = Sent q } ∷ []) ≡ acceptances p x.list + acceptances p
+          (record { count = c; input = Sent q } ∷ []) → ((p == q) ≡ true) ⊎ ((p == q) ≡ false) →
+          acceptances p (x.list ++ record { count = c; input = Sent q } ∷ []) ≤ length (accepted w p)
+      go e (inl t) =
+          let f : acceptances p (record { count = c; input = Sent q } ∷ []) ≡ 1 = ap (λ b. cond b 1 0 + 0) t in
+          let s : p ≡ q = eqb-true p q t in
+          let k = subst (λ z. (k : ℕ) × (M.due_byte x.machine z ≡ Some k) × (k ≤ length (accepted w z))) (sym s) h in
+          let j = due p k.0 k.1 in
+          let l = k.2 in
+          omega arith
+      go e (inr t) =
+          let f : acceptances p (record { count = c; input = Sent q } ∷ []) ≡ 0 = ap (λ b. cond b 1 0 + 0) t in
+          let d = done p in
+          omega arith
+  done-take (input.Sector d k n bytes) c h due done p = let e =
+      acceptances-append p x.list (record { count = c; input = Sector d k } ∷ []) in let v = done p in omega arith
+  done-take (input.Written n) c h due done p = let e =
+      acceptances-append p x.list (record { count = c; input = Written n } ∷ []) in let v = done p in omega arith
 
-typed-take : {S : Type 0} (M : Machine S) (w : World S) (x : Node S) (i : Input) (c : ℕ) → MayTake M w x i →
-    ((p : ℕ) → M.keys x.machine p ≡ length (keys p x.list)) →
-    ((p : ℕ) → IsPrefix (keys p x.list) (terminal w p).typed) →
-    (p : ℕ) → IsPrefix (keys p (x.list ++ timed c i ∷ [])) (terminal w p).typed
-typed-take M w x (input.Rx q b) c h taken typed p =
-    subst (λ zs. IsPrefix zs (terminal w p).typed)
-    (sym (keys-append p x.list (record { count = c; input = Rx q b } ∷ []))) (go (bool_cases (p == q)))
-  where
-    go : ((p == q) ≡ true) ⊎ ((p == q) ≡ false) →
-        IsPrefix (keys p x.list ++ (cond (p == q) (b ∷ []) [] ++ [])) (terminal w p).typed
-    go (inl t) =
-        let s : p ≡ q = eqb-true p q t in
-        let k0 = subst (λ z. slice_get (terminal w z).typed (M.keys x.machine z) ≡ Some b) (sym s) h in
-        let k = subst (λ z. slice_get (terminal w p).typed z ≡ Some b) (taken p) k0 in
-        let e : b ∷ [] ≡ cond (p == q) (b ∷ []) [] ++ [] = ap (λ v. cond v (b ∷ []) [] ++ []) (sym t) in
-        subst (λ zs. IsPrefix (keys p x.list ++ zs) (terminal w p).typed) e
-        (prefix-next (keys p x.list) (terminal w p).typed b (typed p) k)
-    go (inr t) =
-        let e : [] ≡ cond (p == q) (b ∷ []) [] ++ [] = ap (λ v. cond v (b ∷ []) [] ++ []) (sym t) in
-        subst (λ zs. IsPrefix (keys p x.list ++ zs) (terminal w p).typed) e
-        (subst (λ zs. IsPrefix zs (terminal w p).typed) (sym (append-nil (keys p x.list))) (typed p))
-typed-take M w x (input.Sent q) c h taken typed p =
-    subst (λ zs. IsPrefix zs (terminal w p).typed)
-    (sym (keys-append p x.list (record { count = c; input = Sent q } ∷ []) ∙ append-nil (keys p x.list))) (typed p)
-typed-take M w x (input.Sector d k n bytes) c h taken typed p =
-    subst (λ zs. IsPrefix zs (terminal w p).typed)
-    (sym (keys-append p x.list (record { count = c; input = Sector d k } ∷ []) ∙ append-nil (keys p x.list)))
-    (typed p)
-typed-take M w x (input.Written n) c h taken typed p =
-    subst (λ zs. IsPrefix zs (terminal w p).typed)
-    (sym (keys-append p x.list (record { count = c; input = Written n } ∷ []) ∙ append-nil (keys p x.list))) (typed p)
+  typed-take : (i : Input) (c : ℕ) → MayTake M w x i → ((p : ℕ) → M.keys x.machine p ≡ length (keys p x.list)) →
+      ((p : ℕ) → IsPrefix (keys p x.list) (terminal w p).typed) → (p : ℕ) → IsPrefix (keys p (x.list ++ timed c i ∷ []))
+      (terminal w p).typed
+  typed-take (input.Rx q b) c h taken typed p =
+      subst (λ zs. IsPrefix zs (terminal w p).typed)
+      (sym (keys-append p x.list (record { count = c; input = Rx q b } ∷ []))) (go (bool_cases (p == q)))
+    where
+      go : ((p == q) ≡ true) ⊎ ((p == q) ≡ false) →
+          IsPrefix (keys p x.list ++ (cond (p == q) (b ∷ []) [] ++ [])) (terminal w p).typed
+      go (inl t) =
+          let s : p ≡ q = eqb-true p q t in
+          let k0 = subst (λ z. slice_get (terminal w z).typed (M.keys x.machine z) ≡ Some b) (sym s) h in
+          let k = subst (λ z. slice_get (terminal w p).typed z ≡ Some b) (taken p) k0 in
+          let e : b ∷ [] ≡ cond (p == q) (b ∷ []) [] ++ [] = ap (λ v. cond v (b ∷ []) [] ++ []) (sym t) in
+          subst (λ zs. IsPrefix (keys p x.list ++ zs) (terminal w p).typed) e
+          (prefix-next (keys p x.list) (terminal w p).typed b (typed p) k)
+      go (inr t) =
+          let e : [] ≡ cond (p == q) (b ∷ []) [] ++ [] = ap (λ v. cond v (b ∷ []) [] ++ []) (sym t) in
+          subst (λ zs. IsPrefix (keys p x.list ++ zs) (terminal w p).typed) e
+          (subst (λ zs. IsPrefix zs (terminal w p).typed) (sym (append-nil (keys p x.list))) (typed p))
+  typed-take (input.Sent q) c h taken typed p =
+      subst (λ zs. IsPrefix zs (terminal w p).typed)
+      (sym (keys-append p x.list (record { count = c; input = Sent q } ∷ []) ∙ append-nil (keys p x.list))) (typed p)
+  typed-take (input.Sector d k n bytes) c h taken typed p =
+      subst (λ zs. IsPrefix zs (terminal w p).typed)
+      (sym (keys-append p x.list (record { count = c; input = Sector d k } ∷ []) ∙ append-nil (keys p x.list)))
+      (typed p)
+  typed-take (input.Written n) c h taken typed p =
+      subst (λ zs. IsPrefix zs (terminal w p).typed)
+      (sym (keys-append p x.list (record { count = c; input = Written n } ∷ []) ∙ append-nil (keys p x.list))) (typed p)
 
--- completed writes have arrived
-put-take : {S : Type 0} (M : Machine S) (w : World S) (x : Node S) (i : Input) (c : ℕ) → MayTake M w x i →
-    ((n : ℕ) → Among (WriteDone n) w.messages → HasPut w.puts n) → ArePut w.puts x.list →
-    ArePut w.puts (x.list ++ timed c i ∷ [])
-put-take {S} M w x i c may told h n k =
-    elim (among-split (Written n) (map (λ t. t.input) x.list) (bare i ∷ [])
-    (subst (λ zs. Among (Written n) zs) (map-append (λ (t : Timed). t.input) x.list (timed c i ∷ [])) k)) [
-      | inl q ↦ h n q
-      | inr q ↦ go i may q
-    ]
-  where
-    go : (i : Input) → MayTake M w x i → Among (Written n) (bare i ∷ []) → HasPut w.puts n
-    go (input.Rx p b) m (inl e) = (cc)
-    go (input.Rx p b) m (inr e) = absurd e
-    go (input.Sent p) m (inl e) = (cc)
-    go (input.Sent p) m (inr e) = absurd e
-    go (input.Sector d s j bs) m (inl e) = (cc)
-    go (input.Sector d s j bs) m (inr e) = absurd e
-    go (input.Written j) m (inl e) = (let f : n ≡ j = (cc) in subst (λ z. HasPut w.puts z) (sym f) (told j m))
-    go (input.Written j) m (inr e) = absurd e
+  -- completed writes have arrived
+  put-take : (i : Input) (c : ℕ) → MayTake M w x i → ((n : ℕ) → Among (WriteDone n) w.messages → HasPut w.puts n) →
+      ArePut w.puts x.list → ArePut w.puts (x.list ++ timed c i ∷ [])
+  put-take i c may told h n k =
+      elim (among-split (Written n) (map (λ t. t.input) x.list) (bare i ∷ [])
+      (subst (λ zs. Among (Written n) zs) (map-append (λ (t : Timed). t.input) x.list (timed c i ∷ [])) k)) [
+        | inl q ↦ h n q
+        | inr q ↦ go i may q
+      ]
+    where
+      go : (i : Input) → MayTake M w x i → Among (Written n) (bare i ∷ []) → HasPut w.puts n
+      go (input.Rx p b) m (inl e) = (cc)
+      go (input.Rx p b) m (inr e) = absurd e
+      go (input.Sent p) m (inl e) = (cc)
+      go (input.Sent p) m (inr e) = absurd e
+      go (input.Sector d s j bs) m (inl e) = (cc)
+      go (input.Sector d s j bs) m (inr e) = absurd e
+      go (input.Written j) m (inl e) = (let f : n ≡ j = (cc) in subst (λ z. HasPut w.puts z) (sym f) (told j m))
+      go (input.Written j) m (inr e) = absurd e
 
 -- What is read from the shared disk is what the machine's own disk has.
 

@@ -37,83 +37,82 @@ and-first : (a b : Bool) → (a && b) ≡ true → a ≡ true
 and-first true b h = refl
 and-first false b h = (cc)
 
--- what a primary releases is settled in its own generation
-pub released_here : {S : Type 0} (M : Machine S) (C : Copying S) (laws : Lawful M) (w : World S) (i : Inv M C w) (n : ℕ)
-    (x : Node S) (name : OpId) (o : Operation) → Acts w n x Primary → M.find x.machine name ≡ Some o →
-    covers x.covered x.reported (note_of x.notes name) ≡ true → Among o (operations (settled (line_at i x)))
-released_here {S} M C laws w i n x name o acts pending cover =
-    go (among-split o (operations l.base) (operations l.own)
-    (subst (λ zs. Among o zs) (operations-append l.base l.own)
-    (laws.given (l.base ++ l.own) x.machine name o runs pending)))
-  where
-    l : Line S
-    l = line_at i x
+module _ {S : Type 0} (M : Machine S) (C : Copying S) (laws : Lawful M) (w : World S) (i : Inv M C w) (n : ℕ)
+    (x : Node S) where
+  -- what a primary releases is settled in its own generation
+  pub released_here : (name : OpId) (o : Operation) → Acts w n x Primary → M.find x.machine name ≡ Some o →
+      covers x.covered x.reported (note_of x.notes name) ≡ true → Among o (operations (settled (line_at i x)))
+  released_here name o acts pending cover =
+      go (among-split o (operations l.base) (operations l.own)
+      (subst (λ zs. Among o zs) (operations-append l.base l.own)
+      (laws.given (l.base ++ l.own) x.machine name o runs pending)))
+    where
+      l : Line S
+      l = line_at i x
 
-    p : IsPrimary M l x
-    p = (acting_primary M C w i n x acts).is_primary
+      p : IsPrimary M l x
+      p = (acting_primary M C w i n x acts).is_primary
 
-    runs : Runs M M.boot (l.base ++ l.own) x.machine
-    runs = primary-runs M C w i x p
+      runs : Runs M M.boot (l.base ++ l.own) x.machine
+      runs = primary-runs M C w i x p
 
-    go : Among o (operations l.base) ⊎ Among o (operations l.own) → Among o (operations (settled l))
-    go (inl h) = among-prefix o (operations l.base) (operations (settled l))
-        (operations-prefix l.base (settled l)
-        (subst (λ zs. IsPrefix zs (settled l)) (append-nil l.base)
-        (covers-below l.stage l.base l.own l.more 0 (length l.held) (omega arith)))) h
-    go (inr h) =
-        let r = p.notes acts.role_is o h in
-        let e : id_of o ≡ name = laws.named (l.base ++ l.own) x.machine name o runs pending in
-        let c : r.note.index < x.covered = ltb-true r.note.index x.covered
-        (and-first (nat_lt r.note.index x.covered) (nat_le r.note.after x.reported)
-        (subst (λ z. covers x.covered x.reported z ≡ true) r.found
-        (subst (λ z. covers x.covered x.reported (note_of x.notes z) ≡ true) (sym e) cover))) in
-        let d = p.covered in
-        let k : suc r.note.index ≤ length l.held = omega arith in
-        among-prefix o (operations (l.base ++ cut (suc r.note.index) l.own)) (operations (settled l))
-        (operations-prefix (l.base ++ cut (suc r.note.index) l.own) (settled l)
-        (covers-below l.stage l.base l.own l.more (suc r.note.index) (length l.held) k))
-        (subst (λ zs. Among o zs) (sym (operations-append l.base (cut (suc r.note.index) l.own)))
-        (among-right o (operations l.base) (operations (cut (suc r.note.index) l.own)) r.given))
+      go : Among o (operations l.base) ⊎ Among o (operations l.own) → Among o (operations (settled l))
+      go (inl h) = among-prefix o (operations l.base) (operations (settled l))
+          (operations-prefix l.base (settled l)
+          (subst (λ zs. IsPrefix zs (settled l)) (append-nil l.base)
+          (covers-below l.stage l.base l.own l.more 0 (length l.held) (omega arith)))) h
+      go (inr h) =
+          let r = p.notes acts.role_is o h in
+          let e : id_of o ≡ name = laws.named (l.base ++ l.own) x.machine name o runs pending in
+          let c : r.note.index < x.covered = ltb-true r.note.index x.covered
+          (and-first (nat_lt r.note.index x.covered) (nat_le r.note.after x.reported)
+          (subst (λ z. covers x.covered x.reported z ≡ true) r.found
+          (subst (λ z. covers x.covered x.reported (note_of x.notes z) ≡ true) (sym e) cover))) in
+          let d = p.covered in
+          let k : suc r.note.index ≤ length l.held = omega arith in
+          among-prefix o (operations (l.base ++ cut (suc r.note.index) l.own)) (operations (settled l))
+          (operations-prefix (l.base ++ cut (suc r.note.index) l.own) (settled l)
+          (covers-below l.stage l.base l.own l.more (suc r.note.index) (length l.held) k))
+          (subst (λ zs. Among o zs) (sym (operations-append l.base (cut (suc r.note.index) l.own)))
+          (among-right o (operations l.base) (operations (cut (suc r.note.index) l.own)) r.given))
 
--- and so in the trace
-pub released : {S : Type 0} (M : Machine S) (C : Copying S) (laws : Lawful M) (w : World S) (i : Inv M C w) (n : ℕ)
-    (x : Node S) (name : OpId) (o : Operation) → Acts w n x Primary → M.find x.machine name ≡ Some o →
-    covers x.covered x.reported (note_of x.notes name) ≡ true → Among o (operations i.trace)
-released M C laws w i n x name o acts pending cover =
-    among-prefix o (operations (settled (line_at i x))) (operations i.trace)
-    (operations-prefix (settled (line_at i x)) i.trace (i.each x.generation).below)
-    (released_here M C laws w i n x name o acts pending cover)
+  -- and so in the trace
+  pub released : (name : OpId) (o : Operation) → Acts w n x Primary → M.find x.machine name ≡ Some o →
+      covers x.covered x.reported (note_of x.notes name) ≡ true → Among o (operations i.trace)
+  released name o acts pending cover =
+      among-prefix o (operations (settled (line_at i x))) (operations i.trace)
+      (operations-prefix (settled (line_at i x)) i.trace (i.each x.generation).below)
+      (released_here name o acts pending cover)
 
-pub told_any : {S : Type 0} (M : Machine S) (C : Copying S) (laws : Lawful M) (w : World S) (i : Inv M C w) (n : ℕ)
-    (x : Node S) (p : ℕ) (r : Role) → Acts w n x r → Serving r →
-    keys_covered M x p x.role ≤ length (keys p (inputs 0 i.trace))
-told_any {S} M C laws w i n x p r acts which = go which
-  where
-    l : Line S
-    l = (i.each x.generation).line
+  pub told_any : (p : ℕ) (r : Role) → Acts w n x r → Serving r →
+      keys_covered M x p x.role ≤ length (keys p (inputs 0 i.trace))
+  told_any p r acts which = go which
+    where
+      l : Line S
+      l = (i.each x.generation).line
 
-    go : Serving r → keys_covered M x p x.role ≤ length (keys p (inputs 0 i.trace))
-    go (inl v) =
-        let a = subst (λ z. Acts w n x z) v acts in
-        let q = acting_primary M C w i n x a in
-        let c = x.covered in
-        let e : x.copy ++ inputs_of (take c x.log) ≡ inputs 0 (l.base ++ cut c l.own) =
-        ap (λ ts. ts ++ inputs_of (take c x.log)) q.is_primary.copy
-        ∙ ap (λ es. inputs 0 l.base ++ inputs_of (take c es)) (q.is_primary.log a.role_is)
-        ∙ ap (λ es. inputs 0 l.base ++ inputs_of es) (sym (entries-cut c (steps l.base) l.own))
-        ∙ ap (λ ts. inputs 0 l.base ++ ts) (inputs_of-entries (steps l.base) (cut c l.own))
-        ∙ ap (λ j. inputs 0 l.base ++ inputs j (cut c l.own)) (let z : steps l.base ≡ 0 + steps l.base =
-        omega arith in z)
-        ∙ sym (inputs-append 0 l.base (cut c l.own)) in
-        let m = prefix-length (keys p (inputs 0 (l.base ++ cut c l.own))) (keys p (inputs 0 i.trace))
-        (keys-prefix p 0 (l.base ++ cut c l.own) i.trace (covered M C w i x.generation c q.is_primary.covered)) in
-        let f = ap (λ ts. length (keys p ts)) e in
-        subst (λ z. keys_covered M x p z ≤ length (keys p (inputs 0 i.trace))) (sym a.role_is) (omega arith)
-    go (inr v) =
-        let a = subst (λ z. Acts w n x z) v acts in
-        let q = alone M C w i n x a in
-        let f = laws.takes_keys i.trace x.machine p q.runs in
-        subst (λ z. keys_covered M x p z ≤ length (keys p (inputs 0 i.trace))) (sym a.role_is) (omega arith)
+      go : Serving r → keys_covered M x p x.role ≤ length (keys p (inputs 0 i.trace))
+      go (inl v) =
+          let a = subst (λ z. Acts w n x z) v acts in
+          let q = acting_primary M C w i n x a in
+          let c = x.covered in
+          let e : x.copy ++ inputs_of (take c x.log) ≡ inputs 0 (l.base ++ cut c l.own) =
+          ap (λ ts. ts ++ inputs_of (take c x.log)) q.is_primary.copy
+          ∙ ap (λ es. inputs 0 l.base ++ inputs_of (take c es)) (q.is_primary.log a.role_is)
+          ∙ ap (λ es. inputs 0 l.base ++ inputs_of es) (sym (entries-cut c (steps l.base) l.own))
+          ∙ ap (λ ts. inputs 0 l.base ++ ts) (inputs_of-entries (steps l.base) (cut c l.own))
+          ∙ ap (λ j. inputs 0 l.base ++ inputs j (cut c l.own)) (let z : steps l.base ≡ 0 + steps l.base =
+          omega arith in z)
+          ∙ sym (inputs-append 0 l.base (cut c l.own)) in
+          let m = prefix-length (keys p (inputs 0 (l.base ++ cut c l.own))) (keys p (inputs 0 i.trace))
+          (keys-prefix p 0 (l.base ++ cut c l.own) i.trace (covered M C w i x.generation c q.is_primary.covered)) in
+          let f = ap (λ ts. length (keys p ts)) e in
+          subst (λ z. keys_covered M x p z ≤ length (keys p (inputs 0 i.trace))) (sym a.role_is) (omega arith)
+      go (inr v) =
+          let a = subst (λ z. Acts w n x z) v acts in
+          let q = alone M C w i n x a in
+          let f = laws.takes_keys i.trace x.machine p q.runs in
+          subst (λ z. keys_covered M x p z ≤ length (keys p (inputs 0 i.trace))) (sym a.role_is) (omega arith)
 
 and-second : (a b : Bool) → (a && b) ≡ true → b ≡ true
 and-second true b h = h

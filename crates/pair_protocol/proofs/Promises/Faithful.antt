@@ -148,18 +148,17 @@ extends_at l l' k k' n n' m m' a b c d e = record {
   added_later = subst (λ z. AllFrom z e.added) (sym b) e.added_later;
 }
 
--- What is settled grows if the settled moves do.
-pub grows_by : {S : Type 0} (M : Machine S) (C : Copying S) (w new : World S) (i : Inv M C w) (j : Inv M C new) →
-    IsPrefix i.trace j.trace → (l : List Timed) (n : ℕ) (l' : List Timed) (n' : ℕ) → Settled M w l n →
-    Settled M new l' n' → Extends l n l' n'
-grows_by M C w new i j p l n l' n' h k =
-    let a = settles_trace M C w i h.n h.x h.settles in
-    let b = settles_trace M C new j k.n k.x k.settles in
-    extends_at l l' (inputs 0 i.trace) (inputs 0 j.trace) n n' (steps i.trace) (steps j.trace) (sym h.list_is
-    ∙ a.0) (sym h.count_is ∙ a.1) (sym k.list_is ∙ b.0) (sym k.count_is ∙ b.1) (extends i.trace j.trace p)
+module _ {S : Type 0} (M : Machine S) (C : Copying S) where
+  -- What is settled grows if the settled moves do.
+  pub grows_by : (w new : World S) (i : Inv M C w) (j : Inv M C new) → IsPrefix i.trace j.trace → (l : List Timed)
+      (n : ℕ) (l' : List Timed) (n' : ℕ) → Settled M w l n → Settled M new l' n' → Extends l n l' n'
+  grows_by w new i j p l n l' n' h k =
+      let a = settles_trace M C w i h.n h.x h.settles in
+      let b = settles_trace M C new j k.n k.x k.settles in
+      extends_at l l' (inputs 0 i.trace) (inputs 0 j.trace) n n' (steps i.trace) (steps j.trace) (sym h.list_is
+      ∙ a.0) (sym h.count_is ∙ a.1) (sym k.list_is ∙ b.0) (sym k.count_is ∙ b.1) (extends i.trace j.trace p)
 
--- Every world that actions reach has the invariant.
-pub reached : {S : Type 0} (M : Machine S) (C : Copying S) → Lawful M → IsCopying M C → (w : World S) →
-    Reached M C w → Inv M C w
-reached M C laws copies w AtBoot = at_boot M C laws
-reached M C laws copies w (After {w = v} r c) = (keep M C laws copies v w (reached M C laws copies v r) c).inv
+  -- Every world that actions reach has the invariant.
+  pub reached : Lawful M → IsCopying M C → (w : World S) → Reached M C w → Inv M C w
+  reached laws copies w AtBoot = at_boot M C laws
+  reached laws copies w (After {w = v} r c) = (keep M C laws copies v w (reached laws copies v r) c).inv

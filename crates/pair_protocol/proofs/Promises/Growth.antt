@@ -28,20 +28,19 @@ use Rattle.pair_protocol.proofs.Promises.Settling.{highest_is, settles_trace}
 use Rattle.pair_protocol.proofs.RowActions.{asks_no_spare, row_changes, suspect_wins}
 use Rattle.pair_protocol.proofs.Traces.Lists.{get_set, same_some}
 
--- ---- winners
+module _ {S : Type 0} (M : Machine S) (C : Copying S) where
+  -- ---- winners
 
-winners_more : {S : Type 0} (M : Machine S) (C : Copying S) (w new : World S) → Change M C w new →
-    (more : List Winner) × (new.winners ≡ w.winners ++ more)
-winners_more M C w new (Wins n x r acts nj ns none) = (record { generation = x.generation; node = n } ∷ [], refl)
-winners_more M C w new c = ([], sym (append-nil w.winners))
+  winners_more : (w new : World S) → Change M C w new → (more : List Winner) × (new.winners ≡ w.winners ++ more)
+  winners_more w new (Wins n x r acts nj ns none) = (record { generation = x.generation; node = n } ∷ [], refl)
+  winners_more w new c = ([], sym (append-nil w.winners))
 
-winners_all : {S : Type 0} (M : Machine S) (C : Copying S) (w new : World S) → Changes M C w new →
-    (more : List Winner) × (new.winners ≡ w.winners ++ more)
-winners_all M C w new Stays = ([], sym (append-nil w.winners))
-winners_all M C w new (Then {mid = v} c cs) =
-    let a = winners_more M C w v c in
-    let b = winners_all M C v new cs in
-    (a.0 ++ b.0, b.1 ∙ ap (λ ws. ws ++ b.0) a.1 ∙ append_assoc w.winners a.0 b.0)
+  winners_all : (w new : World S) → Changes M C w new → (more : List Winner) × (new.winners ≡ w.winners ++ more)
+  winners_all w new Stays = ([], sym (append-nil w.winners))
+  winners_all w new (Then {mid = v} c cs) =
+      let a = winners_more w v c in
+      let b = winners_all v new cs in
+      (a.0 ++ b.0, b.1 ∙ ap (λ ws. ws ++ b.0) a.1 ∙ append_assoc w.winners a.0 b.0)
 
 -- a new winner is the one that was added
 pub winner_added : (ws : List Winner) (a : Winner) (g m : ℕ) → winner_in ws g ≡ None →

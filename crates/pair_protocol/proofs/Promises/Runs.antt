@@ -14,22 +14,20 @@ use Rattle.pair_protocol.proofs.Promises.Faithful.{faithful, reached}
 use Rattle.pair_protocol.proofs.RowActions.{row_changes}
 use Rattle.pair_protocol.proofs.Traces.Lists.{prefix-refl, prefix-trans}
 
-pub keep_all : {S : Type 0} (M : Machine S) (C : Copying S) → Lawful M → IsCopying M C →
-    (w new : World S) (i : Inv M C w) → Changes M C w new → Next M C i.trace new
-keep_all M C laws copies w new i Stays = record { inv = i; grows = prefix-refl i.trace }
-keep_all M C laws copies w new i (Then {mid = v} c cs) =
-    let a = keep M C laws copies w v i c in
-    let b = keep_all M C laws copies v new a.inv cs in
-    record { inv = b.inv; grows = prefix-trans i.trace a.inv.trace b.inv.trace a.grows b.grows }
+module _ {S : Type 0} (M : Machine S) (C : Copying S) where
+  pub keep_all : Lawful M → IsCopying M C → (w new : World S) (i : Inv M C w) → Changes M C w new → Next M C i.trace new
+  keep_all laws copies w new i Stays = record { inv = i; grows = prefix-refl i.trace }
+  keep_all laws copies w new i (Then {mid = v} c cs) =
+      let a = keep M C laws copies w v i c in
+      let b = keep_all laws copies v new a.inv cs in
+      record { inv = b.inv; grows = prefix-trans i.trace a.inv.trace b.inv.trace a.grows b.grows }
 
-pub always_faithful : {S : Type 0} (M : Machine S) (C : Copying S) → Lawful M → IsCopying M C → (w : World S) →
-    Reached M C w → Faithful M w
-always_faithful M C laws copies w r = faithful M C laws w (reached M C laws copies w r)
+  pub always_faithful : Lawful M → IsCopying M C → (w : World S) → Reached M C w → Faithful M w
+  always_faithful laws copies w r = faithful M C laws w (reached M C laws copies w r)
 
-pub changes_reach : {S : Type 0} (M : Machine S) (C : Copying S) (w new : World S) → Reached M C w →
-    Changes M C w new → Reached M C new
-changes_reach M C w new r Stays = r
-changes_reach M C w new r (Then {mid = v} c cs) = changes_reach M C v new (After r c) cs
+  pub changes_reach : (w new : World S) → Reached M C w → Changes M C w new → Reached M C new
+  changes_reach w new r Stays = r
+  changes_reach w new r (Then {mid = v} c cs) = changes_reach v new (After r c) cs
 
 run_from : {S : Type 0} (M : Machine S) (C : Copying S) (old new : World S) (events : List Event)
     (replies : List Reply) → Reached M C old → Run M C old events replies new → Reached M C new

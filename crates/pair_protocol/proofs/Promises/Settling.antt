@@ -87,49 +87,48 @@ primary-settles {S} M l x is_primary h = go (roles is_primary.role)
     go (inl r) = (ap (list_of x) r ∙ list, ap (count_in M x) r ∙ count)
     go (inr r) = (ap (list_of x) r ∙ list, ap (count_in M x) r ∙ count)
 
--- of a node that holds entries
-pub held-settles : {S : Type 0} (M : Machine S) (C : Copying S) (l : Line S) (x : Node S) → x.held ≡ l.held →
-    IsBackup M C l x → settled l ≡ l.base ++ cut (length x.held) l.own →
-    (x.copy ++ inputs_of x.held ≡ inputs 0 (settled l)) × (last_count x.start x.held ≡ steps (settled l))
-held-settles M C l x held b t =
-    let e = entries-held (steps l.base) l.own x.held b.held in (
-      held-list l.base l.own x.copy x.held b.copy b.held ∙ ap (inputs 0) (sym t),
-      ap (λ c. last_count c x.held) b.start ∙ ap (last_count (steps l.base)) (sym e)
-          ∙ last-cut (length x.held) (steps l.base) l.own (prefix-length x.held (entries (steps l.base) l.own) b.held)
-          ∙ sym (steps-append l.base (cut (length x.held) l.own)) ∙ ap steps (sym t),
-    )
+module _ {S : Type 0} (M : Machine S) (C : Copying S) (l : Line S) (x : Node S) where
+  -- of a node that holds entries
+  pub held-settles : x.held ≡ l.held → IsBackup M C l x → settled l ≡ l.base ++ cut (length x.held) l.own →
+      (x.copy ++ inputs_of x.held ≡ inputs 0 (settled l)) × (last_count x.start x.held ≡ steps (settled l))
+  held-settles held b t =
+      let e = entries-held (steps l.base) l.own x.held b.held in (
+        held-list l.base l.own x.copy x.held b.copy b.held ∙ ap (inputs 0) (sym t),
+        ap (λ c. last_count c x.held) b.start ∙ ap (last_count (steps l.base)) (sym e)
+            ∙ last-cut (length x.held) (steps l.base) l.own (prefix-length x.held (entries (steps l.base) l.own) b.held)
+            ∙ sym (steps-append l.base (cut (length x.held) l.own)) ∙ ap steps (sym t),
+      )
 
-pub backup-settles : {S : Type 0} (M : Machine S) (C : Copying S) (l : Line S) (x : Node S) → x.held ≡ l.held →
-    IsBackup M C l x → (l.stage ≡ PrimaryWon → ⊥) → IsSettled M x (settled l)
-backup-settles {S} M C l x held b not_primary = go b.state
-  where
-    undecided_moves : (stage : Stage) → (stage ≡ PrimaryWon → ⊥) → (stage ≡ BackupWon → ⊥) →
-        settled_moves stage l.base l.own l.more (length l.held) ≡ l.base ++ cut (length x.held) l.own
-    undecided_moves Undecided h k = ap (λ es. l.base ++ cut (length es) l.own) (sym held)
-    undecided_moves PrimaryWon h k = absurd (h refl)
-    undecided_moves BackupWon h k = absurd (k refl)
+  pub backup-settles : x.held ≡ l.held → IsBackup M C l x → (l.stage ≡ PrimaryWon → ⊥) → IsSettled M x (settled l)
+  backup-settles held b not_primary = go b.state
+    where
+      undecided_moves : (stage : Stage) → (stage ≡ PrimaryWon → ⊥) → (stage ≡ BackupWon → ⊥) →
+          settled_moves stage l.base l.own l.more (length l.held) ≡ l.base ++ cut (length x.held) l.own
+      undecided_moves Undecided h k = ap (λ es. l.base ++ cut (length es) l.own) (sym held)
+      undecided_moves PrimaryWon h k = absurd (h refl)
+      undecided_moves BackupWon h k = absurd (k refl)
 
-    go : BackupState M C l x → IsSettled M x (settled l)
-    go (AsJoining r s f) = (let h = held-settles M C l x held b (undecided_moves l.stage not_primary s) in
-        (ap (list_of x) r ∙ h.0, ap (count_in M x) r ∙ h.1))
-    go (AsBackup r s f) = (let h = held-settles M C l x held b (undecided_moves l.stage not_primary s) in
-        (ap (list_of x) r ∙ h.0, ap (count_in M x) r ∙ h.1))
-    go (AsDraining r s m f) =
-        let t : settled l ≡ l.base ++ cut (length x.held) l.own =
-        ap (λ z. settled_moves z l.base l.own l.more (length l.held)) s
-        ∙ ap (λ zs. l.base ++ (cut (length l.held) l.own ++ zs)) m
-        ∙ ap (λ zs. l.base ++ zs) (append-nil (cut (length l.held) l.own))
-        ∙ ap (λ es. l.base ++ cut (length es) l.own) (sym held) in
-        let h = held-settles M C l x held b t in
-        (ap (list_of x) r ∙ h.0, ap (count_in M x) r ∙ h.1)
-    go (AsAlone r s u c k) =
-        let t : settled l ≡ l.base ++ (cut (length x.held) l.own ++ l.more) =
-        ap (λ z. settled_moves z l.base l.own l.more (length l.held)) s
-        ∙ ap (λ es. l.base ++ (cut (length es) l.own ++ l.more)) (sym held) in (
-          ap (list_of x) r ∙ k ∙ ap (inputs 0) (sym t),
-          ap (count_in M x) r ∙ c
-              ∙ sym (steps-append l.base (cut (length x.held) l.own ++ l.more)) ∙ ap steps (sym t),
-        )
+      go : BackupState M C l x → IsSettled M x (settled l)
+      go (AsJoining r s f) = (let h = held-settles held b (undecided_moves l.stage not_primary s) in
+          (ap (list_of x) r ∙ h.0, ap (count_in M x) r ∙ h.1))
+      go (AsBackup r s f) = (let h = held-settles held b (undecided_moves l.stage not_primary s) in
+          (ap (list_of x) r ∙ h.0, ap (count_in M x) r ∙ h.1))
+      go (AsDraining r s m f) =
+          let t : settled l ≡ l.base ++ cut (length x.held) l.own =
+          ap (λ z. settled_moves z l.base l.own l.more (length l.held)) s
+          ∙ ap (λ zs. l.base ++ (cut (length l.held) l.own ++ zs)) m
+          ∙ ap (λ zs. l.base ++ zs) (append-nil (cut (length l.held) l.own))
+          ∙ ap (λ es. l.base ++ cut (length es) l.own) (sym held) in
+          let h = held-settles held b t in
+          (ap (list_of x) r ∙ h.0, ap (count_in M x) r ∙ h.1)
+      go (AsAlone r s u c k) =
+          let t : settled l ≡ l.base ++ (cut (length x.held) l.own ++ l.more) =
+          ap (λ z. settled_moves z l.base l.own l.more (length l.held)) s
+          ∙ ap (λ es. l.base ++ (cut (length es) l.own ++ l.more)) (sym held) in (
+            ap (list_of x) r ∙ k ∙ ap (inputs 0) (sym t),
+            ap (count_in M x) r ∙ c
+                ∙ sym (steps-append l.base (cut (length x.held) l.own ++ l.more)) ∙ ap steps (sym t),
+          )
 
 -- whichever node settles, it gives the trace's list and count
 pub settles_trace : {S : Type 0} (M : Machine S) (C : Copying S) (w : World S) (i : Inv M C w) (n : ℕ) (x : Node S) →

@@ -127,42 +127,39 @@ inputs_of-entries c (Do (Some o) ∷ ms) = inputs_of-entries (suc c) ms
 inputs_of-entries c (Take i ∷ ms) = ap (λ ts. timed_in (timed_of (entry_of c i)) ++ ts) (inputs_of-entries c ms)
     ∙ ap (λ ts. ts ++ inputs c ms) (timed_entry c i)
 
--- runs
+module _ {S : Type 0} (M : Machine S) where
+  -- runs
 
-pub runs-append : {S : Type 0} (M : Machine S) (s t u : S) (xs ys : List Move) → Runs M s xs t → Runs M t ys u →
-    Runs M s (xs ++ ys) u
-runs-append M s t u [] ys h k = subst (λ v. Runs M v ys u) (sym h) k
-runs-append M s t u (Do o ∷ xs) ys h k = (h.0, h.1, runs-append M h.0 t u xs ys h.2 k)
-runs-append M s t u (Take i ∷ xs) ys h k = (h.0, h.1, runs-append M h.0 t u xs ys h.2 k)
+  pub runs-append : (s t u : S) (xs ys : List Move) → Runs M s xs t → Runs M t ys u → Runs M s (xs ++ ys) u
+  runs-append s t u [] ys h k = subst (λ v. Runs M v ys u) (sym h) k
+  runs-append s t u (Do o ∷ xs) ys h k = (h.0, h.1, runs-append h.0 t u xs ys h.2 k)
+  runs-append s t u (Take i ∷ xs) ys h k = (h.0, h.1, runs-append h.0 t u xs ys h.2 k)
 
-pub runs-split : {S : Type 0} (M : Machine S) (s u : S) (xs ys : List Move) → Runs M s (xs ++ ys) u →
-    (t : S) × Runs M s xs t × Runs M t ys u
-runs-split M s u [] ys h = (s, refl, h)
-runs-split M s u (Do o ∷ xs) ys h = let r = runs-split M h.0 u xs ys h.2 in (r.0, (h.0, h.1, r.1), r.2)
-runs-split M s u (Take i ∷ xs) ys h = let r = runs-split M h.0 u xs ys h.2 in (r.0, (h.0, h.1, r.1), r.2)
+  pub runs-split : (s u : S) (xs ys : List Move) → Runs M s (xs ++ ys) u → (t : S) × Runs M s xs t × Runs M t ys u
+  runs-split s u [] ys h = (s, refl, h)
+  runs-split s u (Do o ∷ xs) ys h = let r = runs-split h.0 u xs ys h.2 in (r.0, (h.0, h.1, r.1), r.2)
+  runs-split s u (Take i ∷ xs) ys h = let r = runs-split h.0 u xs ys h.2 in (r.0, (h.0, h.1, r.1), r.2)
 
--- from any state, moves lead to one state only
-pub runs-rest : {S : Type 0} (M : Machine S) (s t u : S) (xs ys : List Move) → Runs M s xs t → Runs M s (xs ++ ys) u →
-    Runs M t ys u
-runs-rest M s t u [] ys h k = subst (λ v. Runs M v ys u) h k
-runs-rest {S} M s t u (Do o ∷ xs) ys h k =
-    let e : h.0 ≡ k.0 = ap (λ (p : S × Option Operation). p.0) (same_some (h.0, o) (k.0, o) (M.step s) h.1 k.1) in
-    runs-rest M h.0 t u xs ys h.2 (subst (λ v. Runs M v (xs ++ ys) u) (sym e) k.2)
-runs-rest M s t u (Take i ∷ xs) ys h k =
-    let e : h.0 ≡ k.0 = same_some h.0 k.0 (M.take s i) h.1 k.1 in
-    runs-rest M h.0 t u xs ys h.2 (subst (λ v. Runs M v (xs ++ ys) u) (sym e) k.2)
+  -- from any state, moves lead to one state only
+  pub runs-rest : (s t u : S) (xs ys : List Move) → Runs M s xs t → Runs M s (xs ++ ys) u → Runs M t ys u
+  runs-rest s t u [] ys h k = subst (λ v. Runs M v ys u) h k
+  runs-rest s t u (Do o ∷ xs) ys h k =
+      let e : h.0 ≡ k.0 = ap (λ (p : S × Option Operation). p.0) (same_some (h.0, o) (k.0, o) (M.step s) h.1 k.1) in
+      runs-rest h.0 t u xs ys h.2 (subst (λ v. Runs M v (xs ++ ys) u) (sym e) k.2)
+  runs-rest s t u (Take i ∷ xs) ys h k =
+      let e : h.0 ≡ k.0 = same_some h.0 k.0 (M.take s i) h.1 k.1 in
+      runs-rest h.0 t u xs ys h.2 (subst (λ v. Runs M v (xs ++ ys) u) (sym e) k.2)
 
 pub operations-prefix : (xs ys : List Move) → IsPrefix xs ys → IsPrefix (operations xs) (operations ys)
 operations-prefix xs ys h = (operations h.0, sym (operations-append xs h.0) ∙ ap operations h.1)
 
-pub keys-prefix : (p c : ℕ) (xs ys : List Move) → IsPrefix xs ys →
-    IsPrefix (keys p (inputs c xs)) (keys p (inputs c ys))
-keys-prefix p c xs ys h = (keys p (inputs c h.0), sym (keys_of-append p c xs h.0) ∙ ap (λ zs. keys p (inputs c zs)) h.1)
+module _ (p c : ℕ) (xs ys : List Move) where
+  pub keys-prefix : IsPrefix xs ys → IsPrefix (keys p (inputs c xs)) (keys p (inputs c ys))
+  keys-prefix h = (keys p (inputs c h.0), sym (keys_of-append p c xs h.0) ∙ ap (λ zs. keys p (inputs c zs)) h.1)
 
-pub acceptances-prefix : (p c : ℕ) (xs ys : List Move) → IsPrefix xs ys →
-    acceptances p (inputs c xs) ≤ acceptances p (inputs c ys)
-acceptances-prefix p c xs ys h = let e = acceptances_of-append p c xs h.0 in
-    let k = ap (λ zs. acceptances p (inputs c zs)) h.1 in omega arith
+  pub acceptances-prefix : IsPrefix xs ys → acceptances p (inputs c xs) ≤ acceptances p (inputs c ys)
+  acceptances-prefix h = let e = acceptances_of-append p c xs h.0 in
+      let k = ap (λ zs. acceptances p (inputs c zs)) h.1 in omega arith
 
 pub runs-prefix : {S : Type 0} (M : Machine S) (s t : S) (xs ys : List Move) → IsPrefix xs ys → Runs M s ys t →
     (u : S) × Runs M s xs u
@@ -186,15 +183,14 @@ owns-append M before s t (Take i ∷ xs) ys r h k = (
       (subst (λ zs. Owns M zs t ys) (sym (append_assoc before (Take i ∷ []) xs)) k),
 )
 
-pub owns-front : {S : Type 0} (M : Machine S) (before : List Move) (s : S) (xs ys : List Move) →
-    Owns M before s (xs ++ ys) → Owns M before s xs
-owns-front M before s [] ys h = tt
-owns-front M before s (Do o ∷ xs) ys h = λ u e. owns-front M (before ++ Do o ∷ []) u xs ys (h u e)
-owns-front M before s (Take i ∷ xs) ys h = (h.0, λ u e. owns-front M (before ++ Take i ∷ []) u xs ys (h.1 u e))
+module _ {S : Type 0} (M : Machine S) where
+  pub owns-front : (before : List Move) (s : S) (xs ys : List Move) → Owns M before s (xs ++ ys) → Owns M before s xs
+  owns-front before s [] ys h = tt
+  owns-front before s (Do o ∷ xs) ys h = λ u e. owns-front (before ++ Do o ∷ []) u xs ys (h u e)
+  owns-front before s (Take i ∷ xs) ys h = (h.0, λ u e. owns-front (before ++ Take i ∷ []) u xs ys (h.1 u e))
 
-pub owns-prefix : {S : Type 0} (M : Machine S) (s : S) (xs ys : List Move) → IsPrefix xs ys → Owns M [] s ys →
-    Owns M [] s xs
-owns-prefix M s xs ys p h = owns-front M [] s xs p.0 (subst (λ zs. Owns M [] s zs) (sym p.1) h)
+  pub owns-prefix : (s : S) (xs ys : List Move) → IsPrefix xs ys → Owns M [] s ys → Owns M [] s xs
+  owns-prefix s xs ys p h = owns-front [] s xs p.0 (subst (λ zs. Owns M [] s zs) (sym p.1) h)
 
 pub put-prefix : (puts : List SectorWrite) (xs ys : List Move) → IsPrefix xs ys → ArePut puts (inputs 0 ys) →
     ArePut puts (inputs 0 xs)

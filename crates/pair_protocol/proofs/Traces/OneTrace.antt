@@ -87,31 +87,30 @@ same_moves M before s t u c (Take i ∷ xs) (Take j ∷ ys) h k o p e f =
     (subst (λ z. Owns M (before ++ Take z ∷ []) k.0 ys) (sym w) (p.1 k.0 k.1)) tail f in
     ap (λ z. Take z ∷ xs) w ∙ ap (λ zs. Take j ∷ zs) r
 
-pub one_trace : {S : Type 0} (M : Machine S) (list : List Timed) (count : ℕ) (moves others : List Move) →
-    Reach M list count moves → Reach M list count others → moves ≡ others
-one_trace M list count moves others a b =
-    same_moves M [] M.boot a.last b.last 0 moves others a.runs b.runs a.owns b.owns (a.list_is
-    ∙ sym b.list_is) (a.count_is ∙ sym b.count_is)
+module _ {S : Type 0} (M : Machine S) (list : List Timed) (count : ℕ) where
+  pub one_trace : (moves others : List Move) → Reach M list count moves → Reach M list count others → moves ≡ others
+  one_trace moves others a b =
+      same_moves M [] M.boot a.last b.last 0 moves others a.runs b.runs a.owns b.owns (a.list_is
+      ∙ sym b.list_is) (a.count_is ∙ sym b.count_is)
 
--- the first entries
+  -- the first entries
 
-pub first_entries : {S : Type 0} (M : Machine S) (list : List Timed) (count n : ℕ) (moves : List Move) →
-    Reach M list count moves → n ≤ length (entries 0 moves) →
-    (entries 0 (cut n moves) ≡ take n (entries 0 moves))
-    × Reach M (inputs_of (take n (entries 0 moves))) (last_count 0 (take n (entries 0 moves))) (cut n moves)
-first_entries M list count n moves r h =
-    let e = entries-cut n 0 moves in
-    let p = cut-prefix n moves in
-    let u = runs-prefix M M.boot r.last (cut n moves) moves p r.runs in (
-      e,
-      record {
-        last = u.0;
-        runs = u.1;
-        owns = owns-prefix M M.boot (cut n moves) moves p r.owns;
-        list_is = sym (inputs_of-entries 0 (cut n moves)) ∙ ap inputs_of e;
-        count_is = (let k = last-cut n 0 moves h in let l = ap (last_count 0) e in omega arith);
-      },
-    )
+  pub first_entries : (n : ℕ) (moves : List Move) → Reach M list count moves → n ≤ length (entries 0 moves) →
+      (entries 0 (cut n moves) ≡ take n (entries 0 moves)) × Reach M (inputs_of (take n (entries 0 moves)))
+      (last_count 0 (take n (entries 0 moves))) (cut n moves)
+  first_entries n moves r h =
+      let e = entries-cut n 0 moves in
+      let p = cut-prefix n moves in
+      let u = runs-prefix M M.boot r.last (cut n moves) moves p r.runs in (
+        e,
+        record {
+          last = u.0;
+          runs = u.1;
+          owns = owns-prefix M M.boot (cut n moves) moves p r.owns;
+          list_is = sym (inputs_of-entries 0 (cut n moves)) ∙ ap inputs_of e;
+          count_is = (let k = last-cut n 0 moves h in let l = ap (last_count 0) e in omega arith);
+        },
+      )
 
 -- quiet steps
 

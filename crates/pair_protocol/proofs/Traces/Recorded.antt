@@ -20,26 +20,24 @@ recorded-append M s t u [] ys h k = subst (λ v. Recorded M v ys u) (sym h) k
 recorded-append M s t u (Do o ∷ xs) ys h k = (h.0, h.1, recorded-append M h.0 t u xs ys h.2 k)
 recorded-append M s t u (Take i ∷ xs) ys h k = (h.0, h.1, recorded-append M h.0 t u xs ys h.2 k)
 
-recorded-front : {S : Type 0} (M : Machine S) (s u : S) (xs ys : List Move) → Recorded M s (xs ++ ys) u →
-    (t : S) × Recorded M s xs t
-recorded-front M s u [] ys h = (s, refl)
-recorded-front M s u (Do o ∷ xs) ys h = let r = recorded-front M h.0 u xs ys h.2 in (r.0, (h.0, h.1, r.1))
-recorded-front M s u (Take i ∷ xs) ys h = let r = recorded-front M h.0 u xs ys h.2 in (r.0, (h.0, h.1, r.1))
+module _ {S : Type 0} (M : Machine S) where
+  recorded-front : (s u : S) (xs ys : List Move) → Recorded M s (xs ++ ys) u → (t : S) × Recorded M s xs t
+  recorded-front s u [] ys h = (s, refl)
+  recorded-front s u (Do o ∷ xs) ys h = let r = recorded-front h.0 u xs ys h.2 in (r.0, (h.0, h.1, r.1))
+  recorded-front s u (Take i ∷ xs) ys h = let r = recorded-front h.0 u xs ys h.2 in (r.0, (h.0, h.1, r.1))
 
-pub recorded-prefix : {S : Type 0} (M : Machine S) (s t : S) (xs ys : List Move) → IsPrefix xs ys →
-    Recorded M s ys t → (u : S) × Recorded M s xs u
-recorded-prefix M s t xs ys h k = recorded-front M s t xs h.0 (subst (λ zs. Recorded M s zs t) (sym h.1) k)
+  pub recorded-prefix : (s t : S) (xs ys : List Move) → IsPrefix xs ys → Recorded M s ys t → (u : S) × Recorded M s xs u
+  recorded-prefix s t xs ys h k = recorded-front s t xs h.0 (subst (λ zs. Recorded M s zs t) (sym h.1) k)
 
--- from any state, moves lead to one state only
-pub recorded-rest : {S : Type 0} (M : Machine S) (s t u : S) (xs ys : List Move) → Runs M s xs t →
-    Recorded M s (xs ++ ys) u → Recorded M t ys u
-recorded-rest M s t u [] ys h k = subst (λ v. Recorded M v ys u) h k
-recorded-rest {S} M s t u (Do o ∷ xs) ys h k =
-    let e : h.0 ≡ k.0 = ap (λ (p : S × Option Operation). p.0) (same_some (h.0, o) (k.0, o) (M.step s) h.1 k.1) in
-    recorded-rest M h.0 t u xs ys h.2 (subst (λ v. Recorded M v (xs ++ ys) u) (sym e) k.2)
-recorded-rest M s t u (Take i ∷ xs) ys h k =
-    let e : h.0 ≡ k.0 = same_some h.0 k.0 (M.take s i) h.1 k.1.taken in
-    recorded-rest M h.0 t u xs ys h.2 (subst (λ v. Recorded M v (xs ++ ys) u) (sym e) k.2)
+  -- from any state, moves lead to one state only
+  pub recorded-rest : (s t u : S) (xs ys : List Move) → Runs M s xs t → Recorded M s (xs ++ ys) u → Recorded M t ys u
+  recorded-rest s t u [] ys h k = subst (λ v. Recorded M v ys u) h k
+  recorded-rest s t u (Do o ∷ xs) ys h k =
+      let e : h.0 ≡ k.0 = ap (λ (p : S × Option Operation). p.0) (same_some (h.0, o) (k.0, o) (M.step s) h.1 k.1) in
+      recorded-rest h.0 t u xs ys h.2 (subst (λ v. Recorded M v (xs ++ ys) u) (sym e) k.2)
+  recorded-rest s t u (Take i ∷ xs) ys h k =
+      let e : h.0 ≡ k.0 = same_some h.0 k.0 (M.take s i) h.1 k.1.taken in
+      recorded-rest h.0 t u xs ys h.2 (subst (λ v. Recorded M v (xs ++ ys) u) (sym e) k.2)
 
 -- one more move
 pub recorded-does : {S : Type 0} (M : Machine S) (s t u : S) (xs : List Move) (o : Option Operation) →
