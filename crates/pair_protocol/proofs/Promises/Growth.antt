@@ -69,12 +69,8 @@ highest_set {S} (z ∷ nodes) zero x y h e =
 highest_set (z ∷ nodes) (suc n) x y h e = ap (max z.generation) (highest_set nodes n x y h e)
 
 spare_won : (r : Role) → won_role r ≡ Spare → r ≡ Spare
-spare_won Primary h = (cc)
-spare_won Backup h = (cc)
-spare_won Joining h = (cc)
-spare_won Draining h = (cc)
-spare_won Alone h = (cc)
 spare_won Spare h = refl
+spare_won r h = (cc)
 
 -- it is of the highest generation
 pub asks_at_top : {S : Type 0} (M : Machine S) (C : Copying S) (w : World S) (i : Inv M C w) (n : ℕ) (x : Node S) →
@@ -186,27 +182,7 @@ nobody_wins M w new e list count g m y settled before after there = let k = ap (
 
 suspicion : (e : Event) → (IsSuspicion e → ⊥) ⊎ ((n : ℕ) × (e ≡ Suspect n))
 suspicion (Suspect n) = inr (n, refl)
-suspicion (Step n turns) = inl (λ h. h)
-suspicion (TypeByte port byte) = inl (λ h. h)
-suspicion (TakeKey n port index) = inl (λ h. h)
-suspicion (Send n index) = inl (λ h. h)
-suspicion (DeliverLog m n) = inl (λ h. h)
-suspicion (Ack n) = inl (λ h. h)
-suspicion (DeliverAck m n) = inl (λ h. h)
-suspicion (Replay n turns) = inl (λ h. h)
-suspicion (Release n name) = inl (λ h. h)
-suspicion (Arrive m) = inl (λ h. h)
-suspicion (TellSent n port k) = inl (λ h. h)
-suspicion (Told n port) = inl (λ h. h)
-suspicion (Stop n) = inl (λ h. h)
-suspicion (Drain n turns) = inl (λ h. h)
-suspicion (Put m) = inl (λ h. h)
-suspicion (PutReply m n) = inl (λ h. h)
-suspicion (Get n sector) = inl (λ h. h)
-suspicion (GetReply m n) = inl (λ h. h)
-suspicion (BeginPair n host) = inl (λ h. h)
-suspicion (SendPart n index) = inl (λ h. h)
-suspicion (PartComes m n) = inl (λ h. h)
+suspicion e = inl (λ h. h)
 
 asks_won : {S : Type 0} (M : Machine S) (C : Copying S) → Lawful M → IsCopying M C →
     (w new : World S) (n : ℕ) (r : Reply) → Inv M C w → refusal M C w (Suspect n) ≡ None → Asks w n r new →

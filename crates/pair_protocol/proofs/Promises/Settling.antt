@@ -33,12 +33,8 @@ highest_ge {S} (z ∷ nodes) zero x h = let e : z.generation ≡ x.generation =
 highest_ge (z ∷ nodes) (suc n) x h = let k = highest_ge nodes n x h in omega arith
 
 pub role_or_spare : (r : Role) → (r ≡ Spare) ⊎ (r ≡ Spare → ⊥)
-role_or_spare Primary = inr (λ k. (cc))
-role_or_spare Backup = inr (λ k. (cc))
-role_or_spare Joining = inr (λ k. (cc))
-role_or_spare Draining = inr (λ k. (cc))
-role_or_spare Alone = inr (λ k. (cc))
 role_or_spare Spare = inl refl
+role_or_spare r = inr (λ k. (cc))
 
 pub generation_le : {S : Type 0} (M : Machine S) (C : Copying S) (w : World S) (i : Inv M C w) (n : ℕ) (x : Node S) →
     slice_get w.nodes n ≡ Some x → x.generation ≤ i.top

@@ -71,18 +71,12 @@ pub cut-ends : (n c : ℕ) (own ms rest : List Move) → ms ++ rest ≡ cut n ow
 cut-ends zero c own [] rest h k = h
 cut-ends zero c own (m ∷ ms) rest h k = (cc)
 cut-ends (suc n) c own [] rest h k = absurd (omega arith)
-cut-ends (suc n) c [] (m ∷ ms) rest h k = (cc)
 cut-ends (suc n) c (Do None ∷ own) (Do None ∷ ms) rest h k = cut-ends (suc n) (suc c) own ms rest (cc) k
-cut-ends (suc n) c (Do None ∷ own) (Do (Some o) ∷ ms) rest h k = (cc)
-cut-ends (suc n) c (Do None ∷ own) (Take i ∷ ms) rest h k = (cc)
-cut-ends (suc n) c (Do (Some o) ∷ own) (Do None ∷ ms) rest h k = (cc)
 cut-ends (suc n) c (Do (Some o) ∷ own) (Do (Some x) ∷ ms) rest h k = let l : n ≤ length (entries (suc c) ms) =
     omega arith in cut-ends n (suc c) own ms rest (cc) l
-cut-ends (suc n) c (Do (Some o) ∷ own) (Take i ∷ ms) rest h k = (cc)
-cut-ends (suc n) c (Take i ∷ own) (Do None ∷ ms) rest h k = (cc)
-cut-ends (suc n) c (Take i ∷ own) (Do (Some o) ∷ ms) rest h k = (cc)
 cut-ends (suc n) c (Take i ∷ own) (Take j ∷ ms) rest h k = let l : n ≤ length (entries c ms) = omega arith in
     cut-ends n c own ms rest (cc) l
+cut-ends (suc n) c own ms rest h k = (cc)
 
 -- the count of the last entry is the count at which the moves end
 last-from : (c d : ℕ) (es : List Entry) → 1 ≤ length es → last_count c es ≡ last_count d es

@@ -32,12 +32,6 @@ among-split x (y ∷ xs) ys (inr h) = go (among-split x xs ys h)
     go (inl k) = inl (inr k)
     go (inr k) = inr k
 
--- the place of an element
-pub among-place : {A : Type 0} (x : A) (xs : List A) → Among x xs → (front rest : List A) × (xs ≡ front ++ x ∷ rest)
-among-place x [] h = absurd h
-among-place x (y ∷ xs) (inl h) = ([], xs, ap (λ z. z ∷ xs) (sym h))
-among-place x (y ∷ xs) (inr h) = let r = among-place x xs h in (y ∷ r.0, r.1, ap (λ zs. y ∷ zs) r.2)
-
 pub prefix-refl : {A : Type 0} (xs : List A) → IsPrefix xs xs
 prefix-refl xs = ([], append-nil xs)
 

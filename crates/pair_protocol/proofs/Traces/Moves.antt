@@ -93,22 +93,16 @@ inputs_of-append (e ∷ xs) ys = ap (λ os. timed_in (timed_of e) ++ os) (inputs
 -- the timed input in the entry of an input
 pub timed_entry : (c : ℕ) (i : Input) → timed_in (timed_of (entry_of c i)) ≡ timed c i ∷ []
 timed_entry c (input.Rx port byte) = refl
-timed_entry c (input.Sent port) = refl
-timed_entry c (input.Sector drive sector number bytes) = refl
-timed_entry c (input.Written number) = refl
+timed_entry c i = refl
 
 -- an entry of an input, and its count
 pub input_entry : (c : ℕ) (i : Input) → input_of (entry_of c i) ≡ Some i
 input_entry c (input.Rx port byte) = refl
-input_entry c (input.Sent port) = refl
-input_entry c (input.Sector drive sector number bytes) = refl
-input_entry c (input.Written number) = refl
+input_entry c i = refl
 
 pub count_entry : (c : ℕ) (i : Input) → count_of (entry_of c i) ≡ c
 count_entry c (input.Rx port byte) = refl
-count_entry c (input.Sent port) = refl
-count_entry c (input.Sector drive sector number bytes) = refl
-count_entry c (input.Written number) = refl
+count_entry c i = refl
 
 -- an entry is the one that its input and its count make
 pub entry_is : (e : Entry) (i : Input) → input_of e ≡ Some i → entry_of (count_of e) i ≡ e
@@ -219,9 +213,3 @@ count-takes M laws ms s u i r h =
     let b = laws.counts (ms ++ Take i ∷ []) u (runs-append M M.boot s u ms (Take i ∷ []) r (u, h, refl)) in
     let c = steps-append ms (Take i ∷ []) in
     omega arith
-
--- few operations of a lawful machine are outstanding, wherever it goes
-
-pub frugal-reached : {S : Type 0} (M : Machine S) → Lawful M → (ms : List Move) (s : S) → Runs M M.boot ms s →
-    IsFrugal M s
-frugal-reached M laws ms s r more t h = laws.few (ms ++ more) t (runs-append M M.boot s t ms more r h)

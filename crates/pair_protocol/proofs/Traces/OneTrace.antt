@@ -26,15 +26,8 @@ one_end M s t u (Take i ∷ xs) h k =
 own_once : {S : Type 0} (M : Machine S) (before : List Move) (s : S) (i j : Input) → Own M before s i →
     Own M before s j → bare i ≡ bare j → i ≡ j
 own_once M before s (input.Rx p b) (input.Rx q c) h k e = (cc)
-own_once M before s (input.Rx p b) (input.Sent q) h k e = (cc)
-own_once M before s (input.Rx p b) (input.Sector d r n bs) h k e = (cc)
-own_once M before s (input.Rx p b) (input.Written n) h k e = (cc)
-own_once M before s (input.Sent p) (input.Rx q c) h k e = (cc)
 own_once M before s (input.Sent p) (input.Sent q) h k e = (cc)
-own_once M before s (input.Sent p) (input.Sector d r n bs) h k e = (cc)
-own_once M before s (input.Sent p) (input.Written n) h k e = (cc)
-own_once M before s (input.Sector c q m as') (input.Rx p b) h k e = (cc)
-own_once M before s (input.Sector c q m as') (input.Sent p) h k e = (cc)
+own_once M before s (input.Written m) (input.Written n) h k e = (cc)
 own_once M before s (input.Sector c q m as') (input.Sector d r n bs) h k e =
     let f : c ≡ d = (cc) in
     let g : q ≡ r = (cc) in
@@ -42,11 +35,7 @@ own_once M before s (input.Sector c q m as') (input.Sector d r n bs) h k e =
     let n_is : m ≡ n = sym h.0 ∙ ap (M.done s) a ∙ k.0 in
     let b_is : as' ≡ bs = sym h.1 ∙ ap (image M before) a ∙ k.1 in
     λ x. input.Sector (f x) (g x) (n_is x) (b_is x)
-own_once M before s (input.Sector c q m as') (input.Written n) h k e = (cc)
-own_once M before s (input.Written m) (input.Rx p b) h k e = (cc)
-own_once M before s (input.Written m) (input.Sent p) h k e = (cc)
-own_once M before s (input.Written m) (input.Sector d r n bs) h k e = (cc)
-own_once M before s (input.Written m) (input.Written n) h k e = (cc)
+own_once M before s i j h k e = (cc)
 
 -- the inputs of moves that begin at a count are at that count or later
 inputs_at : (c : ℕ) (xs : List Move) (t : Timed) (ts : List Timed) → inputs c xs ≡ t ∷ ts → c ≤ t.count
