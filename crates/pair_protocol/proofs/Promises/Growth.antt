@@ -147,29 +147,18 @@ IsSuspicion e = ⊥
 
 does_winners : {S : Type 0} (M : Machine S) (C : Copying S) (w : World S) (e : Event) (r : Reply) (new : World S) →
     (IsSuspicion e → ⊥) → Does M C w e r new → new.winners ≡ w.winners
-does_winners M C w (Step n turns) r new h d = ap (λ v. v.winners) d.after
-does_winners M C w (TypeByte port byte) r new h d = ap (λ v. v.winners) d.after
 does_winners M C w (TakeKey n port index) r new h d = ap (λ v. v.winners) d.input.after
 does_winners M C w (Send n index) r new h d = ap (λ v. v.winners) d.says.after
 does_winners M C w (DeliverLog m n) r new h d =
     elim d.holds [ inl k ↦ ap (λ v. v.winners) k.2 | inr k ↦ ap (λ v. v.winners) k.2 ]
 does_winners M C w (Ack n) r new h d = ap (λ v. v.winners) d.says.after
-does_winners M C w (DeliverAck m n) r new h d = ap (λ v. v.winners) d.after
-does_winners M C w (Replay n turns) r new h d = ap (λ v. v.winners) d.after
 does_winners M C w (Release n name) r new h d = ap (λ v. v.winners) d.says.after
-does_winners M C w (Arrive m) r new h d = ap (λ v. v.winners) d.after
-does_winners M C w (TellSent n port k) r new h d = ap (λ v. v.winners) d.after
-does_winners M C w (Told n port) r new h d = ap (λ v. v.winners) d.after
-does_winners M C w (Stop n) r new h d = ap (λ v. v.winners) d.after
 does_winners M C w (Suspect n) r new h d = absurd (h tt)
-does_winners M C w (Drain n turns) r new h d = ap (λ v. v.winners) d.after
-does_winners M C w (Put m) r new h d = ap (λ v. v.winners) d.after
 does_winners M C w (PutReply m n) r new h d = ap (λ v. v.winners) d.input.after
-does_winners M C w (Get n sector) r new h d = ap (λ v. v.winners) d.after
 does_winners M C w (GetReply m n) r new h d = ap (λ v. v.winners) d.input.after
-does_winners M C w (BeginPair n host) r new h d = ap (λ v. v.winners) d.after
 does_winners M C w (SendPart n index) r new h d = ap (λ v. v.winners) d.says.after
 does_winners M C w (PartComes m n) r new h d = part_winners C w n d.x d.index d.part r new d.does
+does_winners M C w e r new h d = ap (λ v. v.winners) d.after
 
 leaves_winners : {S : Type 0} (w : World S) (e : Event) (fault : Fault) (new : World S) → Leaves w e fault new →
     new.winners ≡ w.winners

@@ -16,36 +16,6 @@ use Rattle.pair_protocol.specs.Rows.{AtEnd, Gives, Goes, NoneLeft, OneMark, OneS
 use Rattle.pair_protocol.specs.Waiting.{is_read}
 use Rattle.pair_protocol.specs.World.{Acknowledgement, LogEntry, World, accepted, opening, with_host}
 
-l0 : 0 < 6
-l0 = omega arith
-
-l1 : 1 < 6
-l1 = omega arith
-
-l2 : 2 < 6
-l2 = omega arith
-
-l3 : 3 < 6
-l3 = omega arith
-
-l4 : 4 < 6
-l4 = omega arith
-
-l5 : 5 < 6
-l5 = omega arith
-
-six : 1 ≤ 6
-six = omega arith
-
-seven : 1 ≤ 7
-seven = omega arith
-
-one : 1 ≤ 1
-one = omega arith
-
-two : 1 ≤ 2
-two = omega arith
-
 -- a run may be made in two parts
 run-append : {S : Type 0} (M : Machine S) (C : Copying S) (old mid new : World S) (events later : List Event)
     (replies others : List Reply) → Run M C old events replies mid → Run M C mid later others new →
@@ -122,7 +92,7 @@ until_drained =
       made = _;
       why = _;
       steps = Goes 1 refl (Goes 2 refl (Goes 3 refl (Goes 4 refl (Goes 5 refl (Gives 6 letter refl)))));
-      some = inr six;
+      some = inr (omega arith);
       reply = refl;
       after = refl;
     }))
@@ -152,13 +122,13 @@ until_drained =
       there = refl;
       y = _;
       made = _;
-      moves = OneStep _ 1 None refl l0 refl
-          (OneStep _ 2 None refl l1 refl
-          (OneStep _ 3 None refl l2 refl
-          (OneStep _ 4 None refl l3 refl
-          (OneStep _ 5 None refl l4 refl
-          (OneStep _ 6 (Some letter) refl l5 refl (OneMark _ refl refl refl (AtEnd refl)))))));
-      some = inl seven;
+      moves = OneStep _ 1 None refl (omega arith) refl
+          (OneStep _ 2 None refl (omega arith) refl
+          (OneStep _ 3 None refl (omega arith) refl
+          (OneStep _ 4 None refl (omega arith) refl
+          (OneStep _ 5 None refl (omega arith) refl
+          (OneStep _ 6 (Some letter) refl (let l : 5 < 6 = omega arith in l) refl (OneMark _ refl refl refl (AtEnd refl)))))));
+      some = inl (omega arith);
       reply = refl;
       after = refl;
     }))
@@ -207,7 +177,7 @@ writes_disk = (
     made = _;
     why = _;
     steps = Goes 1 refl (Goes 2 refl NoneLeft);
-    some = inr two;
+    some = inr (omega arith);
     reply = refl;
     after = refl;
   }))
@@ -226,7 +196,7 @@ writes_disk = (
         made = _;
         why = _;
         steps = Gives 4 (Write sector_write) refl;
-        some = inr one;
+        some = inr (omega arith);
         reply = refl;
         after = refl;
       }))

@@ -1,6 +1,6 @@
 -- One trace for each list and count: the count says where an input comes, a step gives what it gives, and the bytes of
 -- a sector are those of the machine's own disk. And what the first entries of a trace give.
-use Rattle.std.proofs.Common.{[], ◌++◌, ◌∙◌, ◌∷◌, ◌≡◌, ◌≤◌, List, None, Option, Some, ap, arith, length, refl, subst, suc, sym, take, zero, ℕ}
+use Rattle.std.proofs.Common.{[], ◌++◌, ◌∙◌, ◌∷◌, ◌≡◌, ◌≤◌, List, None, Option, Some, ap, append-nil, arith, length, refl, subst, suc, sym, take, zero, ℕ}
 use Rattle.event_callbacks.specs.declared.operations.Operation.{Operation}
 use Rattle.guest_board.specs.Machine.{Do, Machine, Move, Runs, Take}
 use Rattle.guest_board.specs.declared.input.Input.{Input}
@@ -11,16 +11,10 @@ use Rattle.plain_single.specs.declared.timed.Timed.{Timed}
 use Rattle.pair_protocol.specs.Traces.{cut, quiet}
 use Rattle.pair_protocol.proofs.Traces.Cuts.{cut-prefix, entries-cut, last-cut}
 use Rattle.pair_protocol.proofs.Traces.Lists.{same_some}
-use Rattle.pair_protocol.proofs.Traces.Moves.{inputs_of-entries, owns-prefix, runs-prefix}
+use Rattle.pair_protocol.proofs.Traces.Moves.{inputs_of-entries, owns-prefix, runs-prefix, runs-rest}
 
 pub one_end : {S : Type 0} (M : Machine S) (s t u : S) (xs : List Move) → Runs M s xs t → Runs M s xs u → t ≡ u
-one_end M s t u [] h k = sym h ∙ k
-one_end {S} M s t u (Do o ∷ xs) h k =
-    let e : h.0 ≡ k.0 = ap (λ (p : S × Option Operation). p.0) (same_some (h.0, o) (k.0, o) (M.step s) h.1 k.1) in
-    one_end M k.0 t u xs (subst (λ v. Runs M v xs t) e h.2) k.2
-one_end M s t u (Take i ∷ xs) h k =
-    let e : h.0 ≡ k.0 = same_some h.0 k.0 (M.take s i) h.1 k.1 in
-    one_end M k.0 t u xs (subst (λ v. Runs M v xs t) e h.2) k.2
+one_end M s t u xs h k = runs-rest M s t u xs [] h (subst (λ zs. Runs M s zs u) (sym (append-nil xs)) k)
 
 -- what the log carries of an input, and the machine's own disk, determine the input
 own_once : {S : Type 0} (M : Machine S) (before : List Move) (s : S) (i j : Input) → Own M before s i →
