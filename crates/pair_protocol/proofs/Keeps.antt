@@ -1,9 +1,10 @@
 -- Who keeps the invariant: a file for each actor.
 pub mod PrimaryLog
 pub mod PrimaryMoves
-pub mod Primary
 pub mod Replay
 pub mod BackupChanges
+pub mod Primary
+pub mod Alone
 pub mod Backup
 pub mod Holding
 pub mod Arbiter

@@ -5,7 +5,6 @@ use Rattle.guest_board.specs.Machine.{Machine, Move}
 use Rattle.pair_protocol.specs.Change.{Acts}
 use Rattle.pair_protocol.specs.Copying.{Copying}
 use Rattle.pair_protocol.specs.Node.{Alone, Backup, Draining, Joining, Node, Primary, Role, Spare}
-use Rattle.pair_protocol.specs.Settled.{is_backup}
 use Rattle.pair_protocol.specs.World.{World}
 use Rattle.pair_protocol.proofs.Invariant.{AsAlone, AsBackup, AsDraining, AsJoining, AtTop, BackupHere, BackupLeft, BackupState, BackupWon, Gone, Inv, IsBackup, IsPrimary, Line, LineOf, Presence, PrimaryHere, PrimaryLeft, PrimaryWon, Unused, settled}
 use Rattle.pair_protocol.proofs.Traces.Lists.{same_some}

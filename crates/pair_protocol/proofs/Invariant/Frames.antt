@@ -10,12 +10,10 @@ use Rattle.event_callbacks.specs.declared.operations.Operation.TheVariants.{Byte
 use Rattle.guest_board.specs.Machine.{Machine, Move}
 use Rattle.log_entry.specs.declared.entry.Entry.{Entry}
 use Rattle.plain_single.specs.Reach.{Owns, inputs, keys, operations}
-use Rattle.pair_protocol.specs.Change.{Then}
 use Rattle.pair_protocol.specs.Copying.{Copying}
 use Rattle.pair_protocol.specs.Faithful.{IsPrefix}
 use Rattle.pair_protocol.specs.Lawful.{Among}
 use Rattle.pair_protocol.specs.Node.{Node, Spare, wins}
-use Rattle.pair_protocol.specs.Settled.{is_backup}
 use Rattle.pair_protocol.specs.World.{Message, Terminal, Winner, World, winner_in}
 use Rattle.pair_protocol.proofs.Invariant.{AsAlone, AsBackup, AsDraining, AsJoining, AtStart, AtTop, BackupHere, BackupLeft, BackupState, CameIn, Global, Gone, Inv, IsPrimary, IsRecord, Line, LineOf, Next, OfWrite, Presence, PrimaryHere, PrimaryLeft, Stage, Unused, settled}
 use Rattle.pair_protocol.proofs.Traces.Lists.{among-prefix, get_set_cases, get_set_other, prefix-length, prefix-trans, same_or_not, same_some}

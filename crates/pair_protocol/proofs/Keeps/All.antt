@@ -16,13 +16,14 @@ use Rattle.pair_protocol.specs.Node.{Alone, Backup, Draining, Joining, Node, Pri
 use Rattle.pair_protocol.specs.World.{Acknowledgement, Arrival, ImagePart, LogEntry, Released, World, sector_record, terminal, winner_in, with_node, with_winner}
 use Rattle.pair_protocol.proofs.Invariant.{BackupState, HasReplayed, Inv, Next}
 use Rattle.pair_protocol.proofs.Invariant.Acting.{Acting, BackupActs, IsBackupRole, PrimaryActs, acting, acting_backup, acting_primary, acts-no_spare, line_at}
+use Rattle.pair_protocol.proofs.Keeps.Alone.{alone}
 use Rattle.pair_protocol.proofs.Keeps.Arbiter.{backup-wins, primary-wins}
 use Rattle.pair_protocol.proofs.Keeps.Backup.{backup-accepts, backup-does, backup-later, backup-stays}
 use Rattle.pair_protocol.proofs.Keeps.BackupChanges.{backup_state-halts, backup_state-joins, backup_state-live, backup_state-part, backup_state-replayed, backup_state-replays, joining_empty, primary-halts, primary-hears}
 use Rattle.pair_protocol.proofs.Keeps.Disk.{keep-puts, keep-reads, record-is}
 use Rattle.pair_protocol.proofs.Keeps.Holding.{backup-holds}
 use Rattle.pair_protocol.proofs.Keeps.Link.{keep-message}
-use Rattle.pair_protocol.proofs.Keeps.NewGeneration.{alone, keep-begins}
+use Rattle.pair_protocol.proofs.Keeps.NewGeneration.{keep-begins}
 use Rattle.pair_protocol.proofs.Keeps.Primary.{primary-accepts, primary-does, primary-runs, primary-stays, told-same}
 use Rattle.pair_protocol.proofs.Keeps.PrimaryMoves.{alone-after_input, alone-after_step, primary-after_input, primary-after_step}
 use Rattle.pair_protocol.proofs.Keeps.Releases.{alone_frees, frees, released, told_any}

@@ -5,7 +5,6 @@ use Rattle.guest_board.specs.Machine.{Machine, Move}
 use Rattle.pair_protocol.specs.Copying.{Copying}
 use Rattle.pair_protocol.specs.Faithful.{IsPrefix}
 use Rattle.pair_protocol.specs.Node.{Alone, Joining, Node, Primary, wins, won_role}
-use Rattle.pair_protocol.specs.Settled.{is_backup}
 use Rattle.pair_protocol.specs.Traces.{cut}
 use Rattle.pair_protocol.specs.World.{Winner, World, winner_in, with_winner}
 use Rattle.pair_protocol.proofs.Invariant.{AsAlone, AsBackup, AsDraining, AsJoining, AtTop, BackupState, BackupWon, Inv, Line, LineOf, Next, PrimaryWon, Stage, Undecided, settled, settled_moves, winner_at}

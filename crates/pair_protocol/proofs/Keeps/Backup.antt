@@ -18,10 +18,11 @@ use Rattle.pair_protocol.specs.Node.{Alone, Node, Primary, Spare, alone_takes, p
 use Rattle.pair_protocol.specs.Settled.{is_backup}
 use Rattle.pair_protocol.specs.Traces.{cut}
 use Rattle.pair_protocol.specs.World.{Acknowledgement, Message, Released, Winner, World, winner_in, with_node}
-use Rattle.pair_protocol.proofs.Invariant.{AsAlone, AsBackup, AsDraining, AsJoining, AtTop, BackupHere, BackupState, BackupWon, CameIn, Gone, Inv, IsBackup, IsPrimary, Line, LineOf, Next, Presence, PrimaryLeft, PrimaryWon, Stage, WaitsAt, settled, settled_moves, winner_at}
+use Rattle.pair_protocol.proofs.Invariant.{AsAlone, AtTop, BackupHere, BackupWon, CameIn, Gone, Inv, IsBackup, IsPrimary, Line, LineOf, Next, Presence, PrimaryLeft, PrimaryWon, Stage, WaitsAt, settled, settled_moves, winner_at}
 use Rattle.pair_protocol.proofs.Invariant.Acting.{ActingBackup, BackupAtTop, BackupEarlier, BackupPlace, line_at}
 use Rattle.pair_protocol.proofs.Invariant.Frames.{global-grows, relined, with_backup, with_change}
 use Rattle.pair_protocol.proofs.Invariant.Settled.{settled-more}
+use Rattle.pair_protocol.proofs.Keeps.Alone.{alone-trace, backup-alone}
 use Rattle.pair_protocol.proofs.Keeps.Primary.{acting_there}
 use Rattle.pair_protocol.proofs.Keeps.PrimaryLog.{steps-do, steps-take, whole-do, whole-take}
 use Rattle.pair_protocol.proofs.Keeps.PrimaryMoves.{came-take, own-take}
@@ -36,20 +37,6 @@ pub record BackupReads {S : Type 0} (nodes : List (Node S)) (messages : List Mes
   pub told : (h r : ℕ) → Among (Acknowledgement g h r) messages → r ≤ y.replayed
   pub waits : g ≡ top → (stage ≡ PrimaryWon → ⊥) → Replaying y.role → (v : SectorWrite) →
       Among (Released (Write v)) messages → WaitsAt l y v
-
--- what an alone backup is
-pub record BackupAlone {S : Type 0} (M : Machine S) (l : Line S) (x : Node S) : Type 0 where
-  pub won : l.stage ≡ BackupWon
-  pub runs : Runs M l.mid (cut (length x.held) l.own ++ l.more) x.machine
-  pub count : M.count x.machine ≡ steps l.base + steps (cut (length x.held) l.own ++ l.more)
-  pub list : x.list ≡ inputs 0 (l.base ++ (cut (length x.held) l.own ++ l.more))
-
-pub backup-alone : {S : Type 0} (M : Machine S) (C : Copying S) (l : Line S) (x : Node S) →
-    BackupState M C l x → x.role ≡ Alone → BackupAlone M l x
-backup-alone M C l x (AsJoining r s f) h = (cc)
-backup-alone M C l x (AsBackup r s f) h = (cc)
-backup-alone M C l x (AsDraining r s m f) h = (cc)
-backup-alone M C l x (AsAlone r s u c k) h = record { won = s; runs = u; count = c; list = k }
 
 abbrev pub moved : {S : Type 0} → Node S → S → List Timed → Node S
 moved b s l = record b { machine = s; list = l }
@@ -261,20 +248,6 @@ module _ {S : Type 0} (M : Machine S) (C : Copying S) (w : World S) (i : Inv M C
           (subst (λ zs. Owns M [] M.boot zs) moves_are owns)
           i.global)
 
-  -- its moves are the settled ones
-  pub alone-trace : (n : ℕ) (x : Node S) (q : ActingBackup M C w i n x) → BackupAlone M (line_at i x) x →
-      i.trace ≡ (line_at i x).base ++ (cut (length x.held) (line_at i x).own ++ (line_at i x).more)
-  alone-trace n x q k = go q.place
-    where
-      l : Line S
-      l = line_at i x
-
-      go : BackupPlace M w.nodes i.top i.trace x.generation l →
-          i.trace ≡ l.base ++ (cut (length x.held) l.own ++ l.more)
-      go (BackupEarlier g s a) = let won = k.won in (cc)
-      go (BackupAtTop g s a) = sym s ∙ ap (λ z. settled_moves z l.base l.own l.more (length l.held)) k.won
-          ∙ ap (λ es. l.base ++ (cut (length es) l.own ++ l.more)) (sym q.held)
-
   pub backup-does : (n : ℕ) (x : Node S) (s : S) (v : Option Operation) → ActingBackup M C w i n x → x.role ≡ Alone →
       M.step x.machine ≡ Some (s, v) → M.count s ≡ suc (M.count x.machine) →
       Next M C i.trace (with_node w n (plainly_steps x s))
@@ -284,7 +257,7 @@ module _ {S : Type 0} (M : Machine S) (C : Copying S) (w : World S) (i : Inv M C
       let z = cut (length x.held) l.own ++ l.more in
       let y : (z ++ Do v ∷ []) ≡ cut (length x.held) l.own ++ (l.more ++ Do v ∷ []) =
       append_assoc (cut (length x.held) l.own) l.more (Do v ∷ []) in
-      let trace = alone-trace n x q k in
+      let trace = alone-trace M C w i n x q k in
       let t : x.list ≡ inputs 0 i.trace = k.list ∙ ap (inputs 0) (sym trace) in
       backup-moves n x (Do v) s x.list q role k.won
       (subst (λ zs. Runs M l.mid zs s) y (runs-append M l.mid x.machine s z (Do v ∷ []) k.runs (s, step, refl)))
@@ -306,7 +279,7 @@ module _ {S : Type 0} (M : Machine S) (C : Copying S) (w : World S) (i : Inv M C
       let z = cut (length x.held) l.own ++ l.more in
       let y : (z ++ Take inp ∷ []) ≡ cut (length x.held) l.own ++ (l.more ++ Take inp ∷ []) =
       append_assoc (cut (length x.held) l.own) l.more (Take inp ∷ []) in
-      let trace = alone-trace n x q k in
+      let trace = alone-trace M C w i n x q k in
       let t : x.list ≡ inputs 0 i.trace = k.list ∙ ap (inputs 0) (sym trace) in
       let from_boot = runs-append M M.boot l.mid x.machine l.base z (i.each x.generation).sound.based k.runs in
       let taken : (p : ℕ) → M.keys x.machine p ≡ length (keys p x.list) =

@@ -1,7 +1,8 @@
--- A node's other changes keep what its generation knows of it: replaying, hearing, halting, going live, joining.
+-- What changes of a node leave of its generation: replaying, hearing, halting, going live, joining; and more moves of the
+-- primary leave the backup as it was.
 use Rattle.std.proofs.Common.{[], ◌++◌, ◌+◌, ◌∙◌, ◌∷◌, ◌≡◌, ◌≤◌, ◌⊎◌, List, None, Option, Some, ap, append-nil, arith, inl, inr, length, length-set, refl, subst, suc, sym, take, ℕ}
 use Rattle.std.specs.Prelude.{slice_get, slice_set}
-use Rattle.guest_board.specs.Machine.{Machine, Runs}
+use Rattle.guest_board.specs.Machine.{Machine, Move, Runs}
 use Rattle.log_entry.specs.Entries.{entries}
 use Rattle.plain_single.specs.Reach.{Owns, inputs, steps}
 use Rattle.pair_protocol.specs.Change.{Replaying}
@@ -10,9 +11,11 @@ use Rattle.pair_protocol.specs.Faithful.{IsPrefix}
 use Rattle.pair_protocol.specs.Lawful.{Lawful}
 use Rattle.pair_protocol.specs.Node.{Draining, Joining, Node, Role, gathered, gets_part, goes_live, halts, hears, joins, with_first}
 use Rattle.pair_protocol.specs.Traces.{cut}
-use Rattle.pair_protocol.proofs.Invariant.{AsAlone, AsBackup, AsDraining, AsJoining, BackupState, BackupWon, HasGathered, HasReplayed, IsPrimary, Line}
+use Rattle.pair_protocol.proofs.Invariant.{AsAlone, AsBackup, AsDraining, AsJoining, BackupState, BackupWon, HasGathered, HasReplayed, IsBackup, IsPrimary, Line}
+use Rattle.pair_protocol.proofs.Invariant.Frames.{with_own}
+use Rattle.pair_protocol.proofs.Keeps.PrimaryLog.{entries-longer}
 use Rattle.pair_protocol.proofs.Keeps.Replay.{held-list, replayed-ends}
-use Rattle.pair_protocol.proofs.Traces.Lists.{get_set_cases, same_some}
+use Rattle.pair_protocol.proofs.Traces.Lists.{get_set_cases, prefix-trans, same_some}
 
 -- Replaying.
 
@@ -167,3 +170,41 @@ backup_state-joins M C laws copies l s b ps role got made copy start based owns 
       few = omega arith;
       place = inl (ap (λ n. take n b.held) (sym r));
     })
+
+-- The primary makes more moves.
+
+replayed-longer : {S : Type 0} (M : Machine S) (l : Line S) (xs : List Move) (b : Node S) →
+    cut (length b.held) (l.own ++ xs) ≡ cut (length b.held) l.own → HasReplayed M l b →
+    HasReplayed M (with_own l (l.own ++ xs) l.stage) b
+replayed-longer M l xs b e f = record {
+  ms = f.ms;
+  runs = f.runs;
+  count = f.count;
+  within = subst (λ zs. IsPrefix f.ms zs) (sym e) f.within;
+  few = f.few;
+  place = f.place;
+}
+
+backup_state-longer : {S : Type 0} (M : Machine S) (C : Copying S) (l : Line S) (xs : List Move) (b : Node S) →
+    cut (length b.held) (l.own ++ xs) ≡ cut (length b.held) l.own → BackupState M C l b →
+    BackupState M C (with_own l (l.own ++ xs) l.stage) b
+backup_state-longer M C l xs b e (AsJoining r s f) =
+    AsJoining r s (record { empty = f.empty; none = f.none; long = f.long; each = f.each })
+backup_state-longer M C l xs b e (AsBackup r s f) = AsBackup r s (replayed-longer M l xs b e f)
+backup_state-longer M C l xs b e (AsDraining r s m f) = AsDraining r s m (replayed-longer M l xs b e f)
+backup_state-longer M C l xs b e (AsAlone r s u c k) =
+    AsAlone r s
+    (subst (λ zs. Runs M l.mid (zs ++ l.more) b.machine) (sym e) u)
+    (subst (λ zs. M.count b.machine ≡ steps l.base + steps (zs ++ l.more)) (sym e) c)
+    (subst (λ zs. b.list ≡ inputs 0 (l.base ++ (zs ++ l.more))) (sym e) k)
+
+pub backup-longer : {S : Type 0} (M : Machine S) (C : Copying S) (l : Line S) (xs : List Move) (b : Node S) →
+    cut (length b.held) (l.own ++ xs) ≡ cut (length b.held) l.own → IsBackup M C l b →
+    IsBackup M C (with_own l (l.own ++ xs) l.stage) b
+backup-longer M C l xs b e h = record {
+  state = backup_state-longer M C l xs b e h.state;
+  copy = h.copy;
+  start = h.start;
+  held = prefix-trans b.held (entries (steps l.base) l.own) (entries (steps l.base) (l.own ++ xs)) h.held
+      (entries-longer (steps l.base) l.own xs);
+}

@@ -7,7 +7,6 @@ use Rattle.pair_protocol.specs.Copying.{Copying}
 use Rattle.pair_protocol.specs.Faithful.{IsPrefix}
 use Rattle.pair_protocol.specs.Lawful.{Among, Lawful}
 use Rattle.pair_protocol.specs.Node.{Backup, Node, Primary, Spare, first_node}
-use Rattle.pair_protocol.specs.Settled.{is_backup}
 use Rattle.pair_protocol.specs.World.{Arrival, no_terminal, opening, terminal_in}
 use Rattle.pair_protocol.proofs.Invariant.{AsBackup, AtTop, CameIn, Inv, Line, LineOf, Presence, Undecided, Unused, settled}
 use Rattle.pair_protocol.proofs.Traces.Lists.{same_or_not, same_some}

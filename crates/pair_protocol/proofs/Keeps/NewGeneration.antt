@@ -1,77 +1,19 @@
 -- A new generation keeps the invariant.
-use Rattle.std.proofs.Common.{[], ◌++◌, ◌+◌, ◌<◌, ◌∙◌, ◌≡◌, ◌⊎◌, List, None, Some, ap, append-nil, arith, inl, inr, length, refl, subst, suc, sym, zero, ℕ}
+use Rattle.std.proofs.Common.{[], ◌++◌, ◌+◌, ◌<◌, ◌∙◌, ◌≡◌, ◌⊎◌, List, None, Some, ap, append-nil, arith, inl, inr, refl, subst, suc, sym, zero, ℕ}
 use Rattle.std.proofs.lemmas.List.{length-replicate}
 use Rattle.std.specs.Prelude.{replicate, slice_get, slice_set}
-use Rattle.guest_board.specs.Machine.{Machine, Runs}
+use Rattle.guest_board.specs.Machine.{Machine}
 use Rattle.plain_single.specs.Reach.{Owns, inputs, steps}
 use Rattle.pair_protocol.specs.Change.{Acts}
 use Rattle.pair_protocol.specs.Copying.{Copying, IsCopying}
 use Rattle.pair_protocol.specs.Faithful.{IsPrefix}
-use Rattle.pair_protocol.specs.Node.{Alone, Joining, Node, Primary, Spare, begun, joiner}
-use Rattle.pair_protocol.specs.Settled.{is_backup}
-use Rattle.pair_protocol.specs.Traces.{cut}
+use Rattle.pair_protocol.specs.Node.{Alone, Joining, Node, Spare, begun, joiner}
 use Rattle.pair_protocol.specs.World.{World, with_node, with_pair}
-use Rattle.pair_protocol.proofs.Invariant.{AsJoining, AtTop, BackupLeft, CameIn, Gone, Inv, Line, LineOf, Next, Presence, PrimaryLeft, PrimaryWon, Undecided, Unseen, Unused, settled, settled_moves}
-use Rattle.pair_protocol.proofs.Invariant.Acting.{Acting, BackupActs, BackupAtTop, BackupEarlier, BackupPlace, PrimaryActs, PrimaryAtTop, PrimaryEarlier, PrimaryPlace, acting, acts-no_spare, line_at}
+use Rattle.pair_protocol.proofs.Invariant.{AsJoining, AtTop, BackupLeft, CameIn, Gone, Inv, Line, LineOf, Next, Presence, PrimaryLeft, Undecided, Unseen, Unused, settled}
+use Rattle.pair_protocol.proofs.Invariant.Acting.{Acting, BackupActs, BackupAtTop, BackupEarlier, PrimaryActs, PrimaryAtTop, PrimaryEarlier, acting}
 use Rattle.pair_protocol.proofs.Invariant.Frames.{backup-no_spare, line-other, line-over, line-retop, primary-no_spare}
-use Rattle.pair_protocol.proofs.Keeps.Backup.{BackupAlone, alone-trace, backup-alone}
-use Rattle.pair_protocol.proofs.Keeps.Primary.{primary-runs}
+use Rattle.pair_protocol.proofs.Keeps.Alone.{AloneAt, alone_at, backup-alone}
 use Rattle.pair_protocol.proofs.Traces.Lists.{get_set, get_set_cases, get_set_other, prefix-refl, prefix-same, same_or_not, same_some}
-use Rattle.pair_protocol.proofs.Traces.Moves.{runs-append, steps-append}
-
--- what an alone node is
-pub record AloneAt {S : Type 0} (M : Machine S) (C : Copying S) (w : World S) (i : Inv M C w)
-    (x : Node S) : Type 0 where
-  pub at_top : x.generation ≡ i.top
-  pub runs : Runs M M.boot i.trace x.machine
-  pub list : x.list ≡ inputs 0 i.trace
-  pub count : M.count x.machine ≡ steps i.trace
-
-module _ {S : Type 0} (M : Machine S) (C : Copying S) (w : World S) (i : Inv M C w) (n : ℕ) (x : Node S) where
-  pub alone_at : x.role ≡ Alone → Acting M C w i n x → AloneAt M C w i x
-  alone_at role (PrimaryActs q place) = go q.is_primary.role place
-    where
-      l : Line S
-      l = line_at i x
-
-      go : (x.role ≡ Primary) ⊎ ((x.role ≡ Alone) × (l.stage ≡ PrimaryWon)) →
-          PrimaryPlace M C w.nodes i.top i.trace x.generation l → AloneAt M C w i x
-      go (inl r) p = (cc)
-      go (inr r) (PrimaryEarlier g s b) = (let k = r.1 in (cc))
-      go (inr r) (PrimaryAtTop g s b) =
-          let t : l.base ++ l.own ≡ i.trace = ap (λ z. settled_moves z l.base l.own l.more (length l.held)) (sym r.1)
-          ∙ s in
-          record {
-            at_top = g;
-            runs = subst (λ zs. Runs M M.boot zs x.machine) t (primary-runs M C w i x q.is_primary);
-            list = q.is_primary.list ∙ ap (inputs 0) t;
-            count = q.is_primary.count ∙ sym (steps-append l.base l.own) ∙ ap steps t;
-          }
-  alone_at role (BackupActs q place) = go place
-    where
-      l : Line S
-      l = line_at i x
-
-      k : BackupAlone M l x
-      k = backup-alone M C l x q.is_backup.state role
-
-      t : i.trace ≡ l.base ++ (cut (length x.held) l.own ++ l.more)
-      t = alone-trace M C w i n x q k
-
-      go : BackupPlace M w.nodes i.top i.trace x.generation l → AloneAt M C w i x
-      go (BackupEarlier g s a) = (let won = k.won in (cc))
-      go (BackupAtTop g s a) = record {
-        at_top = g;
-        runs = subst (λ zs. Runs M M.boot zs x.machine) (sym t)
-            (runs-append M M.boot l.mid x.machine l.base (cut (length x.held) l.own ++ l.more)
-            (i.each x.generation).sound.based k.runs);
-        list = k.list ∙ ap (inputs 0) (sym t);
-        count = k.count ∙ sym (steps-append l.base (cut (length x.held) l.own ++ l.more)) ∙ ap steps (sym t);
-      }
-
-  pub alone : Acts w n x Alone → AloneAt M C w i x
-  alone acts = alone_at acts.role_is
-      (acting M C w i n x acts.there (acts-no_spare w n x Alone acts (λ k. (cc))))
 
 no_slot : (n i : ℕ) (p : List ℕ) → slice_get (replicate n None) i ≡ Some (Some p) → ⊥
 no_slot zero i p h = (cc)

@@ -13,13 +13,13 @@ use Rattle.pair_protocol.specs.Copying.{Copying}
 use Rattle.pair_protocol.specs.Faithful.{IsPrefix}
 use Rattle.pair_protocol.specs.Lawful.{Lawful}
 use Rattle.pair_protocol.specs.Node.{Node, Primary, Spare}
-use Rattle.pair_protocol.specs.Settled.{is_backup}
 use Rattle.pair_protocol.specs.Traces.{cut}
 use Rattle.pair_protocol.specs.World.{Winner, World, winner_in, with_node}
-use Rattle.pair_protocol.proofs.Invariant.{AsAlone, AsBackup, AsDraining, AsJoining, AtTop, BackupHere, BackupLeft, BackupState, BackupWon, CameIn, Gone, HasReplayed, Inv, IsBackup, IsPrimary, Line, LineOf, Next, Presence, PrimaryHere, PrimaryWon, Stage, Undecided, settled, settled_moves, winner_at}
+use Rattle.pair_protocol.proofs.Invariant.{AtTop, BackupHere, BackupLeft, BackupWon, CameIn, Gone, Inv, IsPrimary, Line, LineOf, Next, Presence, PrimaryHere, PrimaryWon, Stage, Undecided, settled, settled_moves, winner_at}
 use Rattle.pair_protocol.proofs.Invariant.Acting.{ActingPrimary, PrimaryAtTop, PrimaryEarlier, PrimaryPlace, line_at}
 use Rattle.pair_protocol.proofs.Invariant.Frames.{global-grows, relined, with_change, with_own}
 use Rattle.pair_protocol.proofs.Invariant.Settled.{settled-grows, settled-longer, settled-won}
+use Rattle.pair_protocol.proofs.Keeps.BackupChanges.{backup-longer}
 use Rattle.pair_protocol.proofs.Keeps.PrimaryLog.{entries-longer, whole-do, whole-take}
 use Rattle.pair_protocol.proofs.Keeps.PrimaryMoves.{came-take, own-take}
 use Rattle.pair_protocol.proofs.Traces.Cuts.{cut-both, cut-longer, cut-prefix}
@@ -27,44 +27,6 @@ use Rattle.pair_protocol.proofs.Traces.Lists.{among-prefix, get-prefix, get_set,
 use Rattle.pair_protocol.proofs.Traces.Moves.{operations-prefix, owns-append, runs-append, runs-rest}
 use Rattle.pair_protocol.proofs.Traces.OneTrace.{one_end}
 use Rattle.pair_protocol.proofs.Traces.Recorded.{recorded-does, recorded-runs, recorded-takes}
-
--- What its own moves leave of the backup.
-
-pub replayed-longer : {S : Type 0} (M : Machine S) (l : Line S) (xs : List Move) (b : Node S) →
-    cut (length b.held) (l.own ++ xs) ≡ cut (length b.held) l.own → HasReplayed M l b →
-    HasReplayed M (with_own l (l.own ++ xs) l.stage) b
-replayed-longer M l xs b e f = record {
-  ms = f.ms;
-  runs = f.runs;
-  count = f.count;
-  within = subst (λ zs. IsPrefix f.ms zs) (sym e) f.within;
-  few = f.few;
-  place = f.place;
-}
-
-backup_state-longer : {S : Type 0} (M : Machine S) (C : Copying S) (l : Line S) (xs : List Move) (b : Node S) →
-    cut (length b.held) (l.own ++ xs) ≡ cut (length b.held) l.own → BackupState M C l b →
-    BackupState M C (with_own l (l.own ++ xs) l.stage) b
-backup_state-longer M C l xs b e (AsJoining r s f) =
-    AsJoining r s (record { empty = f.empty; none = f.none; long = f.long; each = f.each })
-backup_state-longer M C l xs b e (AsBackup r s f) = AsBackup r s (replayed-longer M l xs b e f)
-backup_state-longer M C l xs b e (AsDraining r s m f) = AsDraining r s m (replayed-longer M l xs b e f)
-backup_state-longer M C l xs b e (AsAlone r s u c k) =
-    AsAlone r s
-    (subst (λ zs. Runs M l.mid (zs ++ l.more) b.machine) (sym e) u)
-    (subst (λ zs. M.count b.machine ≡ steps l.base + steps (zs ++ l.more)) (sym e) c)
-    (subst (λ zs. b.list ≡ inputs 0 (l.base ++ (zs ++ l.more))) (sym e) k)
-
-backup-longer : {S : Type 0} (M : Machine S) (C : Copying S) (l : Line S) (xs : List Move) (b : Node S) →
-    cut (length b.held) (l.own ++ xs) ≡ cut (length b.held) l.own → IsBackup M C l b →
-    IsBackup M C (with_own l (l.own ++ xs) l.stage) b
-backup-longer M C l xs b e h = record {
-  state = backup_state-longer M C l xs b e h.state;
-  copy = h.copy;
-  start = h.start;
-  held = prefix-trans b.held (entries (steps l.base) l.own) (entries (steps l.base) (l.own ++ xs)) h.held
-      (entries-longer (steps l.base) l.own xs);
-}
 
 pub acting_there : {S : Type 0} (w : World S) (n m : ℕ) (x y : Node S) → slice_get w.nodes n ≡ Some x → n ≡ m →
     slice_get (slice_set w.nodes n y) m ≡ Some y

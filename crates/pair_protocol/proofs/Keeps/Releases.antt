@@ -21,7 +21,7 @@ use Rattle.pair_protocol.specs.World.{World}
 use Rattle.pair_protocol.proofs.Invariant.{BackupHere, Inv, IsPrimary, Line, PrimaryWon, WaitsAt, settled}
 use Rattle.pair_protocol.proofs.Invariant.Acting.{Acting, ActingPrimary, BackupActs, PrimaryActs, PrimaryAtTop, PrimaryEarlier, PrimaryPlace, acting, acting_primary, acts-no_spare, line_at}
 use Rattle.pair_protocol.proofs.Invariant.Settled.{covers-below}
-use Rattle.pair_protocol.proofs.Keeps.NewGeneration.{alone}
+use Rattle.pair_protocol.proofs.Keeps.Alone.{alone}
 use Rattle.pair_protocol.proofs.Keeps.Primary.{primary-runs}
 use Rattle.pair_protocol.proofs.Traces.Cuts.{cut-more, entries-cut}
 use Rattle.pair_protocol.proofs.Traces.Lists.{among-left, among-prefix, among-right, among-split, get-prefix, le-not, le-true, prefix-length, prefix-trans, same_some}

@@ -9,7 +9,6 @@ use Rattle.pair_protocol.specs.Copying.{Copying}
 use Rattle.pair_protocol.specs.Faithful.{IsPrefix}
 use Rattle.pair_protocol.specs.Lawful.{Among}
 use Rattle.pair_protocol.specs.Node.{Node, Spare, spare}
-use Rattle.pair_protocol.specs.Settled.{is_backup}
 use Rattle.pair_protocol.specs.World.{Arrival, Terminal, World, accepted_after, terminal, terminal_in, with_host, with_terminal}
 use Rattle.pair_protocol.proofs.Invariant.{AtTop, BackupHere, BackupLeft, CameIn, Gone, Inv, Line, Next, Presence, PrimaryHere, PrimaryLeft, Unused}
 use Rattle.pair_protocol.proofs.Traces.Lists.{get-last, get-longer, prefix-refl, prefix-trans}

@@ -19,7 +19,7 @@ use Rattle.pair_protocol.specs.World.{SectorRecord, World, sector_record}
 use Rattle.pair_protocol.proofs.Invariant.{BackupWon, Inv, PrimaryWon}
 use Rattle.pair_protocol.proofs.Invariant.Acting.{Acting, BackupActs, BackupAtTop, BackupEarlier, PrimaryActs, PrimaryAtTop, PrimaryEarlier, acting, line_at}
 use Rattle.pair_protocol.proofs.Keeps.All.{keep}
-use Rattle.pair_protocol.proofs.Keeps.Backup.{backup-alone}
+use Rattle.pair_protocol.proofs.Keeps.Alone.{backup-alone}
 use Rattle.pair_protocol.proofs.Keeps.Boot.{at_boot}
 use Rattle.pair_protocol.proofs.Keeps.Disk.{AsBefore, LatestIs, OfPut, latest_all, latest_is}
 use Rattle.pair_protocol.proofs.Promises.Outputs.{output_is, trace_runs}

@@ -8,11 +8,11 @@ use Rattle.i8080_words.specs.declared.refusal.Fault.TheVariants.{Lost}
 use Rattle.plain_single.specs.declared.timed.Timed.{Timed}
 use Rattle.pair_protocol.specs.Change.{Change, Changes, Reached, Stays, Then, Wins}
 use Rattle.pair_protocol.specs.Copying.{Copying, IsCopying}
-use Rattle.pair_protocol.specs.Event.{Ack, Arrive, BeginPair, DeliverAck, DeliverLog, Drain, Event, Get, GetReply, PartComes, Put, PutReply, Release, Replay, Reply, Send, SendPart, Step, Stop, Suspect, TakeKey, TellSent, Told, TypeByte}
+use Rattle.pair_protocol.specs.Event.{Ack, DeliverLog, Event, GetReply, PartComes, PutReply, Release, Reply, Send, SendPart, Suspect, TakeKey}
 use Rattle.pair_protocol.specs.Faithful.{IsPrefix}
 use Rattle.pair_protocol.specs.Grows.{Grows}
 use Rattle.pair_protocol.specs.Lawful.{Lawful}
-use Rattle.pair_protocol.specs.Node.{Alone, Backup, Draining, Joining, Node, Primary, Role, Spare, wins, won_role}
+use Rattle.pair_protocol.specs.Node.{Node, Role, Spare, wins, won_role}
 use Rattle.pair_protocol.specs.Refusals.{refusal}
 use Rattle.pair_protocol.specs.Row.{Accepts, DeviceFails, Leaves, Refuses, Row, WantsMemory}
 use Rattle.pair_protocol.specs.Rows.{Again, Asks, Comes, Completes, Does, PartDoes}

@@ -1,16 +1,15 @@
 -- The scripts of the small machines, event by event.
-use Rattle.std.proofs.Common.{[], ◌++◌, ◌<◌, ◌∷◌, ◌≡◌, ◌≤◌, List, None, Some, arith, false, inl, inr, refl, true, ℕ}
+use Rattle.std.proofs.Common.{[], ◌++◌, ◌<◌, ◌∷◌, ◌≡◌, List, None, Some, arith, false, inl, inr, refl, true, ℕ}
 use Rattle.event_callbacks.specs.declared.operations.OpId.TheVariants as id
 use Rattle.event_callbacks.specs.declared.operations.Operation.TheVariants.{Write}
 use Rattle.guest_board.specs.Machine.{Machine}
 use Rattle.i8080_words.specs.declared.refusal.Fault.TheVariants.{WrongRole}
 use Rattle.log_entry.specs.declared.entry.Entry.TheVariants.{Mark}
-use Rattle.plain_single.specs.Reach.{steps}
 use Rattle.pair_protocol.specs.Copying.{Copying}
 use Rattle.pair_protocol.specs.Event.{Accepted, Ack, Arrive, DeliverLog, Drain, Dropped, Event, Gave, MessageIs, MovedAlone, New, Ran, Refused, Release, Reply, Send, Step, Stop, Stopped, Suspect, TakeKey, TypeByte, TypedAt, Won}
 use Rattle.pair_protocol.specs.Examples.{TakesOver, WritesDisk, letter, sector_write, small, small_copying}
 use Rattle.pair_protocol.specs.Lawful.{top}
-use Rattle.pair_protocol.specs.Node.{Alone, Node, Primary, holds}
+use Rattle.pair_protocol.specs.Node.{Alone, Node, Primary}
 use Rattle.pair_protocol.specs.Row.{Accepts, First, Nothing, Refuses, Run}
 use Rattle.pair_protocol.specs.Rows.{AtEnd, Gives, Goes, NoneLeft, OneMark, OneStep}
 use Rattle.pair_protocol.specs.Waiting.{is_read}

@@ -3,7 +3,6 @@ use Rattle.std.proofs.Common.{[], ◌++◌, ◌+◌, ◌∙◌, ◌∷◌, ◌�
 use Rattle.disk_dcdd.specs.declared.sector.SectorWrite.{SectorWrite}
 use Rattle.event_callbacks.specs.declared.operations.Operation.{Operation}
 use Rattle.guest_board.specs.Machine.{Do, Machine, Move, Runs, Take}
-use Rattle.guest_board.specs.Outstanding.{IsFrugal}
 use Rattle.guest_board.specs.declared.input.Input.{Input}
 use Rattle.guest_board.specs.declared.input.Input.TheVariants as input
 use Rattle.log_entry.specs.Entries.{count_of, entries, entry_of, input_of, inputs_of, timed_in, timed_of}
