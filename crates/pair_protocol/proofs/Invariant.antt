@@ -225,7 +225,8 @@ WaitsAt l b v = (k : ℕ) (e : Entry) → b.replayed ≤ k → slice_get b.held 
     Among (Write v) (operations (l.base ++ cut k l.own))
 
 -- What is known of the backup's replay.
-pub record ReadsOf {S : Type 0} (nodes : List (Node S)) (messages : List Message) (top g : ℕ) (l : Line S) : Type 0 where
+pub record ReadsOf {S : Type 0} (nodes : List (Node S)) (messages : List Message) (top g : ℕ)
+    (l : Line S) : Type 0 where
   -- the primary was told of no more than is replayed
   pub heard : (a b : Node S) → slice_get nodes l.primary ≡ Some a → slice_get nodes l.backup ≡ Some b →
       a.generation ≡ g → b.generation ≡ g → a.role ≡ Primary → (b.role ≡ Spare → ⊥) → a.reported ≤ b.replayed
@@ -275,7 +276,8 @@ pub record Global {S : Type 0} (M : Machine S) (messages : List Message) (termin
   -- and each write that arrived at the disk, which was also released
   pub puts_are : (v : SectorWrite) → Among v puts → Among (Write v) (operations T) × Among (Released (Write v)) messages
   -- what the disk answered to a read is its record at boot, or of a write of the trace
-  pub reads : (q : SectorAddress) (n : ℕ) (bytes : List ℕ) → Among (SectorRead q n bytes) messages → IsRecord M q n bytes T
+  pub reads : (q : SectorAddress) (n : ℕ) (bytes : List ℕ) → Among (SectorRead q n bytes) messages →
+      IsRecord M q n bytes T
   -- what it answered to a write did arrive
   pub written : (n : ℕ) → Among (WriteDone n) messages → HasPut puts n
   -- the inputs of the trace came from the devices

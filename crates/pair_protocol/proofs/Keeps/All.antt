@@ -140,9 +140,12 @@ module _ {S : Type 0} (M : Machine S) (C : Copying S) (w : World S) (i : Inv M C
       HasReplayed M (line_at i x) y) → Next M C i.trace (with_node w n y)
   replays y r acts which ry gy hy cy sy later replayed =
       let o = i.each x.generation in
-      let back : IsBackupRole r = elim which [ inl h ↦ subst IsBackupRole (sym h) tt | inr h ↦ subst IsBackupRole (sym h) tt ] in
-      let q = acting_backup M C w i n x r acts back in
-      backup_keep y r acts back (λ k. q.real (sym ry ∙ k)) gy hy cy sy later
+      let backs_up : IsBackupRole r = elim which [
+        | inl h ↦ subst IsBackupRole (sym h) tt
+        | inr h ↦ subst IsBackupRole (sym h) tt
+      ] in
+      let q = acting_backup M C w i n x r acts backs_up in
+      backup_keep y r acts backs_up (λ k. q.real (sym ry ∙ k)) gy hy cy sy later
       (inl (λ k. subst Replaying ry k))
       (λ s. backup_state-replays M C o.line x y r acts.role_is which ry
       (replayed o.sound.recorded.0 q.is_backup.held o.sound.recorded.1

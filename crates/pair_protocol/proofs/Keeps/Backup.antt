@@ -142,7 +142,8 @@ module _ {S : Type 0} (M : Machine S) (C : Copying S) (w : World S) (i : Inv M C
   primary_there n x y e =
       get_set_other w.nodes n (line_at i x).primary y (λ k. (i.each x.generation).sound.apart (k ∙ e))
 
-  pub primary_gone : (n : ℕ) (x y : Node S) → n ≡ (line_at i x).backup → Gone w.nodes x.generation (line_at i x).primary →
+  pub primary_gone : (n : ℕ) (x y : Node S) → n ≡ (line_at i x).backup →
+      Gone w.nodes x.generation (line_at i x).primary →
       Gone (slice_set w.nodes n y) x.generation (line_at i x).primary
   primary_gone n x y e gone z t s g = gone z (sym (primary_there n x y e) ∙ t) s g
 
@@ -209,7 +210,8 @@ module _ {S : Type 0} (M : Machine S) (C : Copying S) (w : World S) (i : Inv M C
       new : List Move
       new = settled_moves l.stage l.base l.own (l.more ++ m ∷ []) (length l.held)
 
-      backup_here : BackupHere M C (slice_set w.nodes n y) x.generation (with_backup l (l.more ++ m ∷ []) l.stage l.held)
+      backup_here : BackupHere M C (slice_set w.nodes n y) x.generation
+          (with_backup l (l.more ++ m ∷ []) l.stage l.held)
       backup_here = record {
         b = y;
         there = acting_there w n l.backup x y q.there q.spot;

@@ -1,5 +1,5 @@
--- What changes of a node leave of its generation: replaying, hearing, halting, going live, joining; and more moves of the
--- primary leave the backup as it was.
+-- What a node's changes leave of its generation: replaying, hearing, halting, going live, joining; and what more moves
+-- of the primary leave of the backup.
 use Rattle.std.proofs.Common.{[], ◌++◌, ◌+◌, ◌∙◌, ◌∷◌, ◌≡◌, ◌≤◌, ◌⊎◌, List, None, Option, Some, ap, append-nil, arith, inl, inr, length, length-set, refl, subst, suc, sym, take, ℕ}
 use Rattle.std.specs.Prelude.{slice_get, slice_set}
 use Rattle.guest_board.specs.Machine.{Machine, Move, Runs}
@@ -20,7 +20,8 @@ use Rattle.pair_protocol.proofs.Traces.Lists.{get_set_cases, prefix-trans, same_
 -- Replaying.
 
 module _ {S : Type 0} (M : Machine S) (C : Copying S) (l : Line S) where
-  pub backup_state-replayed : (x : Node S) (r : Role) → x.role ≡ r → Replaying r → BackupState M C l x → HasReplayed M l x
+  pub backup_state-replayed : (x : Node S) (r : Role) → x.role ≡ r → Replaying r → BackupState M C l x →
+      HasReplayed M l x
   backup_state-replayed x r e which (AsJoining k s f) = absurd (elim which [ inl h ↦ (cc) | inr h ↦ (cc) ])
   backup_state-replayed x r e which (AsBackup k s f) = f
   backup_state-replayed x r e which (AsDraining k s m f) = f

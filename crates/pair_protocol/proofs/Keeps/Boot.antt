@@ -65,7 +65,16 @@ at_boot {S} M C laws = record {
     ]
 
     the_line : Line S
-    the_line = record { base = []; own = []; more = []; mid = M.boot; stage = Undecided; primary = 0; backup = 1; held = [] }
+    the_line = record {
+      base = [];
+      own = [];
+      more = [];
+      mid = M.boot;
+      stage = Undecided;
+      primary = 0;
+      backup = 1;
+      held = [];
+    }
 
     came : CameIn (no_terminal ∷ no_terminal ∷ []) [] []
     came = record {

@@ -124,7 +124,8 @@ module _ {S : Type 0} (M : Machine S) (C : Copying S) (w : World S) (i : Inv M C
               (λ lt. absurd (omega (arith, lt, g))) refl
               (global-grows M w.messages w.terminals w.puts i.trace new grows
               (record {
-                done = λ v. let c = acceptances-prefix v 0 new (l.base ++ l.own) p.1 in let d = o.came.done v in omega arith;
+                done = λ v. let c = acceptances-prefix v 0 new (l.base ++ l.own) p.1 in
+                    let d = o.came.done v in omega arith;
                 typed = λ v. prefix-trans (keys v (inputs 0 new)) (keys v (inputs 0 (l.base ++ l.own)))
                     (terminal w v).typed (keys-prefix v 0 new (l.base ++ l.own) p.1) (o.came.typed v);
                 put = put-prefix w.puts new (l.base ++ l.own) p.1 o.came.put;
@@ -132,9 +133,11 @@ module _ {S : Type 0} (M : Machine S) (C : Copying S) (w : World S) (i : Inv M C
               (owns-prefix M M.boot new (l.base ++ l.own) p.1 (o.owns s))
               i.global)
           go (BackupEarlier g t a) =
-              let same : new ≡ settled l = settled-primary l.stage l.base l.own l.more (length l.held) (length held) t in
+              let same : new ≡ settled l = settled-primary l.stage l.base l.own l.more (length l.held)
+              (length held) t in
               relined M C w i n x y w.winners i.trace q.there q.real refl (λ j d. refl) (prefix-refl i.trace) (inl refl)
               (backup-line M C w i n i.trace x y q l.more l.stage held w.winners
               (PrimaryLeft g t (primary_gone M C w i n x y q.spot a) backup_here) o.tied few longer (λ z. z)
-              (subst (λ z. IsPrefix z i.trace) (sym same) o.below) (reads (λ r z. absurd (omega (arith, g, r)))) (λ z. z))
+              (subst (λ z. IsPrefix z i.trace) (sym same) o.below) (reads (λ r z. absurd (omega (arith, g, r))))
+              (λ z. z))
               (λ lt. same) refl i.global

@@ -247,7 +247,8 @@ keep-begins {S} M C copies w i n h x y acts there spare_is = record {
             omega (arith, z));
         told = λ j r b m u gb ns. absurd (unknown.no_ack j r m);
         waits = λ t s b u gb role v m.
-            absurd (let z : Joining ≡ b.role = ap (λ (v : Node S). v.role) (same_some jx b (slice_get nodes h) at_h u) in
+            absurd (let z : Joining ≡ b.role = ap (λ (v : Node S). v.role)
+            (same_some jx b (slice_get nodes h) at_h u) in
             elim role [ inl q ↦ (cc) | inr q ↦ (cc) ]);
       };
     }

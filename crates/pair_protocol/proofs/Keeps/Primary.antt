@@ -121,7 +121,8 @@ module _ {S : Type 0} (M : Machine S) (C : Copying S) (w : World S) (i : Inv M C
   backup_there n x y e =
       get_set_other w.nodes n (line_at i x).backup y (λ k. (i.each x.generation).sound.apart (sym e ∙ sym k))
 
-  pub backup_gone : (n : ℕ) (x y : Node S) → n ≡ (line_at i x).primary → Gone w.nodes x.generation (line_at i x).backup →
+  pub backup_gone : (n : ℕ) (x y : Node S) → n ≡ (line_at i x).primary →
+      Gone w.nodes x.generation (line_at i x).backup →
       Gone (slice_set w.nodes n y) x.generation (line_at i x).backup
   backup_gone n x y e gone z t s g = gone z (sym (backup_there n x y e) ∙ t) s g
 

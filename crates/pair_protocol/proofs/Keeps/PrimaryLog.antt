@@ -172,7 +172,8 @@ notes-do c own log notes (Some o) h k y m = go (bool_cases (same_name (id_of y) 
             inside = r.inside;
             reads = r.reads;
           })
-          | inr (inl l) ↦ (let t : same_name (id_of y) (id_of o) ≡ true = ap (λ z. same_name (id_of y) (id_of z)) (sym l)
+          | inr (inl l) ↦ (let t : same_name (id_of y) (id_of o) ≡ true = ap (λ z. same_name (id_of y) (id_of z))
+              (sym l)
               ∙ same_name-refl (id_of y) in (cc))
           | inr (inr l) ↦ absurd l
         ]

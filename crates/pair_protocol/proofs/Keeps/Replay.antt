@@ -95,7 +95,8 @@ pub record Ahead {S : Type 0} (M : Machine S) (l : Line S) (b : Node S) (f : Lis
   pub runs : Recorded M b.machine rest final
   pub entries_are : entries (steps l.base) f ++ entries (M.count b.machine) rest ≡ b.held
 
-module _ {S : Type 0} (M : Machine S) (l : Line S) (last : S) (b : Node S) (p : IsPrefix b.held (entries (steps l.base) l.own))
+module _ {S : Type 0} (M : Machine S) (l : Line S) (last : S) (b : Node S)
+    (p : IsPrefix b.held (entries (steps l.base) l.own))
     (r : Recorded M l.mid l.own last) where
   pub ahead : (f : HasReplayed M l b) → Ahead M l b f.ms
   ahead f =
@@ -165,7 +166,8 @@ module _ {S : Type 0} (M : Machine S) (l : Line S) (last : S) (b : Node S) (p : 
             place = placed o q;
           }
       by_place (inr q) =
-          let c = ap count_of (lagging f e g (lag-is (steps l.base) q.0 f.ms q.1 q.2 ∙ ap (λ zs. zs ++ Mark (steps l.base + steps f.ms) ∷ []) q.3)) in
+          let c = ap count_of (lagging f e g (lag-is (steps l.base) q.0 f.ms q.1 q.2
+          ∙ ap (λ zs. zs ++ Mark (steps l.base + steps f.ms) ∷ []) q.3)) in
           let d = f.count in
           absurd (omega (arith, c, d, less))
 

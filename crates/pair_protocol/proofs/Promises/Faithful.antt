@@ -88,10 +88,12 @@ disk_is {S} M C laws w i t runs q = go (latest_is start w.puts q) (laws.own_disk
         MayHave M i.trace t q here.bytes
     go (AsBefore h) (inl o) = IsImage (ap (λ (z : SectorRecord). z.bytes) h ∙ sym o.bytes)
     go (OfPut v put k h) (inl o) = late v (i.global.puts_are v put).0 k (ap (λ (z : SectorRecord). z.bytes) h) (λ l.
-        (let m = laws.write_some i.trace t v runs (i.global.puts_are v put).0 in let e = o.none in absurd (omega arith)))
+        (let m = laws.write_some i.trace t v runs (i.global.puts_are v put).0 in
+        let e = o.none in absurd (omega arith)))
     go (AsBefore h) (inr o) =
         let p = i.global.came.put o.write.number o.completed in
-        let same : p.0 ≡ o.write = laws.write_once i.trace t p.0 o.write runs (i.global.puts_are p.0 p.1).0 o.issued p.2 in
+        let same : p.0 ≡ o.write = laws.write_once i.trace t p.0 o.write runs
+        (i.global.puts_are p.0 p.1).0 o.issued p.2 in
         let g = latest_all start w.puts q p.0 p.1 (ap address_of same ∙ o.there) in
         let m = laws.write_some i.trace t o.write runs o.issued in
         let e = ap (λ (z : SectorRecord). z.number) h in
@@ -99,7 +101,8 @@ disk_is {S} M C laws w i t runs q = go (latest_is start w.puts q) (laws.own_disk
         absurd (omega arith)
     go (OfPut v put k h) (inr o) = late v (i.global.puts_are v put).0 k (ap (λ (z : SectorRecord). z.bytes) h) (λ l.
         (let p = i.global.came.put o.write.number o.completed in
-        let same : p.0 ≡ o.write = laws.write_once i.trace t p.0 o.write runs (i.global.puts_are p.0 p.1).0 o.issued p.2 in
+        let same : p.0 ≡ o.write = laws.write_once i.trace t p.0 o.write runs
+        (i.global.puts_are p.0 p.1).0 o.issued p.2 in
         let g = latest_all start w.puts q p.0 p.1 (ap address_of same ∙ o.there) in
         let e = ap (λ (z : SectorRecord). z.number) h in
         let f = o.last in

@@ -124,7 +124,11 @@ trace_runs {S} M C w i = let r = by_state l.stage t.primary.is_primary.runs t.ba
       runs-append M M.boot l.mid front.0 l.base
           (cut (length l.held) l.own) o.sound.based front.1,
     )
-    by_state PrimaryWon r s = (t.primary.a.machine, runs-append M M.boot l.mid t.primary.a.machine l.base l.own o.sound.based r)
+    by_state PrimaryWon r s = (
+      t.primary.a.machine,
+      runs-append M M.boot l.mid t.primary.a.machine l.base l.own
+          o.sound.based r,
+    )
     by_state BackupWon r (AsJoining x y z) = absurd (y refl)
     by_state BackupWon r (AsBackup x y z) = absurd (y refl)
     by_state BackupWon r (AsDraining x y z f) =

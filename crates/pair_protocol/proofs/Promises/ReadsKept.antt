@@ -51,7 +51,8 @@ not-busy M s address number h = go (not (M.ready s address)) (M.busy s address) 
     go false false c k = refl
 
 read_is_kept : {S : Type 0} (M : Machine S) → Lawful M → (base xs : List Move) (mid s : S)
-    (puts : List SectorWrite) (drive sector number : ℕ) (bytes : List ℕ) → Runs M M.boot base mid → Recorded M mid xs s →
+    (puts : List SectorWrite) (drive sector number : ℕ) (bytes : List ℕ) → Runs M M.boot base mid →
+    Recorded M mid xs s →
     refusal_of M s (Sector drive sector number bytes) ≡ None → ArePut puts (inputs 0 (base ++ xs)) →
     ((v : SectorWrite) → Among v puts → Among (Write v) (operations (base ++ xs))) →
     (sector_record M puts (M.address s drive sector)).number ≡ number
@@ -123,8 +124,10 @@ entry_input c (input.Rx port byte) count drive sector number bytes h = (cc)
 entry_input c (input.Sent port) count drive sector number bytes h = (cc)
 entry_input c (input.Written n) count drive sector number bytes h = (cc)
 entry_input c (input.Sector d s n bs) count drive sector number bytes h =
-    let e = ap input_of h in
-    (same_some (Sector d s n bs) (Sector drive sector number bytes) (Some (Sector d s n bs)) refl e, sym (ap count_of h))
+    let e = ap input_of h in (
+      same_some (Sector d s n bs) (Sector drive sector number bytes) (Some (Sector d s n bs)) refl e,
+      sym (ap count_of h),
+    )
 
 before : (c : ℕ) (own : List Move) (k count drive sector number : ℕ) (bytes : List ℕ)
     → slice_get (entries c own) k ≡ Some (entry.Sector count drive sector number bytes)
@@ -206,11 +209,13 @@ reads_kept {S} M C laws w i n x still k count drive sector number bytes low got 
     l = o.line
 
     go : Acting M C w i n x → (sector_record M w.puts (M.address r.last drive sector)).number ≡ number
-    go (PrimaryActs a p) = absurd (by_role (λ q. elim a.is_primary.role [ inl z ↦ (cc) | inr z ↦ (let y = z.0 in (cc)) ])
+    go (PrimaryActs a p) = absurd (by_role
+        (λ q. elim a.is_primary.role [ inl z ↦ (cc) | inr z ↦ (let y = z.0 in (cc)) ])
         (λ q. elim a.is_primary.role [ inl z ↦ (cc) | inr z ↦ (let y = z.0 in (cc)) ]) still.who)
     go (BackupActs a p) =
         subst (λ v. (sector_record M w.puts (M.address v drive sector)).number ≡ number) (sym same)
-        (read_is_kept M laws l.base b.front l.mid u.0 w.puts drive sector number bytes o.sound.based u.1 accepts.1.allowed
+        (read_is_kept M laws l.base b.front l.mid u.0 w.puts drive sector number bytes o.sound.based u.1
+        accepts.1.allowed
         (put-prefix w.puts (l.base ++ b.front) (l.base ++ l.own) whole o.came.put) written)
       where
         there : slice_get (entries (steps l.base) l.own) k ≡ Some (entry.Sector count drive sector number bytes)
@@ -223,11 +228,13 @@ reads_kept {S} M C laws w i n x still k count drive sector number bytes low got 
         whole = prefix-under l.base b.front l.own (Take (Sector drive sector number bytes) ∷ b.rest, sym b.own_is)
 
         u : (v : S) × Recorded M l.mid b.front v
-        u = recorded-prefix M l.mid o.sound.recorded.0 b.front l.own (Take (Sector drive sector number bytes) ∷ b.rest, sym b.own_is)
+        u = recorded-prefix M l.mid o.sound.recorded.0 b.front l.own
+            (Take (Sector drive sector number bytes) ∷ b.rest, sym b.own_is)
             o.sound.recorded.1
 
         accepts : (v : S) × Accepts M u.0 (Sector drive sector number bytes) v × Recorded M v b.rest o.sound.recorded.0
-        accepts = recorded-rest M l.mid u.0 o.sound.recorded.0 b.front (Take (Sector drive sector number bytes) ∷ b.rest)
+        accepts = recorded-rest M l.mid u.0 o.sound.recorded.0 b.front
+            (Take (Sector drive sector number bytes) ∷ b.rest)
             (recorded-runs M l.mid u.0 b.front u.1)
             (subst (λ zs. Recorded M l.mid zs o.sound.recorded.0) b.own_is o.sound.recorded.1)
 
@@ -251,7 +258,8 @@ reads_kept {S} M C laws w i n x still k count drive sector number bytes low got 
         written : (v : SectorWrite) → Among v w.puts → Among (Write v) (operations (l.base ++ b.front))
         written v m =
             let z = o.reads.waits (still.highest_is ∙ highest_is M C w i) not_primary x
-            (subst (λ j. slice_get w.nodes j ≡ Some x) a.spot still.there) refl repeats v (i.global.puts_are v m).1 k _ low got read
+            (subst (λ j. slice_get w.nodes j ≡ Some x) a.spot still.there) refl repeats v
+            (i.global.puts_are v m).1 k _ low got read
             in
             subst (Among (Write v))
             (operations-append l.base (cut k l.own) ∙ ap (λ os. operations l.base ++ os) b.operations_are
@@ -272,7 +280,8 @@ reads_kept {S} M C laws w i n x still k count drive sector number bytes low got 
         taken : take k x.held ≡ entries (steps l.base) b.front
         taken =
             let few = slice_get_within x.held k _ got in
-            sym (take-append-le k x.held a.is_backup.held.0 (omega (arith, few))) ∙ ap (take k) a.is_backup.held.1 ∙ sym b.entries_are
+            sym (take-append-le k x.held a.is_backup.held.0 (omega (arith, few))) ∙ ap (take k) a.is_backup.held.1
+            ∙ sym b.entries_are
 
         list_is : inputs 0 (l.base ++ b.front) ≡ x.copy ++ inputs_of (take k x.held)
         list_is =

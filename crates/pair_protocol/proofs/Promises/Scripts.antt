@@ -126,7 +126,8 @@ until_drained =
           (OneStep _ 3 None refl (omega arith) refl
           (OneStep _ 4 None refl (omega arith) refl
           (OneStep _ 5 None refl (omega arith) refl
-          (OneStep _ 6 (Some letter) refl (let l : 5 < 6 = omega arith in l) refl (OneMark _ refl refl refl (AtEnd refl)))))));
+          (OneStep _ 6 (Some letter) refl (let l : 5 < 6 = omega arith in l) refl
+          (OneMark _ refl refl refl (AtEnd refl)))))));
       some = inl (omega arith);
       reply = refl;
       after = refl;

@@ -155,7 +155,8 @@ settles_trace {S} M C w i n x s = go (acting M C w i n x s.there s.a_node) s.who
     none_won PrimaryWon h k = (cc)
     none_won BackupWon h k = (cc)
 
-    primary_is_no_backup : (x.role ≡ Primary) ⊎ ((x.role ≡ Alone) × (l.stage ≡ PrimaryWon)) → is_backup x.role ≡ true → ⊥
+    primary_is_no_backup : (x.role ≡ Primary) ⊎ ((x.role ≡ Alone) × (l.stage ≡ PrimaryWon)) →
+        is_backup x.role ≡ true → ⊥
     primary_is_no_backup (inl h) k = let e = ap is_backup h in (cc)
     primary_is_no_backup (inr h) k = let e = ap is_backup h.0 in (cc)
 
@@ -164,11 +165,13 @@ settles_trace {S} M C w i n x s = go (acting M C w i n x s.there s.a_node) s.who
         ⊎ ((winner_in w.winners x.generation ≡ None) × (is_backup x.role ≡ true)) → IsSettled M x i.trace
     go (PrimaryActs q (PrimaryEarlier g t b)) who = (let h = at_top in absurd (omega arith))
     go (PrimaryActs q (PrimaryAtTop g t b)) (inl h) =
-        subst (λ z. IsSettled M x z) t (primary-settles M l x q.is_primary (primary_won l.stage (sym o.tied ∙ h) q.spot))
+        subst (λ z. IsSettled M x z) t (primary-settles M l x q.is_primary (primary_won l.stage (sym o.tied
+        ∙ h) q.spot))
     go (PrimaryActs q (PrimaryAtTop g t b)) (inr h) = absurd (primary_is_no_backup q.is_primary.role h.1)
     go (BackupActs q (BackupEarlier g t a)) who = (let h = at_top in absurd (omega arith))
     go (BackupActs q (BackupAtTop g t a)) (inl h) =
-        subst (λ z. IsSettled M x z) t (backup-settles M C l x q.held q.is_backup (backup_won l.stage (sym o.tied ∙ h) q.spot))
+        subst (λ z. IsSettled M x z) t (backup-settles M C l x q.held q.is_backup (backup_won l.stage (sym o.tied
+        ∙ h) q.spot))
     go (BackupActs q (BackupAtTop g t a)) (inr h) =
         subst (λ z. IsSettled M x z) t (backup-settles M C l x q.held q.is_backup (none_won l.stage (sym o.tied ∙ h.0)))
 
