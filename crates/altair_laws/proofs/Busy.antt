@@ -10,7 +10,7 @@ use Rattle.disk_dcdd.specs.declared.sector.SectorWrite.{SectorWrite}
 use Rattle.guest_board.specs.Guest.{Guest, address_under}
 use Rattle.altair_laws.specs.Stands.{AreWrites, IsPending}
 use Rattle.pair_protocol.specs.Lawful.{Among}
-use Rattle.pair_protocol.proofs.Disk.{same_address-refl}
+use Rattle.pair_protocol.proofs.Keeps.Disk.{same_address-refl}
 
 some_is : {A : Type 0} (test : A → Bool) (xs : List A) (x : A) → Among x xs → test x ≡ true → list_any test xs ≡ true
 some_is test [] x m h = absurd m

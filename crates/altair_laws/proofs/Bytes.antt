@@ -21,7 +21,7 @@ use Rattle.guest_board.specs.declared.setup.Setup.{Setup}
 use Rattle.i8080_words.specs.declared.registers.Processor.{Processor}
 use Rattle.plain_single.specs.Reach.{inputs, output, acceptances}
 use Rattle.pair_protocol.specs.Lawful.{Reaches}
-use Rattle.pair_protocol.proofs.Moves.{acceptances_of-append, runs-split}
+use Rattle.pair_protocol.proofs.Traces.Moves.{acceptances_of-append, runs-split}
 use Rattle.altair_laws.proofs.Moves.{Tells, from_boot, length-output}
 use Rattle.altair_laws.proofs.Steps.{Gave, GaveNothing, GaveByte, GaveWrite, Steps, steps_from, after_step, same_unaccepted}
 use Rattle.altair_laws.proofs.Counts.{zeros}

@@ -15,7 +15,7 @@ use Rattle.guest_board.specs.declared.input.Input.TheVariants.{Rx, Sent, Sector,
 use Rattle.guest_board.specs.declared.setup.Setup.{Setup}
 use Rattle.plain_single.specs.Reach.{inputs, steps, keys}
 use Rattle.pair_protocol.specs.Lawful.{Reaches}
-use Rattle.pair_protocol.proofs.Moves.{steps-append}
+use Rattle.pair_protocol.proofs.Traces.Moves.{steps-append}
 use Rattle.altair_laws.proofs.Moves.{Tells, from_boot, length-keys}
 use Rattle.altair_laws.proofs.Steps.{Steps, steps_from, after_step}
 

@@ -22,7 +22,7 @@ use Rattle.plain_single.specs.Reach.{inputs, steps, operations, bare, bytes_afte
 use Rattle.plain_single.specs.declared.timed.Bare.{Bare}
 use Rattle.plain_single.specs.declared.timed.Timed.{Timed}
 use Rattle.pair_protocol.specs.Lawful.{Among}
-use Rattle.pair_protocol.proofs.Moves.{inputs-append}
+use Rattle.pair_protocol.proofs.Traces.Moves.{inputs-append}
 use Rattle.altair_laws.proofs.Moves.{Tells}
 
 -- ---- addresses

@@ -20,7 +20,7 @@ use Rattle.guest_board.specs.Ports.{Wired, after_byte}
 use Rattle.i8080_words.specs.declared.registers.Processor.{Processor}
 use Rattle.plain_single.specs.Reach.{operations}
 use Rattle.pair_protocol.specs.Lawful.{Among}
-use Rattle.pair_protocol.proofs.Moves.{among-left, among-right, among-split}
+use Rattle.pair_protocol.proofs.Traces.Lists.{among-left, among-split, among-right}
 use Rattle.altair_laws.proofs.Moves.{operations-left}
 use Rattle.altair_laws.proofs.Operations.{given-step}
 use Rattle.altair_laws.proofs.Drives.{Stands}

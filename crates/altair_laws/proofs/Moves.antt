@@ -7,7 +7,8 @@ use Rattle.guest_board.specs.Machine.{Machine, Move, Do, Take, Runs}
 use Rattle.guest_board.specs.declared.input.Input.{Input}
 use Rattle.plain_single.specs.Reach.{inputs, operations, output, keys}
 use Rattle.pair_protocol.specs.Lawful.{Among}
-use Rattle.pair_protocol.proofs.Moves.{operations-append, output-append, keys_of-append, among-left, among-right}
+use Rattle.pair_protocol.proofs.Traces.Moves.{operations-append, keys_of-append, output-append}
+use Rattle.pair_protocol.proofs.Traces.Lists.{among-left, among-right}
 
 pub length-output : (port : ℕ) (xs ys : List Move)
     → length (output port (xs ++ ys)) ≡ length (output port xs) + length (output port ys)

@@ -22,7 +22,8 @@ use Rattle.plain_single.specs.Reach.{inputs, operations, image_from}
 use Rattle.plain_single.specs.declared.timed.Bare.{Bare}
 use Rattle.plain_single.specs.declared.timed.Bare.TheVariants as bare
 use Rattle.pair_protocol.specs.Lawful.{Among}
-use Rattle.pair_protocol.proofs.Moves.{operations-append, among-split}
+use Rattle.pair_protocol.proofs.Traces.Moves.{operations-append}
+use Rattle.pair_protocol.proofs.Traces.Lists.{among-split}
 use Rattle.altair_laws.proofs.Operations.{AreGiven, with-cases, given-boot}
 use Rattle.altair_laws.proofs.Drives.{Stands}
 use Rattle.altair_laws.proofs.Images.{number_of, same-address, place-among, write-same, bares}

@@ -24,7 +24,7 @@ use Rattle.output_rule.proofs.NoteLists.{apart-with_note, note_comes, note_goes}
 use Rattle.pair_protocol.specs.Node as protocol
 use Rattle.pair_protocol.specs.Node.{Node, note_of, notes_after, primary_steps}
 use Rattle.pair_protocol.specs.Waiting.{waits_for}
-use Rattle.pair_protocol.proofs.LeadMoves.{same_name-refl}
+use Rattle.pair_protocol.proofs.Keeps.PrimaryLog.{same_name-refl}
 use Rattle.pair_protocol.proofs.Waiting.{waits_for_none}
 use Rattle.plain_single.specs.declared.timed.Timed.{Timed}
 use Rattle.plain_single.specs.Reach as reach

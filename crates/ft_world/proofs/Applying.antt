@@ -13,9 +13,9 @@ use Rattle.pair_protocol.specs.Event.{Refused, is_disk}
 use Rattle.pair_protocol.specs.Refusals.{fault_if, refusal}
 use Rattle.pair_protocol.specs.Row.{DeviceFails, Leaves, MayWantMemory, Refuses, Row, WantsMemory}
 use Rattle.pair_protocol.specs.World.{World}
-use Rattle.pair_protocol.proofs.Growth.{row_grows}
+use Rattle.pair_protocol.proofs.Promises.Growth.{row_grows}
 use Rattle.pair_protocol.proofs.RowActions.{row_changes}
-use Rattle.pair_protocol.proofs.Runs.{always_faithful, changes_reach}
+use Rattle.pair_protocol.proofs.Promises.Runs.{always_faithful, changes_reach}
 use Rattle.ft_world.specs.Applies.{Applies, IsFaithful, Shows, ShowsParts, ShowsSome}
 use Rattle.ft_world.specs.Running.{Running}
 use Rattle.ft_world.specs.Standing.{Course, machine_of}

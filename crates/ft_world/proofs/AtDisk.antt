@@ -20,8 +20,8 @@ use Rattle.pair_protocol.specs.Refusals.{write_refusal}
 use Rattle.pair_protocol.specs.Row.{Accepts, DeviceFails, Row, WantsMemory}
 use Rattle.pair_protocol.specs.World as world
 use Rattle.pair_protocol.specs.World.{SectorRecord, sector_record, with_put}
-use Rattle.pair_protocol.proofs.Moves.{same_some}
-use Rattle.pair_protocol.proofs.OneMore.{sector_record-one}
+use Rattle.pair_protocol.proofs.Traces.Lists.{same_some}
+use Rattle.pair_protocol.proofs.Promises.OneMore.{sector_record-one}
 use Rattle.ft_world.specs.Applies.{Applies, Shows}
 use Rattle.ft_world.specs.Devices.{PutsWrite}
 use Rattle.ft_world.specs.Messages.{write_of}

@@ -10,7 +10,7 @@ use Rattle.i8080_words.specs.declared.refusal.Fault.TheVariants.{Unknown}
 use Rattle.shared_disk.specs.declared.store.Record.{Record}
 use Rattle.pair_protocol.specs.Node.{Node, Role, Primary, Backup, Joining, Draining, Alone, Spare, halts, is_role, wins}
 use Rattle.pair_protocol.specs.Refusals.{at_node, suspect_refusal}
-use Rattle.pair_protocol.proofs.Lines.{get_set, get_set_other, same_or_not}
+use Rattle.pair_protocol.proofs.Traces.Lists.{get_set, same_or_not, get_set_other}
 use Rattle.pair_protocol.proofs.OneNode.{set_get}
 use Rattle.ft_node.specs.Calls.{Always, AskedOf, Asks, Unless, Gives}
 use Rattle.ft_node.specs.Seats.{IsNode}

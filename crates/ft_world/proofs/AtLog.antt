@@ -17,7 +17,7 @@ use Rattle.pair_protocol.specs.Refusals.{at_acked, at_log}
 use Rattle.pair_protocol.specs.Settled.{is_backup}
 use Rattle.pair_protocol.specs.World as world
 use Rattle.pair_protocol.specs.World.{with_node}
-use Rattle.pair_protocol.proofs.Moves.{same_some}
+use Rattle.pair_protocol.proofs.Traces.Lists.{same_some}
 use Rattle.pair_protocol.proofs.OneNode.{with_same}
 use Rattle.ft_world.specs.Applies.{Applies, Shows}
 use Rattle.ft_world.proofs.AtHosts.{AtHost, DoesAtHost, WantsAtHost}

@@ -18,7 +18,7 @@ use Rattle.pair_protocol.specs.Row.{Accepts, Refuses, Row, WantsMemory}
 use Rattle.pair_protocol.specs.Rows.{Advances, Ends, Gives, Goes, NoneLeft, Short, Waits, stepped}
 use Rattle.pair_protocol.specs.Settled.{highest, is_backup}
 use Rattle.pair_protocol.specs.World.{with_node}
-use Rattle.pair_protocol.proofs.Moves.{same_some}
+use Rattle.pair_protocol.proofs.Traces.Lists.{same_some}
 use Rattle.ft_node.specs.Calls.{why_of}
 use Rattle.ft_node.specs.declared.ran.Ran.{Ran}
 use Rattle.ft_world.specs.Applies.{Applies, Shows, ShowsParts}

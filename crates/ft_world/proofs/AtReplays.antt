@@ -20,7 +20,7 @@ use Rattle.pair_protocol.specs.Rows.{after_drain, at_end, drain_reply}
 use Rattle.pair_protocol.specs.Settled.{is_backup}
 use Rattle.pair_protocol.specs.World.{with_node}
 use Rattle.pair_protocol.proofs.Booted.{IsBehind-booted, IsOnTrace-back, Replays-booted}
-use Rattle.pair_protocol.proofs.NodeStands.{nodes_stand}
+use Rattle.pair_protocol.proofs.Promises.NodeStands.{nodes_stand}
 use Rattle.pair_protocol.proofs.Passed.{node-passed}
 use Rattle.ft_node.specs.Roles.{IsFollower}
 use Rattle.ft_node.specs.Seats.{IsNode, MayReplay}

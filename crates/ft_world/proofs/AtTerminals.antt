@@ -18,8 +18,8 @@ use Rattle.pair_protocol.specs.Refusals.{no_port, byte_refusal}
 use Rattle.pair_protocol.specs.Row.{Accepts}
 use Rattle.pair_protocol.specs.World as world
 use Rattle.pair_protocol.specs.World.{World, accepted, accepted_after, accepted_in, no_terminal, terminal_in, with_arrival, with_key}
-use Rattle.pair_protocol.proofs.Moves.{same_some}
-use Rattle.pair_protocol.proofs.OneMore.{accepted-one, arrival-counts, terminal-set}
+use Rattle.pair_protocol.proofs.Traces.Lists.{same_some}
+use Rattle.pair_protocol.proofs.Promises.OneMore.{accepted-one, terminal-set, arrival-counts}
 use Rattle.ft_world.specs.Applies.{Applies, Shows, ShowsParts}
 use Rattle.ft_world.specs.Devices.{Arrives, Types, screen_in}
 use Rattle.ft_world.specs.Messages.{byte_of}

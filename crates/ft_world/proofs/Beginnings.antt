@@ -25,7 +25,7 @@ use Rattle.pair_protocol.specs.Node.{Backup, Node, Primary, Role, first_node}
 use Rattle.altair_laws.specs.OnDisk.{StaysOnDisk}
 use Rattle.pair_protocol.specs.Settled.{is_backup}
 use Rattle.pair_protocol.specs.World.{no_terminal, opening}
-use Rattle.pair_protocol.proofs.Moves.{same_some}
+use Rattle.pair_protocol.proofs.Traces.Lists.{same_some}
 use Rattle.ft_node.specs.Calls.{Begins}
 use Rattle.ft_node.specs.Seats.{IsNode}
 use Rattle.ft_node.specs.declared.node.Node as code

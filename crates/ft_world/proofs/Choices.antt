@@ -16,7 +16,7 @@ use Rattle.terminals.specs.Arrivals.{Arrival, IsAccepted}
 use Rattle.terminals.proofs.Accepted.{drops_others, nothing_accepted, takes_next}
 use Rattle.pair_protocol.specs.World as protocol
 use Rattle.pair_protocol.specs.World.{accepted_after, latest, record_after, terminal}
-use Rattle.pair_protocol.proofs.OneMore.{accepted-one}
+use Rattle.pair_protocol.proofs.Promises.OneMore.{accepted-one}
 use Rattle.ft_world.specs.Choices.{DisksKeepTheGreatest, TerminalsAcceptTheLongest, arrivals_of, kept_of}
 
 -- ---- terminals

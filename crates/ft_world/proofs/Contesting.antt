@@ -16,7 +16,7 @@ use Rattle.pair_protocol.specs.Node.{Joining, Node, Spare, halts, is_role}
 use Rattle.pair_protocol.specs.Refusals.{ask_refusal, at_node, fault_if, first_of, is_other, refusal, suspect_refusal}
 use Rattle.pair_protocol.specs.Row.{Accepts, Leaves, Refuses, Row, WantsMemory}
 use Rattle.pair_protocol.specs.World.{World, winner_in, with_node, with_winner}
-use Rattle.pair_protocol.proofs.Moves.{same_some}
+use Rattle.pair_protocol.proofs.Traces.Lists.{same_some}
 use Rattle.pair_protocol.proofs.OneNode.{set_get}
 use Rattle.ft_node.specs.Calls.{AskedOf, Unless}
 use Rattle.ft_world.specs.Applies.{Applies, Shows}

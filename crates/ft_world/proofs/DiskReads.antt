@@ -25,7 +25,7 @@ use Rattle.pair_protocol.specs.Refusals.{at_node, fault_if, first_of, no_sector,
 use Rattle.pair_protocol.specs.Row.{Accepts, DeviceFails, Row, WantsMemory}
 use Rattle.pair_protocol.specs.World as sent
 use Rattle.pair_protocol.specs.World.{World, sector_record, with_read}
-use Rattle.pair_protocol.proofs.Moves.{same_some}
+use Rattle.pair_protocol.proofs.Traces.Lists.{same_some}
 use Rattle.pair_protocol.proofs.Passed.{first-passed, node-passed, serving}
 use Rattle.ft_world.specs.Applies.{Applies, Shows, ShowsSome}
 use Rattle.ft_world.proofs.AtHosts as host

@@ -14,10 +14,10 @@ use Rattle.pair_protocol.specs.Row.{Accepts, DeviceFails, Leaves, Refuses, Row, 
 use Rattle.pair_protocol.specs.Rows.{Asks, Does, Takes, after_drain, at_end}
 use Rattle.pair_protocol.specs.Settled.{highest}
 use Rattle.pair_protocol.specs.World.{World, winner_in, with_node, with_winner}
-use Rattle.pair_protocol.proofs.Growth.{asks_at_top, winner_added}
-use Rattle.pair_protocol.proofs.Lines.{Inv}
+use Rattle.pair_protocol.proofs.Promises.Growth.{asks_at_top, winner_added}
+use Rattle.pair_protocol.proofs.Invariant.{Inv}
 use Rattle.pair_protocol.proofs.RowActions.{asks_no_spare}
-use Rattle.pair_protocol.proofs.Settling.{highest_is}
+use Rattle.pair_protocol.proofs.Promises.Settling.{highest_is}
 use Rattle.ft_world.specs.Words.{event_of}
 use Rattle.pair_events.specs.declared.event.Event.{Event}
 use Rattle.pair_events.specs.declared.event.Event.TheVariants as event

@@ -14,17 +14,17 @@ use Rattle.pair_protocol.specs.Lawful.{Lawful}
 use Rattle.pair_protocol.specs.Node.{Node, Spare}
 use Rattle.pair_protocol.specs.Settled.{Settled, Settles, count_in, highest, list_of}
 use Rattle.pair_protocol.specs.World.{World, winner_in}
-use Rattle.pair_protocol.proofs.Frames.{back_no_spare, lead_no_spare}
-use Rattle.pair_protocol.proofs.Generations.{BackWon, LeadWon, Stage, Undecided, winner_at}
-use Rattle.pair_protocol.proofs.Growth.{row_grows}
-use Rattle.pair_protocol.proofs.Lines.{Inv, Line, LineOf, Next}
-use Rattle.pair_protocol.proofs.Moves.{same_some}
-use Rattle.pair_protocol.proofs.Outputs.{Top, top_of}
+use Rattle.pair_protocol.proofs.Invariant.Frames.{backup-no_spare, primary-no_spare}
+use Rattle.pair_protocol.proofs.Invariant.{BackupWon, Stage, Undecided, winner_at, PrimaryWon}
+use Rattle.pair_protocol.proofs.Promises.Growth.{row_grows}
+use Rattle.pair_protocol.proofs.Invariant.{Inv, LineOf, Next, Line}
+use Rattle.pair_protocol.proofs.Traces.Lists.{same_some}
+use Rattle.pair_protocol.proofs.Promises.Outputs.{Top, top_of}
 use Rattle.pair_protocol.proofs.Passed.{changes-append}
-use Rattle.pair_protocol.proofs.Promises.{grows_by, reached}
+use Rattle.pair_protocol.proofs.Promises.Faithful.{grows_by, reached}
 use Rattle.pair_protocol.proofs.RowActions.{row_changes}
-use Rattle.pair_protocol.proofs.Runs.{changes_reach, keep_all}
-use Rattle.pair_protocol.proofs.Settling.{highest_is}
+use Rattle.pair_protocol.proofs.Promises.Runs.{changes_reach, keep_all}
+use Rattle.pair_protocol.proofs.Promises.Settling.{highest_is}
 use Rattle.ft_world.specs.Applies.{First, Nothing, Rows}
 use Rattle.ft_world.specs.Words.{event_of}
 use Rattle.pair_events.specs.declared.event.Event.{Event}
@@ -105,12 +105,12 @@ winner_settles {S} M C w i n x there won = go l.stage o.tied
     is m y e at = same_some y x (slice_get w.nodes m) at
         (subst (λ k. slice_get w.nodes k ≡ Some x) (sym (same_some m n (Some m) refl e)) there)
 
-    go : (stage : Stage) → winner_in w.winners i.top ≡ winner_at stage l.lead l.back → Settles w n x
+    go : (stage : Stage) → winner_in w.winners i.top ≡ winner_at stage l.primary l.backup → Settles w n x
     go Undecided e = let k = sym e ∙ here in absurd (cc)
-    go LeadWon e = of t.lead.a (is l.lead t.lead.a (sym e ∙ here) t.lead.there) t.lead.generation
-        (lead_no_spare M l.stage l.base l.own l.mid _ t.lead.a t.lead.leads)
-    go BackWon e = of t.back.b (is l.back t.back.b (sym e ∙ here) t.back.there) t.back.generation
-        (back_no_spare M C l.stage l.base l.own l.more l.mid t.back.b t.back.backs.state)
+    go PrimaryWon e = of t.primary.a (is l.primary t.primary.a (sym e ∙ here) t.primary.there) t.primary.generation
+        (primary-no_spare M l t.primary.a t.primary.is_primary)
+    go BackupWon e = of t.backup.b (is l.backup t.backup.b (sym e ∙ here) t.backup.there) t.backup.generation
+        (backup-no_spare M C l t.backup.b t.backup.is_backup.state)
 
 -- rows of events let what is settled grow
 pub rows_grow : {S : Type 0} (M : Machine S) → Lawful M → (w new : World S) (events : List Event)

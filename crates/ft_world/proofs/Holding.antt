@@ -13,7 +13,7 @@ use Rattle.log_entry.specs.declared.entry.Entry.{Entry}
 use Rattle.pair_protocol.specs.Node.{Node, Backup, holds}
 use Rattle.pair_protocol.specs.Refusals as refusals
 use Rattle.pair_protocol.specs.Settled.{list_of, count_in}
-use Rattle.pair_protocol.proofs.Moves.{inputs_of-append}
+use Rattle.pair_protocol.proofs.Traces.Moves.{inputs_of-append}
 use Rattle.pair_protocol.proofs.Passed.{first-passed}
 use Rattle.ft_node.specs.Calls as calls
 use Rattle.ft_node.specs.Seats.{IsNode}

@@ -7,7 +7,7 @@ use Rattle.pair_protocol.specs.Change.{After, HostComes}
 use Rattle.pair_protocol.specs.Node.{Node, spare}
 use Rattle.pair_protocol.specs.Settled.{highest, is_backup}
 use Rattle.pair_protocol.specs.World.{with_host}
-use Rattle.pair_protocol.proofs.Moves.{same_some}
+use Rattle.pair_protocol.proofs.Traces.Lists.{same_some}
 use Rattle.ft_world.specs.Applies.{Shows, ShowsSome}
 use Rattle.ft_world.specs.Running.{Running}
 use Rattle.ft_world.specs.Shows.{IsHost, IsOnlyBackup}

@@ -15,9 +15,9 @@ use Rattle.pair_protocol.specs.Copying.{IsCopying, no_copies}
 use Rattle.pair_protocol.specs.Lawful.{Among, Reaches}
 use Rattle.pair_protocol.specs.World.{Released, World}
 use Rattle.pair_protocol.proofs.InputRows.{same_get}
-use Rattle.pair_protocol.proofs.Moves.{runs-append}
-use Rattle.pair_protocol.proofs.Outputs.{trace_runs}
-use Rattle.pair_protocol.proofs.Promises.{reached}
+use Rattle.pair_protocol.proofs.Traces.Moves.{runs-append}
+use Rattle.pair_protocol.proofs.Promises.Outputs.{trace_runs}
+use Rattle.pair_protocol.proofs.Promises.Faithful.{reached}
 use Rattle.guest_board.specs.Outstanding.{ComesAndGoes}
 use Rattle.ft_world.specs.Standing.{IsMachine}
 

@@ -12,7 +12,7 @@ use Rattle.pair_protocol.specs.Copying.{no_copies}
 use Rattle.pair_protocol.specs.Event as protocol
 use Rattle.pair_protocol.specs.Row.{Row}
 use Rattle.pair_protocol.specs.World.{World}
-use Rattle.pair_protocol.proofs.Runs.{always_faithful}
+use Rattle.pair_protocol.proofs.Promises.Runs.{always_faithful}
 use Rattle.ft_world.specs.Applies.{Applies, First, Happens, Nothing, Rows, Runs, Shows, ShowsSome}
 use Rattle.ft_world.specs.Running.{Running}
 use Rattle.ft_world.specs.Standing.{Course, machine_of}

@@ -10,7 +10,7 @@ use Rattle.pair_protocol.specs.Copying.{no_copies}
 use Rattle.pair_protocol.specs.Node.{Alone, Backup, Draining, Joining, Node, Primary, Role, Spare}
 use Rattle.pair_protocol.specs.Settled.{Settled, Settles, count_in, list_of}
 use Rattle.pair_protocol.specs.World.{winner_in}
-use Rattle.pair_protocol.proofs.Runs.{always_faithful}
+use Rattle.pair_protocol.proofs.Promises.Runs.{always_faithful}
 use Rattle.ft_world.specs.Applies.{Shows}
 use Rattle.ft_world.specs.Running.{Running}
 use Rattle.ft_world.specs.Shows.{Agree, IsHost}

@@ -4,7 +4,7 @@ use Rattle.std.specs.Prelude.{slice_get}
 use Rattle.std.specs.Result.{result_ok}
 use Rattle.guest_board.specs.Machine.{Machine}
 use Rattle.pair_protocol.specs.Node.{Node}
-use Rattle.pair_protocol.proofs.Moves.{same_some}
+use Rattle.pair_protocol.proofs.Traces.Lists.{same_some}
 use Rattle.ft_node.specs.Seats.{IsNode, IsRole}
 use Rattle.ft_world.specs.Shows.{AreHosts, IsHost, IsStatusAt}
 use Rattle.ft_world.specs.declared.host.Host.{Host}

@@ -11,8 +11,8 @@ use Rattle.shared_disk.specs.declared.store.Record.{Record}
 use Rattle.pair_protocol.specs.Node.{Alone, Backup, Draining, Joining, Node, Primary, Role, Spare, won_role, wins}
 use Rattle.pair_protocol.specs.Settled.{is_backup}
 use Rattle.pair_protocol.specs.World.{Winner, winner_in, with_winner}
-use Rattle.pair_protocol.proofs.Contests.{winner-other, winner-push}
-use Rattle.pair_protocol.proofs.LeadMoves.{bool_cases}
+use Rattle.pair_protocol.proofs.Keeps.Arbiter.{winner-other, winner-push}
+use Rattle.pair_protocol.proofs.Traces.Lists.{bool_cases}
 use Rattle.ft_world.specs.Applies.{ShowsParts}
 use Rattle.ft_world.specs.Running.{Running}
 use Rattle.ft_world.specs.Shows.{AreHosts, AreWinners, IsOnlyBackup}

@@ -14,7 +14,7 @@ use Rattle.pair_protocol.specs.Refusals.{at_done, at_under, done_refusal, fault_
 use Rattle.pair_protocol.specs.Rows.{Takes, TakesDone, TakesKey, TakesSector, took}
 use Rattle.pair_protocol.specs.World.{SectorRead, World, WriteDone, accepted, terminal, with_node}
 use Rattle.guest_board.specs.declared.input.Input.TheVariants as input
-use Rattle.pair_protocol.proofs.Disk.{same_address-is}
+use Rattle.pair_protocol.proofs.Keeps.Disk.{same_address-is}
 use Rattle.pair_protocol.proofs.Passed.{changed, first-passed, node-passed, not-stands, only-passed, or-false, passes-if, serving}
 
 pub same_get : {A : Type 0} (xs : List A) (k : ℕ) (x : A) → slice_get xs k ≡ Some x → Among x xs

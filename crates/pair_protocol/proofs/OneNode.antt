@@ -9,7 +9,7 @@ use Rattle.pair_protocol.specs.Event.{Why}
 use Rattle.pair_protocol.specs.Node.{Alone, Backup, Draining, Joining, Node, Primary, Role, Spare, passes_input, passes_mark, plainly_steps}
 use Rattle.pair_protocol.specs.Rows.{Advances, AtEnd, Ends, Gives, Goes, NoMemory, NoTurns, NoneLeft, OneInput, OneMark, OneStep, Replays, Short, Waits, stepped}
 use Rattle.pair_protocol.specs.World.{World, with_node}
-use Rattle.pair_protocol.proofs.Lines.{get_set}
+use Rattle.pair_protocol.proofs.Traces.Lists.{get_set}
 
 -- ---- one node's moves
 

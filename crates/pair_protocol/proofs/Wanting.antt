@@ -14,7 +14,7 @@ use Rattle.pair_protocol.specs.Row.{Accepts, DeviceFails, MayWantMemory, Refuses
 use Rattle.pair_protocol.specs.Rows.{AtEnd, Does, IsBehind, NoMemory, NoTurns, OneInput, OneMark, OneStep, Replays, drain_reply}
 use Rattle.pair_protocol.specs.Wanting.{WantsNone}
 use Rattle.pair_protocol.specs.World.{LogEntry, Message, World, winner_in}
-use Rattle.pair_protocol.proofs.Moves.{same_some}
+use Rattle.pair_protocol.proofs.Traces.Lists.{same_some}
 
 -- ---- no refusal is out of memory
 

@@ -14,8 +14,8 @@ use Rattle.pair_protocol.specs.Copying.{Copying}
 use Rattle.pair_protocol.specs.Faithful.{IsPrefix}
 use Rattle.pair_protocol.specs.Lawful.{Among, Lawful}
 use Rattle.pair_protocol.specs.World.{World, sector_record}
-use Rattle.pair_protocol.proofs.Moves.{inputs_of-append, inputs_of-entries, keys-append, acceptances-append}
-use Rattle.pair_protocol.proofs.Recorded.{recorded-runs}
+use Rattle.pair_protocol.proofs.Traces.Moves.{inputs_of-append, keys-append, acceptances-append, inputs_of-entries}
+use Rattle.pair_protocol.proofs.Traces.Recorded.{recorded-runs}
 use Rattle.pair_rule.specs.declared.payload.DiskAnswer.TheVariants as answer
 use Rattle.pair_rule.specs.declared.view.Knowledge.{Knowledge}
 use Rattle.pair_rule.specs.Kinds.{counted_at}

@@ -28,11 +28,12 @@ use Rattle.pair_protocol.specs.Row.{Accepts}
 use Rattle.pair_rule.specs.Shown.{IsAcknowledged, Happens, First, Nothing}
 use Rattle.pair_protocol.specs.Rows.{Advances, NoneLeft, Gives, Goes}
 use Rattle.pair_protocol.specs.Refusals.{fault_if, first_of, at_node, refusal, step_refusal, send_refusal, log_size, key_refusal, sent_refusal, is_number, at_done, at_under, place_refusal}
-use Rattle.pair_protocol.proofs.Moves.{among-prefix, among-split, operations-prefix, inputs-append, map-append, entries-append, inputs_of-append, timed_entry, count_entry}
+use Rattle.pair_protocol.proofs.Traces.Lists.{among-prefix, among-split, map-append}
+use Rattle.pair_protocol.proofs.Traces.Moves.{operations-prefix, inputs-append, inputs_of-append, timed_entry, count_entry, entries-append}
 use Rattle.pair_rule.specs.declared.view.Knowledge.{Knowledge}
 use Rattle.pair_rule.specs.Knowledge.{Stands, appended}
 use Rattle.pair_rule.specs.Shown.{notes_from, primary_role, primary_runs, primary_node, backup_node, Sent, Shows, Leads}
-use Rattle.pair_protocol.proofs.Recorded.{recorded-runs, recorded-append}
+use Rattle.pair_protocol.proofs.Traces.Recorded.{recorded-runs, recorded-append}
 use Rattle.pair_rule.proofs.QuietSteps.{QuietMoves, quiet_moves, quiet_count, quiet_first, notes_more}
 use Rattle.pair_rule.proofs.Filled.{among_last}
 use Rattle.pair_rule.proofs.WordChanges.{held_short}

@@ -12,7 +12,7 @@ use Rattle.log_entry.specs.declared.entry.Entry.{Entry}
 use Rattle.pair_protocol.specs.Lawful.{Lawful}
 use Rattle.pair_protocol.specs.Node.{Note, covers, note_of, notes_after, same_name}
 use Rattle.pair_protocol.specs.Waiting.{waits_for}
-use Rattle.pair_protocol.proofs.Moves.{same_some}
+use Rattle.pair_protocol.proofs.Traces.Lists.{same_some}
 use Rattle.pair_rule.specs.Shown.{IsAcknowledged, notes_from}
 
 -- ---- names

@@ -13,7 +13,7 @@ use Rattle.pair_protocol.specs.Lawful.{Among}
 use Rattle.pair_protocol.specs.Laws.{RowIsChanges, ChangesReach, ReachedIsFaithful, ReachedGrows}
 use Rattle.pair_protocol.specs.Node.{note_of, covers}
 use Rattle.pair_protocol.specs.World.{World}
-use Rattle.pair_protocol.proofs.Recorded.{recorded-runs}
+use Rattle.pair_protocol.proofs.Traces.Recorded.{recorded-runs}
 use Rattle.pair_rule.specs.declared.view.Knowledge.{Knowledge}
 use Rattle.pair_rule.specs.Knowledge.{IsByteOf, Stands, WhereSome}
 use Rattle.pair_rule.specs.Law.{HasPort, HasRun, IsCovered, Runnable, Appends, Holds, Sees, Takes, PrimaryWins, PrimaryLoses, BackupWins, BackupLoses, Releases, Arrives, Puts, StepsAreEvents, StepsAreFaithful, with_released}

@@ -9,8 +9,9 @@ use Rattle.log_entry.specs.Entries.{entries, entry_of, count_of, input_of, last_
 use Rattle.log_entry.specs.declared.entry.Entry.{Entry}
 use Rattle.log_entry.specs.declared.entry.Entry.TheVariants.{Mark}
 use Rattle.plain_single.specs.Reach.{steps}
-use Rattle.pair_protocol.proofs.Moves.{same_some, entries-append, count_entry, input_entry}
-use Rattle.pair_protocol.proofs.Recorded.{recorded-runs, recorded_rest}
+use Rattle.pair_protocol.proofs.Traces.Lists.{same_some}
+use Rattle.pair_protocol.proofs.Traces.Moves.{entries-append, input_entry, count_entry}
+use Rattle.pair_protocol.proofs.Traces.Recorded.{recorded-runs, recorded-rest}
 use Rattle.pair_rule.specs.Law.{HasLonger}
 use Rattle.pair_rule.proofs.QuietSteps.{are_quiet}
 
@@ -147,7 +148,7 @@ run_goes_on M counts boot list moves s run is end others t other same =
     let r = recorded-runs M M.boot s moves run in
     let f = front M counts M.boot s t 0 moves others [] boot r (end ∙ ap (last_count 0) (sym is)) (recorded-runs M M.boot t others other) (same ∙ sym is ∙ sym (append-nil (entries 0 moves))) in
     let zs : List Move = f.0 in
-    let after : Recorded M s zs t = recorded_rest M M.boot s t moves zs r (subst (λ l. Recorded M M.boot l t) f.1 other) in
+    let after : Recorded M s zs t = recorded-rest M M.boot s t moves zs r (subst (λ l. Recorded M M.boot l t) f.1 other) in
     let none : entries (0 + steps moves) zs ≡ [] = after_front (entries 0 moves) (entries (0 + steps moves) zs) [] (sym (entries-append 0 moves zs) ∙ ap (entries 0) (sym f.1) ∙ same ∙ sym is ∙ sym (append-nil (entries 0 moves))) in
     let q = are_quiet M counts s t (0 + steps moves) zs after none in
     record { rest = zs; all = f.1; none = none; further = q.0; quietly = q.1 }

@@ -11,8 +11,8 @@ use Rattle.log_entry.specs.Entries.{entries, entry_of, marks}
 use Rattle.log_entry.specs.declared.entry.Entry.{Entry}
 use Rattle.plain_single.specs.Reach.{steps, inputs}
 use Rattle.pair_protocol.specs.Node.{Note, notes_after}
-use Rattle.pair_protocol.proofs.Moves.{inputs-append, steps-append, entries-append}
-use Rattle.pair_protocol.proofs.Recorded.{recorded-append}
+use Rattle.pair_protocol.proofs.Traces.Moves.{inputs-append, entries-append, steps-append}
+use Rattle.pair_protocol.proofs.Traces.Recorded.{recorded-append}
 use Rattle.pair_rule.specs.Shown.{notes_from}
 
 -- ---- what operations wait for, after more moves

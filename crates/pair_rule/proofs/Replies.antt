@@ -1,7 +1,7 @@
 -- What the disk's seat replies is what the rule of the table asks.
 use Rattle.std.proofs.Common.{inl, inr, ap, sym, subst, ◌∙◌}
 use Rattle.pair_protocol.specs.World.{SectorRecord, latest}
-use Rattle.pair_protocol.proofs.Disk.{LatestIs, AsBefore, OfPut, latest_is}
+use Rattle.pair_protocol.proofs.Keeps.Disk.{LatestIs, OfPut, latest_is, AsBefore}
 use Rattle.pair_rule.specs.declared.payload.DiskAnswer.{DiskAnswer}
 use Rattle.pair_rule.specs.declared.payload.DiskAnswer.TheVariants as answer
 use Rattle.pair_rule.specs.declared.view.DiskView.{DiskView}

@@ -18,10 +18,11 @@ use Rattle.shared_disk.specs.declared.disk.SectorRead.{SectorRead}
 use Rattle.pair_protocol.specs.Lawful.{Among, IsDone, IsUnwritten, IsWritten, Lawful}
 use Rattle.pair_protocol.specs.Refusals.{no_such, fault_if}
 use Rattle.pair_protocol.specs.World.{World, SectorRecord, sector_record, Terminal}
-use Rattle.pair_protocol.proofs.Moves.{among-left, operations-append, inputs-append, runs-append}
-use Rattle.pair_protocol.proofs.Recorded.{recorded-runs}
-use Rattle.pair_protocol.proofs.Disk.{AsBefore, LatestIs, OfPut, latest_all, latest_is}
-use Rattle.pair_protocol.proofs.Serving.{sector-done}
+use Rattle.pair_protocol.proofs.Traces.Lists.{among-left}
+use Rattle.pair_protocol.proofs.Traces.Moves.{operations-append, runs-append, inputs-append}
+use Rattle.pair_protocol.proofs.Traces.Recorded.{recorded-runs}
+use Rattle.pair_protocol.proofs.Keeps.Disk.{AsBefore, OfPut, latest_all, latest_is, LatestIs}
+use Rattle.pair_protocol.proofs.Keeps.PrimaryMoves.{sector-done}
 use Rattle.pair_rule.specs.declared.payload.DiskAnswer.TheVariants as answer
 use Rattle.pair_rule.specs.declared.view.Knowledge.{Knowledge}
 use Rattle.pair_rule.specs.Knowledge.{Stands, HasWrite, IsReplied}

@@ -1,7 +1,7 @@
 -- The laws of any lawful machine, for the Altair.
 use Rattle.guest_board.specs.Guest.{altair}
-use Rattle.pair_protocol.proofs.Growth.{row_grows}
-use Rattle.pair_protocol.proofs.Runs.{always_faithful, run_reaches}
+use Rattle.pair_protocol.proofs.Promises.Growth.{row_grows}
+use Rattle.pair_protocol.proofs.Promises.Runs.{always_faithful, run_reaches}
 use Rattle.altair_laws.proofs.laws.altair_pairs_are_faithful.Goals as goal
 
 pub returns-clause-faithful : goal.returns-clause-faithful

@@ -1,5 +1,5 @@
 -- The invariant gives the law.
-use Rattle.pair_protocol.proofs.Runs.{always_faithful}
+use Rattle.pair_protocol.proofs.Promises.Runs.{always_faithful}
 use Rattle.pair_protocol.proofs.laws.actions_are_faithful.Goals as goal
 
 pub returns : goal.returns

@@ -1,6 +1,6 @@
 -- Each law is about rows or about runs.
 use Rattle.pair_protocol.proofs.RowActions.{row_changes}
-use Rattle.pair_protocol.proofs.Runs.{changes_reach, run_reaches}
+use Rattle.pair_protocol.proofs.Promises.Runs.{changes_reach, run_reaches}
 use Rattle.pair_protocol.proofs.laws.events_are_actions.Goals as goal
 
 pub returns-clause-actions : goal.returns-clause-actions

@@ -1,5 +1,5 @@
 -- A run reaches its world by actions.
-use Rattle.pair_protocol.proofs.Runs.{always_faithful, run_reaches}
+use Rattle.pair_protocol.proofs.Promises.Runs.{always_faithful, run_reaches}
 use Rattle.pair_protocol.proofs.laws.events_are_faithful.Goals as goal
 
 pub returns : goal.returns

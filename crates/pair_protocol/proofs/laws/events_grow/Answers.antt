@@ -1,6 +1,6 @@
 -- Both laws are about a single event.
-use Rattle.pair_protocol.proofs.Growth.{row_grows}
-use Rattle.pair_protocol.proofs.Runs.{run_reaches}
+use Rattle.pair_protocol.proofs.Promises.Growth.{row_grows}
+use Rattle.pair_protocol.proofs.Promises.Runs.{run_reaches}
 use Rattle.pair_protocol.proofs.laws.events_grow.Goals as goal
 
 pub returns-clause-reached : goal.returns-clause-reached

@@ -1,5 +1,5 @@
 -- The invariant gives the law.
-use Rattle.pair_protocol.proofs.Given.{joining_is_given}
+use Rattle.pair_protocol.proofs.Promises.Joining.{joining_is_given}
 use Rattle.pair_protocol.proofs.laws.joining_nodes_are_given.Goals as goal
 
 pub returns : goal.returns

@@ -1,5 +1,5 @@
 -- The invariant gives the law.
-use Rattle.pair_protocol.proofs.NodeStands.{nodes_stand}
+use Rattle.pair_protocol.proofs.Promises.NodeStands.{nodes_stand}
 use Rattle.pair_protocol.proofs.laws.nodes_stand.Goals as goal
 
 pub returns : goal.returns

@@ -1,5 +1,5 @@
 -- Each script is proved event by event.
-use Rattle.pair_protocol.proofs.Scripts.{takes_over, writes_disk}
+use Rattle.pair_protocol.proofs.Promises.Scripts.{takes_over, writes_disk}
 use Rattle.pair_protocol.proofs.laws.scripts_run.Goals as goal
 
 pub returns-clause-failover : goal.returns-clause-failover

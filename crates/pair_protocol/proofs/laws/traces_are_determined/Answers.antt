@@ -1,5 +1,5 @@
 -- Each law is about traces.
-use Rattle.pair_protocol.proofs.Traces.{one_trace, one_end, first_entries, quiet_moves, quiet_entries}
+use Rattle.pair_protocol.proofs.Traces.OneTrace.{one_trace, first_entries, quiet_moves, quiet_entries, one_end}
 use Rattle.pair_protocol.proofs.laws.traces_are_determined.Goals as goal
 
 pub returns-clause-one : goal.returns-clause-one

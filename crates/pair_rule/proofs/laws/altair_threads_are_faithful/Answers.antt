@@ -1,9 +1,9 @@
 -- The laws of any machine, for one that the threads may run.
 use Rattle.guest_board.specs.Guest.{altair}
 use Rattle.pair_protocol.specs.Copying.{no_copies}
-use Rattle.pair_protocol.proofs.Growth.{row_grows}
+use Rattle.pair_protocol.proofs.Promises.Growth.{row_grows}
 use Rattle.pair_protocol.proofs.RowActions.{row_changes}
-use Rattle.pair_protocol.proofs.Runs.{always_faithful, changes_reach}
+use Rattle.pair_protocol.proofs.Promises.Runs.{always_faithful, changes_reach}
 use Rattle.pair_rule.proofs.Threads.{altair_runnable, runs_shown, without_copies}
 use Rattle.pair_rule.proofs.laws.altair_threads_are_faithful.Goals as goal
 

@@ -1,6 +1,6 @@
 -- The head is at the sector, which its guest does not refuse, so what is left is the log.
 use Rattle.std.proofs.Common.{◌≡◌, None, rules, sym, ap, subst, ◌∙◌}
-use Rattle.pair_protocol.proofs.Disk.{same_address-refl}
+use Rattle.pair_protocol.proofs.Keeps.Disk.{same_address-refl}
 use Rattle.guest_board.specs.Machine.{refusal_of}
 use Rattle.guest_board.specs.declared.input.Input.TheVariants as input
 use Rattle.log_buffer.specs.Log.{IsWithinLimits, room_answer}

@@ -1,0 +1,241 @@
+-- What may be taken was accepted, typed or put; and what a primary is after each move.
+use Rattle.std.proofs.Common.{[], ◌++◌, ◌+◌, ◌∙◌, ◌∷◌, ◌≡◌, ◌≤◌, ◌⊎◌, Bool, List, None, Option, Some, ap, append-nil, arith, cond, eqb-true, false, inl, inr, length, map, not, refl, subst, suc, sym, true, ℕ}
+use Rattle.std.specs.Prelude.{◌==◌, slice_get}
+use Rattle.disk_dcdd.specs.declared.address.SectorAddress.{SectorAddress}
+use Rattle.disk_dcdd.specs.declared.sector.SectorWrite.{SectorWrite}
+use Rattle.event_callbacks.specs.declared.operations.Operation.{Operation}
+use Rattle.event_callbacks.specs.declared.operations.Operation.TheVariants.{Write}
+use Rattle.guest_board.specs.Machine.{Do, Machine, Move, Runs, Take, refusal_of, sector_refusal}
+use Rattle.guest_board.specs.declared.input.Input.{Input}
+use Rattle.guest_board.specs.declared.input.Input.TheVariants as input
+use Rattle.i8080_words.specs.declared.refusal.Fault.TheVariants.{NotDue, SectorBusy, StaleRead}
+use Rattle.log_entry.specs.Entries.{entries, entry_of}
+use Rattle.plain_single.specs.Reach.{Own, acceptances, bare, image, keys, operations, steps, timed}
+use Rattle.plain_single.specs.declared.timed.Bare.TheVariants.{Rx, Sector, Sent, Written}
+use Rattle.plain_single.specs.declared.timed.Timed.{Timed}
+use Rattle.pair_protocol.specs.Change.{MayTake}
+use Rattle.pair_protocol.specs.Faithful.{IsPrefix}
+use Rattle.pair_protocol.specs.Lawful.{Among, IsUnwritten, IsWritten, Lawful}
+use Rattle.pair_protocol.specs.Node.{Alone, Node, Primary, alone_takes, plainly_steps, primary_steps, primary_takes}
+use Rattle.pair_protocol.specs.World.{SectorRead, World, WriteDone, accepted, terminal}
+use Rattle.pair_protocol.proofs.Invariant.{ArePut, AtStart, CameIn, HasPut, IsPrimary, IsRecord, Line, OfWrite}
+use Rattle.pair_protocol.proofs.Invariant.Frames.{with_own}
+use Rattle.pair_protocol.proofs.Keeps.PrimaryLog.{log-do, notes-do, notes-more, steps-do, steps-take, whole-do, whole-take}
+use Rattle.pair_protocol.proofs.Traces.Lists.{among-prefix, among-split, bool_cases, map-append, prefix-next}
+use Rattle.pair_protocol.proofs.Traces.Moves.{acceptances-append, entries-append, keys-append, operations-append, operations-prefix, runs-append}
+
+module _ {S : Type 0} (M : Machine S) (w : World S) (x : Node S) where
+  -- What may be taken.
+
+  done-take : (i : Input) (c : ℕ) → MayTake M w x i → ((p k : ℕ) → M.due_byte x.machine p ≡ Some k →
+      k ≡ acceptances p x.list + 1) → ((p : ℕ) → acceptances p x.list ≤ length (accepted w p)) → (p : ℕ) →
+      acceptances p (x.list ++ timed c i ∷ []) ≤ length (accepted w p)
+  done-take (input.Rx q b) c h due done p = let e =
+      acceptances-append p x.list (record { count = c; input = Rx q b } ∷ []) in let d = done p in omega arith
+  done-take (input.Sent q) c h due done p =
+      let e = acceptances-append p x.list (record { count = c; input = Sent q } ∷ []) in
+      let d = done p in
+      go e (bool_cases (p == q))
+    where
+      go : acceptances p (x.list ++ record { count = c; input = Sent q } ∷ []) ≡ acceptances p x.list + acceptances p
+          (record { count = c; input = Sent q } ∷ []) → ((p == q) ≡ true) ⊎ ((p == q) ≡ false) →
+          acceptances p (x.list ++ record { count = c; input = Sent q } ∷ []) ≤ length (accepted w p)
+      go e (inl t) =
+          let f : acceptances p (record { count = c; input = Sent q } ∷ []) ≡ 1 = ap (λ b. cond b 1 0 + 0) t in
+          let s : p ≡ q = eqb-true p q t in
+          let k = subst (λ z. (k : ℕ) × (M.due_byte x.machine z ≡ Some k) × (k ≤ length (accepted w z))) (sym s) h in
+          let j = due p k.0 k.1 in
+          let l = k.2 in
+          omega arith
+      go e (inr t) =
+          let f : acceptances p (record { count = c; input = Sent q } ∷ []) ≡ 0 = ap (λ b. cond b 1 0 + 0) t in
+          let d = done p in
+          omega arith
+  done-take (input.Sector d k n bytes) c h due done p = let e =
+      acceptances-append p x.list (record { count = c; input = Sector d k } ∷ []) in let v = done p in omega arith
+  done-take (input.Written n) c h due done p = let e =
+      acceptances-append p x.list (record { count = c; input = Written n } ∷ []) in let v = done p in omega arith
+
+  typed-take : (i : Input) (c : ℕ) → MayTake M w x i → ((p : ℕ) → M.keys x.machine p ≡ length (keys p x.list)) →
+      ((p : ℕ) → IsPrefix (keys p x.list) (terminal w p).typed) → (p : ℕ) → IsPrefix (keys p (x.list ++ timed c i ∷ []))
+      (terminal w p).typed
+  typed-take (input.Rx q b) c h taken typed p =
+      subst (λ zs. IsPrefix zs (terminal w p).typed)
+      (sym (keys-append p x.list (record { count = c; input = Rx q b } ∷ []))) (go (bool_cases (p == q)))
+    where
+      go : ((p == q) ≡ true) ⊎ ((p == q) ≡ false) →
+          IsPrefix (keys p x.list ++ (cond (p == q) (b ∷ []) [] ++ [])) (terminal w p).typed
+      go (inl t) =
+          let s : p ≡ q = eqb-true p q t in
+          let k0 = subst (λ z. slice_get (terminal w z).typed (M.keys x.machine z) ≡ Some b) (sym s) h in
+          let k = subst (λ z. slice_get (terminal w p).typed z ≡ Some b) (taken p) k0 in
+          let e : b ∷ [] ≡ cond (p == q) (b ∷ []) [] ++ [] = ap (λ v. cond v (b ∷ []) [] ++ []) (sym t) in
+          subst (λ zs. IsPrefix (keys p x.list ++ zs) (terminal w p).typed) e
+          (prefix-next (keys p x.list) (terminal w p).typed b (typed p) k)
+      go (inr t) =
+          let e : [] ≡ cond (p == q) (b ∷ []) [] ++ [] = ap (λ v. cond v (b ∷ []) [] ++ []) (sym t) in
+          subst (λ zs. IsPrefix (keys p x.list ++ zs) (terminal w p).typed) e
+          (subst (λ zs. IsPrefix zs (terminal w p).typed) (sym (append-nil (keys p x.list))) (typed p))
+  typed-take (input.Sent q) c h taken typed p =
+      subst (λ zs. IsPrefix zs (terminal w p).typed)
+      (sym (keys-append p x.list (record { count = c; input = Sent q } ∷ []) ∙ append-nil (keys p x.list))) (typed p)
+  typed-take (input.Sector d k n bytes) c h taken typed p =
+      subst (λ zs. IsPrefix zs (terminal w p).typed)
+      (sym (keys-append p x.list (record { count = c; input = Sector d k } ∷ []) ∙ append-nil (keys p x.list)))
+      (typed p)
+  typed-take (input.Written n) c h taken typed p =
+      subst (λ zs. IsPrefix zs (terminal w p).typed)
+      (sym (keys-append p x.list (record { count = c; input = Written n } ∷ []) ∙ append-nil (keys p x.list))) (typed p)
+
+  -- completed writes have arrived
+  put-take : (i : Input) (c : ℕ) → MayTake M w x i → ((n : ℕ) → Among (WriteDone n) w.messages → HasPut w.puts n) →
+      ArePut w.puts x.list → ArePut w.puts (x.list ++ timed c i ∷ [])
+  put-take i c may told h n k =
+      elim (among-split (Written n) (map (λ t. t.input) x.list) (bare i ∷ [])
+      (subst (λ zs. Among (Written n) zs) (map-append (λ (t : Timed). t.input) x.list (timed c i ∷ [])) k)) [
+        | inl q ↦ h n q
+        | inr q ↦ go i may q
+      ]
+    where
+      go : (i : Input) → MayTake M w x i → Among (Written n) (bare i ∷ []) → HasPut w.puts n
+      go (input.Rx p b) m (inl e) = (cc)
+      go (input.Rx p b) m (inr e) = absurd e
+      go (input.Sent p) m (inl e) = (cc)
+      go (input.Sent p) m (inr e) = absurd e
+      go (input.Sector d s j bs) m (inl e) = (cc)
+      go (input.Sector d s j bs) m (inr e) = absurd e
+      go (input.Written j) m (inl e) = (let f : n ≡ j = (cc) in subst (λ z. HasPut w.puts z) (sym f) (told j m))
+      go (input.Written j) m (inr e) = absurd e
+
+-- What is read from the shared disk is what the machine's own disk has.
+
+pub came-take : {S : Type 0} (M : Machine S) (w : World S) (x : Node S) (i : Input) (c : ℕ) → MayTake M w x i →
+    ((p k : ℕ) → M.due_byte x.machine p ≡ Some k → k ≡ acceptances p x.list + 1) →
+    ((p : ℕ) → M.keys x.machine p ≡ length (keys p x.list)) →
+    ((n : ℕ) → Among (WriteDone n) w.messages → HasPut w.puts n) →
+    CameIn w.terminals w.puts x.list → CameIn w.terminals w.puts (x.list ++ timed c i ∷ [])
+came-take M w x i c may due taken written h = record {
+  done = done-take M w x i c may due h.done;
+  typed = typed-take M w x i c may taken h.typed;
+  put = put-take M w x i c may written h.put;
+}
+
+-- What the primary is after each move.
+
+module _ {S : Type 0} (M : Machine S) (l : Line S) (a : Node S) (s : S) where
+  pub primary-after_step : (o : Option Operation) → a.role ≡ Primary → M.step a.machine ≡ Some (s, o) →
+      M.count s ≡ suc (M.count a.machine) → IsPrimary M l a →
+      IsPrimary M (with_own l (l.own ++ Do o ∷ []) l.stage) (primary_steps M a s o)
+  primary-after_step o r h e p = record {
+    role = inl r;
+    runs = runs-append M l.mid a.machine s l.own (Do o ∷ []) p.runs (s, h, refl);
+    count = e ∙ steps-do l.base l.own o (M.count a.machine) p.count;
+    list = p.list ∙ sym (whole-do l.base l.own o);
+    copy = p.copy;
+    log = λ k. log-do (steps l.base) (M.count s) l.own a.log o (p.log r) (e ∙ ap suc p.count);
+    covered = p.covered;
+    image = p.image;
+    notes = λ k. notes-do (steps l.base) l.own a.log a.notes o (p.log r) (p.notes r);
+  }
+
+  pub alone-after_step : (o : Option Operation) → a.role ≡ Alone → M.step a.machine ≡ Some (s, o) →
+      M.count s ≡ suc (M.count a.machine) → IsPrimary M l a →
+      IsPrimary M (with_own l (l.own ++ Do o ∷ []) l.stage) (plainly_steps a s)
+  alone-after_step o r h e p = record {
+    role = p.role;
+    runs = runs-append M l.mid a.machine s l.own (Do o ∷ []) p.runs (s, h, refl);
+    count = e ∙ steps-do l.base l.own o (M.count a.machine) p.count;
+    list = p.list ∙ sym (whole-do l.base l.own o);
+    copy = p.copy;
+    log = λ k. (cc);
+    covered = p.covered;
+    image = p.image;
+    notes = λ k. (cc);
+  }
+
+  pub primary-after_input : (i : Input) → a.role ≡ Primary → M.take a.machine i ≡ Some s →
+      M.count s ≡ M.count a.machine → IsPrimary M l a →
+      IsPrimary M (with_own l (l.own ++ Take i ∷ []) l.stage) (primary_takes M a s i)
+  primary-after_input i r h e p = record {
+    role = inl r;
+    runs = runs-append M l.mid a.machine s l.own (Take i ∷ []) p.runs (s, h, refl);
+    count = e ∙ steps-take l.base l.own i (M.count a.machine) p.count;
+    list = ap (λ ts. ts ++ timed (M.count a.machine) i ∷ []) p.list
+        ∙ sym (whole-take l.base l.own i (M.count a.machine) p.count);
+    copy = p.copy;
+    log = λ k. ap (λ es. es ++ entry_of (M.count a.machine) i ∷ []) (p.log r)
+        ∙ ap (λ c. entries (steps l.base) l.own ++ entry_of c i ∷ []) p.count
+        ∙ sym (entries-append (steps l.base) l.own (Take i ∷ []));
+    covered = p.covered;
+    image = p.image;
+    notes = λ k o m. notes-more (steps l.base) a.notes l.own (Take i ∷ []) o (p.notes r o
+        (subst (λ zs. Among o zs) (operations-append l.own (Take i ∷ []) ∙ append-nil (operations l.own)) m));
+  }
+
+  pub alone-after_input : (i : Input) → a.role ≡ Alone → M.take a.machine i ≡ Some s →
+      M.count s ≡ M.count a.machine → IsPrimary M l a →
+      IsPrimary M (with_own l (l.own ++ Take i ∷ []) l.stage) (alone_takes M a s i)
+  alone-after_input i r h e p = record {
+    role = p.role;
+    runs = runs-append M l.mid a.machine s l.own (Take i ∷ []) p.runs (s, h, refl);
+    count = e ∙ steps-take l.base l.own i (M.count a.machine) p.count;
+    list = ap (λ ts. ts ++ timed (M.count a.machine) i ∷ []) p.list
+        ∙ sym (whole-take l.base l.own i (M.count a.machine) p.count);
+    copy = p.copy;
+    log = λ k. (cc);
+    covered = p.covered;
+    image = p.image;
+    notes = λ k. (cc);
+  }
+
+-- a sector that is not refused has the number of the machine's own last completed write there
+pub sector-done : {S : Type 0} (M : Machine S) (s : S) (address : SectorAddress) (number : ℕ) →
+    sector_refusal M s address number ≡ None → M.done s address ≡ number
+sector-done M s address number h = go (not (M.ready s address)) (M.busy s address) (M.done s address == number) refl h
+  where
+    go : (a b c : Bool) → (M.done s address == number) ≡ c →
+        cond a (Some NotDue) (cond b (Some SectorBusy) (cond (not c) (Some StaleRead) None)) ≡ None →
+        M.done s address ≡ number
+    go true b c e k = (cc)
+    go false true c e k = (cc)
+    go false false true e k = eqb-true (M.done s address) number e
+    go false false false e k = (cc)
+
+pub own-take : {S : Type 0} (M : Machine S) (laws : Lawful M) (w : World S) (x : Node S) (inp : Input)
+    (ms T : List Move) → Runs M M.boot ms x.machine → MayTake M w x inp → refusal_of M x.machine inp ≡ None →
+    IsPrefix T ms →
+    ((q : SectorAddress) (n : ℕ) (bytes : List ℕ) → Among (SectorRead q n bytes) w.messages →
+    IsRecord M q n bytes T) → Own M ms x.machine inp
+own-take M laws w x (input.Rx p b) ms T runs may ok below reads = tt
+own-take M laws w x (input.Sent p) ms T runs may ok below reads = tt
+own-take M laws w x (input.Written n) ms T runs may ok below reads = tt
+own-take {S} M laws w x (input.Sector d k n bytes) ms T runs may ok below reads =
+    go (reads q n bytes may) (laws.own_disk ms x.machine q runs)
+  where
+    q : SectorAddress
+    q = M.address x.machine d k
+
+    last : M.done x.machine q ≡ n
+    last = sector-done M x.machine q n ok
+
+    go : IsRecord M q n bytes T → IsUnwritten M ms x.machine q ⊎ IsWritten M ms x.machine q →
+        (M.done x.machine q ≡ n) × (image M ms q ≡ bytes)
+    go (AtStart e f) (inl o) = (last, o.bytes ∙ sym f)
+    go (AtStart e f) (inr o) =
+        let m = laws.write_some ms x.machine o.write runs o.issued in
+        let l = o.last in
+        let f = last in
+        absurd (omega arith)
+    go (OfWrite v a e g f) (inl o) =
+        let m = laws.write_some ms x.machine v runs
+        (among-prefix (Write v) (operations T) (operations ms) (operations-prefix T ms below) a) in
+        let l = o.none in
+        let f = last in
+        absurd (omega arith)
+    go (OfWrite v a e g f) (inr o) =
+        let l = o.last in
+        let h = last in
+        let same : o.write.number ≡ v.number = omega arith in
+        let u : o.write ≡ v = laws.write_once ms x.machine o.write v runs o.issued
+        (among-prefix (Write v) (operations T) (operations ms) (operations-prefix T ms below) a) same in
+        (last, sym o.bytes ∙ ap (λ (z : SectorWrite). z.bytes) u ∙ f)

@@ -1,0 +1,51 @@
+-- A joining node is the backup of its generation, and the parts of that generation are those of its first machine.
+use Rattle.std.proofs.Common.{[], ◌∙◌, ◌≡◌, Some, ap, inl, inr, ℕ}
+use Rattle.std.specs.Prelude.{slice_get}
+use Rattle.guest_board.specs.Machine.{Machine}
+use Rattle.pair_protocol.specs.Change.{Reached}
+use Rattle.pair_protocol.specs.Copying.{Copying, IsCopying, Makes}
+use Rattle.pair_protocol.specs.Joining.{IsGiven}
+use Rattle.pair_protocol.specs.Lawful.{Lawful}
+use Rattle.pair_protocol.specs.Node.{Joining, Node}
+use Rattle.pair_protocol.specs.World.{World}
+use Rattle.pair_protocol.proofs.Invariant.{AsAlone, AsBackup, AsDraining, AsJoining, BackupState, Inv, Line, LineOf}
+use Rattle.pair_protocol.proofs.Invariant.Acting.{Acting, BackupActs, PrimaryActs, acting}
+use Rattle.pair_protocol.proofs.Keeps.BackupChanges.{gathered_is}
+use Rattle.pair_protocol.proofs.Promises.Faithful.{reached}
+use Rattle.pair_protocol.proofs.Traces.Moves.{owns-front}
+
+given : {S : Type 0} (M : Machine S) (C : Copying S) (makes : Makes M C) (w : World S) (i : Inv M C w) (n : ℕ)
+    (x : Node S) → slice_get w.nodes n ≡ Some x → x.role ≡ Joining → IsGiven M C w x
+given {S} M C makes w i n x there role = go (acting M C w i n x there (λ k. (cc)))
+  where
+    o : LineOf M C w i.top i.trace x.generation
+    o = i.each x.generation
+
+    l : Line S
+    l = o.line
+
+    from : BackupState M C l x → IsGiven M C w x
+    from (AsBackup r s f) = (cc)
+    from (AsDraining r s m f) = (cc)
+    from (AsAlone r s u c k) = (cc)
+    from (AsJoining r s g) =
+        let owns = owns-front M [] M.boot l.base l.own (o.owns s) in
+        record {
+          machine = l.mid;
+          moves = l.base;
+          reached = o.sound.based;
+          owns = owns;
+          sent = o.says.parts;
+          all = λ parts got. ap C.assemble (gathered_is x.parts (C.parts l.mid) parts g.long g.each got)
+              ∙ makes l.base l.mid o.sound.based owns;
+        }
+
+    go : Acting M C w i n x → IsGiven M C w x
+    go (PrimaryActs q p) = absurd (elim q.is_primary.role [ inl r ↦ (cc) | inr r ↦ (let k = r.0 in (cc)) ])
+    go (BackupActs q p) = from q.is_backup.state
+
+pub joining_is_given : {S : Type 0} (M : Machine S) (C : Copying S) → Lawful M → IsCopying M C → Makes M C →
+    (w : World S) → Reached M C w → (n : ℕ) (x : Node S) → slice_get w.nodes n ≡ Some x → x.role ≡ Joining →
+    IsGiven M C w x
+joining_is_given M C laws copies makes w r n x there role =
+    given M C makes w (reached M C laws copies w r) n x there role

@@ -1,0 +1,262 @@
+-- The scripts of the small machines, event by event.
+use Rattle.std.proofs.Common.{[], ◌++◌, ◌<◌, ◌∷◌, ◌≡◌, List, None, Some, arith, false, inl, inr, refl, true, ℕ}
+use Rattle.event_callbacks.specs.declared.operations.OpId.TheVariants as id
+use Rattle.event_callbacks.specs.declared.operations.Operation.TheVariants.{Write}
+use Rattle.guest_board.specs.Machine.{Machine}
+use Rattle.i8080_words.specs.declared.refusal.Fault.TheVariants.{WrongRole}
+use Rattle.log_entry.specs.declared.entry.Entry.TheVariants.{Mark}
+use Rattle.pair_protocol.specs.Copying.{Copying}
+use Rattle.pair_protocol.specs.Event.{Accepted, Ack, Arrive, DeliverLog, Drain, Dropped, Event, Gave, MessageIs, MovedAlone, New, Ran, Refused, Release, Reply, Send, Step, Stop, Stopped, Suspect, TakeKey, TypeByte, TypedAt, Won}
+use Rattle.pair_protocol.specs.Examples.{TakesOver, WritesDisk, letter, sector_write, small, small_copying}
+use Rattle.pair_protocol.specs.Lawful.{top}
+use Rattle.pair_protocol.specs.Node.{Alone, Node, Primary}
+use Rattle.pair_protocol.specs.Row.{Accepts, First, Nothing, Refuses, Run}
+use Rattle.pair_protocol.specs.Rows.{AtEnd, Gives, Goes, NoneLeft, OneMark, OneStep}
+use Rattle.pair_protocol.specs.Waiting.{is_read}
+use Rattle.pair_protocol.specs.World.{Acknowledgement, LogEntry, World, accepted, opening, with_host}
+
+-- a run may be made in two parts
+run-append : {S : Type 0} (M : Machine S) (C : Copying S) (old mid new : World S) (events later : List Event)
+    (replies others : List Reply) → Run M C old events replies mid → Run M C mid later others new →
+    Run M C old (events ++ later) (replies ++ others) new
+run-append M C old mid new events later replies others Nothing k = k
+run-append M C old mid new events later replies others (First {mid = v} {events = es} {replies = rs} row rest) k =
+    First row (run-append M C v mid new es later rs others rest k)
+run-append M C old mid new events later replies others (Run.HostComes rest) k =
+    Run.HostComes (run-append M C (with_host M old) mid new events later replies others rest k)
+
+-- the world once the backup has drained
+abbrev stopped : Node ℕ
+stopped = record {
+  role = Primary;
+  running = false;
+  generation = 1;
+  machine = 6;
+  list = [];
+  copy = [];
+  start = 0;
+  held = [];
+  replayed = 0;
+  log = Mark 6 ∷ [];
+  covered = 0;
+  reported = 0;
+  notes = record { name = id.Byte 0 1; index = 0; after = 0 } ∷ [];
+  image = None;
+  parts = [];
+}
+
+abbrev live : Node ℕ
+live = record {
+  role = Alone;
+  running = true;
+  generation = 1;
+  machine = 6;
+  list = [];
+  copy = [];
+  start = 0;
+  held = Mark 6 ∷ [];
+  replayed = 1;
+  log = [];
+  covered = 0;
+  reported = 0;
+  notes = [];
+  image = None;
+  parts = [];
+}
+
+abbrev drained : World ℕ
+drained = record {
+  nodes = stopped ∷ live ∷ [];
+  messages = LogEntry 1 0 (Mark 6) ∷ Acknowledgement 1 1 0 ∷ [];
+  terminals = record { arrivals = []; typed = 65 ∷ []; told = 0 } ∷ record { arrivals = []; typed = []; told = 0 } ∷ [];
+  winners = record { generation = 1; node = 1 } ∷ [];
+  puts = [];
+}
+
+abbrev first_events : List Event
+first_events = Step 0 10 ∷ Send 0 0 ∷ DeliverLog 0 1 ∷ Ack 1 ∷ Stop 0 ∷ Suspect 1 ∷ TypeByte 0 65 ∷ TakeKey 1 0 0 ∷
+    Drain 1 10 ∷ []
+
+abbrev first_replies : List Reply
+first_replies = Ran 6 6 (Gave (id.Byte 0 1)) ∷ MessageIs 0 ∷ New ∷ MessageIs 1 ∷ Stopped ∷ Won ∷ TypedAt 0 ∷ Refused
+    WrongRole ∷ MovedAlone 7 ∷ []
+
+until_drained : Run small small_copying (opening small) first_events first_replies drained
+unfolding top
+until_drained =
+    First (Accepts refl (record {
+      x = _;
+      there = refl;
+      y = _;
+      made = _;
+      why = _;
+      steps = Goes 1 refl (Goes 2 refl (Goes 3 refl (Goes 4 refl (Goes 5 refl (Gives 6 letter refl)))));
+      some = inr (omega arith);
+      reply = refl;
+      after = refl;
+    }))
+    (First (Accepts refl (record {
+      x = _;
+      there = refl;
+      e = _;
+      entry = refl;
+      says = record { reply = refl; after = refl };
+    }))
+    (First (Accepts refl (record {
+      x = _;
+      there = refl;
+      generation = _;
+      index = _;
+      e = _;
+      message = refl;
+      holds = inl (refl, refl, refl);
+    }))
+    (First (Accepts refl (record { x = _; there = refl; says = record { reply = refl; after = refl } }))
+    (First (Accepts refl (record { x = _; there = refl; reply = refl; after = refl }))
+    (First (Accepts refl (record { x = _; there = refl; reply = refl; after = inl (refl, refl) }))
+    (First (Accepts refl (record { reply = refl; after = refl }))
+    (First (Refuses refl refl)
+    (First (Accepts refl (record {
+      x = _;
+      there = refl;
+      y = _;
+      made = _;
+      moves = OneStep _ 1 None refl (omega arith) refl
+          (OneStep _ 2 None refl (omega arith) refl
+          (OneStep _ 3 None refl (omega arith) refl
+          (OneStep _ 4 None refl (omega arith) refl
+          (OneStep _ 5 None refl (omega arith) refl
+          (OneStep _ 6 (Some letter) refl (let l : 5 < 6 = omega arith in l) refl
+          (OneMark _ refl refl refl (AtEnd refl)))))));
+      some = inl (omega arith);
+      reply = refl;
+      after = refl;
+    }))
+    Nothing))))))))
+
+abbrev last_events : List Event
+last_events = Release 1 (id.Byte 0 1) ∷ Arrive 2 ∷ Arrive 2 ∷ []
+
+abbrev last_replies : List Reply
+last_replies = MessageIs 2 ∷ Accepted ∷ Dropped ∷ []
+
+after_drained : (w : World ℕ) × Run small small_copying drained last_events last_replies w × (accepted w 0 ≡ 72 ∷ [])
+unfolding top
+after_drained = (
+  _,
+  First (Accepts refl (record {
+    x = _;
+    there = refl;
+    o = _;
+    outstanding = refl;
+    says = record { reply = refl; after = refl };
+  }))
+      (First (Accepts refl (record { port = _; number = _; byte = _; message = refl; reply = refl; after = refl }))
+      (First (Accepts refl (record { port = _; number = _; byte = _; message = refl; reply = refl; after = refl }))
+      Nothing)),
+  refl,
+)
+
+pub takes_over : TakesOver
+takes_over = (
+  after_drained.0,
+  run-append small small_copying
+      (opening small) drained after_drained.0 first_events last_events first_replies last_replies until_drained
+      after_drained.1,
+  after_drained.2,
+)
+
+pub writes_disk : WritesDisk
+unfolding top is_read
+writes_disk = (
+  _,
+  First (Accepts refl (record {
+    x = _;
+    there = refl;
+    y = _;
+    made = _;
+    why = _;
+    steps = Goes 1 refl (Goes 2 refl NoneLeft);
+    some = inr (omega arith);
+    reply = refl;
+    after = refl;
+  }))
+      (First (Accepts refl (record { x = _; there = refl; drive = _; selected = refl; reply = refl; after = refl }))
+      (First (Accepts refl (record {
+        address = _;
+        number = _;
+        bytes = _;
+        message = refl;
+        input = record { x = _; there = refl; s = 3; takes = refl; reply = refl; after = refl };
+      }))
+      (First (Accepts refl (record {
+        x = _;
+        there = refl;
+        y = _;
+        made = _;
+        why = _;
+        steps = Gives 4 (Write sector_write) refl;
+        some = inr (omega arith);
+        reply = refl;
+        after = refl;
+      }))
+      (First (Accepts refl (record {
+        x = _;
+        there = refl;
+        e = _;
+        entry = refl;
+        says = record { reply = refl; after = refl };
+      }))
+      (First (Accepts refl (record {
+        x = _;
+        there = refl;
+        e = _;
+        entry = refl;
+        says = record { reply = refl; after = refl };
+      }))
+      (First (Accepts refl (record {
+        x = _;
+        there = refl;
+        generation = _;
+        index = _;
+        e = _;
+        message = refl;
+        holds = inl (refl, refl, refl);
+      }))
+      (First (Accepts refl (record {
+        x = _;
+        there = refl;
+        generation = _;
+        index = _;
+        e = _;
+        message = refl;
+        holds = inl (refl, refl, refl);
+      }))
+      (First (Accepts refl (record { x = _; there = refl; says = record { reply = refl; after = refl } }))
+      (First (Accepts refl (record {
+        x = _;
+        there = refl;
+        generation = _;
+        held = _;
+        replayed = _;
+        message = refl;
+        reply = refl;
+        after = refl;
+      }))
+      (First (Accepts refl (record {
+        x = _;
+        there = refl;
+        o = _;
+        outstanding = refl;
+        says = record { reply = refl; after = refl };
+      }))
+      (First (Accepts refl (record { write = _; message = refl; reply = refl; after = refl }))
+      (First (Accepts refl (record {
+        number = _;
+        message = refl;
+        input = record { x = _; there = refl; s = 5; takes = refl; reply = refl; after = refl };
+      }))
+      (First (Accepts refl (record { x = _; there = refl; drive = _; selected = refl; reply = refl; after = refl }))
+      Nothing))))))))))))),
+  refl,
+)
