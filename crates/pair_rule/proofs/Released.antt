@@ -51,9 +51,10 @@ module _ {S : Type 0} (M : Machine S) (C : Copying S) (typed0 typed1 : List ℕ)
       record { x = primary; there = at_primary none; o = o; outstanding = found; says = record { reply = refl; after = refl } }) Nothing
 
   pub release_leads : (o : Operation) → Among o (operations z.moves) → IsAcknowledged z.moves k.primary.seen o → no_such w (id_of o) ≡ None → k.primary.winner ≡ 0 → M.find z.s (id_of o) ≡ Some o → covers k.primary.seen 0 (note_of (notes_from 0 [] [] z.moves) (id_of o)) ≡ true
-      → Leads M C typed0 typed1 (record k { primary = record k.primary { released = k.primary.released ++ o ∷ [] } }) w
+      → Leads M C typed0 typed1 (record k { primary = record k.primary { released = k.primary.released ++ o ∷ [] } }) w (λ events. events ≡ Release 0 (id_of o) ∷ [])
   release_leads o given marked there none found covered = record {
     events = Release 0 (id_of o) ∷ [];
+    formed = refl;
     replies = MessageIs (length w.messages) ∷ [];
     new = with_message w (Released o);
     run = release_event o (id_of o) there none found covered;
@@ -69,9 +70,10 @@ module _ {S : Type 0} (M : Machine S) (C : Copying S) (typed0 typed1 : List ℕ)
   arrive_event : (port number byte m : ℕ) → slice_get w.messages m ≡ Some (Released (Byte port number byte)) → Happens M C w (Arrive m ∷ []) ((if nat_lt (length (accepted w port)) (length (accepted (with_arrival w port (record { number = number; byte = byte })) port)) then Accepted else Dropped) ∷ []) (with_arrival w port (record { number = number; byte = byte }))
   arrive_event port number byte m there = First (Accepts (ap byte_refusal there) record { port = port; number = number; byte = byte; message = there; reply = refl; after = refl }) Nothing
 
-  pub arrive_leads : (port number byte : ℕ) → port < 2 → hand_of port k ≡ Some (Byte port number byte) → Among (Byte port number byte) k.primary.released → Leads M C typed0 typed1 (byte_arrived port k) w
+  pub arrive_leads : (port number byte : ℕ) → port < 2 → hand_of port k ≡ Some (Byte port number byte) → Among (Byte port number byte) k.primary.released → Leads M C typed0 typed1 (byte_arrived port k) w (λ events. (m : ℕ) × (events ≡ Arrive m ∷ []))
   arrive_leads zero number byte two hand at = let m = index_of (Released (Byte 0 number byte)) w.messages (z.sent.operations (Byte 0 number byte) at) in record {
     events = Arrive m.0 ∷ [];
+    formed = (m.0, refl);
     replies = _;
     new = with_arrival w 0 (record { number = number; byte = byte });
     run = arrive_event 0 number byte m.0 m.1;
@@ -84,6 +86,7 @@ module _ {S : Type 0} (M : Machine S) (C : Copying S) (typed0 typed1 : List ℕ)
   }
   arrive_leads (suc zero) number byte two hand at = let m = index_of (Released (Byte 1 number byte)) w.messages (z.sent.operations (Byte 1 number byte) at) in record {
     events = Arrive m.0 ∷ [];
+    formed = (m.0, refl);
     replies = _;
     new = with_arrival w 1 (record { number = number; byte = byte });
     run = arrive_event 1 number byte m.0 m.1;
@@ -97,10 +100,11 @@ module _ {S : Type 0} (M : Machine S) (C : Copying S) (typed0 typed1 : List ℕ)
   arrive_leads (suc (suc p)) number byte two hand at = absurd (omega arith)
 
   -- a write is put, and the disk answers
-  pub put_leads : Stands k → (write : SectorWrite) → k.disk.taken ≡ Some (ask.Write write) → Leads M C typed0 typed1 (after_fill Answers (Answer (answer.Written write.number)) k) w
+  pub put_leads : Stands k → (write : SectorWrite) → k.disk.taken ≡ Some (ask.Write write) → Leads M C typed0 typed1 (after_fill Answers (Answer (answer.Written write.number)) k) w (λ events. (m : ℕ) × (events ≡ Put m ∷ []))
   put_leads st write is =
       let m = index_of (Released (Write write)) w.messages (z.sent.operations (Write write) (subst (λ t. WhereSome t (IsAsked k.primary.released)) is st.taken)) in record {
         events = Put m.0 ∷ [];
+        formed = (m.0, refl);
         replies = MessageIs (length w.messages) ∷ [];
         new = with_put w write;
         run = First (Accepts (ap write_refusal m.1) record { write = write; message = m.1; reply = refl; after = refl }) Nothing;

@@ -142,9 +142,11 @@ pub data Happens {S : Type 0} (M : Machine S) (C : Copying S) : World S → List
   First : {w mid new : World S} {e : Event} {events : List Event} {r : Reply} {replies : List Reply} →
       Row M C w e r mid → Happens M C mid events replies new → Happens M C w (e ∷ events) (r ∷ replies) new
 
--- events lead from one world to a world that shows what is known then
-pub record Leads {S : Type 0} (M : Machine S) (C : Copying S) (typed0 typed1 : List ℕ) (k : Knowledge) (w : World S) : Type 0 where
+-- events of this form lead from one world to a world that shows what is known then
+pub record Leads {S : Type 0} (M : Machine S) (C : Copying S) (typed0 typed1 : List ℕ) (k : Knowledge) (w : World S)
+    (Form : List Event → Type 0) : Type 0 where
   pub events : List Event
+  pub formed : Form events
   pub replies : List Reply
   pub new : World S
   pub run : Happens M C w events replies new
