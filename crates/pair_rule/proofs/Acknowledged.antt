@@ -21,7 +21,7 @@ use Rattle.plain_single.specs.Reach.{operations}
 use Rattle.pair_rule.proofs.Filled.{among_last}
 use Rattle.pair_rule.proofs.ListsThatGrow.{last_among}
 use Rattle.pair_rule.proofs.WordChanges.{held_short}
-use Rattle.pair_rule.proofs.ShownNodes.{later_covered, index_of, more_sent, among_either, read_slice, not_below, serving, waiting, first_node, second_node}
+use Rattle.pair_rule.proofs.ShownNodes.{only_more, only_held, later_covered, index_of, more_sent, among_either, read_slice, not_below, serving, waiting, first_node, second_node}
 
 module _ {S : Type 0} (M : Machine S) (C : Copying S) (typed0 typed1 : List ℕ) (k : Knowledge) (w : World S) (z : Shows M typed0 typed1 k w) where
   abbrev primary : Node S
@@ -65,6 +65,8 @@ module _ {S : Type 0} (M : Machine S) (C : Copying S) (typed0 typed1 : List ℕ)
       done = z.done;
       first_reads = z.first_reads;
       covered = z.covered;
+      only = only_more k.primary.list (k.backup.held_values ++ length k.backup.list ∷ []) (Acknowledgement 1 (length k.backup.list) 0) w.messages (refl, refl, among_last (length k.backup.list) k.backup.held_values)
+          (λ m at. only_held k.primary.list k.backup.held_values (length k.backup.list) m (z.only m at));
     };
   }
 
@@ -85,6 +87,7 @@ module _ {S : Type 0} (M : Machine S) (C : Copying S) (typed0 typed1 : List ℕ)
     done = z.done;
     first_reads = z.first_reads;
     covered = λ o at. later_covered z.moves k.primary.seen n o more (z.covered o at);
+    only = λ m at. z.only m (subst (λ l. Among m l) messages at);
   }
 
   see_none : (n : ℕ) → n ≡ k.primary.seen → Leads M C typed0 typed1 (saw n k) w (λ events. events ≡ [])
@@ -140,6 +143,7 @@ module _ {S : Type 0} (M : Machine S) (C : Copying S) (typed0 typed1 : List ℕ)
       done = z.done;
       first_reads = z.first_reads;
       covered = z.covered;
+      only = z.only;
     };
   }
   take_one p none m there false is = record {
@@ -164,6 +168,7 @@ module _ {S : Type 0} (M : Machine S) (C : Copying S) (typed0 typed1 : List ℕ)
       done = z.done;
       first_reads = z.first_reads;
       covered = z.covered;
+      only = z.only;
     };
   }
 

@@ -26,7 +26,7 @@ use Rattle.pair_protocol.specs.World.{World, Message, LogEntry, WriteDone, with_
 use Rattle.pair_protocol.specs.Event.{Event, Step, Send, TakeKey, TellSent, PutReply, Get, GetReply, Taken, Reply, Ran, MessageIs, Why, Turns, Gave}
 use Rattle.pair_protocol.specs.Row.{Accepts}
 use Rattle.pair_rule.specs.Law.{AppendEvents}
-use Rattle.pair_rule.specs.Shown.{IsAcknowledged, Happens, First, Nothing}
+use Rattle.pair_rule.specs.Shown.{IsAcknowledged, IsSentBy, Happens, First, Nothing}
 use Rattle.pair_protocol.specs.Rows.{Advances, NoneLeft, Gives, Goes}
 use Rattle.pair_protocol.specs.Refusals.{fault_if, first_of, at_node, refusal, step_refusal, send_refusal, log_size, key_refusal, sent_refusal, is_number, at_done, at_under, place_refusal}
 use Rattle.pair_protocol.proofs.Moves.{among-prefix, among-split, operations-prefix, inputs-append, map-append, entries-append, inputs_of-append, timed_entry, count_entry}
@@ -37,7 +37,7 @@ use Rattle.pair_protocol.proofs.Recorded.{recorded-runs, recorded-append}
 use Rattle.pair_rule.proofs.QuietSteps.{QuietMoves, quiet_moves, quiet_count, quiet_first, notes_more}
 use Rattle.pair_rule.proofs.Filled.{among_last}
 use Rattle.pair_rule.proofs.WordChanges.{held_short}
-use Rattle.pair_rule.proofs.ShownNodes.{longer_covered, serving, first_node, more_sent, index_of}
+use Rattle.pair_rule.proofs.ShownNodes.{only_more, only_longer, longer_covered, serving, first_node, more_sent, index_of}
 use Rattle.disk_dcdd.specs.declared.controller.TheConstants.{GREATEST_NUMBER}
 
 -- ---- lists
@@ -125,13 +125,17 @@ module _ {S : Type 0} (M : Machine S) (C : Copying S) (counts : Counts M) (laws 
   run_more a es rs b c fs qs Nothing more = more
   run_more a es rs b c fs qs (First {mid = v} {events = es'} {replies = rs'} row rest) more = First row (run_more v es' rs' b c fs qs rest more)
 
+  -- of the messages of a world: which there may be
+  abbrev OnlySent : World S → Type 0
+  OnlySent v = (m : Message) → Among m v.messages → IsSentBy list k.backup.held_values m
+
   -- where events lead to a primary with the entry, the entry is sent
   finish : (e : Entry) (moves : List Move) (u : S) (v : World S) (events : List Event) (replies : List Reply)
       → Recorded M M.boot moves u → entries 0 moves ≡ list ++ e ∷ [] → M.count u ≡ count_of e → Happens M C w events replies v
-      → v.nodes ≡ then_node e moves u ∷ backup_node M k ∷ [] → Sent k v.messages → v.terminals ≡ w.terminals → v.winners ≡ w.winners → v.puts ≡ w.puts
+      → v.nodes ≡ then_node e moves u ∷ backup_node M k ∷ [] → Sent k v.messages → v.terminals ≡ w.terminals → v.winners ≡ w.winners → v.puts ≡ w.puts → OnlySent v
       → IsPrefix z.moves moves → ((n : ℕ) → IsDone n moves → HasWrite k.disk.puts n) → AppendEvents (length list) e (events ++ Send 0 (length list) ∷ [])
       → Leads M C typed0 typed1 (appended e k) w (AppendEvents (length list) e)
-  finish e moves u v events replies recorded entered count run nodes sent terminals winners puts below done formed = let y : Node S = then_node e moves u in let message : Message = LogEntry 1 (length list) e in record {
+  finish e moves u v events replies recorded entered count run nodes sent terminals winners puts only below done formed = let y : Node S = then_node e moves u in let message : Message = LogEntry 1 (length list) e in record {
     events = events ++ Send 0 (length list) ∷ [];
     formed = formed;
     replies = replies ++ MessageIs (length v.messages) ∷ [];
@@ -163,6 +167,7 @@ module _ {S : Type 0} (M : Machine S) (C : Copying S) (counts : Counts M) (laws 
       done = done;
       first_reads = z.first_reads;
       covered = λ o at. subst (λ l. IsAcknowledged l k.primary.seen o) below.1 (longer_covered z.moves below.0 k.primary.seen o (z.covered o at));
+      only = only_more (list ++ e ∷ []) k.backup.held_values message v.messages (refl, get_last list e) (λ m at. only_longer list k.backup.held_values e m (only m at));
     };
   }
 
@@ -222,7 +227,7 @@ module _ {S : Type 0} (M : Machine S) (C : Copying S) (counts : Counts M) (laws 
         reply = refl;
         after = refl;
       }) Nothing)
-      (ap (λ l. slice_set l 0 y) z.nodes) z.sent refl refl refl (r.moves ++ Do (Some o) ∷ [], refl) (longer_done n t r (Do (Some o)) (λ c number a. absurd a)) (suc n, refl)
+      (ap (λ l. slice_set l 0 y) z.nodes) z.sent refl refl refl z.only (r.moves ++ Do (Some o) ∷ [], refl) (longer_done n t r (Do (Some o)) (λ c number a. absurd a)) (suc n, refl)
 
   -- ---- inputs
 
@@ -260,10 +265,10 @@ module _ {S : Type 0} (M : Machine S) (C : Copying S) (counts : Counts M) (laws 
   taken t u i = primary_takes M (at t) u i
 
   input_leads : (n : ℕ) (t u : S) (i : Input) → Quiet M z.s n t → IsAccepted M t i u → (events : List Event) (replies : List Reply) (v : World S)
-      → Happens M C (with_node w 0 (at t)) events replies v → v.nodes ≡ taken t u i ∷ backup_node M k ∷ [] → Sent k v.messages → v.terminals ≡ w.terminals → v.winners ≡ w.winners → v.puts ≡ w.puts → Tells i
+      → Happens M C (with_node w 0 (at t)) events replies v → v.nodes ≡ taken t u i ∷ backup_node M k ∷ [] → Sent k v.messages → v.terminals ≡ w.terminals → v.winners ≡ w.winners → v.puts ≡ w.puts → OnlySent v → Tells i
       → AppendEvents (length list) (entry_of (M.count t) i) ((Step 0 n ∷ events) ++ Send 0 (length list) ∷ [])
       → Leads M C typed0 typed1 (appended (entry_of (M.count t) i) k) w (AppendEvents (length list) (entry_of (M.count t) i))
-  input_leads n t u i q accepts events replies v run nodes sent terminals winners puts tells formed =
+  input_leads n t u i q accepts events replies v run nodes sent terminals winners puts only tells formed =
       let r = quiet_moves M z.s n t q in let e : Entry = entry_of (M.count t) i in let moves : List Move = z.moves ++ (r.moves ++ Take i ∷ []) in
       let counted = quiet_count M counts z.s n t q in let first = quiet_event n t q in
       finish e moves u v (Step 0 n ∷ events) (first.0 ∷ replies)
@@ -275,7 +280,7 @@ module _ {S : Type 0} (M : Machine S) (C : Copying S) (counts : Counts M) (laws 
         list = sym (inputs_of-append list (e ∷ []) ∙ ap (λ l. inputs_of list ++ (l ++ [])) (timed_entry (M.count t) i)) j;
         notes = sym (longer_notes n t r (Take i)) j;
       } ∷ backup_node M k ∷ []))
-      sent terminals winners puts (r.moves ++ Take i ∷ [], refl) (longer_done n t r (Take i) (one_told i tells)) formed
+      sent terminals winners puts only (r.moves ++ Take i ∷ [], refl) (longer_done n t r (Take i) (one_told i tells)) formed
 
   there_at : (t : S) → slice_get (with_node w 0 (at t)).nodes 0 ≡ Some (at t)
   there_at t = ap (λ l. slice_get (slice_set l 0 (at t)) 0) z.nodes
@@ -291,7 +296,7 @@ module _ {S : Type 0} (M : Machine S) (C : Copying S) (counts : Counts M) (laws 
       (First (Accepts ((λ i. first_of (fault_if (is_none (typed i)) Unknown ∷ at_node (there_at t i) (key_refusal M port (M.keys t port)) ∷ []))
       ∙ (λ i. first_of (first_of (fault_if (not (eq-eqb (M.keys t port) (M.keys t port) refl i)) WrongNumber ∷ fault_if (no_full i) LogFull ∷ fault_if (no_spent i) Spent ∷ fault_if (too_low (M.keys t port) top short i) Spent ∷ []) ∷ [])))
       record { byte = byte; typed = typed; input = record { x = at t; there = there_at t; s = u; takes = accepts.taken; reply = refl; after = refl } }) Nothing)
-      (then_nodes t (taken t u (input.Rx port byte))) z.sent refl refl refl (λ m e. absurd (let c : Written m ≡ bare (input.Rx port byte) = e in cc)) (n, M.keys t port, refl)
+      (then_nodes t (taken t u (input.Rx port byte))) z.sent refl refl refl z.only (λ m e. absurd (let c : Written m ≡ bare (input.Rx port byte) = e in cc)) (n, M.keys t port, refl)
 
   -- the acceptance of a byte that its terminal has counted
   pub sent_leads : (n : ℕ) (t u : S) (port number : ℕ) → Quiet M z.s n t → IsAccepted M t (input.Sent port) u → M.due_byte t port ≡ Some number → 1 ≤ number → number ≤ length (accepted w port)
@@ -303,7 +308,7 @@ module _ {S : Type 0} (M : Machine S) (C : Copying S) (counts : Counts M) (laws 
       ∙ (λ i. first_of (first_of (fault_if (is_none (due i)) NotDue ∷ fault_if (not (is_number (due i) number)) WrongNumber ∷ fault_if (no_full i) LogFull ∷ fault_if (no_spent i) Spent ∷ []) ∷ []))
       ∙ (λ i. first_of (first_of (None ∷ fault_if (not (eq-eqb number number refl i)) WrongNumber ∷ None ∷ None ∷ []) ∷ [])))
       record { x = at t; there = there_at t; s = u; takes = accepts.taken; reply = refl; after = refl }) Nothing)
-      (then_nodes t (taken t u (input.Sent port))) z.sent refl refl refl (λ m e. absurd (let c : Written m ≡ bare (input.Sent port) = e in cc)) (n, number, refl)
+      (then_nodes t (taken t u (input.Sent port))) z.sent refl refl refl z.only (λ m e. absurd (let c : Written m ≡ bare (input.Sent port) = e in cc)) (n, number, refl)
 
   -- a write that the disk has answered
   pub done_leads : (n : ℕ) (t u : S) (number : ℕ) → Quiet M z.s n t → IsAccepted M t (input.Written number) u → Among (WriteDone number) w.messages → HasWrite k.disk.puts number
@@ -313,7 +318,7 @@ module _ {S : Type 0} (M : Machine S) (C : Copying S) (counts : Counts M) (laws 
       (First (Accepts ((λ i. at_done M (there_at t i) (m.1 i))
       ∙ (λ i. first_of (accepts.allowed i ∷ fault_if (no_full i) LogFull ∷ fault_if (no_spent i) Spent ∷ [])))
       record { number = number; message = m.1; input = record { x = at t; there = there_at t; s = u; takes = accepts.taken; reply = refl; after = refl } }) Nothing)
-      (then_nodes t (taken t u (input.Written number))) z.sent refl refl refl (λ m e. subst (HasWrite k.disk.puts) (sym (same_number m number e)) put) (n, m.0, refl)
+      (then_nodes t (taken t u (input.Written number))) z.sent refl refl refl z.only (λ m e. subst (HasWrite k.disk.puts) (sym (same_number m number e)) put) (n, m.0, refl)
 
   -- a sector that the disk read: its record is still the same
   pub sector_leads : (n : ℕ) (t u : S) (drive sector number : ℕ) (bytes : List ℕ) → Quiet M z.s n t → IsAccepted M t (input.Sector drive sector number bytes) u
@@ -334,4 +339,4 @@ module _ {S : Type 0} (M : Machine S) (C : Copying S) (counts : Counts M) (laws 
       (First (Accepts ((λ j. at_under M (there_at t j) (read j))
       ∙ (λ j. first_of (fault_if (not (same j)) NotDue ∷ accepts.allowed j ∷ fault_if (no_full j) LogFull ∷ fault_if (no_spent j) Spent ∷ [])))
       record { address = record address { drive = drive; sector = sector }; number = number; bytes = bytes; message = read; input = record { x = at t; there = there_at t; s = u; takes = accepts.taken; reply = refl; after = refl } }) Nothing))
-      (then_nodes t (taken t u i)) (more_sent k w.messages (SectorRead address (sector_record M w.puts address).number (sector_record M w.puts address).bytes ∷ []) z.sent) refl refl refl (λ m e. absurd (let c : Written m ≡ bare (input.Sector drive sector number bytes) = e in cc)) (n, length w.messages, refl)
+      (then_nodes t (taken t u i)) (more_sent k w.messages (SectorRead address (sector_record M w.puts address).number (sector_record M w.puts address).bytes ∷ []) z.sent) refl refl refl (only_more list k.backup.held_values (SectorRead address (sector_record M w.puts address).number (sector_record M w.puts address).bytes) w.messages tt z.only) (λ m e. absurd (let c : Written m ≡ bare (input.Sector drive sector number bytes) = e in cc)) (n, length w.messages, refl)

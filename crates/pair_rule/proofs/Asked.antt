@@ -54,6 +54,7 @@ module _ {S : Type 0} (M : Machine S) (C : Copying S) (typed0 typed1 : List ℕ)
           done = z.done;
           first_reads = z.first_reads;
           covered = z.covered;
+          only = z.only;
         };
       }
 
@@ -82,6 +83,7 @@ module _ {S : Type 0} (M : Machine S) (C : Copying S) (typed0 typed1 : List ℕ)
           done = z.done;
           first_reads = z.first_reads;
           covered = z.covered;
+          only = z.only;
         };
       }
 
@@ -110,6 +112,7 @@ module _ {S : Type 0} (M : Machine S) (C : Copying S) (typed0 typed1 : List ℕ)
           done = z.done;
           first_reads = z.first_reads;
           covered = z.covered;
+          only = z.only;
         };
       }
 
@@ -138,5 +141,6 @@ module _ {S : Type 0} (M : Machine S) (C : Copying S) (typed0 typed1 : List ℕ)
           done = z.done;
           first_reads = z.first_reads;
           covered = z.covered;
+          only = z.only;
         };
       }

@@ -80,6 +80,7 @@ module _ {S : Type 0} (M : Machine S) (C : Copying S) where
     done = λ n d. absurd d;
     first_reads = λ r at. absurd at;
     covered = λ o at. absurd at;
+    only = λ m at. absurd at;
   }
 
 pub starts_shown : {S : Type 0} → RowIsChanges S → ChangesReach S → StartsShown S

@@ -1,4 +1,6 @@
 //! The same packets over bounded channels: from the primary to the link, from there to the backup, and acknowledgements back.
+ghost use Rattle.std.specs.Thread.{IsSync};
+
 use crossbeam_channel::{Receiver, Sender, bounded};
 use log_entry::Entry;
 use pair_rule::Packet;
@@ -12,7 +14,8 @@ type From<T> = Receiver<T, Global>;
 // What each channel may hold.
 const PLACES: usize = 1;
 
-fn packet(index: u64) -> Packet {
+/// The packet of an entry.
+pub fn packet(index: u64) -> Packet {
     Packet {
         generation: 1,
         index,
@@ -38,7 +41,7 @@ fn round<R: Wait>(
     acks.1.recv(rt).unwrap_or(0)
 }
 
-/// Rounds on one thread. Returns how many acknowledgements came.
+/// Rounds on one thread. Returns the index of the last acknowledgement.
 pub fn run<R: Wait>(rt: &R, alloc: Global, rounds: u64) -> Result<u64, AllocError> {
     let (to_link, from_primary) = bounded(alloc, PLACES)?;
     let (to_backup, from_link) = bounded(alloc, PLACES)?;
@@ -107,7 +110,9 @@ pub fn run_threads<R: Threads + Wait + Sync>(
     let (seen, _) = thread::join(
         rt,
         move || -> u64 { lead(rt, to_link, from_backup, entries) },
-        move || {
+        move || -> ((), ())
+            requires { IsSync R.row }
+        {
             thread::join(
                 rt,
                 move || carry(rt, from_primary, to_backup),

@@ -2,6 +2,7 @@
 #![tactic(auto)]
 
 mod channels;
+mod rings;
 mod steps;
 mod threads;
 
@@ -36,7 +37,7 @@ fn run_steps(alloc: Global, last: Step, rounds: u64) -> Result<Closed> {
 fn main(rt: HostRuntime) -> Result<()> {
     let mut arguments = env::args(&rt)?.skip(1);
     let (Some(what), Some(number)) = (arguments.next(), arguments.next()) else {
-        bail!("usage: seat_bench post|carry_out|carry_in|take|hold|see|append|threads|channel|channel_threads NUMBER");
+        bail!("usage: seat_bench post|carry_out|carry_in|take|hold|see|append|threads|channel|channel_threads|ring|ring_threads NUMBER");
     };
     let number = number.as_str().parse::<u64>()?;
     let what = what.as_str();
@@ -54,11 +55,19 @@ fn main(rt: HostRuntime) -> Result<()> {
         }
         "channel" => {
             let seen = channels::run(&rt, rt.alloc(), number)?;
-            println!(rt; "{number} rounds: {seen} seen")?;
+            println!(rt; "{number} rounds: {seen} seen last")?;
         }
         "channel_threads" => {
             let seen = channels::run_threads(&rt, rt.alloc(), number)?;
-            println!(rt; "{seen} seen")?;
+            println!(rt; "{seen} seen last")?;
+        }
+        "ring" => {
+            let seen = rings::run(rt.alloc(), number)?;
+            println!(rt; "{number} rounds: {seen} seen last")?;
+        }
+        "ring_threads" => {
+            let seen = rings::run_threads(&rt, rt.alloc(), number)?;
+            println!(rt; "{seen} seen last")?;
         }
         other => bail!("nothing to measure is called {other:?}"),
     }
