@@ -140,7 +140,10 @@ fn next(fabric: &Fabric, seat: &mut PrimarySeat, last: Step, index: u64) -> u64
     if last < Step::Append {
         return index;
     }
-    append(fabric, seat).unwrap_or(index)
+    match seat.append(fabric, mark()) {
+        Ok(next) => next,
+        Err(_) => index,
+    }
 }
 
 /// Rounds of steps, after one entry was appended.
@@ -148,9 +151,10 @@ pub fn run(fabric: &Fabric, seats: &mut FiveSeats, last: Step, rounds: u64)
     requires primary { (seats.old.primary.table ≡ fabric.now) × (seats.old.primary.core.known.primary.winner ≡ 0) }
     requires link { seats.old.link.table ≡ fabric.now }
     requires backup { (seats.old.backup.table ≡ fabric.now) × (seats.old.backup.core.known.backup.winner ≡ 0) }
+    requires others { (seats.old.terminal.table ≡ fabric.now) × (seats.old.disk.table ≡ fabric.now) }
     ensures primary { seats.new.primary.table ≡ fabric.now }
     ensures backup { seats.new.backup.table ≡ fabric.now }
-    ensures others { (seats.new.terminal ≡ seats.old.terminal) × (seats.new.disk ≡ seats.old.disk) }
+    ensures others { (seats.new.terminal.table ≡ fabric.now) × (seats.new.disk.table ≡ fabric.now) }
 {
     let Some(mut index) = append(fabric, &mut seats.primary) else {
         return;
