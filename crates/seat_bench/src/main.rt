@@ -10,26 +10,26 @@ use anyhow::{Result, bail};
 use pair_rule::{Closed, Fabric, FiveSeats};
 use std::alloc::Global;
 use std::env;
-use steps::Step;
+use steps::Work;
 
-// The steps of a round, by the name of the last one.
-fn step_of(name: &str) -> Option<Step> {
+// The work of this name.
+fn work_of(name: &str) -> Option<Work> {
     match name {
-        "post" => Some(Step::Post),
-        "carry_out" => Some(Step::CarryOut),
-        "carry_in" => Some(Step::CarryIn),
-        "take" => Some(Step::Take),
-        "hold" => Some(Step::Hold),
-        "see" => Some(Step::See),
-        "append" => Some(Step::Append),
+        "post" => Some(Work::Post),
+        "carry_out" => Some(Work::CarryOut),
+        "carry_in" => Some(Work::CarryIn),
+        "take" => Some(Work::Take),
+        "all" => Some(Work::All),
+        "hold" => Some(Work::Hold),
+        "see" => Some(Work::See),
         _ => None,
     }
 }
 
 // Rounds of all seats on one thread.
-fn run_steps(alloc: Global, last: Step, rounds: u64) -> Result<Closed> {
+fn run_steps(alloc: Global, work: Work, rounds: u64) -> Result<Closed> {
     let (fabric, mut seats) = Fabric::open(alloc, 1)?;
-    steps::run(&fabric, &mut seats, last, rounds);
+    steps::run(&fabric, &mut seats, work, rounds);
     Ok(fabric.close(seats))
 }
 
@@ -37,12 +37,12 @@ fn run_steps(alloc: Global, last: Step, rounds: u64) -> Result<Closed> {
 fn main(rt: HostRuntime) -> Result<()> {
     let mut arguments = env::args(&rt)?.skip(1);
     let (Some(what), Some(number)) = (arguments.next(), arguments.next()) else {
-        bail!("usage: seat_bench post|carry_out|carry_in|take|hold|see|append|threads|channel|channel_threads|ring|ring_threads NUMBER");
+        bail!("usage: seat_bench post|carry_out|carry_in|take|all|hold|see|threads|channel|channel_threads|ring|ring_threads NUMBER");
     };
     let number = number.as_str().parse::<u64>()?;
     let what = what.as_str();
-    if let Some(last) = step_of(what) {
-        let closed = run_steps(rt.alloc(), last, number)?;
+    if let Some(work) = work_of(what) {
+        let closed = run_steps(rt.alloc(), work, number)?;
         println!(rt; "{number} rounds: {} entries, {} held", closed.tail, closed.held)?;
         return Ok(());
     }

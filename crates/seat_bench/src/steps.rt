@@ -7,16 +7,16 @@ ghost use Rattle.log_entry.specs.declared.entry.Entry.TheVariants.{Mark};
 use log_entry::Entry;
 use pair_rule::{BackupSeat, Fabric, FiveSeats, LinkSeat, PrimarySeat};
 
-/// The steps of a round, in their order: a round makes all up to its last one.
+/// What a round does: a packet goes so far, or one call is made by itself, or all calls are made, one after another.
 #[derive(Clone, Copy, PartialEq, Eq, PartialOrd, Ord)]
-pub enum Step {
+pub enum Work {
     Post,
     CarryOut,
     CarryIn,
     Take,
+    All,
     Hold,
     See,
-    Append,
 }
 
 // The entry that is appended.
@@ -86,32 +86,42 @@ pub fn take(fabric: &Fabric, seat: &mut BackupSeat) -> bool
     seat.has_swaps_left() && seat.take(fabric).is_some()
 }
 
-// The steps of link and backup.
-fn follow(fabric: &Fabric, link: &mut LinkSeat, backup: &mut BackupSeat, last: Step)
+// A packet goes as far as this work has it.
+fn follow(fabric: &Fabric, link: &mut LinkSeat, backup: &mut BackupSeat, work: Work)
     requires link { link.old.table ≡ fabric.now }
     requires backup { (backup.old.table ≡ fabric.now) × (backup.old.core.known.backup.winner ≡ 0) }
     ensures link { link.new.table ≡ fabric.now }
     ensures backup { (backup.new.table ≡ fabric.now) × (backup.new.core.known.backup.winner ≡ 0) }
 {
-    if last < Step::CarryOut {
+    if work < Work::CarryOut {
         return;
     }
     carry_out(fabric, link);
-    if last < Step::CarryIn {
+    if work < Work::CarryIn {
         link.discard(fabric);
         return;
     }
     carry_in(fabric, link);
-    if last >= Step::Take {
+    if work >= Work::Take {
         take(fabric, backup);
     }
-    if last >= Step::Hold {
-        backup.hold(fabric);
+}
+
+// The index of an entry that it appends, or this one.
+fn next(fabric: &Fabric, seat: &mut PrimarySeat, index: u64) -> u64
+    requires ready { (seat.old.table ≡ fabric.now) × (seat.old.core.known.primary.winner ≡ 0) }
+    requires stands { get_elem? seat.old.core.known.primary.list index ≡ some (Mark 6) }
+    ensures ready { (seat.new.table ≡ fabric.now) × (seat.new.core.known.primary.winner ≡ 0) }
+    ensures stands { get_elem? seat.new.core.known.primary.list result ≡ some (Mark 6) }
+{
+    match seat.append(fabric, mark()) {
+        Ok(next) => next,
+        Err(_) => index,
     }
 }
 
 // One round, with the entry at this index. Returns the index of the next round's entry.
-fn round(fabric: &Fabric, seats: &mut FiveSeats, last: Step, index: u64) -> u64
+fn round(fabric: &Fabric, seats: &mut FiveSeats, work: Work, index: u64) -> u64
     requires primary { (seats.old.primary.table ≡ fabric.now) × (seats.old.primary.core.known.primary.winner ≡ 0) }
     requires stands { get_elem? seats.old.primary.core.known.primary.list index ≡ some (Mark 6) }
     requires link { seats.old.link.table ≡ fabric.now }
@@ -122,32 +132,24 @@ fn round(fabric: &Fabric, seats: &mut FiveSeats, last: Step, index: u64) -> u64
     ensures backup { (seats.new.backup.table ≡ fabric.now) × (seats.new.backup.core.known.backup.winner ≡ 0) }
     ensures others { (seats.new.terminal ≡ seats.old.terminal) × (seats.new.disk ≡ seats.old.disk) }
 {
-    post(fabric, &mut seats.primary, index);
-    follow(fabric, &mut seats.link, &mut seats.backup, last);
-    if last >= Step::See {
+    if work < Work::Hold {
+        post(fabric, &mut seats.primary, index);
+        follow(fabric, &mut seats.link, &mut seats.backup, work);
+    }
+    if matches!(work, Work::All | Work::Hold) {
+        seats.backup.hold(fabric);
+    }
+    if matches!(work, Work::All | Work::See) {
         see(fabric, &mut seats.primary, index);
     }
-    next(fabric, &mut seats.primary, last, index)
-}
-
-// The index of an entry that it appends, or this one.
-fn next(fabric: &Fabric, seat: &mut PrimarySeat, last: Step, index: u64) -> u64
-    requires ready { (seat.old.table ≡ fabric.now) × (seat.old.core.known.primary.winner ≡ 0) }
-    requires stands { get_elem? seat.old.core.known.primary.list index ≡ some (Mark 6) }
-    ensures ready { (seat.new.table ≡ fabric.now) × (seat.new.core.known.primary.winner ≡ 0) }
-    ensures stands { get_elem? seat.new.core.known.primary.list result ≡ some (Mark 6) }
-{
-    if last < Step::Append {
+    if work != Work::All {
         return index;
     }
-    match seat.append(fabric, mark()) {
-        Ok(next) => next,
-        Err(_) => index,
-    }
+    next(fabric, &mut seats.primary, index)
 }
 
 /// Rounds of steps, after one entry was appended.
-pub fn run(fabric: &Fabric, seats: &mut FiveSeats, last: Step, rounds: u64)
+pub fn run(fabric: &Fabric, seats: &mut FiveSeats, work: Work, rounds: u64)
     requires primary { (seats.old.primary.table ≡ fabric.now) × (seats.old.primary.core.known.primary.winner ≡ 0) }
     requires link { seats.old.link.table ≡ fabric.now }
     requires backup { (seats.old.backup.table ≡ fabric.now) × (seats.old.backup.core.known.backup.winner ≡ 0) }
@@ -160,6 +162,6 @@ pub fn run(fabric: &Fabric, seats: &mut FiveSeats, last: Step, rounds: u64)
         return;
     };
     for _ in 0..rounds {
-        index = round(fabric, seats, last, index);
+        index = round(fabric, seats, work, index);
     }
 }
