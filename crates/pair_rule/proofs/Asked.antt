@@ -12,7 +12,6 @@ use Rattle.pair_rule.specs.Shown.{First, Nothing}
 use Rattle.pair_rule.specs.declared.view.Knowledge.{Knowledge}
 use Rattle.pair_rule.specs.Knowledge.{winner_of, primary_asked, backup_asked}
 use Rattle.pair_rule.specs.Shown.{winners_of, Shows, Leads}
-use Rattle.plain_single.specs.Reach.{operations}
 use Rattle.pair_rule.proofs.ShownNodes.{serving, waiting, first_node, second_node}
 
 module _ {S : Type 0} (M : Machine S) (C : Copying S) (typed0 typed1 : List ℕ) (k : Knowledge) (w : World S) (z : Shows M typed0 typed1 k w) where

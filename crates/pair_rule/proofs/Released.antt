@@ -1,5 +1,5 @@
 -- Steps that are events of the world: an operation is released, a byte arrives, a write is put.
-use Rattle.std.proofs.Common.{◌≡◌, ℕ, zero, suc, ◌<◌, true, List, [], ◌∷◌, ◌++◌, length, map, sym, refl, ap, ◌∙◌, subst, ◌⊎◌, inl, ⊎_elim, arith, Some, None, slice_get, slice_set, nat_lt, is_none, not, if◌then◌else◌}
+use Rattle.std.proofs.Common.{◌≡◌, ℕ, zero, suc, ◌<◌, true, List, [], ◌∷◌, ◌++◌, length, map, sym, refl, ap, ◌∙◌, subst, inl, ⊎_elim, arith, Some, None, slice_get, slice_set, nat_lt, is_none, not, if◌then◌else◌}
 use Rattle.disk_dcdd.specs.declared.sector.SectorWrite.{SectorWrite}
 use Rattle.event_callbacks.specs.Operations.{id_of}
 use Rattle.event_callbacks.specs.declared.operations.OpId.{OpId}

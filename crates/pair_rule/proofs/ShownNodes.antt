@@ -14,7 +14,6 @@ use Rattle.pair_rule.specs.declared.view.Knowledge.{Knowledge}
 use Rattle.pair_rule.specs.declared.payload.DiskAnswer.{DiskAnswer}
 use Rattle.pair_rule.specs.declared.payload.DiskAnswer.TheVariants as answer
 use Rattle.pair_rule.specs.Shown.{IsAcknowledged, IsSentBy, primary_role, primary_runs, backup_role, backup_runs, primary_node, backup_node, Sent, Shows}
-use Rattle.plain_single.specs.Reach.{operations}
 use Rattle.shared_disk.specs.declared.disk.SectorRead.{SectorRead}
 use Rattle.pair_rule.proofs.Filled.{among_more}
 

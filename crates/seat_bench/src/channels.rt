@@ -9,6 +9,7 @@ use std::sync::Wait;
 use std::thread::{self, Threads};
 
 type To<T> = Sender<T, Global>;
+
 type From<T> = Receiver<T, Global>;
 
 // What each channel may hold.

@@ -37,13 +37,18 @@ fn run_steps(alloc: Global, work: Work, rounds: u64) -> Result<Closed> {
 fn main(rt: HostRuntime) -> Result<()> {
     let mut arguments = env::args(&rt)?.skip(1);
     let (Some(what), Some(number)) = (arguments.next(), arguments.next()) else {
-        bail!("usage: seat_bench post|carry_out|carry_in|take|all|hold|see|threads|channel|channel_threads|ring|ring_threads NUMBER");
+        bail!(
+            "usage: seat_bench post|carry_out|carry_in|take|all|hold|see|threads|channel|channel_threads|ring|ring_threads NUMBER"
+        );
     };
     let number = number.as_str().parse::<u64>()?;
     let what = what.as_str();
     if let Some(work) = work_of(what) {
         let closed = run_steps(rt.alloc(), work, number)?;
-        println!(rt; "{number} rounds: {} entries, {} held", closed.tail, closed.held)?;
+        println!(rt;
+            "{number} rounds: {} entries, {} held",
+            closed.tail, closed.held
+        )?;
         return Ok(());
     }
     match what {

@@ -93,12 +93,7 @@ fn follow(fabric: &Fabric, mut seat: BackupSeat, entries: u64, stop: &AtomicBool
 }
 
 /// Entries go from the primary to the backup, and their acknowledgements back, one after another.
-pub fn run<R: Threads + Sync>(
-    rt: &R,
-    fabric: &Fabric,
-    seats: FiveSeats,
-    entries: u64,
-) -> FiveSeats
+pub fn run<R: Threads + Sync>(rt: &R, fabric: &Fabric, seats: FiveSeats, entries: u64) -> FiveSeats
     requires primary { (seats.primary.table ≡ fabric.now) × (seats.primary.core.known.primary.winner ≡ 0) }
     requires link { seats.link.table ≡ fabric.now }
     requires backup { (seats.backup.table ≡ fabric.now) × (seats.backup.core.known.backup.winner ≡ 0) }

@@ -126,7 +126,15 @@ fn both_ports_have_boxes(rt: HostRuntime) -> Result<(), Fail> {
     assert!(rt; show_once(&fabric, &mut seats.terminal) == None);
     if seats.terminal.has_swaps_left() {
         let byte = seats.terminal.take_byte(&fabric, 0);
-        assert!(rt; matches!(byte, Some(PortByte { number: 1, byte: 0x43 })));
+        assert!(rt;
+            matches!(
+                byte,
+                Some(PortByte {
+                    number: 1,
+                    byte: 0x43
+                })
+            )
+        );
     }
     assert_eq!(rt; seats.terminal.count(&fabric, 0), 1);
     assert_eq!(rt; seats.primary.counted(&fabric, 0), 1);
@@ -138,10 +146,16 @@ fn both_ports_have_boxes(rt: HostRuntime) -> Result<(), Fail> {
 fn a_sector_is_read(rt: HostRuntime) -> Result<(), Fail> {
     let (fabric, mut seats) = Fabric::open(rt.alloc(), 1)?;
     ask(&fabric, &mut seats.primary, DiskRequest::Write(write()));
-    ask(&fabric, &mut seats.primary, DiskRequest::Read(write().address()));
+    ask(
+        &fabric,
+        &mut seats.primary,
+        DiskRequest::Read(write().address()),
+    );
     assert!(rt; read_once(&fabric, &mut seats.disk));
     let answer = answer_once(&fabric, &mut seats.primary);
-    assert!(rt; matches!(answer, Some(DiskAnswer::Read(read)) if read.number == 0 && read.sector == 5));
+    assert!(rt;
+        matches!(answer, Some(DiskAnswer::Read(read)) if read.number == 0 && read.sector == 5)
+    );
     assert!(rt; answer_once(&fabric, &mut seats.primary) == None);
     Ok(())
 }
