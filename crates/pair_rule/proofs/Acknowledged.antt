@@ -1,5 +1,5 @@
 -- Steps that are events of the world: an acknowledgement is sent and heard, a packet comes.
-use Rattle.std.proofs.Common.{◌≡◌, ℕ, ◌≤◌, max, eqb, cond, Bool, true, false, List, [], ◌∷◌, ◌++◌, length, sym, refl, ap, ◌∙◌, subst, ◌⊎◌, inl, inr, ⊎_elim, arith, eq-eqb, Some, slice_get, slice_set}
+use Rattle.std.proofs.Common.{◌≡◌, ℕ, zero, suc, ◌≤◌, max, eqb, cond, Bool, true, false, List, [], ◌∷◌, ◌++◌, length, sym, refl, ap, ◌∙◌, subst, ◌⊎◌, inl, inr, ⊎_elim, arith, eq-eqb, Some, slice_get, slice_set}
 use Rattle.guest_board.specs.Machine.{Machine}
 use Rattle.pair_protocol.specs.Lawful.{Among}
 use Rattle.pair_protocol.specs.Copying.{Copying}
@@ -9,6 +9,7 @@ use Rattle.pair_protocol.specs.Refusals.{fault_if, first_of, at_log, at_node, at
 use Rattle.pair_protocol.specs.World.{World, LogEntry, Acknowledgement, with_node}
 use Rattle.pair_protocol.specs.Event.{DeliverLog, Ack, DeliverAck, MessageIs, HeldIs, New, Old}
 use Rattle.pair_protocol.specs.Row.{Accepts}
+use Rattle.pair_rule.specs.Law.{SeeEvents}
 use Rattle.pair_rule.specs.Shown.{First, Nothing}
 use Rattle.pair_rule.specs.declared.view.Knowledge.{Knowledge}
 use Rattle.pair_rule.specs.declared.mailbox.Mailbox.TheVariants.{Inbox}
@@ -16,11 +17,10 @@ use Rattle.pair_rule.specs.declared.payload.Packet.{Packet}
 use Rattle.pair_rule.specs.declared.payload.Payload.TheVariants.{Log}
 use Rattle.pair_rule.specs.Knowledge.{last_or, IsEntryOf, Stands, held, saw, grown, after_empty}
 use Rattle.pair_rule.specs.Shown.{primary_role, primary_runs, backup_role, backup_runs, primary_node, backup_node, Sent, Shows, Leads}
-use Rattle.plain_single.specs.Reach.{operations}
 use Rattle.pair_rule.proofs.Filled.{among_last}
 use Rattle.pair_rule.proofs.ListsThatGrow.{last_among}
 use Rattle.pair_rule.proofs.WordChanges.{held_short}
-use Rattle.pair_rule.proofs.ShownNodes.{later_covered, index_of, more_sent, among_either, read_slice, not_below, serving, waiting, first_node, second_node}
+use Rattle.pair_rule.proofs.ShownNodes.{only_more, only_held, later_covered, index_of, more_sent, among_either, read_slice, not_below, serving, waiting, first_node, second_node}
 
 module _ {S : Type 0} (M : Machine S) (C : Copying S) (typed0 typed1 : List ℕ) (k : Knowledge) (w : World S) (z : Shows M typed0 typed1 k w) where
   abbrev primary : Node S
@@ -36,9 +36,10 @@ module _ {S : Type 0} (M : Machine S) (C : Copying S) (typed0 typed1 : List ℕ)
   at_backup none = second_node M C typed0 typed1 k w z none
 
   -- the backup acknowledges what it holds
-  pub hold_leads : k.backup.winner ≡ 0 → Leads M C typed0 typed1 (held k) w
+  pub hold_leads : k.backup.winner ≡ 0 → Leads M C typed0 typed1 (held k) w (λ events. events ≡ Ack 1 ∷ [])
   hold_leads none = record {
     events = Ack 1 ∷ [];
+    formed = refl;
     replies = MessageIs (length w.messages) ∷ [];
     new = record w { messages = w.messages ++ Acknowledgement 1 (length k.backup.list) 0 ∷ [] };
     run = First (Accepts (ap (λ o. at_node o ack_refusal) (at_backup none)) record { x = backup; there = at_backup none; says = record { reply = refl; after = refl } }) Nothing;
@@ -63,6 +64,8 @@ module _ {S : Type 0} (M : Machine S) (C : Copying S) (typed0 typed1 : List ℕ)
       done = z.done;
       first_reads = z.first_reads;
       covered = z.covered;
+      only = only_more k.primary.list (k.backup.held_values ++ length k.backup.list ∷ []) (Acknowledgement 1 (length k.backup.list) 0) w.messages (refl, refl, among_last (length k.backup.list) k.backup.held_values)
+          (λ m at. only_held k.primary.list k.backup.held_values (length k.backup.list) m (z.only m at));
     };
   }
 
@@ -83,15 +86,17 @@ module _ {S : Type 0} (M : Machine S) (C : Copying S) (typed0 typed1 : List ℕ)
     done = z.done;
     first_reads = z.first_reads;
     covered = λ o at. later_covered z.moves k.primary.seen n o more (z.covered o at);
+    only = λ m at. z.only m (subst (λ l. Among m l) messages at);
   }
 
-  see_none : (n : ℕ) → n ≡ k.primary.seen → Leads M C typed0 typed1 (saw n k) w
-  see_none n e = record { events = []; replies = []; new = w; run = Nothing; once = inl refl; shows = saw_shows n w (omega (arith, e)) (z.nodes ∙ (λ i. primary_node (saw (sym e i) k) z.moves z.s ∷ backup_node M k ∷ [])) refl refl refl refl }
+  see_none : (n : ℕ) → n ≡ k.primary.seen → Leads M C typed0 typed1 (saw n k) w (λ events. events ≡ [])
+  see_none n e = record { events = []; formed = refl; replies = []; new = w; run = Nothing; once = inl refl; shows = saw_shows n w (omega (arith, e)) (z.nodes ∙ (λ i. primary_node (saw (sym e i) k) z.moves z.s ∷ backup_node M k ∷ [])) refl refl refl refl }
 
-  see_one : (n : ℕ) → k.primary.winner ≡ 0 → k.primary.seen ≤ n → n ≤ length k.primary.list → Among n k.backup.held_values → Leads M C typed0 typed1 (saw n k) w
+  see_one : (n : ℕ) → k.primary.winner ≡ 0 → k.primary.seen ≤ n → n ≤ length k.primary.list → Among n k.backup.held_values → Leads M C typed0 typed1 (saw n k) w (λ events. (m : ℕ) × (events ≡ DeliverAck m 0 ∷ []))
   see_one n none more short at = let m = index_of (Acknowledgement 1 n 0) w.messages (z.sent.acks n at) in
       let greater : max k.primary.seen n ≡ n = omega arith in record {
         events = DeliverAck m.0 0 ∷ [];
+        formed = (m.0, refl);
         replies = HeldIs (hears primary n 0).covered ∷ [];
         new = with_node w 0 (hears primary n 0);
         run = First (Accepts ((λ i. at_acked (at_primary none i) (m.1 i)) ∙ ap (λ b. first_of (fault_if b BadAck ∷ [])) (not_below (length k.primary.list) n short)) record { x = primary; there = at_primary none; generation = 1; held = n; replayed = 0; message = m.1; reply = refl; after = refl }) Nothing;
@@ -101,17 +106,23 @@ module _ {S : Type 0} (M : Machine S) (C : Copying S) (typed0 typed1 : List ℕ)
             refl refl refl refl;
       }
 
-  pub see_leads : Stands k → k.primary.winner ≡ 0 → Leads M C typed0 typed1 (saw (last_or 0 k.backup.held_values) k) w
-  see_leads st none = ⊎_elim (λ (e : last_or 0 k.backup.held_values ≡ 0). see_none (last_or 0 k.backup.held_values) (let b = st.behind in omega arith)) (λ (at : Among (last_or 0 k.backup.held_values) k.backup.held_values). see_one (last_or 0 k.backup.held_values) none st.behind (held_short k st) at) (last_among 0 k.backup.held_values)
+  pub see_leads : Stands k → k.primary.winner ≡ 0 → Leads M C typed0 typed1 (saw (last_or 0 k.backup.held_values) k) w (SeeEvents (last_or 0 k.backup.held_values))
+  see_leads st none = go (last_or 0 k.backup.held_values) st.behind (held_short k st) (last_among 0 k.backup.held_values)
+    where
+      go : (n : ℕ) → k.primary.seen ≤ n → n ≤ length k.primary.list → (n ≡ 0) ⊎ Among n k.backup.held_values → Leads M C typed0 typed1 (saw n k) w (SeeEvents n)
+      go zero more short at = see_none 0 (omega (arith, more))
+      go (suc n) more short (inl e) = absurd (omega (arith, e))
+      go (suc n) more short (inr at) = see_one (suc n) none more short at
 
   -- a packet comes to the backup
   abbrev took : Packet → Knowledge
   took p = record k { backup = record k.backup { list = grown k.backup.list p } }
 
   take_one : (p : Packet) → k.backup.winner ≡ 0 → (m : ℕ) → slice_get w.messages m ≡ Some (LogEntry 1 p.index p.entry) → (b : Bool) → eqb p.index (length k.backup.list) ≡ b
-      → Leads M C typed0 typed1 (record k { backup = record k.backup { list = cond b (k.backup.list ++ p.entry ∷ []) k.backup.list } }) w
+      → Leads M C typed0 typed1 (record k { backup = record k.backup { list = cond b (k.backup.list ++ p.entry ∷ []) k.backup.list } }) w (λ events. (m : ℕ) × (events ≡ DeliverLog m 1 ∷ []))
   take_one p none m there true is = let next : p.index ≡ length k.backup.list = grind arith in record {
     events = DeliverLog m 1 ∷ [];
+    formed = (m, refl);
     replies = New ∷ [];
     new = with_node w 1 (holds backup p.entry);
     run = First (Accepts (λ i. at_log (at_backup none i) (there i)) record { x = backup; there = at_backup none; generation = 1; index = p.index; e = p.entry; message = there; holds = inl (next, refl, refl) }) Nothing;
@@ -131,10 +142,12 @@ module _ {S : Type 0} (M : Machine S) (C : Copying S) (typed0 typed1 : List ℕ)
       done = z.done;
       first_reads = z.first_reads;
       covered = z.covered;
+      only = z.only;
     };
   }
   take_one p none m there false is = record {
     events = DeliverLog m 1 ∷ [];
+    formed = (m, refl);
     replies = Old ∷ [];
     new = w;
     run = First (Accepts (λ i. at_log (at_backup none i) (there i)) record { x = backup; there = at_backup none; generation = 1; index = p.index; e = p.entry; message = there; holds = inr ((λ e. let c : true ≡ false = sym (eq-eqb p.index (length k.backup.list) e) ∙ is in absurd (cc)), refl, refl) }) Nothing;
@@ -154,8 +167,9 @@ module _ {S : Type 0} (M : Machine S) (C : Copying S) (typed0 typed1 : List ℕ)
       done = z.done;
       first_reads = z.first_reads;
       covered = z.covered;
+      only = z.only;
     };
   }
 
-  pub take_leads : (p : Packet) → k.backup.winner ≡ 0 → IsEntryOf k.generation k.primary.list p → Leads M C typed0 typed1 (after_empty Inbox (Log p) k) w
+  pub take_leads : (p : Packet) → k.backup.winner ≡ 0 → IsEntryOf k.generation k.primary.list p → Leads M C typed0 typed1 (after_empty Inbox (Log p) k) w (λ events. (m : ℕ) × (events ≡ DeliverLog m 1 ∷ []))
   take_leads p none is = let m = index_of (LogEntry 1 p.index p.entry) w.messages (z.sent.logs p.index p.entry (read_slice k.primary.list p.index p.entry is.1)) in take_one p none m.0 m.1 (eqb p.index (length k.backup.list)) refl

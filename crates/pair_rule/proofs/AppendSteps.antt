@@ -20,7 +20,7 @@ use Rattle.pair_rule.specs.declared.payload.DiskAnswer.TheVariants as answer
 use Rattle.pair_rule.specs.declared.view.Knowledge.{Knowledge}
 use Rattle.pair_rule.specs.Kinds.{counted_at}
 use Rattle.pair_rule.specs.Knowledge.{Stands, appended}
-use Rattle.pair_rule.specs.Law.{HasLonger, IsTold, MayAppend, Runnable, typed_at}
+use Rattle.pair_rule.specs.Law.{AppendEvents, HasLonger, IsTold, MayAppend, Runnable, typed_at}
 use Rattle.pair_rule.specs.Shown.{Shows, Leads}
 use Rattle.pair_rule.proofs.Appends.{mark_leads, key_leads, sent_leads, done_leads, sector_leads}
 use Rattle.pair_rule.proofs.ShownGuards.{all_in, typed_there, accepted_there, done_there, put_there}
@@ -73,7 +73,7 @@ module _ {S : Type 0} (M : Machine S) (C : Copying S) (may : Runnable M) (typed0
         let is : number ≡ acceptances port (inputs_of list) + 1 = laws.due moves t port number reaches due ∙ ap (λ l. acceptances port l + 1) inputs_are in
         (omega (arith, is), omega (arith, is, more, few))
 
-    hears : (n : ℕ) (u : S) (i : Input) → Quiet M z.s n t → Accepts M t i u → IsTold M typed0 typed1 k t (entry_of (M.count t) i) → Leads M C typed0 typed1 (appended (entry_of (M.count t) i) k) w
+    hears : (n : ℕ) (u : S) (i : Input) → Quiet M z.s n t → Accepts M t i u → IsTold M typed0 typed1 k t (entry_of (M.count t) i) → Leads M C typed0 typed1 (appended (entry_of (M.count t) i) k) w (AppendEvents (length list) (entry_of (M.count t) i))
     hears n u (input.Rx port byte) q accepts told = key_leads M C may.counts laws typed0 typed1 k w z st free.asks_not free.few free.room n t u port byte q accepts
         (typed_there M typed0 typed1 k w z port (M.keys t port) byte accepts.is_input (typed_next (M.count t) port byte told))
     hears n u (input.Sent port) q accepts told = let d = is_due M t port accepts.allowed in let c = counted_next (M.count t) port d.0 d.1 told in
@@ -86,13 +86,13 @@ module _ {S : Type 0} (M : Machine S) (C : Copying S) (may : Runnable M) (typed0
         (may.selected t drive sector (is_ready M t (M.address t drive sector) number accepts.allowed)) (laws.placed t drive sector)
         (ap (λ l. sector_record M l (M.address t drive sector)) z.puts ∙ still M laws typed0 typed1 k w z st n t q drive sector r allowed given first ∙ (λ i. record { number = same i; bytes = alike i }))
 
-  pub append_leads : (e : Entry) (run : HasLonger M list e) → IsTold M typed0 typed1 k run.before e → Leads M C typed0 typed1 (appended e k) w
+  pub append_leads : (e : Entry) (run : HasLonger M list e) → IsTold M typed0 typed1 k run.before e → Leads M C typed0 typed1 (appended e k) w (AppendEvents (length list) e)
   append_leads e run told =
       let boot : M.count M.boot ≡ 0 = laws.counts [] M.boot refl in
       let m = last_move M may.counts boot laws.counts list e run in
       let g = run_goes_on M may.counts boot list z.moves z.s z.recorded z.entries_are z.count run.moves run.before run.recorded m.0 in
       go e told m.1 g.further g.quietly m.0
     where
-      go : (e : Entry) → IsTold M typed0 typed1 k run.before e → LastMove M run.before run.after list e → (n : ℕ) → Quiet M z.s n run.before → entries 0 run.moves ≡ list → Leads M C typed0 typed1 (appended e k) w
+      go : (e : Entry) → IsTold M typed0 typed1 k run.before e → LastMove M run.before run.after list e → (n : ℕ) → Quiet M z.s n run.before → entries 0 run.moves ≡ list → Leads M C typed0 typed1 (appended e k) w (AppendEvents (length list) e)
       go e told (Steps o step) n q are = mark_leads M C may.counts laws typed0 typed1 k w z st free.asks_not free.few free.room n run.before run.after o q step
       go e told (Hears i accepts) n q are = hears run.moves run.before run.recorded are n run.after i q accepts told

@@ -25,7 +25,8 @@ use Rattle.pair_protocol.specs.Node.{Node, Primary, primary_takes, notes_after}
 use Rattle.pair_protocol.specs.World.{World, Message, LogEntry, WriteDone, with_node, with_message, SectorRead, terminal, accepted, sector_record, with_read}
 use Rattle.pair_protocol.specs.Event.{Event, Step, Send, TakeKey, TellSent, PutReply, Get, GetReply, Taken, Reply, Ran, MessageIs, Why, Turns, Gave}
 use Rattle.pair_protocol.specs.Row.{Accepts}
-use Rattle.pair_rule.specs.Shown.{IsAcknowledged, Happens, First, Nothing}
+use Rattle.pair_rule.specs.Law.{AppendEvents}
+use Rattle.pair_rule.specs.Shown.{IsAcknowledged, IsSentBy, Happens, First, Nothing}
 use Rattle.pair_protocol.specs.Rows.{Advances, NoneLeft, Gives, Goes}
 use Rattle.pair_protocol.specs.Refusals.{fault_if, first_of, at_node, refusal, step_refusal, send_refusal, log_size, key_refusal, sent_refusal, is_number, at_done, at_under, place_refusal}
 use Rattle.pair_protocol.proofs.Traces.Lists.{among-prefix, among-split, map-append}
@@ -37,7 +38,7 @@ use Rattle.pair_protocol.proofs.Traces.Recorded.{recorded-runs, recorded-append}
 use Rattle.pair_rule.proofs.QuietSteps.{QuietMoves, quiet_moves, quiet_count, quiet_first, notes_more}
 use Rattle.pair_rule.proofs.Filled.{among_last}
 use Rattle.pair_rule.proofs.WordChanges.{held_short}
-use Rattle.pair_rule.proofs.ShownNodes.{longer_covered, serving, first_node, more_sent, index_of}
+use Rattle.pair_rule.proofs.ShownNodes.{only_more, only_longer, longer_covered, serving, first_node, more_sent, index_of}
 use Rattle.i8080_words.specs.declared.limits.TheConstants.{GREATEST_NUMBER}
 
 -- ---- lists
@@ -125,14 +126,19 @@ module _ {S : Type 0} (M : Machine S) (C : Copying S) (counts : Counts M) (laws 
   run_more a es rs b c fs qs Nothing more = more
   run_more a es rs b c fs qs (First {mid = v} {events = es'} {replies = rs'} row rest) more = First row (run_more v es' rs' b c fs qs rest more)
 
+  -- of the messages of a world: which there may be
+  abbrev OnlySent : World S → Type 0
+  OnlySent v = (m : Message) → Among m v.messages → IsSentBy list k.backup.held_values m
+
   -- where events lead to a primary with the entry, the entry is sent
   finish : (e : Entry) (moves : List Move) (u : S) (v : World S) (events : List Event) (replies : List Reply)
       → Recorded M M.boot moves u → entries 0 moves ≡ list ++ e ∷ [] → M.count u ≡ count_of e → Happens M C w events replies v
-      → v.nodes ≡ then_node e moves u ∷ backup_node M k ∷ [] → Sent k v.messages → v.terminals ≡ w.terminals → v.winners ≡ w.winners → v.puts ≡ w.puts
-      → IsPrefix z.moves moves → ((n : ℕ) → IsDone n moves → HasWrite k.disk.puts n)
-      → Leads M C typed0 typed1 (appended e k) w
-  finish e moves u v events replies recorded entered count run nodes sent terminals winners puts below done = let y : Node S = then_node e moves u in let message : Message = LogEntry 1 (length list) e in record {
+      → v.nodes ≡ then_node e moves u ∷ backup_node M k ∷ [] → Sent k v.messages → v.terminals ≡ w.terminals → v.winners ≡ w.winners → v.puts ≡ w.puts → OnlySent v
+      → IsPrefix z.moves moves → ((n : ℕ) → IsDone n moves → HasWrite k.disk.puts n) → AppendEvents (length list) e (events ++ Send 0 (length list) ∷ [])
+      → Leads M C typed0 typed1 (appended e k) w (AppendEvents (length list) e)
+  finish e moves u v events replies recorded entered count run nodes sent terminals winners puts only below done formed = let y : Node S = then_node e moves u in let message : Message = LogEntry 1 (length list) e in record {
     events = events ++ Send 0 (length list) ∷ [];
+    formed = formed;
     replies = replies ++ MessageIs (length v.messages) ∷ [];
     new = with_message v message;
     run = run_more w events replies v (with_message v message) (Send 0 (length list) ∷ []) (MessageIs (length v.messages) ∷ []) run (First (Accepts
@@ -162,6 +168,7 @@ module _ {S : Type 0} (M : Machine S) (C : Copying S) (counts : Counts M) (laws 
       done = done;
       first_reads = z.first_reads;
       covered = λ o at. subst (λ l. IsAcknowledged l k.primary.seen o) below.1 (longer_covered z.moves below.0 k.primary.seen o (z.covered o at));
+      only = only_more (list ++ e ∷ []) k.backup.held_values message v.messages (refl, get_last list e) (λ m at. only_longer list k.backup.held_values e m (only m at));
     };
   }
 
@@ -198,7 +205,7 @@ module _ {S : Type 0} (M : Machine S) (C : Copying S) (counts : Counts M) (laws 
   one_told i tells c number a = ⊎_elim (λ (e : Written number ≡ bare i). tells number e) (λ m. absurd m) a
 
   -- a mark: the steps up to its operation
-  pub mark_leads : (n : ℕ) (t u : S) (o : Operation) → Quiet M z.s n t → M.step t ≡ Some (u, Some o) → Leads M C typed0 typed1 (appended (Mark (M.count u)) k) w
+  pub mark_leads : (n : ℕ) (t u : S) (o : Operation) → Quiet M z.s n t → M.step t ≡ Some (u, Some o) → Leads M C typed0 typed1 (appended (Mark (M.count u)) k) w (AppendEvents (length list) (Mark (M.count u)))
   mark_leads n t u o q step =
       let r = quiet_moves M z.s n t q in let e : Entry = Mark (M.count u) in let moves : List Move = z.moves ++ (r.moves ++ Do (Some o) ∷ []) in
       let y : Node S = then_node e moves u in
@@ -221,7 +228,7 @@ module _ {S : Type 0} (M : Machine S) (C : Copying S) (counts : Counts M) (laws 
         reply = refl;
         after = refl;
       }) Nothing)
-      (ap (λ l. slice_set l 0 y) z.nodes) z.sent refl refl refl (r.moves ++ Do (Some o) ∷ [], refl) (longer_done n t r (Do (Some o)) (λ c number a. absurd a))
+      (ap (λ l. slice_set l 0 y) z.nodes) z.sent refl refl refl z.only (r.moves ++ Do (Some o) ∷ [], refl) (longer_done n t r (Do (Some o)) (λ c number a. absurd a)) (suc n, refl)
 
   -- ---- inputs
 
@@ -259,9 +266,10 @@ module _ {S : Type 0} (M : Machine S) (C : Copying S) (counts : Counts M) (laws 
   taken t u i = primary_takes M (at t) u i
 
   input_leads : (n : ℕ) (t u : S) (i : Input) → Quiet M z.s n t → IsAccepted M t i u → (events : List Event) (replies : List Reply) (v : World S)
-      → Happens M C (with_node w 0 (at t)) events replies v → v.nodes ≡ taken t u i ∷ backup_node M k ∷ [] → Sent k v.messages → v.terminals ≡ w.terminals → v.winners ≡ w.winners → v.puts ≡ w.puts → Tells i
-      → Leads M C typed0 typed1 (appended (entry_of (M.count t) i) k) w
-  input_leads n t u i q accepts events replies v run nodes sent terminals winners puts tells =
+      → Happens M C (with_node w 0 (at t)) events replies v → v.nodes ≡ taken t u i ∷ backup_node M k ∷ [] → Sent k v.messages → v.terminals ≡ w.terminals → v.winners ≡ w.winners → v.puts ≡ w.puts → OnlySent v → Tells i
+      → AppendEvents (length list) (entry_of (M.count t) i) ((Step 0 n ∷ events) ++ Send 0 (length list) ∷ [])
+      → Leads M C typed0 typed1 (appended (entry_of (M.count t) i) k) w (AppendEvents (length list) (entry_of (M.count t) i))
+  input_leads n t u i q accepts events replies v run nodes sent terminals winners puts only tells formed =
       let r = quiet_moves M z.s n t q in let e : Entry = entry_of (M.count t) i in let moves : List Move = z.moves ++ (r.moves ++ Take i ∷ []) in
       let counted = quiet_count M counts z.s n t q in let first = quiet_event n t q in
       finish e moves u v (Step 0 n ∷ events) (first.0 ∷ replies)
@@ -273,7 +281,7 @@ module _ {S : Type 0} (M : Machine S) (C : Copying S) (counts : Counts M) (laws 
         list = sym (inputs_of-append list (e ∷ []) ∙ ap (λ l. inputs_of list ++ (l ++ [])) (timed_entry (M.count t) i)) j;
         notes = sym (longer_notes n t r (Take i)) j;
       } ∷ backup_node M k ∷ []))
-      sent terminals winners puts (r.moves ++ Take i ∷ [], refl) (longer_done n t r (Take i) (one_told i tells))
+      sent terminals winners puts only (r.moves ++ Take i ∷ [], refl) (longer_done n t r (Take i) (one_told i tells)) formed
 
   there_at : (t : S) → slice_get (with_node w 0 (at t)).nodes 0 ≡ Some (at t)
   there_at t = ap (λ l. slice_get (slice_set l 0 (at t)) 0) z.nodes
@@ -283,17 +291,17 @@ module _ {S : Type 0} (M : Machine S) (C : Copying S) (counts : Counts M) (laws 
 
   -- a key that was typed
   pub key_leads : (n : ℕ) (t u : S) (port byte : ℕ) → Quiet M z.s n t → IsAccepted M t (input.Rx port byte) u → slice_get (terminal w port).typed (M.keys t port) ≡ Some byte
-      → Leads M C typed0 typed1 (appended (entry_of (M.count t) (input.Rx port byte)) k) w
+      → Leads M C typed0 typed1 (appended (entry_of (M.count t) (input.Rx port byte)) k) w (AppendEvents (length list) (entry_of (M.count t) (input.Rx port byte)))
   key_leads n t u port byte q accepts typed = let short : M.keys t port < top = key_room M (M.keys t port) accepts.room in let w1 : World S = with_node w 0 (at t) in
       input_leads n t u (input.Rx port byte) q accepts (TakeKey 0 port (M.keys t port) ∷ []) (Taken ∷ []) (with_node w1 0 (taken t u (input.Rx port byte)))
       (First (Accepts ((λ i. first_of (fault_if (is_none (typed i)) Unknown ∷ at_node (there_at t i) (key_refusal M port (M.keys t port)) ∷ []))
       ∙ (λ i. first_of (first_of (fault_if (not (eq-eqb (M.keys t port) (M.keys t port) refl i)) WrongNumber ∷ fault_if (no_full i) LogFull ∷ fault_if (no_spent i) Spent ∷ fault_if (too_low (M.keys t port) top short i) Spent ∷ []) ∷ [])))
       record { byte = byte; typed = typed; input = record { x = at t; there = there_at t; s = u; takes = accepts.taken; reply = refl; after = refl } }) Nothing)
-      (then_nodes t (taken t u (input.Rx port byte))) z.sent refl refl refl (λ m e. absurd (let c : Written m ≡ bare (input.Rx port byte) = e in cc))
+      (then_nodes t (taken t u (input.Rx port byte))) z.sent refl refl refl z.only (λ m e. absurd (let c : Written m ≡ bare (input.Rx port byte) = e in cc)) (n, M.keys t port, refl)
 
   -- the acceptance of a byte that its terminal has counted
   pub sent_leads : (n : ℕ) (t u : S) (port number : ℕ) → Quiet M z.s n t → IsAccepted M t (input.Sent port) u → M.due_byte t port ≡ Some number → 1 ≤ number → number ≤ length (accepted w port)
-      → Leads M C typed0 typed1 (appended (entry_of (M.count t) (input.Sent port)) k) w
+      → Leads M C typed0 typed1 (appended (entry_of (M.count t) (input.Sent port)) k) w (AppendEvents (length list) (entry_of (M.count t) (input.Sent port)))
   sent_leads n t u port number q accepts due some came = let w1 : World S = with_node w 0 (at t) in
       input_leads n t u (input.Sent port) q accepts (TellSent 0 port number ∷ []) (Taken ∷ []) (with_node w1 0 (taken t u (input.Sent port)))
       (First (Accepts (let a : (number == 0) ≡ false = ne_eqb number 0 (λ e. omega arith) in let b : nat_lt (length (accepted w port)) number ≡ false = grind arith in
@@ -301,23 +309,23 @@ module _ {S : Type 0} (M : Machine S) (C : Copying S) (counts : Counts M) (laws 
       ∙ (λ i. first_of (first_of (fault_if (is_none (due i)) NotDue ∷ fault_if (not (is_number (due i) number)) WrongNumber ∷ fault_if (no_full i) LogFull ∷ fault_if (no_spent i) Spent ∷ []) ∷ []))
       ∙ (λ i. first_of (first_of (None ∷ fault_if (not (eq-eqb number number refl i)) WrongNumber ∷ None ∷ None ∷ []) ∷ [])))
       record { x = at t; there = there_at t; s = u; takes = accepts.taken; reply = refl; after = refl }) Nothing)
-      (then_nodes t (taken t u (input.Sent port))) z.sent refl refl refl (λ m e. absurd (let c : Written m ≡ bare (input.Sent port) = e in cc))
+      (then_nodes t (taken t u (input.Sent port))) z.sent refl refl refl z.only (λ m e. absurd (let c : Written m ≡ bare (input.Sent port) = e in cc)) (n, number, refl)
 
   -- a write that the disk has answered
   pub done_leads : (n : ℕ) (t u : S) (number : ℕ) → Quiet M z.s n t → IsAccepted M t (input.Written number) u → Among (WriteDone number) w.messages → HasWrite k.disk.puts number
-      → Leads M C typed0 typed1 (appended (entry_of (M.count t) (input.Written number)) k) w
+      → Leads M C typed0 typed1 (appended (entry_of (M.count t) (input.Written number)) k) w (AppendEvents (length list) (entry_of (M.count t) (input.Written number)))
   done_leads n t u number q accepts at_disk put = let w1 : World S = with_node w 0 (at t) in let m = index_of (WriteDone number) w.messages at_disk in
       input_leads n t u (input.Written number) q accepts (PutReply m.0 0 ∷ []) (Taken ∷ []) (with_node w1 0 (taken t u (input.Written number)))
       (First (Accepts ((λ i. at_done M (there_at t i) (m.1 i))
       ∙ (λ i. first_of (accepts.allowed i ∷ fault_if (no_full i) LogFull ∷ fault_if (no_spent i) Spent ∷ [])))
       record { number = number; message = m.1; input = record { x = at t; there = there_at t; s = u; takes = accepts.taken; reply = refl; after = refl } }) Nothing)
-      (then_nodes t (taken t u (input.Written number))) z.sent refl refl refl (λ m e. subst (HasWrite k.disk.puts) (sym (same_number m number e)) put)
+      (then_nodes t (taken t u (input.Written number))) z.sent refl refl refl z.only (λ m e. subst (HasWrite k.disk.puts) (sym (same_number m number e)) put) (n, m.0, refl)
 
   -- a sector that the disk read: its record is still the same
   pub sector_leads : (n : ℕ) (t u : S) (drive sector number : ℕ) (bytes : List ℕ) → Quiet M z.s n t → IsAccepted M t (input.Sector drive sector number bytes) u
       → M.selected t ≡ Some drive → M.address t drive sector ≡ record (M.address t drive sector) { drive = drive; sector = sector }
       → sector_record M w.puts (M.address t drive sector) ≡ record { number = number; bytes = bytes }
-      → Leads M C typed0 typed1 (appended (entry_of (M.count t) (input.Sector drive sector number bytes)) k) w
+      → Leads M C typed0 typed1 (appended (entry_of (M.count t) (input.Sector drive sector number bytes)) k) w (AppendEvents (length list) (entry_of (M.count t) (input.Sector drive sector number bytes)))
   sector_leads n t u drive sector number bytes q accepts selected placed still =
       let w1 : World S = with_node w 0 (at t) in let i : Input = input.Sector drive sector number bytes in let address : SectorAddress = M.address t drive sector in
       let w2 : World S = with_read M w1 address in
@@ -332,4 +340,4 @@ module _ {S : Type 0} (M : Machine S) (C : Copying S) (counts : Counts M) (laws 
       (First (Accepts ((λ j. at_under M (there_at t j) (read j))
       ∙ (λ j. first_of (fault_if (not (same j)) NotDue ∷ accepts.allowed j ∷ fault_if (no_full j) LogFull ∷ fault_if (no_spent j) Spent ∷ [])))
       record { address = record address { drive = drive; sector = sector }; number = number; bytes = bytes; message = read; input = record { x = at t; there = there_at t; s = u; takes = accepts.taken; reply = refl; after = refl } }) Nothing))
-      (then_nodes t (taken t u i)) (more_sent k w.messages (SectorRead address (sector_record M w.puts address).number (sector_record M w.puts address).bytes ∷ []) z.sent) refl refl refl (λ m e. absurd (let c : Written m ≡ bare (input.Sector drive sector number bytes) = e in cc))
+      (then_nodes t (taken t u i)) (more_sent k w.messages (SectorRead address (sector_record M w.puts address).number (sector_record M w.puts address).bytes ∷ []) z.sent) refl refl refl (only_more list k.backup.held_values (SectorRead address (sector_record M w.puts address).number (sector_record M w.puts address).bytes) w.messages tt z.only) (λ m e. absurd (let c : Written m ≡ bare (input.Sector drive sector number bytes) = e in cc)) (n, length w.messages, refl)

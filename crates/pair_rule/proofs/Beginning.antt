@@ -1,5 +1,5 @@
 -- A generation begins: the bytes are typed, one after another.
-use Rattle.std.proofs.Common.{ℕ, ◌+◌, List, [], ◌∷◌, ◌++◌, length, refl, sym, subst, append_assoc, append-nil, le_refl, inl, arith}
+use Rattle.std.proofs.Common.{ℕ, List, [], ◌∷◌, ◌++◌, length, refl, sym, subst, append_assoc, append-nil, le_refl, inl, arith}
 use Rattle.guest_board.specs.Machine.{Machine}
 use Rattle.pair_protocol.specs.Lawful.{Lawful}
 use Rattle.pair_protocol.specs.Change.{AtBoot}
@@ -80,6 +80,7 @@ module _ {S : Type 0} (M : Machine S) (C : Copying S) where
     done = λ n d. absurd d;
     first_reads = λ r at. absurd at;
     covered = λ o at. absurd at;
+    only = λ m at. absurd at;
   }
 
 pub starts_shown : {S : Type 0} → RowIsChanges S → ChangesReach S → StartsShown S

@@ -1,5 +1,5 @@
 -- What stands goes on to stand where boxes are emptied.
-use Rattle.std.proofs.Common.{◌+◌, [], ◌∷◌, ◌++◌, length, refl, Some}
+use Rattle.std.proofs.Common.{[], ◌∷◌, ◌++◌, length, refl, Some}
 use Rattle.event_callbacks.specs.declared.operations.Operation.{Operation}
 use Rattle.pair_protocol.specs.Lawful.{Among}
 use Rattle.pair_rule.specs.declared.mailbox.Mailbox.{Mailbox}

@@ -11,7 +11,6 @@ use Rattle.pair_rule.specs.declared.view.SeatView.{SeatView}
 use Rattle.pair_rule.specs.Boxes.{slot_of, is_full, Boxed, Homes, box_index, Who, Primary, Link, Backup, Terminal, Disk}
 use Rattle.pair_rule.specs.Knowledge.{Fits, WhereSome}
 use Rattle.pair_rule.specs.Rules.{SamePart, Sized, Same, has, Rule, first_known, first_core, first_view, new_side}
-use Rattle.pair_rule.specs.Kinds.{only}
 
 abbrev homes0 : Homes
 homes0 = some None ∷ some None ∷ some None ∷ some None ∷ some None ∷ some None ∷ some None ∷ some None ∷ some None ∷ some None ∷ some None ∷ []

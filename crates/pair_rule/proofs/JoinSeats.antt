@@ -1,10 +1,10 @@
 -- Seats are joined into the primary's, and what is known at the end is of one moment.
-use Rattle.std.proofs.Common.{◌≡◌, ◌≢◌, ℕ, ◌+◌, eqb, Bool, true, false, List, ◌++◌, length, set, sym, refl, ap, ◌∙◌, subst, ◌⊎◌, ⊎_elim, arith, length-set, eq-eqb, ne_eqb, Option}
+use Rattle.std.proofs.Common.{◌≡◌, ◌≢◌, ℕ, eqb, Bool, true, false, List, ◌++◌, length, set, sym, refl, ap, ◌∙◌, subst, ⊎_elim, arith, length-set, eq-eqb, ne_eqb, Option}
 use mathlib.Core.Option.{some, some-injective}
 use mathlib.Core.Logic.{dite}
 use native.Mathlib.Decide.{ℕ_discrete}
 use lib.ListN.{get_elem?}
-use Rattle.atomic_table.specs.Table.{keeps, gives, Joins, Final, Seen}
+use Rattle.atomic_table.specs.Table.{Joins, Final, Seen}
 use Rattle.atomic_table.proofs.Lists.{at_set, set_here, set_else}
 use Rattle.pair_rule.specs.declared.mailbox.Mailbox.{Mailbox}
 use Rattle.pair_rule.specs.declared.mailbox.Mailbox.TheVariants.{Outbox, Inbox, Bytes0, Bytes1, Requests, Answers}
@@ -16,7 +16,7 @@ use Rattle.pair_rule.specs.declared.view.SeatView.{SeatView}
 use Rattle.pair_rule.specs.Boxes.{box_index, Who, Primary, Link, Backup, Terminal, Disk, seat_index, filler, emptier}
 use Rattle.pair_rule.specs.Knowledge.{words_of, Stands}
 use Rattle.pair_rule.specs.Rules.{SamePart, Sized, Same, Has, has, Rule, new_side}
-use Rattle.pair_rule.specs.Kinds.{side_at, only, which, mixed, know_of, part_of, with_part, spent_view}
+use Rattle.pair_rule.specs.Kinds.{side_at, which, mixed, know_of, part_of, with_part, spent_view}
 use Rattle.pair_rule.proofs.Slots.{at_or}
 use Rattle.pair_rule.proofs.Parts.{one_seat, few_boxes, few_seats, set_there}
 use Rattle.pair_rule.proofs.BoxSwaps.{Table}

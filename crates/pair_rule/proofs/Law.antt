@@ -1,5 +1,5 @@
 -- Each kind of step, one after another.
-use Rattle.std.proofs.Common.{◌≡◌, ℕ, zero, suc, ◌+◌, ◌<◌, List, [], ◌++◌, sym, refl, ap, ◌∙◌, subst, arith, Some}
+use Rattle.std.proofs.Common.{◌≡◌, ℕ, zero, suc, ◌+◌, ◌<◌, List, [], ◌∷◌, ◌++◌, sym, refl, ap, ◌∙◌, subst, arith, Some}
 use Rattle.event_callbacks.specs.Operations.{id_of}
 use Rattle.event_callbacks.specs.declared.operations.Operation.{Operation}
 use Rattle.event_callbacks.specs.declared.operations.Operation.TheVariants.{Byte}
@@ -8,7 +8,7 @@ use Rattle.log_entry.specs.Entries.{entries}
 use Rattle.plain_single.specs.Reach.{steps}
 use Rattle.pair_protocol.specs.Change.{Reached}
 use Rattle.pair_protocol.specs.Copying.{Copying}
-use Rattle.pair_protocol.specs.Event.{Event, Reply}
+use Rattle.pair_protocol.specs.Event.{Event, Reply, Release}
 use Rattle.pair_protocol.specs.Lawful.{Among}
 use Rattle.pair_protocol.specs.Laws.{RowIsChanges, ChangesReach, ReachedIsFaithful, ReachedGrows}
 use Rattle.pair_protocol.specs.Node.{note_of, covers}
@@ -30,7 +30,7 @@ use Rattle.pair_rule.proofs.Released.{release_leads, arrive_leads, put_leads}
 
 -- what a run of the list covers, the shown primary covers
 release : {S : Type 0} (M : Machine S) (C : Copying S) (may : Runnable M) (typed0 typed1 : List ℕ) (k : Knowledge) (w : World S) (z : Shows M typed0 typed1 k w) (st : Stands k) (o : Operation) (run : HasRun M k.primary.list)
-    → HasPort o → k.primary.winner ≡ 0 → IsCovered M k run o → Leads M C typed0 typed1 (with_released o k) w
+    → HasPort o → k.primary.winner ≡ 0 → IsCovered M k run o → Leads M C typed0 typed1 (with_released o k) w (λ events. events ≡ Release 0 (id_of o) ∷ [])
 release M C may typed0 typed1 k w z st o run there serves (found, covered) =
     let boot : M.count M.boot ≡ 0 = may.lawful.counts [] M.boot refl in
     let g = run_goes_on M may.counts boot k.primary.list z.moves z.s z.recorded z.entries_are z.count run.moves run.last run.recorded run.entries_are in

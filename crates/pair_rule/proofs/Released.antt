@@ -1,5 +1,5 @@
 -- Steps that are events of the world: an operation is released, a byte arrives, a write is put.
-use Rattle.std.proofs.Common.{◌≡◌, ℕ, zero, suc, ◌<◌, true, List, [], ◌∷◌, ◌++◌, length, map, sym, refl, ap, ◌∙◌, subst, ◌⊎◌, inl, ⊎_elim, arith, Some, None, slice_get, slice_set, nat_lt, is_none, not, if◌then◌else◌}
+use Rattle.std.proofs.Common.{◌≡◌, ℕ, zero, suc, ◌<◌, true, List, [], ◌∷◌, ◌++◌, length, map, sym, refl, ap, ◌∙◌, subst, inl, ⊎_elim, arith, Some, None, slice_get, slice_set, nat_lt, is_none, not, if◌then◌else◌}
 use Rattle.disk_dcdd.specs.declared.sector.SectorWrite.{SectorWrite}
 use Rattle.event_callbacks.specs.Operations.{id_of}
 use Rattle.event_callbacks.specs.declared.operations.OpId.{OpId}
@@ -25,7 +25,7 @@ use Rattle.pair_rule.specs.Knowledge.{WhereSome, IsAsked, Stands, after_fill, pu
 use Rattle.pair_rule.specs.Shown.{terminals_of, arrival_of, notes_from, hand_of, Sent, Shows, Leads}
 use Rattle.plain_single.specs.Reach.{operations}
 use Rattle.pair_rule.proofs.Filled.{among_last, put_more}
-use Rattle.pair_rule.proofs.ShownNodes.{index_of, more_sent, among_either, no_read, map_more, serving, first_node}
+use Rattle.pair_rule.proofs.ShownNodes.{only_more, index_of, more_sent, among_either, no_read, map_more, serving, first_node}
 
 module _ {S : Type 0} (M : Machine S) (C : Copying S) (typed0 typed1 : List ℕ) (k : Knowledge) (w : World S) (z : Shows M typed0 typed1 k w) where
   abbrev primary : Node S
@@ -51,27 +51,29 @@ module _ {S : Type 0} (M : Machine S) (C : Copying S) (typed0 typed1 : List ℕ)
       record { x = primary; there = at_primary none; o = o; outstanding = found; says = record { reply = refl; after = refl } }) Nothing
 
   pub release_leads : (o : Operation) → Among o (operations z.moves) → IsAcknowledged z.moves k.primary.seen o → no_such w (id_of o) ≡ None → k.primary.winner ≡ 0 → M.find z.s (id_of o) ≡ Some o → covers k.primary.seen 0 (note_of (notes_from 0 [] [] z.moves) (id_of o)) ≡ true
-      → Leads M C typed0 typed1 (record k { primary = record k.primary { released = k.primary.released ++ o ∷ [] } }) w
+      → Leads M C typed0 typed1 (record k { primary = record k.primary { released = k.primary.released ++ o ∷ [] } }) w (λ events. events ≡ Release 0 (id_of o) ∷ [])
   release_leads o given marked there none found covered = record {
     events = Release 0 (id_of o) ∷ [];
+    formed = refl;
     replies = MessageIs (length w.messages) ∷ [];
     new = with_message w (Released o);
     run = release_event o (id_of o) there none found covered;
     once = inl refl;
-    shows = record { moves = z.moves; s = z.s; recorded = z.recorded; entries_are = z.entries_are; count = z.count; nodes = z.nodes; sent = release_shows o; terminals = z.terminals; winners = z.winners; puts = z.puts; issued = λ x at. ⊎_elim (λ (i : Among x k.primary.released). z.issued x i) (λ (e : x ≡ o). subst (λ y. Among y (operations z.moves)) (sym e) given) (among_either x o k.primary.released at); done = z.done; first_reads = z.first_reads; covered = λ x at. ⊎_elim (λ (i : Among x k.primary.released). z.covered x i) (λ (e : x ≡ o). subst (IsAcknowledged z.moves k.primary.seen) (sym e) marked) (among_either x o k.primary.released at) };
+    shows = record { moves = z.moves; s = z.s; recorded = z.recorded; entries_are = z.entries_are; count = z.count; nodes = z.nodes; sent = release_shows o; terminals = z.terminals; winners = z.winners; puts = z.puts; issued = λ x at. ⊎_elim (λ (i : Among x k.primary.released). z.issued x i) (λ (e : x ≡ o). subst (λ y. Among y (operations z.moves)) (sym e) given) (among_either x o k.primary.released at); done = z.done; first_reads = z.first_reads; covered = λ x at. ⊎_elim (λ (i : Among x k.primary.released). z.covered x i) (λ (e : x ≡ o). subst (IsAcknowledged z.moves k.primary.seen) (sym e) marked) (among_either x o k.primary.released at); only = only_more k.primary.list k.backup.held_values (Released o) w.messages tt z.only };
   }
 
   -- a byte that a terminal has in hand arrives
   arrive_shows : (port : ℕ) (v : World S) → v.nodes ≡ w.nodes → v.messages ≡ w.messages → v.terminals ≡ terminals_of (byte_arrived port k) typed0 typed1 → v.winners ≡ w.winners → v.puts ≡ w.puts → Shows M typed0 typed1 (byte_arrived port k) v
-  arrive_shows zero v nodes messages terminals winners puts = record { moves = z.moves; s = z.s; recorded = z.recorded; entries_are = z.entries_are; count = z.count; nodes = nodes ∙ z.nodes; sent = subst (Sent (byte_arrived 0 k)) (sym messages) record { logs = z.sent.logs; acks = z.sent.acks; operations = z.sent.operations; writes = z.sent.writes }; terminals = terminals; winners = winners ∙ z.winners; puts = puts ∙ z.puts; issued = z.issued; done = z.done; first_reads = z.first_reads; covered = z.covered }
-  arrive_shows (suc p) v nodes messages terminals winners puts = record { moves = z.moves; s = z.s; recorded = z.recorded; entries_are = z.entries_are; count = z.count; nodes = nodes ∙ z.nodes; sent = subst (Sent (byte_arrived (suc p) k)) (sym messages) record { logs = z.sent.logs; acks = z.sent.acks; operations = z.sent.operations; writes = z.sent.writes }; terminals = terminals; winners = winners ∙ z.winners; puts = puts ∙ z.puts; issued = z.issued; done = z.done; first_reads = z.first_reads; covered = z.covered }
+  arrive_shows zero v nodes messages terminals winners puts = record { moves = z.moves; s = z.s; recorded = z.recorded; entries_are = z.entries_are; count = z.count; nodes = nodes ∙ z.nodes; sent = subst (Sent (byte_arrived 0 k)) (sym messages) record { logs = z.sent.logs; acks = z.sent.acks; operations = z.sent.operations; writes = z.sent.writes }; terminals = terminals; winners = winners ∙ z.winners; puts = puts ∙ z.puts; issued = z.issued; done = z.done; first_reads = z.first_reads; covered = z.covered; only = λ m at. z.only m (subst (λ l. Among m l) messages at) }
+  arrive_shows (suc p) v nodes messages terminals winners puts = record { moves = z.moves; s = z.s; recorded = z.recorded; entries_are = z.entries_are; count = z.count; nodes = nodes ∙ z.nodes; sent = subst (Sent (byte_arrived (suc p) k)) (sym messages) record { logs = z.sent.logs; acks = z.sent.acks; operations = z.sent.operations; writes = z.sent.writes }; terminals = terminals; winners = winners ∙ z.winners; puts = puts ∙ z.puts; issued = z.issued; done = z.done; first_reads = z.first_reads; covered = z.covered; only = λ m at. z.only m (subst (λ l. Among m l) messages at) }
 
   arrive_event : (port number byte m : ℕ) → slice_get w.messages m ≡ Some (Released (Byte port number byte)) → Happens M C w (Arrive m ∷ []) ((if nat_lt (length (accepted w port)) (length (accepted (with_arrival w port (record { number = number; byte = byte })) port)) then Accepted else Dropped) ∷ []) (with_arrival w port (record { number = number; byte = byte }))
   arrive_event port number byte m there = First (Accepts (ap byte_refusal there) record { port = port; number = number; byte = byte; message = there; reply = refl; after = refl }) Nothing
 
-  pub arrive_leads : (port number byte : ℕ) → port < 2 → hand_of port k ≡ Some (Byte port number byte) → Among (Byte port number byte) k.primary.released → Leads M C typed0 typed1 (byte_arrived port k) w
+  pub arrive_leads : (port number byte : ℕ) → port < 2 → hand_of port k ≡ Some (Byte port number byte) → Among (Byte port number byte) k.primary.released → Leads M C typed0 typed1 (byte_arrived port k) w (λ events. (m : ℕ) × (events ≡ Arrive m ∷ []))
   arrive_leads zero number byte two hand at = let m = index_of (Released (Byte 0 number byte)) w.messages (z.sent.operations (Byte 0 number byte) at) in record {
     events = Arrive m.0 ∷ [];
+    formed = (m.0, refl);
     replies = _;
     new = with_arrival w 0 (record { number = number; byte = byte });
     run = arrive_event 0 number byte m.0 m.1;
@@ -84,6 +86,7 @@ module _ {S : Type 0} (M : Machine S) (C : Copying S) (typed0 typed1 : List ℕ)
   }
   arrive_leads (suc zero) number byte two hand at = let m = index_of (Released (Byte 1 number byte)) w.messages (z.sent.operations (Byte 1 number byte) at) in record {
     events = Arrive m.0 ∷ [];
+    formed = (m.0, refl);
     replies = _;
     new = with_arrival w 1 (record { number = number; byte = byte });
     run = arrive_event 1 number byte m.0 m.1;
@@ -97,10 +100,11 @@ module _ {S : Type 0} (M : Machine S) (C : Copying S) (typed0 typed1 : List ℕ)
   arrive_leads (suc (suc p)) number byte two hand at = absurd (omega arith)
 
   -- a write is put, and the disk answers
-  pub put_leads : Stands k → (write : SectorWrite) → k.disk.taken ≡ Some (ask.Write write) → Leads M C typed0 typed1 (after_fill Answers (Answer (answer.Written write.number)) k) w
+  pub put_leads : Stands k → (write : SectorWrite) → k.disk.taken ≡ Some (ask.Write write) → Leads M C typed0 typed1 (after_fill Answers (Answer (answer.Written write.number)) k) w (λ events. (m : ℕ) × (events ≡ Put m ∷ []))
   put_leads st write is =
       let m = index_of (Released (Write write)) w.messages (z.sent.operations (Write write) (subst (λ t. WhereSome t (IsAsked k.primary.released)) is st.taken)) in record {
         events = Put m.0 ∷ [];
+        formed = (m.0, refl);
         replies = MessageIs (length w.messages) ∷ [];
         new = with_put w write;
         run = First (Accepts (ap write_refusal m.1) record { write = write; message = m.1; reply = refl; after = refl }) Nothing;
@@ -127,6 +131,7 @@ module _ {S : Type 0} (M : Machine S) (C : Copying S) (typed0 typed1 : List ℕ)
           done = λ n d. let h = z.done n d in (h.0, put_more k.disk.taken k.disk.puts h.0 h.1, h.2);
           first_reads = λ r at. z.first_reads r (no_read r write.number k.disk.given at);
           covered = z.covered;
+          only = only_more k.primary.list k.backup.held_values (WriteDone write.number) w.messages tt z.only;
         };
       }
     where

@@ -1,18 +1,19 @@
 -- The nodes that a world shows, and its messages.
-use Rattle.std.proofs.Common.{append_assoc, ◌∙◌, ◌≤◌, arith, ◌≡◌, ℕ, zero, suc, ◌≤◌, true, false, List, [], ◌∷◌, ◌++◌, map, sym, refl, ap, ◌∙◌, ◌⊎◌, inl, inr, ⊎_elim, arith, Some, slice_get, nat_lt}
+use Rattle.std.proofs.Common.{append_assoc, ◌∙◌, ◌≤◌, arith, ◌≡◌, ℕ, zero, suc, ◌≤◌, true, false, List, [], ◌∷◌, ◌++◌, map, sym, refl, ap, ◌∙◌, ◌⊎◌, inl, inr, ⊎_elim, arith, subst, None, Some, slice_get, nat_lt}
 use mathlib.Core.Option.{some, some-injective, some-ne-none}
 use lib.ListN.{get_elem?}
 use Rattle.event_callbacks.specs.declared.operations.Operation.{Operation}
 use Rattle.guest_board.specs.Machine.{Machine, Move, Do}
+use Rattle.log_entry.specs.declared.entry.Entry.{Entry}
 use Rattle.pair_protocol.specs.Lawful.{Among}
 use Rattle.pair_protocol.specs.Copying.{Copying}
 use Rattle.pair_protocol.specs.Node.{Node, Primary, Backup}
-use Rattle.pair_protocol.specs.World.{World, Message, LogEntry, Acknowledgement, Released, WriteDone}
+use Rattle.pair_protocol.specs.World as world
+use Rattle.pair_protocol.specs.World.{World, Message, LogEntry, Acknowledgement, ImagePart, Released, WriteDone}
 use Rattle.pair_rule.specs.declared.view.Knowledge.{Knowledge}
 use Rattle.pair_rule.specs.declared.payload.DiskAnswer.{DiskAnswer}
 use Rattle.pair_rule.specs.declared.payload.DiskAnswer.TheVariants as answer
-use Rattle.pair_rule.specs.Shown.{IsAcknowledged, primary_role, primary_runs, backup_role, backup_runs, primary_node, backup_node, Sent, Shows}
-use Rattle.plain_single.specs.Reach.{operations}
+use Rattle.pair_rule.specs.Shown.{IsAcknowledged, IsSentBy, primary_role, primary_runs, backup_role, backup_runs, primary_node, backup_node, Sent, Shows}
 use Rattle.shared_disk.specs.declared.disk.SectorRead.{SectorRead}
 use Rattle.pair_rule.proofs.Filled.{among_more}
 
@@ -52,6 +53,32 @@ not_below a b le = grind arith
 pub map_more : {A B : Type 0} (f : A → B) (xs : List A) (x : A) → map f (xs ++ x ∷ []) ≡ map f xs ++ f x ∷ []
 map_more f [] x = refl
 map_more f (y ∷ xs) x = ap (λ l. f y ∷ l) (map_more f xs x)
+
+-- one message more that the list or the values of held have; and a list or values that grow
+pub only_more : (list : List Entry) (helds : List ℕ) (x : Message) (messages : List Message) → IsSentBy list helds x → ((m : Message) → Among m messages → IsSentBy list helds m)
+    → (m : Message) → Among m (messages ++ x ∷ []) → IsSentBy list helds m
+only_more list helds x messages is all m at = ⊎_elim (λ (old : Among m messages). all m old) (λ (e : m ≡ x). subst (IsSentBy list helds) (sym e) is) (among_either m x messages at)
+
+get_still : {A : Type 0} (xs ys : List A) (i : ℕ) (x : A) → slice_get xs i ≡ Some x → slice_get (xs ++ ys) i ≡ Some x
+get_still [] ys i x e = absurd (let c : None ≡ Some x = e in cc)
+get_still (y ∷ xs) ys zero x e = e
+get_still (y ∷ xs) ys (suc i) x e = get_still xs ys i x e
+
+pub only_longer : (list : List Entry) (helds : List ℕ) (e : Entry) (m : Message) → IsSentBy list helds m → IsSentBy (list ++ e ∷ []) helds m
+only_longer list helds e (LogEntry generation i x) is = (is.0, get_still list (e ∷ []) i x is.1)
+only_longer list helds e (Acknowledgement generation held replayed) is = is
+only_longer list helds e (ImagePart generation i part) is = tt
+only_longer list helds e (Released o) is = tt
+only_longer list helds e (WriteDone n) is = tt
+only_longer list helds e (world.SectorRead address n bytes) is = tt
+
+pub only_held : (list : List Entry) (helds : List ℕ) (n : ℕ) (m : Message) → IsSentBy list helds m → IsSentBy list (helds ++ n ∷ []) m
+only_held list helds n (LogEntry generation i x) is = is
+only_held list helds n (Acknowledgement generation held replayed) is = (is.0, is.1, among_more held helds (n ∷ []) is.2)
+only_held list helds n (ImagePart generation i part) is = tt
+only_held list helds n (Released o) is = tt
+only_held list helds n (WriteDone m) is = tt
+only_held list helds n (world.SectorRead address m bytes) is = tt
 
 -- what is acknowledged stays so, where more is seen and more moves are made
 pub later_covered : (moves : List Move) (seen more : ℕ) (o : Operation) → seen ≤ more → IsAcknowledged moves seen o → IsAcknowledged moves more o

@@ -17,14 +17,14 @@ no_write n r (x ∷ given) (inl e) = inl e
 no_write n r (x ∷ given) (inr a) = inr (no_write n r given a)
 
 pub silent_shows : {S : Type 0} → SilentStepsShow S
-silent_shows M typed0 typed1 k new w z (Carries p) = record { moves = z.moves; s = z.s; recorded = z.recorded; entries_are = z.entries_are; count = z.count; nodes = z.nodes; sent = record { logs = z.sent.logs; acks = z.sent.acks; operations = z.sent.operations; writes = z.sent.writes }; terminals = z.terminals; winners = z.winners; puts = z.puts; issued = z.issued; done = z.done; first_reads = z.first_reads; covered = z.covered }
-silent_shows M typed0 typed1 k new w z (SeesCount zero n) = record { moves = z.moves; s = z.s; recorded = z.recorded; entries_are = z.entries_are; count = z.count; nodes = z.nodes; sent = record { logs = z.sent.logs; acks = z.sent.acks; operations = z.sent.operations; writes = z.sent.writes }; terminals = z.terminals; winners = z.winners; puts = z.puts; issued = z.issued; done = z.done; first_reads = z.first_reads; covered = z.covered }
-silent_shows M typed0 typed1 k new w z (SeesCount (suc port) n) = record { moves = z.moves; s = z.s; recorded = z.recorded; entries_are = z.entries_are; count = z.count; nodes = z.nodes; sent = record { logs = z.sent.logs; acks = z.sent.acks; operations = z.sent.operations; writes = z.sent.writes }; terminals = z.terminals; winners = z.winners; puts = z.puts; issued = z.issued; done = z.done; first_reads = z.first_reads; covered = z.covered }
-silent_shows M typed0 typed1 k new w z (TakesByte0 o) = record { moves = z.moves; s = z.s; recorded = z.recorded; entries_are = z.entries_are; count = z.count; nodes = z.nodes; sent = record { logs = z.sent.logs; acks = z.sent.acks; operations = z.sent.operations; writes = z.sent.writes }; terminals = z.terminals; winners = z.winners; puts = z.puts; issued = z.issued; done = z.done; first_reads = z.first_reads; covered = z.covered }
-silent_shows M typed0 typed1 k new w z (TakesByte1 o) = record { moves = z.moves; s = z.s; recorded = z.recorded; entries_are = z.entries_are; count = z.count; nodes = z.nodes; sent = record { logs = z.sent.logs; acks = z.sent.acks; operations = z.sent.operations; writes = z.sent.writes }; terminals = z.terminals; winners = z.winners; puts = z.puts; issued = z.issued; done = z.done; first_reads = z.first_reads; covered = z.covered }
-silent_shows M typed0 typed1 k new w z (TakesRequest r) = record { moves = z.moves; s = z.s; recorded = z.recorded; entries_are = z.entries_are; count = z.count; nodes = z.nodes; sent = record { logs = z.sent.logs; acks = z.sent.acks; operations = z.sent.operations; writes = z.sent.writes }; terminals = z.terminals; winners = z.winners; puts = z.puts; issued = z.issued; done = z.done; first_reads = z.first_reads; covered = z.covered }
-silent_shows M typed0 typed1 k new w z (HasAnswer a) = record { moves = z.moves; s = z.s; recorded = z.recorded; entries_are = z.entries_are; count = z.count; nodes = z.nodes; sent = record { logs = z.sent.logs; acks = z.sent.acks; operations = z.sent.operations; writes = z.sent.writes }; terminals = z.terminals; winners = z.winners; puts = z.puts; issued = z.issued; done = z.done; first_reads = z.first_reads; covered = z.covered }
-silent_shows M typed0 typed1 k new w z (AsksRead a) = record { moves = z.moves; s = z.s; recorded = z.recorded; entries_are = z.entries_are; count = z.count; nodes = z.nodes; sent = record { logs = z.sent.logs; acks = z.sent.acks; operations = z.sent.operations; writes = z.sent.writes }; terminals = z.terminals; winners = z.winners; puts = z.puts; issued = z.issued; done = z.done; first_reads = z.first_reads; covered = z.covered }
+silent_shows M typed0 typed1 k new w z (Carries p) = record { moves = z.moves; s = z.s; recorded = z.recorded; entries_are = z.entries_are; count = z.count; nodes = z.nodes; sent = record { logs = z.sent.logs; acks = z.sent.acks; operations = z.sent.operations; writes = z.sent.writes }; terminals = z.terminals; winners = z.winners; puts = z.puts; issued = z.issued; done = z.done; first_reads = z.first_reads; covered = z.covered; only = z.only }
+silent_shows M typed0 typed1 k new w z (SeesCount zero n more) = record { moves = z.moves; s = z.s; recorded = z.recorded; entries_are = z.entries_are; count = z.count; nodes = z.nodes; sent = record { logs = z.sent.logs; acks = z.sent.acks; operations = z.sent.operations; writes = z.sent.writes }; terminals = z.terminals; winners = z.winners; puts = z.puts; issued = z.issued; done = z.done; first_reads = z.first_reads; covered = z.covered; only = z.only }
+silent_shows M typed0 typed1 k new w z (SeesCount (suc port) n more) = record { moves = z.moves; s = z.s; recorded = z.recorded; entries_are = z.entries_are; count = z.count; nodes = z.nodes; sent = record { logs = z.sent.logs; acks = z.sent.acks; operations = z.sent.operations; writes = z.sent.writes }; terminals = z.terminals; winners = z.winners; puts = z.puts; issued = z.issued; done = z.done; first_reads = z.first_reads; covered = z.covered; only = z.only }
+silent_shows M typed0 typed1 k new w z (TakesByte0 o) = record { moves = z.moves; s = z.s; recorded = z.recorded; entries_are = z.entries_are; count = z.count; nodes = z.nodes; sent = record { logs = z.sent.logs; acks = z.sent.acks; operations = z.sent.operations; writes = z.sent.writes }; terminals = z.terminals; winners = z.winners; puts = z.puts; issued = z.issued; done = z.done; first_reads = z.first_reads; covered = z.covered; only = z.only }
+silent_shows M typed0 typed1 k new w z (TakesByte1 o) = record { moves = z.moves; s = z.s; recorded = z.recorded; entries_are = z.entries_are; count = z.count; nodes = z.nodes; sent = record { logs = z.sent.logs; acks = z.sent.acks; operations = z.sent.operations; writes = z.sent.writes }; terminals = z.terminals; winners = z.winners; puts = z.puts; issued = z.issued; done = z.done; first_reads = z.first_reads; covered = z.covered; only = z.only }
+silent_shows M typed0 typed1 k new w z (TakesRequest r) = record { moves = z.moves; s = z.s; recorded = z.recorded; entries_are = z.entries_are; count = z.count; nodes = z.nodes; sent = record { logs = z.sent.logs; acks = z.sent.acks; operations = z.sent.operations; writes = z.sent.writes }; terminals = z.terminals; winners = z.winners; puts = z.puts; issued = z.issued; done = z.done; first_reads = z.first_reads; covered = z.covered; only = z.only }
+silent_shows M typed0 typed1 k new w z (HasAnswer a) = record { moves = z.moves; s = z.s; recorded = z.recorded; entries_are = z.entries_are; count = z.count; nodes = z.nodes; sent = record { logs = z.sent.logs; acks = z.sent.acks; operations = z.sent.operations; writes = z.sent.writes }; terminals = z.terminals; winners = z.winners; puts = z.puts; issued = z.issued; done = z.done; first_reads = z.first_reads; covered = z.covered; only = z.only }
+silent_shows M typed0 typed1 k new w z (AsksRead a) = record { moves = z.moves; s = z.s; recorded = z.recorded; entries_are = z.entries_are; count = z.count; nodes = z.nodes; sent = record { logs = z.sent.logs; acks = z.sent.acks; operations = z.sent.operations; writes = z.sent.writes }; terminals = z.terminals; winners = z.winners; puts = z.puts; issued = z.issued; done = z.done; first_reads = z.first_reads; covered = z.covered; only = z.only }
 silent_shows M typed0 typed1 k new w z (AnswersRead a r is first) = record {
   moves = z.moves;
   s = z.s;
@@ -40,6 +40,7 @@ silent_shows M typed0 typed1 k new w z (AnswersRead a r is first) = record {
   done = λ n d. subst (λ t. HasWrite (put_by t k.disk.puts) n) (sym is) (z.done n d);
   first_reads = λ x at. more_reads x (among_either (answer.Read x) (answer.Read r) k.disk.given at);
   covered = z.covered;
+  only = z.only;
 }
   where
     read_in : SectorRead → DiskAnswer → SectorRead

@@ -1,5 +1,5 @@
 -- Each kind of step of the table is events of the world, or none; and what stands goes on to stand.
-use Rattle.std.proofs.Common.{◌≡◌, ℕ, zero, suc, ◌<◌, List, sym, refl, ap, ◌∙◌, subst, inl, inr, ◌⊎◌, arith, Option, Some, None}
+use Rattle.std.proofs.Common.{◌≡◌, ℕ, zero, suc, ◌<◌, ◌≤◌, List, sym, refl, ap, ◌∙◌, subst, inl, inr, ◌⊎◌, arith, Option, Some, None}
 use Rattle.event_callbacks.specs.declared.operations.Operation.{Operation}
 use Rattle.event_callbacks.specs.declared.operations.Operation.TheVariants.{Byte, Write}
 use Rattle.guest_board.specs.Machine.{Machine}
@@ -11,7 +11,8 @@ use Rattle.pair_rule.specs.declared.payload.Payload.{Payload}
 use Rattle.pair_rule.specs.declared.payload.Payload.TheVariants.{Log, Out, Request, Answer}
 use Rattle.pair_rule.specs.declared.view.Knowledge.{Knowledge}
 use Rattle.pair_rule.specs.Boxes.{filler, emptier}
-use Rattle.pair_rule.specs.Knowledge.{CanFill, Fits, IsByteOf, Stands, WhereSome, after_empty, after_fill, backup_asked, byte_arrived, primary_asked, winner_of}
+use Rattle.pair_rule.specs.Kinds.{counted_at}
+use Rattle.pair_rule.specs.Knowledge.{CanFill, Fits, IsByteOf, Stands, WhereSome, accepted_at, after_empty, after_fill, backup_asked, byte_arrived, primary_asked, winner_of}
 use Rattle.pair_rule.specs.Law as law
 use Rattle.pair_rule.specs.Law.{SilentStep, ThreadStep, Keeps, CountsNone, Carries, TakesByte0, TakesByte1, TakesRequest, HasAnswer, AsksRead, AnswersRead}
 use Rattle.pair_rule.specs.Shown.{hand_of}
@@ -110,6 +111,11 @@ module _ {S : Type 0} (M : Machine S) (typed0 typed1 : List ℕ) (k : Knowledge)
   hand_there (suc zero) two = st.hand1
   hand_there (suc (suc port)) two = absurd (omega arith)
 
+-- no more was seen counted than is
+counted_before : (k : Knowledge) → Stands k → (port : ℕ) → counted_at port k ≤ accepted_at port k
+counted_before k st zero = st.counted0
+counted_before k st (suc port) = st.counted1
+
 pub table_steps : {S : Type 0} → TableStepsAreSteps S
 table_steps M typed0 typed1 k new st Stays = record { stands = st; step = inr Keeps }
 table_steps M typed0 typed1 k new st (Fills b q asks can kept) = record { stands = (fill_keeps k st b q can).0.stands; step = fills M typed0 typed1 k st b q asks can kept }
@@ -120,4 +126,4 @@ table_steps M typed0 typed1 k new st (Holds asks) = record { stands = (hold_stay
 table_steps M typed0 typed1 k new st (PrimaryAsks asks) = record { stands = (primary_asks k st).0.0; step = primary_step M typed0 typed1 k st asks }
 table_steps M typed0 typed1 k new st (BackupAsks asks) = record { stands = (backup_asks k st).0.0; step = backup_step M typed0 typed1 k st asks }
 table_steps M typed0 typed1 k new st (Counts port two) = record { stands = (came_stays k st port).0; step = counts M typed0 typed1 k st port two (hand_of port k) refl (hand_there M typed0 typed1 k st port two) }
-table_steps M typed0 typed1 k new st (SeesCount port two asks) = record { stands = (count_stays k st port).0; step = inr (law.SeesCount port _) }
+table_steps M typed0 typed1 k new st (SeesCount port two asks) = record { stands = (count_stays k st port).0; step = inr (law.SeesCount port _ (counted_before k st port)) }

@@ -18,13 +18,14 @@ use Rattle.pair_protocol.specs.World.{World, accepted_in, sector_record, termina
 use Rattle.pair_rule.specs.declared.view.Knowledge.{Knowledge}
 use Rattle.pair_rule.specs.Law.{ReadsSelected, Runnable, typed_at}
 use Rattle.pair_rule.specs.Shown.{Shows}
-use Rattle.pair_rule.specs.Threads.{Goes, IsShown, Opens, Promises, ThreadsAreFaithful, bytes_accepted}
+use Rattle.pair_rule.specs.Threads.{Goes, IsShown, Opens, PrimaryIsTold, Promises, ThreadsAreFaithful, bytes_accepted}
 use Rattle.pair_rule.proofs.Beginning.{starts_shown}
 use Rattle.pair_rule.proofs.Law.{steps_stay_faithful}
 use Rattle.pair_rule.specs.Knowledge.{Stands}
 use Rattle.pair_rule.specs.Steps.{IsStep}
 use Rattle.pair_rule.proofs.SilentSteps.{silent_shows}
 use Rattle.pair_rule.proofs.TableSteps.{table_steps}
+use Rattle.pair_rule.proofs.Told.{nothing_told, silent_told, thread_told}
 
 module _ {S : Type 0} (M : Machine S) (C : Copying S) (typed0 typed1 : List ℕ) (k : Knowledge) (w : World S) (z : Shows M typed0 typed1 k w) (f : Faithful M w) where
   outputs : (port : ℕ) → port < 2 → IsAllBut M.window_size (bytes_accepted port k) (output port f.trace)
@@ -48,20 +49,20 @@ module _ {S : Type 0} (M : Machine S) (C : Copying S) (typed0 typed1 : List ℕ)
     keys_kept = keys_kept;
   }
 
-pub shown : {S : Type 0} (M : Machine S) (C : Copying S) (typed0 typed1 : List ℕ) (k : Knowledge) (w : World S) → Stands k → Shows M typed0 typed1 k w → Reached M C w → Faithful M w → IsShown M C typed0 typed1 k
-shown M C typed0 typed1 k w st z reached f = record { stands = st; world = w; shows = z; reached = reached; faithful = f; promises = promises M C typed0 typed1 k w z f }
+pub shown : {S : Type 0} (M : Machine S) (C : Copying S) (typed0 typed1 : List ℕ) (k : Knowledge) (w : World S) → Stands k → PrimaryIsTold typed0 typed1 k.primary → Shows M typed0 typed1 k w → Reached M C w → Faithful M w → IsShown M C typed0 typed1 k
+shown M C typed0 typed1 k w st told z reached f = record { stands = st; told = told; world = w; shows = z; reached = reached; faithful = f; promises = promises M C typed0 typed1 k w z f }
 
 -- a step of the table leads from what is shown to what is shown
 next_shown : {S : Type 0} → RowIsChanges S → ChangesReach S → ReachedIsFaithful S → ReachedGrows S → (M : Machine S) (C : Copying S) → Runnable M → IsCopying M C → (typed0 typed1 : List ℕ) (k new : Knowledge) → IsShown M C typed0 typed1 k → IsStep M typed0 typed1 k new → IsShown M C typed0 typed1 new
 next_shown rows changes faithful grow M C may copies typed0 typed1 k new s is = elim is.step [
   | inl t ↦ (let l = steps_stay_faithful rows changes faithful grow M C may copies typed0 typed1 k new s.world s.shows s.stands s.reached t in
-      shown M C typed0 typed1 new l.leads.new is.stands l.leads.shows l.reached l.faithful)
-  | inr q ↦ shown M C typed0 typed1 new s.world is.stands (silent_shows M typed0 typed1 k new s.world s.shows q) s.reached s.faithful
+      shown M C typed0 typed1 new l.leads.new is.stands (thread_told M typed0 typed1 k s.told new t) l.leads.shows l.reached l.faithful)
+  | inr q ↦ shown M C typed0 typed1 new s.world is.stands (silent_told M typed0 typed1 k s.told new q) (silent_shows M typed0 typed1 k new s.world s.shows q) s.reached s.faithful
 ]
 
 pub runs_shown : {S : Type 0} → RowIsChanges S → ChangesReach S → ReachedIsFaithful S → ReachedGrows S → ThreadsAreFaithful S
 runs_shown rows changes faithful grow M C may copies typed0 typed1 k (Opens generation) =
-    let b = starts_shown rows changes M C may.lawful typed0 typed1 generation in shown M C typed0 typed1 k b.world b.stands b.shows b.reached (faithful M C may.lawful copies b.world b.reached)
+    let b = starts_shown rows changes M C may.lawful typed0 typed1 generation in shown M C typed0 typed1 k b.world b.stands (nothing_told typed0 typed1) b.shows b.reached (faithful M C may.lawful copies b.world b.reached)
 runs_shown rows changes faithful grow M C may copies typed0 typed1 new (Goes {k = k} run step) =
     let s = runs_shown rows changes faithful grow M C may copies typed0 typed1 k run in
     next_shown rows changes faithful grow M C may copies typed0 typed1 k new s (table_steps M typed0 typed1 k new s.stands step)

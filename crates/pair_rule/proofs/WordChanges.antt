@@ -1,5 +1,5 @@
 -- What stands goes on to stand where a word changes: the list, what is acknowledged, who won, the counts.
-use Rattle.std.proofs.Common.{◌≡◌, ℕ, zero, suc, ◌+◌, ◌≤◌, eqb, [], ◌∷◌, ◌++◌, length, refl, ap, ◌⊎◌, inl, inr, ⊎_elim, arith, length-append, le_refl}
+use Rattle.std.proofs.Common.{◌≡◌, ℕ, zero, suc, ◌≤◌, eqb, [], ◌∷◌, ◌++◌, length, refl, ap, inl, inr, ⊎_elim, arith, length-append, le_refl}
 use prog.Atomic.{either}
 use Rattle.log_entry.specs.declared.entry.Entry.{Entry}
 use Rattle.pair_protocol.specs.Lawful.{Among}
@@ -8,7 +8,7 @@ use Rattle.pair_rule.specs.declared.mailbox.Mailbox.TheVariants.{Outbox, Inbox, 
 use Rattle.pair_rule.specs.declared.payload.Payload.{Payload}
 use Rattle.pair_rule.specs.declared.payload.Payload.TheVariants.{Log, Out, Request, Answer}
 use Rattle.pair_rule.specs.declared.view.Knowledge.{Knowledge}
-use Rattle.pair_rule.specs.Knowledge.{accepted_at, last_or, winner_of, Fits, Stands, appended, saw, held, winner_after, primary_asked, backup_asked, arrives, byte_arrived, saw_count}
+use Rattle.pair_rule.specs.Knowledge.{accepted_at, last_or, winner_of, Fits, Stands, appended, saw, held, winner_after, primary_asked, backup_asked, byte_arrived, saw_count}
 use Rattle.pair_rule.proofs.Filled.{among_more, if_map, entry_more}
 use Rattle.pair_rule.proofs.ListsThatGrow.{longer_prefix, last_below, rising_more, last_more, last_among, fewer_arrived, all_arrived, decide_primary, decide_backup}
 

@@ -15,7 +15,7 @@ use Rattle.plain_single.specs.Reach.{keys, acceptances}
 use Rattle.shared_disk.specs.declared.disk.SectorRead.{SectorRead}
 use Rattle.pair_protocol.specs.Change.{Reached}
 use Rattle.pair_protocol.specs.Copying.{Copying, IsCopying}
-use Rattle.pair_protocol.specs.Event.{Event, Reply}
+use Rattle.pair_protocol.specs.Event.{Event, Reply, Step, TakeKey, Send, DeliverLog, Ack, DeliverAck, Release, Arrive, TellSent, Suspect, Put, PutReply, Get, GetReply}
 use Rattle.pair_protocol.specs.Faithful.{Faithful, IsPrefix}
 use Rattle.pair_protocol.specs.Grows.{Grows}
 use Rattle.pair_protocol.specs.Lawful.{Among, Lawful, top}
@@ -114,12 +114,42 @@ pub data ThreadStep {S : Type 0} (M : Machine S) (typed0 typed1 : List ℕ) (k :
   Puts : (write : SectorWrite) → k.disk.taken ≡ Some (ask.Write write) →
       ThreadStep M typed0 typed1 k (after_fill Answers (Answer (answer.Written write.number)) k)
 
+-- the events of an append, the i-th: the machine's steps up to the entry's count, the input that it takes there, if the
+-- entry is one, and the entry is sent
+abbrev pub AppendEvents : ℕ → Entry → List Event → Type 0
+AppendEvents i (Mark count) events = (n : ℕ) × (events ≡ Step 0 n ∷ Send 0 i ∷ [])
+AppendEvents i (Rx count port byte) events = (n key : ℕ) × (events ≡ Step 0 n ∷ TakeKey 0 port key ∷ Send 0 i ∷ [])
+AppendEvents i (Sent count port) events = (n number : ℕ) × (events ≡ Step 0 n ∷ TellSent 0 port number ∷ Send 0 i ∷ [])
+AppendEvents i (Written count number) events = (n m : ℕ) × (events ≡ Step 0 n ∷ PutReply m 0 ∷ Send 0 i ∷ [])
+AppendEvents i (Sector count drive sector number bytes) events =
+    (n m : ℕ) × (events ≡ Step 0 n ∷ Get 0 sector ∷ GetReply m 0 ∷ Send 0 i ∷ [])
+
+-- what is seen is one acknowledgement that comes, or nothing at 0
+abbrev pub SeeEvents : ℕ → List Event → Type 0
+SeeEvents zero events = events ≡ []
+SeeEvents (suc n) events = (m : ℕ) × (events ≡ DeliverAck m 0 ∷ [])
+
+-- the events of each step
+abbrev pub EventsOf : {S : Type 0} {M : Machine S} {typed0 typed1 : List ℕ} {k new : Knowledge} →
+    ThreadStep M typed0 typed1 k new → List Event → Type 0
+EventsOf {k = k} (Appends e run may told) events = AppendEvents (length k.primary.list) e events
+EventsOf (Holds waits) events = events ≡ Ack 1 ∷ []
+EventsOf {k = k} (Sees serves) events = SeeEvents (last_or 0 k.backup.held_values) events
+EventsOf (Takes p waits is) events = (m : ℕ) × (events ≡ DeliverLog m 1 ∷ [])
+EventsOf (PrimaryWins serves waits) events = events ≡ Suspect 0 ∷ []
+EventsOf (PrimaryLoses serves other) events = events ≡ Suspect 0 ∷ []
+EventsOf (BackupWins serves waits) events = events ≡ Suspect 1 ∷ []
+EventsOf (BackupLoses other waits) events = events ≡ Suspect 1 ∷ []
+EventsOf (Releases o run port serves covered) events = events ≡ Release 0 (id_of o) ∷ []
+EventsOf (Arrives port number byte two hand) events = (m : ℕ) × (events ≡ Arrive m ∷ [])
+EventsOf (Puts write taken) events = (m : ℕ) × (events ≡ Put m ∷ [])
+
 -- a step that is no event: the world shows what is known after it as before
 pub data SilentStep {S : Type 0} (M : Machine S) (k : Knowledge) : Knowledge → Type 0 where
   Keeps : SilentStep M k k
   CountsNone : (port : ℕ) → hand_of port k ≡ None → SilentStep M k (byte_arrived port k)
   Carries : (p : Packet) → SilentStep M k (after_empty Outbox (Log p) k)
-  SeesCount : (port n : ℕ) → SilentStep M k (saw_count port n k)
+  SeesCount : (port n : ℕ) → counted_at port k ≤ n → SilentStep M k (saw_count port n k)
   TakesByte0 : (o : Operation) → SilentStep M k (after_empty Bytes0 (Out o) k)
   TakesByte1 : (o : Operation) → SilentStep M k (after_empty Bytes1 (Out o) k)
   TakesRequest : (r : DiskRequest) → SilentStep M k (after_empty Requests (Request r) k)
@@ -143,16 +173,17 @@ pub record Runnable {S : Type 0} (M : Machine S) : Type 0 where
   pub operations : ComesAndGoes M
   pub selected : ReadsSelected M
 
--- each step of the threads is events of the world
+-- each step of the threads is its events of the world
 abbrev pub StepsAreEvents : Type 0 → Type 0
 StepsAreEvents S =
     (M : Machine S) (C : Copying S) → Runnable M → (typed0 typed1 : List ℕ) (k new : Knowledge) (w : World S) →
-    Shows M typed0 typed1 k w → Stands k → ThreadStep M typed0 typed1 k new → Leads M C typed0 typed1 new w
+    Shows M typed0 typed1 k w → Stands k → (step : ThreadStep M typed0 typed1 k new) →
+    Leads M C typed0 typed1 new w (EventsOf step)
 
 -- from a world that actions reach, the events lead to one that actions reach; it is faithful, and what was settled goes on
 pub record LeadsFaithfully {S : Type 0} (M : Machine S) (C : Copying S) (typed0 typed1 : List ℕ) (k : Knowledge)
-    (w : World S) : Type 0 where
-  pub leads : Leads M C typed0 typed1 k w
+    (w : World S) (Form : List Event → Type 0) : Type 0 where
+  pub leads : Leads M C typed0 typed1 k w Form
   pub reached : Reached M C leads.new
   pub faithful : Faithful M leads.new
   pub grows : Grows M w leads.new
@@ -161,8 +192,8 @@ pub record LeadsFaithfully {S : Type 0} (M : Machine S) (C : Copying S) (typed0 
 abbrev pub StepsAreFaithful : Type 0 → Type 0
 StepsAreFaithful S =
     (M : Machine S) (C : Copying S) → Runnable M → IsCopying M C → (typed0 typed1 : List ℕ) (k new : Knowledge)
-    (w : World S) → Shows M typed0 typed1 k w → Stands k → Reached M C w → ThreadStep M typed0 typed1 k new →
-    LeadsFaithfully M C typed0 typed1 new w
+    (w : World S) → Shows M typed0 typed1 k w → Stands k → Reached M C w → (step : ThreadStep M typed0 typed1 k new) →
+    LeadsFaithfully M C typed0 typed1 new w (EventsOf step)
 
 -- and the other steps lead from a shown world to the same world
 abbrev pub SilentStepsShow : Type 0 → Type 0

@@ -7,13 +7,13 @@ use Rattle.guest_board.specs.Recorded.{Recorded}
 use Rattle.log_entry.specs.Entries.{entries, entry_of, inputs_of, last_count, marks}
 use Rattle.log_entry.specs.declared.entry.Entry.{Entry}
 use Rattle.plain_single.specs.Reach.{operations}
-use Rattle.shared_disk.specs.declared.disk.SectorRead.{SectorRead}
+use Rattle.shared_disk.specs.declared.disk.SectorRead as disk
 use Rattle.pair_protocol.specs.Lawful.{Among, IsDone}
 use Rattle.pair_protocol.specs.Copying.{Copying}
 use Rattle.pair_protocol.specs.Event.{Event, Reply}
 use Rattle.pair_protocol.specs.Row.{Row}
 use Rattle.pair_protocol.specs.Node.{Node, Note, Role, Primary, Backup, Draining, Alone, notes_after}
-use Rattle.pair_protocol.specs.World.{World, Message, LogEntry, Acknowledgement, Released, WriteDone, Terminal, Arrival, Winner}
+use Rattle.pair_protocol.specs.World.{World, Message, LogEntry, Acknowledgement, ImagePart, Released, WriteDone, SectorRead, Terminal, Arrival, Winner}
 use Rattle.pair_rule.specs.declared.payload.DiskAnswer.TheVariants.{Written, Read}
 use Rattle.pair_rule.specs.declared.view.Arrived.{Arrived}
 use Rattle.pair_rule.specs.declared.view.Knowledge.{Knowledge}
@@ -109,6 +109,15 @@ pub record Sent (k : Knowledge) (messages : List Message) : Type 0 where
   pub operations : (o : Operation) → Among o k.primary.released → Among (Released o) messages
   pub writes : (n : ℕ) → Among (Written n) k.disk.given → Among (WriteDone n) messages
 
+-- a log packet that was sent is that entry of the list, and an acknowledgement is one of the values of held
+abbrev pub IsSentBy : List Entry → List ℕ → Message → Type 0
+IsSentBy list helds (LogEntry generation i e) = (generation ≡ 1) × (slice_get list i ≡ Some e)
+IsSentBy list helds (Acknowledgement generation held replayed) = (generation ≡ 1) × (replayed ≡ 0) × Among held helds
+IsSentBy list helds (ImagePart generation i part) = Unit {0}
+IsSentBy list helds (Released o) = Unit {0}
+IsSentBy list helds (WriteDone n) = Unit {0}
+IsSentBy list helds (SectorRead address n bytes) = Unit {0}
+
 -- a step of the moves gave the operation, and so many entries are acknowledged that its mark is one of them
 pub record IsAcknowledged (moves : List Move) (seen : ℕ) (o : Operation) : Type 0 where
   pub front : List Move
@@ -125,6 +134,7 @@ pub record Shows {S : Type 0} (M : Machine S) (typed0 typed1 : List ℕ) (k : Kn
   pub count : M.count s ≡ last_count 0 k.primary.list
   pub nodes : w.nodes ≡ primary_node k moves s ∷ backup_node M k ∷ []
   pub sent : Sent k w.messages
+  pub only : (m : Message) → Among m w.messages → IsSentBy k.primary.list k.backup.held_values m
   pub terminals : w.terminals ≡ terminals_of k typed0 typed1
   pub winners : w.winners ≡ winners_of (winner_of k.primary.winner k.backup.winner)
   pub puts : w.puts ≡ k.disk.puts
@@ -134,7 +144,7 @@ pub record Shows {S : Type 0} (M : Machine S) (typed0 typed1 : List ℕ) (k : Kn
   pub done : (n : ℕ) → IsDone n moves → HasWrite k.disk.puts n
   -- output rule: whatever was released is acknowledged
   pub covered : (o : Operation) → Among o k.primary.released → IsAcknowledged moves k.primary.seen o
-  pub first_reads : (r : SectorRead) → Among (Read r) k.disk.given → r.number ≡ 0 → r.bytes ≡ M.boot_sector (read_at r)
+  pub first_reads : (r : disk.SectorRead) → Among (Read r) k.disk.given → r.number ≡ 0 → r.bytes ≡ M.boot_sector (read_at r)
 
 -- events of a pair, one after another
 pub data Happens {S : Type 0} (M : Machine S) (C : Copying S) : World S → List Event → List Reply → World S → Type 0 where
@@ -142,9 +152,11 @@ pub data Happens {S : Type 0} (M : Machine S) (C : Copying S) : World S → List
   First : {w mid new : World S} {e : Event} {events : List Event} {r : Reply} {replies : List Reply} →
       Row M C w e r mid → Happens M C mid events replies new → Happens M C w (e ∷ events) (r ∷ replies) new
 
--- events lead from one world to a world that shows what is known then
-pub record Leads {S : Type 0} (M : Machine S) (C : Copying S) (typed0 typed1 : List ℕ) (k : Knowledge) (w : World S) : Type 0 where
+-- events of this form lead from one world to a world that shows what is known then
+pub record Leads {S : Type 0} (M : Machine S) (C : Copying S) (typed0 typed1 : List ℕ) (k : Knowledge) (w : World S)
+    (Form : List Event → Type 0) : Type 0 where
   pub events : List Event
+  pub formed : Form events
   pub replies : List Reply
   pub new : World S
   pub run : Happens M C w events replies new

@@ -1,17 +1,25 @@
 -- What the threads of a generation promise, whatever steps they make.
-use Rattle.std.specs.Prelude.{ℕ, zero, suc, ◌<◌, List, map}
+use Rattle.std.specs.Prelude.{◌≡◌, ℕ, zero, suc, ◌<◌, ◌≤◌, List, map}
 use Rattle.disk_dcdd.specs.declared.address.SectorAddress.{SectorAddress}
 use Rattle.guest_board.specs.Guest.{altair}
 use Rattle.guest_board.specs.Machine.{Machine, Move}
 use Rattle.guest_board.specs.declared.setup.Setup.{Setup}
-use Rattle.plain_single.specs.Reach.{keys, output, Reach}
+use Rattle.log_entry.specs.Entries.{inputs_of}
+use Rattle.log_entry.specs.declared.entry.Entry.{Entry}
+use Rattle.log_entry.specs.declared.entry.Entry.TheVariants.{Mark, Rx, Sent, Sector, Written}
+use Rattle.plain_single.specs.Reach.{keys, acceptances, output, Reach}
 use Rattle.plain_single.specs.declared.timed.Timed.{Timed}
 use Rattle.pair_protocol.specs.Change.{Reached}
 use Rattle.pair_protocol.specs.Copying.{Copying, IsCopying, no_copies}
 use Rattle.pair_protocol.specs.Faithful.{Faithful, IsAllBut, IsPrefix, MayHave}
+use Rattle.pair_protocol.specs.Lawful.{Among}
 use Rattle.pair_protocol.specs.World.{World, accepted_after, sector_record}
+use Rattle.shared_disk.specs.declared.disk.SectorRead.{SectorRead}
+use Rattle.pair_rule.specs.declared.payload.DiskAnswer.{DiskAnswer}
+use Rattle.pair_rule.specs.declared.payload.DiskAnswer.TheVariants as answer
 use Rattle.pair_rule.specs.declared.view.Arrived.{Arrived}
 use Rattle.pair_rule.specs.declared.view.Knowledge.{Knowledge}
+use Rattle.pair_rule.specs.declared.view.PrimaryView.{PrimaryView}
 use Rattle.pair_rule.specs.Knowledge.{Stands}
 use Rattle.pair_rule.specs.Law.{Runnable, typed_at}
 use Rattle.pair_rule.specs.Rules.{first_known}
@@ -43,9 +51,31 @@ pub record Promises {S : Type 0} (M : Machine S) (typed0 typed1 : List ℕ) (k :
   pub disk : (address : SectorAddress) → MayHave M trace reach.last address (sector_record M k.disk.puts address).bytes
   pub keys_kept : (port : ℕ) → port < 2 → IsPrefix (keys port list) (typed_at port typed0 typed1)
 
+-- what an entry says of the disk is an answer that came
+abbrev pub IsAnswered : List DiskAnswer → Entry → Type 0
+IsAnswered answers (Written count number) = Among (answer.Written number) answers
+IsAnswered answers (Sector count drive sector number bytes) =
+    (r : SectorRead) × Among (answer.Read r) answers × (r.number ≡ number) × (r.bytes ≡ bytes)
+IsAnswered answers (Mark count) = Unit {0}
+IsAnswered answers (Rx count port byte) = Unit {0}
+IsAnswered answers (Sent count port) = Unit {0}
+
+-- of a primary's list: its keys are the first of those typed, no more bytes are accepted in it than were seen counted, and
+-- the disk answered what it has of the disk
+pub record ListIsTold (typed0 typed1 : List ℕ) (list : List Entry) (answers : List DiskAnswer) (counted0 counted1 : ℕ) : Type 0 where
+  pub keys0 : IsPrefix (keys 0 (inputs_of list)) typed0
+  pub keys1 : IsPrefix (keys 1 (inputs_of list)) typed1
+  pub accepted0 : acceptances 0 (inputs_of list) ≤ counted0
+  pub accepted1 : acceptances 1 (inputs_of list) ≤ counted1
+  pub answered : (e : Entry) → Among e list → IsAnswered answers e
+
+abbrev pub PrimaryIsTold : List ℕ → List ℕ → PrimaryView → Type 0
+PrimaryIsTold typed0 typed1 p = ListIsTold typed0 typed1 p.list p.answers p.counted0 p.counted1
+
 -- a world that actions reach shows what is known; it is faithful, so the threads keep their promises
 pub record IsShown {S : Type 0} (M : Machine S) (C : Copying S) (typed0 typed1 : List ℕ) (k : Knowledge) : Type 0 where
   pub stands : Stands k
+  pub told : PrimaryIsTold typed0 typed1 k.primary
   pub world : World S
   pub shows : Shows M typed0 typed1 k world
   pub reached : Reached M C world

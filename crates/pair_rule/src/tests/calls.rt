@@ -2,8 +2,8 @@
 ghost use Rattle.std.specs.Prelude.{◌≡◌};
 
 use super::steps::{
-    answer_once, append, ask, carry_once, emit_once, mark, post_once, serve_once, show_once,
-    take_once, write,
+    answer_once, append, ask, carry_once, emit_once, mark, post_once, read_once, serve_once,
+    show_once, take_once, write,
 };
 use crate::open::open;
 use crate::seat::SeatState;
@@ -18,6 +18,15 @@ fn whoever_asks_first_has_won(rt: HostRuntime) -> Result<(), Fail> {
     assert_eq!(rt; seats.primary.contest(&fabric), Err(Fault::Lost));
     let closed = fabric.close(seats);
     assert!(rt; closed.tail == 0 && closed.held == 0 && closed.winner == 2);
+    Ok(())
+}
+
+#[test]
+fn a_primary_that_asks_first_has_won(rt: HostRuntime) -> Result<(), Fail> {
+    let (fabric, mut seats) = Fabric::open(rt.alloc(), 1)?;
+    assert_eq!(rt; seats.primary.contest(&fabric), Ok(()));
+    assert_eq!(rt; seats.backup.contest(&fabric), Err(Fault::Lost));
+    assert_eq!(rt; fabric.close(seats).winner, 1);
     Ok(())
 }
 
@@ -90,6 +99,7 @@ fn bytes_come_in_order(rt: HostRuntime) -> Result<(), Fail> {
     assert!(rt; show_once(&fabric, &mut seats.terminal) == None);
     assert_eq!(rt; seats.terminal.count(&fabric, 1), 1);
     assert_eq!(rt; seats.terminal.count(&fabric, 0), 0);
+    assert_eq!(rt; seats.primary.counted(&fabric, 0), 0);
     assert_eq!(rt; seats.primary.counted(&fabric, 1), 1);
     Ok(())
 }
@@ -102,6 +112,50 @@ fn the_disk_answers(rt: HostRuntime) -> Result<(), Fail> {
     ask(&fabric, &mut seats.primary, DiskRequest::Write(write()));
     assert!(rt; serve_once(&fabric, &mut seats.disk));
     assert!(rt; answer_once(&fabric, &mut seats.primary) == Some(DiskAnswer::Written(1)));
+    assert!(rt; answer_once(&fabric, &mut seats.primary) == None);
+    Ok(())
+}
+
+// The bytes of port 0 have a box of their own.
+#[test]
+fn both_ports_have_boxes(rt: HostRuntime) -> Result<(), Fail> {
+    let (fabric, mut seats) = Fabric::open(rt.alloc(), 1)?;
+    if seats.primary.has_swaps_left() {
+        seats.primary.emit(&fabric, 0, 1, 0x43);
+    }
+    assert!(rt; show_once(&fabric, &mut seats.terminal) == None);
+    if seats.terminal.has_swaps_left() {
+        let byte = seats.terminal.take_byte(&fabric, 0);
+        assert!(rt;
+            matches!(
+                byte,
+                Some(PortByte {
+                    number: 1,
+                    byte: 0x43
+                })
+            )
+        );
+    }
+    assert_eq!(rt; seats.terminal.count(&fabric, 0), 1);
+    assert_eq!(rt; seats.primary.counted(&fabric, 0), 1);
+    Ok(())
+}
+
+// A request is lost where another one is made over it, and an answer where another one is given over it.
+#[test]
+fn a_sector_is_read(rt: HostRuntime) -> Result<(), Fail> {
+    let (fabric, mut seats) = Fabric::open(rt.alloc(), 1)?;
+    ask(&fabric, &mut seats.primary, DiskRequest::Write(write()));
+    ask(
+        &fabric,
+        &mut seats.primary,
+        DiskRequest::Read(write().address()),
+    );
+    assert!(rt; read_once(&fabric, &mut seats.disk));
+    let answer = answer_once(&fabric, &mut seats.primary);
+    assert!(rt;
+        matches!(answer, Some(DiskAnswer::Read(read)) if read.number == 0 && read.sector == 5)
+    );
     assert!(rt; answer_once(&fabric, &mut seats.primary) == None);
     Ok(())
 }

@@ -1,5 +1,5 @@
 //! What each thread of a test does, again and again until it is done.
-ghost use Rattle.std.specs.Prelude.{◌≡◌, IfSome};
+ghost use Rattle.std.specs.Prelude.{◌≡◌, IfSome, []};
 ghost use mathlib.Core.Option.{some};
 ghost use lib.ListN.{get_elem?};
 ghost use Rattle.log_entry.specs.declared.entry.Entry.TheVariants.{Mark};
@@ -10,6 +10,7 @@ use crate::{
 };
 use disk_dcdd::SectorWrite;
 use log_entry::Entry;
+use shared_disk::SectorRead;
 use std::thread;
 
 // How often a thread tries a step.
@@ -249,4 +250,34 @@ pub(super) fn serve(fabric: &Fabric, seat: &mut DiskSeat)
         }
         thread::yield_now();
     }
+}
+
+// Answers one read twice, where no write was answered before it.
+pub(super) fn read_once(fabric: &Fabric, seat: &mut DiskSeat) -> bool
+    requires ready { seat.old.table ≡ fabric.now }
+    requires unwritten { seat.old.core.known.disk.puts ≡ [] }
+    ensures ready { seat.new.table ≡ fabric.now }
+{
+    if !seat.has_swaps_left() {
+        return false;
+    }
+    let Some(DiskRequest::Read(address)) = seat.take_request(fabric) else {
+        return false;
+    };
+    let read = SectorRead {
+        number: 0,
+        drive: address.drive,
+        track: address.track,
+        sector: address.sector,
+        bytes: [0xe5; 137],
+    };
+    if !seat.has_swaps_left() {
+        return false;
+    }
+    seat.reply(fabric, DiskAnswer::Read(read));
+    if !seat.has_swaps_left() {
+        return false;
+    }
+    seat.reply(fabric, DiskAnswer::Read(read));
+    true
 }

@@ -1,0 +1,139 @@
+-- What the primary's list says was told: each entry that is appended adds what its append asks, and no other step changes the
+-- list or takes back what came.
+use Rattle.std.proofs.Common.{◌≡◌, ℕ, zero, suc, ◌+◌, ◌≤◌, Bool, true, false, ◌==◌, if◌then◌else◌, List, [], ◌∷◌, ◌++◌, sym, ap, ◌∙◌, subst, arith, append-nil, le_refl, refl, ⊎_elim}
+use Rattle.guest_board.specs.Machine.{Machine}
+use Rattle.log_entry.specs.Entries.{inputs_of}
+use Rattle.log_entry.specs.declared.entry.Entry.{Entry}
+use Rattle.log_entry.specs.declared.entry.Entry.TheVariants.{Mark, Rx, Sent, Sector, Written}
+use Rattle.plain_single.specs.Reach.{keys, acceptances}
+use Rattle.pair_protocol.specs.Faithful.{IsPrefix}
+use Rattle.pair_protocol.specs.Lawful.{Among}
+use Rattle.pair_protocol.proofs.Moves.{inputs_of-append, keys-append, acceptances-append}
+use Rattle.pair_rule.specs.declared.payload.DiskAnswer.{DiskAnswer}
+use Rattle.pair_rule.specs.declared.payload.DiskAnswer.TheVariants as answer
+use Rattle.pair_rule.specs.declared.view.Knowledge.{Knowledge}
+use Rattle.pair_rule.specs.Kinds.{counted_at}
+use Rattle.pair_rule.specs.Law.{typed_at, IsTold, SilentStep, ThreadStep, Appends, Holds, Sees, Takes, PrimaryWins, PrimaryLoses, BackupWins, BackupLoses, Releases, Arrives, Puts, Keeps, CountsNone, Carries, SeesCount, TakesByte0, TakesByte1, TakesRequest, HasAnswer, AsksRead, AnswersRead}
+use Rattle.pair_rule.specs.Threads.{IsAnswered, ListIsTold, PrimaryIsTold}
+use Rattle.pair_rule.proofs.Filled.{among_more}
+use Rattle.pair_rule.proofs.ShownNodes.{among_either}
+
+-- an answer that came stays one when more come
+still_answered : (answers : List DiskAnswer) (a : DiskAnswer) (e : Entry) → IsAnswered answers e → IsAnswered (answers ++ a ∷ []) e
+still_answered answers a (Mark count) is = tt
+still_answered answers a (Rx count port byte) is = tt
+still_answered answers a (Sent count port) is = tt
+still_answered answers a (Written count number) is = among_more (answer.Written number) answers (a ∷ []) is
+still_answered answers a (Sector count drive sector number bytes) (r, at, same, alike) = (r, among_more (answer.Read r) answers (a ∷ []) at, same, alike)
+
+module _ (list : List Entry) where
+  keys_more : (q : ℕ) (e : Entry) → keys q (inputs_of (list ++ e ∷ [])) ≡ keys q (inputs_of list) ++ keys q (inputs_of (e ∷ []))
+  keys_more q e = ap (keys q) (inputs_of-append list (e ∷ [])) ∙ keys-append q (inputs_of list) (inputs_of (e ∷ []))
+
+  accepted_more : (q : ℕ) (e : Entry) → acceptances q (inputs_of (list ++ e ∷ [])) ≡ acceptances q (inputs_of list) + acceptances q (inputs_of (e ∷ []))
+  accepted_more q e = ap (acceptances q) (inputs_of-append list (e ∷ [])) ∙ acceptances-append q (inputs_of list) (inputs_of (e ∷ []))
+
+  -- an entry without a key of the port leaves its keys as they are, and one without an acceptance its acceptances
+  same_keys : (q : ℕ) (e : Entry) (typed : List ℕ) → keys q (inputs_of (e ∷ [])) ≡ [] → IsPrefix (keys q (inputs_of list)) typed → IsPrefix (keys q (inputs_of (list ++ e ∷ []))) typed
+  same_keys q e typed none is = subst (λ l. IsPrefix l typed) (sym (keys_more q e ∙ ap (λ l. keys q (inputs_of list) ++ l) none ∙ append-nil (keys q (inputs_of list)))) is
+
+  same_accepted : (q : ℕ) (e : Entry) (n : ℕ) → acceptances q (inputs_of (e ∷ [])) ≡ 0 → acceptances q (inputs_of list) ≤ n → acceptances q (inputs_of (list ++ e ∷ [])) ≤ n
+  same_accepted q e n none is = let m = accepted_more q e in omega (arith, m, none, is)
+
+  -- a key at its own port is told by the append, and leaves the other port alone
+  next_keys : (q : ℕ) (count port byte : ℕ) (typed : List ℕ) → (q ≡ port → IsPrefix (keys q (inputs_of (list ++ Rx count port byte ∷ []))) typed) → IsPrefix (keys q (inputs_of list)) typed
+      → IsPrefix (keys q (inputs_of (list ++ Rx count port byte ∷ []))) typed
+  next_keys q count port byte typed told is = go (q == port) refl
+    where
+      go : (b : Bool) → (q == port) ≡ b → IsPrefix (keys q (inputs_of (list ++ Rx count port byte ∷ []))) typed
+      go true same = told (let e : q ≡ port = grind arith in e)
+      go false other = same_keys q (Rx count port byte) typed (ap (λ b. (if b then byte ∷ [] else []) ++ []) other) is
+
+  next_accepted : (q : ℕ) (count port n : ℕ) → (q ≡ port → acceptances q (inputs_of (list ++ Sent count port ∷ [])) ≤ n) → acceptances q (inputs_of list) ≤ n
+      → acceptances q (inputs_of (list ++ Sent count port ∷ [])) ≤ n
+  next_accepted q count port n told is = go (q == port) refl
+    where
+      go : (b : Bool) → (q == port) ≡ b → acceptances q (inputs_of (list ++ Sent count port ∷ [])) ≤ n
+      go true same = told (let e : q ≡ port = grind arith in e)
+      go false other = same_accepted q (Sent count port) n (ap (λ b. (if b then 1 else 0) + 0) other) is
+
+module _ {S : Type 0} (M : Machine S) (typed0 typed1 : List ℕ) (k : Knowledge) (t : PrimaryIsTold typed0 typed1 k.primary) where
+  abbrev list : List Entry
+  list = k.primary.list
+
+  abbrev Longer : Entry → Type 0
+  Longer e = ListIsTold typed0 typed1 (list ++ e ∷ []) k.primary.answers k.primary.counted0 k.primary.counted1
+
+  -- of the longer list: each entry is answered
+  all_answered : (e x : Entry) → IsAnswered k.primary.answers e → Among x (list ++ e ∷ []) → IsAnswered k.primary.answers x
+  all_answered e x is at = ⊎_elim (λ (old : Among x list). t.answered x old) (λ (same : x ≡ e). subst (IsAnswered k.primary.answers) (sym same) is) (among_either x e list at)
+
+  told_more : (s : S) (e : Entry) → IsTold M typed0 typed1 k s e → Longer e
+  told_more s (Mark count) told = record {
+    keys0 = same_keys list 0 (Mark count) typed0 refl t.keys0;
+    keys1 = same_keys list 1 (Mark count) typed1 refl t.keys1;
+    accepted0 = same_accepted list 0 (Mark count) k.primary.counted0 refl t.accepted0;
+    accepted1 = same_accepted list 1 (Mark count) k.primary.counted1 refl t.accepted1;
+    answered = λ x at. all_answered (Mark count) x tt at;
+  }
+  told_more s (Rx count port byte) told = let e : Entry = Rx count port byte in record {
+    keys0 = next_keys list 0 count port byte typed0 (λ same. subst (λ p. IsPrefix (keys p (inputs_of (list ++ Rx count port byte ∷ []))) (typed_at p typed0 typed1)) (sym same) told) t.keys0;
+    keys1 = next_keys list 1 count port byte typed1 (λ same. subst (λ p. IsPrefix (keys p (inputs_of (list ++ Rx count port byte ∷ []))) (typed_at p typed0 typed1)) (sym same) told) t.keys1;
+    accepted0 = same_accepted list 0 e k.primary.counted0 refl t.accepted0;
+    accepted1 = same_accepted list 1 e k.primary.counted1 refl t.accepted1;
+    answered = λ x at. all_answered e x tt at;
+  }
+  told_more s (Sent count port) told = let e : Entry = Sent count port in record {
+    keys0 = same_keys list 0 e typed0 refl t.keys0;
+    keys1 = same_keys list 1 e typed1 refl t.keys1;
+    accepted0 = next_accepted list 0 count port k.primary.counted0 (λ same. subst (λ p. acceptances p (inputs_of (list ++ Sent count port ∷ [])) ≤ counted_at p k) (sym same) told) t.accepted0;
+    accepted1 = next_accepted list 1 count port k.primary.counted1 (λ same. subst (λ p. acceptances p (inputs_of (list ++ Sent count port ∷ [])) ≤ counted_at p k) (sym same) told) t.accepted1;
+    answered = λ x at. all_answered e x tt at;
+  }
+  told_more s (Written count number) told = let e : Entry = Written count number in record {
+    keys0 = same_keys list 0 e typed0 refl t.keys0;
+    keys1 = same_keys list 1 e typed1 refl t.keys1;
+    accepted0 = same_accepted list 0 e k.primary.counted0 refl t.accepted0;
+    accepted1 = same_accepted list 1 e k.primary.counted1 refl t.accepted1;
+    answered = λ x at. all_answered e x told at;
+  }
+  told_more s (Sector count drive sector number bytes) (r, came, place, same, alike) = let e : Entry = Sector count drive sector number bytes in record {
+    keys0 = same_keys list 0 e typed0 refl t.keys0;
+    keys1 = same_keys list 1 e typed1 refl t.keys1;
+    accepted0 = same_accepted list 0 e k.primary.counted0 refl t.accepted0;
+    accepted1 = same_accepted list 1 e k.primary.counted1 refl t.accepted1;
+    answered = λ x at. all_answered e x (r, came, same, alike) at;
+  }
+
+  -- a step that is events, and one that is none
+  pub thread_told : (new : Knowledge) → ThreadStep M typed0 typed1 k new → PrimaryIsTold typed0 typed1 new.primary
+  thread_told new (Appends e run free told) = told_more run.before e told
+  thread_told new (Holds waits) = t
+  thread_told new (Sees serves) = t
+  thread_told new (Takes p waits is) = t
+  thread_told new (PrimaryWins serves waits) = t
+  thread_told new (PrimaryLoses serves other) = t
+  thread_told new (BackupWins serves waits) = t
+  thread_told new (BackupLoses other waits) = t
+  thread_told new (Releases o run port serves covered) = t
+  thread_told new (Arrives zero number byte two hand) = t
+  thread_told new (Arrives (suc port) number byte two hand) = t
+  thread_told new (Puts write taken) = t
+
+  pub silent_told : (new : Knowledge) → SilentStep M k new → PrimaryIsTold typed0 typed1 new.primary
+  silent_told new Keeps = t
+  silent_told new (CountsNone zero none) = t
+  silent_told new (CountsNone (suc port) none) = t
+  silent_told new (Carries p) = t
+  silent_told new (SeesCount zero n more) = record { keys0 = t.keys0; keys1 = t.keys1; accepted0 = (let a = t.accepted0 in omega (arith, a, more)); accepted1 = t.accepted1; answered = t.answered }
+  silent_told new (SeesCount (suc port) n more) = record { keys0 = t.keys0; keys1 = t.keys1; accepted0 = t.accepted0; accepted1 = (let a = t.accepted1 in omega (arith, a, more)); answered = t.answered }
+  silent_told new (TakesByte0 o) = t
+  silent_told new (TakesByte1 o) = t
+  silent_told new (TakesRequest r) = t
+  silent_told new (HasAnswer a) = record { keys0 = t.keys0; keys1 = t.keys1; accepted0 = t.accepted0; accepted1 = t.accepted1; answered = λ e at. still_answered k.primary.answers a e (t.answered e at) }
+  silent_told new (AsksRead a) = t
+  silent_told new (AnswersRead a r taken first) = t
+
+-- an empty list was told nothing
+pub nothing_told : (typed0 typed1 : List ℕ) → ListIsTold typed0 typed1 [] [] 0 0
+nothing_told typed0 typed1 = record { keys0 = (typed0, refl); keys1 = (typed1, refl); accepted0 = le_refl 0; accepted1 = le_refl 0; answered = λ e at. absurd at }
