@@ -17,12 +17,9 @@ use crate::mailbox::Mailbox;
 use crate::payload::{DiskAnswer, DiskRequest, Packet, Payload};
 use crate::seat::SeatState;
 use event_callbacks::Operation;
-use i8080_words::Fault;
+use i8080_words::{Fault, GREATEST_NUMBER};
 use log_entry::Entry;
 use std::marker::Model;
-
-// An index stays below what a log packet can name.
-const MOST: u64 = (1 << 62) - 1;
 
 // The entries that a log holds.
 const LOG: u64 = 256;
@@ -69,7 +66,7 @@ impl PrimarySeat {
         if self.length - self.seen >= LOG {
             return Err(Fault::LogFull);
         }
-        if self.length >= MOST {
+        if self.length >= GREATEST_NUMBER {
             return Err(Fault::Spent);
         }
         let packet = Packet {
