@@ -1,12 +1,12 @@
 -- A device that fails once is asked once more, and then answers. What a world over it shows, one over its records shows.
-use Rattle.std.proofs.Common.{◌≡◌, ℕ, ◌+◌, Bool, true, false, List, Option, Some, None, refl, arith, ap, sym, subst, ◌∙◌}
+use Rattle.std.proofs.Common.{◌≡◌, ◌+◌, Bool, true, false, List, Option, Some, None, refl, arith, ap, sym, subst, ◌∙◌}
 use Rattle.std.specs.Prelude.{if◌then◌else◌, is_some, IsSome, IfOk, Result, Ok, Err}
 use Rattle.disk_dcdd.specs.declared.address.SectorAddress.{SectorAddress}
 use Rattle.guest_board.specs.Machine.{Machine}
 use Rattle.i8080_words.specs.declared.refusal.Fault.{Fault}
 use Rattle.i8080_words.specs.declared.refusal.Fault.TheVariants.{DeviceFault, Unknown}
-use Rattle.shared_disk.specs.Failing.{FailsOnce, failures_in}
-use Rattle.shared_disk.specs.Records.{IsThere, faults_in, record_at, refusal_at}
+use Rattle.shared_disk.specs.Failing.{failures_in}
+use Rattle.shared_disk.specs.Records.{IsThere, record_at, refusal_at}
 use Rattle.shared_disk.specs.declared.disk.SectorRead.{SectorRead}
 use Rattle.shared_disk.specs.declared.store.Record.{Record}
 use Rattle.ft_world.specs.Applies.{IsSectorOf, Shows}
