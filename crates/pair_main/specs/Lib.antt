@@ -1,4 +1,5 @@
 pub mod Comparing
+pub mod Disks
 pub mod Printing
 pub mod Reports
 pub mod Runs

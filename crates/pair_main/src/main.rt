@@ -2,6 +2,7 @@
 #![tactic(auto)]
 
 mod checking;
+mod disk;
 mod failure;
 mod judging;
 mod options;

@@ -7,10 +7,12 @@ ghost use Rattle.ft_world.specs.Standing.{Course, machine_of};
 ghost use Rattle.guest_board.specs.Guest.{altair};
 ghost use Rattle.plain_single.specs.Image.{boot_sectors};
 ghost use Rattle.pair_main.specs.Comparing.{IsVerdictOn};
+ghost use Rattle.pair_main.specs.Disks.{records_in, over_records};
 ghost use Rattle.pair_main.specs.Printing.{AnswersLines, Prints, PrintsVerdict};
 ghost use Rattle.pair_main.specs.Reports.{handed};
 
 use crate::checking::compare;
+use crate::disk::Disk;
 use crate::failure::Failure;
 use crate::options::Order;
 use crate::report::Report;
@@ -22,12 +24,12 @@ use guest_board::{Board, Lockstep, Setup};
 use i8080_words::{Fault, R};
 use pair_events::{Answer, Event};
 use script_language::{BootSector, Line, Query, Script, ScriptSetup};
-use shared_disk::MemoryStore;
+use shared_disk::{FailOnce, MemoryStore};
 use std::alloc::Global;
 use std::io::Write;
 
-/// A pair of Altairs over a disk in memory.
-pub type Altairs<T, S, W> = World<Board<T, S, W>, MemoryStore, Callbacks<T, S, W>>;
+/// A pair of Altairs over the program's disk.
+pub type Altairs<T, S, W> = World<Board<T, S, W>, Disk, Callbacks<T, S, W>>;
 
 /// Boots a pair whose completions are these closures, and runs a script: either its lines are answered, or the pair is
 /// compared at its end with a single machine.
@@ -67,19 +69,19 @@ pub fn run<
 // Compares a pair with the single machine of its setup, and prints the verdict.
 fn check<B: Lockstep + Drop, H: Drop, O: Write + Drop>(
     alloc: Global,
-    world: &mut World<B, MemoryStore, H>,
+    world: &mut World<B, Disk, H>,
     setup: &Setup,
     sectors: &[SectorWrite],
     report: &mut Report,
     writer: &mut O,
 ) -> Result<(), Failure>
-    ensures verdict { (c : Course B.State) → Shows B.state B.machine (λ records. records) world.old c
+    ensures verdict { (c : Course B.State) → Shows B.state B.machine records_in world.old c
         → PrintsVerdict (IsVerdictOn (altair setup.now (boot_sectors sectors.now)) setup.now.drives
-        (machine_of B.machine c) c.world world.old.disk) result
+        (machine_of B.machine c) c.world world.old.disk.store) result
         (handed (O.contents writer.old) report.old) (handed (O.contents writer.new) report.new) }
     ensures printed { PrintsVerdict (λ verdict. ⊤) result
         (handed (O.contents writer.old) report.old) (handed (O.contents writer.new) report.new) }
-    ensures unchanged { world.new ≡ world.old }
+    ensures unchanged { over_records world.new ≡ over_records world.old }
 {
     let verdict = compare(alloc, world, setup, sectors)?;
     report.line(writer, &verdict)?;
@@ -111,7 +113,8 @@ fn boot<T: Completes + Drop + Copy, S: Completes + Drop + Copy, W: Completes + D
     requires sector { Keeps (S.may sector) (S.gives sector) SECTOR }
     requires written { Keeps (W.may written) (W.gives written) WRITTEN }
 {
-    let disk = MemoryStore::at_boot(alloc, setup.guest.drives, sectors)?;
+    let records = MemoryStore::at_boot(alloc, setup.guest.drives, sectors)?;
+    let disk = FailOnce::new(records, setup.failing_access);
     let primary = Callbacks::of(sent, sector, written);
     let backup = Callbacks::of(sent, sector, written);
     let mut world = match World::boot(alloc, &setup.guest, disk, primary, backup) {
@@ -129,7 +132,7 @@ fn boot<T: Completes + Drop + Copy, S: Completes + Drop + Copy, W: Completes + D
 // Makes every event happen, and answers nothing.
 fn run_silently<B: Lockstep + Drop, H: Drop>(
     alloc: Global,
-    world: &mut World<B, MemoryStore, H>,
+    world: &mut World<B, Disk, H>,
     lines: &[Line],
 ) {
     for line in lines {
@@ -142,7 +145,7 @@ fn run_silently<B: Lockstep + Drop, H: Drop>(
 // Answers one line after another. What was answered is written before guests run for long.
 fn answer_each<B: Lockstep + Drop, H: Drop, O: Write + Drop>(
     alloc: Global,
-    world: &mut World<B, MemoryStore, H>,
+    world: &mut World<B, Disk, H>,
     lines: &[Line],
     report: &mut Report,
     writer: &mut O,
@@ -171,7 +174,7 @@ fn turns_of(line: Line) -> u64 {
 #[tactic(auto, using(crate::proofs::Handing::answered))]
 fn answer<B: Lockstep + Drop, H: Drop, O: Write + Drop>(
     alloc: Global,
-    world: &mut World<B, MemoryStore, H>,
+    world: &mut World<B, Disk, H>,
     line: Line,
     report: &mut Report,
     writer: &mut O,
@@ -192,10 +195,7 @@ fn answer<B: Lockstep + Drop, H: Drop, O: Write + Drop>(
 }
 
 // What a query finds.
-fn find<'a, B: Lockstep + Drop, H: Drop>(
-    world: &'a World<B, MemoryStore, H>,
-    query: Query,
-) -> Answer<'a> {
+fn find<'a, B: Lockstep + Drop, H: Drop>(world: &'a World<B, Disk, H>, query: Query) -> Answer<'a> {
     match query {
         Query::Show { port } if (port as usize) < PORTS => Answer::Accepted {
             port,

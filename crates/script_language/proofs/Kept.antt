@@ -6,9 +6,9 @@ use Rattle.std.specs.Option.{option_map}
 use Rattle.script_language.specs.declared.keyword.Keyword.{Keyword}
 use Rattle.script_language.specs.declared.keyword.Keyword.TheVariants as keyword
 use Rattle.script_language.specs.declared.line.Line.{Line}
-use Rattle.script_language.specs.Words.{Reader, between_of, bytes_of, hexadecimal_of, whole, words_of, ◌>>=◌}
+use Rattle.script_language.specs.Words.{Reader, between_of, bytes_of, decimal_of, hexadecimal_of, whole, words_of, ◌>>=◌}
 use Rattle.script_language.specs.Grammar.{bad, between, byte, bytes, is_setup, keyword_of, line_of, of_kind, says}
-use Rattle.script_language.specs.Booting.{Boot, Change, Filled, boot_after, change_of, drives_are, fitting, hosts_are, levels_are, memory_from, sector_is, sense_is}
+use Rattle.script_language.specs.Booting.{Boot, Change, Filled, boot_after, change_of, drives_are, fails_at, fitting, hosts_are, levels_are, memory_from, sector_is, sense_is}
 use Rattle.script_language.specs.Meaning.{Said, unless_bad, with_boot, with_keyword, with_line, with_more, with_words}
 
 -- sectors with at most one more, of this line
@@ -79,6 +79,8 @@ change_places keyword.Sector =
       numbered = refl;
       all = refl;
     })))))
+change_places keyword.Fail =
+    gives_of_kind Places decimal_of (λ (access : ℕ). says (fails_at access)) (λ access words line boot. inl refl)
 change_places other = λ words. tt
 
 -- what a further line leaves

@@ -2,6 +2,7 @@
 #![tactic(auto)]
 
 mod disk;
+mod fail_once;
 mod laws;
 mod memory_store;
 mod store;
@@ -9,6 +10,7 @@ mod store;
 mod tests;
 
 pub use disk::{SectorRead, SharedDisk};
+pub use fail_once::FailOnce;
 pub use laws::{new_stores_are_unwritten, one_write_is_chosen};
 pub use memory_store::MemoryStore;
 pub use store::{Record, SectorStore};

@@ -1,7 +1,5 @@
 //! The shared disk as two nodes write it, over stores that fail and stores that do not.
-ghost use Rattle.std.specs.Prelude.{if◌then◌else◌};
-
-use crate::{MemoryStore, Record, SectorRead, SectorStore, SharedDisk};
+use crate::{FailOnce, MemoryStore, Record, SectorRead, SectorStore, SharedDisk};
 use disk_dcdd::{SECTOR_BYTES, SectorAddress, SectorWrite};
 use i8080_words::{Fault, R};
 use std::process::Abort;
@@ -94,46 +92,101 @@ fn only_the_sectors_of_the_drives_are_there(rt: HostRuntime) -> R<()> {
     Ok(())
 }
 
-// A store whose device fails at its first access.
-#[derive(Drop)]
-struct FailsFirst {
-    store: MemoryStore,
-    failed: bool,
-}
-
-impl SectorStore for FailsFirst {
-    ghost records = { λ s. s.store };
-
-    ghost failures = { λ s. if s.failed then 1 else 0 };
-
-    fn read(&mut self, address: SectorAddress) -> R<Record> {
-        let found = self.store.read(address)?;
-        if !self.failed {
-            self.failed = true;
-            return Err(Fault::DeviceFault);
-        }
-        Ok(found)
-    }
-
-    fn write(&mut self, address: SectorAddress, content: Record) -> R<()> {
-        self.store.read(address)?;
-        if !self.failed {
-            self.failed = true;
-            return Err(Fault::DeviceFault);
-        }
-        self.store.write(address, content)
-    }
+// A disk of one drive, whose access of this number fails.
+fn failing(rt: &impl AllocGlobal, access: u64) -> R<SharedDisk<FailOnce<MemoryStore>>> {
+    let store = MemoryStore::new(rt.alloc(), 1)?;
+    Ok(SharedDisk::new(FailOnce::new(store, access)))
 }
 
 #[test]
 fn a_failed_write_has_not_arrived(rt: HostRuntime) -> R<()> {
-    let mut disk = SharedDisk::new(FailsFirst {
-        store: MemoryStore::new(rt.alloc(), 1)?,
-        failed: false,
-    });
-    assert_eq!(rt; disk.put(&write(1, 0x01)), Err(Fault::DeviceFault));
+    // A put is a read, and then a write.
+    for access in [1, 2] {
+        let mut disk = failing(&rt, access)?;
+        assert_eq!(rt; disk.put(&write(1, 0x01)), Err(Fault::DeviceFault));
+        assert_eq!(rt; disk.get(FIVE), Ok(read(0, 0x00)));
+        assert_eq!(rt; disk.put(&write(1, 0x01)), Ok(()));
+        assert_eq!(rt; disk.get(FIVE), Ok(read(1, 0x01)));
+    }
+    Ok(())
+}
+
+// The calls of a disk that the tests make one after another.
+#[derive(Clone, Copy)]
+enum Call {
+    Get,
+    Put(SectorWrite),
+}
+
+// Makes a call; says what it returned, and what is read if it is a get.
+fn made(disk: &mut SharedDisk<FailOnce<MemoryStore>>, call: Call) -> R<Option<SectorRead>> {
+    match call {
+        Call::Get => disk.get(FIVE).map(Some),
+        Call::Put(write) => disk.put(&write).map(|()| None),
+    }
+}
+
+// A get is one access; so is a put that comes too late, and one that is not too late is two.
+#[test]
+fn each_access_fails_in_turn_and_only_once(rt: HostRuntime) -> R<()> {
+    let calls = [
+        (Call::Get, Some(read(0, 0x00))),
+        (Call::Put(write(2, 0x02)), None),
+        (Call::Put(write(1, 0x01)), None),
+        (Call::Get, Some(read(2, 0x02))),
+        (Call::Put(write(3, 0x03)), None),
+        (Call::Get, Some(read(3, 0x03))),
+    ];
+    let failing_calls = [9, 0, 1, 1, 2, 3, 4, 4, 5, 9];
+    for (access, failing_call) in failing_calls.iter().enumerate() {
+        let mut disk = failing(&rt, access as u64)?;
+        for (place, (call, answer)) in calls.iter().enumerate() {
+            if place == *failing_call {
+                assert_eq!(rt; made(&mut disk, *call), Err(Fault::DeviceFault), "{access}");
+            }
+            assert_eq!(rt; made(&mut disk, *call), Ok(*answer), "{access}");
+        }
+    }
+    Ok(())
+}
+
+#[test]
+fn a_refused_access_is_not_counted(rt: HostRuntime) -> R<()> {
+    let far = SectorAddress { drive: 1, ..FIVE };
+    let outside = SectorWrite {
+        drive: 1,
+        ..write(1, 0x01)
+    };
+    let mut disk = failing(&rt, 1)?;
+    assert_eq!(rt; disk.get(far), Err(Fault::Unknown));
+    assert_eq!(rt; disk.put(&outside), Err(Fault::Unknown));
+    assert_eq!(rt; disk.get(FIVE), Err(Fault::DeviceFault));
     assert_eq!(rt; disk.get(FIVE), Ok(read(0, 0x00)));
-    assert_eq!(rt; disk.put(&write(1, 0x01)), Ok(()));
-    assert_eq!(rt; disk.get(FIVE), Ok(read(1, 0x01)));
+    Ok(())
+}
+
+// The store underneath sees each access once; the one that it refuses is not counted above.
+#[test]
+fn a_store_may_fail_over_one_that_fails(rt: HostRuntime) -> R<()> {
+    let content = Record {
+        number: 1,
+        bytes: [0x01; SECTOR_BYTES],
+    };
+    for (access, failing) in [
+        (1, [true, false, false]),
+        (2, [false, true, false]),
+        (3, [false, false, true]),
+    ] {
+        let below = FailOnce::new(MemoryStore::new(rt.alloc(), 1)?, access);
+        let mut store = FailOnce::new(below, 4);
+        let [first, second, third] = failing;
+        assert_eq!(rt; store.read(FIVE).is_err(), first);
+        assert_eq!(rt; store.write(FIVE, content).is_err(), second);
+        assert_eq!(rt; store.read(FIVE).is_err(), third);
+        // Two of these were counted; the third one is now, and the fourth one fails.
+        assert_eq!(rt; store.write(FIVE, content), Ok(()));
+        assert_eq!(rt; store.write(FIVE, content), Err(Fault::DeviceFault));
+        assert_eq!(rt; store.read(FIVE), Ok(content));
+    }
     Ok(())
 }

@@ -29,6 +29,40 @@ halted
     check: "same 0\n",
 };
 
+const DEVICE_FAULT: Example = Example {
+    script: b"# A disk that fails once. The guest of disk_write.script runs alone this time. Of the accesses of the disk the third one
+# fails: a get is one access; a put reads what the sector has, and then writes.
+fail 3
+drives 1
+mem 0000 06 89 AF D3 08 3E 04 D3 09 DB 09 0F DA 09 00 3E 80 D3 09 DB 08 0F DA 13 00 3E E5 D3 0A 05 C2 13 00 76
+suspect 0
+# The disk reads sector 0, and the guest takes it and writes it.
+step 0 10
+get 0 0
+under 0 0
+step 0 2000
+release 0 write 1
+# The write reaches the disk, and the device fails. The sector is as it was before, and no message says that it is done.
+put 1
+done 2 0
+# The same message may arrive again. The device does not fail again: the write is done.
+put 1
+done 2 0
+",
+    output: "won
+ran 10 count 10 turns
+message 0
+taken
+ran 963 count 973 write 1
+message 1
+refused 13
+refused 15
+message 2
+taken
+",
+    check: "same 973\n",
+};
+
 const DISK_WRITE: Example = Example {
     script: b"# A write that survives its primary. The guest selects drive 0, loads the head, waits for a sector, and fills it with E5:
 #   0000 MVI B,89  XRA A  OUT 08  MVI A,04  OUT 09
@@ -356,6 +390,7 @@ taken
 fn examples_print_what_stands_beside_them(rt: HostRuntime) -> Result<(), Fail> {
     let examples = [
         CONTEST,
+        DEVICE_FAULT,
         DISK_WRITE,
         ECHO,
         FAILOVER,

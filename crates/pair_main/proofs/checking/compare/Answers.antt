@@ -30,14 +30,14 @@ returns-then-is_alike-clause-verdict g c = λ course shows.
       list = c.settled-count.result.0.now;
       count = c.settled-count.result.1;
       settled = c.settled-count.ensures course shows;
-      judged = verdict_of M c.args.setup.now.drives d c.args.world.now.disk c.settled-count.result.1 c.in-Ok.single true
+      judged = verdict_of M c.args.setup.now.drives d c.args.world.now.disk.store c.settled-count.result.1 c.in-Ok.single true
           c.args.setup.now.few
           (subst (λ l. RunsTo M l c.settled-count.result.1 c.in-Ok.single) (c.deref-2.ensures.value ∙ same)
           (c.in-Ok.ensures.ok c.args.setup.now (boot_sectors c.args.sectors.now) c.in_ok-single.ensures.ok))
-          (subst (λ answer. IsAnswer c.args.setup.now.drives d c.args.world.now.disk (output_of c.in-Ok.single)
+          (subst (λ answer. IsAnswer c.args.setup.now.drives d c.args.world.now.disk.store (output_of c.in-Ok.single)
           c.in-Ok.single.behind.writes (sector_at c.in-Ok.single.disk) answer) c.if-is_alike.true
           (subst (λ l. IsAnswer c.args.setup.now.drives
-          (deeds_of (machine_of g.B.Lockstep.machine course) course.world l) c.args.world.now.disk
+          (deeds_of (machine_of g.B.Lockstep.machine course) course.world l) c.args.world.now.disk.store
           (output_of c.in-Ok.single) c.in-Ok.single.behind.writes (sector_at c.in-Ok.single.disk) c.is_alike.result)
           (c.deref-3.ensures.value ∙ same) (c.is_alike.ensures.answer course shows)));
     }
@@ -52,14 +52,14 @@ returns-clause-verdict g c = λ course shows.
       list = c.settled-count.result.0.now;
       count = c.settled-count.result.1;
       settled = c.settled-count.ensures course shows;
-      judged = verdict_of M c.args.setup.now.drives d c.args.world.now.disk c.settled-count.result.1 c.in-Ok.single false
+      judged = verdict_of M c.args.setup.now.drives d c.args.world.now.disk.store c.settled-count.result.1 c.in-Ok.single false
           c.args.setup.now.few
           (subst (λ l. RunsTo M l c.settled-count.result.1 c.in-Ok.single) (c.deref-2.ensures.value ∙ same)
           (c.in-Ok.ensures.ok c.args.setup.now (boot_sectors c.args.sectors.now) c.in_ok-single.ensures.ok))
-          (subst (λ answer. IsAnswer c.args.setup.now.drives d c.args.world.now.disk (output_of c.in-Ok.single)
+          (subst (λ answer. IsAnswer c.args.setup.now.drives d c.args.world.now.disk.store (output_of c.in-Ok.single)
           c.in-Ok.single.behind.writes (sector_at c.in-Ok.single.disk) answer) c.if-is_alike.false
           (subst (λ l. IsAnswer c.args.setup.now.drives
-          (deeds_of (machine_of g.B.Lockstep.machine course) course.world l) c.args.world.now.disk
+          (deeds_of (machine_of g.B.Lockstep.machine course) course.world l) c.args.world.now.disk.store
           (output_of c.in-Ok.single) c.in-Ok.single.behind.writes (sector_at c.in-Ok.single.disk) c.is_alike.result)
           (c.deref-3.ensures.value ∙ same) (c.is_alike.ensures.answer course shows)));
     }

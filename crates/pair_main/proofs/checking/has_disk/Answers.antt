@@ -2,6 +2,7 @@
 use Rattle.std.proofs.Common.{◌∙◌, subst}
 use Rattle.disk_dcdd.specs.declared.drive.TheConstants.{TRACKS}
 use Rattle.disk_dcdd.specs.declared.sector.TheConstants.{SECTORS}
+use Rattle.pair_main.specs.Disks.{over_records}
 use Rattle.pair_main.specs.Sectors.{EachOf, IsGood, address_at}
 use Rattle.pair_main.proofs.Comparisons.{each_more}
 use Rattle.pair_main.proofs.checking.has_disk.Goals as goal
@@ -11,7 +12,7 @@ loop-drive-preserved g c = record {
   same = c.has_drive.ensures.unchanged ∙ c.loop-drive.invariant.same;
   good = each_more c.loop-drive.drive
       (λ drive. EachOf TRACKS (λ track. EachOf SECTORS (λ sector. IsGood g.B.Lockstep.state g.B.Lockstep.machine
-      c.args.world.now c.args.single.now c.args.inputs.now (address_at drive track sector))))
+      (over_records c.args.world.now) c.args.single.now c.args.inputs.now (address_at drive track sector))))
       c.loop-drive.invariant.good
       (subst (λ v. EachOf TRACKS (λ track. EachOf SECTORS (λ sector. IsGood g.B.Lockstep.state g.B.Lockstep.machine v
       c.args.single.now c.args.inputs.now (address_at c.loop-drive.drive track sector))))

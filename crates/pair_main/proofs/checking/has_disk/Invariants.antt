@@ -2,12 +2,13 @@
 use Rattle.std.proofs.Common.{◌≡◌}
 use Rattle.disk_dcdd.specs.declared.drive.TheConstants.{TRACKS}
 use Rattle.disk_dcdd.specs.declared.sector.TheConstants.{SECTORS}
+use Rattle.pair_main.specs.Disks.{over_records}
 use Rattle.pair_main.specs.Sectors.{EachOf, IsGood, address_at}
 use Rattle.pair_main.proofs.checking.has_disk.Given as goal
 
 abbrev pub invariant-loop-drive : goal.invariant-loop-drive
 invariant-loop-drive g l = record {
-  same : l.world ≡ l.fn.world;
+  same : over_records l.world ≡ over_records l.fn.world;
   good : EachOf l.drive (λ drive. EachOf TRACKS (λ track. EachOf SECTORS
-      (λ sector. IsGood g.B.Lockstep.state g.B.Lockstep.machine l.fn.world l.single l.inputs (address_at drive track sector))));
+      (λ sector. IsGood g.B.Lockstep.state g.B.Lockstep.machine (over_records l.fn.world) l.single l.inputs (address_at drive track sector))));
 }

@@ -1,12 +1,13 @@
 -- The tracks so far are good, and the world is as it was.
 use Rattle.std.proofs.Common.{◌≡◌}
 use Rattle.disk_dcdd.specs.declared.sector.TheConstants.{SECTORS}
+use Rattle.pair_main.specs.Disks.{over_records}
 use Rattle.pair_main.specs.Sectors.{EachOf, IsGood, address_at}
 use Rattle.pair_main.proofs.checking.has_drive.Given as goal
 
 abbrev pub invariant-loop-track : goal.invariant-loop-track
 invariant-loop-track g l = record {
-  same : l.world ≡ l.fn.world;
+  same : over_records l.world ≡ over_records l.fn.world;
   good : EachOf l.track (λ track. EachOf SECTORS
-      (λ sector. IsGood g.B.Lockstep.state g.B.Lockstep.machine l.fn.world l.single l.inputs (address_at l.drive track sector)));
+      (λ sector. IsGood g.B.Lockstep.state g.B.Lockstep.machine (over_records l.fn.world) l.single l.inputs (address_at l.drive track sector)));
 }
