@@ -1,0 +1,5 @@
+pub mod Codec
+pub mod Checkpoint
+pub mod Possible
+pub mod FirstPart
+pub mod Parts

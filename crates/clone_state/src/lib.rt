@@ -1,0 +1,2 @@
+//! The image of a machine: its parts, and the machine that they make.
+#![tactic(auto)]
