@@ -3,3 +3,4 @@ pub mod Checkpoint
 pub mod Possible
 pub mod FirstPart
 pub mod Parts
+pub mod Assembly

@@ -60,14 +60,15 @@ read_joined c (part ∷ parts) = read_all c part >>= λ xs. read_joined c parts 
 abbrev pub fitting : Checkpoint → Option Checkpoint
 fitting c = if fits_together c then Some c else None
 
+abbrev pub read_parts : ℕ → List ℕ → List (List ℕ) → List (List ℕ) → Option Checkpoint
+read_parts drives front pages tables = first_in drives front >>= λ f. read_joined page pages >>= λ memory.
+    read_joined table tables >>= λ completed. fitting (record { first = f; memory = memory; completed = completed })
+
 unfoldable pub checkpoint_in : ℕ → List (List ℕ) → Option Checkpoint
 checkpoint_in drives [] = None
 checkpoint_in drives (front ∷ rest) =
     if length rest == PAGES + table_count drives
-    then first_in drives front >>= λ f.
-        read_joined page (take PAGES rest) >>= λ memory.
-        read_joined table (drop PAGES rest) >>= λ completed.
-        fitting (record { first = f; memory = memory; completed = completed })
+    then read_parts drives front (take PAGES rest) (drop PAGES rest)
     else None
 
 -- the machine that the parts make

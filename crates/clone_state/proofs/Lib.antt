@@ -1,0 +1,3 @@
+pub mod Codecs
+pub mod Spellings
+pub mod Groups
