@@ -2,7 +2,7 @@
 use Rattle.std.proofs.Common.{◌≡◌, ℕ, zero, suc, ◌+◌, ◌-◌, ◌*◌, ◌/◌, ◌%◌, ◌<◌, ◌≤◌, ◌^◌, Bool, true, false, not, cond, eqb, List, [], ◌∷◌, ◌++◌, length, take, drop, map, replicate, Option, Some, None, refl, sym, ap, subst, ◌∙◌, arith}
 use Rattle.std.specs.Prelude.{All, IfSome, ◌==◌, ◌&&◌, ◌||◌, is_none}
 use Rattle.std.specs.List.{list_all, zip}
-use Rattle.std.proofs.lemmas.Bool.{ne_eqb, eqb-true, and_parts}
+use Rattle.std.proofs.lemmas.Bool.{ne_eqb, eqb-true, ltb-true, and_parts}
 use Rattle.i8080_words.specs.Arithmetic.{bit, has_bit, flag_byte, flags_from}
 use Rattle.i8080_words.specs.declared.arithmetic.Flags.{Flags}
 use Rattle.i8080_words.specs.declared.registers.Interrupts.{Interrupts}
@@ -34,12 +34,13 @@ truth_again false = by_again (only one is_bit) bit (λ n. n == 1) false (only_ag
 pub truth_spells : Spells truth Anything
 unfolding truth
 truth_spells =
-    by_spells (only one is_bit) bit (λ n. n == 1) (only_spells one is_bit one_spells) (λ n h. back n h.1) (λ n h. tt)
+    by_spells (only one is_bit) bit (λ n. n == 1) (only_spells one is_bit one_spells)
+    (λ n h. back n (ltb-true n 2 h.1)) (λ n h. tt)
   where
-    back : (n : ℕ) → is_bit n ≡ true → bit (n == 1) ≡ n
+    back : (n : ℕ) → n < 2 → bit (n == 1) ≡ n
     back zero h = refl
     back (suc zero) h = refl
-    back (suc (suc n)) h = absurd cc
+    back (suc (suc n)) h = absurd (omega (arith, h))
 
 pub word_again : (n : ℕ) → Again word n
 unfolding word
@@ -47,17 +48,21 @@ word_again n =
     by_again (both one one) (λ n. (n / 256, n % 256)) (λ p. p.0 * 256 + p.1) n
     (both_again one one (n / 256) (n % 256) (one_again (n / 256)) (one_again (n % 256))) (omega arith)
 
+pair : ℕ → ℕ → ℕ × ℕ
+pair a b = (a, b)
+
 pub word_spells : Spells word (λ n. n < 2 ^ 16)
 unfolding word
 word_spells =
     by_spells (both one one) (λ n. (n / 256, n % 256)) (λ p. p.0 * 256 + p.1) (both_spells one one one_spells one_spells)
     (λ p h. back p.0 p.1 h.1) (λ p h. few p.0 p.1 h.0 h.1)
   where
-    back : (high low : ℕ) → low < 256 → ((high * 256 + low) / 256, (high * 256 + low) % 256) ≡ (high, low)
+    back : (high low : ℕ) → low < 256
+        → ◌≡◌ {A = ℕ × ℕ} ((high * 256 + low) / 256, (high * 256 + low) % 256) (high, low)
     back high low h =
         let a : (high * 256 + low) / 256 ≡ high = omega (arith, h) in
         let b : (high * 256 + low) % 256 ≡ low = omega (arith, h) in
-        ap (λ x. (x, (high * 256 + low) % 256)) a ∙ ap (λ x. (high, x)) b
+        ap (λ (x : ℕ). pair x ((high * 256 + low) % 256)) a ∙ ap (pair high) b
 
     few : (high low : ℕ) → high < 256 → low < 256 → high * 256 + low < 2 ^ 16
     few high low h l = omega (arith, h, l)
@@ -166,13 +171,13 @@ pub interrupts_spells : Spells interrupts Anything
 unfolding interrupts
 interrupts_spells =
     by_spells (only one is_interrupts) code_of_interrupts interrupts_of (only_spells one is_interrupts one_spells)
-    (λ n h. back n h.1) (λ n h. tt)
+    (λ n h. back n (ltb-true n 3 h.1)) (λ n h. tt)
   where
-    back : (n : ℕ) → is_interrupts n ≡ true → code_of_interrupts (interrupts_of n) ≡ n
+    back : (n : ℕ) → n < 3 → code_of_interrupts (interrupts_of n) ≡ n
     back zero h = refl
     back (suc zero) h = refl
     back (suc (suc zero)) h = refl
-    back (suc (suc (suc n))) h = absurd cc
+    back (suc (suc (suc n))) h = absurd (omega (arith, h))
 
 pub processor_again : (p : Processor) → Again processor p
 unfolding processor registers
@@ -221,14 +226,14 @@ pub receiver_spells : Spells receiver Anything
 unfolding receiver
 receiver_spells =
     by_spells (only one is_receiver) code_of_receiver receiver_of (only_spells one is_receiver one_spells)
-    (λ n h. back n h.1) (λ n h. tt)
+    (λ n h. back n (ltb-true n 4 h.1)) (λ n h. tt)
   where
-    back : (n : ℕ) → is_receiver n ≡ true → code_of_receiver (receiver_of n) ≡ n
+    back : (n : ℕ) → n < 4 → code_of_receiver (receiver_of n) ≡ n
     back zero h = refl
     back (suc zero) h = refl
     back (suc (suc zero)) h = refl
     back (suc (suc (suc zero))) h = refl
-    back (suc (suc (suc (suc n)))) h = absurd cc
+    back (suc (suc (suc (suc n)))) h = absurd (omega (arith, h))
 
 pub port_again : (p : PortImage) → length p.1 ≡ serial.window → has_window p ≡ true → Again port p
 unfolding port
@@ -257,10 +262,11 @@ port_01_spells =
     (both_spells receiver _ receiver_spells (both_spells truth one truth_spells one_spells)))))
     (λ r h. back r.0 r.1.0 r.1.1.0 r.1.1.1.0 r.1.1.1.1) (λ r h. (refl, window r.1.1.1.0 r.1.1.1.1 h.1))
   where
-    back : (control byte_in : ℕ) (receiver : Receiver) (tdre : Bool) (byte : ℕ)
-        → (control, (byte_in, (receiver, ((cond tdre 0 1) == 0, byte)))) ≡ (control, (byte_in, (receiver, (tdre, byte))))
-    back control byte_in receiver true byte = refl
-    back control byte_in receiver false byte = refl
+    back : (control byte_in : ℕ) (r : Receiver) (tdre : Bool) (byte : ℕ)
+        → ◌≡◌ {A = PortImage01} (control, (byte_in, (r, ((cond tdre 0 1) == 0, byte))))
+        (control, (byte_in, (r, (tdre, byte))))
+    back control byte_in r true byte = refl
+    back control byte_in r false byte = refl
 
     window : (tdre : Bool) (byte : ℕ) → (not tdre || byte == 0) ≡ true
         → has_window (serial.port_with 0 0 Empty (cond tdre 0 1), byte ∷ replicate 15 0) ≡ true
@@ -288,6 +294,10 @@ no_bytes_length = refl
 no_bytes_zeros : are_zeros no_bytes ≡ true
 unfolding no_bytes
 no_bytes_zeros = are_zeros_of 137
+
+no_bytes_are : (xs : List ℕ) → length xs ≡ 137 → are_zeros xs ≡ true → no_bytes ≡ xs
+unfolding no_bytes
+no_bytes_are xs long h = sym (zeros_are 137 xs long h)
 
 -- a sector under the head with all its bytes
 abbrev pub IsCurrent : Option CurrentSector → Type 0
@@ -320,6 +330,9 @@ current_again o h =
     back None = refl
     back (Some s) = refl
 
+abbrev image_with : Bool → ℕ → Bool → ℕ → Option ℕ → List ℕ → CurrentImage
+image_with present sector shown read filled xs = (present, (sector, (shown, (read, (filled, xs)))))
+
 pub current_spells : Spells current Anything
 unfolding current
 current_spells =
@@ -337,23 +350,19 @@ current_spells =
     off true e = absurd cc
     off false e = refl
 
-    nothing : (xs : List ℕ) → length xs ≡ 137 → are_zeros xs ≡ true → no_bytes ≡ xs
-    unfolding no_bytes
-    nothing xs long h = sym (zeros_are 137 xs long h)
-
     same : (a c : ℕ) (b : Bool) (o : Option ℕ) (xs : List ℕ) → a ≡ 0 → b ≡ false → c ≡ 0 → o ≡ None → no_bytes ≡ xs
-        → (false, (0, (false, (0, (None, no_bytes))))) ≡ (false, (a, (b, (c, (o, xs)))))
+        → image_with false 0 false 0 None no_bytes ≡ image_with false a b c o xs
     same a c b o xs e1 e2 e3 e4 e5 =
-        ap (λ x. (false, (x, (false, (0, (None, no_bytes)))))) (sym e1)
-        ∙ ap (λ x. (false, (a, (x, (0, (None, no_bytes)))))) (sym e2)
-        ∙ ap (λ x. (false, (a, (b, (x, (None, no_bytes)))))) (sym e3)
-        ∙ ap (λ x. (false, (a, (b, (c, (x, no_bytes)))))) (sym e4)
-        ∙ ap (λ x. (false, (a, (b, (c, (o, x)))))) e5
+        ap (λ x. image_with false x false 0 None no_bytes) (sym e1)
+        ∙ ap (λ x. image_with false a x 0 None no_bytes) (sym e2)
+        ∙ ap (λ x. image_with false a b x None no_bytes) (sym e3)
+        ∙ ap (λ x. image_with false a b c x no_bytes) (sym e4)
+        ∙ ap (λ x. image_with false a b c o x) e5
 
     back : (present : Bool) (sector : ℕ) (shown : Bool) (read : ℕ) (filled : Option ℕ) (xs : List ℕ)
-        → length xs ≡ 137 → is_current (present, (sector, (shown, (read, (filled, xs))))) ≡ true
-        → shown_current (current_of (present, (sector, (shown, (read, (filled, xs))))))
-        ≡ (present, (sector, (shown, (read, (filled, xs)))))
+        → length xs ≡ 137 → is_current (image_with present sector shown read filled xs) ≡ true
+        → shown_current (current_of (image_with present sector shown read filled xs))
+        ≡ image_with present sector shown read filled xs
     back true sector shown read filled xs long h = refl
     back false sector shown read filled xs long h =
         let a = and_parts (sector == 0 && not shown && read == 0 && is_none filled) (are_zeros xs) h in
@@ -361,7 +370,7 @@ current_spells =
         let c = and_parts (sector == 0 && not shown) (read == 0) b.0 in
         let d = and_parts (sector == 0) (not shown) c.0 in
         same sector read shown filled xs (eqb-true sector 0 d.0) (off shown d.1) (eqb-true read 0 c.1)
-        (none_is filled b.1) (nothing xs long a.1)
+        (none_is filled b.1) (no_bytes_are xs long a.1)
 
 pub map_length : {A B : Type 0} (f : A → B) (xs : List A) → length (map f xs) ≡ length xs
 map_length f [] = refl
@@ -406,13 +415,16 @@ drives_again ds four =
     back [] = refl
     back (d ∷ ds) = ap (λ xs. d ∷ xs) (back ds)
 
+two_lists : List ℕ → List Bool → List ℕ × List Bool
+two_lists ts ls = (ts, ls)
+
 pub drives_spells : Spells drives (λ ds. length ds ≡ 4)
 unfolding drives
 drives_spells =
     by_spells _ _ _ (both_spells (times 4 one) (times 4 truth) (times_spells 4 one one_spells)
     (times_spells 4 truth truth_spells))
-    (λ r h. ap (λ ts. (ts, map (λ (d : Drive). d.loaded) (map drive_with (zip r.0 r.1)))) (tracks r.0 r.1 (h.0 ∙ sym h.1))
-    ∙ ap (λ ls. (r.0, ls)) (heads r.0 r.1 (h.0 ∙ sym h.1)))
+    (λ r h. ap (λ ts. two_lists ts (map (λ (d : Drive). d.loaded) (map drive_with (zip r.0 r.1))))
+    (tracks r.0 r.1 (h.0 ∙ sym h.1)) ∙ ap (two_lists r.0) (heads r.0 r.1 (h.0 ∙ sym h.1)))
     (λ r h. map_length drive_with (zip r.0 r.1) ∙ zip_length r.0 r.1 (h.0 ∙ sym h.1) ∙ h.0)
   where
     tracks : (ts : List ℕ) (ls : List Bool) → length ts ≡ length ls

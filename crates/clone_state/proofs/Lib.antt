@@ -1,3 +1,5 @@
 pub mod Codecs
 pub mod Spellings
 pub mod Groups
+pub mod First
+pub mod PartLaws

@@ -209,3 +209,10 @@ all_spells {A} c h bytes x all e =
     h.written bytes r.0 all r.1
     ∙ ap (λ ys. c.spell r.0.0 ++ ys) (nil_from_length r.0.1 (eqb-true _ _ a.0))
     ∙ append-nil (c.spell r.0.0) ∙ ap c.spell a.1
+
+pub all_holds : {A : Type 0} {P : A → Type 0} (c : Codec A) → Spells c P → (bytes : List ℕ) (x : A)
+    → IsBytes bytes → read_all c bytes ≡ Some x → P x
+all_holds {A} {P} c h bytes x all e =
+    let r = first_read (c.read bytes) (λ r. cond (eqb (length r.1) 0) (Some r.0) None) x e in
+    let a = admitted (eqb (length r.0.1) 0) r.0.0 x r.2 in
+    subst P a.1 (h.holds bytes r.0 all r.1)

@@ -36,11 +36,13 @@ pieces zero size xs = []
 pieces (suc count) size xs = take size xs ∷ pieces count size (drop size xs)
 
 -- the payload of each part
-unfoldable pub parts_of : Checkpoint → List (List ℕ)
-parts_of c =
-    first.spell c.first
-    ∷ map page.spell (pieces PAGES PAGE_BYTES c.memory)
+unfoldable pub later_parts : Checkpoint → List (List ℕ)
+later_parts c =
+    map page.spell (pieces PAGES PAGE_BYTES c.memory)
     ++ map table.spell (pieces (table_count c.first.devices.disk.attached) SECTORS c.completed)
+
+unfoldable pub parts_of : Checkpoint → List (List ℕ)
+parts_of c = first.spell c.first ∷ later_parts c
 
 -- ---- reading them
 
