@@ -61,7 +61,7 @@ fields_again f h =
     (both_again (times 2 number) _ _ _ (times_again 2 number f.issued h.two_issued (numbers f.issued h.issued))
     (both_again (times 2 port) _ _ _ (times_again 2 port (zip f.devices.ports f.unaccepted)
     (zip_length f.devices.ports f.unaccepted (h.two_ports ∙ sym h.two_windows) ∙ h.two_ports)
-    (all_of (zip f.devices.ports f.unaccepted) (λ p is. port_again p is.0 is.1) h.ports))
+    (all_of (zip f.devices.ports f.unaccepted) (λ (p : PortImage) (is : IsPortImage p). port_again p is.0 is.1) h.ports))
     (both_again number _ _ _ (numbers_again _ h.writes_issued) (both_again maybe _ _ _ (maybe_again _ h.selected)
     (both_again truth _ _ _ (truth_again _) (both_again drives _ _ _ (drives_again _ h.drives)
     (both_again current (counted write) _ _ (current_again _ h.current)
@@ -123,7 +123,7 @@ fields_spells c h =
     loose : {A : Type 0} {Q : A → Type 0} {d : Codec A} → Spells d Q → Spells d Anything
     loose h = record { written = h.written; holds = λ bytes r all e. tt }
 
-with_ports : FirstImage → List PortImage → FirstImage
+abbrev with_ports : FirstImage → List PortImage → FirstImage
 with_ports r ports =
     (r.0, (r.1.0, (r.1.1.0, (r.1.1.1.0, (r.1.1.1.1.0, (r.1.1.1.1.1.0, (r.1.1.1.1.1.1.0,
     (ports, r.1.1.1.1.1.1.1.1))))))))
@@ -148,13 +148,13 @@ version_spelled : (version : ℕ) (a b : Bool) (bytes : List ℕ) (r : FirstPart
     → cond a ((versioned port).read bytes) (cond b ((versioned port_01).read bytes) None) ≡ Some r
     → IsSpelled r.0 (version ∷ bytes) r.1
 unfolding first
-version_spelled version true b bytes r all two one e =
-    inl (ap (λ n. n ∷ bytes) (eqb-true version 2 two)
+version_spelled version true b bytes r all is_two is_one e =
+    inl (ap (λ n. n ∷ bytes) (eqb-true version 2 is_two)
     ∙ ap (λ xs. 2 ∷ xs) ((versioned_spells port port_spells).written bytes r all e))
-version_spelled version false true bytes r all two one e =
-    inr (ap (λ n. n ∷ bytes) (eqb-true version 1 one)
+version_spelled version false true bytes r all is_two is_one e =
+    inr (ap (λ n. n ∷ bytes) (eqb-true version 1 is_one)
     ∙ ap (λ xs. 1 ∷ xs) ((versioned_spells port_01 port_01_spells).written bytes r all e))
-version_spelled version false false bytes r all two one e = absurd (none-some r e)
+version_spelled version false false bytes r all is_two is_one e = absurd (none-some r e)
 
 pub first_spelled : (bytes : List ℕ) (r : FirstPart × List ℕ) → IsBytes bytes → first.read bytes ≡ Some r
     → IsSpelled r.0 bytes r.1

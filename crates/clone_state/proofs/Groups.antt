@@ -48,7 +48,7 @@ word_again n =
     by_again (both one one) (λ n. (n / 256, n % 256)) (λ p. p.0 * 256 + p.1) n
     (both_again one one (n / 256) (n % 256) (one_again (n / 256)) (one_again (n % 256))) (omega arith)
 
-pair : ℕ → ℕ → ℕ × ℕ
+abbrev pair : ℕ → ℕ → ℕ × ℕ
 pair a b = (a, b)
 
 pub word_spells : Spells word (λ n. n < 2 ^ 16)
@@ -415,7 +415,7 @@ drives_again ds four =
     back [] = refl
     back (d ∷ ds) = ap (λ xs. d ∷ xs) (back ds)
 
-two_lists : List ℕ → List Bool → List ℕ × List Bool
+abbrev two_lists : List ℕ → List Bool → List ℕ × List Bool
 two_lists ts ls = (ts, ls)
 
 pub drives_spells : Spells drives (λ ds. length ds ≡ 4)

@@ -3,3 +3,5 @@ pub mod Spellings
 pub mod Groups
 pub mod First
 pub mod PartLaws
+pub mod Controllers
+pub mod Guests

@@ -124,7 +124,10 @@ later_length c =
 pub parts_counted : (c : Checkpoint) (drives : ℕ) → c.first.devices.disk.attached ≡ drives
     → length (parts_of c) ≡ part_count drives
 unfolding parts_of
-parts_counted c drives e = ap suc (later_length c) ∙ ap part_count e
+parts_counted c drives e =
+    let n = later_length c in
+    let d : table_count c.first.devices.disk.attached ≡ table_count drives = ap table_count e in
+    omega (arith, n, d)
 
 read_again : (c : Checkpoint) → IsImage c
     → read_parts c.first.devices.disk.attached (first.spell c.first) (pages_of c) (tables_of c) ≡ Some c
