@@ -68,15 +68,11 @@ head_passes d s h =
     both_true _ (not (is_sector_busy d s.sector))
     (both_true _ (option_map_or (λ filled. nat_lt filled SECTOR_BYTES) s.filled true)
     (both_true _ (nat_lt s.read SECTOR_BYTES)
-    (both_true (is_head_loaded d) (nat_lt s.sector SECTORS) (loaded (is_head_loaded d) h.head)
+    (both_true (is_head_loaded d) (nat_lt s.sector SECTORS) h.head
     (strictly s.sector SECTORS h.sector))
     (strictly s.read SECTOR_BYTES h.unfinished.read))
     (filled_passes s.filled h.unfinished.filled))
     (ap not h.idle)
-  where
-    loaded : (b : Bool) → IsTrue b → b ≡ true
-    loaded true h = refl
-    loaded false h = absurd h
 
 current_passes : (d : Drives) (o : Option CurrentSector) → IfSome o (IsUnderHead d)
     → option_map_or (may_be_under_head d) o true ≡ true
@@ -161,16 +157,12 @@ head_holds d s long e =
     let c = and_parts _ (nat_lt s.read SECTOR_BYTES) b.0 in
     let f = and_parts (is_head_loaded d) (nat_lt s.sector SECTORS) c.0 in
     record {
-      head = loaded (is_head_loaded d) f.0;
+      head = f.0;
       sector = ltb-true s.sector SECTORS f.1;
       bytes = long;
       unfinished = record { read = ltb-true s.read SECTOR_BYTES c.1; filled = filled_holds s.filled b.1 };
       idle = is_not (is_sector_busy d s.sector) a.1;
     }
-  where
-    loaded : (b : Bool) → b ≡ true → IsTrue b
-    loaded true e = tt
-    loaded false e = absurd cc
 
 current_holds : (d : Drives) (o : Option CurrentSector) → IfSome o (λ s. length s.bytes ≡ SECTOR_BYTES)
     → option_map_or (may_be_under_head d) o true ≡ true → IfSome o (IsUnderHead d)

@@ -5,3 +5,5 @@ pub mod First
 pub mod PartLaws
 pub mod Controllers
 pub mod Guests
+pub mod Copyable
+pub mod Messages

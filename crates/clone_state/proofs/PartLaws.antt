@@ -9,6 +9,7 @@ use Rattle.log_entry.proofs.ReadingLaws.{first_read, admitted}
 use Rattle.clone_state.specs.Codec.{Codec, Again, bytes, number, read_all, times}
 use Rattle.clone_state.specs.Checkpoint.{Checkpoint, FirstPart}
 use Rattle.clone_state.specs.FirstPart.{first, spelling_01}
+use Rattle.clone_state.specs.Laws.{AreParts, AreRead}
 use Rattle.clone_state.specs.Parts.{page, table, table_count, part_count, pieces, later_parts, parts_of, first_in, read_joined, read_parts, fitting, checkpoint_in}
 use Rattle.clone_state.specs.Possible.{fits_together}
 use Rattle.clone_state.proofs.Codecs.{bytes_again, numbers_again, times_again, all_again, take_front, drop_front}
@@ -166,16 +167,6 @@ parts_again c drives e h =
     same : (a b : ℕ) → a ≡ b → eqb a b ≡ true
     same a b e = grind (arith, e)
 
--- the parts are those that are written, but that the first may be in version 01
-abbrev pub AreParts : Checkpoint → List (List ℕ) → Type 0
-AreParts c parts = (parts ≡ parts_of c) ⊎ (parts ≡ spelling_01 c.first ∷ later_parts c)
-
--- what parts that are read are
-pub record PartsRead (drives : ℕ) (parts : List (List ℕ)) (c : Checkpoint) : Type 0 where
-  pub written : AreParts c parts
-  pub attached : c.first.devices.disk.attached ≡ drives
-  pub fits : fits_together c ≡ true
-
 read_spelled : (drives : ℕ) (front : List ℕ) (pages tables : List (List ℕ)) (c : Checkpoint) → IsBytes front
     → All IsBytes pages → All IsBytes tables → length pages ≡ 256 → length tables ≡ table_count drives
     → read_parts drives front pages tables ≡ Some c
@@ -220,7 +211,7 @@ every_behind (suc n) [] h = h
 every_behind (suc n) (x ∷ xs) h = every_behind n xs (All-tail IsBytes x xs h)
 
 pub parts_spelled : (drives : ℕ) (parts : List (List ℕ)) (c : Checkpoint) → All IsBytes parts
-    → checkpoint_in drives parts ≡ Some c → PartsRead drives parts c
+    → checkpoint_in drives parts ≡ Some c → AreRead drives parts c
 unfolding checkpoint_in parts_of
 parts_spelled drives [] c all e = absurd (none-some c e)
 parts_spelled drives (front ∷ rest) c all e =

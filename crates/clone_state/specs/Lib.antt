@@ -4,3 +4,4 @@ pub mod Possible
 pub mod FirstPart
 pub mod Parts
 pub mod Assembly
+pub mod Laws

@@ -1,11 +1,12 @@
 -- Which values a board can have. A part that says anything else is refused, and so are parts that fit no board together.
-use Rattle.std.specs.Prelude.{ℕ, ◌-◌, Bool, true, false, not, ◌==◌, nat_lt, nat_le, ◌&&◌, ◌||◌, is_none, List, [], ◌∷◌, length, drop}
+use Rattle.std.specs.Prelude.{◌≡◌, ◌↔◌, ℕ, IfSome, IsTrue, Bool, true, false, not, ◌==◌, nat_lt, nat_le, ◌&&◌, ◌||◌, is_none, List, [], ◌∷◌, length, drop}
 use Rattle.std.specs.List.{list_all}
 use Rattle.std.specs.Option.{option_map_or}
 use Rattle.i8080_words.specs.declared.registers.Interrupts.{Interrupts}
 use Rattle.i8080_words.specs.declared.registers.Interrupts.TheVariants.{Off, Soon, On}
 use Rattle.i8080_words.specs.declared.registers.Processor.{Processor}
 use Rattle.serial_2sio.specs.Port as serial
+use Rattle.disk_dcdd.specs.Controller.{IsDrives}
 use Rattle.disk_dcdd.specs.Completion.{is_head_loaded, is_sector_busy}
 use Rattle.disk_dcdd.specs.Drive.{Drives}
 use Rattle.disk_dcdd.specs.Sector.{is_at}
@@ -120,3 +121,14 @@ is_possible f =
 -- the last completed writes fit the first part: none is past the writes issued, and none is outstanding
 abbrev pub fits_together : Checkpoint → Bool
 fits_together c = are_completed c.first.devices.disk c.completed
+
+-- ---- what the tests decide
+
+-- a controller of four drives, whose sector has all its bytes
+pub record HasSizes (d : Drives) : Type 0 where
+  pub drives : length d.drives ≡ DRIVES
+  pub current : IfSome d.current (λ s. length s.bytes ≡ SECTOR_BYTES)
+
+-- the tests of a controller pass exactly if it is one
+abbrev pub ControllersAreDecided : Type 0
+ControllersAreDecided = (d : Drives) → HasSizes d → IsTrue (is_controller d) ↔ IsDrives d
