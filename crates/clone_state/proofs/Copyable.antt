@@ -1,6 +1,6 @@
 -- A guest that may be copied: each field of its image is in its range and passes its test, so the parts make it again.
 use Rattle.std.proofs.Common.{◌≡◌, ℕ, zero, suc, ◌+◌, ◌*◌, ◌<◌, ◌≤◌, ◌^◌, Bool, true, false, ◌&&◌, List, [], ◌∷◌, ◌++◌, length, map, take, drop, replicate, Option, Some, None, refl, sym, ap, subst, ◌∙◌, arith, length-append}
-use Rattle.std.specs.Prelude.{All, IfSome, slice_index, slice_index_or, nat_le, nat_lt, not}
+use Rattle.std.specs.Prelude.{All, IfSome, slice_index, slice_index_or, nat_le, nat_lt, not, ◌==◌}
 use Rattle.std.specs.List.{list_all, zip}
 use Rattle.std.proofs.lemmas.List.Elements.{All-cons, All-head, All-tail}
 use Rattle.serial_2sio.specs.Port as serial
