@@ -23,13 +23,13 @@ use Rattle.guest_board.specs.Guest.{Guest}
 use Rattle.guest_board.specs.Parts.{are_completed, are_levels, may_be_completed, oldest_of, port_stands}
 use Rattle.log_entry.specs.Numbers.{◌>>=◌}
 use Rattle.clone_state.specs.Checkpoint.{Checkpoint, FirstPart, checkpoint_of, guest_of, padded, window_of, write_at, writes_at}
-use Rattle.clone_state.specs.FirstPart.{PortImage, has_window}
-use Rattle.clone_state.specs.Laws.{IsCopyable}
-use Rattle.clone_state.specs.Parts.{checkpoint_in, guest_in, parts_of}
+use Rattle.clone_state.specs.FirstPart.{PortImage, first, has_window, spelling_01}
+use Rattle.clone_state.specs.Laws.{HasOneByte, IsCopyable}
+use Rattle.clone_state.specs.Parts.{checkpoint_in, first_in, guest_in, later_parts, parts_of}
 use Rattle.clone_state.specs.Possible.{are_zeros, fits_together, is_controller, is_possible, is_window, may_halt}
 use Rattle.clone_state.proofs.Controllers.{at_most, both_true, controller_passes, strictly}
-use Rattle.clone_state.proofs.First.{AreNumbers, IsFirst, IsPortImage}
-use Rattle.clone_state.proofs.Groups.{IsCurrent, IsWrite}
+use Rattle.clone_state.proofs.First.{AreNumbers, IsFirst, IsPortImage, first_in_again, first_in_again_01}
+use Rattle.clone_state.proofs.Groups.{HasOne, IsCurrent, IsWrite}
 use Rattle.clone_state.proofs.Guests.{FitsWindow, guest_again, padded_length, window_length, write_itself, writes_placed}
 use Rattle.clone_state.proofs.PartLaws.{IsImage, parts_again}
 
@@ -220,10 +220,35 @@ pub says_it_all : (g : Guest) → IsCopyable g → guest_of (checkpoint_of g) �
 says_it_all g h =
     guest_again g h.versions (record { first = h.window 0; second = h.window 1 }) h.board h.disk
 
+-- the parts with a first part that says the same
+made_of : (g : Guest) (front : List ℕ) → IsCopyable g
+    → first_in g.devices.disk.attached front ≡ Some (checkpoint_of g).first
+    → guest_in g.devices.disk.attached (front ∷ later_parts (checkpoint_of g)) ≡ Some g
+unfolding guest_in
+made_of g front h e =
+    ap (λ (o : Option Checkpoint). o >>= λ c. Some (guest_of c)) (parts_again (checkpoint_of g) front (image_is g h) e)
+    ∙ ap (λ x. Some x) (says_it_all g h)
+
 pub parts_make_it : (g : Guest) → IsCopyable g
     → guest_in g.devices.disk.attached (parts_of (checkpoint_of g)) ≡ Some g
-unfolding guest_in
+unfolding parts_of
 parts_make_it g h =
-    ap (λ (o : Option Checkpoint). o >>= λ c. Some (guest_of c))
-    (parts_again (checkpoint_of g) g.devices.disk.attached refl (image_is g h))
-    ∙ ap (λ x. Some x) (says_it_all g h)
+    made_of g (first.spell (checkpoint_of g).first) h
+    (first_in_again g.devices.disk.attached (checkpoint_of g).first (first_is g h) refl)
+
+pub parts_make_it_01 : (g : Guest) → IsCopyable g → HasOneByte g
+    → guest_in g.devices.disk.attached (spelling_01 (checkpoint_of g).first ∷ later_parts (checkpoint_of g)) ≡ Some g
+parts_make_it_01 g h one =
+    made_of g (spelling_01 (checkpoint_of g).first) h
+    (first_in_again_01 g.devices.disk.attached (checkpoint_of g).first (first_is g h)
+    (two_ones g.devices.ports (padded (window_of g 0)) (padded (window_of g 1)) h.board.awaited.ports (one 0) (one 1)) refl)
+  where
+    two_ones : (ports : List serial.Port) (xs ys : List ℕ) → length ports ≡ 2
+        → (slice_index_or ports 0 serial.at_boot).unaccepted ≤ 1
+        → (slice_index_or ports 1 serial.at_boot).unaccepted ≤ 1 → All HasOne (zip ports (xs ∷ ys ∷ []))
+    two_ones [] xs ys e h k = absurd (omega (arith, e))
+    two_ones (p ∷ []) xs ys e h k = absurd (omega (arith, e))
+    two_ones (p ∷ q ∷ []) xs ys e h k =
+        All-cons HasOne (p, xs) ((q, ys) ∷ []) h (All-cons HasOne (q, ys) [] k
+        (λ n x inside. absurd (omega (arith, inside))))
+    two_ones (p ∷ q ∷ r ∷ ports) xs ys e h k = absurd (omega (arith, e))

@@ -9,14 +9,14 @@ use Rattle.serial_2sio.specs.Port as serial
 use Rattle.disk_dcdd.specs.Sector.{place_of}
 use Rattle.log_entry.specs.Numbers.{◌>>=◌, IsBytes}
 use Rattle.log_entry.proofs.ReadingLaws.{IsBytes-rest, first_read, admitted}
-use Rattle.clone_state.specs.Codec.{Codec, Again, both, by, only, one, byte_at, bytes, number, read_all, times, counted}
+use Rattle.clone_state.specs.Codec.{Codec, Again, alone, both, by, only, one, byte_at, bytes, number, read_all, times, counted}
 use Rattle.clone_state.specs.Checkpoint.{FirstPart}
 use Rattle.clone_state.specs.Possible.{is_possible}
 use Rattle.clone_state.specs.FirstPart.{truth, maybe, processor, PortImage, has_window, port, port_01, current, drives, write, FirstImage, fields, image_of_first, first_of_image, versioned, read_version, first, spelling_01}
 use Rattle.clone_state.specs.Parts.{first_in, of_drives}
 use Rattle.clone_state.proofs.Codecs.{both_again, by_again, only_again, one_again, bytes_again, numbers_again, times_again, counted_again, all_again}
 use Rattle.clone_state.proofs.Spellings.{Spells, one_spells, bytes_spells, number_spells, both_spells, by_spells, only_spells, times_spells, counted_spells}
-use Rattle.clone_state.proofs.Groups.{Anything, truth_again, truth_spells, maybe_again, maybe_spells, processor_again, processor_spells, port_again, port_spells, port_01_spells, IsCurrent, current_again, current_spells, zip_first, zip_second, zip_length, zip_again, drives_again, drives_spells, IsWrite, write_again, write_spells}
+use Rattle.clone_state.proofs.Groups.{Anything, truth_again, truth_spells, maybe_again, maybe_spells, processor_again, processor_spells, HasOne, port_again, port_spells, port_01_again, port_01_spells, IsCurrent, current_again, current_spells, zip_first, zip_second, zip_length, zip_again, drives_again, drives_spells, IsWrite, write_again, write_spells}
 
 -- ---- what is written is read again
 
@@ -51,17 +51,17 @@ pub record IsFirst (f : FirstPart) : Type 0 where
 all_of : {A : Type 0} {P Q : A → Type 0} (xs : List A) → ((x : A) → P x → Q x) → All P xs → All Q xs
 all_of xs f h = λ k x inside. f _ (h k x inside)
 
-fields_again : (f : FirstPart) → IsFirst f → Again (fields port) (image_of_first f)
+fields_again : (c : Codec PortImage) (f : FirstPart) → IsFirst f → All (Again c) (zip f.devices.ports f.unaccepted)
+    → Again (fields c) (image_of_first f)
 unfolding fields
-fields_again f h =
+fields_again c f h each =
     both_again one _ _ _ (one_again _) (both_again (bytes 3) _ _ _ (bytes_again 3 f.levels h.levels)
     (both_again one _ _ _ (one_again f.sense) (both_again number _ _ _ (numbers_again f.count h.count)
     (both_again processor _ _ _ (processor_again f.processor)
     (both_again (times 2 number) _ _ _ (times_again 2 number f.keys h.two_keys (numbers f.keys h.keys))
     (both_again (times 2 number) _ _ _ (times_again 2 number f.issued h.two_issued (numbers f.issued h.issued))
-    (both_again (times 2 port) _ _ _ (times_again 2 port (zip f.devices.ports f.unaccepted)
-    (zip_length f.devices.ports f.unaccepted (h.two_ports ∙ sym h.two_windows) ∙ h.two_ports)
-    (all_of (zip f.devices.ports f.unaccepted) (λ (p : PortImage) (is : IsPortImage p). port_again p is.0 is.1) h.ports))
+    (both_again (times 2 c) _ _ _ (times_again 2 c (zip f.devices.ports f.unaccepted)
+    (zip_length f.devices.ports f.unaccepted (h.two_ports ∙ sym h.two_windows) ∙ h.two_ports) each)
     (both_again number _ _ _ (numbers_again _ h.writes_issued) (both_again maybe _ _ _ (maybe_again _ h.selected)
     (both_again truth _ _ _ (truth_again _) (both_again drives _ _ _ (drives_again _ h.drives)
     (both_again current (counted write) _ _ (current_again _ h.current)
@@ -87,25 +87,49 @@ first_back f h =
     ∙ ap (λ places. record f { devices = record f.devices { disk = record f.devices.disk { outstanding = places } } })
     h.outstanding
 
-versioned_again : (f : FirstPart) → IsFirst f → Again (versioned port) f
+versioned_again : (c : Codec PortImage) (f : FirstPart) → IsFirst f
+    → All (Again c) (zip f.devices.ports f.unaccepted) → Again (versioned c) f
 unfolding versioned
-versioned_again f h =
-    only_again (by (fields port) image_of_first first_of_image) is_possible f
-    (by_again (fields port) image_of_first first_of_image f (fields_again f h) (first_back f h)) h.possible
+versioned_again c f h each =
+    only_again (by (fields c) image_of_first first_of_image) is_possible f
+    (by_again (fields c) image_of_first first_of_image f (fields_again c f h each) (first_back f h)) h.possible
 
-pub first_again : (f : FirstPart) → IsFirst f → Again first f
+ports_again : (f : FirstPart) → IsFirst f → All (Again port) (zip f.devices.ports f.unaccepted)
+ports_again f h =
+    all_of (zip f.devices.ports f.unaccepted) (λ (p : PortImage) (is : IsPortImage p). port_again p is.0 is.1) h.ports
+
+first_again : (f : FirstPart) → IsFirst f → Again first f
 unfolding first
-first_again f h = record { again = λ rest. (versioned_again f h).again rest }
+first_again f h = record { again = λ rest. (versioned_again port f h (ports_again f h)).again rest }
 
-pub first_in_again : (drives : ℕ) (f : FirstPart) → IsFirst f → f.devices.disk.attached ≡ drives
-    → first_in drives (first.spell f) ≡ Some f
+read_of_drives : (drives : ℕ) (f : FirstPart) (payload : List ℕ) → read_all first payload ≡ Some f
+    → f.devices.disk.attached ≡ drives → first_in drives payload ≡ Some f
 unfolding first_in
-first_in_again drives f h e =
-    ap (λ o. o >>= of_drives drives) (all_again first f (first_again f h))
+read_of_drives drives f payload read e =
+    ap (λ o. o >>= of_drives drives) read
     ∙ subst (λ n. of_drives n f ≡ Some f) e (ap (λ b. cond b (Some f) None) (same f.devices.disk.attached))
   where
     same : (n : ℕ) → eqb n n ≡ true
     same n = grind arith
+
+pub first_in_again : (drives : ℕ) (f : FirstPart) → IsFirst f → f.devices.disk.attached ≡ drives
+    → first_in drives (first.spell f) ≡ Some f
+first_in_again drives f h e = read_of_drives drives f (first.spell f) (all_again first f (first_again f h)) e
+
+-- ---- and so it is in version 01, if no port has more than one byte on its way
+
+pub first_in_again_01 : (drives : ℕ) (f : FirstPart) → IsFirst f → All HasOne (zip f.devices.ports f.unaccepted)
+    → f.devices.disk.attached ≡ drives → first_in drives (spelling_01 f) ≡ Some f
+unfolding first
+first_in_again_01 drives f h few e = read_of_drives drives f (spelling_01 f) read e
+  where
+    each : All (Again port_01) (zip f.devices.ports f.unaccepted)
+    each = λ k p inside. port_01_again _ (h.ports k p inside).0 (h.ports k p inside).1 (few k p inside)
+
+    read : read_all first (spelling_01 f) ≡ Some f
+    read =
+        ap alone (ap (versioned port_01).read (sym (append-nil ((versioned port_01).spell f)))
+        ∙ (versioned_again port_01 f h each).again [])
 
 -- ---- what is read is written just so
 

@@ -1,6 +1,6 @@
 -- Each group of the first part: what is written is read again, and what is read is written just so.
 use Rattle.std.proofs.Common.{◌≡◌, ℕ, zero, suc, ◌+◌, ◌-◌, ◌*◌, ◌/◌, ◌%◌, ◌<◌, ◌≤◌, ◌^◌, Bool, true, false, not, cond, eqb, List, [], ◌∷◌, ◌++◌, length, take, drop, map, replicate, Option, Some, None, refl, sym, ap, subst, ◌∙◌, arith}
-use Rattle.std.specs.Prelude.{All, IfSome, ◌==◌, ◌&&◌, ◌||◌, is_none}
+use Rattle.std.specs.Prelude.{All, IfSome, ◌==◌, ◌&&◌, ◌||◌, is_none, slice_index}
 use Rattle.std.specs.List.{list_all, zip}
 use Rattle.std.proofs.lemmas.Bool.{ne_eqb, eqb-true, ltb-true, and_parts}
 use Rattle.i8080_words.specs.Arithmetic.{bit, has_bit, flag_byte, flags_from}
@@ -15,7 +15,7 @@ use Rattle.disk_dcdd.specs.declared.drive.Drive.{Drive}
 use Rattle.disk_dcdd.specs.declared.sector.CurrentSector.{CurrentSector}
 use Rattle.disk_dcdd.specs.declared.sector.SectorWrite.{SectorWrite}
 use Rattle.clone_state.specs.Codec.{Codec, Again, both, by, only, one, bytes, number, times}
-use Rattle.clone_state.specs.Possible.{are_zeros}
+use Rattle.clone_state.specs.Possible.{are_zeros, is_window}
 use Rattle.clone_state.specs.FirstPart.{is_bit, truth, word, or_none, some_below, maybe, is_flag_byte, flags, code_of_interrupts, interrupts_of, is_interrupts, interrupts, registers, Registers, processor, code_of_receiver, receiver_of, is_receiver, receiver, PortImage, has_window, port, PortImage01, has_byte, port_01, CurrentImage, no_bytes, shown_current, is_current, current_of, current, drive_with, drives, write}
 use Rattle.clone_state.proofs.Codecs.{both_again, by_again, only_again, one_again, bytes_again, numbers_again, times_again}
 use Rattle.clone_state.proofs.Spellings.{Spells, one_spells, bytes_spells, number_spells, both_spells, by_spells, only_spells, times_spells}
@@ -254,6 +254,50 @@ port_spells =
     (both_spells one (bytes serial.window) one_spells (bytes_spells serial.window)))))
     (λ r h. refl) (λ r h. h.1.1.1.1))
 
+-- at most one byte of the port is unaccepted
+abbrev pub HasOne : PortImage → Type 0
+HasOne p = p.0.unaccepted ≤ 1
+
+zeros_are : (n : ℕ) (xs : List ℕ) → length xs ≡ n → are_zeros xs ≡ true → xs ≡ replicate n 0
+zeros_are zero [] e h = refl
+zeros_are zero (x ∷ xs) e h = absurd (omega (arith, e))
+zeros_are (suc n) [] e h = absurd (omega (arith, e))
+zeros_are (suc n) (x ∷ xs) e h =
+    let two = and_parts (x == 0) (are_zeros xs) h in
+    ap (λ y. y ∷ xs) (eqb-true x 0 two.0) ∙ ap (λ ys. 0 ∷ ys) (zeros_are n xs (omega (arith, e)) two.1)
+
+pub port_01_again : (p : PortImage) → length p.1 ≡ serial.window → has_window p ≡ true → HasOne p → Again port_01 p
+unfolding port_01
+port_01_again p long h few =
+    by_again _ _ _ p
+    (only_again _ has_byte _
+    (both_again one _ _ _ (one_again _) (both_again one _ _ _ (one_again _)
+    (both_again receiver _ _ _ (receiver_again p.0.receiver)
+    (both_again truth one _ _ (truth_again (p.0.unaccepted == 0)) (one_again _)))))
+    (tested p.0.unaccepted p.1 long h few))
+    (ap (λ u. (record p.0 { unaccepted = u }, slice_index p.1 0 ∷ replicate 15 0)) (counted p.0.unaccepted few)
+    ∙ ap (λ xs. (p.0, xs)) (one_byte p.0.unaccepted p.1 long h few))
+  where
+    tested : (u : ℕ) (xs : List ℕ) → length xs ≡ 16 → is_window u xs ≡ true → u ≤ 1
+        → (not (u == 0) || slice_index xs 0 == 0) ≡ true
+    tested u [] long h few = absurd (omega (arith, long))
+    tested zero (x ∷ xs) long h few = (and_parts (x == 0) (are_zeros xs) h).0
+    tested (suc zero) (x ∷ xs) long h few = refl
+    tested (suc (suc u)) (x ∷ xs) long h few = absurd (omega (arith, few))
+
+    counted : (u : ℕ) → u ≤ 1 → cond (u == 0) 0 1 ≡ u
+    counted zero few = refl
+    counted (suc zero) few = refl
+    counted (suc (suc u)) few = absurd (omega (arith, few))
+
+    one_byte : (u : ℕ) (xs : List ℕ) → length xs ≡ 16 → is_window u xs ≡ true → u ≤ 1
+        → slice_index xs 0 ∷ replicate 15 0 ≡ xs
+    one_byte u [] long h few = absurd (omega (arith, long))
+    one_byte zero (x ∷ xs) long h few =
+        ap (λ ys. x ∷ ys) (sym (zeros_are 15 xs (omega (arith, long)) (and_parts (x == 0) (are_zeros xs) h).1))
+    one_byte (suc zero) (x ∷ xs) long h few = ap (λ ys. x ∷ ys) (sym (zeros_are 15 xs (omega (arith, long)) h))
+    one_byte (suc (suc u)) (x ∷ xs) long h few = absurd (omega (arith, few))
+
 pub port_01_spells : Spells port_01 (λ p. (length p.1 ≡ serial.window) × (has_window p ≡ true))
 unfolding port_01
 port_01_spells =
@@ -274,14 +318,6 @@ port_01_spells =
     window false byte h = refl
 
 -- ---- the controller
-
-zeros_are : (n : ℕ) (xs : List ℕ) → length xs ≡ n → are_zeros xs ≡ true → xs ≡ replicate n 0
-zeros_are zero [] e h = refl
-zeros_are zero (x ∷ xs) e h = absurd (omega (arith, e))
-zeros_are (suc n) [] e h = absurd (omega (arith, e))
-zeros_are (suc n) (x ∷ xs) e h =
-    let two = and_parts (x == 0) (are_zeros xs) h in
-    ap (λ y. y ∷ xs) (eqb-true x 0 two.0) ∙ ap (λ ys. 0 ∷ ys) (zeros_are n xs (omega (arith, e)) two.1)
 
 are_zeros_of : (n : ℕ) → are_zeros (replicate n 0) ≡ true
 are_zeros_of zero = refl

@@ -15,7 +15,7 @@ use Rattle.clone_state.specs.Possible.{fits_together}
 use Rattle.clone_state.proofs.Codecs.{bytes_again, numbers_again, times_again, all_again, take_front, drop_front}
 use Rattle.clone_state.proofs.Spellings.{Spells, bytes_spells, number_spells, times_spells, all_spells, all_holds}
 use Rattle.clone_state.proofs.Groups.{Anything, map_length}
-use Rattle.clone_state.proofs.First.{AreNumbers, IsFirst, FirstRead, first_in_again, first_in_spelled}
+use Rattle.clone_state.proofs.First.{AreNumbers, IsFirst, FirstRead, first_in_spelled}
 
 -- ---- lists in pieces
 
@@ -130,12 +130,13 @@ parts_counted c drives e =
     let d : table_count c.first.devices.disk.attached ≡ table_count drives = ap table_count e in
     omega (arith, n, d)
 
-read_again : (c : Checkpoint) → IsImage c
-    → read_parts c.first.devices.disk.attached (first.spell c.first) (pages_of c) (tables_of c) ≡ Some c
-read_again c h =
+read_again : (c : Checkpoint) (front : List ℕ) → IsImage c
+    → first_in c.first.devices.disk.attached front ≡ Some c.first
+    → read_parts c.first.devices.disk.attached front (pages_of c) (tables_of c) ≡ Some c
+read_again c front h e =
     ap (λ (o : Option FirstPart). o >>= λ f. read_joined page (pages_of c) >>= λ memory.
     read_joined table (tables_of c) >>= λ completed. fitting (record { first = f; memory = memory; completed = completed }))
-    (first_in_again c.first.devices.disk.attached c.first h.first refl)
+    e
     ∙ ap (λ (o : Option (List ℕ)). o >>= λ memory. read_joined table (tables_of c) >>= λ completed.
     fitting (record { first = c.first; memory = memory; completed = completed }))
     (joined_again page 256 Anything (λ ys long all. page_again ys long) 256 c.memory h.memory (λ k x inside. tt))
@@ -145,18 +146,19 @@ read_again c h =
     h.completed)
     ∙ ap (λ b. cond b (Some c) None) h.fits
 
-pub parts_again : (c : Checkpoint) (drives : ℕ) → c.first.devices.disk.attached ≡ drives → IsImage c
-    → checkpoint_in drives (parts_of c) ≡ Some c
-unfolding checkpoint_in parts_of later_parts
-parts_again c drives e h =
-    subst (λ n. checkpoint_in n (parts_of c) ≡ Some c) e
-    (ap (λ b. cond b (read_parts attached (first.spell c.first) (take 256 later) (drop 256 later)) None)
+-- a first part that says the same, in either version, and the other parts
+pub parts_again : (c : Checkpoint) (front : List ℕ) → IsImage c
+    → first_in c.first.devices.disk.attached front ≡ Some c.first
+    → checkpoint_in c.first.devices.disk.attached (front ∷ later_parts c) ≡ Some c
+unfolding checkpoint_in later_parts
+parts_again c front h e =
+    ap (λ b. cond b (read_parts attached front (take 256 later) (drop 256 later)) None)
     (same (length later) (256 + table_count attached) (later_length c))
-    ∙ ap (λ ps. read_parts attached (first.spell c.first) ps (drop 256 later))
+    ∙ ap (λ ps. read_parts attached front ps (drop 256 later))
     (subst (λ n. take n later ≡ pages_of c) (pages_length c) (take_front (pages_of c) (tables_of c)))
-    ∙ ap (λ ts. read_parts attached (first.spell c.first) (pages_of c) ts)
+    ∙ ap (λ ts. read_parts attached front (pages_of c) ts)
     (subst (λ n. drop n later ≡ tables_of c) (pages_length c) (drop_front (pages_of c) (tables_of c)))
-    ∙ read_again c h)
+    ∙ read_again c front h e
   where
     attached : ℕ
     attached = c.first.devices.disk.attached

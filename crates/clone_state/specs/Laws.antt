@@ -42,6 +42,14 @@ SaysItAll = (g : Guest) → IsCopyable g → guest_of (checkpoint_of g) ≡ g
 abbrev pub PartsMakeIt : Type 0
 PartsMakeIt = (g : Guest) → IsCopyable g → guest_in g.devices.disk.attached (parts_of (checkpoint_of g)) ≡ Some g
 
+-- so do the parts with the first in version 01, if no port has more than one unaccepted byte
+abbrev pub HasOneByte : Guest → Type 0
+HasOneByte g = (port : ℕ) → (port_of g.devices port).unaccepted ≤ 1
+
+abbrev pub OldPartsMakeIt : Type 0
+OldPartsMakeIt = (g : Guest) → IsCopyable g → HasOneByte g
+    → guest_in g.devices.disk.attached (spelling_01 (checkpoint_of g).first ∷ later_parts (checkpoint_of g)) ≡ Some g
+
 -- there are as many parts as an image has
 abbrev pub PartsAreCounted : Type 0
 PartsAreCounted = (c : Checkpoint) → length (parts_of c) ≡ part_count c.first.devices.disk.attached

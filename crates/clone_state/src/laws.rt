@@ -1,13 +1,15 @@
 //! What follows from the definitions alone.
 ghost use Rattle.clone_state.specs.Laws.{
-    FirstIsWrittenSo, MessageIsReadAgain, MessageIsWrittenSo, PartsAreCounted, PartsAreWrittenSo, PartsMakeIt, SaysItAll
+    FirstIsWrittenSo, MessageIsReadAgain, MessageIsWrittenSo, OldPartsMakeIt, PartsAreCounted, PartsAreWrittenSo, PartsMakeIt, SaysItAll
 };
 ghost use Rattle.clone_state.specs.Possible.{ControllersAreDecided};
 
-/// The parts of a machine make that machine again, and an image has as many parts as its drives ask for.
+/// The parts of a machine make that machine again, also with the first part in version 01 if no port has more than one
+/// unaccepted byte. An image has as many parts as its drives ask for.
 pub fn parts_make_their_machines()
     ensures says { SaysItAll }
     ensures makes { PartsMakeIt }
+    ensures old { OldPartsMakeIt }
     ensures counted { PartsAreCounted }
 {}
 
