@@ -7,3 +7,4 @@ pub mod Controllers
 pub mod Guests
 pub mod Copyable
 pub mod Messages
+pub mod Rebuilding
