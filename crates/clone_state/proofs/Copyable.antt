@@ -29,7 +29,7 @@ use Rattle.clone_state.specs.Parts.{checkpoint_in, first_in, guest_in, later_par
 use Rattle.clone_state.specs.Possible.{are_zeros, fits_together, is_controller, is_possible, is_window, may_halt}
 use Rattle.clone_state.proofs.Controllers.{at_most, both_true, controller_passes, strictly}
 use Rattle.clone_state.proofs.First.{AreNumbers, IsFirst, IsPortImage, first_in_again, first_in_again_01}
-use Rattle.clone_state.proofs.Groups.{HasOne, IsCurrent, IsWrite}
+use Rattle.clone_state.proofs.Devices.{HasOne, IsCurrent, IsWrite}
 use Rattle.clone_state.proofs.Guests.{FitsWindow, guest_again, padded_length, window_length, write_itself, writes_placed}
 use Rattle.clone_state.proofs.PartLaws.{IsImage, parts_again}
 

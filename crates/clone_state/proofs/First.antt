@@ -16,7 +16,9 @@ use Rattle.clone_state.specs.FirstPart.{truth, maybe, processor, PortImage, has_
 use Rattle.clone_state.specs.Parts.{first_in, of_drives}
 use Rattle.clone_state.proofs.Codecs.{both_again, by_again, only_again, one_again, bytes_again, numbers_again, times_again, counted_again, all_again}
 use Rattle.clone_state.proofs.Spellings.{Spells, weaker, one_spells, bytes_spells, number_spells, both_spells, by_spells, only_spells, times_spells, counted_spells}
-use Rattle.clone_state.proofs.Groups.{truth_again, truth_spells, maybe_again, maybe_spells, processor_again, processor_spells, HasOne, port_again, port_spells, port_01_again, port_01_spells, IsCurrent, current_again, current_spells, zip_first, zip_second, zip_length, zip_again, drives_again, drives_spells, IsWrite, write_again, write_spells}
+use Rattle.clone_state.proofs.Devices.{HasOne, port_again, port_spells, port_01_again, port_01_spells, IsCurrent, current_again, current_spells, drives_again, drives_spells, IsWrite, write_again, write_spells}
+use Rattle.clone_state.proofs.Lists.{zip_first, zip_second, zip_length, zip_again}
+use Rattle.clone_state.proofs.Values.{truth_again, truth_spells, maybe_again, maybe_spells, processor_again, processor_spells}
 
 -- ---- what is written is read again
 

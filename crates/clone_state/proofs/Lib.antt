@@ -1,10 +1,12 @@
 pub mod Codecs
 pub mod Spellings
-pub mod Groups
+pub mod Lists
+pub mod Values
+pub mod Devices
 pub mod First
 pub mod PartLaws
 pub mod Controllers
 pub mod Guests
 pub mod Copyable
-pub mod Messages
 pub mod Rebuilding
+pub mod Messages

@@ -14,7 +14,8 @@ use Rattle.clone_state.specs.Parts.{page, table, table_count, part_count, pieces
 use Rattle.clone_state.specs.Possible.{fits_together}
 use Rattle.clone_state.proofs.Codecs.{bytes_again, numbers_again, times_again, all_again, take_front, drop_front}
 use Rattle.clone_state.proofs.Spellings.{Spells, bytes_spells, number_spells, times_spells, all_spells, all_holds}
-use Rattle.clone_state.proofs.Groups.{Anything, map_length}
+use Rattle.clone_state.proofs.Lists.{map_length}
+use Rattle.clone_state.proofs.Values.{Anything}
 use Rattle.clone_state.proofs.First.{AreNumbers, IsFirst, FirstRead, first_in_spelled}
 
 -- ---- lists in pieces
@@ -93,6 +94,15 @@ table_again : (xs : List ℕ) → length xs ≡ 32 → AreNumbers xs → Again t
 unfolding table
 table_again xs e h = times_again 32 number xs e (λ k x inside. numbers_again _ (h k x inside))
 
+-- pages and tables that are written are read again
+pub pages_again : (memory : List ℕ) → length memory ≡ 65536
+    → read_joined page (map page.spell (pieces 256 256 memory)) ≡ Some memory
+pages_again memory e = joined_again page 256 Anything (λ ys long all. page_again ys long) 256 memory e (λ k x inside. tt)
+
+pub tables_again : (count : ℕ) (completed : List ℕ) → length completed ≡ count * 32 → AreNumbers completed
+    → read_joined table (map table.spell (pieces count 32 completed)) ≡ Some completed
+tables_again count completed e h = joined_again table 32 (λ n. n < 2 ^ 62) table_again count completed e h
+
 -- ---- all parts
 
 -- what the image of a machine can say
@@ -139,11 +149,10 @@ read_again c front h e =
     e
     ∙ ap (λ (o : Option (List ℕ)). o >>= λ memory. read_joined table (tables_of c) >>= λ completed.
     fitting (record { first = c.first; memory = memory; completed = completed }))
-    (joined_again page 256 Anything (λ ys long all. page_again ys long) 256 c.memory h.memory (λ k x inside. tt))
+    (pages_again c.memory h.memory)
     ∙ ap (λ (o : Option (List ℕ)). o >>= λ completed.
     fitting (record { first = c.first; memory = c.memory; completed = completed }))
-    (joined_again table 32 (λ n. n < 2 ^ 62) table_again (table_count c.first.devices.disk.attached) c.completed h.tables
-    h.completed)
+    (tables_again (table_count c.first.devices.disk.attached) c.completed h.tables h.completed)
     ∙ ap (λ b. cond b (Some c) None) h.fits
 
 -- a first part that says the same, in either version, and the other parts

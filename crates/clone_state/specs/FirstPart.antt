@@ -1,5 +1,5 @@
--- The first part of an image: version, drives, levels, sense, count, processor, keys, bytes issued, ports, controller and
--- outstanding writes, 268 + 148n bytes with n writes.
+-- The first part of an image: all but memory and the last completed writes. In a message, with a head of 7 bytes, it has
+-- 268 + 148n bytes with n outstanding writes; in version 01 it has 238 + 148n.
 use Rattle.std.specs.Prelude.{◌≡◌, ℕ, ◌+◌, ◌*◌, ◌/◌, ◌%◌, ◌==◌, nat_lt, nat_le, Bool, true, false, not, if◌then◌else◌, ◌&&◌, ◌||◌, List, [], ◌∷◌, ◌++◌, map, replicate, slice_index, is_none, Option, Some, None}
 use Rattle.std.specs.List.{zip}
 use Rattle.std.specs.Option.{option_map_or}
