@@ -1,11 +1,10 @@
 -- An Altair that is reached from boot may be copied.
-use Rattle.std.proofs.Common.{◌≡◌, ℕ, ◌+◌, ◌≤◌, ◌<◌, Bool, true, false, not, List, length, Option, Some, refl, ap, subst, ◌∙◌}
+use Rattle.std.proofs.Common.{◌≡◌, ℕ, Bool, true, false, not, List, length, refl, ap, ◌∙◌}
 use Rattle.std.specs.Prelude.{◌&&◌}
 use Rattle.i8080_words.specs.declared.registers.Interrupts.{Interrupts}
 use Rattle.i8080_words.specs.declared.registers.Interrupts.TheVariants.{Off, Soon, On}
 use Rattle.i8080_words.specs.declared.registers.Processor.{Processor}
 use Rattle.disk_dcdd.specs.declared.address.SectorAddress.{SectorAddress}
-use Rattle.disk_dcdd.specs.declared.sector.SectorWrite.{SectorWrite}
 use Rattle.event_callbacks.specs.declared.operations.OpId.TheVariants as id
 use Rattle.event_callbacks.specs.declared.operations.Operation.TheVariants as operation
 use Rattle.guest_board.specs.Guest.{Guest, altair}

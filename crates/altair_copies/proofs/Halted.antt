@@ -1,14 +1,13 @@
 -- A halted processor does not wait to hear requests: HLT is itself the instruction after EI.
-use Rattle.std.proofs.Common.{◌≡◌, ℕ, Bool, true, false, cond, List, [], ◌∷◌, Option, Some, None, refl, sym, ap, subst, ◌∙◌}
-use Rattle.i8080_words.specs.Steps.{step, executed, ran, accepted, idle, unless_heard, heard, interrupts_after, is_halt}
+use Rattle.std.proofs.Common.{◌≡◌, ℕ, Bool, true, false, cond, List, Option, Some, None, subst}
+use Rattle.i8080_words.specs.Steps.{step, ran, idle, unless_heard, heard, interrupts_after, is_halt}
 use Rattle.i8080_words.specs.declared.instruction.Op.{Op}
 use Rattle.i8080_words.specs.declared.instruction.Op.TheVariants as op
 use Rattle.i8080_words.specs.declared.registers.Interrupts.{Interrupts}
 use Rattle.i8080_words.specs.declared.registers.Interrupts.TheVariants.{Off, Soon, On}
 use Rattle.i8080_words.specs.declared.registers.Processor.{Processor}
 use Rattle.disk_dcdd.specs.declared.address.SectorAddress.{SectorAddress}
-use Rattle.event_callbacks.specs.declared.operations.Operation.{Operation}
-use Rattle.guest_board.specs.Guest.{Guest, altair, guest_at_boot, step_of, step_from, take_from, line_of, wired, may_take_key, may_take_sector, after_rx, after_sent, after_sector, after_written}
+use Rattle.guest_board.specs.Guest.{Guest, altair, step_of, take_from, line_of, wired, after_rx, after_sent, after_sector, after_written}
 use Rattle.guest_board.specs.Ports.{memory_byte, port_byte}
 use Rattle.guest_board.specs.Machine.{Move}
 use Rattle.guest_board.specs.declared.input.Input.{Input}

@@ -1,5 +1,5 @@
 -- The guest that a step leaves, and the one that an input leaves.
-use Rattle.std.proofs.Common.{◌≡◌, ◌||◌, Bool, true, false, cond, Option, Some, None, refl, ap, ◌∙◌}
+use Rattle.std.proofs.Common.{◌≡◌, ◌||◌, Bool, true, false, cond, Option, Some, None, refl, ap}
 use Rattle.std.proofs.lemmas.Option.{none-some, same_Some}
 use Rattle.event_callbacks.specs.declared.operations.Operation.{Operation}
 use Rattle.guest_board.specs.Guest.{Guest, is_idle, is_spent, next, step_from, wired_after}

@@ -1,6 +1,6 @@
 -- If each sector that came had the bytes of the machine's own disk, it had all its bytes: the sectors at boot have them,
 -- and so has each write of such a sector.
-use Rattle.std.proofs.Common.{◌≡◌, ◌<◌, ℕ, Bool, true, false, cond, not, List, [], ◌∷◌, ◌++◌, length, Option, Some, None, ◌⊎◌, inl, inr, refl, sym, ap, subst, ◌∙◌, append_assoc}
+use Rattle.std.proofs.Common.{◌≡◌, ◌<◌, ℕ, Bool, true, false, cond, not, List, [], ◌∷◌, ◌++◌, length, Option, Some, None, inl, inr, refl, sym, ap, ◌∙◌}
 use Rattle.std.specs.Prelude.{IsTrue, nat_lt, ◌&&◌, ◌==◌, is_none}
 use Rattle.std.specs.Option.{option_map_or}
 use Rattle.std.proofs.lemmas.Bool.{eqb-true, ltb-true, and_parts}
@@ -12,14 +12,13 @@ use Rattle.disk_dcdd.specs.declared.sector.SectorWrite.{SectorWrite}
 use Rattle.disk_dcdd.specs.declared.sector.TheConstants.{SECTORS, SECTOR_BYTES}
 use Rattle.event_callbacks.specs.Completions.{is_due}
 use Rattle.event_callbacks.specs.declared.devices.Done.TheVariants as done
-use Rattle.event_callbacks.specs.declared.operations.Operation.{Operation}
 use Rattle.event_callbacks.specs.declared.operations.Operation.TheVariants.{Byte, Write}
 use Rattle.guest_board.specs.Guest.{Guest, altair, take_from, may_take_sector, after_sector}
-use Rattle.guest_board.specs.Machine.{Machine, Move, Do, Take, Runs}
+use Rattle.guest_board.specs.Machine.{Move, Do, Take, Runs}
 use Rattle.guest_board.specs.declared.input.Input.{Input}
 use Rattle.guest_board.specs.declared.input.Input.TheVariants.{Rx, Sent, Sector, Written}
 use Rattle.guest_board.specs.declared.setup.Setup.{Setup}
-use Rattle.plain_single.specs.Reach.{Own, Owns, bytes_after, image, image_from, operations}
+use Rattle.plain_single.specs.Reach.{Own, Owns, bytes_after, image_from}
 use Rattle.altair_laws.specs.Stands.{AltairStands, AreWhole, AreWholeWrites, IsWhole}
 use Rattle.pair_protocol.specs.Lawful.{Among, Reaches}
 use Rattle.altair_laws.specs.OnDisk.{StaysOnDisk}
@@ -101,10 +100,12 @@ owned setup sectors boot on_disk stands before s t (Do gives ∷ moves) r whole 
     (whole-more before (Do gives) whole tt) run.2 (own run.0 run.1)
 owned setup sectors boot on_disk stands before s t (Take i ∷ moves) r whole run own =
     let M = altair setup sectors in
-    let here = input i run.1 own.0 in
-    (here, owned setup sectors boot on_disk stands (before ++ Take i ∷ []) run.0 t moves
-    (runs-append M M.boot s run.0 before (Take i ∷ []) r (run.0, run.1, refl))
-    (whole-more before (Take i) whole (here, tt)) run.2 (own.1 run.0 run.1))
+    let here = input i run.1 own.0 in (
+      here,
+      owned setup sectors boot on_disk stands (before ++ Take i ∷ []) run.0 t moves
+          (runs-append M M.boot s run.0 before (Take i ∷ []) r (run.0, run.1, refl))
+          (whole-more before (Take i) whole (here, tt)) run.2 (own.1 run.0 run.1),
+    )
   where
     input : (i : Input) → take_from s i ≡ Some run.0 → Own (altair setup sectors) before s i → IsWhole i
     input (Rx port byte) e own = tt

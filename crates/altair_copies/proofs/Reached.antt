@@ -1,8 +1,8 @@
 -- After any moves from boot an Altair stands as boards do: each move keeps what holds of every board.
-use Rattle.std.proofs.Common.{◌≡◌, ℕ, ◌^◌, ◌<◌, ◌||◌, Bool, true, false, cond, Option, Some, None, List, [], ◌∷◌, ◌++◌, refl, sym, ap, subst, ◌∙◌, arith}
-use Rattle.std.specs.Prelude.{nat_lt, slice_index, ◌&&◌, is_some, IfSome}
+use Rattle.std.proofs.Common.{◌≡◌, ℕ, ◌^◌, ◌<◌, true, false, Option, Some, None, List, refl, sym, ap, subst, ◌∙◌}
+use Rattle.std.specs.Prelude.{nat_lt, slice_index, is_some, IfSome}
 use Rattle.std.proofs.lemmas.Bool.{ltb-true, and_parts}
-use Rattle.std.proofs.lemmas.Option.{cond_some, none-some}
+use Rattle.std.proofs.lemmas.Option.{cond_some}
 use Rattle.serial_2sio.specs.Port as serial
 use Rattle.disk_dcdd.specs.declared.address.SectorAddress.{SectorAddress}
 use Rattle.disk_dcdd.specs.declared.controller.TheConstants.{GREATEST_NUMBER}
@@ -13,7 +13,7 @@ use Rattle.event_callbacks.specs.declared.devices.TheConstants.{PORTS}
 use Rattle.event_callbacks.specs.declared.operations.OpId.TheVariants as id
 use Rattle.event_callbacks.specs.declared.operations.Operation.{Operation}
 use Rattle.guest_board.specs.Board.{IsBoard}
-use Rattle.guest_board.specs.Guest.{Guest, altair, guest_at_boot, step_from, take_from, is_spent, is_idle, next, wired_after, may_take_key, may_take_sector, after_rx, after_sent, after_sector, after_written, oldest_byte, with_completed}
+use Rattle.guest_board.specs.Guest.{Guest, altair, guest_at_boot, step_from, take_from, may_take_key, may_take_sector, after_rx, after_sent, after_sector, after_written, oldest_byte, with_completed}
 use Rattle.guest_board.specs.Machine.{Move}
 use Rattle.guest_board.specs.Stepping.{next_versions}
 use Rattle.guest_board.specs.declared.input.Input.{Input}
@@ -21,7 +21,6 @@ use Rattle.guest_board.specs.declared.input.Input.TheVariants.{Rx, Sent, Sector,
 use Rattle.guest_board.specs.declared.setup.Setup.{Setup}
 use Rattle.guest_board.proofs.Boot.{board-boot}
 use Rattle.altair_copies.proofs.Moves.{is_next}
-use Rattle.guest_board.proofs.Names.{no_operation}
 use Rattle.guest_board.proofs.Steps.{board_next}
 use Rattle.guest_board.proofs.Stepping.{not_spent}
 use Rattle.guest_board.proofs.Inputs.{board_received, board_sent, board_sector, board_written}
@@ -47,14 +46,18 @@ board-take g u (Rx port byte) h e =
     (h.0, subst (λ x. IsBoard x h.0) t.1 (board_received g h.0 port byte (ltb-true _ _ room) h.1))
 board-take g u (Sent port) h e =
     let t = cond_some (is_due g.devices (done.Sent port)) (after_sent g port) u e in
-    let there = (and_parts (nat_lt port PORTS) (serial.is_sent_due (port_of g.devices port)) t.0).0 in
-    (h.0, subst (λ x. IsBoard x h.0) t.1
-    (board_sent g h.0 port (done_of g.devices (done.Sent port))
-    (without_operation g.operations (id.Byte port (oldest_byte g port))) (ltb-true port PORTS there) t.0 refl refl h.1))
+    let there = (and_parts (nat_lt port PORTS) (serial.is_sent_due (port_of g.devices port)) t.0).0 in (
+      h.0,
+      subst (λ x. IsBoard x h.0) t.1
+          (board_sent g h.0 port (done_of g.devices (done.Sent port))
+          (without_operation g.operations (id.Byte port (oldest_byte g port))) (ltb-true port PORTS there) t.0 refl refl h.1),
+    )
 board-take g u (Sector drive sector number bytes) h e =
-    let t = cond_some (may_take_sector g drive sector bytes) (after_sector g sector bytes) u e in
-    (h.0, subst (λ x. IsBoard x h.0) t.1
-    (board_sector g h.0 sector bytes (done_of g.devices (done.Sector sector bytes)) refl h.1))
+    let t = cond_some (may_take_sector g drive sector bytes) (after_sector g sector bytes) u e in (
+      h.0,
+      subst (λ x. IsBoard x h.0) t.1
+          (board_sector g h.0 sector bytes (done_of g.devices (done.Sector sector bytes)) refl h.1),
+    )
 board-take g u (Written number) h e =
     let t = cond_some (is_due g.devices (done.Written number)) (after_written g number) u e in
     go (operation_at g.operations (id.Write number)) refl (h.1.awaited.writes number ∙ t.0) t.1
@@ -64,14 +67,18 @@ board-take g u (Written number) h e =
     go None f there after = let clash : false ≡ true = sym (ap is_some f) ∙ there in cc
     go (Some op) f there after =
         let named : id_of op ≡ id.Write number =
-        subst (λ o. IfSome o (λ x. id_of x ≡ id.Write number)) f (h.1.awaited.names (id.Write number)) in
-        (h.0, subst (λ x. IsBoard x h.0) after
-        (board_written g h.0 number op _ _ _ f named refl refl (ap (with_completed g.completed) f) h.1))
+        subst (λ o. IfSome o (λ x. id_of x ≡ id.Write number)) f (h.1.awaited.names (id.Write number)) in (
+          h.0,
+          subst (λ x. IsBoard x h.0) after
+              (board_written g h.0 number op _ _ _ f named refl refl (ap (with_completed g.completed) f) h.1),
+        )
 
 board-boots : (setup : Setup) → setup.sense < 2 ^ 8 → StaysBoard (guest_at_boot setup)
-board-boots setup sense =
-    (zeros PAGES, board-boot (guest_at_boot setup) (zeros PAGES) setup.drives refl refl refl refl refl refl refl
-    setup.restarts sense)
+board-boots setup sense = (
+  zeros PAGES,
+  board-boot (guest_at_boot setup) (zeros PAGES) setup.drives refl refl refl refl refl refl refl
+      setup.restarts sense,
+)
 
 pub stays_board : (setup : Setup) (sectors : SectorAddress → List ℕ) (moves : List Move) (g : Guest)
     → setup.sense < 2 ^ 8 → Reaches (altair setup sectors) moves g → StaysBoard g

@@ -1,5 +1,5 @@
 -- Memory and the levels stay as long as they were at boot.
-use Rattle.std.proofs.Common.{◌≡◌, ℕ, Bool, true, false, cond, List, [], ◌∷◌, ◌++◌, length, Option, Some, None, refl, ap, subst, ◌∙◌}
+use Rattle.std.proofs.Common.{◌≡◌, ℕ, Bool, true, false, cond, List, [], ◌∷◌, length, Option, Some, None, refl, ap, subst, ◌∙◌}
 use Rattle.std.specs.Prelude.{slice_index, is_none, nat_lt, ◌==◌}
 use Rattle.std.specs.Option.{option_map_or}
 use Rattle.std.proofs.lemmas.List.{length-set}
@@ -11,7 +11,7 @@ use Rattle.disk_dcdd.specs.declared.address.SectorAddress.{SectorAddress}
 use Rattle.disk_dcdd.specs.declared.controller.TheConstants.{GREATEST_NUMBER}
 use Rattle.event_callbacks.specs.Completions.{port_of}
 use Rattle.event_callbacks.specs.declared.operations.Operation.{Operation}
-use Rattle.guest_board.specs.Guest.{Guest, altair, wired, wired_after, step_of, step_from, take_from, may_take_key, may_take_sector, after_rx, after_sent, after_sector, after_written}
+use Rattle.guest_board.specs.Guest.{Guest, altair, wired, wired_after, step_of, step_from, take_from, after_rx, after_sent, after_sector, after_written}
 use Rattle.guest_board.specs.Machine.{Move}
 use Rattle.guest_board.specs.Ports.{Wired, after_access, after_out, after_byte, after_serial_data, after_disk_data, device_at}
 use Rattle.guest_board.specs.declared.input.Input.{Input}

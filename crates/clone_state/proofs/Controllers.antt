@@ -1,6 +1,6 @@
 -- The tests of a controller are those of every controller: each test decides its fact.
-use Rattle.std.proofs.Common.{◌≡◌, ℕ, zero, suc, ◌+◌, ◌<◌, ◌≤◌, Bool, true, false, not, List, [], ◌∷◌, length, drop, Option, Some, None, refl, sym, ap, subst, ◌∙◌, arith}
-use Rattle.std.specs.Prelude.{All, AllPairs, IfSome, IsTrue, ◌==◌, ◌&&◌, nat_lt, nat_le, slice_index_or}
+use Rattle.std.proofs.Common.{◌≡◌, ℕ, suc, ◌<◌, ◌≤◌, Bool, true, false, not, List, [], ◌∷◌, length, drop, Option, Some, None, refl, ap, ◌∙◌, arith}
+use Rattle.std.specs.Prelude.{All, AllPairs, IfSome, ◌==◌, ◌&&◌, nat_lt, nat_le}
 use Rattle.std.specs.List.{list_all}
 use Rattle.std.specs.Option.{option_map_or}
 use Rattle.std.proofs.lemmas.Bool.{eqb-true, ltb-true, and_parts}
@@ -9,7 +9,7 @@ use Rattle.std.proofs.lemmas.List.Elements.{All-cons, All-head, All-tail}
 use Rattle.std.proofs.lemmas.List.Kept.{AllPairs-cons}
 use Rattle.disk_dcdd.specs.Command.{drive_at_boot}
 use Rattle.disk_dcdd.specs.Completion.{is_head_loaded, is_sector_busy}
-use Rattle.disk_dcdd.specs.Controller.{AreDrives, AreOutstanding, Follows, IsDrives, IsIssued, IsUnderHead}
+use Rattle.disk_dcdd.specs.Controller.{Follows, IsDrives, IsIssued, IsUnderHead}
 use Rattle.disk_dcdd.specs.Drive.{Drives}
 use Rattle.disk_dcdd.specs.Sector.{is_at}
 use Rattle.disk_dcdd.specs.declared.controller.TheConstants.{DRIVES, OUTSTANDING, GREATEST_NUMBER}

@@ -1,11 +1,11 @@
 -- A guest that may be copied: each field of its image is in its range and passes its test, so the parts make it again.
-use Rattle.std.proofs.Common.{◌≡◌, ℕ, zero, suc, ◌+◌, ◌*◌, ◌<◌, ◌≤◌, ◌^◌, Bool, true, false, ◌&&◌, List, [], ◌∷◌, ◌++◌, length, map, take, drop, replicate, Option, Some, None, refl, sym, ap, subst, ◌∙◌, arith, length-append}
+use Rattle.std.proofs.Common.{◌≡◌, ℕ, zero, suc, ◌*◌, ◌<◌, ◌≤◌, ◌^◌, Bool, true, List, [], ◌∷◌, ◌++◌, length, take, drop, replicate, Option, Some, None, refl, ap, ◌∙◌, arith}
 use Rattle.std.specs.Prelude.{All, IfSome, slice_index, slice_index_or, nat_le, nat_lt, not, ◌==◌}
 use Rattle.std.specs.List.{list_all, zip}
 use Rattle.std.proofs.lemmas.List.Elements.{All-cons, All-head, All-tail}
 use Rattle.serial_2sio.specs.Port as serial
 use Rattle.disk_dcdd.specs.Completion.{is_outstanding}
-use Rattle.disk_dcdd.specs.Controller.{IsDrives, IsIssued, IsUnderHead}
+use Rattle.disk_dcdd.specs.Controller.{IsIssued, IsUnderHead}
 use Rattle.disk_dcdd.specs.Drive.{Drives}
 use Rattle.disk_dcdd.specs.declared.address.TheConstants.{DRIVE_SECTORS}
 use Rattle.disk_dcdd.specs.declared.controller.TheConstants.{DRIVES, GREATEST_NUMBER}
@@ -18,19 +18,19 @@ use Rattle.event_callbacks.specs.Operations.{Operations, operation_at}
 use Rattle.event_callbacks.specs.declared.devices.Devices.{Devices}
 use Rattle.event_callbacks.specs.declared.operations.OpId.TheVariants as id
 use Rattle.event_callbacks.specs.declared.operations.Operation.TheVariants as operation
-use Rattle.guest_board.specs.Board.{AreCompleted, IsBoard, IsHeld}
+use Rattle.guest_board.specs.Board.{AreCompleted, IsHeld}
 use Rattle.guest_board.specs.Guest.{Guest}
 use Rattle.guest_board.specs.Parts.{are_completed, are_levels, may_be_completed, oldest_of, port_stands}
 use Rattle.log_entry.specs.Numbers.{◌>>=◌}
-use Rattle.clone_state.specs.Checkpoint.{Checkpoint, FirstPart, checkpoint_of, guest_of, padded, window_of, write_at, writes_at}
-use Rattle.clone_state.specs.FirstPart.{PortImage, first, has_window, spelling_01}
+use Rattle.clone_state.specs.Checkpoint.{Checkpoint, checkpoint_of, guest_of, padded, window_of, write_at, writes_at}
+use Rattle.clone_state.specs.FirstPart.{first, spelling_01}
 use Rattle.clone_state.specs.Laws.{HasOneByte, IsCopyable}
-use Rattle.clone_state.specs.Parts.{checkpoint_in, first_in, guest_in, later_parts, parts_of}
-use Rattle.clone_state.specs.Possible.{are_zeros, fits_together, is_controller, is_possible, is_window, may_halt}
+use Rattle.clone_state.specs.Parts.{first_in, guest_in, later_parts, parts_of}
+use Rattle.clone_state.specs.Possible.{are_zeros, is_controller, is_possible, is_window, may_halt}
 use Rattle.clone_state.proofs.Controllers.{at_most, both_true, controller_passes, strictly}
 use Rattle.clone_state.proofs.First.{AreNumbers, IsFirst, IsPortImage, first_in_again, first_in_again_01}
 use Rattle.clone_state.proofs.Devices.{HasOne, IsCurrent, IsWrite}
-use Rattle.clone_state.proofs.Guests.{FitsWindow, guest_again, padded_length, window_length, write_itself, writes_placed}
+use Rattle.clone_state.proofs.Guests.{guest_again, padded_length, window_length, write_itself, writes_placed}
 use Rattle.clone_state.proofs.PartLaws.{IsImage, parts_again}
 
 -- ---- the ranges
@@ -127,8 +127,7 @@ two_images (p ∷ q ∷ r ∷ ports) xs ys e h k = absurd (omega (arith, e))
 port_image : (g : Guest) (port : ℕ) → (port_of g.devices port).unaccepted ≤ serial.window
     → IsPortImage (port_of g.devices port, padded (window_of g port))
 port_image g port few =
-    let n : ℕ = (port_of g.devices port).unaccepted in
-    (
+    let n : ℕ = (port_of g.devices port).unaccepted in (
       padded_length (window_of g port),
       padded_window n (window_of g port) (window_length g.operations port (oldest_of g.devices g.issued port) n) few,
     )

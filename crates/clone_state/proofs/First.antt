@@ -1,18 +1,18 @@
 -- The first part: what is written is read again, and what is read is written just so, in version 02 or in version 01.
-use Rattle.std.proofs.Common.{◌≡◌, ℕ, ◌+◌, ◌<◌, ◌≤◌, ◌^◌, Bool, true, false, cond, eqb, List, [], ◌∷◌, ◌++◌, length, map, Option, Some, None, ◌⊎◌, inl, inr, refl, sym, ap, subst, ◌∙◌, append-nil, arith}
+use Rattle.std.proofs.Common.{◌≡◌, ℕ, ◌<◌, ◌^◌, Bool, true, false, cond, eqb, List, [], ◌∷◌, ◌++◌, length, map, Some, None, ◌⊎◌, inl, inr, refl, sym, ap, subst, ◌∙◌, append-nil, arith}
 use Rattle.std.specs.Prelude.{All, IfSome}
 use Rattle.std.specs.List.{zip}
 use Rattle.std.proofs.lemmas.Bool.{eqb-true}
 use Rattle.std.proofs.lemmas.List.{nil_from_length}
-use Rattle.std.proofs.lemmas.Option.{same_Some, none-some}
+use Rattle.std.proofs.lemmas.Option.{none-some}
 use Rattle.serial_2sio.specs.Port as serial
 use Rattle.disk_dcdd.specs.Sector.{place_of}
 use Rattle.log_entry.specs.Numbers.{◌>>=◌, IsBytes}
 use Rattle.log_entry.proofs.ReadingLaws.{IsBytes-rest, first_read, admitted}
-use Rattle.clone_state.specs.Codec.{Codec, Again, alone, both, by, only, one, byte_at, bytes, number, read_all, times, counted}
+use Rattle.clone_state.specs.Codec.{Codec, Again, alone, by, one, bytes, number, read_all, times, counted}
 use Rattle.clone_state.specs.Checkpoint.{FirstPart}
 use Rattle.clone_state.specs.Possible.{is_possible}
-use Rattle.clone_state.specs.FirstPart.{truth, maybe, processor, PortImage, has_window, port, port_01, current, drives, write, FirstImage, fields, image_of_first, first_of_image, versioned, read_version, first, spelling_01}
+use Rattle.clone_state.specs.FirstPart.{truth, maybe, processor, PortImage, has_window, port, port_01, current, drives, write, FirstImage, fields, image_of_first, first_of_image, versioned, first, spelling_01}
 use Rattle.clone_state.specs.Parts.{first_in, of_drives}
 use Rattle.clone_state.proofs.Codecs.{both_again, by_again, only_again, one_again, bytes_again, numbers_again, times_again, counted_again, all_again}
 use Rattle.clone_state.proofs.Spellings.{Spells, weaker, one_spells, bytes_spells, number_spells, both_spells, by_spells, only_spells, times_spells, counted_spells}
@@ -152,9 +152,28 @@ fields_spells c h =
     (λ r p. p.1.1.1.0)
 
 abbrev with_ports : FirstImage → List PortImage → FirstImage
-with_ports r ports =
-    (r.0, (r.1.0, (r.1.1.0, (r.1.1.1.0, (r.1.1.1.1.0, (r.1.1.1.1.1.0, (r.1.1.1.1.1.1.0,
-    (ports, r.1.1.1.1.1.1.1.1))))))))
+with_ports r ports = (
+  r.0,
+  (
+    r.1.0,
+    (
+      r.1.1.0,
+      (
+        r.1.1.1.0,
+        (
+          r.1.1.1.1.0,
+          (
+            r.1.1.1.1.1.0,
+            (
+              r.1.1.1.1.1.1.0,
+              (ports, r.1.1.1.1.1.1.1.1),
+            ),
+          ),
+        ),
+      ),
+    ),
+  ),
+)
 
 -- the count is in its range, and the controller waits for just these writes
 abbrev HasWrites : FirstPart → Type 0
@@ -223,9 +242,9 @@ first_in_spelled drives payload f all e =
     record {
       spelled = elim s.spelled [
         | inl e ↦ inl (e ∙ ap (λ xs. first.spell r.0.0 ++ xs) nothing ∙ append-nil (first.spell r.0.0)
-          ∙ ap first.spell same)
+            ∙ ap first.spell same)
         | inr e ↦ inr (e ∙ ap (λ xs. spelling_01 r.0.0 ++ xs) nothing ∙ append-nil (spelling_01 r.0.0)
-          ∙ ap spelling_01 same)
+            ∙ ap spelling_01 same)
       ];
       attached = ap (λ (g : FirstPart). g.devices.disk.attached) (sym d.1) ∙ eqb-true _ _ d.0;
       holds = subst (λ g. HasWrites g × (is_possible g ≡ true)) same s.holds;

@@ -1,10 +1,10 @@
 -- What an image says of a board makes its guest again: each operation of the image is one of the board's, and both have
 -- one under the same names, so they are the same.
-use Rattle.std.proofs.Common.{◌≡◌, ℕ, zero, suc, ◌+◌, ◌-◌, ◌<◌, ◌≤◌, Bool, true, false, ◌&&◌, List, [], ◌∷◌, ◌++◌, length, map, take, replicate, Option, Some, None, is_some, refl, sym, ap, subst, ◌∙◌, ⊎_elim, arith, length-append, length-take-le}
-use Rattle.std.specs.Prelude.{nat_lt, nat_le, slice_index, All, IfSome}
+use Rattle.std.proofs.Common.{◌≡◌, ℕ, zero, suc, ◌+◌, ◌-◌, ◌<◌, ◌≤◌, true, false, ◌&&◌, List, [], ◌∷◌, ◌++◌, length, map, take, replicate, Option, Some, None, is_some, refl, sym, ap, ◌∙◌, ⊎_elim, arith, length-append, length-take-le}
+use Rattle.std.specs.Prelude.{nat_lt, slice_index, All, IfSome}
 use Rattle.std.specs.FinMap as finite
 use Rattle.std.proofs.lemmas.Bool.Decides.{nat_tests}
-use Rattle.std.proofs.lemmas.List.Elements.{All-cons, All-map, All-head, All-tail}
+use Rattle.std.proofs.lemmas.List.Elements.{All-cons, All-head, All-tail}
 use Rattle.serial_2sio.specs.Port as serial
 use Rattle.disk_dcdd.specs.Controller.{IsDrives}
 use Rattle.disk_dcdd.specs.Sector.{place_of}

@@ -1,5 +1,5 @@
 -- A part's message is read again, and what is read as one is written just so.
-use Rattle.std.proofs.Common.{◌≡◌, ℕ, ◌+◌, ◌<◌, ◌≤◌, ◌^◌, Bool, true, false, cond, eqb, ltb, List, [], ◌∷◌, ◌++◌, length, take, drop, Option, Some, None, refl, sym, ap, subst, ◌∙◌, append_assoc, arith}
+use Rattle.std.proofs.Common.{◌≡◌, ℕ, ◌<◌, ◌≤◌, ◌^◌, Bool, true, false, cond, eqb, ltb, List, [], ◌∷◌, ◌++◌, length, take, drop, Option, Some, None, refl, sym, ap, subst, ◌∙◌, arith}
 use Rattle.std.specs.Int.{w32, from_be_bytes}
 use Rattle.std.proofs.lemmas.Bool.{eqb-true, eqb-false, ne_eqb, ltb-false, le-ltb}
 use Rattle.std.proofs.lemmas.List.{length-take, take-append-drop}
@@ -93,16 +93,15 @@ message_written drives (tag ∷ bytes) m all e =
     let i = first_read (word.read g.0.1) (behind_index drives g.0.0) m g.2 in
     let index = word_spells.written g.0.1 i.0 taken.are_bytes i.1 in
     let c = admitted (is_payload drives i.0.0 i.0.1) (record { generation = g.0.0; index = i.0.0; payload = i.0.1 }) m i.2 in
-    let same = c.1 in
-    (
+    let same = c.1 in (
       record {
         some = subst (λ (x : PartMessage). 0 < x.generation) same taken.above;
         few = subst (λ (x : PartMessage). x.generation < 2 ^ 32) same taken.below;
         payload = ap (λ (x : PartMessage). is_payload drives x.index x.payload) (sym same) ∙ c.0;
       },
       ap (λ t. t ∷ bytes) (eqb-true tag 0x50 test.0)
-      ∙ ap (λ bs. 0x50 ∷ bs) (taken.parts ∙ ap (λ bs. big_bytes 4 g.0.0 ++ bs) index)
-      ∙ ap message_bytes same,
+          ∙ ap (λ bs. 0x50 ∷ bs) (taken.parts ∙ ap (λ bs. big_bytes 4 g.0.0 ++ bs) index)
+          ∙ ap message_bytes same,
     )
   where
     passed : (b : Bool) (o : Option PartMessage) → cond b o None ≡ Some m → (b ≡ true) × (o ≡ Some m)

@@ -1,15 +1,15 @@
 -- The parts of an image: what is written is read again, and what is read is written just so.
-use Rattle.std.proofs.Common.{◌≡◌, ℕ, zero, suc, ◌+◌, ◌*◌, ◌<◌, ◌≤◌, ◌^◌, Bool, true, false, cond, eqb, List, [], ◌∷◌, ◌++◌, length, take, drop, map, Option, Some, None, ◌⊎◌, inl, inr, refl, sym, ap, subst, ◌∙◌, length-append, length-take-le, take-append-drop, arith}
+use Rattle.std.proofs.Common.{◌≡◌, ℕ, zero, suc, ◌+◌, ◌*◌, ◌<◌, ◌^◌, Bool, true, false, cond, eqb, List, [], ◌∷◌, ◌++◌, length, take, drop, map, Option, Some, None, inl, inr, refl, sym, ap, subst, ◌∙◌, length-append, length-take-le, take-append-drop, arith}
 use Rattle.std.specs.Prelude.{All}
 use Rattle.std.proofs.lemmas.Bool.{eqb-true}
 use Rattle.std.proofs.lemmas.List.Elements.{All-cons, All-head, All-tail}
 use Rattle.std.proofs.lemmas.Option.{same_Some, none-some}
 use Rattle.log_entry.specs.Numbers.{◌>>=◌, IsBytes}
 use Rattle.log_entry.proofs.ReadingLaws.{first_read, admitted}
-use Rattle.clone_state.specs.Codec.{Codec, Again, bytes, number, read_all, times}
+use Rattle.clone_state.specs.Codec.{Codec, Again, number, read_all}
 use Rattle.clone_state.specs.Checkpoint.{Checkpoint, FirstPart}
 use Rattle.clone_state.specs.FirstPart.{first, spelling_01}
-use Rattle.clone_state.specs.Laws.{AreParts, AreRead}
+use Rattle.clone_state.specs.Laws.{AreRead}
 use Rattle.clone_state.specs.Parts.{page, table, table_count, part_count, pieces, later_parts, parts_of, first_in, read_joined, read_parts, fitting, checkpoint_in}
 use Rattle.clone_state.specs.Possible.{fits_together}
 use Rattle.clone_state.proofs.Codecs.{bytes_again, numbers_again, times_again, all_again, take_front, drop_front}
@@ -198,11 +198,10 @@ read_spelled drives front pages tables c all allp allt n m e =
     subst (λ k. map page.spell (pieces k 256 p.0) ≡ pages) n (joined_spelled page 256 page_spells pages p.0 allp p.1) in
     let ts : map table.spell (pieces (table_count f.0.devices.disk.attached) 32 t.0) ≡ tables =
     subst (λ k. map table.spell (pieces k 32 t.0) ≡ tables) (m ∙ ap table_count (sym here.attached))
-    (joined_spelled table 32 table_spells tables t.0 allt t.1) in
-    (
+    (joined_spelled table 32 table_spells tables t.0 allt t.1) in (
       subst (FirstRead drives front) (ap (λ (x : Checkpoint). x.first) same) here,
       ap (λ xs. xs ++ tables) (sym ps) ∙ ap (λ xs. map page.spell (pieces 256 256 p.0) ++ xs) (sym ts)
-      ∙ ap later_parts same,
+          ∙ ap later_parts same,
       ap fits_together (sym same) ∙ a.0,
     )
 

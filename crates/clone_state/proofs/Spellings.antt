@@ -1,6 +1,6 @@
 -- What is read is written just so, and what is known of it then: for one value after another, for lists, and for a value
 -- that stands for another one.
-use Rattle.std.proofs.Common.{◌≡◌, ℕ, zero, suc, ◌+◌, ◌<◌, ◌≤◌, ◌^◌, Bool, true, false, cond, eqb, ltb, List, [], ◌∷◌, ◌++◌, length, take, drop, Option, Some, None, refl, sym, ap, subst, ◌∙◌, append_assoc, append-nil, arith}
+use Rattle.std.proofs.Common.{◌≡◌, ℕ, zero, suc, ◌<◌, ◌^◌, Bool, true, cond, eqb, ltb, List, [], ◌∷◌, ◌++◌, length, take, drop, Some, None, sym, ap, subst, ◌∙◌, append_assoc, append-nil}
 use Rattle.std.proofs.lemmas.Bool.{eqb-true, ltb-false}
 use Rattle.std.proofs.lemmas.List.{length-take-le, nil_from_length, take-append-drop}
 use Rattle.std.proofs.lemmas.Option.{same_Some, none-some}
@@ -96,8 +96,7 @@ both_spells {A} {B} {P} {Q} c d h k = record {
       ∙ sym (append_assoc (c.spell r.0.0) (d.spell r.0.1) r.1);
   holds = λ bytes r all e.
       let q = both_reads c d bytes r e in
-      let first = h.written bytes (r.0.0, q.middle) all q.first in
-      (
+      let first = h.written bytes (r.0.0, q.middle) all q.first in (
         h.holds bytes (r.0.0, q.middle) all q.first,
         k.holds q.middle (r.0.1, r.1) (behind (c.spell r.0.0) q.middle bytes first all) q.second,
       );
@@ -155,8 +154,7 @@ each_spells : {A : Type 0} {P : A → Type 0} (c : Codec A) → Spells c P → (
     (r : List A × List ℕ) → IsBytes bytes → read_each c n bytes ≡ Some r
     → (bytes ≡ spell_each c r.0 ++ r.1) × (length r.0 ≡ n)
 each_spells {A} c h zero bytes r all e =
-    let same : ([], bytes) ≡ r = same_Some ([], bytes) r e in
-    (
+    let same : ([], bytes) ≡ r = same_Some ([], bytes) r e in (
       ap (λ (q : List A × List ℕ). spell_each c q.0 ++ q.1) same,
       sym (ap (λ (q : List A × List ℕ). length q.0) same),
     )
@@ -165,11 +163,10 @@ each_spells {A} c h (suc n) bytes r all e =
     let q = first_read (read_each c n x.0.1) (λ q. Some (x.0.0 ∷ q.0, q.1)) r x.2 in
     let same : (x.0.0 ∷ q.0.0, q.0.1) ≡ r = same_Some (x.0.0 ∷ q.0.0, q.0.1) r q.2 in
     let first = h.written bytes x.0 all x.1 in
-    let more = each_spells c h n x.0.1 q.0 (behind (c.spell x.0.0) x.0.1 bytes first all) q.1 in
-    (
+    let more = each_spells c h n x.0.1 q.0 (behind (c.spell x.0.0) x.0.1 bytes first all) q.1 in (
       first ∙ ap (λ ys. c.spell x.0.0 ++ ys) more.0
-      ∙ sym (append_assoc (c.spell x.0.0) (spell_each c q.0.0) q.0.1)
-      ∙ ap (λ (z : List A × List ℕ). spell_each c z.0 ++ z.1) same,
+          ∙ sym (append_assoc (c.spell x.0.0) (spell_each c q.0.0) q.0.1)
+          ∙ ap (λ (z : List A × List ℕ). spell_each c z.0 ++ z.1) same,
       sym (ap (λ (z : List A × List ℕ). length z.0) same) ∙ ap suc more.1,
     )
 
@@ -196,8 +193,7 @@ counted_spells {A} {P} c h = record {
         let x = first_read (byte_at bytes) (λ x. read_each c x.0 x.1) r e in
         let front = one_spells.written bytes x.0 all x.1 in
         let few = one_spells.holds bytes x.0 all x.1 in
-        let more = each_spells c h x.0.0 x.0.1 r (behind (x.0.0 ∷ []) x.0.1 bytes front all) x.2 in
-        (
+        let more = each_spells c h x.0.0 x.0.1 r (behind (x.0.0 ∷ []) x.0.1 bytes front all) x.2 in (
           front ∙ ap (λ ys. x.0.0 ∷ ys) more.0 ∙ ap (λ n. n ∷ spell_each c r.0 ++ r.1) (sym more.1),
           subst (λ n. n < 256) (sym more.1) few,
         )

@@ -1,25 +1,17 @@
 -- The small values and the processor of the first part: what is written is read again, and what is read is written just
 -- so.
-use Rattle.std.proofs.Common.{◌≡◌, ℕ, zero, suc, ◌+◌, ◌-◌, ◌*◌, ◌/◌, ◌%◌, ◌<◌, ◌≤◌, ◌^◌, Bool, true, false, not, cond, eqb, List, [], ◌∷◌, ◌++◌, length, take, drop, map, replicate, Option, Some, None, refl, sym, ap, subst, ◌∙◌, arith}
-use Rattle.std.specs.Prelude.{All, IfSome, ◌==◌, ◌&&◌, ◌||◌, is_none, slice_index}
-use Rattle.std.specs.List.{list_all, zip}
+use Rattle.std.proofs.Common.{◌≡◌, ℕ, zero, suc, ◌+◌, ◌*◌, ◌/◌, ◌%◌, ◌<◌, ◌^◌, Bool, true, false, not, cond, Option, Some, None, refl, sym, ap, ◌∙◌, arith}
+use Rattle.std.specs.Prelude.{IfSome, ◌==◌, ◌&&◌}
 use Rattle.std.proofs.lemmas.Bool.{ne_eqb, eqb-true, ltb-true, and_parts}
 use Rattle.i8080_words.specs.Arithmetic.{bit, has_bit, flag_byte, flags_from}
 use Rattle.i8080_words.specs.declared.arithmetic.Flags.{Flags}
 use Rattle.i8080_words.specs.declared.registers.Interrupts.{Interrupts}
 use Rattle.i8080_words.specs.declared.registers.Interrupts.TheVariants.{Off, Soon, On}
 use Rattle.i8080_words.specs.declared.registers.Processor.{Processor}
-use Rattle.serial_2sio.specs.Port as serial
-use Rattle.serial_2sio.specs.declared.acia.Receiver.{Receiver}
-use Rattle.serial_2sio.specs.declared.acia.Receiver.TheVariants.{Empty, Full, FullLost, Over}
-use Rattle.disk_dcdd.specs.declared.drive.Drive.{Drive}
-use Rattle.disk_dcdd.specs.declared.sector.CurrentSector.{CurrentSector}
-use Rattle.disk_dcdd.specs.declared.sector.SectorWrite.{SectorWrite}
-use Rattle.clone_state.specs.Codec.{Codec, Again, both, by, only, one, bytes, number, times}
-use Rattle.clone_state.specs.Possible.{are_zeros, is_window}
-use Rattle.clone_state.specs.FirstPart.{is_bit, truth, word, or_none, some_below, maybe, is_flag_byte, flags, code_of_interrupts, interrupts_of, is_interrupts, interrupts, registers, Registers, processor, code_of_receiver, receiver_of, is_receiver, receiver, PortImage, has_window, port, PortImage01, has_byte, port_01, CurrentImage, no_bytes, shown_current, is_current, current_of, current, drive_with, drives, write}
-use Rattle.clone_state.proofs.Codecs.{both_again, by_again, only_again, one_again, bytes_again, numbers_again, times_again}
-use Rattle.clone_state.proofs.Spellings.{Spells, one_spells, bytes_spells, number_spells, both_spells, by_spells, only_spells, times_spells}
+use Rattle.clone_state.specs.Codec.{Codec, Again, both, only, one}
+use Rattle.clone_state.specs.FirstPart.{is_bit, truth, word, or_none, some_below, maybe, is_flag_byte, flags, code_of_interrupts, interrupts_of, is_interrupts, interrupts, registers, processor}
+use Rattle.clone_state.proofs.Codecs.{both_again, by_again, only_again, one_again}
+use Rattle.clone_state.proofs.Spellings.{Spells, one_spells, both_spells, by_spells, only_spells}
 
 -- nothing more is known
 abbrev pub Anything : {A : Type 0} → A → Type 0

@@ -1,5 +1,5 @@
 -- The parts of one image as they come, in any order, and what is answered to each.
-use Rattle.std.specs.Prelude.{◌≡◌, ℕ, ◌==◌, Bool, not, if◌then◌else◌, ◌&&◌, List, [], ◌∷◌, replicate, slice_get, slice_index_or, slice_set, is_none, is_some, Option, Some, None, Result, Ok, Err}
+use Rattle.std.specs.Prelude.{ℕ, ◌==◌, Bool, not, if◌then◌else◌, ◌&&◌, List, [], ◌∷◌, replicate, slice_index_or, slice_set, is_none, is_some, Option, Some, None, Result, Ok, Err}
 use Rattle.i8080_words.specs.declared.refusal.Fault.{Fault}
 use Rattle.i8080_words.specs.declared.refusal.Fault.TheVariants.{Malformed, NotWhole, WrongGeneration}
 use Rattle.guest_board.specs.Guest.{Guest}

@@ -1,6 +1,6 @@
 -- The first part of an image: all but memory and the last completed writes. In a message, with a head of 7 bytes, it has
 -- 268 + 148n bytes with n outstanding writes; in version 01 it has 238 + 148n.
-use Rattle.std.specs.Prelude.{◌≡◌, ℕ, ◌+◌, ◌*◌, ◌/◌, ◌%◌, ◌==◌, nat_lt, nat_le, Bool, true, false, not, if◌then◌else◌, ◌&&◌, ◌||◌, List, [], ◌∷◌, ◌++◌, map, replicate, slice_index, is_none, Option, Some, None}
+use Rattle.std.specs.Prelude.{ℕ, ◌+◌, ◌*◌, ◌/◌, ◌%◌, ◌==◌, nat_lt, Bool, true, false, not, if◌then◌else◌, ◌&&◌, ◌||◌, List, ◌∷◌, map, replicate, slice_index, is_none, Option, Some, None}
 use Rattle.std.specs.List.{zip}
 use Rattle.std.specs.Option.{option_map_or}
 use Rattle.i8080_words.specs.Arithmetic.{bit, has_bit, flag_byte, flags_from}
@@ -19,7 +19,7 @@ use Rattle.disk_dcdd.specs.declared.sector.SectorWrite.{SectorWrite}
 use Rattle.disk_dcdd.specs.declared.sector.TheConstants.{SECTOR_BYTES}
 use Rattle.event_callbacks.specs.declared.devices.TheConstants.{PORTS}
 use Rattle.log_entry.specs.Numbers.{◌>>=◌}
-use Rattle.clone_state.specs.Codec.{Codec, both, by, only, one, byte_at, bytes, number, times, counted, read_all}
+use Rattle.clone_state.specs.Codec.{Codec, both, by, only, one, byte_at, bytes, number, times, counted}
 use Rattle.clone_state.specs.Checkpoint.{FirstPart}
 use Rattle.clone_state.specs.Possible.{are_zeros, is_window, is_possible}
 
@@ -212,10 +212,43 @@ fields port_codec =
 
 abbrev pub image_of_first : FirstPart → FirstImage
 image_of_first f =
-    let d = f.devices.disk in
-    (d.attached, (f.levels, (f.sense, (f.count, (f.processor, (f.keys, (f.issued,
-    (zip f.devices.ports f.unaccepted, (d.issued, (d.selected, (d.interrupts, (d.drives,
-    (d.current, f.writes)))))))))))))
+    let d = f.devices.disk in (
+      d.attached,
+      (
+        f.levels,
+        (
+          f.sense,
+          (
+            f.count,
+            (
+              f.processor,
+              (
+                f.keys,
+                (
+                  f.issued,
+                  (
+                    zip f.devices.ports f.unaccepted,
+                    (
+                      d.issued,
+                      (
+                        d.selected,
+                        (
+                          d.interrupts,
+                          (
+                            d.drives,
+                            (d.current, f.writes),
+                          ),
+                        ),
+                      ),
+                    ),
+                  ),
+                ),
+              ),
+            ),
+          ),
+        ),
+      ),
+    )
 
 abbrev pub first_of_image : FirstImage → FirstPart
 first_of_image r =

@@ -1,6 +1,6 @@
 -- The parts of an image: the first part, 256 pages of memory, and 77 tables of last completed writes a drive. How each
 -- part goes in a message, and the machine that all of them make.
-use Rattle.std.specs.Prelude.{◌≡◌, ℕ, zero, suc, ◌+◌, ◌*◌, ◌==◌, nat_lt, Bool, true, false, if◌then◌else◌, List, [], ◌∷◌, ◌++◌, length, map, take, drop, is_some, Option, Some, None}
+use Rattle.std.specs.Prelude.{ℕ, zero, suc, ◌+◌, ◌*◌, ◌==◌, nat_lt, Bool, false, if◌then◌else◌, List, [], ◌∷◌, ◌++◌, length, map, take, drop, is_some, Option, Some, None}
 use Rattle.std.specs.Int.{w32, from_be_bytes}
 use Rattle.byteorder.specs.Endian.{big_bytes}
 use Rattle.disk_dcdd.specs.declared.drive.TheConstants.{TRACKS}
@@ -8,8 +8,8 @@ use Rattle.disk_dcdd.specs.declared.sector.TheConstants.{SECTORS}
 use Rattle.guest_board.specs.Guest.{Guest}
 use Rattle.guest_memory.specs.declared.memory.TheConstants.{PAGES, PAGE_BYTES}
 use Rattle.log_entry.specs.Numbers.{◌>>=◌}
-use Rattle.clone_state.specs.Codec.{Codec, both, only, byte_at, bytes, number, times, read_all}
-use Rattle.clone_state.specs.Checkpoint.{Checkpoint, FirstPart, checkpoint_of, guest_of}
+use Rattle.clone_state.specs.Codec.{Codec, bytes, number, times, read_all}
+use Rattle.clone_state.specs.Checkpoint.{Checkpoint, FirstPart, guest_of}
 use Rattle.clone_state.specs.FirstPart.{first, word}
 use Rattle.clone_state.specs.Possible.{fits_together}
 

@@ -1,5 +1,5 @@
 -- Which values a board can have. A part that says anything else is refused, and so are parts that fit no board together.
-use Rattle.std.specs.Prelude.{◌≡◌, ◌↔◌, ℕ, IfSome, IsTrue, Bool, true, false, not, ◌==◌, nat_lt, nat_le, ◌&&◌, ◌||◌, is_none, List, [], ◌∷◌, length, drop}
+use Rattle.std.specs.Prelude.{◌≡◌, ◌↔◌, ℕ, IfSome, IsTrue, Bool, true, false, not, ◌==◌, nat_lt, nat_le, ◌&&◌, List, [], ◌∷◌, length, drop}
 use Rattle.std.specs.List.{list_all}
 use Rattle.std.specs.Option.{option_map_or}
 use Rattle.i8080_words.specs.declared.registers.Interrupts.{Interrupts}

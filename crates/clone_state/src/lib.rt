@@ -4,5 +4,6 @@
 mod laws;
 
 pub use laws::{
-    boards_can_be_rebuilt, controllers_are_decided, messages_are_written_one_way, parts_are_written_one_way, parts_make_their_machines,
+    boards_can_be_rebuilt, controllers_are_decided, messages_are_written_one_way,
+    parts_are_written_one_way, parts_make_their_machines,
 };

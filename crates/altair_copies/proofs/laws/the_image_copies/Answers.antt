@@ -1,6 +1,6 @@
-use Rattle.std.proofs.Common.{◌≡◌, ℕ, Some, List, length, sym, ap, subst, ◌∙◌}
+use Rattle.std.proofs.Common.{◌≡◌, Some, sym, ap, subst, ◌∙◌}
 use Rattle.std.proofs.lemmas.Option.{same_Some}
-use Rattle.guest_board.specs.Guest.{Guest, altair}
+use Rattle.guest_board.specs.Guest.{altair}
 use Rattle.clone_state.specs.Checkpoint.{checkpoint_of}
 use Rattle.clone_state.specs.Parts.{guest_in, part_count, parts_of}
 use Rattle.pair_protocol.specs.Copying.{Makes}
@@ -17,8 +17,7 @@ returns c setup sectors is =
     (stands setup sectors) in
     let makes : Makes (altair setup sectors) (image_copy setup.drives) = λ moves s r own. subst (λ n. guest_in n (parts_of (checkpoint_of s)) ≡ Some s)
     (stands setup sectors moves s r).sizes.attached
-    (law.makes s (c.altairs_may_be_copied.ensures setup sectors is moves s (whole moves s r own) r)) in
-    (
+    (law.makes s (c.altairs_may_be_copied.ensures setup sectors is moves s (whole moves s r own) r)) in (
       record {
         counted = λ moves s r. law.counted (checkpoint_of s)
             ∙ ap part_count (stands setup sectors moves s r).sizes.attached;
