@@ -132,7 +132,7 @@ are_zeros_of : (n : ℕ) → are_zeros (replicate n 0) ≡ true
 are_zeros_of zero = refl
 are_zeros_of (suc n) = are_zeros_of n
 
-no_bytes_length : length no_bytes ≡ 137
+pub no_bytes_length : length no_bytes ≡ 137
 unfolding no_bytes
 no_bytes_length = refl
 

@@ -10,3 +10,4 @@ pub mod Guests
 pub mod Copyable
 pub mod Rebuilding
 pub mod Messages
+pub mod Sizes

@@ -24,7 +24,7 @@ pub pieces_length : (k n : ℕ) (xs : List ℕ) → length (pieces k n xs) ≡ k
 pieces_length zero n xs = refl
 pieces_length (suc k) n xs = ap suc (pieces_length k n (drop n xs))
 
-drop_length : {A : Type 0} (n : ℕ) (xs : List A) (m : ℕ) → length xs ≡ n + m → length (drop n xs) ≡ m
+pub drop_length : {A : Type 0} (n : ℕ) (xs : List A) (m : ℕ) → length xs ≡ n + m → length (drop n xs) ≡ m
 drop_length zero xs m e = omega (arith, e)
 drop_length (suc n) [] m e = absurd (omega (arith, e))
 drop_length (suc n) (x ∷ xs) m e = drop_length n xs m (omega (arith, e))

@@ -1,5 +1,5 @@
 -- What code that sends or gathers parts may rely on: an image makes its machine again, and each part is written in one way.
-use Rattle.std.specs.Prelude.{◌≡◌, ◌⊎◌, ℕ, ◌<◌, ◌≤◌, ◌^◌, true, Some, List, ◌∷◌, All, length, map}
+use Rattle.std.specs.Prelude.{◌≡◌, ◌⊎◌, ℕ, ◌+◌, ◌*◌, ◌<◌, ◌≤◌, ◌^◌, true, Some, List, ◌∷◌, All, length, map}
 use Rattle.serial_2sio.specs.Port as serial
 use Rattle.disk_dcdd.specs.Controller.{IsDrives}
 use Rattle.disk_dcdd.specs.Sector.{place_of}
@@ -55,6 +55,14 @@ OldPartsMakeIt = (g : Guest) → IsCopyable g → HasOneByte g
 -- there are as many parts as an image has
 abbrev pub PartsAreCounted : Type 0
 PartsAreCounted = (c : Checkpoint) → length (parts_of c) ≡ part_count c.first.devices.disk.attached
+
+-- the first part has 148 bytes for each outstanding write and 261 others, and each other part has 256
+pub record HasSize (c : Checkpoint) : Type 0 where
+  pub first : length (first.spell c.first) ≡ 261 + 148 * length c.first.writes
+  pub later : All (λ part. length part ≡ 256) (later_parts c)
+
+abbrev pub PartsHaveSizes : Type 0
+PartsHaveSizes = (g : Guest) → IsCopyable g → HasSize (checkpoint_of g)
 
 -- ---- each part is written in one way
 

@@ -6,7 +6,7 @@ ghost use Rattle.clone_state.specs.Laws.{
   MessageIsWrittenSo,
   OldPartsMakeIt,
   PartsAreCounted,
-  PartsAreWrittenSo,
+  PartsAreWrittenSo, PartsHaveSizes,
   PartsMakeIt,
   SaysItAll,
 };
@@ -19,6 +19,7 @@ pub fn parts_make_their_machines()
     ensures makes { PartsMakeIt }
     ensures old { OldPartsMakeIt }
     ensures counted { PartsAreCounted }
+    ensures sizes { PartsHaveSizes }
 {}
 
 /// What is read is written just so: every part has one spelling, but that the first may also come in version 01.
