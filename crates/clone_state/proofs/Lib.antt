@@ -11,3 +11,4 @@ pub mod Copyable
 pub mod Rebuilding
 pub mod Messages
 pub mod Sizes
+pub mod Gathered

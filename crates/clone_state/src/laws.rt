@@ -1,4 +1,5 @@
 //! What follows from the definitions alone.
+ghost use Rattle.clone_state.specs.Gathering.{BeginsOfImage, IsWholeWhenAllCame, StaysOfImage, WholeMakesIt};
 ghost use Rattle.clone_state.specs.Laws.{
   BoardsCanBeRebuilt,
   FirstIsWrittenSo,
@@ -43,4 +44,13 @@ pub fn controllers_are_decided()
 /// image makes.
 pub fn boards_can_be_rebuilt()
     ensures { BoardsCanBeRebuilt }
+{}
+
+/// If the parts that come are of one image, in whatever order, with parts that are lost or repeated, the assembly is
+/// whole exactly when each of them came, and then it makes the machine of the image.
+pub fn assemblies_gather_images()
+    ensures begins { BeginsOfImage }
+    ensures stays { StaysOfImage }
+    ensures whole { IsWholeWhenAllCame }
+    ensures makes { WholeMakesIt }
 {}
