@@ -1,9 +1,15 @@
 //! What an image says of an Altair makes that Altair again.
 ghost use Rattle.altair_copies.specs.Copies.{
-    AltairsMayBeCopied, CopiedPairsAreFaithful, CopiedPairsGrow, JoiningAltairsAreGiven, TheImageCopies
+  AltairsMayBeCopied,
+  CopiedPairsAreFaithful,
+  CopiedPairsGrow,
+  JoiningAltairsAreGiven,
+  TheImageCopies,
 };
 
-use altair_laws::{altair_pairs_are_faithful, altairs_are_lawful, altairs_stay_on_their_disks, altairs_stay_within};
+use altair_laws::{
+    altair_pairs_are_faithful, altairs_are_lawful, altairs_stay_on_their_disks, altairs_stay_within,
+};
 use clone_state::parts_make_their_machines;
 
 /// Every Altair that is reached from boot may be copied, if each sector that came had all its bytes: it stands as boards

@@ -7,7 +7,8 @@ ghost use Rattle.clone_state.specs.Laws.{
   MessageIsWrittenSo,
   OldPartsMakeIt,
   PartsAreCounted,
-  PartsAreWrittenSo, PartsHaveSizes,
+  PartsAreWrittenSo,
+  PartsHaveSizes,
   PartsMakeIt,
   SaysItAll,
 };

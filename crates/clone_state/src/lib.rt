@@ -4,6 +4,6 @@
 mod laws;
 
 pub use laws::{
-    assemblies_gather_images, boards_can_be_rebuilt, controllers_are_decided, messages_are_written_one_way,
-    parts_are_written_one_way, parts_make_their_machines,
+    assemblies_gather_images, boards_can_be_rebuilt, controllers_are_decided,
+    messages_are_written_one_way, parts_are_written_one_way, parts_make_their_machines,
 };
