@@ -1,0 +1,8 @@
+//! The image of an Altair is a copy that a pair may use; what holds of pairs that are copied so. No code.
+#![tactic(auto)]
+
+mod laws;
+
+pub use laws::{
+    altairs_may_be_copied, copied_pairs_are_faithful, joining_altairs_are_given, the_image_copies,
+};

@@ -1,0 +1,14 @@
+pub mod Codecs
+pub mod Spellings
+pub mod Lists
+pub mod Values
+pub mod Devices
+pub mod First
+pub mod PartLaws
+pub mod Controllers
+pub mod Guests
+pub mod Copyable
+pub mod Rebuilding
+pub mod Messages
+pub mod Sizes
+pub mod Gathered

@@ -1,0 +1,9 @@
+//! The image of a machine: its parts, and the machine that they make.
+#![tactic(auto)]
+
+mod laws;
+
+pub use laws::{
+    assemblies_gather_images, boards_can_be_rebuilt, controllers_are_decided,
+    messages_are_written_one_way, parts_are_written_one_way, parts_make_their_machines,
+};
