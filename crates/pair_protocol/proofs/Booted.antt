@@ -5,12 +5,13 @@ use Rattle.disk_dcdd.specs.declared.address.SectorAddress.{SectorAddress}
 use Rattle.event_callbacks.specs.declared.operations.OpId.{OpId}
 use Rattle.guest_board.proofs.Booted.{Recorded-booted}
 use Rattle.guest_board.specs.Machine.{Machine, Move, booted_from}
+use Rattle.guest_board.specs.declared.input.Input.{Input}
 use Rattle.log_entry.specs.Standing.{Stands, IsOnTrace}
 use Rattle.log_entry.specs.declared.entry.Entry.{Entry}
 use Rattle.pair_protocol.specs.Event.{Why}
 use Rattle.pair_protocol.specs.Node.{Node, Role, keys_covered}
 use Rattle.pair_protocol.specs.Refusals.{step_refusal, key_refusal, sent_refusal, done_refusal, under_refusal, release_refusal, place_refusal}
-use Rattle.pair_protocol.specs.Rows.{Advances, NoneLeft, Ends, Waits, Short, Gives, Goes, IsBehind, Replays, NoTurns, AtEnd, NoMemory, OneStep, OneMark, OneInput}
+use Rattle.pair_protocol.specs.Effects.{Advances, Drained, Replayed, Stepped, Took, NoneLeft, Ends, Waits, Short, Gives, Goes, IsBehind, Replays, NoTurns, AtEnd, NoMemory, OneStep, OneMark, OneInput}
 
 -- ---- to the machine that boots elsewhere
 
@@ -49,6 +50,21 @@ module _ {S : Type 0} (M : Machine S) (start : S) (sectors : SectorAddress → L
   Replays-booted (OneStep e s gives next below made rest) = OneStep e s gives next below made (Replays-booted rest)
   Replays-booted (OneMark e next at mark rest) = OneMark e next at mark (Replays-booted rest)
   Replays-booted (OneInput e i s next at input taken rest) = OneInput e i s next at input taken (Replays-booted rest)
+
+  pub Stepped-booted : {turns made count : ℕ} {why : Why} {x y : Node S} → Stepped M turns made count why x y
+      → Stepped (booted_from M start sectors) turns made count why x y
+  Stepped-booted h = record { advances = Advances-booted h.advances; some = h.some; counted = h.counted }
+
+  pub Took-booted : {i : Input} {x y : Node S} → Took M i x y → Took (booted_from M start sectors) i x y
+  Took-booted h = record { s = h.s; takes = h.takes; after = h.after }
+
+  pub Replayed-booted : {turns made : ℕ} {end : Bool} {x y : Node S} → Replayed M turns made end x y
+      → Replayed (booted_from M start sectors) turns made end x y
+  Replayed-booted h = record { moves = Replays-booted h.moves; some = h.some; ends = h.ends }
+
+  pub Drained-booted : {turns made : ℕ} {alone : Bool} {x y : Node S} → Drained M turns made alone x y
+      → Drained (booted_from M start sectors) turns made alone x y
+  Drained-booted h = record { z = h.z; replayed = Replayed-booted h.replayed; after = h.after }
 
   -- ---- refusals, which are the same
 

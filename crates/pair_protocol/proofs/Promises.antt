@@ -1,5 +1,5 @@
 -- The invariant gives every promise of a faithful world, and the growth of what is settled.
-use Rattle.std.proofs.Common.{◌≡◌, ◌+◌, ◌≤◌, [], ◌∷◌, ◌++◌, ◌⊎◌, ◌∙◌, Bool, List, None, Some, ap, arith, cond, false, inl, inr, not, refl, subst, suc, sym, true, ℕ}
+use Rattle.std.proofs.Common.{◌≡◌, ◌+◌, ◌≤◌, [], ◌∷◌, ◌++◌, ◌⊎◌, ◌∙◌, List, Some, ap, arith, inl, inr, refl, subst, suc, sym, ℕ}
 use Rattle.std.specs.Prelude.{slice_get}
 use Rattle.disk_dcdd.specs.Address.{address_of}
 use Rattle.disk_dcdd.specs.declared.address.SectorAddress.{SectorAddress}
@@ -13,7 +13,7 @@ use Rattle.pair_protocol.specs.Copying.{Copying, IsCopying}
 use Rattle.pair_protocol.specs.Faithful.{Faithful, IsImage, IsOutstanding, IsPrefix, MayHave}
 use Rattle.pair_protocol.specs.Grows.{AllFrom, Extends}
 use Rattle.pair_protocol.specs.Lawful.{Among, IsUnwritten, IsWritten, Lawful}
-use Rattle.pair_protocol.specs.Node.{Alone, Joining, Node, Spare}
+use Rattle.pair_protocol.specs.Node.{Alone, Node}
 use Rattle.pair_protocol.specs.Settled.{Settled}
 use Rattle.pair_protocol.specs.World.{SectorRecord, World, sector_record}
 use Rattle.pair_protocol.proofs.Moves.{inputs-append, steps-append}

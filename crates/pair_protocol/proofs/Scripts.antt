@@ -10,7 +10,7 @@ use Rattle.pair_protocol.specs.Lawful.{top}
 use Rattle.pair_protocol.specs.Examples.{TakesOver, WritesDisk, letter, sector_write, small, small_copying}
 use Rattle.pair_protocol.specs.Node.{Alone, Node, Primary}
 use Rattle.pair_protocol.specs.Row.{Accepts, First, Nothing, Refuses, Run}
-use Rattle.pair_protocol.specs.Rows.{AtEnd, Gives, Goes, NoneLeft, OneMark, OneStep}
+use Rattle.pair_protocol.specs.Effects.{AtEnd, Gives, Goes, NoneLeft, OneMark, OneStep}
 use Rattle.pair_protocol.specs.Waiting.{is_read}
 use Rattle.pair_protocol.specs.World.{Acknowledgement, LogEntry, World, accepted, opening, with_host}
 use Rattle.event_callbacks.specs.declared.operations.OpId.TheVariants as id
@@ -115,51 +115,62 @@ until_drained : Run small small_copying (opening small) first_events first_repli
 unfolding top
 until_drained =
     First (Accepts refl (record {
-      x = _;
-      there = refl;
-      y = _;
       made = _;
+      count = _;
       why = _;
-      steps = Goes 1 refl (Goes 2 refl (Goes 3 refl (Goes 4 refl (Goes 5 refl (Gives 6 letter refl)))));
-      some = inr six;
+      at = record {
+        x = _;
+        there = refl;
+        y = _;
+        done = record { advances = Goes 1 refl (Goes 2 refl (Goes 3 refl (Goes 4 refl (Goes 5 refl (Gives 6 letter refl))))); some = inr six; counted = refl };
+        after = refl;
+      };
       reply = refl;
-      after = refl;
     }))
+    (First (Accepts refl (record { e = _; node = record { x = _; there = refl; said = refl }; says = record { reply = refl; after = refl } }))
     (First (Accepts refl (record {
-      x = _;
-      there = refl;
-      e = _;
-      entry = refl;
-      says = record { reply = refl; after = refl };
-    }))
-    (First (Accepts refl (record {
-      x = _;
-      there = refl;
       generation = _;
       index = _;
       e = _;
       message = refl;
-      holds = inl (refl, refl, refl);
+      next = true;
+      at = record { x = _; there = refl; y = _; done = (refl, refl); after = refl };
+      reply = refl;
     }))
-    (First (Accepts refl (record { x = _; there = refl; says = record { reply = refl; after = refl } }))
-    (First (Accepts refl (record { x = _; there = refl; reply = refl; after = refl }))
+    (First (Accepts refl (record {
+      held = _;
+      replayed = _;
+      node = record { x = _; there = refl; said = (refl, refl) };
+      says = record { reply = refl; after = refl };
+    }))
+    (First (Accepts refl (record { at = record { x = _; there = refl; y = _; done = refl; after = refl }; reply = refl }))
     (First (Accepts refl (record { x = _; there = refl; reply = refl; after = inl (refl, refl) }))
     (First (Accepts refl (record { reply = refl; after = refl }))
     (First (Refuses refl refl)
     (First (Accepts refl (record {
-      x = _;
-      there = refl;
-      y = _;
       made = _;
-      moves = OneStep _ 1 None refl l0 refl
+      alone = true;
+      at = record {
+        x = _;
+        there = refl;
+        y = _;
+        done = record {
+          z = _;
+          replayed = record {
+            moves = OneStep _ 1 None refl l0 refl
           (OneStep _ 2 None refl l1 refl
           (OneStep _ 3 None refl l2 refl
           (OneStep _ 4 None refl l3 refl
           (OneStep _ 5 None refl l4 refl
           (OneStep _ 6 (Some letter) refl l5 refl (OneMark _ refl refl refl (AtEnd refl)))))));
-      some = inl seven;
+            some = inl seven;
+            ends = refl;
+          };
+          after = refl;
+        };
+        after = refl;
+      };
       reply = refl;
-      after = refl;
     }))
     Nothing))))))))
 
@@ -173,13 +184,7 @@ after_drained : (w : World ℕ) × Run small small_copying drained last_events l
 unfolding top
 after_drained = (
   _,
-  First (Accepts refl (record {
-    x = _;
-    there = refl;
-    o = _;
-    outstanding = refl;
-    says = record { reply = refl; after = refl };
-  }))
+  First (Accepts refl (record { o = _; node = record { x = _; there = refl; said = refl }; says = record { reply = refl; after = refl } }))
       (First (Accepts refl (record { port = _; number = _; byte = _; message = refl; reply = refl; after = refl }))
       (First (Accepts refl (record { port = _; number = _; byte = _; message = refl; reply = refl; after = refl }))
       Nothing)),
@@ -200,92 +205,110 @@ unfolding top is_read
 writes_disk = (
   _,
   First (Accepts refl (record {
-    x = _;
-    there = refl;
-    y = _;
-    made = _;
-    why = _;
-    steps = Goes 1 refl (Goes 2 refl NoneLeft);
-    some = inr two;
-    reply = refl;
-    after = refl;
+      made = _;
+      count = _;
+      why = _;
+      at = record {
+        x = _;
+        there = refl;
+        y = _;
+        done = record { advances = Goes 1 refl (Goes 2 refl NoneLeft); some = inr two; counted = refl };
+        after = refl;
+      };
+      reply = refl;
   }))
-      (First (Accepts refl (record { x = _; there = refl; drive = _; selected = refl; reply = refl; after = refl }))
+      (First (Accepts refl (record {
+        address = _;
+        node = record { x = _; there = refl; said = record { drive = _; selected = refl; address_is = refl } };
+        reply = refl;
+        after = refl;
+      }))
       (First (Accepts refl (record {
         address = _;
         number = _;
         bytes = _;
         message = refl;
-        input = record { x = _; there = refl; s = 3; takes = refl; reply = refl; after = refl };
+        input = record {
+          at = record {
+            x = _;
+            there = refl;
+            y = _;
+            done = record { s = 3; takes = refl; after = refl };
+            after = refl;
+          };
+          reply = refl;
+        };
       }))
       (First (Accepts refl (record {
+      made = _;
+      count = _;
+      why = _;
+      at = record {
         x = _;
         there = refl;
         y = _;
-        made = _;
-        why = _;
-        steps = Gives 4 (Write sector_write) refl;
-        some = inr one;
-        reply = refl;
+        done = record { advances = Gives 4 (Write sector_write) refl; some = inr one; counted = refl };
         after = refl;
+      };
+      reply = refl;
+      }))
+      (First (Accepts refl (record { e = _; node = record { x = _; there = refl; said = refl }; says = record { reply = refl; after = refl } }))
+      (First (Accepts refl (record { e = _; node = record { x = _; there = refl; said = refl }; says = record { reply = refl; after = refl } }))
+      (First (Accepts refl (record {
+      generation = _;
+      index = _;
+      e = _;
+      message = refl;
+      next = true;
+      at = record { x = _; there = refl; y = _; done = (refl, refl); after = refl };
+      reply = refl;
       }))
       (First (Accepts refl (record {
-        x = _;
-        there = refl;
-        e = _;
-        entry = refl;
-        says = record { reply = refl; after = refl };
+      generation = _;
+      index = _;
+      e = _;
+      message = refl;
+      next = true;
+      at = record { x = _; there = refl; y = _; done = (refl, refl); after = refl };
+      reply = refl;
       }))
       (First (Accepts refl (record {
-        x = _;
-        there = refl;
-        e = _;
-        entry = refl;
-        says = record { reply = refl; after = refl };
-      }))
+      held = _;
+      replayed = _;
+      node = record { x = _; there = refl; said = (refl, refl) };
+      says = record { reply = refl; after = refl };
+    }))
       (First (Accepts refl (record {
-        x = _;
-        there = refl;
-        generation = _;
-        index = _;
-        e = _;
-        message = refl;
-        holds = inl (refl, refl, refl);
-      }))
-      (First (Accepts refl (record {
-        x = _;
-        there = refl;
-        generation = _;
-        index = _;
-        e = _;
-        message = refl;
-        holds = inl (refl, refl, refl);
-      }))
-      (First (Accepts refl (record { x = _; there = refl; says = record { reply = refl; after = refl } }))
-      (First (Accepts refl (record {
-        x = _;
-        there = refl;
         generation = _;
         held = _;
         replayed = _;
         message = refl;
+        covered = _;
+        at = record { x = _; there = refl; y = _; done = (refl, refl); after = refl };
         reply = refl;
-        after = refl;
       }))
-      (First (Accepts refl (record {
-        x = _;
-        there = refl;
-        o = _;
-        outstanding = refl;
-        says = record { reply = refl; after = refl };
-      }))
+      (First (Accepts refl (record { o = _; node = record { x = _; there = refl; said = refl }; says = record { reply = refl; after = refl } }))
       (First (Accepts refl (record { write = _; message = refl; reply = refl; after = refl }))
       (First (Accepts refl (record {
         number = _;
         message = refl;
-        input = record { x = _; there = refl; s = 5; takes = refl; reply = refl; after = refl };
+        input = record {
+          at = record {
+            x = _;
+            there = refl;
+            y = _;
+            done = record { s = 5; takes = refl; after = refl };
+            after = refl;
+          };
+          reply = refl;
+        };
       }))
-      (First (Accepts refl (record { x = _; there = refl; drive = _; selected = refl; reply = refl; after = refl }))
+      (First (Accepts refl (record {
+        address = _;
+        node = record { x = _; there = refl; said = record { drive = _; selected = refl; address_is = refl } };
+        reply = refl;
+        after = refl;
+      }))
       Nothing))))))))))))),
   refl,
 )
