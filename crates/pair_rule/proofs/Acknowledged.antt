@@ -17,6 +17,7 @@ use Rattle.pair_rule.specs.declared.payload.Payload.TheVariants.{Log}
 use Rattle.pair_rule.specs.Knowledge.{last_or, IsEntryOf, Stands, held, saw, grown, after_empty}
 use Rattle.pair_rule.specs.Shown.{primary_role, primary_runs, backup_role, backup_runs, primary_node, backup_node, Sent, Shows, Leads}
 use Rattle.plain_single.specs.Reach.{operations}
+use Rattle.pair_protocol.proofs.OneNode.{with_same}
 use Rattle.pair_rule.proofs.Filled.{among_last}
 use Rattle.pair_rule.proofs.ListsThatGrow.{last_among}
 use Rattle.pair_rule.proofs.WordChanges.{held_short}
@@ -41,7 +42,7 @@ module _ {S : Type 0} (M : Machine S) (C : Copying S) (typed0 typed1 : List ℕ)
     events = Ack 1 ∷ [];
     replies = MessageIs (length w.messages) ∷ [];
     new = record w { messages = w.messages ++ Acknowledgement 1 (length k.backup.list) 0 ∷ [] };
-    run = First (Accepts (ap (λ o. at_node o ack_refusal) (at_backup none)) record { x = backup; there = at_backup none; says = record { reply = refl; after = refl } }) Nothing;
+    run = First (Accepts (ap (λ o. at_node o ack_refusal) (at_backup none)) record { held = length k.backup.list; replayed = 0; node = record { x = backup; there = at_backup none; said = (refl, refl) }; says = record { reply = refl; after = refl } }) Nothing;
     once = inl refl;
     shows = record {
       moves = z.moves;
@@ -94,7 +95,7 @@ module _ {S : Type 0} (M : Machine S) (C : Copying S) (typed0 typed1 : List ℕ)
         events = DeliverAck m.0 0 ∷ [];
         replies = HeldIs (hears primary n 0).covered ∷ [];
         new = with_node w 0 (hears primary n 0);
-        run = First (Accepts ((λ i. at_acked (at_primary none i) (m.1 i)) ∙ ap (λ b. first_of (fault_if b BadAck ∷ [])) (not_below (length k.primary.list) n short)) record { x = primary; there = at_primary none; generation = 1; held = n; replayed = 0; message = m.1; reply = refl; after = refl }) Nothing;
+        run = First (Accepts ((λ i. at_acked (at_primary none i) (m.1 i)) ∙ ap (λ b. first_of (fault_if b BadAck ∷ [])) (not_below (length k.primary.list) n short)) record { generation = 1; held = n; replayed = 0; message = m.1; covered = (hears primary n 0).covered; at = record { x = primary; there = at_primary none; y = hears primary n 0; done = (refl, refl); after = refl }; reply = refl }) Nothing;
         once = inl refl;
         shows = saw_shows n (with_node w 0 (hears primary n 0)) more
             (ap (λ l. slice_set l 0 (hears primary n 0)) z.nodes ∙ (λ i. record primary { role = primary_role (sym none i); running = primary_runs (sym none i); covered = greater i } ∷ backup_node M k ∷ []))
@@ -114,7 +115,7 @@ module _ {S : Type 0} (M : Machine S) (C : Copying S) (typed0 typed1 : List ℕ)
     events = DeliverLog m 1 ∷ [];
     replies = New ∷ [];
     new = with_node w 1 (holds backup p.entry);
-    run = First (Accepts (λ i. at_log (at_backup none i) (there i)) record { x = backup; there = at_backup none; generation = 1; index = p.index; e = p.entry; message = there; holds = inl (next, refl, refl) }) Nothing;
+    run = First (Accepts (λ i. at_log (at_backup none i) (there i)) record { generation = 1; index = p.index; e = p.entry; message = there; next = true; at = record { x = backup; there = at_backup none; y = holds backup p.entry; done = (next, refl); after = refl }; reply = refl }) Nothing;
     once = inl refl;
     shows = record {
       moves = z.moves;
@@ -137,7 +138,7 @@ module _ {S : Type 0} (M : Machine S) (C : Copying S) (typed0 typed1 : List ℕ)
     events = DeliverLog m 1 ∷ [];
     replies = Old ∷ [];
     new = w;
-    run = First (Accepts (λ i. at_log (at_backup none i) (there i)) record { x = backup; there = at_backup none; generation = 1; index = p.index; e = p.entry; message = there; holds = inr ((λ e. let c : true ≡ false = sym (eq-eqb p.index (length k.backup.list) e) ∙ is in absurd (cc)), refl, refl) }) Nothing;
+    run = First (Accepts (λ i. at_log (at_backup none i) (there i)) record { generation = 1; index = p.index; e = p.entry; message = there; next = false; at = record { x = backup; there = at_backup none; y = backup; done = ((λ e. let c : true ≡ false = sym (eq-eqb p.index (length k.backup.list) e) ∙ is in absurd (cc)), refl); after = sym (with_same w 1 backup (at_backup none)) }; reply = refl }) Nothing;
     once = inl refl;
     shows = record {
       moves = z.moves;
