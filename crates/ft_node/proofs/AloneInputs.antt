@@ -16,7 +16,7 @@ use Rattle.i8080_words.specs.declared.refusal.Fault.TheVariants.{NotDue, Spent}
 use Rattle.pair_protocol.specs.Lawful.{top}
 use Rattle.pair_protocol.specs.Node.{Node, Alone, spare}
 use Rattle.pair_protocol.specs.Refusals as refusals
-use Rattle.pair_protocol.specs.Rows.{took}
+use Rattle.pair_protocol.specs.Effects.{took}
 use Rattle.ft_node.specs.Calls as calls
 use Rattle.ft_node.specs.Roles.{IsAlone}
 use Rattle.ft_node.proofs.PassedChecks.{Passes, key_passes}
@@ -111,7 +111,11 @@ pub takes : {S : Type 0} (M : Machine S) (i : Input) (x : Node S) (s t : S) (gen
     → lockstep.Takes M s i result t → calls.Takes M i refusal x result (IsAlone t generation)
 takes M i x s t generation refusal (Ok done) a passes h =
     allowed (Unit {0}) refusal (Ok done) _ _ passes.allowed
-    (record { s = t; takes = ap (λ s. M.take s i) a.machine ∙ h.1; after = after M i x s t generation a })
+    (record {
+      y = took M x x.role t i;
+      done = record { s = t; takes = ap (λ s. M.take s i) a.machine ∙ h.1; after = refl };
+      after = after M i x s t generation a;
+    })
 takes M i x s t generation refusal (Err fault) a passes h =
     let guest : refusal_of M s i ≡ None = ap (λ s. refusal_of M s i) (sym a.machine) ∙ passes.guest in
     let none : Some fault ≡ None = sym h.0 ∙ guest in absurd cc

@@ -167,9 +167,11 @@ ack_heard M s l sd c x (Some (packet.Ack generation held)) covered p answer =
     let no_more : held ≤ next_of l = ltb-false _ _ passed.1 in
     let is : max x.covered held ≡ covered = ap (λ n. max n held) (sym p.acknowledged) ∙ sym passed.2 in
     let bound : held ≤ length x.log = subst (λ n. held ≤ n) (sym (next_behind M s l sd c x p)) no_more in
-    allowed ℕ _ (Ok covered) _ _ (acked_by M s l sd c x generation held p ∙ passed.0) (
-      sym is,
-      subst
+    allowed ℕ _ (Ok covered) _ _ (acked_by M s l sd c x generation held p ∙ passed.0) (record {
+      y = hears x held 0;
+      done = (sym is, refl);
+      after =
+          subst
           (λ n. IsPrimary M s (dropped_to l n) (acknowledged sd (Ok n)) (after_acknowledge c l n) (hears x held 0)) is
-          (primary_heard M s l sd c x held p bound),
-    )
+          (primary_heard M s l sd c x held p bound);
+    })

@@ -1,7 +1,7 @@
 //! A node, in whatever role.
 ghost use Rattle.std.specs.Prelude.{◌≡◌, ◌≢◌, ◌<◌, [], true, IfErr, OnErr};
 ghost use Rattle.i8080_words.specs.declared.refusal.Fault.TheVariants.{Lost};
-ghost use Rattle.pair_protocol.specs.Rows.{at_end};
+ghost use Rattle.pair_protocol.specs.Effects.{at_end};
 ghost use Rattle.pair_protocol.specs.Node.{goes_live, halts, wins};
 ghost use Rattle.disk_dcdd.specs.declared.controller.TheConstants.{DRIVES};
 ghost use Rattle.disk_dcdd.specs.declared.sector.TheConstants.{SECTORS};
@@ -251,7 +251,7 @@ impl<B: Lockstep + Drop> Node<B> {
     /// false and changes nothing. `Malformed` and `WrongGeneration` as the packet is.
     pub fn on_log(&mut self, bytes: &[u8]) -> R<bool>
         ensures answer { (x : protocol.Node B.State) → IsNode B.state B.machine self.old x
-            → calls.Delivers (packet_at bytes.now) x result (IsNode B.state B.machine self.new) }
+            → calls.Delivers calls.WantsRoom (packet_at bytes.now) x result (IsNode B.state B.machine self.new) }
         ensures unchanged { OnErr result (self.new ≡ self.old) }
     {
         match self {
