@@ -161,7 +161,7 @@ loses_it state M records old c n fault hosts askings x None h there is free (wan
     (subst (AreHosts state M hosts) (set_get c.world.nodes n x there) are) same
     (subst (λ f. Row (machine_of M c) no_copies c.world (protocol.Suspect n) (protocol.Refused f) c.world) (sym wants)
     (WantsMemory free
-    (record { x = x; there = there; nobody = sym (h.parts.winners x.generation) ∙ is })))
+    (record { x = x; there = there; said = sym (h.parts.winners x.generation) ∙ is })))
 loses_it state M records old c n fault hosts askings x (Some winner) h there is free (other, lost, same, are) =
     subst
     (λ l. Applies state M records c (event.Suspect n) (Err fault) (record old { hosts = hosts; askings = l }))
@@ -170,7 +170,7 @@ loses_it state M records old c n fault hosts askings x (Some winner) h there is 
     (λ f. Applies state M records c (event.Suspect n) (Err f) (record old { hosts = hosts })) (sym lost)
     (applies state M records old c (event.Suspect n) (Err Lost) (with_node c.world n (halts x))
     (record old { hosts = hosts }) h
-    (Refuses (free ∙ is_another winner n other) (record { x = x; there = there; after = refl }))
+    (Refuses (free ∙ is_another winner n other) (record { x = x; there = there; y = halts x; done = refl; after = refl }))
     (with_one_host state M records h.drives old c hosts n x (halts x) h.parts there refl refl are)))
 
 -- past the node's own refusal

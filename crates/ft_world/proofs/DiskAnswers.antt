@@ -17,7 +17,8 @@ use Rattle.pair_protocol.specs.World as world
 use Rattle.pair_protocol.proofs.Moves.{same_some}
 use Rattle.ft_world.specs.Applies.{Applies, Shows}
 use Rattle.ft_world.proofs.AtHosts.{AtHost}
-use Rattle.ft_world.specs.Does as does
+use Rattle.ft_node.specs.Calls.{Ever}
+use Rattle.pair_protocol.specs.Effects.{Took}
 use Rattle.ft_world.specs.Messages.{sector_of, written_of}
 use Rattle.ft_world.specs.Running.{Running}
 use Rattle.ft_world.specs.Shows.{Agree}
@@ -87,18 +88,16 @@ done_free M c m n number there = ap (λ q. at_done (machine_of M c) (slice_get c
 pub done_refused : {B H D S : Type 0} (state : B → S) (M : Machine S) (records : D → List Record)
     (old : Running B H D) (c : Course S) (m n number : ℕ) (fault : Fault) (hosts : List (Host B H)) →
     option_and_then written_of (slice_get old.messages m) ≡ Some number → Shows state M records old c →
-    AtHost {A = Unit {0}} state M c.world.nodes n (done_refusal M number) (Err fault) hosts
-    (does.Took M (input.Written number)) →
+    AtHost state M c.world n (done_refusal M number) Ever (λ done. Took M (input.Written number)) (Err fault) hosts →
     Applies state M records c (event.PutReply m n) (Err fault) (record old { hosts = hosts })
 done_refused state M records old c m n number fault hosts brings h a =
-    node_refused (Unit {0}) state M records old c (event.PutReply m n) n (done_refusal M number)
-    (does.Took M (input.Written number)) fault hosts h
-    (done_free M c m n number (done_there state M records old c m number brings h)) tt refl a
+    node_refused h (event.PutReply m n) fault hosts
+    (done_free M c m n number (done_there state M records old c m number brings h)) (λ s. tt) refl a
 
 pub done_applies : {B H D S : Type 0} (state : B → S) (M : Machine S) (records : D → List Record)
     (old : Running B H D) (c : Course S) (m n number : ℕ) (hosts : List (Host B H)) →
     option_and_then written_of (slice_get old.messages m) ≡ Some number → Shows state M records old c →
-    AtHost state M c.world.nodes n (done_refusal M number) (Ok tt) hosts (does.Took M (input.Written number)) →
+    AtHost state M c.world n (done_refusal M number) Ever (λ done. Took M (input.Written number)) (Ok tt) hosts →
     Applies state M records c (event.PutReply m n) (Ok reply.Taken) (record old { hosts = hosts })
 done_applies state M records old c m n number hosts brings h a =
     let there = done_there state M records old c m number brings h in
@@ -164,20 +163,18 @@ read_free M c m n read there = ap (λ q. at_under (machine_of M c) (slice_get c.
 pub read_refused : {B H D S : Type 0} (state : B → S) (M : Machine S) (records : D → List Record)
     (old : Running B H D) (c : Course S) (m n : ℕ) (read : SectorRead) (fault : Fault) (hosts : List (Host B H)) →
     option_and_then sector_of (slice_get old.messages m) ≡ Some read → Shows state M records old c →
-    AtHost {A = Unit {0}} state M c.world.nodes n (under_refusal M (read_address read) read.number read.bytes)
-    (Err fault) hosts (does.Took M (input.Sector read.drive read.sector read.number read.bytes)) →
+    AtHost state M c.world n (under_refusal M (read_address read) read.number read.bytes) Ever
+    (λ done. Took M (input.Sector read.drive read.sector read.number read.bytes)) (Err fault) hosts →
     Applies state M records c (event.GetReply m n) (Err fault) (record old { hosts = hosts })
 read_refused state M records old c m n read fault hosts brings h a =
-    node_refused (Unit {0}) state M records old c (event.GetReply m n) n
-    (under_refusal M (read_address read) read.number read.bytes)
-    (does.Took M (input.Sector read.drive read.sector read.number read.bytes)) fault hosts h
-    (read_free M c m n read (read_there state M records old c m read brings h)) tt refl a
+    node_refused h (event.GetReply m n) fault hosts
+    (read_free M c m n read (read_there state M records old c m read brings h)) (λ s. tt) refl a
 
 pub read_applies : {B H D S : Type 0} (state : B → S) (M : Machine S) (records : D → List Record)
     (old : Running B H D) (c : Course S) (m n : ℕ) (read : SectorRead) (hosts : List (Host B H)) →
     option_and_then sector_of (slice_get old.messages m) ≡ Some read → Shows state M records old c →
-    AtHost state M c.world.nodes n (under_refusal M (read_address read) read.number read.bytes) (Ok tt) hosts
-    (does.Took M (input.Sector read.drive read.sector read.number read.bytes)) →
+    AtHost state M c.world n (under_refusal M (read_address read) read.number read.bytes) Ever
+    (λ done. Took M (input.Sector read.drive read.sector read.number read.bytes)) (Ok tt) hosts →
     Applies state M records c (event.GetReply m n) (Ok reply.Taken) (record old { hosts = hosts })
 read_applies state M records old c m n read hosts brings h a =
     let there = read_there state M records old c m read brings h in

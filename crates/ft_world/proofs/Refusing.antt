@@ -17,7 +17,7 @@ use Rattle.i8080_words.specs.declared.refusal.Fault.TheVariants.{DeviceFault, Lo
 use Rattle.shared_disk.specs.declared.store.Record.{Record}
 use Rattle.pair_protocol.specs.Node.{Joining, Node, halts, is_role}
 use Rattle.pair_protocol.specs.Refusals.{fault_if, first_of, place_refusal}
-use Rattle.ft_node.specs.Calls.{AskedOf, Asks, Unless}
+use Rattle.ft_node.specs.Calls.{AskedOf, Asks, Never, Unless}
 use Rattle.ft_node.specs.Seats.{IsNode}
 use Rattle.ft_node.specs.declared.halted.Halted.{Halted}
 use Rattle.ft_node.specs.declared.node.Node as code
@@ -26,7 +26,7 @@ use Rattle.pair_events.specs.declared.event.Event.TheVariants as event
 use Rattle.pair_events.specs.declared.reply.Reply.{Reply}
 use Rattle.ft_world.specs.Applies.{ShowsSome}
 use Rattle.ft_world.specs.Devices.{GetsSector, PutsWrite}
-use Rattle.ft_world.specs.Does.{Finds}
+use Rattle.pair_protocol.specs.Effects.{IsUnder}
 use Rattle.ft_world.specs.Lending.{WithStation}
 use Rattle.ft_world.specs.Messages.{write_of}
 use Rattle.ft_world.specs.Running.{Running}
@@ -40,7 +40,7 @@ use Rattle.ft_world.specs.declared.station.Station.{Station}
 use Rattle.ft_world.proofs.Agreeing.{agree-other}
 use Rattle.ft_world.proofs.Applying.{no_copies_copy}
 use Rattle.ft_world.proofs.AtDisk.{brings_write, not_put}
-use Rattle.ft_world.proofs.AtHosts.{ReadHost}
+use Rattle.ft_world.proofs.AtHosts.{AsksNode}
 use Rattle.ft_world.proofs.DiskReads.{stands_at}
 use Rattle.ft_world.proofs.Released.{writes_on_disk}
 
@@ -147,7 +147,7 @@ put_stays state M records old m write (Err fault) ms disk some brings (why, same
 pub get_stays : {B H D S : Type 0} (state : B → S) (M : Machine S) (records : D → List Record) (old : Running B H D)
     (n sector : ℕ) (address : SectorAddress) (r : Result Reply Fault) (ms : List Message) (disk : D)
     → (some : ShowsSome state M records old) → sector < SECTORS
-    → ReadHost some.course.world.nodes n (place_refusal M) (Ok address) (Finds M sector)
+    → AsksNode some.course.world n (place_refusal M) Never (IsUnder M sector) (Ok address)
     → GetsSector old.messages (records old.disk) address r ms (records disk)
     → IfErr r (λ fault. fault ≡ OutOfMemory → disk ≡ old.disk)
     → IfErr r (λ fault. Stays records (event.Get n sector) fault old (record old { messages = ms; disk = disk }))
