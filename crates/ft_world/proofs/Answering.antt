@@ -7,7 +7,7 @@ use Rattle.i8080_words.specs.declared.refusal.Fault.{Fault}
 use Rattle.arbiter_core.specs.declared.arbiter.Asking.{Asking}
 use Rattle.arbiter_core.specs.declared.arbiter.Won.{Won}
 use Rattle.pair_protocol.specs.Node.{Node, halts, wins}
-use Rattle.ft_node.specs.Calls.{AskedOf, Call, Gives, Makes, Unless}
+use Rattle.ft_node.specs.Calls.{AskedOf, Call, Unless}
 
 -- the other words for a call
 pub record Retells {A S : Type 0} (o : Option Fault) (wants also : Node S → Type 0) (does : A → Node S → Node S → Type 0)
@@ -16,17 +16,18 @@ pub record Retells {A S : Type 0} (o : Option Fault) (wants also : Node S → Ty
   pub wanting : wants x → also x
   pub becomes : (v : A) (y : Node S) → o ≡ None → does v x y → P y → Q y
 
-module _ {A S : Type 0} {o : Option Fault} {wants also : Node S → Type 0} {does : A → Node S → Node S → Type 0}
-    {x : Node S} {P Q : Node S → Type 0} where
-  pub retold : (r : Result A Fault) → Retells o wants also does x P Q → Call o wants does x r P
-      → Call o also does x r Q
-  retold r t d = go o r refl d
-    where
-      go : (k : Option Fault) (r : Result A Fault) → o ≡ k → Call k wants does x r P → Call k also does x r Q
-      go None (Ok v) e m = record { y = m.y; done = m.done; after = t.becomes v m.y e m.done m.after }
-      go None (Err fault) e d = (d.0, (t.wanting d.1.0, t.stays d.1.1))
-      go (Some fault) r e d = (d.0, t.stays d.1)
+pub retold : {A S : Type 0} {o : Option Fault} {wants also : Node S → Type 0} {does : A → Node S → Node S → Type 0}
+    {x : Node S} {P Q : Node S → Type 0} (r : Result A Fault) → Retells o wants also does x P Q
+    → Call o wants does x r P → Call o also does x r Q
+retold {A} {S} {o} {wants} {also} {does} {x} {P} {Q} r t d = go o r refl d
+  where
+    go : (k : Option Fault) (r : Result A Fault) → o ≡ k → Call k wants does x r P → Call k also does x r Q
+    go None (Ok v) e m = record { y = m.y; done = m.done; after = t.becomes v m.y e m.done m.after }
+    go None (Err fault) e d = (d.0, (t.wanting d.1.0, t.stays d.1.1))
+    go (Some fault) r e d = (d.0, t.stays d.1)
 
+module _ {A S : Type 0} (o : Option Fault) (wants also : Node S → Type 0) (does : A → Node S → Node S → Type 0)
+    (x : Node S) (P Q : Node S → Type 0) where
   -- a value is given
   pub given : (v : A) → ((y : Node S) → o ≡ None → does v x y → P y → Q y) → Call o wants does x (Ok v) P
       → Call o also does x (Ok v) Q
@@ -47,16 +48,13 @@ module _ {A S : Type 0} {o : Option Fault} {wants also : Node S → Type 0} {doe
       go None (Err k) is d = (is ∙ d.0, (wanting d.1.0, stays d.1.1))
       go (Some m) (Err k) is d = (ap Err is ∙ d.0, stays d.1)
 
-  -- a refusal that was looked for and found
-  pub found : (r : Result A Fault) (fault : Fault) → IsErrAnd r (λ k. k ≡ fault)
-      → ◌≡◌ {A = Result (Unit {0}) Fault} (Err fault) (answered o) → Q x → Call o also does x r Q
-  found r fault is e q = go o r is e
-    where
-      go : (k : Option Fault) (r : Result A Fault) → IsErrAnd r (λ k. k ≡ fault)
-          → ◌≡◌ {A = Result (Unit {0}) Fault} (Err fault) (answered k) → Call k also does x r Q
-      go k (Ok v) is e = absurd is
-      go None (Err k) is e = (cc)
-      go (Some m) (Err k) is e = let same : fault ≡ m = (cc) in (ap Err (is ∙ same), q)
+-- a refusal that was looked for and found
+pub found : {A S : Type 0} (o : Option Fault) (also : Node S → Type 0) (does : A → Node S → Node S → Type 0)
+    (x : Node S) (Q : Node S → Type 0) (r : Result A Fault) (fault : Fault) → IsErrAnd r (λ k. k ≡ fault)
+    → ◌≡◌ {A = Result (Unit {0}) Fault} (Err fault) (answered o) → Q x → Call o also does x r Q
+found o also does x Q (Ok v) fault is e q = absurd is
+found None also does x Q (Err k) fault is e q = (cc)
+found (Some m) also does x Q (Err k) fault is e q = let same : fault ≡ m = (cc) in (ap Err (is ∙ same), q)
 
 pub unless : {A : Type 0} (o : Option Fault) (r : Result A Fault) (P Q D E : Type 0) → (P → Q) → (D → E)
     → Unless o r P D → Unless o r Q E

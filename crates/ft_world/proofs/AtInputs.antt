@@ -50,7 +50,7 @@ pub input_applies : {B H D S : Type 0} (state : B → S) (M : Machine S) (record
     refusal (machine_of M c) no_copies c.world (event_of e) ≡ at_node (slice_get c.world.nodes n) part →
     ((new : World S) → Takes (machine_of M c) c.world n i protocol.Taken new →
     Does (machine_of M c) no_copies c.world (event_of e) protocol.Taken new) →
-    AtHost state M c.world n part Ever (λ done. Took M i) (Ok tt) hosts →
+    AtHost {A = Unit {0}} state M c.world n part Ever (λ done. Took M i) (Ok tt) hosts →
     Applies state M records c e (Ok reply.Taken) (record old { hosts = hosts })
 input_applies state M records old c e n part i hosts h free row a =
     node_applies h e reply.Taken hosts free (λ x y none t. took_stays t)
@@ -117,7 +117,7 @@ pub key_refused : {B H D S : Type 0} (state : B → S) (M : Machine S) (records 
     (old : Running B H D) (c : Course S) (n port index byte : ℕ) (fault : Fault) (hosts : List (Host B H)) →
     Shows state M records old c →
     ◌≡◌ {A = Result ℕ Fault} (Ok byte) (ok_or (slice_get (screen_in old.terminals port).typed index) Unknown) →
-    AtHost state M c.world n (refusals.key_refusal M port index) Ever (λ done. Took M (input.Rx port byte)) (Err fault)
+    AtHost {A = Unit {0}} state M c.world n (refusals.key_refusal M port index) Ever (λ done. Took M (input.Rx port byte)) (Err fault)
     hosts →
     Applies state M records c (event.TakeKey n port index) (Err fault) (record old { hosts = hosts })
 key_refused state M records old c n port index byte fault hosts h e a =
@@ -128,7 +128,7 @@ pub key_applies : {B H D S : Type 0} (state : B → S) (M : Machine S) (records 
     (old : Running B H D) (c : Course S) (n port index byte : ℕ) (hosts : List (Host B H)) →
     Shows state M records old c →
     ◌≡◌ {A = Result ℕ Fault} (Ok byte) (ok_or (slice_get (screen_in old.terminals port).typed index) Unknown) →
-    AtHost state M c.world n (refusals.key_refusal M port index) Ever (λ done. Took M (input.Rx port byte)) (Ok tt)
+    AtHost {A = Unit {0}} state M c.world n (refusals.key_refusal M port index) Ever (λ done. Took M (input.Rx port byte)) (Ok tt)
     hosts →
     Applies state M records c (event.TakeKey n port index) (Ok reply.Taken) (record old { hosts = hosts })
 key_applies state M records old c n port index byte hosts h e a =
@@ -181,7 +181,7 @@ pub sent_refused : {B H D S : Type 0} (state : B → S) (M : Machine S) (records
     (old : Running B H D) (c : Course S) (n port number : ℕ) (fault : Fault) (hosts : List (Host B H)) →
     Shows state M records old c →
     ◌≡◌ {A = Result (Unit {0}) Fault} (Ok tt) (answered (table.not_accepted old.terminals port number)) →
-    AtHost state M c.world n (refusals.sent_refusal M port number) Ever (λ done. Took M (input.Sent port)) (Err fault)
+    AtHost {A = Unit {0}} state M c.world n (refusals.sent_refusal M port number) Ever (λ done. Took M (input.Sent port)) (Err fault)
     hosts →
     Applies state M records c (event.TellSent n port number) (Err fault) (record old { hosts = hosts })
 sent_refused state M records old c n port number fault hosts h e a =
@@ -192,7 +192,7 @@ pub sent_applies : {B H D S : Type 0} (state : B → S) (M : Machine S) (records
     (old : Running B H D) (c : Course S) (n port number : ℕ) (hosts : List (Host B H)) →
     Shows state M records old c →
     ◌≡◌ {A = Result (Unit {0}) Fault} (Ok tt) (answered (table.not_accepted old.terminals port number)) →
-    AtHost state M c.world n (refusals.sent_refusal M port number) Ever (λ done. Took M (input.Sent port)) (Ok tt)
+    AtHost {A = Unit {0}} state M c.world n (refusals.sent_refusal M port number) Ever (λ done. Took M (input.Sent port)) (Ok tt)
     hosts →
     Applies state M records c (event.TellSent n port number) (Ok reply.Taken) (record old { hosts = hosts })
 sent_applies state M records old c n port number hosts h e a =

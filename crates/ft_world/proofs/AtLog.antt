@@ -86,10 +86,10 @@ delivers_unknown state M records old c m n brings h =
     (h.parts.messages.each m) brings) refl
 
 -- what a node does with the bytes is what it does with their packet
-pub spelled_log : {S : Type 0} {generation index : ℕ} {e : Entry} {bytes : List ℕ} {x : Node S}
-    {r : Result Bool Fault} {Is : Node S → Type 0} → packet_at bytes ≡ Some (packet.Log generation index e) →
+pub spelled_log : {S : Type 0} {generation index : ℕ} {e : Entry} (bytes : List ℕ) (x : Node S)
+    (r : Result Bool Fault) (Is : Node S → Type 0) → packet_at bytes ≡ Some (packet.Log generation index e) →
     Delivers WantsEntry (packet_at bytes) x r Is → Call (log_refusal generation x) (WantsEntry index) (Held index e) x r Is
-spelled_log {x = x} {r = r} {Is = Is} spelled d = subst (λ p. Delivers WantsEntry p x r Is) spelled d
+spelled_log bytes x r Is spelled d = subst (λ p. Delivers WantsEntry p x r Is) spelled d
 
 new_or_old : (new : Bool) → reply_of (cond new reply.New reply.Old) ≡ cond new protocol.New protocol.Old
 new_or_old true = refl
@@ -180,10 +180,10 @@ hears_unknown state M records old c m n brings h =
     (no_acknowledgement (slice_get old.messages m) (slice_get c.world.messages m) (slice_get c.world.nodes n)
     (h.parts.messages.each m) brings) refl
 
-pub spelled_ack : {S : Type 0} {generation held : ℕ} {bytes : List ℕ} {x : Node S} {r : Result ℕ Fault}
-    {Is : Node S → Type 0} → packet_at bytes ≡ Some (packet.Ack generation held) →
+pub spelled_ack : {S : Type 0} {generation held : ℕ} (bytes : List ℕ) (x : Node S) (r : Result ℕ Fault)
+    (Is : Node S → Type 0) → packet_at bytes ≡ Some (packet.Ack generation held) →
     Hears (packet_at bytes) x r Is → Call (acked_refusal generation held x) Never (Heard held 0) x r Is
-spelled_ack {x = x} {r = r} {Is = Is} spelled d = subst (λ p. Hears p x r Is) spelled d
+spelled_ack bytes x r Is spelled d = subst (λ p. Hears p x r Is) spelled d
 
 pub hears_refused : {B H D S : Type 0} (state : B → S) (M : Machine S) (records : D → List Record)
     (old : Running B H D) (c : Course S) (m n : ℕ) (bytes : List ℕ) (fault : Fault) (hosts : List (Host B H)) →

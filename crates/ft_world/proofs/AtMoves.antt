@@ -177,7 +177,7 @@ stops_refused state M records old c n fault hosts h a =
 
 pub stops_applies : {B H D S : Type 0} (state : B → S) (M : Machine S) (records : D → List Record)
     (old : Running B H D) (c : Course S) (n : ℕ) (hosts : List (Host B H)) → Shows state M records old c →
-    AtHost state M c.world n stop_refusal Never (λ done. Halted) (Ok tt) hosts →
+    AtHost {A = Unit {0}} state M c.world n stop_refusal Never (λ done. Halted) (Ok tt) hosts →
     Applies state M records c (event.Stop n) (Ok reply.Stopped) (record old { hosts = hosts })
 stops_applies state M records old c n hosts h a =
     node_applies h (event.Stop n) reply.Stopped hosts refl (λ x y free s. kept_stays (halted_kept x y s))

@@ -63,8 +63,8 @@ module _ {B H D S : Type 0} {state : B → S} {M : Machine S} {records : D → L
       AtHost state M c.world n part wants does (Ok value) hosts →
       Applies state M records c e (Ok r) (record old { hosts = hosts })
   node_applies e r {n} {part} {wants} {does} {value} hosts free stays row a =
-      let k = call_done (at_node (slice_get c.world.nodes n) part) value (AreHosts state M hosts c.world.nodes) _
-      (λ v. Becomes state M c.world.nodes n hosts (does v)) a.answer in
+      let k = call_done (at_node (slice_get c.world.nodes n) part) value (AreHosts state M hosts c.world.nodes)
+      (OfNode c.world n wants × AreHosts state M hosts c.world.nodes) (λ v. Becomes state M c.world.nodes n hosts (does v)) a.answer in
       let x = k.1.x in
       let y = k.1.y in
       let same = stays x y (node-passed (slice_get c.world.nodes n) x part k.1.there k.0).1 k.1.done in
@@ -112,7 +112,8 @@ pub node_asked : {A S : Type 0} (w : World S) (n : ℕ) (part : Node S → Optio
     {says : A → Node S → Type 0} (value : A) → AsksNode w n part wants says (Ok value) →
     (at_node (slice_get w.nodes n) part ≡ None) × OfNode w n (says value)
 node_asked w n part {wants} {says} value a =
-    call_done (at_node (slice_get w.nodes n) part) value (Unit {0}) _ (λ v. OfNode w n (says v)) a.answer
+    call_done (at_node (slice_get w.nodes n) part) value (Unit {0}) (OfNode w n wants) (λ v. OfNode w n (says v))
+    a.answer
 
 -- it needs no memory, so it is refused as the node refuses it
 pub node_asked_not : {A S : Type 0} (w : World S) (n : ℕ) (part : Node S → Option Fault)

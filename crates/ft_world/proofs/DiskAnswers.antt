@@ -88,7 +88,7 @@ done_free M c m n number there = ap (λ q. at_done (machine_of M c) (slice_get c
 pub done_refused : {B H D S : Type 0} (state : B → S) (M : Machine S) (records : D → List Record)
     (old : Running B H D) (c : Course S) (m n number : ℕ) (fault : Fault) (hosts : List (Host B H)) →
     option_and_then written_of (slice_get old.messages m) ≡ Some number → Shows state M records old c →
-    AtHost state M c.world n (done_refusal M number) Ever (λ done. Took M (input.Written number)) (Err fault) hosts →
+    AtHost {A = Unit {0}} state M c.world n (done_refusal M number) Ever (λ done. Took M (input.Written number)) (Err fault) hosts →
     Applies state M records c (event.PutReply m n) (Err fault) (record old { hosts = hosts })
 done_refused state M records old c m n number fault hosts brings h a =
     node_refused h (event.PutReply m n) fault hosts
@@ -97,7 +97,7 @@ done_refused state M records old c m n number fault hosts brings h a =
 pub done_applies : {B H D S : Type 0} (state : B → S) (M : Machine S) (records : D → List Record)
     (old : Running B H D) (c : Course S) (m n number : ℕ) (hosts : List (Host B H)) →
     option_and_then written_of (slice_get old.messages m) ≡ Some number → Shows state M records old c →
-    AtHost state M c.world n (done_refusal M number) Ever (λ done. Took M (input.Written number)) (Ok tt) hosts →
+    AtHost {A = Unit {0}} state M c.world n (done_refusal M number) Ever (λ done. Took M (input.Written number)) (Ok tt) hosts →
     Applies state M records c (event.PutReply m n) (Ok reply.Taken) (record old { hosts = hosts })
 done_applies state M records old c m n number hosts brings h a =
     let there = done_there state M records old c m number brings h in
@@ -163,7 +163,7 @@ read_free M c m n read there = ap (λ q. at_under (machine_of M c) (slice_get c.
 pub read_refused : {B H D S : Type 0} (state : B → S) (M : Machine S) (records : D → List Record)
     (old : Running B H D) (c : Course S) (m n : ℕ) (read : SectorRead) (fault : Fault) (hosts : List (Host B H)) →
     option_and_then sector_of (slice_get old.messages m) ≡ Some read → Shows state M records old c →
-    AtHost state M c.world n (under_refusal M (read_address read) read.number read.bytes) Ever
+    AtHost {A = Unit {0}} state M c.world n (under_refusal M (read_address read) read.number read.bytes) Ever
     (λ done. Took M (input.Sector read.drive read.sector read.number read.bytes)) (Err fault) hosts →
     Applies state M records c (event.GetReply m n) (Err fault) (record old { hosts = hosts })
 read_refused state M records old c m n read fault hosts brings h a =
@@ -173,7 +173,7 @@ read_refused state M records old c m n read fault hosts brings h a =
 pub read_applies : {B H D S : Type 0} (state : B → S) (M : Machine S) (records : D → List Record)
     (old : Running B H D) (c : Course S) (m n : ℕ) (read : SectorRead) (hosts : List (Host B H)) →
     option_and_then sector_of (slice_get old.messages m) ≡ Some read → Shows state M records old c →
-    AtHost state M c.world n (under_refusal M (read_address read) read.number read.bytes) Ever
+    AtHost {A = Unit {0}} state M c.world n (under_refusal M (read_address read) read.number read.bytes) Ever
     (λ done. Took M (input.Sector read.drive read.sector read.number read.bytes)) (Ok tt) hosts →
     Applies state M records c (event.GetReply m n) (Ok reply.Taken) (record old { hosts = hosts })
 read_applies state M records old c m n read hosts brings h a =

@@ -21,7 +21,7 @@ use Rattle.ft_node.specs.Seats.{IsNode}
 use Rattle.ft_node.specs.declared.node.Node as code
 use Rattle.ft_world.specs.Shows.{IsStation}
 use Rattle.ft_world.specs.declared.station.Station.{Station}
-use Rattle.ft_world.proofs.Answering.{given, retold}
+use Rattle.ft_world.proofs.Answering.{Retells, given, retold}
 use Rattle.ft_world.proofs.Keeping.{acting_role}
 use Rattle.ft_world.proofs.Stations.{unmoved}
 
@@ -43,7 +43,10 @@ pub passes_by : {B S : Type 0} (state : B → S) (M : Machine S) (p : Option Pac
 passes_by {B} {S} state M None h node r x e is d = absurd (not_refused _ x None ⊥ e).1
 passes_by {B} {S} state M (Some (Ack generation held)) h node r x e is d = absurd (not_refused _ x None ⊥ e).1
 passes_by {B} {S} state M (Some (Log generation index en)) h node r x e is d =
-    retold r (record { stays = unmoved state M h node x is; wanting = λ w. w.0; becomes = λ v y none s now. into v y s now }) d
+    let t : Retells (refusals.log_refusal generation x) (calls.WantsRoom index) (WantsEntry index) (Held index en) x
+    (IsNode state M node) (IsStation state M (record h { node = node })) =
+    record { stays = unmoved state M h node x is; wanting = λ w. w.0; becomes = λ v y none s now. into v y s now } in
+    retold r t d
   where
     o : (refusals.log_refusal generation x ≡ None)
         × (None ≡ (if index == length x.held then Some en else None))
@@ -87,7 +90,8 @@ holds_on {B} {S} state M None h node new next v x e is d en same c = absurd (not
 holds_on {B} {S} state M (Some (Ack generation held)) h node new next v x e is d en same c =
     absurd (not_refused _ x (Some next) ⊥ e).1
 holds_on {B} {S} state M (Some (Log generation index en)) h node new next v x e is d enode same c =
-    given v (λ y none s now. into v y s now) d
+    given (refusals.log_refusal generation x) (calls.WantsRoom index) (WantsEntry index) (Held index en) x
+    (IsNode state M node) (IsStation state M new) v (λ y none s now. into v y s now) d
   where
     o : (refusals.log_refusal generation x ≡ None)
         × (Some next ≡ (if index == length x.held then Some en else None))

@@ -57,9 +57,9 @@ pub takes_on : {B S : Type 0} (state : B → S) (M : Machine S) (i : Input) (o :
     (node : code.Node B) (new : Station B) (x : Node S) → Counts M → (o ≡ None → serves x ≡ None)
     → IsStation state M h x → calls.Takes M i o x (Ok tt) (IsNode state M node) → new.node ≡ node
     → new.inputs ≡ h.inputs ++ timed h.count i ∷ [] → new.count ≡ h.count
-    → calls.Call o calls.Ever (λ done. Took M i) x (Ok tt) (IsStation state M new)
+    → calls.Call {A = Unit {0}} o calls.Ever (λ done. Took M i) x (Ok tt) (IsStation state M new)
 takes_on state M i o h node new x counts serve is d en e c =
-    given tt (λ y none t now.
+    given {A = Unit {0}} o calls.Never calls.Ever (λ done. Took M i) x (IsNode state M node) (IsStation state M new) tt (λ y none t now.
     (let role : Serving x.role = serving_role x (serve none) in
     took_station state M i h new x y role
     (subst (Takes M i x) (sym t.after) (takes M i x t.s counts t.takes x.role role)) is
@@ -69,4 +69,5 @@ pub refused : {B S : Type 0} (state : B → S) (M : Machine S) (i : Input) (o : 
     (r : Result (Unit {0}) Fault) (fault : Fault) (h : Station B) (x : Node S) → IsErrAnd r (λ k. k ≡ fault)
     → ◌≡◌ {A = Result (Unit {0}) Fault} (Err fault) (answered o) → IsStation state M h x
     → calls.Call o calls.Ever (λ done. Took M i) x r (IsStation state M h)
-refused state M i o r fault h x at e is = found r fault at e is
+refused state M i o r fault h x at e is =
+    found o calls.Ever (λ done. Took M i) x (IsStation state M h) r fault at e is

@@ -10,7 +10,7 @@ use Rattle.pair_protocol.specs.Change.{Serving}
 use Rattle.pair_protocol.specs.Event.{Why}
 use Rattle.pair_protocol.specs.Node.{Node, Role, Primary, Backup, Joining, Draining, Alone, Spare, plainly_steps, passes_mark, passes_input}
 use Rattle.pair_protocol.specs.Refusals.{serves, role_refusal}
-use Rattle.pair_protocol.specs.Effects.{Advances, Replays, NoneLeft, Ends, Waits, Short, Gives, Goes, NoTurns, AtEnd, NoMemory, OneStep, OneMark, OneInput, Stepped, Took, Held, Heard, Replayed, Drained, Halted, after_drain, stepped, took}
+use Rattle.pair_protocol.specs.Effects.{Advances, Replays, NoneLeft, Ends, Waits, Short, Gives, Goes, NoTurns, AtEnd, NoMemory, OneStep, OneMark, OneInput, Took, Held, Heard, Drained, Halted, after_drain, stepped, took}
 use Rattle.pair_protocol.specs.Settled.{is_backup, list_of, count_in}
 use Rattle.pair_protocol.specs.World.{World}
 use Rattle.pair_protocol.proofs.Passed.{acts-in, serving}

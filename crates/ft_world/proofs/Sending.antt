@@ -1,7 +1,7 @@
 -- A message is sent: one more is appended, here and in the world that is shown. What a node is asked for is refused as
 -- its part says, or is what the node has.
-use Rattle.std.proofs.Common.{◌≡◌, ◌+◌, [], ◌∷◌, ◌++◌, ◌∙◌, Err, List, None, Ok, Some, ap, inl, inr, length, refl, subst, sym, ℕ}
-use Rattle.std.specs.Prelude.{Option, Result, slice_get, ◌⊎◌}
+use Rattle.std.proofs.Common.{◌≡◌, ◌+◌, [], ◌∷◌, ◌++◌, ◌∙◌, Err, List, None, Ok, ap, length, refl, subst, sym, ℕ}
+use Rattle.std.specs.Prelude.{Result}
 use Rattle.std.specs.Global.{Vec}
 use Rattle.std.proofs.lemmas.List.{length-append}
 use Rattle.guest_board.specs.Machine.{Machine}

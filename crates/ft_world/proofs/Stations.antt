@@ -11,9 +11,9 @@ use Rattle.log_channel.specs.declared.packet.Packet.{Packet}
 use Rattle.log_channel.specs.declared.packet.Packet.TheVariants.{Log, Ack}
 use Rattle.replayer.specs.declared.replayer.Replayed.{Replayed}
 use Rattle.pair_protocol.specs.Change.{Serving}
-use Rattle.pair_protocol.specs.Node.{Node, Role, Primary, Backup, Joining, Draining, Alone, Spare, halts, wins, hears, won_role}
+use Rattle.pair_protocol.specs.Node.{Node, Role, Primary, Backup, Joining, Draining, Alone, Spare, halts, wins, won_role}
 use Rattle.pair_protocol.specs.Refusals as refusals
-use Rattle.pair_protocol.specs.Effects.{after_drain}
+use Rattle.pair_protocol.specs.Effects.{Halted, Heard, WantsMoves, after_drain}
 use Rattle.pair_protocol.specs.Settled.{list_of, count_in}
 use Rattle.pair_protocol.proofs.RowActions.{step-serves}
 use Rattle.ft_node.specs.Calls as calls
@@ -50,10 +50,10 @@ unmoved state M h node x i is = stays_on state M h node x x i (kept_here x) refl
 
 -- whatever the call does at the node, the station's node is another one of the same inputs and count
 pub retells : {A B S : Type 0} (state : B → S) (M : Machine S) (h : Station B) (node : code.Node B) (x : Node S)
-    {o : Option Fault} {wants : Node S → Type 0} {does : A → Node S → Node S → Type 0} → IsStation state M h x
+    (o : Option Fault) (wants : Node S → Type 0) (does : A → Node S → Node S → Type 0) → IsStation state M h x
     → ((v : A) (y : Node S) → o ≡ None → does v x y → Kept x y × (count_in M y x.role ≡ count_in M x x.role))
     → Retells o wants wants does x (IsNode state M node) (IsStation state M (record h { node = node }))
-retells state M h node x i keeps = record {
+retells state M h node x o wants does i keeps = record {
   stays = unmoved state M h node x i;
   wanting = λ w. w;
   becomes = λ v y none does is. (let k = keeps v y none does in stays_on state M h node x y i k.0 k.1 is);
@@ -65,7 +65,8 @@ pub steps_on : {B S : Type 0} (state : B → S) (M : Machine S) (turns : ℕ) (h
     (ran : Ran) (x : Node S) → IsStation state M h x → calls.Steps M turns x (Ok ran) (IsNode state M node)
     → calls.Steps M turns x (Ok ran) (IsStation state M (record h { node = node; count = ran.count }))
 steps_on state M turns h node ran x i d =
-    given ran (λ y none s is.
+    given (refusals.step_refusal M turns x) (λ x. 0 < turns) (λ x. 0 < turns) (calls.SteppedBy M turns) x
+    (IsNode state M node) (IsStation state M (record h { node = node; count = ran.count })) ran (λ y none s is.
     (let k = advances_keep M s.advances in
     let serve : Serving y.role =
     subst (λ q. Serving q) (sym k.role) (serving_role x (step-serves M turns x none)) in
@@ -75,7 +76,10 @@ pub steps_not : {B S : Type 0} (state : B → S) (M : Machine S) (turns : ℕ) (
     (r : Result Ran Fault) (fault : Fault) (x : Node S) → IsErrAnd r (λ k. k ≡ fault) → IsStation state M h x
     → calls.Steps M turns x (Err fault) (IsNode state M node)
     → calls.Steps M turns x r (IsStation state M (record h { node = node }))
-steps_not state M turns h node r fault x at i d = handed_on r fault at (unmoved state M h node x i) (λ w. w) d
+steps_not state M turns h node r fault x at i d =
+    handed_on (refusals.step_refusal M turns x) (λ x. 0 < turns) (λ x. 0 < turns) (calls.SteppedBy M turns) x
+    (IsNode state M node) (IsStation state M (record h { node = node })) r fault at (unmoved state M h node x i)
+    (λ w. w) d
 
 -- ---- moves of a backup
 
@@ -84,7 +88,8 @@ pub replays_on : {B S : Type 0} (state : B → S) (M : Machine S) (turns : ℕ) 
     → calls.Replaying M turns x r (IsNode state M node)
     → calls.Replaying M turns x r (IsStation state M (record h { node = node }))
 replays_on state M turns h node r x i d =
-    retold r (retells state M h node x i (λ v y none s.
+    retold r (retells state M h node x (refusals.replay_refusal x) (WantsMoves M turns) (calls.ReplayedBy M turns) i
+    (λ v y none s.
     (let k = replays_keep M s.moves in
     let role = acting_role x Backup none in
     (k, ap (count_in M y) role ∙ held_count x y k ∙ ap (count_in M x) (sym role))))) d
@@ -111,7 +116,8 @@ pub drains_on : {B S : Type 0} (state : B → S) (M : Machine S) (turns : ℕ) (
     → ((y : Node S) → IsNode state M node y → count ≡ (if d.alone then M.count y.machine else h.count))
     → calls.Draining M turns x (Ok d) (IsStation state M (record h { node = node; count = count }))
 drains_on {B} {S} state M turns h node d count x is r counted =
-    given d (λ y none s now. (let e = s.after in
+    given (refusals.drain_refusal x) (WantsMoves M turns) (WantsMoves M turns) (calls.DrainedBy M turns) x
+    (IsNode state M node) After d (λ y none s now. (let e = s.after in
     subst (λ z. After z) (sym e)
     (drained_station state M h node count x s.z d.alone is (acting_role x Draining none)
     (replays_keep M s.replayed.moves) (subst (λ z. IsNode state M node z) e now)
@@ -135,13 +141,15 @@ hears_on {B} {S} state M p h node r x i d = go p d
         → calls.Hears p x r (IsStation state M (record h { node = node }))
     go None d = none _ d
     go (Some (Log generation index e)) d = none _ d
-    go (Some (Ack generation held)) d = retold r (retells state M h node x i (λ v y free s.
+    go (Some (Ack generation held)) d = retold r (retells state M h node x
+        (refusals.acked_refusal generation held x) calls.Never (Heard held 0) i (λ v y free s.
         (let k = heard_kept x y held 0 v s in (k, same_count M x y x.role k (ap (λ (z : Node S). z.machine) s.1))))) d
 
 pub stops_on : {B S : Type 0} (state : B → S) (M : Machine S) (h : Station B) (node : code.Node B)
     (r : Result (Unit {0}) Fault) (x : Node S) → IsStation state M h x → calls.Stops x r (IsNode state M node)
     → calls.Stops x r (IsStation state M (record h { node = node }))
-stops_on {B} {S} state M h node r x i d = retold r (retells state M h node x i (λ v y free s.
+stops_on {B} {S} state M h node r x i d = retold r
+    (retells state M h node x (refusals.stop_refusal x) calls.Never (λ done. Halted) i (λ v y free s.
     (let k = halted_kept x y s in (k, same_count M x y x.role k (ap (λ (z : Node S). z.machine) s))))) d
 
 -- ---- a node asks the arbiter

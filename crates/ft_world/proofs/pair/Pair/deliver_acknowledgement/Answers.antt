@@ -1,10 +1,10 @@
 -- The message brings an acknowledgement, or none; there is no such node, or it refuses it, or hears it.
-use Rattle.std.proofs.Common.{◌≡◌, None, Some, ap, is_ok, sym}
+use Rattle.std.proofs.Common.{◌≡◌, None, Some, ap, is_ok, sym, Err, Ok}
 use Rattle.std.specs.Option.{option_and_then}
 use Rattle.std.specs.Prelude.{slice_get}
-use Rattle.log_channel.specs.Packet.{packet_at}
 use Rattle.ft_world.specs.Messages.{ack_of}
 use Rattle.ft_world.specs.Pairs.{running_of}
+use Rattle.ft_world.specs.Shows.{IsStation}
 use Rattle.ft_world.proofs.Applying.{hands_on}
 use Rattle.ft_world.proofs.AtHosts.{at_host, no_call}
 use Rattle.ft_world.proofs.AtLog.{hears_applies, hears_refused, hears_unknown, spelled_ack}
@@ -35,7 +35,8 @@ returns-in_err-held-clause-row g c = λ course h.
     (c.station_mut.follows.lender c.on_ack.new.self).items brings h
     (λ generation held spelled. at_host h c.in_ok-station.ensures.found
     (c.station_mut.follows.holds c.on_ack.new.self (ap is_ok c.in_ok-station.was))
-    (λ x is. spelled_ack spelled (c.in_err-held.ensures.answer x is))))
+    (λ x is. spelled_ack c.in-Some.packet.now x (Err c.in_err-held.field-0.0) (IsStation g.B.Lockstep.state g.B.Lockstep.machine c.on_ack.new.self) spelled
+    (c.in_err-held.ensures.answer x is))))
 
 pub returns-clause-row : goal.returns-clause-row
 returns-clause-row g c = λ course h.
@@ -45,4 +46,5 @@ returns-clause-row g c = λ course h.
     (c.station_mut.follows.lender c.on_ack.new.self).items brings h
     (λ generation held spelled. at_host h c.in_ok-station.ensures.found
     (c.station_mut.follows.holds c.on_ack.new.self (ap is_ok c.in_ok-station.was))
-    (λ x is. spelled_ack spelled (c.in_ok-held.ensures.answer x is)))
+    (λ x is. spelled_ack c.in-Some.packet.now x (Ok c.in_ok-held.held) (IsStation g.B.Lockstep.state g.B.Lockstep.machine c.on_ack.new.self) spelled
+    (c.in_ok-held.ensures.answer x is)))

@@ -1,11 +1,11 @@
 -- The message brings a log entry, or none; there is no such node, or it refuses, holds the entry, or leaves it.
-use Rattle.std.proofs.Common.{◌≡◌, None, Ok, Some, ap, cond, is_ok, subst, sym}
+use Rattle.std.proofs.Common.{◌≡◌, None, Ok, Some, ap, cond, is_ok, subst, sym, Err}
 use Rattle.std.specs.Option.{option_and_then}
 use Rattle.std.specs.Prelude.{slice_get}
-use Rattle.log_channel.specs.Packet.{packet_at}
 use Rattle.ft_world.specs.Applies.{Applies}
 use Rattle.ft_world.specs.Messages.{log_of}
 use Rattle.ft_world.specs.Pairs.{running_of}
+use Rattle.ft_world.specs.Shows.{IsStation}
 use Rattle.pair_events.specs.declared.event.Event.TheVariants as event
 use Rattle.pair_events.specs.declared.reply.Reply.TheVariants as reply
 use Rattle.ft_world.proofs.Applying.{hands_on}
@@ -38,7 +38,8 @@ returns-in_err-on_log-clause-row g c = λ course h.
     (c.station_mut.follows.lender c.on_log.new.self).items brings h
     (λ generation index e spelled. at_host h c.in_ok-station.ensures.found
     (c.station_mut.follows.holds c.on_log.new.self (ap is_ok c.in_ok-station.was))
-    (λ x is. spelled_log spelled (c.in_err-on_log.ensures.answer x is))))
+    (λ x is. spelled_log c.in-Some.packet.now x (Err c.in_err-on_log.field-0.0) (IsStation g.B.Lockstep.state g.B.Lockstep.machine c.on_log.new.self) spelled
+    (c.in_err-on_log.ensures.answer x is))))
 
 pub returns-then-branch-clause-row : goal.returns-then-branch-clause-row
 returns-then-branch-clause-row g c = λ course h.
@@ -52,7 +53,8 @@ returns-then-branch-clause-row g c = λ course h.
     (c.station_mut.follows.lender c.on_log.new.self).items brings h
     (λ generation index e spelled. at_host h c.in_ok-station.ensures.found
     (c.station_mut.follows.holds c.on_log.new.self (ap is_ok c.in_ok-station.was))
-    (λ x is. spelled_log spelled (c.in_ok-on_log.ensures.answer x is))))
+    (λ x is. spelled_log c.in-Some.packet.now x (Ok c.in_ok-on_log.field-0) (IsStation g.B.Lockstep.state g.B.Lockstep.machine c.on_log.new.self) spelled
+    (c.in_ok-on_log.ensures.answer x is))))
 
 pub returns-else-branch-clause-row : goal.returns-else-branch-clause-row
 returns-else-branch-clause-row g c = λ course h.
@@ -66,4 +68,5 @@ returns-else-branch-clause-row g c = λ course h.
     (c.station_mut.follows.lender c.on_log.new.self).items brings h
     (λ generation index e spelled. at_host h c.in_ok-station.ensures.found
     (c.station_mut.follows.holds c.on_log.new.self (ap is_ok c.in_ok-station.was))
-    (λ x is. spelled_log spelled (c.in_ok-on_log.ensures.answer x is))))
+    (λ x is. spelled_log c.in-Some.packet.now x (Ok c.in_ok-on_log.field-0) (IsStation g.B.Lockstep.state g.B.Lockstep.machine c.on_log.new.self) spelled
+    (c.in_ok-on_log.ensures.answer x is))))

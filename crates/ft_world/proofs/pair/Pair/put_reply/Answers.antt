@@ -2,7 +2,6 @@
 use Rattle.std.proofs.Common.{◌≡◌, None, Some, ap, is_ok}
 use Rattle.std.specs.Option.{option_and_then}
 use Rattle.std.specs.Prelude.{slice_get}
-use Rattle.guest_board.specs.declared.input.Input.TheVariants as input
 use Rattle.ft_world.specs.Messages.{written_of}
 use Rattle.ft_world.specs.Pairs.{running_of}
 use Rattle.ft_world.proofs.Applying.{hands_on}

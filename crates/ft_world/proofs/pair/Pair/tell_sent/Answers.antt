@@ -1,6 +1,5 @@
 -- The terminal has not accepted such a byte, or there is no such node, or it refuses, or it takes the acceptance.
 use Rattle.std.proofs.Common.{ap, is_ok}
-use Rattle.guest_board.specs.declared.input.Input.TheVariants as input
 use Rattle.ft_world.specs.Pairs.{running_of}
 use Rattle.ft_world.proofs.Applying.{hands_on}
 use Rattle.ft_world.proofs.AtHosts.{at_host, no_call}
