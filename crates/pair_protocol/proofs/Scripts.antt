@@ -158,11 +158,11 @@ until_drained =
           z = _;
           replayed = record {
             moves = OneStep _ 1 None refl l0 refl
-          (OneStep _ 2 None refl l1 refl
-          (OneStep _ 3 None refl l2 refl
-          (OneStep _ 4 None refl l3 refl
-          (OneStep _ 5 None refl l4 refl
-          (OneStep _ 6 (Some letter) refl l5 refl (OneMark _ refl refl refl (AtEnd refl)))))));
+                (OneStep _ 2 None refl l1 refl
+                (OneStep _ 3 None refl l2 refl
+                (OneStep _ 4 None refl l3 refl
+                (OneStep _ 5 None refl l4 refl
+                (OneStep _ 6 (Some letter) refl l5 refl (OneMark _ refl refl refl (AtEnd refl)))))));
             some = inl seven;
             ends = refl;
           };
@@ -205,17 +205,17 @@ unfolding top is_read
 writes_disk = (
   _,
   First (Accepts refl (record {
-      made = _;
-      count = _;
-      why = _;
-      at = record {
-        x = _;
-        there = refl;
-        y = _;
-        done = record { advances = Goes 1 refl (Goes 2 refl NoneLeft); some = inr two; counted = refl };
-        after = refl;
-      };
-      reply = refl;
+    made = _;
+    count = _;
+    why = _;
+    at = record {
+      x = _;
+      there = refl;
+      y = _;
+      done = record { advances = Goes 1 refl (Goes 2 refl NoneLeft); some = inr two; counted = refl };
+      after = refl;
+    };
+    reply = refl;
   }))
       (First (Accepts refl (record {
         address = _;
@@ -240,44 +240,44 @@ writes_disk = (
         };
       }))
       (First (Accepts refl (record {
-      made = _;
-      count = _;
-      why = _;
-      at = record {
-        x = _;
-        there = refl;
-        y = _;
-        done = record { advances = Gives 4 (Write sector_write) refl; some = inr one; counted = refl };
-        after = refl;
-      };
-      reply = refl;
+        made = _;
+        count = _;
+        why = _;
+        at = record {
+          x = _;
+          there = refl;
+          y = _;
+          done = record { advances = Gives 4 (Write sector_write) refl; some = inr one; counted = refl };
+          after = refl;
+        };
+        reply = refl;
       }))
       (First (Accepts refl (record { e = _; node = record { x = _; there = refl; said = refl }; says = record { reply = refl; after = refl } }))
       (First (Accepts refl (record { e = _; node = record { x = _; there = refl; said = refl }; says = record { reply = refl; after = refl } }))
       (First (Accepts refl (record {
-      generation = _;
-      index = _;
-      e = _;
-      message = refl;
-      next = true;
-      at = record { x = _; there = refl; y = _; done = (refl, refl); after = refl };
-      reply = refl;
+        generation = _;
+        index = _;
+        e = _;
+        message = refl;
+        next = true;
+        at = record { x = _; there = refl; y = _; done = (refl, refl); after = refl };
+        reply = refl;
       }))
       (First (Accepts refl (record {
-      generation = _;
-      index = _;
-      e = _;
-      message = refl;
-      next = true;
-      at = record { x = _; there = refl; y = _; done = (refl, refl); after = refl };
-      reply = refl;
+        generation = _;
+        index = _;
+        e = _;
+        message = refl;
+        next = true;
+        at = record { x = _; there = refl; y = _; done = (refl, refl); after = refl };
+        reply = refl;
       }))
       (First (Accepts refl (record {
-      held = _;
-      replayed = _;
-      node = record { x = _; there = refl; said = (refl, refl) };
-      says = record { reply = refl; after = refl };
-    }))
+        held = _;
+        replayed = _;
+        node = record { x = _; there = refl; said = (refl, refl) };
+        says = record { reply = refl; after = refl };
+      }))
       (First (Accepts refl (record {
         generation = _;
         held = _;
