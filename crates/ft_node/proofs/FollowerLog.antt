@@ -46,7 +46,7 @@ some_left x s r f some = elim (leb_tells (length x.held) x.replayed) [
 
 pub delivers : {S : Type 0} (x : Node S) (s : S) (r new : Receiving) (p : Option Packet) (result : Result Bool Fault)
     → IsFollower Backup s r x → channel.Answers (channel.heard r p) r result new
-    → calls.Delivers calls.WantsRoom p x result (IsFollower Backup s new)
+    → calls.DeliversLog calls.WantsRoom p x result (IsFollower Backup s new)
 delivers {S} x s r new p result f a = go p a
   where
     still : new ≡ r → IsFollower Backup s new x
@@ -88,7 +88,7 @@ delivers {S} x s r new p result f a = go p a
     )
 
     go : (p : Option Packet) → channel.Answers (channel.heard r p) r result new
-        → calls.Delivers calls.WantsRoom p x result (IsFollower Backup s new)
+        → calls.DeliversLog calls.WantsRoom p x result (IsFollower Backup s new)
     go None a = malformed a
     go (Some (Ack generation held)) a = malformed a
     go (Some (Log generation index e)) a =

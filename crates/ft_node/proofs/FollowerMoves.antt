@@ -206,7 +206,7 @@ in_role role x s r f same = rw (f.role_is, f.up, same) refl
 pub backup_replays : {S : Type 0} (M : Machine S) (x : Node S) (s t : S) (r new : Receiving) (turns : ℕ)
     (result : Result Replayed Fault) → IsFollower Backup s r x → new ≡ record r { entries = new.entries }
     → replaying.Answers M s r.entries turns result t new.entries
-    → calls.Replaying M turns x result (IsFollower Backup t new)
+    → calls.Replays M turns x result (IsFollower Backup t new)
 backup_replays M x s t r new turns result f held a =
     subst (λ refusal. calls.Unless {A = Replayed} refusal result (IsFollower Backup t new x)
     (calls.Gives result (WantsMoves M turns x × IsFollower Backup t new x)

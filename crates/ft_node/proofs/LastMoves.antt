@@ -19,7 +19,7 @@ drained_by r = record { moves = r.moves; alone = r.at_end }
 -- a draining node is not refused
 allowed : {S : Type 0} (M : Machine S) (x : Node S) (s : S) (r : Receiving) (turns : ℕ) (d : Drained)
     (Is : Node S → Type 0) → IsFollower Draining s r x → calls.Makes x (calls.DrainedBy M turns d) Is
-    → calls.Draining M turns x (Ok d) Is
+    → calls.Drains M turns x (Ok d) Is
 allowed M x s r turns d Is f empties =
     subst (λ refusal. calls.Unless {A = Drained} refusal (Ok d) (Is x) (calls.Makes x (calls.DrainedBy M turns d) Is))
     (sym (in_role Draining x s r f refl)) empties
@@ -27,7 +27,7 @@ allowed M x s r turns d Is f empties =
 pub not_drained : {S : Type 0} (M : Machine S) (x : Node S) (s t : S) (r new : Receiving) (turns : ℕ) (fault : Fault)
     → IsFollower Draining s r x → new ≡ record r { entries = new.entries }
     → replaying.Answers M s r.entries turns (Err fault) t new.entries
-    → calls.Draining M turns x (Err fault) (IsFollower Draining t new)
+    → calls.Drains M turns x (Err fault) (IsFollower Draining t new)
 not_drained M x s t r new turns fault f held answers =
     subst
     (λ refusal. calls.Unless {A = Drained} refusal (Err fault) (IsFollower Draining t new x)
@@ -38,7 +38,7 @@ not_drained M x s t r new turns fault f held answers =
 pub drains_on : {S : Type 0} (M : Machine S) (x : Node S) (s t : S) (r new : Receiving) (turns : ℕ) (a : Replayed)
     → IsFollower Draining s r x → new ≡ record r { entries = new.entries }
     → replaying.Answers M s r.entries turns (Ok a) t new.entries → a.at_end ≡ false
-    → calls.Draining M turns x (Ok (drained_by a)) (IsFollower Draining t new)
+    → calls.Drains M turns x (Ok (drained_by a)) (IsFollower Draining t new)
 drains_on M x s t r new turns a f held answers left =
     let h = repeats M Draining x s t r new turns (Ok a) f held answers in
     allowed M x s r turns (drained_by a) (IsFollower Draining t new) f (record {
@@ -51,7 +51,7 @@ pub drained : {S : Type 0} (M : Machine S) (x : Node S) (s t : S) (r new : Recei
     (Is : Node S → Type 0) → IsFollower Draining s r x → new ≡ record r { entries = new.entries }
     → replaying.Answers M s r.entries turns (Ok a) t new.entries → a.at_end ≡ true
     → ((y : Node S) → y.role ≡ Draining → at_end y ≡ true → IsFollower Draining t new y → Is (goes_live y))
-    → calls.Draining M turns x (Ok (drained_by a)) Is
+    → calls.Drains M turns x (Ok (drained_by a)) Is
 drained M x s t r new turns a Is f held answers all lives =
     let h = repeats M Draining x s t r new turns (Ok a) f held answers in
     allowed M x s r turns (drained_by a) Is f (record {

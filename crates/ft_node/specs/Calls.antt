@@ -112,11 +112,11 @@ Sends index x result =
     Ask (refusals.send_refusal index x) Ever (λ bytes x. SendsEntry index x bytes) x result
 
 -- a packet of the log arrives; it is out of memory only if this holds of the index and the node
-abbrev pub Delivers : {S : Type 0} → (ℕ → Node S → Type 0) → Option Packet → Node S → Result Bool Fault
+abbrev pub DeliversLog : {S : Type 0} → (ℕ → Node S → Type 0) → Option Packet → Node S → Result Bool Fault
     → (Node S → Type 0) → Type 0
-Delivers wants (Some (Log generation index e)) x result Is =
-    Call (refusals.log_refusal generation x) (wants index) (Held index e) x result Is
-Delivers wants _ x result Is =
+DeliversLog wants (Some (Log generation index e)) x result Is =
+    Call (refusals.deliver_log_refusal generation x) (wants index) (Held index e) x result Is
+DeliversLog wants _ x result Is =
     Unless (refusals.first_of (refusals.role_refusal (Backup ∷ []) x ∷ Some Malformed ∷ [])) result (Is x) ⊥
 
 -- the next entry may need memory if another is held and not replayed
@@ -126,7 +126,7 @@ WantsRoom index x = WantsEntry index x × (x.replayed < length x.held)
 -- the entry of a packet that would be held
 abbrev pub Expects : {S : Type 0} → Option Packet → Node S → Result (Option Entry) Fault → Type 0
 Expects (Some (Log generation index e)) x result =
-    Ask (refusals.log_refusal generation x) Never (λ next x. next ≡ (if index == length x.held then Some e else None)) x
+    Ask (refusals.deliver_log_refusal generation x) Never (λ next x. next ≡ (if index == length x.held then Some e else None)) x
     result
 Expects _ x result =
     Unless (refusals.first_of (refusals.role_refusal (Backup ∷ []) x ∷ Some Malformed ∷ [])) result (Unit {0}) ⊥
@@ -134,29 +134,29 @@ Expects _ x result =
 -- the packet that acknowledges all that is held; it reports nothing as replayed
 abbrev pub Acknowledges : {S : Type 0} → Node S → Result (Vec ℕ) Fault → Type 0
 Acknowledges x result =
-    Ask (refusals.ack_refusal x) Ever (λ bytes x. IsSpelled (Ack x.generation (length x.held)) bytes) x result
+    Ask (refusals.acknowledge_refusal x) Ever (λ bytes x. IsSpelled (Ack x.generation (length x.held)) bytes) x result
 
 -- an acknowledgement arrives, which reports nothing as replayed
-abbrev pub Hears : {S : Type 0} → Option Packet → Node S → Result ℕ Fault → (Node S → Type 0) → Type 0
-Hears (Some (Ack generation held)) x result Is =
-    Call (refusals.acked_refusal generation held x) Never (Heard held 0) x result Is
-Hears _ x result Is =
+abbrev pub DeliversAcknowledgement : {S : Type 0} → Option Packet → Node S → Result ℕ Fault → (Node S → Type 0) → Type 0
+DeliversAcknowledgement (Some (Ack generation held)) x result Is =
+    Call (refusals.deliver_acknowledgement_refusal generation held x) Never (Heard held 0) x result Is
+DeliversAcknowledgement _ x result Is =
     Unless (refusals.first_of (refusals.role_refusal (Primary ∷ []) x ∷ Some Malformed ∷ [])) result (Is x) ⊥
 
 -- moves of a backup, of what it holds
 abbrev pub ReplayedBy : {S : Type 0} → Machine S → ℕ → replayer.Replayed → Node S → Node S → Type 0
 ReplayedBy M turns r x y = Replayed M turns r.moves r.at_end x y
 
-abbrev pub Replaying : {S : Type 0} → Machine S → ℕ → Node S → Result replayer.Replayed Fault → (Node S → Type 0)
+abbrev pub Replays : {S : Type 0} → Machine S → ℕ → Node S → Result replayer.Replayed Fault → (Node S → Type 0)
     → Type 0
-Replaying M turns x result Is = Call (refusals.replay_refusal x) (WantsMoves M turns) (ReplayedBy M turns) x result Is
+Replays M turns x result Is = Call (refusals.replay_refusal x) (WantsMoves M turns) (ReplayedBy M turns) x result Is
 
 -- moves of a draining node; with nothing left to replay it is alone
 abbrev pub DrainedBy : {S : Type 0} → Machine S → ℕ → ran.Drained → Node S → Node S → Type 0
 DrainedBy M turns d x y = Drained M turns d.moves d.alone x y
 
-abbrev pub Draining : {S : Type 0} → Machine S → ℕ → Node S → Result ran.Drained Fault → (Node S → Type 0) → Type 0
-Draining M turns x result Is = Call (refusals.drain_refusal x) (WantsMoves M turns) (DrainedBy M turns) x result Is
+abbrev pub Drains : {S : Type 0} → Machine S → ℕ → Node S → Result ran.Drained Fault → (Node S → Type 0) → Type 0
+Drains M turns x result Is = Call (refusals.drain_refusal x) (WantsMoves M turns) (DrainedBy M turns) x result Is
 
 -- an outstanding operation is released
 abbrev pub Releases : {S : Type 0} → Machine S → OpId → Node S → Result Operation Fault → Type 0
@@ -167,23 +167,23 @@ abbrev pub Tells : {S : Type 0} → Machine S → ℕ → Node S → Result ℕ 
 Tells M port x result = Ask (refusals.told_refusal x) Never (HasCovered M port) x result
 
 -- the sector with a number, at the selected drive
-abbrev pub Finds : {S : Type 0} → Machine S → ℕ → Node S → Result SectorAddress Fault → Type 0
-Finds M sector x result = Ask (refusals.place_refusal M x) Never (IsUnder M sector) x result
+abbrev pub Gets : {S : Type 0} → Machine S → ℕ → Node S → Result SectorAddress Fault → Type 0
+Gets M sector x result = Ask (refusals.get_refusal M x) Never (IsUnder M sector) x result
 
 -- a node halts
 abbrev pub Stops : {S : Type 0} → Node S → Result (Unit {0}) Fault → (Node S → Type 0) → Type 0
 Stops x result Is = Call (refusals.stop_refusal x) Never (λ done. Halted) x result Is
 
 -- a node asks for its generation: the first has won, a winner has won again, and any other is halted
-abbrev pub AskedOf : {S : Type 0} → Option ℕ → List Asking → ℕ → Node S → Result Won Fault → List Asking
+abbrev pub SuspectsOf : {S : Type 0} → Option ℕ → List Asking → ℕ → Node S → Result Won Fault → List Asking
     → (Node S → Type 0) → Type 0
-AskedOf None old n x (Ok won) new Is = (new ≡ after_asking old x.generation n) × Is (wins x)
-AskedOf None old n x (Err fault) new Is = (fault ≡ OutOfMemory) × (new ≡ old) × Is x
-AskedOf (Some winner) old n x (Ok won) new Is = (winner ≡ n) × (new ≡ old) × Is x
-AskedOf (Some winner) old n x (Err fault) new Is = (winner ≢ n) × (fault ≡ Lost) × (new ≡ old) × Is (halts x)
+SuspectsOf None old n x (Ok won) new Is = (new ≡ after_asking old x.generation n) × Is (wins x)
+SuspectsOf None old n x (Err fault) new Is = (fault ≡ OutOfMemory) × (new ≡ old) × Is x
+SuspectsOf (Some winner) old n x (Ok won) new Is = (winner ≡ n) × (new ≡ old) × Is x
+SuspectsOf (Some winner) old n x (Err fault) new Is = (winner ≢ n) × (fault ≡ Lost) × (new ≡ old) × Is (halts x)
 
-abbrev pub Asks : {S : Type 0} → List Asking → ℕ → Node S → Result Won Fault → List Asking → (Node S → Type 0)
+abbrev pub Suspects : {S : Type 0} → List Asking → ℕ → Node S → Result Won Fault → List Asking → (Node S → Type 0)
     → Type 0
-Asks old n x result new Is =
+Suspects old n x result new Is =
     Unless (refusals.suspect_refusal x) result (Is x × (new ≡ old))
-    (AskedOf (winner_of old x.generation) old n x result new Is)
+    (SuspectsOf (winner_of old x.generation) old n x result new Is)

@@ -7,7 +7,7 @@ use Rattle.i8080_words.specs.declared.refusal.Fault.{Fault}
 use Rattle.arbiter_core.specs.declared.arbiter.Asking.{Asking}
 use Rattle.arbiter_core.specs.declared.arbiter.Won.{Won}
 use Rattle.pair_protocol.specs.Node.{Node, halts, wins}
-use Rattle.ft_node.specs.Calls.{AskedOf, Call, Unless}
+use Rattle.ft_node.specs.Calls.{SuspectsOf, Call, Unless}
 
 -- the other words for a call
 pub record Retells {A S : Type 0} (o : Option Fault) (wants also : Node S → Type 0) (does : A → Node S → Node S → Type 0)
@@ -64,7 +64,7 @@ unless (Some m) r P Q D E f g d = (d.0, f d.1)
 -- what asking the arbiter does
 pub asked : {S : Type 0} (w : Option ℕ) (old : List Asking) (n : ℕ) (x : Node S) (r : Result Won Fault)
     (new : List Asking) (P Q : Node S → Type 0) → (P x → Q x) → (P (wins x) → Q (wins x))
-    → (P (halts x) → Q (halts x)) → AskedOf w old n x r new P → AskedOf w old n x r new Q
+    → (P (halts x) → Q (halts x)) → SuspectsOf w old n x r new P → SuspectsOf w old n x r new Q
 asked None old n x (Ok won) new P Q stays won_it halted d = (d.0, won_it d.1)
 asked None old n x (Err fault) new P Q stays won_it halted d = (d.0, d.1, stays d.2)
 asked (Some winner) old n x (Ok won) new P Q stays won_it halted d = (d.0, d.1, stays d.2)

@@ -14,7 +14,7 @@ use Rattle.pair_protocol.specs.Rows.{OfNode}
 use Rattle.pair_protocol.specs.World.{World}
 use Rattle.pair_protocol.proofs.Lines.{get_set, get_set_other, same_or_not}
 use Rattle.pair_protocol.proofs.OneNode.{set_get}
-use Rattle.ft_node.specs.Calls.{Ask, AskedOf, Asks, Call, Gives, Makes, Unless}
+use Rattle.ft_node.specs.Calls.{Ask, SuspectsOf, Suspects, Call, Gives, Makes, Unless}
 use Rattle.ft_node.specs.Seats.{IsNode}
 use Rattle.ft_world.specs.Applies.{Shows}
 use Rattle.ft_world.specs.Lending.{HasNoNode, WithStation}
@@ -56,7 +56,7 @@ pub record Asked {B H S : Type 0} (state : B → S) (M : Machine S) (nodes : Lis
     (result : Result Won Fault) (hosts : List (Host B H)) (new : List Asking) : Type 0 where
   pub x : Node S
   pub there : slice_get nodes n ≡ Some x
-  pub answer : AskedOf (winner_of old x.generation) old n x result new
+  pub answer : SuspectsOf (winner_of old x.generation) old n x result new
       (λ y. AreHosts state M hosts (slice_set nodes n y))
 
 abbrev pub AsksHost : {B H S : Type 0} → (B → S) → Machine S → List (Node S) → ℕ → List Asking → Result Won Fault
@@ -177,7 +177,7 @@ module _ {B H D S : Type 0} {state : B → S} {M : Machine S} {records : D → L
     -- a node asks the arbiter
     pub suspects_host : (result : Result Won Fault) (askings : List Asking)
         → ((x : Node S) → IsStation state M here x
-        → Asks old.askings n x result askings (IsStation state M s))
+        → Suspects old.askings n x result askings (IsStation state M s))
         → AsksHost state M c.world.nodes n old.askings result new askings
     suspects_host result askings says =
         at_station state M old.hosts c.world.nodes n h.parts.hosts here suspect_refusal result
@@ -185,7 +185,7 @@ module _ {B H D S : Type 0} {state : B → S} {M : Machine S} {records : D → L
         (Asked state M c.world.nodes n old.askings result new askings) at
         (λ x there is. unless (suspect_refusal x) result (IsStation state M s x × (askings ≡ old.askings))
         (AreHosts state M new c.world.nodes × (askings ≡ old.askings))
-        (AskedOf (winner_of old.askings x.generation) old.askings n x result askings (IsStation state M s))
+        (SuspectsOf (winner_of old.askings x.generation) old.askings n x result askings (IsStation state M s))
         (Asked state M c.world.nodes n old.askings result new askings)
         (λ p. (stayed state M old.hosts c.world.nodes n h.parts.hosts here s new at w x there p.0, p.1))
         (λ d. record {

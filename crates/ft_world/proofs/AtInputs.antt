@@ -92,7 +92,7 @@ key_unknown state M records old c n port index fault h e =
     let k = key_missing (slice_get (screen_in old.terminals port).typed index) fault e in
     refuses state M records old old c (event.TakeKey n port index) fault h refl
     (first_stands (not_typed c.world port index)
-    (at_node (slice_get c.world.nodes n) (refusals.key_refusal (machine_of M c) port index)) fault
+    (at_node (slice_get c.world.nodes n) (refusals.take_key_refusal (machine_of M c) port index)) fault
     (ap (λ o. fault_if (is_none o) Unknown) (key_in_world state M records old c port index h ∙ k.0)
     ∙ ap Some (sym k.1)))
     refl
@@ -103,13 +103,13 @@ key_typed : {B H D S : Type 0} (state : B → S) (M : Machine S) (records : D �
     ◌≡◌ {A = Result ℕ Fault} (Ok byte) (ok_or (slice_get (screen_in old.terminals port).typed index) Unknown) →
     (slice_get (terminal_in c.world.terminals port).typed index ≡ Some byte)
     × (refusal (machine_of M c) no_copies c.world (protocol.TakeKey n port index)
-    ≡ at_node (slice_get c.world.nodes n) (refusals.key_refusal M port index))
+    ≡ at_node (slice_get c.world.nodes n) (refusals.take_key_refusal M port index))
 key_typed state M records old c n port index byte h e =
     let typed = key_in_world state M records old c port index h
     ∙ key_found (slice_get (screen_in old.terminals port).typed index) byte e in (
       typed,
       second_of (not_typed c.world port index)
-          (at_node (slice_get c.world.nodes n) (refusals.key_refusal (machine_of M c) port index))
+          (at_node (slice_get c.world.nodes n) (refusals.take_key_refusal (machine_of M c) port index))
           (ap (λ o. fault_if (is_none o) Unknown) typed),
     )
 
@@ -117,7 +117,7 @@ pub key_refused : {B H D S : Type 0} (state : B → S) (M : Machine S) (records 
     (old : Running B H D) (c : Course S) (n port index byte : ℕ) (fault : Fault) (hosts : List (Host B H)) →
     Shows state M records old c →
     ◌≡◌ {A = Result ℕ Fault} (Ok byte) (ok_or (slice_get (screen_in old.terminals port).typed index) Unknown) →
-    AtHost {A = Unit {0}} state M c.world n (refusals.key_refusal M port index) Ever (λ done. Took M (input.Rx port byte)) (Err fault)
+    AtHost {A = Unit {0}} state M c.world n (refusals.take_key_refusal M port index) Ever (λ done. Took M (input.Rx port byte)) (Err fault)
     hosts →
     Applies state M records c (event.TakeKey n port index) (Err fault) (record old { hosts = hosts })
 key_refused state M records old c n port index byte fault hosts h e a =
@@ -128,12 +128,12 @@ pub key_applies : {B H D S : Type 0} (state : B → S) (M : Machine S) (records 
     (old : Running B H D) (c : Course S) (n port index byte : ℕ) (hosts : List (Host B H)) →
     Shows state M records old c →
     ◌≡◌ {A = Result ℕ Fault} (Ok byte) (ok_or (slice_get (screen_in old.terminals port).typed index) Unknown) →
-    AtHost {A = Unit {0}} state M c.world n (refusals.key_refusal M port index) Ever (λ done. Took M (input.Rx port byte)) (Ok tt)
+    AtHost {A = Unit {0}} state M c.world n (refusals.take_key_refusal M port index) Ever (λ done. Took M (input.Rx port byte)) (Ok tt)
     hosts →
     Applies state M records c (event.TakeKey n port index) (Ok reply.Taken) (record old { hosts = hosts })
 key_applies state M records old c n port index byte hosts h e a =
     let k = key_typed state M records old c n port index byte h e in
-    input_applies state M records old c (event.TakeKey n port index) n (refusals.key_refusal M port index)
+    input_applies state M records old c (event.TakeKey n port index) n (refusals.take_key_refusal M port index)
     (input.Rx port byte) hosts h k.1 (λ new takes. record { byte = byte; typed = k.0; input = takes }) a
 
 -- A byte that its terminal has accepted.
@@ -161,7 +161,7 @@ pub sent_unknown : {B H D S : Type 0} (state : B → S) (M : Machine S) (records
 sent_unknown state M records old c n port number fault h e =
     refuses state M records old old c (event.TellSent n port number) fault h refl
     (first_stands (not_accepted c.world port number)
-    (at_node (slice_get c.world.nodes n) (refusals.sent_refusal (machine_of M c) port number)) fault
+    (at_node (slice_get c.world.nodes n) (refusals.tell_sent_refusal (machine_of M c) port number)) fault
     (not_accepted_is state M records old c port number h
     ∙ is_refused (table.not_accepted old.terminals port number) fault e))
     refl
@@ -170,10 +170,10 @@ sent_free : {B H D S : Type 0} (state : B → S) (M : Machine S) (records : D �
     (c : Course S) (n port number : ℕ) → Shows state M records old c →
     ◌≡◌ {A = Result (Unit {0}) Fault} (Ok tt) (answered (table.not_accepted old.terminals port number)) →
     refusal (machine_of M c) no_copies c.world (protocol.TellSent n port number)
-    ≡ at_node (slice_get c.world.nodes n) (refusals.sent_refusal M port number)
+    ≡ at_node (slice_get c.world.nodes n) (refusals.tell_sent_refusal M port number)
 sent_free state M records old c n port number h e =
     second_of (not_accepted c.world port number)
-    (at_node (slice_get c.world.nodes n) (refusals.sent_refusal (machine_of M c) port number))
+    (at_node (slice_get c.world.nodes n) (refusals.tell_sent_refusal (machine_of M c) port number))
     (not_accepted_is state M records old c port number h
     ∙ nothing_refused (table.not_accepted old.terminals port number) e)
 
@@ -181,7 +181,7 @@ pub sent_refused : {B H D S : Type 0} (state : B → S) (M : Machine S) (records
     (old : Running B H D) (c : Course S) (n port number : ℕ) (fault : Fault) (hosts : List (Host B H)) →
     Shows state M records old c →
     ◌≡◌ {A = Result (Unit {0}) Fault} (Ok tt) (answered (table.not_accepted old.terminals port number)) →
-    AtHost {A = Unit {0}} state M c.world n (refusals.sent_refusal M port number) Ever (λ done. Took M (input.Sent port)) (Err fault)
+    AtHost {A = Unit {0}} state M c.world n (refusals.tell_sent_refusal M port number) Ever (λ done. Took M (input.Sent port)) (Err fault)
     hosts →
     Applies state M records c (event.TellSent n port number) (Err fault) (record old { hosts = hosts })
 sent_refused state M records old c n port number fault hosts h e a =
@@ -192,9 +192,9 @@ pub sent_applies : {B H D S : Type 0} (state : B → S) (M : Machine S) (records
     (old : Running B H D) (c : Course S) (n port number : ℕ) (hosts : List (Host B H)) →
     Shows state M records old c →
     ◌≡◌ {A = Result (Unit {0}) Fault} (Ok tt) (answered (table.not_accepted old.terminals port number)) →
-    AtHost {A = Unit {0}} state M c.world n (refusals.sent_refusal M port number) Ever (λ done. Took M (input.Sent port)) (Ok tt)
+    AtHost {A = Unit {0}} state M c.world n (refusals.tell_sent_refusal M port number) Ever (λ done. Took M (input.Sent port)) (Ok tt)
     hosts →
     Applies state M records c (event.TellSent n port number) (Ok reply.Taken) (record old { hosts = hosts })
 sent_applies state M records old c n port number hosts h e a =
-    input_applies state M records old c (event.TellSent n port number) n (refusals.sent_refusal M port number)
+    input_applies state M records old c (event.TellSent n port number) n (refusals.tell_sent_refusal M port number)
     (input.Sent port) hosts h (sent_free state M records old c n port number h e) (λ new takes. takes) a

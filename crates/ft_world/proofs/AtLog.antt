@@ -14,11 +14,11 @@ use Rattle.shared_disk.specs.declared.store.Record.{Record}
 use Rattle.pair_protocol.specs.Effects.{Heard, Held, WantsEntry}
 use Rattle.pair_protocol.specs.Event as protocol
 use Rattle.pair_protocol.specs.Node.{Node}
-use Rattle.pair_protocol.specs.Refusals.{acked_refusal, at_acked, at_log, log_refusal}
+use Rattle.pair_protocol.specs.Refusals.{deliver_acknowledgement_refusal, at_acknowledgement, at_log_entry, deliver_log_refusal}
 use Rattle.pair_protocol.specs.World as world
 use Rattle.pair_protocol.proofs.Moves.{same_some}
 use Rattle.ft_world.specs.Applies.{Applies, Shows}
-use Rattle.ft_node.specs.Calls.{Call, Delivers, Hears, Never}
+use Rattle.ft_node.specs.Calls.{Call, DeliversLog, DeliversAcknowledgement, Never}
 use Rattle.ft_world.proofs.AtHosts.{AtHost}
 use Rattle.ft_world.specs.Messages.{ack_of, log_of}
 use Rattle.ft_world.specs.Running.{Running}
@@ -62,7 +62,7 @@ brings_entry (Some (message.Sector r)) q bytes a e = (cc)
 brings_entry None q bytes a e = (cc)
 
 no_entry : {S : Type 0} (o : Option Message) (q : Option world.Message) (here : Option (Node S)) → Agree IsMessage o q →
-    option_and_then log_of o ≡ None → at_log here q ≡ Some Unknown
+    option_and_then log_of o ≡ None → at_log_entry here q ≡ Some Unknown
 no_entry None None here a e = refl
 no_entry None (Some y) here a e = absurd a
 no_entry (Some (message.Log b)) q here a e = (cc)
@@ -88,8 +88,8 @@ delivers_unknown state M records old c m n brings h =
 -- what a node does with the bytes is what it does with their packet
 pub spelled_log : {S : Type 0} {generation index : ℕ} {e : Entry} (bytes : List ℕ) (x : Node S)
     (r : Result Bool Fault) (Is : Node S → Type 0) → packet_at bytes ≡ Some (packet.Log generation index e) →
-    Delivers WantsEntry (packet_at bytes) x r Is → Call (log_refusal generation x) (WantsEntry index) (Held index e) x r Is
-spelled_log bytes x r Is spelled d = subst (λ p. Delivers WantsEntry p x r Is) spelled d
+    DeliversLog WantsEntry (packet_at bytes) x r Is → Call (deliver_log_refusal generation x) (WantsEntry index) (Held index e) x r Is
+spelled_log bytes x r Is spelled d = subst (λ p. DeliversLog WantsEntry p x r Is) spelled d
 
 new_or_old : (new : Bool) → reply_of (cond new reply.New reply.Old) ≡ cond new protocol.New protocol.Old
 new_or_old true = refl
@@ -99,12 +99,12 @@ pub delivers_refused : {B H D S : Type 0} (state : B → S) (M : Machine S) (rec
     (old : Running B H D) (c : Course S) (m n : ℕ) (bytes : List ℕ) (fault : Fault) (hosts : List (Host B H)) →
     option_and_then log_of (slice_get old.messages m) ≡ Some bytes → Shows state M records old c →
     ((generation index : ℕ) (e : Entry) → packet_at bytes ≡ Some (packet.Log generation index e) →
-    AtHost state M c.world n (log_refusal generation) (WantsEntry index) (Held index e) (Err fault) hosts) →
+    AtHost state M c.world n (deliver_log_refusal generation) (WantsEntry index) (Held index e) (Err fault) hosts) →
     Applies state M records c (event.DeliverLog m n) (Err fault) (record old { hosts = hosts })
 delivers_refused state M records old c m n bytes fault hosts brings h at =
     let b = brings_entry (slice_get old.messages m) (slice_get c.world.messages m) bytes
     (h.parts.messages.each m) brings in
-    node_refused h (event.DeliverLog m n) fault hosts (ap (λ q. at_log (slice_get c.world.nodes n) q) b.message)
+    node_refused h (event.DeliverLog m n) fault hosts (ap (λ q. at_log_entry (slice_get c.world.nodes n) q) b.message)
     (λ s. record { generation = b.generation; index = b.index; e = b.e; message = b.message; next = s }) refl
     (at b.generation b.index b.e b.spelled)
 
@@ -112,13 +112,13 @@ pub delivers_applies : {B H D S : Type 0} (state : B → S) (M : Machine S) (rec
     (old : Running B H D) (c : Course S) (m n : ℕ) (bytes : List ℕ) (new : Bool) (hosts : List (Host B H)) →
     option_and_then log_of (slice_get old.messages m) ≡ Some bytes → Shows state M records old c →
     ((generation index : ℕ) (e : Entry) → packet_at bytes ≡ Some (packet.Log generation index e) →
-    AtHost state M c.world n (log_refusal generation) (WantsEntry index) (Held index e) (Ok new) hosts) →
+    AtHost state M c.world n (deliver_log_refusal generation) (WantsEntry index) (Held index e) (Ok new) hosts) →
     Applies state M records c (event.DeliverLog m n) (Ok (cond new reply.New reply.Old)) (record old { hosts = hosts })
 delivers_applies state M records old c m n bytes new hosts brings h at =
     let b = brings_entry (slice_get old.messages m) (slice_get c.world.messages m) bytes
     (h.parts.messages.each m) brings in
     node_applies h (event.DeliverLog m n) (cond new reply.New reply.Old) hosts
-    (ap (λ q. at_log (slice_get c.world.nodes n) q) b.message)
+    (ap (λ q. at_log_entry (slice_get c.world.nodes n) q) b.message)
     (λ x y free s. held_stays b.index b.e new x y s)
     (λ world at. record {
       generation = b.generation;
@@ -157,7 +157,7 @@ brings_acknowledgement (Some (message.Sector r)) q bytes a e = (cc)
 brings_acknowledgement None q bytes a e = (cc)
 
 no_acknowledgement : {S : Type 0} (o : Option Message) (q : Option world.Message) (here : Option (Node S)) →
-    Agree IsMessage o q → option_and_then ack_of o ≡ None → at_acked here q ≡ Some Unknown
+    Agree IsMessage o q → option_and_then ack_of o ≡ None → at_acknowledgement here q ≡ Some Unknown
 no_acknowledgement None None here a e = refl
 no_acknowledgement None (Some y) here a e = absurd a
 no_acknowledgement (Some (message.Ack b)) q here a e = (cc)
@@ -182,34 +182,34 @@ hears_unknown state M records old c m n brings h =
 
 pub spelled_ack : {S : Type 0} {generation held : ℕ} (bytes : List ℕ) (x : Node S) (r : Result ℕ Fault)
     (Is : Node S → Type 0) → packet_at bytes ≡ Some (packet.Ack generation held) →
-    Hears (packet_at bytes) x r Is → Call (acked_refusal generation held x) Never (Heard held 0) x r Is
-spelled_ack bytes x r Is spelled d = subst (λ p. Hears p x r Is) spelled d
+    DeliversAcknowledgement (packet_at bytes) x r Is → Call (deliver_acknowledgement_refusal generation held x) Never (Heard held 0) x r Is
+spelled_ack bytes x r Is spelled d = subst (λ p. DeliversAcknowledgement p x r Is) spelled d
 
 pub hears_refused : {B H D S : Type 0} (state : B → S) (M : Machine S) (records : D → List Record)
     (old : Running B H D) (c : Course S) (m n : ℕ) (bytes : List ℕ) (fault : Fault) (hosts : List (Host B H)) →
     option_and_then ack_of (slice_get old.messages m) ≡ Some bytes → Shows state M records old c →
     ((generation held : ℕ) → packet_at bytes ≡ Some (packet.Ack generation held) →
-    AtHost state M c.world n (acked_refusal generation held) Never (Heard held 0) (Err fault) hosts) →
+    AtHost state M c.world n (deliver_acknowledgement_refusal generation held) Never (Heard held 0) (Err fault) hosts) →
     Applies state M records c (event.DeliverAcknowledgement m n) (Err fault) (record old { hosts = hosts })
 hears_refused state M records old c m n bytes fault hosts brings h at =
     let b = brings_acknowledgement (slice_get old.messages m) (slice_get c.world.messages m) bytes
     (h.parts.messages.each m) brings in
     node_refused h (event.DeliverAcknowledgement m n) fault hosts
-    (ap (λ q. at_acked (slice_get c.world.nodes n) q) b.message) (λ never. absurd never.said) refl
+    (ap (λ q. at_acknowledgement (slice_get c.world.nodes n) q) b.message) (λ never. absurd never.said) refl
     (at b.generation b.held b.spelled)
 
 pub hears_applies : {B H D S : Type 0} (state : B → S) (M : Machine S) (records : D → List Record)
     (old : Running B H D) (c : Course S) (m n : ℕ) (bytes : List ℕ) (covered : ℕ) (hosts : List (Host B H)) →
     option_and_then ack_of (slice_get old.messages m) ≡ Some bytes → Shows state M records old c →
     ((generation held : ℕ) → packet_at bytes ≡ Some (packet.Ack generation held) →
-    AtHost state M c.world n (acked_refusal generation held) Never (Heard held 0) (Ok covered) hosts) →
+    AtHost state M c.world n (deliver_acknowledgement_refusal generation held) Never (Heard held 0) (Ok covered) hosts) →
     Applies state M records c (event.DeliverAcknowledgement m n) (Ok (reply.Held covered))
     (record old { hosts = hosts })
 hears_applies state M records old c m n bytes covered hosts brings h at =
     let b = brings_acknowledgement (slice_get old.messages m) (slice_get c.world.messages m) bytes
     (h.parts.messages.each m) brings in
     node_applies h (event.DeliverAcknowledgement m n) (reply.Held covered) hosts
-    (ap (λ q. at_acked (slice_get c.world.nodes n) q) b.message)
+    (ap (λ q. at_acknowledgement (slice_get c.world.nodes n) q) b.message)
     (λ x y free s. kept_stays (heard_kept x y b.held 0 covered s))
     (λ world at. record {
       generation = b.generation;

@@ -18,7 +18,7 @@ use Rattle.pair_protocol.specs.Row.{Accepts, Leaves, Refuses, Row, WantsMemory}
 use Rattle.pair_protocol.specs.World.{World, winner_in, with_node, with_winner}
 use Rattle.pair_protocol.proofs.Moves.{same_some}
 use Rattle.pair_protocol.proofs.OneNode.{set_get}
-use Rattle.ft_node.specs.Calls.{AskedOf, Unless}
+use Rattle.ft_node.specs.Calls.{SuspectsOf, Unless}
 use Rattle.ft_world.specs.Applies.{Applies, Shows}
 use Rattle.ft_world.proofs.AtHosts.{Asked, AsksHost}
 use Rattle.ft_world.specs.Running.{Running}
@@ -119,7 +119,7 @@ wins_it : {B H D S : Type 0} (state : B → S) (M : Machine S) (records : D → 
     (winner : Option ℕ) → Shows state M records old c → slice_get c.world.nodes n ≡ Some x →
     winner_of old.askings x.generation ≡ winner →
     refusal (machine_of M c) no_copies c.world (protocol.Suspect n) ≡ fault_if (is_other winner n) Lost →
-    AskedOf winner old.askings n x (Ok won) askings (λ y. AreHosts state M hosts (slice_set c.world.nodes n y)) →
+    SuspectsOf winner old.askings n x (Ok won) askings (λ y. AreHosts state M hosts (slice_set c.world.nodes n y)) →
     Applies state M records c (event.Suspect n) (Ok reply.Won) (record old { hosts = hosts; askings = askings })
 wins_it state M records old c n won hosts askings x None h there is free (asked, are) =
     subst (λ l. Applies state M records c (event.Suspect n) (Ok reply.Won) (record old { hosts = hosts; askings = l }))
@@ -154,7 +154,7 @@ loses_it : {B H D S : Type 0} (state : B → S) (M : Machine S) (records : D →
     (winner : Option ℕ) → Shows state M records old c → slice_get c.world.nodes n ≡ Some x →
     winner_of old.askings x.generation ≡ winner →
     refusal (machine_of M c) no_copies c.world (protocol.Suspect n) ≡ fault_if (is_other winner n) Lost →
-    AskedOf winner old.askings n x (Err fault) askings (λ y. AreHosts state M hosts (slice_set c.world.nodes n y)) →
+    SuspectsOf winner old.askings n x (Err fault) askings (λ y. AreHosts state M hosts (slice_set c.world.nodes n y)) →
     Applies state M records c (event.Suspect n) (Err fault) (record old { hosts = hosts; askings = askings })
 loses_it state M records old c n fault hosts askings x None h there is free (wants, same, are) =
     stays state M records old c n fault hosts askings h

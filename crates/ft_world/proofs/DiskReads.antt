@@ -21,7 +21,7 @@ use Rattle.pair_protocol.specs.Change.{Serving}
 use Rattle.pair_protocol.specs.Copying.{no_copies}
 use Rattle.pair_protocol.specs.Event as protocol
 use Rattle.pair_protocol.specs.Node.{Alone, Node, Primary, Spare, acts_as, is_role}
-use Rattle.pair_protocol.specs.Refusals.{at_node, fault_if, first_of, no_sector, place_refusal, serves}
+use Rattle.pair_protocol.specs.Refusals.{at_node, fault_if, first_of, no_sector, get_refusal, serves}
 use Rattle.pair_protocol.specs.Row.{Accepts, DeviceFails, Row, WantsMemory}
 use Rattle.pair_protocol.specs.Effects.{IsUnder}
 use Rattle.pair_protocol.specs.Rows.{OfNode}
@@ -65,16 +65,16 @@ pub gets_unknown : {B H D S : Type 0} (state : B → S) (M : Machine S) (records
     Applies state M records c (event.Get n sector) (Err Unknown) old
 gets_unknown state M records old c n sector h high =
     refuses state M records old old c (event.Get n sector) Unknown h refl
-    (no_sector_first sector (at_node (slice_get c.world.nodes n) (place_refusal (machine_of M c))) high) refl
+    (no_sector_first sector (at_node (slice_get c.world.nodes n) (get_refusal (machine_of M c))) high) refl
 
 pub gets_refused : {B H D S : Type 0} (state : B → S) (M : Machine S) (records : D → List Record)
     (old : Running B H D) (c : Course S) (n sector : ℕ) (fault : Fault) → Shows state M records old c →
     sector < SECTORS →
-    AsksNode c.world n (place_refusal M) Never (IsUnder M sector) (Err fault) →
+    AsksNode c.world n (get_refusal M) Never (IsUnder M sector) (Err fault) →
     Applies state M records c (event.Get n sector) (Err fault) old
 gets_refused state M records old c n sector fault h low a =
     asks_refused h (event.Get n sector) fault
-    (is_sector sector (at_node (slice_get c.world.nodes n) (place_refusal M)) low) (λ never. absurd never.said) refl a
+    (is_sector sector (at_node (slice_get c.world.nodes n) (get_refusal M)) low) (λ never. absurd never.said) refl a
 
 -- a node that refuses names no failure of the disk
 same_fault : (here fault : Fault) → Some here ≡ Some fault → faults_in {T = Reply} (Err here) ≡ 0 →
@@ -90,22 +90,22 @@ no_role_or_drive false true fault e = same_fault NotDue fault e refl
 no_role_or_drive false false fault e = absurd (cc)
 
 no_place : {S : Type 0} (M : Machine S) (here : Option (Node S)) (fault : Fault) →
-    at_node here (place_refusal M) ≡ Some fault → faults_in {T = Reply} (Err fault) ≡ 0
+    at_node here (get_refusal M) ≡ Some fault → faults_in {T = Reply} (Err fault) ≡ 0
 no_place M None fault e = same_fault Unknown fault e refl
 no_place {S} M (Some x) fault e = go (is_role x.role Spare) e
   where
-    go : (b : Bool) → cond b (Some Unknown) (place_refusal M x) ≡ Some fault → faults_in {T = Reply} (Err fault) ≡ 0
+    go : (b : Bool) → cond b (Some Unknown) (get_refusal M x) ≡ Some fault → faults_in {T = Reply} (Err fault) ≡ 0
     go true e = same_fault Unknown fault e refl
     go false e =
         no_role_or_drive (not (acts_as x (Primary ∷ Alone ∷ []))) (is_none (M.selected x.machine)) fault e
 
 pub gets_no_failure : {S : Type 0} (M : Machine S) (w : World S) (n sector failures : ℕ) (fault : Fault)
     (result : Result Reply Fault) → result ≡ Err fault →
-    AsksNode w n (place_refusal M) Never (IsUnder M sector) (Err fault) →
+    AsksNode w n (get_refusal M) Never (IsUnder M sector) (Err fault) →
     failures ≡ failures + faults_in result
 gets_no_failure M w n sector failures fault result is a =
     let none : faults_in result ≡ 0 = ap faults_in is
-    ∙ no_place M (slice_get w.nodes n) fault (node_asked_not w n (place_refusal M) fault a) in
+    ∙ no_place M (slice_get w.nodes n) fault (node_asked_not w n (get_refusal M) fault a) in
     omega (arith, none)
 
 -- What is read.
@@ -128,19 +128,19 @@ pub record StandsAt {S : Type 0} (N : Machine S) (drives : ℕ) (w : World S) (n
     (address : SectorAddress) : Type 0 where
   pub node : OfNode w n (IsUnder N sector address)
   pub there : IsTrue (has_sector drives address)
-  pub free : first_of (no_sector sector ∷ at_node (slice_get w.nodes n) (place_refusal N) ∷ []) ≡ None
+  pub free : first_of (no_sector sector ∷ at_node (slice_get w.nodes n) (get_refusal N) ∷ []) ≡ None
 
 pub stands_at : {B H D S : Type 0} (state : B → S) (M : Machine S) (records : D → List Record) (old : Running B H D)
     (c : Course S) (n sector : ℕ) (address : SectorAddress) → (h : Shows state M records old c) → sector < SECTORS →
-    AsksNode c.world n (place_refusal M) Never (IsUnder M sector) (Ok address) →
+    AsksNode c.world n (get_refusal M) Never (IsUnder M sector) (Ok address) →
     StandsAt (machine_of M c) h.drives c.world n sector address
 stands_at state M records old c n sector address h low a =
     let N = machine_of M c in
-    let o = at_node (slice_get c.world.nodes n) (place_refusal N) in
-    let k = node_asked c.world n (place_refusal M) address a in
+    let o = at_node (slice_get c.world.nodes n) (get_refusal N) in
+    let k = node_asked c.world n (get_refusal M) address a in
     let x = k.1.x in
     let at = k.1.said in
-    let passed = node-passed (slice_get c.world.nodes n) x (place_refusal N) k.1.there k.0 in
+    let passed = node-passed (slice_get c.world.nodes n) x (get_refusal N) k.1.there k.0 in
     let serves_now = serving c.world n x k.1.there (first-passed (serves x) _ passed.1).0 in
     let is_serving = subst (λ role. Serving role) (sym serves_now.1.role_is) serves_now.2 in
     let r = serving_runs N c.world n x h.machine.lawful (no_copies_copy N) h.reached k.1.there is_serving in
@@ -158,7 +158,7 @@ stands_at state M records old c n sector address h low a =
 pub gets_applies : {B H D S : Type 0} (state : B → S) (M : Machine S) (records : D → List Record)
     (old : Running B H D) (c : Course S) (n sector : ℕ) (address : SectorAddress) (answer : Result Reply Fault)
     (ms : List Message) (disk : D) → Shows state M records old c → sector < SECTORS →
-    AsksNode c.world n (place_refusal M) Never (IsUnder M sector) (Ok address) →
+    AsksNode c.world n (get_refusal M) Never (IsUnder M sector) (Ok address) →
     GetsSector old.messages (records old.disk) address answer ms (records disk) →
     Applies state M records c (event.Get n sector) answer (record old { messages = ms; disk = disk })
 gets_applies state M records old c n sector address (Ok r) ms disk h low a (read, is_read, said, sends, after) =

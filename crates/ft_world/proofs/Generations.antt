@@ -11,7 +11,7 @@ use Rattle.pair_protocol.specs.Event as protocol
 use Rattle.pair_protocol.specs.Node.{Node, Spare, wins}
 use Rattle.pair_protocol.specs.Refusals.{refusal}
 use Rattle.pair_protocol.specs.Row.{Accepts, DeviceFails, Leaves, Refuses, Row, WantsMemory}
-use Rattle.pair_protocol.specs.Rows.{Asks, AtNode, Does, Takes}
+use Rattle.pair_protocol.specs.Rows.{Suspects, AtNode, Does, Takes}
 use Rattle.pair_protocol.specs.Settled.{highest}
 use Rattle.pair_protocol.specs.World.{World, winner_in, with_winner}
 use Rattle.pair_protocol.proofs.Growth.{asks_at_top, winner_added}
@@ -63,7 +63,7 @@ node_wins M C w new i n x there a_node none after = record {
 }
 
 asks_keeps : {S : Type 0} (M : Machine S) (C : Copying S) (w new : World S) (n : ℕ) (r : protocol.Reply) →
-    Inv M C w → refusal M C w (protocol.Suspect n) ≡ None → Asks w n r new → KeepsHighest w new
+    Inv M C w → refusal M C w (protocol.Suspect n) ≡ None → Suspects w n r new → KeepsHighest w new
 asks_keeps M C w new n r i free d = elim d.after [
   | inl won ↦ node_wins M C w new i n d.x d.there (asks_no_spare M C w n d.x d.there free) won.0 won.1
   | inr same ↦ nodes_stay w new (ap (λ v. v.nodes) same.1) (ap (λ v. v.winners) same.1)

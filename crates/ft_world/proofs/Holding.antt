@@ -38,19 +38,19 @@ not_refused (Some m) x next D d = let e = d.0 in (cc)
 
 pub passes_by : {B S : Type 0} (state : B → S) (M : Machine S) (p : Option Packet) (h : Station B)
     (node : code.Node B) (r : Result Bool Fault) (x : Node S) → calls.Expects p x (Ok None) → IsStation state M h x
-    → calls.Delivers calls.WantsRoom p x r (IsNode state M node)
-    → calls.Delivers WantsEntry p x r (IsStation state M (record h { node = node }))
+    → calls.DeliversLog calls.WantsRoom p x r (IsNode state M node)
+    → calls.DeliversLog WantsEntry p x r (IsStation state M (record h { node = node }))
 passes_by {B} {S} state M None h node r x e is d = absurd (not_refused _ x None ⊥ e).1
 passes_by {B} {S} state M (Some (Ack generation held)) h node r x e is d = absurd (not_refused _ x None ⊥ e).1
 passes_by {B} {S} state M (Some (Log generation index en)) h node r x e is d =
-    let t : Retells (refusals.log_refusal generation x) (calls.WantsRoom index) (WantsEntry index) (Held index en) x
+    let t : Retells (refusals.deliver_log_refusal generation x) (calls.WantsRoom index) (WantsEntry index) (Held index en) x
     (IsNode state M node) (IsStation state M (record h { node = node })) =
     record { stays = unmoved state M h node x is; wanting = λ w. w.0; becomes = λ v y none s now. into v y s now } in
     retold r t d
   where
-    o : (refusals.log_refusal generation x ≡ None)
+    o : (refusals.deliver_log_refusal generation x ≡ None)
         × (None ≡ (if index == length x.held then Some en else None))
-    o = not_refused (refusals.log_refusal generation x) x None
+    o = not_refused (refusals.deliver_log_refusal generation x) x None
         (None ≡ (if index == length x.held then Some en else None)) e
 
     not_next : (b : Bool) → (index == length x.held) ≡ b → None ≡ (if b then Some en else None) → index ≡ length
@@ -83,19 +83,19 @@ held_station state M h new e x role is now same c = record {
 pub holds_on : {B S : Type 0} (state : B → S) (M : Machine S) (p : Option Packet) (h : Station B)
     (node : code.Node B) (new : Station B) (next : Entry) (v : Bool) (x : Node S)
     → calls.Expects p x (Ok (Some next)) → IsStation state M h x
-    → calls.Delivers calls.WantsRoom p x (Ok v) (IsNode state M node) → new.node ≡ node
+    → calls.DeliversLog calls.WantsRoom p x (Ok v) (IsNode state M node) → new.node ≡ node
     → new.inputs ≡ h.inputs ++ timed_in (timed_of next) → new.count ≡ count_of next
-    → calls.Delivers WantsEntry p x (Ok v) (IsStation state M new)
+    → calls.DeliversLog WantsEntry p x (Ok v) (IsStation state M new)
 holds_on {B} {S} state M None h node new next v x e is d en same c = absurd (not_refused _ x (Some next) ⊥ e).1
 holds_on {B} {S} state M (Some (Ack generation held)) h node new next v x e is d en same c =
     absurd (not_refused _ x (Some next) ⊥ e).1
 holds_on {B} {S} state M (Some (Log generation index en)) h node new next v x e is d enode same c =
-    given (refusals.log_refusal generation x) (calls.WantsRoom index) (WantsEntry index) (Held index en) x
+    given (refusals.deliver_log_refusal generation x) (calls.WantsRoom index) (WantsEntry index) (Held index en) x
     (IsNode state M node) (IsStation state M new) v (λ y none s now. into v y s now) d
   where
-    o : (refusals.log_refusal generation x ≡ None)
+    o : (refusals.deliver_log_refusal generation x ≡ None)
         × (Some next ≡ (if index == length x.held then Some en else None))
-    o = not_refused (refusals.log_refusal generation x) x (Some next)
+    o = not_refused (refusals.deliver_log_refusal generation x) x (Some next)
         (Some next ≡ (if index == length x.held then Some en else None)) e
 
     is_next : (b : Bool) → (index == length x.held) ≡ b → Some next ≡ (if b then Some en else None)
@@ -121,7 +121,7 @@ holds_on {B} {S} state M (Some (Log generation index en)) h node new next v x e 
 
 pub expects_not : {B S : Type 0} (state : B → S) (M : Machine S) (p : Option Packet) (h : Station B)
     (r : Result Bool Fault) (fault : Fault) (x : Node S) → IsErrAnd r (λ k. k ≡ fault) → calls.Expects p x (Err fault)
-    → IsStation state M h x → calls.Delivers WantsEntry p x r (IsStation state M h)
+    → IsStation state M h x → calls.DeliversLog WantsEntry p x r (IsStation state M h)
 expects_not {B} {S} state M p h r fault x at d is = go p d
   where
     refuses : (o : Option Fault) (r : Result Bool Fault) (D E : Type 0) → IsErrAnd r (λ k. k ≡ fault) → (D → ⊥)
@@ -132,7 +132,7 @@ expects_not {B} {S} state M p h r fault x at d is = go p d
         let e = d.0 in
         let same : fault ≡ m = (cc) in (ap Err (at ∙ same), is)
 
-    go : (p : Option Packet) → calls.Expects p x (Err fault) → calls.Delivers WantsEntry p x r (IsStation state M h)
+    go : (p : Option Packet) → calls.Expects p x (Err fault) → calls.DeliversLog WantsEntry p x r (IsStation state M h)
     go None d = refuses _ r ⊥ ⊥ at (λ no. no) d
     go (Some (Ack generation held)) d = refuses _ r ⊥ ⊥ at (λ no. no) d
-    go (Some (Log generation index e)) d = refuses (refusals.log_refusal generation x) r _ _ at (λ no. no.1) d
+    go (Some (Log generation index e)) d = refuses (refusals.deliver_log_refusal generation x) r _ _ at (λ no. no.1) d

@@ -12,7 +12,7 @@ use Rattle.log_channel.proofs.PacketLaws.{is_only}
 use Rattle.pair_protocol.specs.Copying.{no_copies}
 use Rattle.pair_protocol.specs.Event as protocol
 use Rattle.pair_protocol.specs.Node.{Node}
-use Rattle.pair_protocol.specs.Refusals.{ack_refusal, refusal, send_refusal}
+use Rattle.pair_protocol.specs.Refusals.{acknowledge_refusal, refusal, send_refusal}
 use Rattle.pair_protocol.specs.Row.{Accepts, MayWantMemory}
 use Rattle.pair_protocol.specs.Rows.{Does}
 use Rattle.pair_protocol.specs.World as sent
@@ -115,18 +115,18 @@ SpellsHeld bytes x = IsSpelled (packet.Ack x.generation (length x.held)) bytes
 
 pub acknowledges_refused : {B H D S : Type 0} (state : B → S) (M : Machine S) (records : D → List Record)
     (old : Running B H D) (c : Course S) (n : ℕ) (fault : Fault) → Shows state M records old c →
-    AsksNode c.world n ack_refusal Ever SpellsHeld (Err fault) →
+    AsksNode c.world n acknowledge_refusal Ever SpellsHeld (Err fault) →
     Applies state M records c (event.Acknowledge n) (Err fault) old
 acknowledges_refused state M records old c n fault h a =
     asks_refused h (event.Acknowledge n) fault refl (λ s. tt) refl a
 
 pub acknowledges_applies : {B H D S : Type 0} (state : B → S) (M : Machine S) (records : D → List Record)
     (old : Running B H D) (c : Course S) (n : ℕ) (bytes : Vec ℕ) (answer : Result Reply Fault) (ms : List Message) →
-    Shows state M records old c → AsksNode c.world n ack_refusal Ever SpellsHeld (Ok bytes) →
+    Shows state M records old c → AsksNode c.world n acknowledge_refusal Ever SpellsHeld (Ok bytes) →
     Says old.messages (message.Ack bytes) answer ms →
     Applies state M records c (event.Acknowledge n) answer (record old { messages = ms })
 acknowledges_applies state M records old c n bytes answer ms h a said =
-    let k = node_asked c.world n ack_refusal bytes a in
+    let k = node_asked c.world n acknowledge_refusal bytes a in
     let x = k.1.x in
     says_applies state M records old c (event.Acknowledge n) (message.Ack bytes)
     (sent.Acknowledgement x.generation (length x.held) 0) answer ms h

@@ -85,8 +85,8 @@ steps_not state M turns h node r fault x at i d =
 
 pub replays_on : {B S : Type 0} (state : B → S) (M : Machine S) (turns : ℕ) (h : Station B) (node : code.Node B)
     (r : Result Replayed Fault) (x : Node S) → IsStation state M h x
-    → calls.Replaying M turns x r (IsNode state M node)
-    → calls.Replaying M turns x r (IsStation state M (record h { node = node }))
+    → calls.Replays M turns x r (IsNode state M node)
+    → calls.Replays M turns x r (IsStation state M (record h { node = node }))
 replays_on state M turns h node r x i d =
     retold r (retells state M h node x (refusals.replay_refusal x) (WantsMoves M turns) (calls.ReplayedBy M turns) i
     (λ v y none s.
@@ -112,9 +112,9 @@ drained_station state M h node count x y false is role k now e =
 
 pub drains_on : {B S : Type 0} (state : B → S) (M : Machine S) (turns : ℕ) (h : Station B) (node : code.Node B)
     (d : Drained) (count : ℕ) (x : Node S) → IsStation state M h x
-    → calls.Draining M turns x (Ok d) (IsNode state M node)
+    → calls.Drains M turns x (Ok d) (IsNode state M node)
     → ((y : Node S) → IsNode state M node y → count ≡ (if d.alone then M.count y.machine else h.count))
-    → calls.Draining M turns x (Ok d) (IsStation state M (record h { node = node; count = count }))
+    → calls.Drains M turns x (Ok d) (IsStation state M (record h { node = node; count = count }))
 drains_on {B} {S} state M turns h node d count x is r counted =
     given (refusals.drain_refusal x) (WantsMoves M turns) (WantsMoves M turns) (calls.DrainedBy M turns) x
     (IsNode state M node) After d (λ y none s now. (let e = s.after in
@@ -129,20 +129,20 @@ drains_on {B} {S} state M turns h node d count x is r counted =
 -- ---- an acknowledgement, a halt
 
 pub hears_on : {B S : Type 0} (state : B → S) (M : Machine S) (p : Option Packet) (h : Station B) (node : code.Node B)
-    (r : Result ℕ Fault) (x : Node S) → IsStation state M h x → calls.Hears p x r (IsNode state M node)
-    → calls.Hears p x r (IsStation state M (record h { node = node }))
+    (r : Result ℕ Fault) (x : Node S) → IsStation state M h x → calls.DeliversAcknowledgement p x r (IsNode state M node)
+    → calls.DeliversAcknowledgement p x r (IsStation state M (record h { node = node }))
 hears_on {B} {S} state M p h node r x i d = go p d
   where
     none : (o : Option Fault) → calls.Unless o r (IsNode state M node x) ⊥
         → calls.Unless o r (IsStation state M (record h { node = node }) x) ⊥
     none o = unless o r _ _ ⊥ ⊥ (unmoved state M h node x i) (λ no. no)
 
-    go : (p : Option Packet) → calls.Hears p x r (IsNode state M node)
-        → calls.Hears p x r (IsStation state M (record h { node = node }))
+    go : (p : Option Packet) → calls.DeliversAcknowledgement p x r (IsNode state M node)
+        → calls.DeliversAcknowledgement p x r (IsStation state M (record h { node = node }))
     go None d = none _ d
     go (Some (Log generation index e)) d = none _ d
     go (Some (Ack generation held)) d = retold r (retells state M h node x
-        (refusals.acked_refusal generation held x) calls.Never (Heard held 0) i (λ v y free s.
+        (refusals.deliver_acknowledgement_refusal generation held x) calls.Never (Heard held 0) i (λ v y free s.
         (let k = heard_kept x y held 0 v s in (k, same_count M x y x.role k (ap (λ (z : Node S). z.machine) s.1))))) d
 
 pub stops_on : {B S : Type 0} (state : B → S) (M : Machine S) (h : Station B) (node : code.Node B)
@@ -180,12 +180,12 @@ won_a_node Spare f s = f s
 
 pub suspects_on : {B S : Type 0} (state : B → S) (M : Machine S) (h : Station B) (node : code.Node B)
     (old new : List Asking) (n : ℕ) (r : Result Won Fault) (x : Node S) → IsStation state M h x
-    → calls.Asks old n x r new (IsNode state M node)
-    → calls.Asks old n x r new (IsStation state M (record h { node = node }))
+    → calls.Suspects old n x r new (IsNode state M node)
+    → calls.Suspects old n x r new (IsStation state M (record h { node = node }))
 suspects_on {B} {S} state M h node old new n r x is d =
     unless (refusals.suspect_refusal x) r (IsNode state M node x × (new ≡ old)) (After x × (new ≡ old))
-    (calls.AskedOf (winner_of old x.generation) old n x r new (IsNode state M node))
-    (calls.AskedOf (winner_of old x.generation) old n x r new After) (λ p. (unmoved state M h node x is p.0, p.1))
+    (calls.SuspectsOf (winner_of old x.generation) old n x r new (IsNode state M node))
+    (calls.SuspectsOf (winner_of old x.generation) old n x r new After) (λ p. (unmoved state M h node x is p.0, p.1))
     (λ a. asked (winner_of old x.generation) old n x r new (IsNode state M node) After
     (λ p. unmoved state M h node x is p) (λ p. won p)
     (λ p. stays_on state M h node x (halts x) is halted (same_count M x (halts x) x.role halted refl) p) a) d

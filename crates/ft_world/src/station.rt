@@ -69,10 +69,10 @@ impl<B: Lockstep + Drop> Station<B> {
     }
 
     /// A node takes the key that was typed at an index, from 0.
-    pub(crate) fn key(&mut self, port: u8, index: u64, byte: u8) -> R<()>
+    pub(crate) fn take_key(&mut self, port: u8, index: u64, byte: u8) -> R<()>
         requires port { port < PORTS }
         ensures answer { (x : protocol.Node B.State) → IsStation B.state B.machine self.old x
-            → calls.Call (refusals.key_refusal B.machine port index x) calls.Ever
+            → calls.Call (refusals.take_key_refusal B.machine port index x) calls.Ever
             (λ done. Took B.machine (input.Rx port byte)) x result (IsStation B.state B.machine self.new) }
         ensures unchanged { OnErr result (self.new ≡ self.old) }
     {
@@ -92,10 +92,10 @@ impl<B: Lockstep + Drop> Station<B> {
     }
 
     /// A node takes the acceptance of the byte with a number, from 1.
-    pub(crate) fn sent(&mut self, port: u8, number: u64) -> R<()>
+    pub(crate) fn tell_sent(&mut self, port: u8, number: u64) -> R<()>
         requires port { port < PORTS }
         ensures answer { (x : protocol.Node B.State) → IsStation B.state B.machine self.old x
-            → calls.Call (refusals.sent_refusal B.machine port number x) calls.Ever
+            → calls.Call (refusals.tell_sent_refusal B.machine port number x) calls.Ever
             (λ done. Took B.machine (input.Sent port)) x result (IsStation B.state B.machine self.new) }
         ensures unchanged { OnErr result (self.new ≡ self.old) }
     {
@@ -115,9 +115,9 @@ impl<B: Lockstep + Drop> Station<B> {
     }
 
     /// A node takes the completion of the write with a number.
-    pub(crate) fn done(&mut self, number: u64) -> R<()>
+    pub(crate) fn put_reply(&mut self, number: u64) -> R<()>
         ensures answer { (x : protocol.Node B.State) → IsStation B.state B.machine self.old x
-            → calls.Call (refusals.done_refusal B.machine number x) calls.Ever
+            → calls.Call (refusals.put_reply_refusal B.machine number x) calls.Ever
             (λ done. Took B.machine (input.Written number)) x result (IsStation B.state B.machine self.new) }
         ensures unchanged { OnErr result (self.new ≡ self.old) }
     {
@@ -137,7 +137,7 @@ impl<B: Lockstep + Drop> Station<B> {
     }
 
     /// A node takes a sector that was read, with the number of the write that brought its bytes.
-    pub(crate) fn under(
+    pub(crate) fn get_reply(
         &mut self,
         address: SectorAddress,
         number: u64,
@@ -146,7 +146,7 @@ impl<B: Lockstep + Drop> Station<B> {
         requires drive { address.drive < DRIVES }
         requires sector { address.sector < SECTORS }
         ensures answer { (x : protocol.Node B.State) → IsStation B.state B.machine self.old x
-            → calls.Call (refusals.under_refusal B.machine address number bytes x) calls.Ever
+            → calls.Call (refusals.get_reply_refusal B.machine address number bytes x) calls.Ever
             (λ done. Took B.machine (input.Sector address.drive address.sector number bytes)) x result
             (IsStation B.state B.machine self.new) }
         ensures unchanged { OnErr result (self.new ≡ self.old) }
@@ -168,9 +168,9 @@ impl<B: Lockstep + Drop> Station<B> {
 
     /// A node takes a packet of the log: true if its entry is the next one, and is now held; a repeat, or one past a
     /// gap, is false.
-    pub(crate) fn on_log(&mut self, bytes: &[u8]) -> R<bool>
+    pub(crate) fn deliver_log(&mut self, bytes: &[u8]) -> R<bool>
         ensures answer { (x : protocol.Node B.State) → IsStation B.state B.machine self.old x
-            → calls.Delivers WantsEntry (packet_at bytes.now) x result (IsStation B.state B.machine self.new) }
+            → calls.DeliversLog WantsEntry (packet_at bytes.now) x result (IsStation B.state B.machine self.new) }
         ensures unchanged { OnErr result (self.new ≡ self.old) }
     {
         let next = self.node.next_entry(bytes)?;
@@ -194,9 +194,9 @@ impl<B: Lockstep + Drop> Station<B> {
     }
 
     /// A node takes an acknowledgement, and returns how many entries are acknowledged then.
-    pub(crate) fn on_ack(&mut self, bytes: &[u8]) -> R<u64>
+    pub(crate) fn deliver_acknowledgement(&mut self, bytes: &[u8]) -> R<u64>
         ensures answer { (x : protocol.Node B.State) → IsStation B.state B.machine self.old x
-            → calls.Hears (packet_at bytes.now) x result (IsStation B.state B.machine self.new) }
+            → calls.DeliversAcknowledgement (packet_at bytes.now) x result (IsStation B.state B.machine self.new) }
         ensures unchanged { OnErr result (self.new ≡ self.old) }
     {
         self.node.on_ack(bytes)
@@ -206,7 +206,7 @@ impl<B: Lockstep + Drop> Station<B> {
     pub(crate) fn replay(&mut self, turns: u64) -> R<Replayed>
         requires on_trace { MayReplay B.state B.machine self.old.node }
         ensures answer { (x : protocol.Node B.State) → IsStation B.state B.machine self.old x
-            → calls.Replaying B.machine turns x result (IsStation B.state B.machine self.new) }
+            → calls.Replays B.machine turns x result (IsStation B.state B.machine self.new) }
         ensures unchanged { OnErr result (self.new ≡ self.old) }
     {
         self.node.replay(turns)
@@ -216,7 +216,7 @@ impl<B: Lockstep + Drop> Station<B> {
     pub(crate) fn drain(&mut self, turns: u64) -> R<Drained>
         requires on_trace { MayReplay B.state B.machine self.old.node }
         ensures answer { (x : protocol.Node B.State) → IsStation B.state B.machine self.old x
-            → calls.Draining B.machine turns x result (IsStation B.state B.machine self.new) }
+            → calls.Drains B.machine turns x result (IsStation B.state B.machine self.new) }
         ensures unchanged { OnErr result (self.new ≡ self.old) }
     {
         let drained = self.node.drain(turns)?;
@@ -236,7 +236,7 @@ impl<B: Lockstep + Drop> Station<B> {
     /// Asks the arbiter for the generation: the first node to ask goes on alone, a backup once it is drained.
     pub(crate) fn suspect(&mut self, id: u64, arbiter: &mut Arbiter) -> R<Won>
         ensures answer { (x : protocol.Node B.State) → IsStation B.state B.machine self.old x
-            → calls.Asks arbiter.old id x result arbiter.new (IsStation B.state B.machine self.new) }
+            → calls.Suspects arbiter.old id x result arbiter.new (IsStation B.state B.machine self.new) }
         ensures beside { self.new ≡ record self.old { node = self.new.node } }
         ensures unchanged { IfErr result (λ fault. fault ≢ Lost → self.new ≡ self.old) }
         ensures arbiter { OnErr result (arbiter.new ≡ arbiter.old) }

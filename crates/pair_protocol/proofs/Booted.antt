@@ -10,7 +10,7 @@ use Rattle.log_entry.specs.Standing.{Stands, IsOnTrace}
 use Rattle.log_entry.specs.declared.entry.Entry.{Entry}
 use Rattle.pair_protocol.specs.Event.{Why}
 use Rattle.pair_protocol.specs.Node.{Node, Role, keys_covered}
-use Rattle.pair_protocol.specs.Refusals.{step_refusal, key_refusal, sent_refusal, done_refusal, under_refusal, release_refusal, place_refusal}
+use Rattle.pair_protocol.specs.Refusals.{step_refusal, take_key_refusal, tell_sent_refusal, put_reply_refusal, get_reply_refusal, release_refusal, get_refusal}
 use Rattle.pair_protocol.specs.Effects.{Advances, Drained, Replayed, Stepped, Took, NoneLeft, Ends, Waits, Short, Gives, Goes, IsBehind, Replays, NoTurns, AtEnd, NoMemory, OneStep, OneMark, OneInput}
 
 -- ---- to the machine that boots elsewhere
@@ -72,28 +72,28 @@ module _ {S : Type 0} (M : Machine S) (start : S) (sectors : SectorAddress → L
       → step_refusal (booted_from M start sectors) turns x ≡ step_refusal M turns x
   step_refusal-booted turns x = refl
 
-  pub key_refusal-booted : (port index : ℕ) (x : Node S)
-      → key_refusal (booted_from M start sectors) port index x ≡ key_refusal M port index x
-  key_refusal-booted port index x = refl
+  pub take_key_refusal-booted : (port index : ℕ) (x : Node S)
+      → take_key_refusal (booted_from M start sectors) port index x ≡ take_key_refusal M port index x
+  take_key_refusal-booted port index x = refl
 
-  pub sent_refusal-booted : (port number : ℕ) (x : Node S)
-      → sent_refusal (booted_from M start sectors) port number x ≡ sent_refusal M port number x
-  sent_refusal-booted port number x = refl
+  pub tell_sent_refusal-booted : (port number : ℕ) (x : Node S)
+      → tell_sent_refusal (booted_from M start sectors) port number x ≡ tell_sent_refusal M port number x
+  tell_sent_refusal-booted port number x = refl
 
-  pub done_refusal-booted : (number : ℕ) (x : Node S)
-      → done_refusal (booted_from M start sectors) number x ≡ done_refusal M number x
-  done_refusal-booted number x = refl
+  pub put_reply_refusal-booted : (number : ℕ) (x : Node S)
+      → put_reply_refusal (booted_from M start sectors) number x ≡ put_reply_refusal M number x
+  put_reply_refusal-booted number x = refl
 
-  pub under_refusal-booted : (address : SectorAddress) (number : ℕ) (bytes : List ℕ) (x : Node S)
-      → under_refusal (booted_from M start sectors) address number bytes x ≡ under_refusal M address number bytes x
-  under_refusal-booted address number bytes x = refl
+  pub get_reply_refusal-booted : (address : SectorAddress) (number : ℕ) (bytes : List ℕ) (x : Node S)
+      → get_reply_refusal (booted_from M start sectors) address number bytes x ≡ get_reply_refusal M address number bytes x
+  get_reply_refusal-booted address number bytes x = refl
 
   pub release_refusal-booted : (name : OpId) (x : Node S)
       → release_refusal (booted_from M start sectors) name x ≡ release_refusal M name x
   release_refusal-booted name x = refl
 
-  pub place_refusal-booted : (x : Node S) → place_refusal (booted_from M start sectors) x ≡ place_refusal M x
-  place_refusal-booted x = refl
+  pub get_refusal-booted : (x : Node S) → get_refusal (booted_from M start sectors) x ≡ get_refusal M x
+  get_refusal-booted x = refl
 
   pub keys_covered-booted : (x : Node S) (port : ℕ) (role : Role)
       → keys_covered (booted_from M start sectors) x port role ≡ keys_covered M x port role

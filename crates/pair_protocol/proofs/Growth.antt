@@ -8,14 +8,14 @@ use Rattle.i8080_words.specs.declared.refusal.Fault.TheVariants.{Lost}
 use Rattle.plain_single.specs.declared.timed.Timed.{Timed}
 use Rattle.pair_protocol.specs.Change.{Change, Changes, Reached, Stays, Then, Wins}
 use Rattle.pair_protocol.specs.Copying.{Copying, IsCopying}
-use Rattle.pair_protocol.specs.Event.{Ack, Arrive, BeginPair, DeliverAck, DeliverLog, Drain, Event, Get, GetReply, PartComes, Put, PutReply, Release, Replay, Reply, Send, SendPart, Step, Stop, Suspect, TakeKey, TellSent, Told, TypeByte}
+use Rattle.pair_protocol.specs.Event.{Acknowledge, Arrive, BeginPair, DeliverAcknowledgement, DeliverLog, Drain, Event, Get, GetReply, PartComes, Put, PutReply, Release, Replay, Reply, Send, SendPart, Step, Stop, Suspect, TakeKey, TellSent, Told, TypeByte}
 use Rattle.pair_protocol.specs.Faithful.{IsPrefix}
 use Rattle.pair_protocol.specs.Grows.{Grows}
 use Rattle.pair_protocol.specs.Lawful.{Lawful}
 use Rattle.pair_protocol.specs.Node.{Alone, Backup, Draining, Joining, Node, Primary, Role, Spare, wins, won_role}
 use Rattle.pair_protocol.specs.Refusals.{refusal}
 use Rattle.pair_protocol.specs.Row.{Accepts, DeviceFails, Leaves, Refuses, Row, WantsMemory}
-use Rattle.pair_protocol.specs.Rows.{Asks, Does}
+use Rattle.pair_protocol.specs.Rows.{Suspects, Does}
 use Rattle.pair_protocol.specs.Settled.{Settled, Settles, highest, list_of}
 use Rattle.pair_protocol.specs.World.{Winner, World, winner_in, with_winner}
 use Rattle.pair_protocol.proofs.Moves.{same_some}
@@ -152,8 +152,8 @@ does_winners M C w (TypeByte port byte) r new h d = ap (λ v. v.winners) d.after
 does_winners M C w (TakeKey n port index) r new h d = ap (λ v. v.winners) d.input.at.after
 does_winners M C w (Send n index) r new h d = ap (λ v. v.winners) d.says.after
 does_winners M C w (DeliverLog m n) r new h d = ap (λ v. v.winners) d.at.after
-does_winners M C w (Ack n) r new h d = ap (λ v. v.winners) d.says.after
-does_winners M C w (DeliverAck m n) r new h d = ap (λ v. v.winners) d.at.after
+does_winners M C w (Acknowledge n) r new h d = ap (λ v. v.winners) d.says.after
+does_winners M C w (DeliverAcknowledgement m n) r new h d = ap (λ v. v.winners) d.at.after
 does_winners M C w (Replay n turns) r new h d = ap (λ v. v.winners) d.at.after
 does_winners M C w (Release n name) r new h d = ap (λ v. v.winners) d.says.after
 does_winners M C w (Arrive m) r new h d = ap (λ v. v.winners) d.after
@@ -186,8 +186,8 @@ suspicion (TypeByte port byte) = inl (λ h. h)
 suspicion (TakeKey n port index) = inl (λ h. h)
 suspicion (Send n index) = inl (λ h. h)
 suspicion (DeliverLog m n) = inl (λ h. h)
-suspicion (Ack n) = inl (λ h. h)
-suspicion (DeliverAck m n) = inl (λ h. h)
+suspicion (Acknowledge n) = inl (λ h. h)
+suspicion (DeliverAcknowledgement m n) = inl (λ h. h)
 suspicion (Replay n turns) = inl (λ h. h)
 suspicion (Release n name) = inl (λ h. h)
 suspicion (Arrive m) = inl (λ h. h)
@@ -204,7 +204,7 @@ suspicion (SendPart n index) = inl (λ h. h)
 suspicion (PartComes m n) = inl (λ h. h)
 
 asks_won : {S : Type 0} (M : Machine S) (C : Copying S) → Lawful M → IsCopying M C →
-    (w new : World S) (n : ℕ) (r : Reply) → Inv M C w → refusal M C w (Suspect n) ≡ None → Asks w n r new →
+    (w new : World S) (n : ℕ) (r : Reply) → Inv M C w → refusal M C w (Suspect n) ≡ None → Suspects w n r new →
     WonList M w new
 asks_won M C laws copies w new n r i p d = elim d.after [
   | inl h ↦ subst (λ v. WonList M w v) (sym h.1)

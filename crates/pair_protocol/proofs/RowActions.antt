@@ -9,17 +9,17 @@ use Rattle.i8080_words.specs.declared.refusal.Fault.TheVariants.{Lost, NotCovere
 use Rattle.log_entry.specs.declared.entry.Entry.{Entry}
 use Rattle.pair_protocol.specs.Change.{Acts, AloneReleases, Begins, Change, Changes, GoesLive, Joins, PrimaryReleases, Reads, Serving, Stays, Then, Wins}
 use Rattle.pair_protocol.specs.Copying.{Copying}
-use Rattle.pair_protocol.specs.Event.{Ack, Arrive, BeginPair, DeliverAck, DeliverLog, Drain, Event, Get, GetReply, PartComes, Put, PutReply, Release, Replay, Reply, Send, SendPart, Step, Stop, Suspect, TakeKey, TellSent, Told, TypeByte}
+use Rattle.pair_protocol.specs.Event.{Acknowledge, Arrive, BeginPair, DeliverAcknowledgement, DeliverLog, Drain, Event, Get, GetReply, PartComes, Put, PutReply, Release, Replay, Reply, Send, SendPart, Step, Stop, Suspect, TakeKey, TellSent, Told, TypeByte}
 use Rattle.pair_protocol.specs.Node.{Alone, Backup, Draining, Joining, Node, Primary, Role, Spare, acts_as, covers, gets_part, halts, hears, holds, is_role, joins, keys_covered, note_of, replay_told}
-use Rattle.pair_protocol.specs.Refusals.{ack_refusal, acked_refusal, ask_refusal, at_acked, at_host, at_log, at_part, drain_refusal, fault_if, first_of, generation_refusal, log_refusal, no_port, no_such, pair_refusal, part_refusal, refusal, release_refusal, replay_refusal, role_refusal, send_part_refusal, send_refusal, serves, step_refusal, stop_refusal, suspect_refusal, told_refusal}
+use Rattle.pair_protocol.specs.Refusals.{acknowledge_refusal, deliver_acknowledgement_refusal, ask_refusal, at_acknowledgement, at_host, at_log_entry, at_part, drain_refusal, fault_if, first_of, generation_refusal, deliver_log_refusal, no_port, no_such, pair_refusal, part_comes_refusal, refusal, release_refusal, replay_refusal, role_refusal, send_part_refusal, send_refusal, serves, step_refusal, stop_refusal, suspect_refusal, told_refusal}
 use Rattle.pair_protocol.specs.Row.{Accepts, DeviceFails, Leaves, Refuses, Row, WantsMemory}
 use Rattle.pair_protocol.specs.Effects.{Again, Comes, Completes, GotPart, Halted, Held, after_drain, at_end}
-use Rattle.pair_protocol.specs.Rows.{Asks, AtNode, BeginsPair, Delivers, Does, Drains, Steps}
+use Rattle.pair_protocol.specs.Rows.{Suspects, AtNode, BeginsPair, DeliversLog, Does, Drains, Steps}
 use Rattle.pair_protocol.specs.World.{Acknowledgement, ImagePart, LogEntry, Released, World, winner_in, with_message, with_node, with_told, with_winner}
 use Rattle.pair_protocol.specs.Rows as row
 use Rattle.pair_protocol.proofs.Passed.{acts-in, and-false, changed, changes-append, first-passed, lost-no_spare, node-passed, not-false, not-stands, only-passed, or-false, passes-if, role_of, serving, unchanged}
 use Rattle.pair_protocol.proofs.OneNode.{advance_changes, from_here, moving, on, replay_changes, with_same}
-use Rattle.pair_protocol.proofs.InputRows.{does_done, does_key, does_sent, does_under}
+use Rattle.pair_protocol.proofs.InputRows.{does_put_reply, does_take_key, does_tell_sent, does_get_reply}
 
 -- ---- each event
 
@@ -55,34 +55,34 @@ held_changes M C w m n x y index e true new a message h after =
 held_changes M C w m n x y index e false new a message h after =
     unchanged M C w new (after ∙ ap (with_node w n) h.1 ∙ with_same w n x a.there)
 
-pub does_log : {S : Type 0} (M : Machine S) (C : Copying S) (w : World S) (m n : ℕ) (r : Reply) (new : World S) →
-    refusal M C w (DeliverLog m n) ≡ None → Delivers w m n r new → Changes M C w new
-does_log M C w m n r new p d =
+pub does_deliver_log : {S : Type 0} (M : Machine S) (C : Copying S) (w : World S) (m n : ℕ) (r : Reply) (new : World S) →
+    refusal M C w (DeliverLog m n) ≡ None → DeliversLog w m n r new → Changes M C w new
+does_deliver_log M C w m n r new p d =
     let x = d.at.x in
-    let k = subst (λ z. at_log (slice_get w.nodes n) z ≡ None) d.message p in
-    let q = (node-passed (slice_get w.nodes n) x (log_refusal d.generation) d.at.there k).1 in
+    let k = subst (λ z. at_log_entry (slice_get w.nodes n) z ≡ None) d.message p in
+    let q = (node-passed (slice_get w.nodes n) x (deliver_log_refusal d.generation) d.at.there k).1 in
     let f = first-passed (role_refusal (Backup ∷ []) x) _ q in
     let g : d.generation ≡ x.generation =
     eqb-true d.generation x.generation (passes-if _ WrongGeneration (only-passed _ f.1)) in
     held_changes M C w m n x d.at.y d.index d.e d.next new (acts-in w n x Backup d.at.there f.0)
     (d.message ∙ ap (λ z. Some (LogEntry z d.index d.e)) g) d.at.done d.at.after
 
-pub does_ack : {S : Type 0} (M : Machine S) (C : Copying S) (w : World S) (n : ℕ) (r : Reply) (new : World S) →
-    refusal M C w (Ack n) ≡ None → row.Acknowledges w n r new → Changes M C w new
-does_ack M C w n r new p d =
+pub does_acknowledge : {S : Type 0} (M : Machine S) (C : Copying S) (w : World S) (n : ℕ) (r : Reply) (new : World S) →
+    refusal M C w (Acknowledge n) ≡ None → row.Acknowledges w n r new → Changes M C w new
+does_acknowledge M C w n r new p d =
     let x = d.node.x in
-    let q = (node-passed (slice_get w.nodes n) x ack_refusal d.node.there p).1 in
+    let q = (node-passed (slice_get w.nodes n) x acknowledge_refusal d.node.there p).1 in
     changed M C w new (with_message w (Acknowledgement x.generation (length x.held) (replay_told x)))
     (d.says.after ∙ ap (λ k. with_message w (Acknowledgement x.generation k d.replayed)) d.node.said.0
     ∙ ap (λ k. with_message w (Acknowledgement x.generation (length x.held) k)) d.node.said.1)
     (Change.Acknowledges n x (replay_told x) (acts-in w n x Backup d.node.there q) (omega arith))
 
-pub does_acked : {S : Type 0} (M : Machine S) (C : Copying S) (w : World S) (m n : ℕ) (r : Reply) (new : World S) →
-    refusal M C w (DeliverAck m n) ≡ None → row.Hears w m n r new → Changes M C w new
-does_acked M C w m n r new p d =
-    let k = subst (λ z. at_acked (slice_get w.nodes n) z ≡ None) d.message p in
+pub does_deliver_acknowledgement : {S : Type 0} (M : Machine S) (C : Copying S) (w : World S) (m n : ℕ) (r : Reply) (new : World S) →
+    refusal M C w (DeliverAcknowledgement m n) ≡ None → row.DeliversAcknowledgement w m n r new → Changes M C w new
+does_deliver_acknowledgement M C w m n r new p d =
+    let k = subst (λ z. at_acknowledgement (slice_get w.nodes n) z ≡ None) d.message p in
     let x = d.at.x in
-    let q = (node-passed (slice_get w.nodes n) x (acked_refusal d.generation d.held) d.at.there k).1 in
+    let q = (node-passed (slice_get w.nodes n) x (deliver_acknowledgement_refusal d.generation d.held) d.at.there k).1 in
     let f = first-passed (role_refusal (Primary ∷ []) x) _ q in
     let g : d.generation ≡ x.generation =
     eqb-true d.generation x.generation
@@ -159,7 +159,7 @@ pub asks_no_spare : {S : Type 0} (M : Machine S) (C : Copying S) (w : World S) (
 asks_no_spare M C w n x there p = (node-passed (slice_get w.nodes n) x (ask_refusal w n) there p).0
 
 pub does_suspect : {S : Type 0} (M : Machine S) (C : Copying S) (w : World S) (n : ℕ) (r : Reply) (new : World S) →
-    refusal M C w (Suspect n) ≡ None → Asks w n r new → Changes M C w new
+    refusal M C w (Suspect n) ≡ None → Suspects w n r new → Changes M C w new
 does_suspect M C w n r new p d = elim d.after [
   | inl h ↦ changed M C w new _ h.1 (suspect_wins M C w n d.x d.there p h.0)
   | inr h ↦ unchanged M C w new h.1
@@ -185,9 +185,9 @@ does_drain M C w n turns r new p d =
     from_here M C w new n x (after_drain made.z d.alone) d.at.there (d.at.after ∙ ap (with_node w n) made.after)
     (drained M C w n x made.z d.at.there t.1 t.2 d.alone (sym made.replayed.ends) t.0)
 
-pub does_begin : {S : Type 0} (M : Machine S) (C : Copying S) (w : World S) (n host : ℕ) (r : Reply) (new : World S) →
+pub does_begin_pair : {S : Type 0} (M : Machine S) (C : Copying S) (w : World S) (n host : ℕ) (r : Reply) (new : World S) →
     refusal M C w (BeginPair n host) ≡ None → BeginsPair M C w n host r new → Changes M C w new
-does_begin M C w n host r new p d =
+does_begin_pair M C w n host r new p d =
     let k = subst (λ z. at_host z (slice_get w.nodes n) ≡ None) d.spare p in
     let q = (node-passed (slice_get w.nodes n) d.x (pair_refusal d.y) d.there k).1 in
     let f = first-passed (fault_if (not (is_role d.y.role Spare)) WrongRole) _ q in
@@ -206,15 +206,15 @@ does_send_part M C w n index r new p d =
     (Change.SendsPart n x has.s index d.part
     (acts-in w n x Primary d.node.there (ap (λ b. fault_if b WrongRole) o.0)) has.image has.is_part)
 
-pub does_part : {S : Type 0} (M : Machine S) (C : Copying S) (w : World S) (m n : ℕ) (r : Reply) (new : World S) →
+pub does_part_comes : {S : Type 0} (M : Machine S) (C : Copying S) (w : World S) (m n : ℕ) (r : Reply) (new : World S) →
     refusal M C w (PartComes m n) ≡ None → row.GetsPart C w m n r new → Changes M C w new
-does_part {S} M C w m n r new p d = go d.at.done d.at.after
+does_part_comes {S} M C w m n r new p d = go d.at.done d.at.after
   where
     x : Node S
     x = d.at.x
 
-    q : part_refusal d.generation x ≡ None
-    q = (node-passed (slice_get w.nodes n) x (part_refusal d.generation) d.at.there
+    q : part_comes_refusal d.generation x ≡ None
+    q = (node-passed (slice_get w.nodes n) x (part_comes_refusal d.generation) d.at.there
         (subst (λ z. at_part (slice_get w.nodes n) z ≡ None) d.message p)).1
 
     f : (role_refusal (Joining ∷ []) x ≡ None) × (first_of (generation_refusal d.generation x ∷ []) ≡ None)
@@ -243,27 +243,27 @@ pub does_changes : {S : Type 0} (M : Machine S) (C : Copying S) (w : World S) (e
     refusal M C w e ≡ None → Does M C w e r new → Changes M C w new
 does_changes M C w (Step n turns) r new p d = does_step M C w n turns r new p d
 does_changes M C w (TypeByte port byte) r new p d = changed M C w new _ d.after (Change.Types port byte)
-does_changes M C w (TakeKey n port index) r new p d = does_key M C w n port index r new p d
+does_changes M C w (TakeKey n port index) r new p d = does_take_key M C w n port index r new p d
 does_changes M C w (Send n index) r new p d = does_send M C w n index r new p d
-does_changes M C w (DeliverLog m n) r new p d = does_log M C w m n r new p d
-does_changes M C w (Ack n) r new p d = does_ack M C w n r new p d
-does_changes M C w (DeliverAck m n) r new p d = does_acked M C w m n r new p d
+does_changes M C w (DeliverLog m n) r new p d = does_deliver_log M C w m n r new p d
+does_changes M C w (Acknowledge n) r new p d = does_acknowledge M C w n r new p d
+does_changes M C w (DeliverAcknowledgement m n) r new p d = does_deliver_acknowledgement M C w m n r new p d
 does_changes M C w (Replay n turns) r new p d = does_replay M C w n turns r new p d
 does_changes M C w (Release n name) r new p d = does_release M C w n name r new p d
 does_changes M C w (Arrive m) r new p d =
     changed M C w new _ d.after (Change.Arrives m d.port d.number d.byte d.message)
-does_changes M C w (TellSent n port k) r new p d = does_sent M C w n port k r new p d
+does_changes M C w (TellSent n port k) r new p d = does_tell_sent M C w n port k r new p d
 does_changes M C w (Told n port) r new p d = does_told M C w n port r new p d
 does_changes M C w (Stop n) r new p d = does_stop M C w n r new p d
 does_changes M C w (Suspect n) r new p d = does_suspect M C w n r new p d
 does_changes M C w (Drain n turns) r new p d = does_drain M C w n turns r new p d
 does_changes M C w (Put m) r new p d = changed M C w new _ d.after (Change.Puts m d.write d.message)
-does_changes M C w (PutReply m n) r new p d = does_done M C w m n r new p d
+does_changes M C w (PutReply m n) r new p d = does_put_reply M C w m n r new p d
 does_changes M C w (Get n sector) r new p d = changed M C w new _ d.after (Reads d.address)
-does_changes M C w (GetReply m n) r new p d = does_under M C w m n r new p d
-does_changes M C w (BeginPair n host) r new p d = does_begin M C w n host r new p d
+does_changes M C w (GetReply m n) r new p d = does_get_reply M C w m n r new p d
+does_changes M C w (BeginPair n host) r new p d = does_begin_pair M C w n host r new p d
 does_changes M C w (SendPart n index) r new p d = does_send_part M C w n index r new p d
-does_changes M C w (PartComes m n) r new p d = does_part M C w m n r new p d
+does_changes M C w (PartComes m n) r new p d = does_part_comes M C w m n r new p d
 
 pub leaves_changes : {S : Type 0} (M : Machine S) (C : Copying S) (w : World S) (e : Event) (fault : Fault)
     (new : World S) → refusal M C w e ≡ Some fault → Leaves w e fault new → Changes M C w new

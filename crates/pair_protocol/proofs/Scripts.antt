@@ -5,7 +5,7 @@ use Rattle.guest_board.specs.Machine.{Machine}
 use Rattle.i8080_words.specs.declared.refusal.Fault.TheVariants.{WrongRole}
 use Rattle.log_entry.specs.declared.entry.Entry.TheVariants.{Mark}
 use Rattle.pair_protocol.specs.Copying.{Copying}
-use Rattle.pair_protocol.specs.Event.{Accepted, Ack, Arrive, DeliverLog, Drain, Dropped, Event, Gave, MessageIs, MovedAlone, New, Ran, Refused, Release, Reply, Send, Step, Stop, Stopped, Suspect, TakeKey, TypeByte, TypedAt, Won}
+use Rattle.pair_protocol.specs.Event.{Accepted, Acknowledge, Arrive, DeliverLog, Drain, Dropped, Event, Gave, MessageIs, MovedAlone, New, Ran, Refused, Release, Reply, Send, Step, Stop, Stopped, Suspect, TakeKey, TypeByte, TypedAt, Won}
 use Rattle.pair_protocol.specs.Lawful.{top}
 use Rattle.pair_protocol.specs.Examples.{TakesOver, WritesDisk, letter, sector_write, small, small_copying}
 use Rattle.pair_protocol.specs.Node.{Alone, Node, Primary}
@@ -104,7 +104,7 @@ drained = record {
 }
 
 abbrev first_events : List Event
-first_events = Step 0 10 ∷ Send 0 0 ∷ DeliverLog 0 1 ∷ Ack 1 ∷ Stop 0 ∷ Suspect 1 ∷ TypeByte 0 65 ∷ TakeKey 1 0 0 ∷
+first_events = Step 0 10 ∷ Send 0 0 ∷ DeliverLog 0 1 ∷ Acknowledge 1 ∷ Stop 0 ∷ Suspect 1 ∷ TypeByte 0 65 ∷ TakeKey 1 0 0 ∷
     Drain 1 10 ∷ []
 
 abbrev first_replies : List Reply

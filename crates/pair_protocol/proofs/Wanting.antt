@@ -9,7 +9,7 @@ use Rattle.log_entry.specs.declared.entry.Entry.{Entry}
 use Rattle.pair_protocol.specs.Copying.{Copying}
 use Rattle.pair_protocol.specs.Event.{DeliverLog, Drain, Event, New, Old, Replay, Reply, Refused, Step, Suspect}
 use Rattle.pair_protocol.specs.Node.{Alone, Backup, Draining, Joining, Node, Primary, Spare, acts_as, is_role}
-use Rattle.pair_protocol.specs.Refusals.{ask_refusal, at_log, at_node, fault_if, first_of, is_other, log_refusal, refusal, role_refusal, step_refusal, suspect_refusal}
+use Rattle.pair_protocol.specs.Refusals.{ask_refusal, at_log_entry, at_node, fault_if, first_of, is_other, deliver_log_refusal, refusal, role_refusal, step_refusal, suspect_refusal}
 use Rattle.pair_protocol.specs.Effects.{AtEnd, IsBehind, NoMemory, NoTurns, OneInput, OneMark, OneStep, Replays, WantsMoves}
 use Rattle.pair_protocol.specs.Row.{Accepts, DeviceFails, MayWantMemory, Refuses, WantsMemory}
 use Rattle.pair_protocol.specs.Rows.{Does, OfNode, drain_reply}
@@ -47,7 +47,7 @@ none_other is = (cc)
 role_other : (b : Bool) → Other (fault_if b WrongRole)
 role_other b = other_if b WrongRole (λ is. (cc))
 
-log_other : {S : Type 0} (generation : ℕ) (x : Node S) → Other (log_refusal generation x)
+log_other : {S : Type 0} (generation : ℕ) (x : Node S) → Other (deliver_log_refusal generation x)
 log_other generation x =
     other_first (role_refusal (Backup ∷ []) x) (fault_if (not (generation == x.generation)) WrongGeneration ∷ [])
     (role_other (not (acts_as x (Backup ∷ []))))
@@ -55,10 +55,10 @@ log_other generation x =
     (other_if (not (generation == x.generation)) WrongGeneration (λ is. (cc))) none_other)
 
 log_message_other : {S : Type 0} (here : Option (Node S)) (q : Option Message) (generation index : ℕ) (e : Entry)
-    → q ≡ Some (LogEntry generation index e) → Other (at_log here q)
+    → q ≡ Some (LogEntry generation index e) → Other (at_log_entry here q)
 log_message_other here q generation index e is =
-    subst (λ q. Other (at_log here q)) (sym is)
-    (other_at here (log_refusal generation) (λ x. log_other generation x))
+    subst (λ q. Other (at_log_entry here q)) (sym is)
+    (other_at here (deliver_log_refusal generation) (λ x. log_other generation x))
 
 ask_other : {S : Type 0} (w : World S) (n : ℕ) (x : Node S) → Other (ask_refusal w n x)
 ask_other w n x =

@@ -7,7 +7,7 @@ use Rattle.log_entry.specs.declared.entry.Entry.{Entry}
 use Rattle.pair_protocol.specs.Copying.{Copying}
 use Rattle.pair_protocol.specs.Effects.{Halted, WantsEntry, WantsMoves}
 use Rattle.pair_protocol.specs.World.{World, LogEntry, winner_in, with_host}
-use Rattle.pair_protocol.specs.Event.{Event, Step, DeliverLog, DeliverAck, Replay, Told, Stop, Suspect, Drain, Reply, Refused, is_disk}
+use Rattle.pair_protocol.specs.Event.{Event, Step, DeliverLog, DeliverAcknowledgement, Replay, Told, Stop, Suspect, Drain, Reply, Refused, is_disk}
 use Rattle.pair_protocol.specs.Refusals.{refusal}
 use Rattle.pair_protocol.specs.Rows.{AtNode, OfNode, Does}
 
@@ -26,7 +26,7 @@ pub record BringsNext {S : Type 0} (w : World S) (m n : ℕ) : Type 0 where
 abbrev pub MayWantMemory : {S : Type 0} → Machine S → World S → Event → Type 0
 MayWantMemory M w (Step n turns) = 0 < turns
 MayWantMemory M w (DeliverLog m n) = BringsNext w m n
-MayWantMemory M w (DeliverAck m n) = ⊥
+MayWantMemory M w (DeliverAcknowledgement m n) = ⊥
 MayWantMemory M w (Replay n turns) = OfNode w n (WantsMoves M turns)
 MayWantMemory M w (Told n port) = ⊥
 MayWantMemory M w (Stop n) = ⊥

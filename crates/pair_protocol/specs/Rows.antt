@@ -13,7 +13,7 @@ use Rattle.pair_protocol.specs.Copying.{Copying}
 use Rattle.pair_protocol.specs.Effects.{Stepped, Took, Held, Heard, Replayed, Drained, Halted, GotPart, HasEntry, HasHeld, HasOutstanding, HasCovered, IsUnder, HasPart}
 use Rattle.pair_protocol.specs.Node.{Node}
 use Rattle.pair_protocol.specs.World.{World, Message, LogEntry, Acknowledgement, ImagePart, Released, WriteDone, SectorRead, terminal, accepted, winner_in, with_node, with_message, with_key, with_arrival, with_told, with_winner, with_put, with_read, with_pair}
-use Rattle.pair_protocol.specs.Event.{Event, Step, TypeByte, TakeKey, Send, DeliverLog, Ack, DeliverAck, Replay, Release, Arrive, TellSent, Told, Stop, Suspect, Drain, Put, PutReply, Get, GetReply, BeginPair, SendPart, PartComes, Reply, Ran, TypedAt, Taken, New, Old, Accepted, Dropped, Won, Stopped, MessageIs, HeldIs, Moved, MovedAlone, ToldIs, GenerationIs, Why}
+use Rattle.pair_protocol.specs.Event.{Event, Step, TypeByte, TakeKey, Send, DeliverLog, Acknowledge, DeliverAcknowledgement, Replay, Release, Arrive, TellSent, Told, Stop, Suspect, Drain, Put, PutReply, Get, GetReply, BeginPair, SendPart, PartComes, Reply, Ran, TypedAt, Taken, New, Old, Accepted, Dropped, Won, Stopped, MessageIs, HeldIs, Moved, MovedAlone, ToldIs, GenerationIs, Why}
 
 -- the node of a number becomes another one
 pub record AtNode {S : Type 0} (w : World S) (n : ℕ) (does : Node S → Node S → Type 0) (new : World S) : Type 0 where
@@ -38,7 +38,7 @@ pub record Steps {S : Type 0} (M : Machine S) (w : World S) (n turns : ℕ) (r :
   pub at : AtNode w n (Stepped M turns made count why) new
   pub reply : r ≡ Ran made count why
 
-pub record Types {S : Type 0} (w : World S) (port byte : ℕ) (r : Reply) (new : World S) : Type 0 where
+pub record TypesByte {S : Type 0} (w : World S) (port byte : ℕ) (r : Reply) (new : World S) : Type 0 where
   pub reply : r ≡ TypedAt (length (terminal w port).typed)
   pub after : new ≡ with_key w port byte
 
@@ -64,7 +64,7 @@ pub record Sends {S : Type 0} (w : World S) (n index : ℕ) (r : Reply) (new : W
   pub node : OfNode w n (HasEntry index e)
   pub says : Says w (LogEntry node.x.generation index e) r new
 
-pub record Delivers {S : Type 0} (w : World S) (m n : ℕ) (r : Reply) (new : World S) : Type 0 where
+pub record DeliversLog {S : Type 0} (w : World S) (m n : ℕ) (r : Reply) (new : World S) : Type 0 where
   pub generation : ℕ
   pub index : ℕ
   pub e : Entry
@@ -79,7 +79,7 @@ pub record Acknowledges {S : Type 0} (w : World S) (n : ℕ) (r : Reply) (new : 
   pub node : OfNode w n (HasHeld held replayed)
   pub says : Says w (Acknowledgement node.x.generation held replayed) r new
 
-pub record Hears {S : Type 0} (w : World S) (m n : ℕ) (r : Reply) (new : World S) : Type 0 where
+pub record DeliversAcknowledgement {S : Type 0} (w : World S) (m n : ℕ) (r : Reply) (new : World S) : Type 0 where
   pub generation : ℕ
   pub held : ℕ
   pub replayed : ℕ
@@ -120,7 +120,7 @@ pub record Stops {S : Type 0} (w : World S) (n : ℕ) (r : Reply) (new : World S
   pub reply : r ≡ Stopped
 
 -- the first node of a generation to ask has won it; a winner that asks again changes nothing
-pub record Asks {S : Type 0} (w : World S) (n : ℕ) (r : Reply) (new : World S) : Type 0 where
+pub record Suspects {S : Type 0} (w : World S) (n : ℕ) (r : Reply) (new : World S) : Type 0 where
   pub x : Node S
   pub there : slice_get w.nodes n ≡ Some x
   pub reply : r ≡ Won
@@ -144,7 +144,7 @@ pub record Puts {S : Type 0} (w : World S) (m : ℕ) (r : Reply) (new : World S)
   pub reply : r ≡ MessageIs (length w.messages)
   pub after : new ≡ with_put w write
 
-pub record TakesDone {S : Type 0} (M : Machine S) (w : World S) (m n : ℕ) (r : Reply) (new : World S) : Type 0 where
+pub record TakesPutReply {S : Type 0} (M : Machine S) (w : World S) (m n : ℕ) (r : Reply) (new : World S) : Type 0 where
   pub number : ℕ
   pub message : slice_get w.messages m ≡ Some (WriteDone number)
   pub input : Takes M w n (input.Written number) r new
@@ -155,7 +155,7 @@ pub record Gets {S : Type 0} (M : Machine S) (w : World S) (n sector : ℕ) (r :
   pub reply : r ≡ MessageIs (length w.messages)
   pub after : new ≡ with_read M w address
 
-pub record TakesSector {S : Type 0} (M : Machine S) (w : World S) (m n : ℕ) (r : Reply) (new : World S) : Type 0 where
+pub record TakesGetReply {S : Type 0} (M : Machine S) (w : World S) (m n : ℕ) (r : Reply) (new : World S) : Type 0 where
   pub address : SectorAddress
   pub number : ℕ
   pub bytes : List ℕ
@@ -186,24 +186,24 @@ pub record GetsPart {S : Type 0} (C : Copying S) (w : World S) (m n : ℕ) (r : 
 -- what each event does
 abbrev pub Does : {S : Type 0} → Machine S → Copying S → World S → Event → Reply → World S → Type 0
 Does M C w (Step n turns) r new = Steps M w n turns r new
-Does M C w (TypeByte port byte) r new = Types w port byte r new
+Does M C w (TypeByte port byte) r new = TypesByte w port byte r new
 Does M C w (TakeKey n port index) r new = TakesKey M w n port index r new
 Does M C w (Send n index) r new = Sends w n index r new
-Does M C w (DeliverLog m n) r new = Delivers w m n r new
-Does M C w (Ack n) r new = Acknowledges w n r new
-Does M C w (DeliverAck m n) r new = Hears w m n r new
+Does M C w (DeliverLog m n) r new = DeliversLog w m n r new
+Does M C w (Acknowledge n) r new = Acknowledges w n r new
+Does M C w (DeliverAcknowledgement m n) r new = DeliversAcknowledgement w m n r new
 Does M C w (Replay n turns) r new = Replaying M w n turns r new
 Does M C w (Release n name) r new = Releases M w n name r new
 Does M C w (Arrive m) r new = Arrives w m r new
 Does M C w (TellSent n port number) r new = Takes M w n (input.Sent port) r new
 Does M C w (Told n port) r new = Tells M w n port r new
 Does M C w (Stop n) r new = Stops w n r new
-Does M C w (Suspect n) r new = Asks w n r new
+Does M C w (Suspect n) r new = Suspects w n r new
 Does M C w (Drain n turns) r new = Drains M w n turns r new
 Does M C w (Put m) r new = Puts w m r new
-Does M C w (PutReply m n) r new = TakesDone M w m n r new
+Does M C w (PutReply m n) r new = TakesPutReply M w m n r new
 Does M C w (Get n sector) r new = Gets M w n sector r new
-Does M C w (GetReply m n) r new = TakesSector M w m n r new
+Does M C w (GetReply m n) r new = TakesGetReply M w m n r new
 Does M C w (BeginPair n host) r new = BeginsPair M C w n host r new
 Does M C w (SendPart n index) r new = SendsPart C w n index r new
 Does M C w (PartComes m n) r new = GetsPart C w m n r new

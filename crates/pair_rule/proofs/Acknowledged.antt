@@ -5,9 +5,9 @@ use Rattle.pair_protocol.specs.Lawful.{Among}
 use Rattle.pair_protocol.specs.Copying.{Copying}
 use Rattle.i8080_words.specs.declared.refusal.Fault.TheVariants.{BadAck}
 use Rattle.pair_protocol.specs.Node.{Node, hears, holds}
-use Rattle.pair_protocol.specs.Refusals.{fault_if, first_of, at_log, at_node, at_acked, ack_refusal}
+use Rattle.pair_protocol.specs.Refusals.{fault_if, first_of, at_log_entry, at_node, at_acknowledgement, acknowledge_refusal}
 use Rattle.pair_protocol.specs.World.{World, LogEntry, Acknowledgement, with_node}
-use Rattle.pair_protocol.specs.Event.{DeliverLog, Ack, DeliverAck, MessageIs, HeldIs, New, Old}
+use Rattle.pair_protocol.specs.Event.{DeliverLog, Acknowledge, DeliverAcknowledgement, MessageIs, HeldIs, New, Old}
 use Rattle.pair_protocol.specs.Row.{Accepts}
 use Rattle.pair_rule.specs.Shown.{First, Nothing}
 use Rattle.pair_rule.specs.declared.view.Knowledge.{Knowledge}
@@ -39,10 +39,10 @@ module _ {S : Type 0} (M : Machine S) (C : Copying S) (typed0 typed1 : List ℕ)
   -- the backup acknowledges what it holds
   pub hold_leads : k.backup.winner ≡ 0 → Leads M C typed0 typed1 (held k) w
   hold_leads none = record {
-    events = Ack 1 ∷ [];
+    events = Acknowledge 1 ∷ [];
     replies = MessageIs (length w.messages) ∷ [];
     new = record w { messages = w.messages ++ Acknowledgement 1 (length k.backup.list) 0 ∷ [] };
-    run = First (Accepts (ap (λ o. at_node o ack_refusal) (at_backup none)) record { held = length k.backup.list; replayed = 0; node = record { x = backup; there = at_backup none; said = (refl, refl) }; says = record { reply = refl; after = refl } }) Nothing;
+    run = First (Accepts (ap (λ o. at_node o acknowledge_refusal) (at_backup none)) record { held = length k.backup.list; replayed = 0; node = record { x = backup; there = at_backup none; said = (refl, refl) }; says = record { reply = refl; after = refl } }) Nothing;
     once = inl refl;
     shows = record {
       moves = z.moves;
@@ -92,10 +92,10 @@ module _ {S : Type 0} (M : Machine S) (C : Copying S) (typed0 typed1 : List ℕ)
   see_one : (n : ℕ) → k.primary.winner ≡ 0 → k.primary.seen ≤ n → n ≤ length k.primary.list → Among n k.backup.held_values → Leads M C typed0 typed1 (saw n k) w
   see_one n none more short at = let m = index_of (Acknowledgement 1 n 0) w.messages (z.sent.acks n at) in
       let greater : max k.primary.seen n ≡ n = omega arith in record {
-        events = DeliverAck m.0 0 ∷ [];
+        events = DeliverAcknowledgement m.0 0 ∷ [];
         replies = HeldIs (hears primary n 0).covered ∷ [];
         new = with_node w 0 (hears primary n 0);
-        run = First (Accepts ((λ i. at_acked (at_primary none i) (m.1 i)) ∙ ap (λ b. first_of (fault_if b BadAck ∷ [])) (not_below (length k.primary.list) n short)) record { generation = 1; held = n; replayed = 0; message = m.1; covered = (hears primary n 0).covered; at = record { x = primary; there = at_primary none; y = hears primary n 0; done = (refl, refl); after = refl }; reply = refl }) Nothing;
+        run = First (Accepts ((λ i. at_acknowledgement (at_primary none i) (m.1 i)) ∙ ap (λ b. first_of (fault_if b BadAck ∷ [])) (not_below (length k.primary.list) n short)) record { generation = 1; held = n; replayed = 0; message = m.1; covered = (hears primary n 0).covered; at = record { x = primary; there = at_primary none; y = hears primary n 0; done = (refl, refl); after = refl }; reply = refl }) Nothing;
         once = inl refl;
         shows = saw_shows n (with_node w 0 (hears primary n 0)) more
             (ap (λ l. slice_set l 0 (hears primary n 0)) z.nodes ∙ (λ i. record primary { role = primary_role (sym none i); running = primary_runs (sym none i); covered = greater i } ∷ backup_node M k ∷ []))
@@ -115,7 +115,7 @@ module _ {S : Type 0} (M : Machine S) (C : Copying S) (typed0 typed1 : List ℕ)
     events = DeliverLog m 1 ∷ [];
     replies = New ∷ [];
     new = with_node w 1 (holds backup p.entry);
-    run = First (Accepts (λ i. at_log (at_backup none i) (there i)) record { generation = 1; index = p.index; e = p.entry; message = there; next = true; at = record { x = backup; there = at_backup none; y = holds backup p.entry; done = (next, refl); after = refl }; reply = refl }) Nothing;
+    run = First (Accepts (λ i. at_log_entry (at_backup none i) (there i)) record { generation = 1; index = p.index; e = p.entry; message = there; next = true; at = record { x = backup; there = at_backup none; y = holds backup p.entry; done = (next, refl); after = refl }; reply = refl }) Nothing;
     once = inl refl;
     shows = record {
       moves = z.moves;
@@ -138,7 +138,7 @@ module _ {S : Type 0} (M : Machine S) (C : Copying S) (typed0 typed1 : List ℕ)
     events = DeliverLog m 1 ∷ [];
     replies = Old ∷ [];
     new = w;
-    run = First (Accepts (λ i. at_log (at_backup none i) (there i)) record { generation = 1; index = p.index; e = p.entry; message = there; next = false; at = record { x = backup; there = at_backup none; y = backup; done = ((λ e. let c : true ≡ false = sym (eq-eqb p.index (length k.backup.list) e) ∙ is in absurd (cc)), refl); after = sym (with_same w 1 backup (at_backup none)) }; reply = refl }) Nothing;
+    run = First (Accepts (λ i. at_log_entry (at_backup none i) (there i)) record { generation = 1; index = p.index; e = p.entry; message = there; next = false; at = record { x = backup; there = at_backup none; y = backup; done = ((λ e. let c : true ≡ false = sym (eq-eqb p.index (length k.backup.list) e) ∙ is in absurd (cc)), refl); after = sym (with_same w 1 backup (at_backup none)) }; reply = refl }) Nothing;
     once = inl refl;
     shows = record {
       moves = z.moves;

@@ -27,7 +27,7 @@ use Rattle.pair_protocol.specs.Event.{Event, Step, Send, TakeKey, TellSent, PutR
 use Rattle.pair_protocol.specs.Row.{Accepts}
 use Rattle.pair_rule.specs.Shown.{IsAcknowledged, Happens, First, Nothing}
 use Rattle.pair_protocol.specs.Effects.{Advances, NoneLeft, Gives, Goes}
-use Rattle.pair_protocol.specs.Refusals.{fault_if, first_of, at_node, refusal, step_refusal, send_refusal, log_size, key_refusal, sent_refusal, is_number, at_done, at_under, place_refusal}
+use Rattle.pair_protocol.specs.Refusals.{fault_if, first_of, at_node, refusal, step_refusal, send_refusal, log_size, take_key_refusal, tell_sent_refusal, is_number, at_write_done, at_sector_read, get_refusal}
 use Rattle.pair_protocol.proofs.Moves.{among-prefix, among-split, operations-prefix, inputs-append, map-append, entries-append, inputs_of-append, timed_entry, count_entry}
 use Rattle.pair_rule.specs.declared.view.Knowledge.{Knowledge}
 use Rattle.pair_rule.specs.Knowledge.{Stands, appended}
@@ -297,7 +297,7 @@ module _ {S : Type 0} (M : Machine S) (C : Copying S) (counts : Counts M) (laws 
       → Leads M C typed0 typed1 (appended (entry_of (M.count t) (input.Rx port byte)) k) w
   key_leads n t u port byte q accepts typed = let short : M.keys t port < top = key_room M (M.keys t port) accepts.room in let w1 : World S = with_node w 0 (at t) in
       input_leads n t u (input.Rx port byte) q accepts (TakeKey 0 port (M.keys t port) ∷ []) (Taken ∷ []) (with_node w1 0 (taken t u (input.Rx port byte)))
-      (First (Accepts ((λ i. first_of (fault_if (is_none (typed i)) Unknown ∷ at_node (there_at t i) (key_refusal M port (M.keys t port)) ∷ []))
+      (First (Accepts ((λ i. first_of (fault_if (is_none (typed i)) Unknown ∷ at_node (there_at t i) (take_key_refusal M port (M.keys t port)) ∷ []))
       ∙ (λ i. first_of (first_of (fault_if (not (eq-eqb (M.keys t port) (M.keys t port) refl i)) WrongNumber ∷ fault_if (no_full i) LogFull ∷ fault_if (no_spent i) Spent ∷ fault_if (too_low (M.keys t port) top short i) Spent ∷ []) ∷ [])))
       record { byte = byte; typed = typed; input = record { at = record { x = at t; there = there_at t; y = taken t u (input.Rx port byte); done = record { s = u; takes = accepts.taken; after = refl }; after = refl }; reply = refl } }) Nothing)
       (then_nodes t (taken t u (input.Rx port byte))) z.sent refl refl refl (λ m e. absurd (let c : Written m ≡ bare (input.Rx port byte) = e in cc))
@@ -308,7 +308,7 @@ module _ {S : Type 0} (M : Machine S) (C : Copying S) (counts : Counts M) (laws 
   sent_leads n t u port number q accepts due some came = let w1 : World S = with_node w 0 (at t) in
       input_leads n t u (input.Sent port) q accepts (TellSent 0 port number ∷ []) (Taken ∷ []) (with_node w1 0 (taken t u (input.Sent port)))
       (First (Accepts (let a : (number == 0) ≡ false = ne_eqb number 0 (λ e. omega arith) in let b : nat_lt (length (accepted w port)) number ≡ false = grind arith in
-      (λ i. first_of (fault_if (a i || b i) Unknown ∷ at_node (there_at t i) (sent_refusal M port number) ∷ []))
+      (λ i. first_of (fault_if (a i || b i) Unknown ∷ at_node (there_at t i) (tell_sent_refusal M port number) ∷ []))
       ∙ (λ i. first_of (first_of (fault_if (is_none (due i)) NotDue ∷ fault_if (not (is_number (due i) number)) WrongNumber ∷ fault_if (no_full i) LogFull ∷ fault_if (no_spent i) Spent ∷ []) ∷ []))
       ∙ (λ i. first_of (first_of (None ∷ fault_if (not (eq-eqb number number refl i)) WrongNumber ∷ None ∷ None ∷ []) ∷ [])))
       record { at = record { x = at t; there = there_at t; y = taken t u (input.Sent port); done = record { s = u; takes = accepts.taken; after = refl }; after = refl }; reply = refl }) Nothing)
@@ -319,7 +319,7 @@ module _ {S : Type 0} (M : Machine S) (C : Copying S) (counts : Counts M) (laws 
       → Leads M C typed0 typed1 (appended (entry_of (M.count t) (input.Written number)) k) w
   done_leads n t u number q accepts at_disk put = let w1 : World S = with_node w 0 (at t) in let m = index_of (WriteDone number) w.messages at_disk in
       input_leads n t u (input.Written number) q accepts (PutReply m.0 0 ∷ []) (Taken ∷ []) (with_node w1 0 (taken t u (input.Written number)))
-      (First (Accepts ((λ i. at_done M (there_at t i) (m.1 i))
+      (First (Accepts ((λ i. at_write_done M (there_at t i) (m.1 i))
       ∙ (λ i. first_of (accepts.allowed i ∷ fault_if (no_full i) LogFull ∷ fault_if (no_spent i) Spent ∷ [])))
       record { number = number; message = m.1; input = record { at = record { x = at t; there = there_at t; y = taken t u (input.Written number); done = record { s = u; takes = accepts.taken; after = refl }; after = refl }; reply = refl } }) Nothing)
       (then_nodes t (taken t u (input.Written number))) z.sent refl refl refl (λ m e. subst (HasWrite k.disk.puts) (sym (same_number m number e)) put)
@@ -337,10 +337,10 @@ module _ {S : Type 0} (M : Machine S) (C : Copying S) (counts : Counts M) (laws 
       let same : same_address (M.address t drive sector) (record address { drive = drive; sector = sector }) ≡ true = ap (λ a. same_address (M.address t drive sector) a) (sym placed) ∙ same_self (M.address t drive sector) in
       input_leads n t u i q accepts (Get 0 sector ∷ GetReply (length w.messages) 0 ∷ []) (MessageIs (length w.messages) ∷ Taken ∷ []) (with_node w2 0 (taken t u i))
       (First (Accepts (let a : nat_le 32 sector ≡ false = too_low sector 32 accepts.is_input.1 in
-      (λ j. first_of (fault_if (a j) Unknown ∷ at_node (there_at t j) (place_refusal M) ∷ []))
+      (λ j. first_of (fault_if (a j) Unknown ∷ at_node (there_at t j) (get_refusal M) ∷ []))
       ∙ (λ j. first_of (first_of (fault_if (is_none (selected j)) NotDue ∷ []) ∷ [])))
       record { address = address; node = record { x = at t; there = there_at t; said = record { drive = drive; selected = selected; address_is = refl } }; reply = refl; after = refl })
-      (First (Accepts ((λ j. at_under M (there_at t j) (read j))
+      (First (Accepts ((λ j. at_sector_read M (there_at t j) (read j))
       ∙ (λ j. first_of (fault_if (not (same j)) NotDue ∷ accepts.allowed j ∷ fault_if (no_full j) LogFull ∷ fault_if (no_spent j) Spent ∷ [])))
       record { address = record address { drive = drive; sector = sector }; number = number; bytes = bytes; message = read; input = record { at = record { x = at t; there = there_at t; y = taken t u i; done = record { s = u; takes = accepts.taken; after = refl }; after = refl }; reply = refl } }) Nothing))
       (then_nodes t (taken t u i)) (more_sent k w.messages (SectorRead address (sector_record M w.puts address).number (sector_record M w.puts address).bytes ∷ []) z.sent) refl refl refl (λ m e. absurd (let c : Written m ≡ bare (input.Sector drive sector number bytes) = e in cc))

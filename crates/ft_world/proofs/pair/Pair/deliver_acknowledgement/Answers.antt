@@ -32,10 +32,10 @@ returns-in_err-held-clause-row g c = λ course h.
     hands_on c.from_residual-in_err-held.result c.in_err-held.field-0.0 c.from_residual-in_err-held.ensures.1
     (hears_refused g.B.Lockstep.state g.B.Lockstep.machine g.D.SectorStore.records (running_of c.args.self.now) course
     c.args.message c.args.node c.in-Some.packet.now c.in_err-held.field-0.0
-    (c.station_mut.follows.lender c.on_ack.new.self).items brings h
+    (c.station_mut.follows.lender c.deliver_acknowledgement.new.self).items brings h
     (λ generation held spelled. at_host h c.in_ok-station.ensures.found
-    (c.station_mut.follows.holds c.on_ack.new.self (ap is_ok c.in_ok-station.was))
-    (λ x is. spelled_ack c.in-Some.packet.now x (Err c.in_err-held.field-0.0) (IsStation g.B.Lockstep.state g.B.Lockstep.machine c.on_ack.new.self) spelled
+    (c.station_mut.follows.holds c.deliver_acknowledgement.new.self (ap is_ok c.in_ok-station.was))
+    (λ x is. spelled_ack c.in-Some.packet.now x (Err c.in_err-held.field-0.0) (IsStation g.B.Lockstep.state g.B.Lockstep.machine c.deliver_acknowledgement.new.self) spelled
     (c.in_err-held.ensures.answer x is))))
 
 pub returns-clause-row : goal.returns-clause-row
@@ -43,8 +43,8 @@ returns-clause-row g c = λ course h.
     let brings : option_and_then ack_of (slice_get c.args.self.now.messages.items c.args.message) ≡ Some c.in-Some.packet.now = sym c.in-Some.ensures in
     hears_applies g.B.Lockstep.state g.B.Lockstep.machine g.D.SectorStore.records (running_of c.args.self.now) course
     c.args.message c.args.node c.in-Some.packet.now c.in_ok-held.held
-    (c.station_mut.follows.lender c.on_ack.new.self).items brings h
+    (c.station_mut.follows.lender c.deliver_acknowledgement.new.self).items brings h
     (λ generation held spelled. at_host h c.in_ok-station.ensures.found
-    (c.station_mut.follows.holds c.on_ack.new.self (ap is_ok c.in_ok-station.was))
-    (λ x is. spelled_ack c.in-Some.packet.now x (Ok c.in_ok-held.held) (IsStation g.B.Lockstep.state g.B.Lockstep.machine c.on_ack.new.self) spelled
+    (c.station_mut.follows.holds c.deliver_acknowledgement.new.self (ap is_ok c.in_ok-station.was))
+    (λ x is. spelled_ack c.in-Some.packet.now x (Ok c.in_ok-held.held) (IsStation g.B.Lockstep.state g.B.Lockstep.machine c.deliver_acknowledgement.new.self) spelled
     (c.in_ok-held.ensures.answer x is)))

@@ -29,17 +29,17 @@ returns-in_err-station-clause-row g c = λ course h.
     (λ generation index e spelled. no_call h c.in_err-station.ensures.absent.0 c.in_err-station.ensures.absent.1
     (rw c.in_err-station.was at c.station_mut.follows.holds-at-none)))
 
-pub returns-in_err-on_log-clause-row : goal.returns-in_err-on_log-clause-row
-returns-in_err-on_log-clause-row g c = λ course h.
+pub returns-in_err-deliver_log-clause-row : goal.returns-in_err-deliver_log-clause-row
+returns-in_err-deliver_log-clause-row g c = λ course h.
     let brings : option_and_then log_of (slice_get c.args.self.now.messages.items c.args.message) ≡ Some c.in-Some.packet.now = sym c.in-Some.ensures in
-    hands_on c.from_residual-in_err-on_log.result c.in_err-on_log.field-0.0 c.from_residual-in_err-on_log.ensures.1
+    hands_on c.from_residual-in_err-deliver_log.result c.in_err-deliver_log.field-0.0 c.from_residual-in_err-deliver_log.ensures.1
     (delivers_refused g.B.Lockstep.state g.B.Lockstep.machine g.D.SectorStore.records (running_of c.args.self.now)
-    course c.args.message c.args.node c.in-Some.packet.now c.in_err-on_log.field-0.0
-    (c.station_mut.follows.lender c.on_log.new.self).items brings h
+    course c.args.message c.args.node c.in-Some.packet.now c.in_err-deliver_log.field-0.0
+    (c.station_mut.follows.lender c.deliver_log.new.self).items brings h
     (λ generation index e spelled. at_host h c.in_ok-station.ensures.found
-    (c.station_mut.follows.holds c.on_log.new.self (ap is_ok c.in_ok-station.was))
-    (λ x is. spelled_log c.in-Some.packet.now x (Err c.in_err-on_log.field-0.0) (IsStation g.B.Lockstep.state g.B.Lockstep.machine c.on_log.new.self) spelled
-    (c.in_err-on_log.ensures.answer x is))))
+    (c.station_mut.follows.holds c.deliver_log.new.self (ap is_ok c.in_ok-station.was))
+    (λ x is. spelled_log c.in-Some.packet.now x (Err c.in_err-deliver_log.field-0.0) (IsStation g.B.Lockstep.state g.B.Lockstep.machine c.deliver_log.new.self) spelled
+    (c.in_err-deliver_log.ensures.answer x is))))
 
 pub returns-then-branch-clause-row : goal.returns-then-branch-clause-row
 returns-then-branch-clause-row g c = λ course h.
@@ -47,14 +47,14 @@ returns-then-branch-clause-row g c = λ course h.
     subst
     (λ b. Applies g.B.Lockstep.state g.B.Lockstep.machine g.D.SectorStore.records course
     (event.DeliverLog c.args.message c.args.node) (Ok (cond b reply.New reply.Old))
-    (record (running_of c.args.self.now) { hosts = (c.station_mut.follows.lender c.on_log.new.self).items })) c.if-branch.true
+    (record (running_of c.args.self.now) { hosts = (c.station_mut.follows.lender c.deliver_log.new.self).items })) c.if-branch.true
     (delivers_applies g.B.Lockstep.state g.B.Lockstep.machine g.D.SectorStore.records (running_of c.args.self.now)
-    course c.args.message c.args.node c.in-Some.packet.now c.in_ok-on_log.field-0
-    (c.station_mut.follows.lender c.on_log.new.self).items brings h
+    course c.args.message c.args.node c.in-Some.packet.now c.in_ok-deliver_log.field-0
+    (c.station_mut.follows.lender c.deliver_log.new.self).items brings h
     (λ generation index e spelled. at_host h c.in_ok-station.ensures.found
-    (c.station_mut.follows.holds c.on_log.new.self (ap is_ok c.in_ok-station.was))
-    (λ x is. spelled_log c.in-Some.packet.now x (Ok c.in_ok-on_log.field-0) (IsStation g.B.Lockstep.state g.B.Lockstep.machine c.on_log.new.self) spelled
-    (c.in_ok-on_log.ensures.answer x is))))
+    (c.station_mut.follows.holds c.deliver_log.new.self (ap is_ok c.in_ok-station.was))
+    (λ x is. spelled_log c.in-Some.packet.now x (Ok c.in_ok-deliver_log.field-0) (IsStation g.B.Lockstep.state g.B.Lockstep.machine c.deliver_log.new.self) spelled
+    (c.in_ok-deliver_log.ensures.answer x is))))
 
 pub returns-else-branch-clause-row : goal.returns-else-branch-clause-row
 returns-else-branch-clause-row g c = λ course h.
@@ -62,11 +62,11 @@ returns-else-branch-clause-row g c = λ course h.
     subst
     (λ b. Applies g.B.Lockstep.state g.B.Lockstep.machine g.D.SectorStore.records course
     (event.DeliverLog c.args.message c.args.node) (Ok (cond b reply.New reply.Old))
-    (record (running_of c.args.self.now) { hosts = (c.station_mut.follows.lender c.on_log.new.self).items })) c.if-branch.false
+    (record (running_of c.args.self.now) { hosts = (c.station_mut.follows.lender c.deliver_log.new.self).items })) c.if-branch.false
     (delivers_applies g.B.Lockstep.state g.B.Lockstep.machine g.D.SectorStore.records (running_of c.args.self.now)
-    course c.args.message c.args.node c.in-Some.packet.now c.in_ok-on_log.field-0
-    (c.station_mut.follows.lender c.on_log.new.self).items brings h
+    course c.args.message c.args.node c.in-Some.packet.now c.in_ok-deliver_log.field-0
+    (c.station_mut.follows.lender c.deliver_log.new.self).items brings h
     (λ generation index e spelled. at_host h c.in_ok-station.ensures.found
-    (c.station_mut.follows.holds c.on_log.new.self (ap is_ok c.in_ok-station.was))
-    (λ x is. spelled_log c.in-Some.packet.now x (Ok c.in_ok-on_log.field-0) (IsStation g.B.Lockstep.state g.B.Lockstep.machine c.on_log.new.self) spelled
-    (c.in_ok-on_log.ensures.answer x is))))
+    (c.station_mut.follows.holds c.deliver_log.new.self (ap is_ok c.in_ok-station.was))
+    (λ x is. spelled_log c.in-Some.packet.now x (Ok c.in_ok-deliver_log.field-0) (IsStation g.B.Lockstep.state g.B.Lockstep.machine c.deliver_log.new.self) spelled
+    (c.in_ok-deliver_log.ensures.answer x is))))

@@ -21,19 +21,19 @@ returns-in_err-station-clause-row g c = λ course h.
     (no_call h c.in_err-station.ensures.absent.0 c.in_err-station.ensures.absent.1
     (rw c.in_err-station.was at c.station_mut.follows.holds-at-none)))
 
-pub returns-in_err-sent-clause-row : goal.returns-in_err-sent-clause-row
-returns-in_err-sent-clause-row g c = λ course h.
-    hands_on c.from_residual-in_err-sent.result c.in_err-sent.field-0.0 c.from_residual-in_err-sent.ensures.1
+pub returns-in_err-tell_sent-clause-row : goal.returns-in_err-tell_sent-clause-row
+returns-in_err-tell_sent-clause-row g c = λ course h.
+    hands_on c.from_residual-in_err-tell_sent.result c.in_err-tell_sent.field-0.0 c.from_residual-in_err-tell_sent.ensures.1
     (sent_refused g.B.Lockstep.state g.B.Lockstep.machine g.D.SectorStore.records (running_of c.args.self.now) course
-    c.args.node c.args.port c.args.number c.in_err-sent.field-0.0 (c.station_mut.follows.lender c.sent.new.self).items
+    c.args.node c.args.port c.args.number c.in_err-tell_sent.field-0.0 (c.station_mut.follows.lender c.tell_sent.new.self).items
     h c.in_ok-check_accepted.ensures.answer
     (at_host h c.in_ok-station.ensures.found
-    (c.station_mut.follows.holds c.sent.new.self (ap is_ok c.in_ok-station.was)) c.in_err-sent.ensures.answer))
+    (c.station_mut.follows.holds c.tell_sent.new.self (ap is_ok c.in_ok-station.was)) c.in_err-tell_sent.ensures.answer))
 
 pub returns-clause-row : goal.returns-clause-row
 returns-clause-row g c = λ course h.
     sent_applies g.B.Lockstep.state g.B.Lockstep.machine g.D.SectorStore.records (running_of c.args.self.now) course
-    c.args.node c.args.port c.args.number (c.station_mut.follows.lender c.sent.new.self).items h
+    c.args.node c.args.port c.args.number (c.station_mut.follows.lender c.tell_sent.new.self).items h
     c.in_ok-check_accepted.ensures.answer
     (at_host h c.in_ok-station.ensures.found
-    (c.station_mut.follows.holds c.sent.new.self (ap is_ok c.in_ok-station.was)) c.in_ok-sent.ensures.answer)
+    (c.station_mut.follows.holds c.tell_sent.new.self (ap is_ok c.in_ok-station.was)) c.in_ok-tell_sent.ensures.answer)
