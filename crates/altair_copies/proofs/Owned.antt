@@ -22,7 +22,7 @@ use Rattle.plain_single.specs.Reach.{Own, Owns, bytes_after, image_from}
 use Rattle.altair_laws.specs.Stands.{AltairStands, AreWhole, AreWholeWrites, IsWhole}
 use Rattle.pair_protocol.specs.Lawful.{Among, Reaches}
 use Rattle.altair_laws.specs.OnDisk.{StaysOnDisk}
-use Rattle.pair_protocol.proofs.Moves.{runs-append}
+use Rattle.pair_protocol.proofs.Traces.Moves.{runs-append}
 
 abbrev AllWhole : List SectorWrite → Type 0
 AllWhole writes = (w : SectorWrite) → Among w writes → length w.bytes ≡ SECTOR_BYTES

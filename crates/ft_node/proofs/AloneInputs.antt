@@ -16,7 +16,7 @@ use Rattle.i8080_words.specs.declared.refusal.Fault.TheVariants.{NotDue, Spent}
 use Rattle.pair_protocol.specs.Lawful.{top}
 use Rattle.pair_protocol.specs.Node.{Node, Alone, spare}
 use Rattle.pair_protocol.specs.Refusals as refusals
-use Rattle.pair_protocol.specs.Rows.{took}
+use Rattle.pair_protocol.specs.Effects.{took}
 use Rattle.ft_node.specs.Calls as calls
 use Rattle.ft_node.specs.Roles.{IsAlone}
 use Rattle.ft_node.proofs.PassedChecks.{Passes, key_passes}
@@ -29,9 +29,9 @@ only (Some fault) = refl
 
 -- ---- why an input is refused
 
-pub done_refusal : {S : Type 0} (M : Machine S) (x : Node S) (s : S) (generation number : ℕ) → IsAlone s generation x
-    → refusals.done_refusal M number x ≡ refusal_of M s (input.Written number)
-done_refusal M x s generation number a =
+pub put_reply_refusal : {S : Type 0} (M : Machine S) (x : Node S) (s : S) (generation number : ℕ) → IsAlone s generation x
+    → refusals.put_reply_refusal M number x ≡ refusal_of M s (input.Written number)
+put_reply_refusal M x s generation number a =
     rw (a.role, a.up, a.machine) (only (refusal_of M s (input.Written number)))
 
 -- the byte that is due is the one with the given number
@@ -39,10 +39,10 @@ pub due_is : (due : Option ℕ) (number : ℕ) → ok_or due NotDue ≡ Ok numbe
 due_is None number e = absurd cc
 due_is (Some due) number e = cc
 
-pub sent_refusal : {S : Type 0} (M : Machine S) (x : Node S) (s : S) (generation port number due : ℕ)
+pub tell_sent_refusal : {S : Type 0} (M : Machine S) (x : Node S) (s : S) (generation port number due : ℕ)
     → IsAlone s generation x → M.due_byte s port ≡ Some due → due ≡ number
-    → refusals.sent_refusal M port number x ≡ refusal_of M s (input.Sent port)
-sent_refusal M x s generation port number due a is same =
+    → refusals.tell_sent_refusal M port number x ≡ refusal_of M s (input.Sent port)
+tell_sent_refusal M x s generation port number due a is same =
     rw (a.role, a.up, a.machine, is, eq-eqb due number same) refl
 
 -- two addresses that the code found equal are one sector
@@ -56,13 +56,13 @@ same_as address under here is same =
     ∙ same
 
 -- the sector that was read is under the head
-pub under_refusal : {S : Type 0} (M : Machine S) (x : Node S) (s : S) (generation number : ℕ)
+pub get_reply_refusal : {S : Type 0} (M : Machine S) (x : Node S) (s : S) (generation number : ℕ)
     (address under : SectorAddress) (bytes : List ℕ) → IsAlone s generation x
     → M.address s address.drive address.sector ≡ under
     → not (eqb under.drive address.drive && (eqb under.track address.track && eqb under.sector address.sector)) ≡ false
-    → refusals.under_refusal M address number bytes x
+    → refusals.get_reply_refusal M address number bytes x
     ≡ refusal_of M s (input.Sector address.drive address.sector number bytes)
-under_refusal M x s generation number address under bytes a is same =
+get_reply_refusal M x s generation number address under bytes a is same =
     let here = same_as address under (M.address s address.drive address.sector) is same in
     rw (a.role, a.up, a.machine, here)
     (only (refusal_of M s (input.Sector address.drive address.sector number bytes)))
@@ -73,27 +73,27 @@ fault_alone None = refl
 fault_alone (Some fault) = refl
 
 -- the key is the next one
-key_refusal : {S : Type 0} (M : Machine S) (x : Node S) (s : S) (generation port index : ℕ) → IsAlone s generation x
+take_key_refusal : {S : Type 0} (M : Machine S) (x : Node S) (s : S) (generation port index : ℕ) → IsAlone s generation x
     → index ≡ M.keys s port
-    → refusals.key_refusal M port index x ≡ refusals.fault_if (leb top (M.keys s port)) Spent
-key_refusal M x s generation port index a is =
+    → refusals.take_key_refusal M port index x ≡ refusals.fault_if (leb top (M.keys s port)) Spent
+take_key_refusal M x s generation port index a is =
     rw (a.role, a.up, a.machine, eq-eqb index (M.keys s port) is)
     (fault_alone (refusals.fault_if (leb top (M.keys s port)) Spent))
 
 pub keys_left : {S : Type 0} (M : Machine S) (x : Node S) (s : S) (generation port index byte : ℕ)
     → IsAlone s generation x → index ≡ M.keys s port → index < GREATEST_NUMBER
-    → refusals.key_refusal M port index x ≡ refusal_of M s (input.Rx port byte)
+    → refusals.take_key_refusal M port index x ≡ refusal_of M s (input.Rx port byte)
 unfolding top
 keys_left M x s generation port index byte a is lt =
-    key_refusal M x s generation port index a is
+    take_key_refusal M x s generation port index a is
     ∙ ap (λ b. refusals.fault_if b Spent) (lt-leb top (M.keys s port) (omega arith))
 
 pub keys_spent : {S : Type 0} (M : Machine S) (x : Node S) (s : S) (generation port index : ℕ)
     → IsAlone s generation x → index ≡ M.keys s port → GREATEST_NUMBER ≤ index
-    → refusals.key_refusal M port index x ≡ Some Spent
+    → refusals.take_key_refusal M port index x ≡ Some Spent
 unfolding top
 keys_spent M x s generation port index a is ge =
-    key_refusal M x s generation port index a is
+    take_key_refusal M x s generation port index a is
     ∙ ap (λ b. refusals.fault_if b Spent) (le-leb top (M.keys s port) (omega arith))
 
 -- ---- what an input does
@@ -111,14 +111,18 @@ pub takes : {S : Type 0} (M : Machine S) (i : Input) (x : Node S) (s t : S) (gen
     → lockstep.Takes M s i result t → calls.Takes M i refusal x result (IsAlone t generation)
 takes M i x s t generation refusal (Ok done) a passes h =
     allowed (Unit {0}) refusal (Ok done) _ _ passes.allowed
-    (record { s = t; takes = ap (λ s. M.take s i) a.machine ∙ h.1; after = after M i x s t generation a })
+    (record {
+      y = took M x x.role t i;
+      done = record { s = t; takes = ap (λ s. M.take s i) a.machine ∙ h.1; after = refl };
+      after = after M i x s t generation a;
+    })
 takes M i x s t generation refusal (Err fault) a passes h =
     let guest : refusal_of M s i ≡ None = ap (λ s. refusal_of M s i) (sym a.machine) ∙ passes.guest in
     let none : Some fault ≡ None = sym h.0 ∙ guest in absurd cc
 
 -- if the check of a key passes at any node that is alone with this guest, a number is left for the key
 pub key_room : {S : Type 0} (M : Machine S) (s : S) (generation port index byte : ℕ) (done : Unit {0})
-    → ((x : Node S) → IsAlone s generation x → Ok done ≡ completion.answered (refusals.key_refusal M port index x))
+    → ((x : Node S) → IsAlone s generation x → Ok done ≡ completion.answered (refusals.take_key_refusal M port index x))
     → M.keys s port < GREATEST_NUMBER
 key_room {S} M s generation port index byte done answers =
     let x : Node S = record (spare M) { role = Alone; generation = generation; machine = s } in

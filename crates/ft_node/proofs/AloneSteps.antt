@@ -16,7 +16,7 @@ use Rattle.i8080_words.specs.declared.refusal.Fault.TheVariants.{Spent, Idle}
 use Rattle.pair_protocol.specs.Event as event
 use Rattle.pair_protocol.specs.Node.{Node, Alone, plainly_steps}
 use Rattle.pair_protocol.specs.Refusals as refusals
-use Rattle.pair_protocol.specs.Rows.{stepped, Advances, NoneLeft, Ends, Waits, Short, Gives, Goes}
+use Rattle.pair_protocol.specs.Effects.{stepped, Advances, NoneLeft, Ends, Waits, Short, Gives, Goes}
 use Rattle.ft_node.specs.Calls as calls
 use Rattle.ft_node.specs.Roles.{IsAlone}
 use Rattle.ft_node.specs.declared.ran.Ran.{Ran}
@@ -85,13 +85,15 @@ ran : {S : Type 0} (M : Machine S) (x : Node S) (s t : S) (generation turns n : 
 ran M x s t generation turns n named a allowed some h =
     let ran : Ran = record { steps = n; count = M.count t; why = named } in
     subst (λ r. calls.Unless {A = Ran} r (Ok ran) (IsAlone t generation x)
-    (calls.Stepped M turns x (IsAlone t generation) ran))
+    (calls.Makes x (calls.SteppedBy M turns ran) (IsAlone t generation)))
     (sym (not_refused M x s generation turns a allowed))
     (record {
       y = plainly_steps x t;
-      advances = at_start M x (plainly_steps x t) s generation turns n (calls.why_of named) a h;
-      some = some;
-      count = refl;
+      done = record {
+        advances = at_start M x (plainly_steps x t) s generation turns n (calls.why_of named) a h;
+        some = some;
+        counted = refl;
+      };
       after = alone_at x s t generation a;
     })
 
@@ -197,7 +199,7 @@ refused M x s t generation turns _ fault a (running.IsRefused {n = n} lt q) is n
     let alone : IsAlone t generation x = subst (λ s. IsAlone s generation x) (sym here) a in
     subst (λ r. calls.Unless {A = Ran} r (Err fault) (IsAlone t generation x)
     (calls.Gives (Err fault) ((0 < turns) × IsAlone t generation x)
-    (calls.Stepped M turns x (IsAlone t generation))))
+    (λ ran. calls.Makes x (calls.SteppedBy M turns ran) (IsAlone t generation))))
     (sym (step_refusal M x s generation turns a (omega arith) ∙ same))
     (refused_by x t generation turns (lockstep.step_refusal M t) fault
-    (calls.Stepped M turns x (IsAlone t generation)) (omega arith) alone fault_is)
+    (λ ran. calls.Makes x (calls.SteppedBy M turns ran) (IsAlone t generation)) (omega arith) alone fault_is)

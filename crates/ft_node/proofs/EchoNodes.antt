@@ -77,7 +77,7 @@ may_replay (seat.Halted h) x none is = tt
 
 by_answer : (refusal : Option Fault) (winner : Option ℕ) (old new : List Asking) (n : ℕ) (x : Node Echo)
     (result : Result Won Fault) (Is : Node Echo → Type 0)
-    → calls.Unless refusal result (Is x × (new ≡ old)) (calls.AskedOf winner old n x result new Is)
+    → calls.Unless refusal result (Is x × (new ≡ old)) (calls.SuspectsOf winner old n x result new Is)
     → (y : Node Echo) × (y.held ≡ x.held) × Is y
 by_answer (Some fault) winner old new n x result Is h = (x, refl, h.1.0)
 by_answer None None old new n x (Ok won) Is h = (wins x, refl, h.1)
@@ -86,7 +86,7 @@ by_answer None (Some winner) old new n x (Ok won) Is h = (x, refl, h.2)
 by_answer None (Some winner) old new n x (Err fault) Is h = (halts x, refl, h.3)
 
 pub may_drain : (node : code.Node Echo) (x : Node Echo) (old new : List Asking) (n : ℕ) (result : Result Won Fault)
-    → x.held ≡ [] → calls.Asks old n x result new (IsNode (λ e. e) echo node) → MayReplay (λ e. e) echo node
+    → x.held ≡ [] → calls.Suspects old n x result new (IsNode (λ e. e) echo node) → MayReplay (λ e. e) echo node
 may_drain node x old new n result none asks =
     let y = by_answer _ (winner_of old x.generation) old new n x result (IsNode (λ e. e) echo node) asks in
     may_replay node y.0 (y.1 ∙ none) y.2

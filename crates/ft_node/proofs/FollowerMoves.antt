@@ -1,7 +1,7 @@
 -- How a follower moves. A replayer makes its moves one after another over the entries that are held, while the protocol
 -- counts from the first entry and knows only how many were replayed; those held are the ones after them. So the moves
 -- of a replayer come before whatever ends them.
-use Rattle.std.proofs.Common.{◌≡◌, ℕ, zero, suc, ◌+◌, ◌-◌, ◌<◌, ◌≤◌, inl, inr, Bool, true, false, eqb, Some, None, List, [], ◌∷◌, length, drop, Result, Ok, Err, IsTrue, refl, sym, ap, subst, ◌∙◌, arith, length-drop}
+use Rattle.std.proofs.Common.{◌≡◌, ℕ, zero, suc, ◌+◌, ◌-◌, ◌≤◌, inl, inr, Bool, true, false, eqb, Some, None, List, [], ◌∷◌, length, drop, Result, Ok, Err, IsTrue, refl, sym, ap, subst, ◌∙◌, arith, length-drop}
 use Rattle.std.specs.Prelude.{◌↔◌, slice_get}
 use Rattle.std.proofs.lemmas.Bool.{eq-eqb, eqb-true}
 use Rattle.std.proofs.lemmas.List.{drop_all}
@@ -11,7 +11,7 @@ use Rattle.log_channel.specs.Channel.{Receiving}
 use Rattle.log_entry.specs.declared.entry.Entry.{Entry}
 use Rattle.pair_protocol.specs.Node.{Node, Role, Backup, is_role}
 use Rattle.pair_protocol.specs.Refusals as refusals
-use Rattle.pair_protocol.specs.Rows.{IsBehind, Replays, NoTurns, AtEnd, NoMemory, OneStep, OneMark, OneInput, MovesSome}
+use Rattle.pair_protocol.specs.Effects.{WantsMoves, IsBehind, Replays, NoTurns, AtEnd, NoMemory, OneStep, OneMark, OneInput, MovesSome}
 use Rattle.replayer.specs.Replaying as replaying
 use Rattle.replayer.specs.declared.replayer.Replayed.{Replayed}
 use Rattle.ft_node.specs.Calls as calls
@@ -175,10 +175,10 @@ still role x s t r new f held same_state same_left = record {
 pub repeats : {S : Type 0} (M : Machine S) (role : Role) (x : Node S) (s t : S) (r new : Receiving) (turns : ℕ)
     (result : Result Replayed Fault) → IsFollower role s r x → new ≡ record r { entries = new.entries }
     → replaying.Answers M s r.entries turns result t new.entries
-    → calls.Gives result ((0 < turns) × IsBehind M x × IsFollower role t new x)
-    (calls.Repeats M turns x (IsFollower role t new))
+    → calls.Gives result (WantsMoves M turns x × IsFollower role t new x)
+    (λ q. calls.Makes x (calls.ReplayedBy M turns q) (IsFollower role t new))
 repeats M role x s t r new turns (Err fault) f held a =
-    (a.0, (a.1, behind M x s r.entries f.machine (sym f.left) a.2, still role x s t r new f held a.3 a.4))
+    (a.0, ((a.1, behind M x s r.entries f.machine (sym f.left) a.2), still role x s t r new f held a.3 a.4))
 repeats M role x s t r new turns (Ok q) f held a =
     let so_far = reached M x s x.replayed r.entries q.moves t new.entries (sym f.left) f.within a.replays in
     let now = so_far.now in
@@ -188,11 +188,13 @@ repeats M role x s t r new turns (Ok q) f held a =
     (so_far.before end.0 0 (at x t now) end.2) in
     record {
       y = at x t now;
-      moves = subst (λ s. Replays M (at x s x.replayed) turns (at x t now) q.moves) (sym f.machine) moves;
-      some = moves_some M x t turns q.moves new.entries f.within
-          (λ none. none_made M s r.entries q.moves t new.entries none a.replays ∙ f.left) a.ends;
-      ends = at_end_by q.at_end (eqb now (length x.held)) x.held new.entries now a.at_end so_far.left_are so_far.within
-          refl;
+      done = record {
+        moves = subst (λ s. Replays M (at x s x.replayed) turns (at x t now) q.moves) (sym f.machine) moves;
+        some = moves_some M x t turns q.moves new.entries f.within
+            (λ none. none_made M s r.entries q.moves t new.entries none a.replays ∙ f.left) a.ends;
+        ends = at_end_by q.at_end (eqb now (length x.held)) x.held new.entries now a.at_end so_far.left_are
+            so_far.within refl;
+      };
       after = follows role x s t r new now f held so_far.left_are so_far.within;
     }
 
@@ -204,9 +206,9 @@ in_role role x s r f same = rw (f.role_is, f.up, same) refl
 pub backup_replays : {S : Type 0} (M : Machine S) (x : Node S) (s t : S) (r new : Receiving) (turns : ℕ)
     (result : Result Replayed Fault) → IsFollower Backup s r x → new ≡ record r { entries = new.entries }
     → replaying.Answers M s r.entries turns result t new.entries
-    → calls.Replaying M turns x result (IsFollower Backup t new)
+    → calls.Replays M turns x result (IsFollower Backup t new)
 backup_replays M x s t r new turns result f held a =
     subst (λ refusal. calls.Unless {A = Replayed} refusal result (IsFollower Backup t new x)
-    (calls.Gives result ((0 < turns) × IsBehind M x × IsFollower Backup t new x)
-    (calls.Repeats M turns x (IsFollower Backup t new))))
+    (calls.Gives result (WantsMoves M turns x × IsFollower Backup t new x)
+    (λ q. calls.Makes x (calls.ReplayedBy M turns q) (IsFollower Backup t new))))
     (sym (in_role Backup x s r f refl)) (repeats M Backup x s t r new turns result f held a)

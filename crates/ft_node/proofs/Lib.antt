@@ -8,6 +8,8 @@ pub mod PrimaryReleases
 pub mod AloneInputs
 pub mod AloneSteps
 pub mod FollowerMoves
+pub mod FollowerLog
+pub mod Halting
 pub mod LastMoves
 pub mod EchoNodes
 pub mod PrimaryChecks

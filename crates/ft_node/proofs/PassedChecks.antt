@@ -19,7 +19,7 @@ use Rattle.pair_protocol.proofs.InputRows.{number-is}
 use Rattle.pair_protocol.proofs.Passed.{first-passed, not-stands, only-passed, passes-if}
 use Rattle.pair_protocol.specs.Lawful.{top}
 use Rattle.pair_protocol.specs.Node.{Node}
-use Rattle.pair_protocol.specs.Refusals.{fault_if, first_of, serves, log_full, log_spent, key_refusal, keys_spent, is_number, sent_refusal, done_refusal, under_refusal}
+use Rattle.pair_protocol.specs.Refusals.{fault_if, first_of, serves, log_full, log_spent, take_key_refusal, keys_spent, is_number, tell_sent_refusal, put_reply_refusal, get_reply_refusal}
 use Rattle.log_channel.specs.Channel.{Sending}
 use Rattle.output_rule.specs.Covering.{Covering}
 use Rattle.ft_node.specs.Roles.{IsPrimary}
@@ -39,11 +39,11 @@ pub record Passes {S : Type 0} (M : Machine S) (i : Input) (refusal : Option Fau
   pub spent : log_spent x ≡ None
 
 pub key_passes : {S : Type 0} (M : Machine S) (port index byte : ℕ) (x : Node S) (done : Unit {0})
-    → Ok done ≡ answered (key_refusal M port index x)
-    → Passes M (input.Rx port byte) (key_refusal M port index x) x × (M.keys x.machine port < GREATEST_NUMBER)
+    → Ok done ≡ answered (take_key_refusal M port index x)
+    → Passes M (input.Rx port byte) (take_key_refusal M port index x) x × (M.keys x.machine port < GREATEST_NUMBER)
 unfolding top
 key_passes M port index byte x done answer =
-    let none = not_refused (key_refusal M port index x) done answer in
+    let none = not_refused (take_key_refusal M port index x) done answer in
     let role = first-passed (serves x) _ none in
     let number = first-passed (fault_if (not (index == M.keys x.machine port)) WrongNumber) _ role.1 in
     let full = first-passed (log_full x) _ number.1 in
@@ -54,10 +54,10 @@ key_passes M port index byte x done answer =
     )
 
 pub sent_passes : {S : Type 0} (M : Machine S) (port number : ℕ) (x : Node S) (done : Unit {0})
-    → Ok done ≡ answered (sent_refusal M port number x)
-    → Passes M (input.Sent port) (sent_refusal M port number x) x × (M.due_byte x.machine port ≡ Some number)
+    → Ok done ≡ answered (tell_sent_refusal M port number x)
+    → Passes M (input.Sent port) (tell_sent_refusal M port number x) x × (M.due_byte x.machine port ≡ Some number)
 sent_passes M port number x done answer =
-    let none = not_refused (sent_refusal M port number x) done answer in
+    let none = not_refused (tell_sent_refusal M port number x) done answer in
     let role = first-passed (serves x) _ none in
     let guest = first-passed (refusal_of M x.machine (input.Sent port)) _ role.1 in
     let due = first-passed (fault_if (not (is_number (M.due_byte x.machine port) number)) WrongNumber) _ guest.1 in
@@ -75,18 +75,18 @@ by_guest M i refusal x none rest =
     record { allowed = none; guest = guest.0; full = full.0; spent = only-passed (log_spent x) full.1 }
 
 pub done_passes : {S : Type 0} (M : Machine S) (number : ℕ) (x : Node S) (done : Unit {0})
-    → Ok done ≡ answered (done_refusal M number x) → Passes M (input.Written number) (done_refusal M number x) x
+    → Ok done ≡ answered (put_reply_refusal M number x) → Passes M (input.Written number) (put_reply_refusal M number x) x
 done_passes M number x done answer =
-    let none = not_refused (done_refusal M number x) done answer in
-    by_guest M (input.Written number) (done_refusal M number x) x none (first-passed (serves x) _ none).1
+    let none = not_refused (put_reply_refusal M number x) done answer in
+    by_guest M (input.Written number) (put_reply_refusal M number x) x none (first-passed (serves x) _ none).1
 
 pub under_passes : {S : Type 0} (M : Machine S) (address : SectorAddress) (number : ℕ) (bytes : List ℕ) (x : Node S)
-    (done : Unit {0}) → Ok done ≡ answered (under_refusal M address number bytes x)
-    → Passes M (input.Sector address.drive address.sector number bytes) (under_refusal M address number bytes x) x
+    (done : Unit {0}) → Ok done ≡ answered (get_reply_refusal M address number bytes x)
+    → Passes M (input.Sector address.drive address.sector number bytes) (get_reply_refusal M address number bytes x) x
 under_passes M address number bytes x done answer =
-    let none = not_refused (under_refusal M address number bytes x) done answer in
+    let none = not_refused (get_reply_refusal M address number bytes x) done answer in
     let here = same_address (M.address x.machine address.drive address.sector) address in
-    by_guest M (input.Sector address.drive address.sector number bytes) (under_refusal M address number bytes x) x none
+    by_guest M (input.Sector address.drive address.sector number bytes) (get_reply_refusal M address number bytes x) x none
     (first-passed (fault_if (not here) NotDue) _ (first-passed (serves x) _ none).1).1
 
 -- ---- the log of a primary

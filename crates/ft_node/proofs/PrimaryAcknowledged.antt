@@ -20,10 +20,10 @@ use Rattle.output_rule.specs.Covering.{Covering, after_acknowledge}
 use Rattle.output_rule.specs.Keys.{keys_in}
 use Rattle.output_rule.specs.Laws.{Tells}
 use Rattle.pair_protocol.specs.Node.{Node, hears}
-use Rattle.pair_protocol.specs.Refusals.{first_of, fault_if, acked_refusal}
+use Rattle.pair_protocol.specs.Refusals.{first_of, fault_if, deliver_acknowledgement_refusal}
 use Rattle.plain_single.specs.Reach as reach
 use Rattle.plain_single.specs.declared.timed.Timed.{Timed}
-use Rattle.ft_node.specs.Calls.{Hears}
+use Rattle.ft_node.specs.Calls.{DeliversAcknowledgement}
 use Rattle.ft_node.specs.Roles.{IsPrimary, Covers}
 use Rattle.ft_node.proofs.PrimaryRefusals.{primary_acts, allowed}
 use Rattle.ft_node.proofs.PrimarySteps.{next_behind}
@@ -143,7 +143,7 @@ tests_passed false false covered held answer = (refl, refl, (cc))
 -- the primary's own tests are the protocol's
 acked_by : {S : Type 0} (M : Machine S) (s : S) (l : Log) (sd : Sending) (c : Covering) (x : Node S)
     (generation held : ℕ) → IsPrimary M s l sd c x
-    → acked_refusal generation held x
+    → deliver_acknowledgement_refusal generation held x
     ≡ first_of
     (fault_if (not (generation == sd.generation)) WrongGeneration ∷ fault_if (nat_lt (next_of l) held) BadAck ∷ [])
 acked_by M s l sd c x generation held p =
@@ -157,7 +157,7 @@ acked_by M s l sd c x generation held p =
 pub ack_heard : {S : Type 0} (M : Machine S) (s : S) (l : Log) (sd : Sending) (c : Covering) (x : Node S)
     (came : Option Packet) (covered : ℕ) → IsPrimary M s l sd c x
     → Ok covered ≡ ack_answer sd (next_of l) came
-    → Hears came x (Ok covered)
+    → DeliversAcknowledgement came x (Ok covered)
     (IsPrimary M s (dropped_to l covered) (acknowledged sd (Ok covered)) (after_acknowledge c l covered))
 ack_heard M s l sd c x None covered p answer = absurd (cc)
 ack_heard M s l sd c x (Some (packet.Log generation index e)) covered p answer = absurd (cc)
@@ -167,9 +167,11 @@ ack_heard M s l sd c x (Some (packet.Ack generation held)) covered p answer =
     let no_more : held ≤ next_of l = ltb-false _ _ passed.1 in
     let is : max x.covered held ≡ covered = ap (λ n. max n held) (sym p.acknowledged) ∙ sym passed.2 in
     let bound : held ≤ length x.log = subst (λ n. held ≤ n) (sym (next_behind M s l sd c x p)) no_more in
-    allowed ℕ _ (Ok covered) _ _ (acked_by M s l sd c x generation held p ∙ passed.0) (
-      sym is,
-      subst
+    allowed ℕ _ (Ok covered) _ _ (acked_by M s l sd c x generation held p ∙ passed.0) (record {
+      y = hears x held 0;
+      done = (sym is, refl);
+      after =
+          subst
           (λ n. IsPrimary M s (dropped_to l n) (acknowledged sd (Ok n)) (after_acknowledge c l n) (hears x held 0)) is
-          (primary_heard M s l sd c x held p bound),
-    )
+          (primary_heard M s l sd c x held p bound);
+    })

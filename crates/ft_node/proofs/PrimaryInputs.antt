@@ -16,7 +16,7 @@ use Rattle.log_entry.specs.declared.entry.Entry.{Entry}
 use Rattle.output_rule.specs.Covering.{Covering, after_forget}
 use Rattle.output_rule.specs.declared.notes.Note.{Note}
 use Rattle.pair_protocol.specs.Node.{Node, primary_takes}
-use Rattle.pair_protocol.specs.Rows.{took}
+use Rattle.pair_protocol.specs.Effects.{took}
 use Rattle.recorder.specs.Recording.{Offers, offer_answer}
 use Rattle.ft_node.specs.Calls.{Takes}
 use Rattle.guest_board.specs.Outstanding.{ComesAndGoes, completed_by}
@@ -106,8 +106,8 @@ pub offer_done : {S : Type 0} (M : Machine S) (s t : S) (l new : Log) (sd : Send
 offer_done {S} M s t l new sd c x i refusal index laws p none offers valid =
     allowed (Unit {0}) refusal (Ok tt) _ _ none
     (record {
-      s = t;
-      takes = ap (λ s. M.take s i) p.machine ∙ offers.0.taken;
+      y = took M x x.role t i;
+      done = record { s = t; takes = ap (λ s. M.take s i) p.machine ∙ offers.0.taken; after = refl };
       after =
           subst
           (λ new. IsPrimary M t new sd (notes_left (completed_by M s i) c) (took M x x.role t i))

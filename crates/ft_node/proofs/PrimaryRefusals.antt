@@ -18,7 +18,7 @@ use Rattle.log_buffer.specs.Log.{Log, log, IsWithinLimits, next_of, answered, ro
 use Rattle.log_buffer.specs.declared.buffer.TheConstants.{CAPACITY}
 use Rattle.pair_protocol.specs.Lawful.{top}
 use Rattle.pair_protocol.specs.Node.{Node, Primary, Alone, is_role}
-use Rattle.pair_protocol.specs.Refusals.{fault_if, first_of, role_refusal, serves, log_size, log_full, log_spent, step_refusal, key_refusal, keys_spent, is_number, sent_refusal, done_refusal, under_refusal}
+use Rattle.pair_protocol.specs.Refusals.{fault_if, first_of, role_refusal, serves, log_size, log_full, log_spent, step_refusal, take_key_refusal, keys_spent, is_number, tell_sent_refusal, put_reply_refusal, get_reply_refusal}
 use Rattle.recorder.specs.Recording.{advance_refusal, refusal_behind}
 use Rattle.ft_node.specs.Calls.{Unless}
 
@@ -158,7 +158,7 @@ by_input x l (Some fault) k = refl
 
 pub next_key : {S : Type 0} (M : Machine S) (port index : ℕ) (x : Node S) (l : Log) → Keeps x l
     → (index == M.keys x.machine port) ≡ true
-    → key_refusal M port index x ≡ or_else (buffer.refusal_of l) (first_of (keys_spent M port x ∷ []))
+    → take_key_refusal M port index x ≡ or_else (buffer.refusal_of l) (first_of (keys_spent M port x ∷ []))
 next_key M port index x l k next =
     served x l _ k
     ∙ ap (λ b. first_of (fault_if (not b) WrongNumber ∷ log_full x ∷ log_spent x ∷ keys_spent M port x ∷ [])) next
@@ -178,7 +178,7 @@ keys_are_left M port x left =
 
 pub byte_due : {S : Type 0} (M : Machine S) (port number due : ℕ) (x : Node S) (l : Log) → Keeps x l
     → M.due_byte x.machine port ≡ Some due → (due == number) ≡ true
-    → sent_refusal M port number x ≡ or_else (refusal_of M x.machine (input.Sent port)) (buffer.refusal_of l)
+    → tell_sent_refusal M port number x ≡ or_else (refusal_of M x.machine (input.Sent port)) (buffer.refusal_of l)
 byte_due M port number due x l k is right =
     served x l _ k
     ∙ ap (λ d. first_of (cond (is_none d) (Some NotDue) None ∷ fault_if (not (is_number d number)) WrongNumber
@@ -188,12 +188,12 @@ byte_due M port number due x l k is right =
     ∙ ap (λ d. or_else (cond (is_none d) (Some NotDue) None) (buffer.refusal_of l)) (sym is)
 
 pub write_done : {S : Type 0} (M : Machine S) (number : ℕ) (x : Node S) (l : Log) → Keeps x l
-    → done_refusal M number x ≡ or_else (refusal_of M x.machine (input.Written number)) (buffer.refusal_of l)
+    → put_reply_refusal M number x ≡ or_else (refusal_of M x.machine (input.Written number)) (buffer.refusal_of l)
 write_done M number x l k = served x l _ k ∙ by_input x l (refusal_of M x.machine (input.Written number)) k
 
 pub under_head : {S : Type 0} (M : Machine S) (address : SectorAddress) (number : ℕ) (bytes : List ℕ) (x : Node S)
     (l : Log) → Keeps x l → same_address (M.address x.machine address.drive address.sector) address ≡ true
-    → under_refusal M address number bytes x
+    → get_reply_refusal M address number bytes x
     ≡ or_else (refusal_of M x.machine (input.Sector address.drive address.sector number bytes)) (buffer.refusal_of l)
 under_head M address number bytes x l k here =
     served x l _ k

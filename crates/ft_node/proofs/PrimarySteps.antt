@@ -18,8 +18,8 @@ use Rattle.output_rule.specs.Covering.{Covering}
 use Rattle.pair_protocol.specs.Event as event
 use Rattle.pair_protocol.specs.Node.{Node, primary_steps}
 use Rattle.pair_protocol.specs.Refusals as refusals
-use Rattle.pair_protocol.specs.Rows as rows
-use Rattle.pair_protocol.specs.Rows.{stepped}
+use Rattle.pair_protocol.specs.Effects as effects
+use Rattle.pair_protocol.specs.Effects.{stepped}
 use Rattle.recorder.specs.Recording as table
 use Rattle.guest_board.specs.Running.{Quiet, Begin, More}
 use Rattle.recorder.specs.Recording.{AdvancesUnless, advance_refusal}
@@ -102,15 +102,15 @@ record RunsQuietly {S : Type 0} (M : Machine S) (t : S) (l : Log) (sd : Sending)
   pub y : Node S
   pub primary : IsPrimary M t l sd c y
   pub ahead : (rest made turns steps : ℕ) (z : Node S) (why : event.Why) → turns ≡ n + rest → steps ≡ n + made
-      → rows.Advances M y rest z made why → rows.Advances M x turns z steps why
+      → effects.Advances M y rest z made why → effects.Advances M x turns z steps why
 
 none_ahead : {S : Type 0} (M : Machine S) (x z : Node S) (n rest made turns steps : ℕ) (why : event.Why) → n ≡ 0
-    → turns ≡ n + rest → steps ≡ n + made → rows.Advances M x rest z made why → rows.Advances M x turns z steps why
+    → turns ≡ n + rest → steps ≡ n + made → effects.Advances M x rest z made why → effects.Advances M x turns z steps why
 none_ahead M x z n rest made turns steps why none e f a =
     let same : rest ≡ turns = omega arith in
     let also : made ≡ steps = omega arith in
-    subst (λ turns. rows.Advances M x turns z steps why) same
-    (subst (λ steps. rows.Advances M x rest z steps why) also a)
+    subst (λ turns. effects.Advances M x turns z steps why) same
+    (subst (λ steps. effects.Advances M x rest z steps why) also a)
 
 one_more : (total m rest : ℕ) → total ≡ suc m + rest → total ≡ m + suc rest
 one_more total m rest e = omega arith
@@ -129,7 +129,7 @@ quietly M s t l sd c x n laws p (More {n = m} {t = v} q allowed moved) =
       primary = quiet_primary M v t l sd c before.y laws before.primary moved;
       ahead = λ rest made turns steps z why e f a.
           before.ahead (suc rest) (suc made) turns steps z why (one_more turns m rest e) (one_more steps m made f)
-          (rows.Goes t (ap M.step before.primary.machine ∙ moved) a);
+          (effects.Goes t (ap M.step before.primary.machine ∙ moved) a);
     }
 
 -- ---- how a run ends
@@ -137,7 +137,7 @@ quietly M s t l sd c x n laws p (More {n = m} {t = v} q allowed moved) =
 pub record StepsTo {S : Type 0} (M : Machine S) (turns : ℕ) (x : Node S) (a : Advanced) (t : S) (new : Log)
     (sd : Sending) (c : Covering) : Type 0 where
   pub y : Node S
-  pub advances : rows.Advances M x turns y a.steps (reason_of a.why)
+  pub advances : effects.Advances M x turns y a.steps (reason_of a.why)
   pub primary : IsPrimary M t new sd (noted c a.why) y
 
 waits_why : {S : Type 0} (spent : Bool) (made : Option (S × Option Operation))
@@ -167,7 +167,7 @@ steps_to M s t l new sd c x turns a laws p valid (table.AllTurns q) =
     let r = quietly M s t l sd c x turns laws p q in
     record {
       y = r.y;
-      advances = r.ahead 0 0 turns turns r.y event.Turns (omega arith) (omega arith) rows.NoneLeft;
+      advances = r.ahead 0 0 turns turns r.y event.Turns (omega arith) (omega arith) effects.NoneLeft;
       primary = r.primary;
     }
 steps_to M s t l new sd c x turns a laws p valid (table.Gives {n = n} {t = v} {given = given} lt q allowed made) =
@@ -178,7 +178,7 @@ steps_to M s t l new sd c x turns a laws p valid (table.Gives {n = n} {t = v} {g
       advances =
           r.ahead (suc (turns - suc n)) 1 turns (suc n) (stepped M r.y r.y.role t (Some given))
           (event.Gave (id_of given)) (left_over turns n lt) e
-          (rows.Gives t given (ap M.step r.primary.machine ∙ made));
+          (effects.Gives t given (ap M.step r.primary.machine ∙ made));
       primary = giving_primary M v t l sd c r.y given laws r.primary made valid;
     }
 steps_to M s t l new sd c x turns a laws p valid (table.Idles {n = n} lt q is) =
@@ -188,7 +188,7 @@ steps_to M s t l new sd c x turns a laws p valid (table.Idles {n = n} lt q is) =
       y = r.y;
       advances =
           r.ahead (suc (turns - suc n)) 0 turns n r.y event.Idles (left_over turns n lt) (omega arith)
-          (rows.Waits (ap M.is_spent r.primary.machine ∙ why.0) (ap M.step r.primary.machine ∙ why.1));
+          (effects.Waits (ap M.is_spent r.primary.machine ∙ why.0) (ap M.step r.primary.machine ∙ why.1));
       primary = r.primary;
     }
 steps_to M s t l new sd c x turns a laws p valid (table.IsSpent {n = n} lt q is) =
@@ -197,7 +197,7 @@ steps_to M s t l new sd c x turns a laws p valid (table.IsSpent {n = n} lt q is)
       y = r.y;
       advances =
           r.ahead (suc (turns - suc n)) 0 turns n r.y event.IsSpent (left_over turns n lt) (omega arith)
-          (rows.Ends (ap M.is_spent r.primary.machine ∙ spent_why (M.is_spent t) (is_none (M.step t)) is));
+          (effects.Ends (ap M.is_spent r.primary.machine ∙ spent_why (M.is_spent t) (is_none (M.step t)) is));
       primary = r.primary;
     }
 steps_to M s t l new sd c x turns a laws p valid (table.WantsMemory {n = n} lt q is) =
@@ -207,7 +207,7 @@ steps_to M s t l new sd c x turns a laws p valid (table.WantsMemory {n = n} lt q
       y = r.y;
       advances =
           r.ahead (suc (turns - suc n)) 0 turns n r.y event.Memory (left_over turns n lt) (omega arith)
-          (rows.Short (ap M.is_spent r.primary.machine ∙ why.0)
+          (effects.Short (ap M.is_spent r.primary.machine ∙ why.0)
           (ap (λ s. is_none (M.step s)) r.primary.machine ∙ why.1));
       primary = r.primary;
     }
@@ -227,15 +227,18 @@ steps_made M s t l new sd c later x turns a ran laws p k made steps_are why_is c
     let is : refusals.step_refusal M turns x ≡ None =
     steps_refused M x l turns k ∙ ap (λ s. advance_refusal M s l turns) p.machine ∙ some.0 in
     subst
-    (λ r. Unless r (Ok ran) (IsPrimary M t new sd later x) (calls.Stepped M turns x (IsPrimary M t new sd later) ran))
+    (λ r. Unless r (Ok ran) (IsPrimary M t new sd later x)
+    (calls.Makes x (calls.SteppedBy M turns ran) (IsPrimary M t new sd later)))
     (sym is)
     (record {
       y = to.y;
-      advances =
-          subst (λ n. rows.Advances M x turns to.y n (calls.why_of ran.why)) (sym steps_are)
-          (subst (λ why. rows.Advances M x turns to.y a.steps why) (sym why_is) to.advances);
-      some = subst (λ n. (turns ≡ 0) ⊎ (1 ≤ n)) (sym steps_are) some.1.1;
-      count = count_is ∙ ap M.count (sym to.primary.machine);
+      done = record {
+        advances =
+            subst (λ n. effects.Advances M x turns to.y n (calls.why_of ran.why)) (sym steps_are)
+            (subst (λ why. effects.Advances M x turns to.y a.steps why) (sym why_is) to.advances);
+        some = subst (λ n. (turns ≡ 0) ⊎ (1 ≤ n)) (sym steps_are) some.1.1;
+        counted = count_is ∙ ap M.count (sym to.primary.machine);
+      };
       after = subst (λ c. IsPrimary M t new sd c to.y) (sym after) to.primary;
     })
 
@@ -258,8 +261,8 @@ steps_not_made M s t l new sd c x turns fault p k made =
     subst
     (λ r. Unless {A = Ran} r (Err fault) (IsPrimary M t new sd c x)
     (calls.Gives {A = Ran} (Err fault) ((0 < turns) × IsPrimary M t new sd c x)
-    (calls.Stepped M turns x (IsPrimary M t new sd c))))
+    (λ ran. calls.Makes x (calls.SteppedBy M turns ran) (IsPrimary M t new sd c))))
     (sym (steps_refused M x l turns k ∙ ap (λ s. advance_refusal M s l turns) p.machine))
     (not_made M s t l new turns fault (advance_refusal M s l turns) (IsPrimary M t new sd c x)
-    (calls.Stepped M turns x (IsPrimary M t new sd c)) made
+    (λ ran. calls.Makes x (calls.SteppedBy M turns ran) (IsPrimary M t new sd c)) made
     (λ same logged. same_primary M s t l new sd c x same logged p))

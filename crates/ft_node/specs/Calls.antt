@@ -1,6 +1,6 @@
 -- What each call of a node returns and leaves, by the node of the protocol that it is before the call: the refusal of
 -- the event's node part, or what its row says of the node.
-use Rattle.std.specs.Prelude.{◌≡◌, ◌≢◌, ℕ, ◌<◌, ◌≤◌, ◌⊎◌, Bool, true, false, Option, Some, None, List, [], ◌∷◌, length, slice_get, ◌==◌, if◌then◌else◌, Result, Ok, Err}
+use Rattle.std.specs.Prelude.{◌≡◌, ◌≢◌, ℕ, ◌<◌, Bool, true, Option, Some, None, List, [], ◌∷◌, length, ◌==◌, if◌then◌else◌, Result, Ok, Err}
 use Rattle.std.specs.Global.{Vec}
 use Rattle.disk_dcdd.specs.declared.address.SectorAddress.{SectorAddress}
 use Rattle.event_callbacks.specs.declared.operations.OpId.{OpId}
@@ -16,15 +16,15 @@ use Rattle.log_channel.specs.declared.packet.Packet.TheVariants.{Log, Ack}
 use Rattle.arbiter_core.specs.Winners.{winner_of, after_asking}
 use Rattle.arbiter_core.specs.declared.arbiter.Asking.{Asking}
 use Rattle.arbiter_core.specs.declared.arbiter.Won.{Won}
+use Rattle.pair_protocol.specs.Effects.{Stepped, Took, Held, Heard, Replayed, Drained, Halted, HasEntry, HasOutstanding, HasCovered, IsUnder, WantsMoves, WantsEntry}
 use Rattle.pair_protocol.specs.Event as event
-use Rattle.pair_protocol.specs.Node.{Node, Role, Primary, Backup, holds, hears, halts, wins, keys_covered}
+use Rattle.pair_protocol.specs.Node.{Node, Role, Primary, Backup, halts, wins}
 use Rattle.pair_protocol.specs.Refusals as refusals
-use Rattle.pair_protocol.specs.Rows.{Advances, IsBehind, Replays, MovesSome, at_end, after_drain, took}
 use Rattle.ft_node.specs.declared.ran.Ran.{Ran}
-use Rattle.ft_node.specs.declared.ran.Drained.{Drained}
+use Rattle.ft_node.specs.declared.ran.Drained as ran
 use Rattle.pair_events.specs.declared.reply.Why.{Why}
 use Rattle.pair_events.specs.declared.reply.Why.TheVariants as why
-use Rattle.replayer.specs.declared.replayer.Replayed.{Replayed}
+use Rattle.replayer.specs.declared.replayer.Replayed as replayer
 
 -- if something refuses a call, that is the result and the node stays; if not, this is what the call does
 abbrev pub Unless : {A : Type 0} → Option Fault → Result A Fault → Type 0 → Type 0 → Type 0
@@ -36,10 +36,30 @@ abbrev pub Gives : {A : Type 0} → Result A Fault → Type 0 → (A → Type 0)
 Gives (Ok value) wants does = does value
 Gives (Err fault) wants does = (fault ≡ OutOfMemory) × wants
 
--- what a call gives that needs no memory
-abbrev pub Always : {A : Type 0} → Result A Fault → (A → Type 0) → Type 0
-Always (Ok value) does = does value
-Always (Err fault) does = ⊥
+-- a node becomes another one
+pub record Makes {S : Type 0} (x : Node S) (does : Node S → Node S → Type 0) (Is : Node S → Type 0) : Type 0 where
+  pub y : Node S
+  pub done : does x y
+  pub after : Is y
+
+-- a call of a node: it is refused, or is out of memory at a node of which this holds, and the node stays; or it gives a
+-- value, and the node becomes another one
+abbrev pub Call : {A S : Type 0} → Option Fault → (Node S → Type 0) → (A → Node S → Node S → Type 0) → Node S
+    → Result A Fault → (Node S → Type 0) → Type 0
+Call refusal wants does x result Is =
+    Unless refusal result (Is x) (Gives result (wants x × Is x) (λ value. Makes x (does value) Is))
+
+-- a call that only asks: it is refused, or is out of memory at a node of which this holds, or gives a value
+abbrev pub Ask : {A S : Type 0} → Option Fault → (Node S → Type 0) → (A → Node S → Type 0) → Node S → Result A Fault
+    → Type 0
+Ask refusal wants says x result = Unless refusal result (Unit {0}) (Gives result (wants x) (λ value. says value x))
+
+-- no node at which a call is out of memory, and any node
+abbrev pub Never : {S : Type 0} → Node S → Type 0
+Never x = ⊥
+
+abbrev pub Ever : {S : Type 0} → Node S → Type 0
+Ever x = Unit {0}
 
 -- why steps ended, in the protocol's words
 abbrev pub why_of : Why → event.Why
@@ -65,28 +85,17 @@ pub record Begins {S : Type 0} (M : Machine S) (role : Role) (generation : ℕ) 
   pub no_copy : x.copy ≡ []
 
 -- steps of the machine
-pub record Stepped {S : Type 0} (M : Machine S) (turns : ℕ) (x : Node S) (Is : Node S → Type 0) (ran : Ran)
-    : Type 0 where
-  pub y : Node S
-  pub advances : Advances M x turns y ran.steps (why_of ran.why)
-  pub some : (turns ≡ 0) ⊎ (1 ≤ ran.steps)
-  pub count : ran.count ≡ M.count y.machine
-  pub after : Is y
+abbrev pub SteppedBy : {S : Type 0} → Machine S → ℕ → Ran → Node S → Node S → Type 0
+SteppedBy M turns ran x y = Stepped M turns ran.steps ran.count (why_of ran.why) x y
 
 abbrev pub Steps : {S : Type 0} → Machine S → ℕ → Node S → Result Ran Fault → (Node S → Type 0) → Type 0
 Steps M turns x result Is =
-    Unless (refusals.step_refusal M turns x) result (Is x)
-    (Gives result ((0 < turns) × Is x) (Stepped M turns x Is))
+    Call (refusals.step_refusal M turns x) (λ x. 0 < turns) (SteppedBy M turns) x result Is
 
 -- an input that is taken; it needs no memory
-pub record Took {S : Type 0} (M : Machine S) (i : Input) (x : Node S) (Is : Node S → Type 0) : Type 0 where
-  pub s : S
-  pub takes : M.take x.machine i ≡ Some s
-  pub after : Is (took M x x.role s i)
-
 abbrev pub Takes : {S : Type 0} → Machine S → Input → Option Fault → Node S → Result (Unit {0}) Fault
     → (Node S → Type 0) → Type 0
-Takes M i refusal x result Is = Unless refusal result (Is x) (Always result (λ done. Took M i x Is))
+Takes M i refusal x result Is = Call refusal Never (λ done. Took M i) x result Is
 
 -- bytes that spell a packet
 abbrev pub IsSpelled : Packet → Vec ℕ → Type 0
@@ -95,113 +104,86 @@ IsSpelled packet bytes = IsPacket packet × (bytes.items ≡ packet_bytes packet
 -- the packet of a log entry
 pub record SendsEntry {S : Type 0} (index : ℕ) (x : Node S) (bytes : Vec ℕ) : Type 0 where
   pub e : Entry
-  pub entry : slice_get x.log index ≡ Some e
+  pub entry : HasEntry index e x
   pub spelled : IsSpelled (Log x.generation index e) bytes
 
 abbrev pub Sends : {S : Type 0} → ℕ → Node S → Result (Vec ℕ) Fault → Type 0
 Sends index x result =
-    Unless (refusals.send_refusal index x) result (Unit {0}) (Gives result (Unit {0}) (SendsEntry index x))
+    Ask (refusals.send_refusal index x) Ever (λ bytes x. SendsEntry index x bytes) x result
 
--- the next entry is held; a repeat, or an entry past a gap, changes nothing
-abbrev pub Delivered : {S : Type 0} → ℕ → Entry → Node S → (Node S → Type 0) → Bool → Type 0
-Delivered index e x Is true = (index ≡ length x.held) × Is (holds x e)
-Delivered index e x Is false = (index ≢ length x.held) × Is x
+-- a packet of the log arrives; it is out of memory only if this holds of the index and the node
+abbrev pub DeliversLog : {S : Type 0} → (ℕ → Node S → Type 0) → Option Packet → Node S → Result Bool Fault
+    → (Node S → Type 0) → Type 0
+DeliversLog wants (Some (Log generation index e)) x result Is =
+    Call (refusals.deliver_log_refusal generation x) (wants index) (Held index e) x result Is
+DeliversLog wants _ x result Is =
+    Unless (refusals.first_of (refusals.role_refusal (Backup ∷ []) x ∷ Some Malformed ∷ [])) result (Is x) ⊥
 
 -- the next entry may need memory if another is held and not replayed
 abbrev pub WantsRoom : {S : Type 0} → ℕ → Node S → Type 0
-WantsRoom index x = (index ≡ length x.held) × (x.replayed < length x.held)
-
-abbrev pub Delivers : {S : Type 0} → Option Packet → Node S → Result Bool Fault → (Node S → Type 0) → Type 0
-Delivers (Some (Log generation index e)) x result Is =
-    Unless (refusals.log_refusal generation x) result (Is x)
-    (Gives result (WantsRoom index x × Is x) (Delivered index e x Is))
-Delivers _ x result Is =
-    Unless (refusals.first_of (refusals.role_refusal (Backup ∷ []) x ∷ Some Malformed ∷ [])) result (Is x) ⊥
+WantsRoom index x = WantsEntry index x × (x.replayed < length x.held)
 
 -- the entry of a packet that would be held
 abbrev pub Expects : {S : Type 0} → Option Packet → Node S → Result (Option Entry) Fault → Type 0
 Expects (Some (Log generation index e)) x result =
-    Unless (refusals.log_refusal generation x) result (Unit {0})
-    (Always result (λ next. next ≡ (if index == length x.held then Some e else None)))
+    Ask (refusals.deliver_log_refusal generation x) Never (λ next x. next ≡ (if index == length x.held then Some e else None)) x
+    result
 Expects _ x result =
     Unless (refusals.first_of (refusals.role_refusal (Backup ∷ []) x ∷ Some Malformed ∷ [])) result (Unit {0}) ⊥
 
 -- the packet that acknowledges all that is held; it reports nothing as replayed
 abbrev pub Acknowledges : {S : Type 0} → Node S → Result (Vec ℕ) Fault → Type 0
 Acknowledges x result =
-    Unless (refusals.ack_refusal x) result (Unit {0})
-    (Gives result (Unit {0}) (IsSpelled (Ack x.generation (length x.held))))
+    Ask (refusals.acknowledge_refusal x) Ever (λ bytes x. IsSpelled (Ack x.generation (length x.held)) bytes) x result
 
 -- an acknowledgement arrives, which reports nothing as replayed
-abbrev pub Hears : {S : Type 0} → Option Packet → Node S → Result ℕ Fault → (Node S → Type 0) → Type 0
-Hears (Some (Ack generation held)) x result Is =
-    Unless (refusals.acked_refusal generation held x) result (Is x)
-    (Always result (λ covered. (covered ≡ (hears x held 0).covered) × Is (hears x held 0)))
-Hears _ x result Is =
+abbrev pub DeliversAcknowledgement : {S : Type 0} → Option Packet → Node S → Result ℕ Fault → (Node S → Type 0) → Type 0
+DeliversAcknowledgement (Some (Ack generation held)) x result Is =
+    Call (refusals.deliver_acknowledgement_refusal generation held x) Never (Heard held 0) x result Is
+DeliversAcknowledgement _ x result Is =
     Unless (refusals.first_of (refusals.role_refusal (Primary ∷ []) x ∷ Some Malformed ∷ [])) result (Is x) ⊥
 
 -- moves of a backup, of what it holds
-pub record Repeats {S : Type 0} (M : Machine S) (turns : ℕ) (x : Node S) (Is : Node S → Type 0) (r : Replayed)
-    : Type 0 where
-  pub y : Node S
-  pub moves : Replays M x turns y r.moves
-  pub some : MovesSome x turns r.moves
-  pub ends : r.at_end ≡ at_end y
-  pub after : Is y
+abbrev pub ReplayedBy : {S : Type 0} → Machine S → ℕ → replayer.Replayed → Node S → Node S → Type 0
+ReplayedBy M turns r x y = Replayed M turns r.moves r.at_end x y
 
-abbrev pub Replaying : {S : Type 0} → Machine S → ℕ → Node S → Result Replayed Fault → (Node S → Type 0) → Type 0
-Replaying M turns x result Is =
-    Unless (refusals.replay_refusal x) result (Is x)
-    (Gives result ((0 < turns) × IsBehind M x × Is x) (Repeats M turns x Is))
+abbrev pub Replays : {S : Type 0} → Machine S → ℕ → Node S → Result replayer.Replayed Fault → (Node S → Type 0)
+    → Type 0
+Replays M turns x result Is = Call (refusals.replay_refusal x) (WantsMoves M turns) (ReplayedBy M turns) x result Is
 
 -- moves of a draining node; with nothing left to replay it is alone
-pub record Empties {S : Type 0} (M : Machine S) (turns : ℕ) (x : Node S) (Is : Node S → Type 0) (d : Drained)
-    : Type 0 where
-  pub y : Node S
-  pub moves : Replays M x turns y d.moves
-  pub some : MovesSome x turns d.moves
-  pub ends : d.alone ≡ at_end y
-  pub after : Is (after_drain y (at_end y))
+abbrev pub DrainedBy : {S : Type 0} → Machine S → ℕ → ran.Drained → Node S → Node S → Type 0
+DrainedBy M turns d x y = Drained M turns d.moves d.alone x y
 
-abbrev pub Draining : {S : Type 0} → Machine S → ℕ → Node S → Result Drained Fault → (Node S → Type 0) → Type 0
-Draining M turns x result Is =
-    Unless (refusals.drain_refusal x) result (Is x)
-    (Gives result ((0 < turns) × IsBehind M x × Is x) (Empties M turns x Is))
+abbrev pub Drains : {S : Type 0} → Machine S → ℕ → Node S → Result ran.Drained Fault → (Node S → Type 0) → Type 0
+Drains M turns x result Is = Call (refusals.drain_refusal x) (WantsMoves M turns) (DrainedBy M turns) x result Is
 
 -- an outstanding operation is released
 abbrev pub Releases : {S : Type 0} → Machine S → OpId → Node S → Result Operation Fault → Type 0
-Releases M name x result =
-    Unless (refusals.release_refusal M name x) result (Unit {0}) (Always result (λ o. M.find x.machine name ≡ Some o))
+Releases M name x result = Ask (refusals.release_refusal M name x) Never (HasOutstanding M name) x result
 
 -- how many keys are covered
 abbrev pub Tells : {S : Type 0} → Machine S → ℕ → Node S → Result ℕ Fault → Type 0
-Tells M port x result =
-    Unless (refusals.told_refusal x) result (Unit {0}) (Always result (λ keys. keys ≡ keys_covered M x port x.role))
+Tells M port x result = Ask (refusals.told_refusal x) Never (HasCovered M port) x result
 
--- the sector with a number at the selected drive, at its head's track
-pub record IsUnder {S : Type 0} (M : Machine S) (sector : ℕ) (x : Node S) (address : SectorAddress) : Type 0 where
-  pub drive : ℕ
-  pub selected : M.selected x.machine ≡ Some drive
-  pub address_is : address ≡ M.address x.machine drive sector
-
-abbrev pub Finds : {S : Type 0} → Machine S → ℕ → Node S → Result SectorAddress Fault → Type 0
-Finds M sector x result =
-    Unless (refusals.place_refusal M x) result (Unit {0}) (Always result (IsUnder M sector x))
+-- the sector with a number, at the selected drive
+abbrev pub Gets : {S : Type 0} → Machine S → ℕ → Node S → Result SectorAddress Fault → Type 0
+Gets M sector x result = Ask (refusals.get_refusal M x) Never (IsUnder M sector) x result
 
 -- a node halts
 abbrev pub Stops : {S : Type 0} → Node S → Result (Unit {0}) Fault → (Node S → Type 0) → Type 0
-Stops x result Is = Unless (refusals.stop_refusal x) result (Is x) (Always result (λ done. Is (halts x)))
+Stops x result Is = Call (refusals.stop_refusal x) Never (λ done. Halted) x result Is
 
 -- a node asks for its generation: the first has won, a winner has won again, and any other is halted
-abbrev pub AskedOf : {S : Type 0} → Option ℕ → List Asking → ℕ → Node S → Result Won Fault → List Asking
+abbrev pub SuspectsOf : {S : Type 0} → Option ℕ → List Asking → ℕ → Node S → Result Won Fault → List Asking
     → (Node S → Type 0) → Type 0
-AskedOf None old n x (Ok won) new Is = (new ≡ after_asking old x.generation n) × Is (wins x)
-AskedOf None old n x (Err fault) new Is = (fault ≡ OutOfMemory) × (new ≡ old) × Is x
-AskedOf (Some winner) old n x (Ok won) new Is = (winner ≡ n) × (new ≡ old) × Is x
-AskedOf (Some winner) old n x (Err fault) new Is = (winner ≢ n) × (fault ≡ Lost) × (new ≡ old) × Is (halts x)
+SuspectsOf None old n x (Ok won) new Is = (new ≡ after_asking old x.generation n) × Is (wins x)
+SuspectsOf None old n x (Err fault) new Is = (fault ≡ OutOfMemory) × (new ≡ old) × Is x
+SuspectsOf (Some winner) old n x (Ok won) new Is = (winner ≡ n) × (new ≡ old) × Is x
+SuspectsOf (Some winner) old n x (Err fault) new Is = (winner ≢ n) × (fault ≡ Lost) × (new ≡ old) × Is (halts x)
 
-abbrev pub Asks : {S : Type 0} → List Asking → ℕ → Node S → Result Won Fault → List Asking → (Node S → Type 0)
+abbrev pub Suspects : {S : Type 0} → List Asking → ℕ → Node S → Result Won Fault → List Asking → (Node S → Type 0)
     → Type 0
-Asks old n x result new Is =
+Suspects old n x result new Is =
     Unless (refusals.suspect_refusal x) result (Is x × (new ≡ old))
-    (AskedOf (winner_of old x.generation) old n x result new Is)
+    (SuspectsOf (winner_of old x.generation) old n x result new Is)

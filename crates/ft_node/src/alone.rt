@@ -61,7 +61,7 @@ impl<B: Lockstep> Alone<B> {
         requires { port < PORTS }
         ensures { (x : Node B.State)
             → IsAlone (B.state self.now.board) self.now.generation x
-            → result ≡ answered (refusals.key_refusal B.machine port index x) }
+            → result ≡ answered (refusals.take_key_refusal B.machine port index x) }
     {
         if index != self.board.keys(port) {
             return Err(Fault::WrongNumber);
@@ -77,7 +77,7 @@ impl<B: Lockstep> Alone<B> {
         requires { port < PORTS }
         ensures { (x : Node B.State)
             → IsAlone (B.state self.now.board) self.now.generation x
-            → result ≡ answered (refusals.sent_refusal B.machine port number x) }
+            → result ≡ answered (refusals.tell_sent_refusal B.machine port number x) }
     {
         let due = self.board.due_byte(port).ok_or(Fault::NotDue)?;
         if due != number {
@@ -90,7 +90,7 @@ impl<B: Lockstep> Alone<B> {
     pub(crate) fn check_done(&self, number: u64) -> R<()>
         ensures { (x : Node B.State)
             → IsAlone (B.state self.now.board) self.now.generation x
-            → result ≡ answered (refusals.done_refusal B.machine number x) }
+            → result ≡ answered (refusals.put_reply_refusal B.machine number x) }
     {
         self.board.check(&Input::Written(number))
     }
@@ -106,7 +106,7 @@ impl<B: Lockstep> Alone<B> {
         requires sector { address.sector < SECTORS }
         ensures { (x : Node B.State)
             → IsAlone (B.state self.now.board) self.now.generation x
-            → result ≡ answered (refusals.under_refusal B.machine address number bytes x) }
+            → result ≡ answered (refusals.get_reply_refusal B.machine address number bytes x) }
     {
         if self.board.sector_under(address.drive, address.sector) != address {
             return Err(Fault::NotDue);
@@ -124,7 +124,7 @@ impl<B: Lockstep> Alone<B> {
         requires { port < PORTS }
         ensures answer { (x : Node B.State)
             → IsAlone (B.state self.old.board) self.old.generation x
-            → calls.Takes B.machine (input.Rx port byte) (refusals.key_refusal B.machine port index x) x result
+            → calls.Takes B.machine (input.Rx port byte) (refusals.take_key_refusal B.machine port index x) x result
             (IsAlone (B.state self.new.board) self.new.generation) }
         ensures unchanged { OnErr result (self.new ≡ self.old) }
     {
@@ -137,7 +137,7 @@ impl<B: Lockstep> Alone<B> {
         requires { port < PORTS }
         ensures answer { (x : Node B.State)
             → IsAlone (B.state self.old.board) self.old.generation x
-            → calls.Takes B.machine (input.Sent port) (refusals.sent_refusal B.machine port number x) x result
+            → calls.Takes B.machine (input.Sent port) (refusals.tell_sent_refusal B.machine port number x) x result
             (IsAlone (B.state self.new.board) self.new.generation) }
         ensures unchanged { OnErr result (self.new ≡ self.old) }
     {
@@ -149,7 +149,7 @@ impl<B: Lockstep> Alone<B> {
     pub(crate) fn done(&mut self, number: u64) -> R<()>
         ensures answer { (x : Node B.State)
             → IsAlone (B.state self.old.board) self.old.generation x
-            → calls.Takes B.machine (input.Written number) (refusals.done_refusal B.machine number x) x result
+            → calls.Takes B.machine (input.Written number) (refusals.put_reply_refusal B.machine number x) x result
             (IsAlone (B.state self.new.board) self.new.generation) }
         ensures unchanged { OnErr result (self.new ≡ self.old) }
     {
@@ -169,7 +169,7 @@ impl<B: Lockstep> Alone<B> {
         ensures answer { (x : Node B.State)
             → IsAlone (B.state self.old.board) self.old.generation x
             → calls.Takes B.machine (input.Sector address.drive address.sector number bytes)
-            (refusals.under_refusal B.machine address number bytes x) x result
+            (refusals.get_reply_refusal B.machine address number bytes x) x result
             (IsAlone (B.state self.new.board) self.new.generation) }
         ensures unchanged { OnErr result (self.new ≡ self.old) }
     {
@@ -186,7 +186,7 @@ impl<B: Lockstep> Alone<B> {
     pub(crate) fn sector(&self, sector: u8) -> Option<SectorAddress>
         ensures { (x : Node B.State)
             → IsAlone (B.state self.now.board) self.now.generation x
-            → calls.Finds B.machine sector x (ok_or result NotDue) }
+            → calls.Gets B.machine sector x (ok_or result NotDue) }
     {
         let drive = self.board.selected()?;
         Some(self.board.sector_under(drive, sector))

@@ -1,7 +1,7 @@
 //! A node, in whatever role.
 ghost use Rattle.std.specs.Prelude.{◌≡◌, ◌≢◌, ◌<◌, [], true, IfErr, OnErr};
 ghost use Rattle.i8080_words.specs.declared.refusal.Fault.TheVariants.{Lost};
-ghost use Rattle.pair_protocol.specs.Rows.{at_end};
+ghost use Rattle.pair_protocol.specs.Effects.{at_end};
 ghost use Rattle.pair_protocol.specs.Node.{goes_live, halts, wins};
 ghost use Rattle.disk_dcdd.specs.declared.controller.TheConstants.{DRIVES};
 ghost use Rattle.disk_dcdd.specs.declared.sector.TheConstants.{SECTORS};
@@ -94,7 +94,7 @@ impl<B: Lockstep + Drop> Node<B> {
     pub fn check_key(&self, port: u8, index: u64) -> R<()>
         requires { port < PORTS }
         ensures { (x : protocol.Node B.State) → IsNode B.state B.machine self.now x
-            → result ≡ answered (refusals.key_refusal B.machine port index x) }
+            → result ≡ answered (refusals.take_key_refusal B.machine port index x) }
     {
         match self {
             Node::Primary(primary) => primary.check_key(port, index),
@@ -107,7 +107,7 @@ impl<B: Lockstep + Drop> Node<B> {
     pub fn check_sent(&self, port: u8, number: u64) -> R<()>
         requires { port < PORTS }
         ensures { (x : protocol.Node B.State) → IsNode B.state B.machine self.now x
-            → result ≡ answered (refusals.sent_refusal B.machine port number x) }
+            → result ≡ answered (refusals.tell_sent_refusal B.machine port number x) }
     {
         match self {
             Node::Primary(primary) => primary.check_sent(port, number),
@@ -119,7 +119,7 @@ impl<B: Lockstep + Drop> Node<B> {
     /// Whether `done` would take the completion of a write: returns its refusal, and changes nothing.
     pub fn check_done(&self, number: u64) -> R<()>
         ensures { (x : protocol.Node B.State) → IsNode B.state B.machine self.now x
-            → result ≡ answered (refusals.done_refusal B.machine number x) }
+            → result ≡ answered (refusals.put_reply_refusal B.machine number x) }
     {
         match self {
             Node::Primary(primary) => primary.check_done(number),
@@ -138,7 +138,7 @@ impl<B: Lockstep + Drop> Node<B> {
         requires drive { address.drive < DRIVES }
         requires sector { address.sector < SECTORS }
         ensures { (x : protocol.Node B.State) → IsNode B.state B.machine self.now x
-            → result ≡ answered (refusals.under_refusal B.machine address number bytes x) }
+            → result ≡ answered (refusals.get_reply_refusal B.machine address number bytes x) }
     {
         match self {
             Node::Primary(primary) => primary.check_under(address, number, bytes),
@@ -164,7 +164,7 @@ impl<B: Lockstep + Drop> Node<B> {
     pub fn key(&mut self, port: u8, index: u64, byte: u8) -> R<()>
         requires port { port < PORTS }
         ensures answer { (x : protocol.Node B.State) → IsNode B.state B.machine self.old x
-            → calls.Takes B.machine (input.Rx port byte) (refusals.key_refusal B.machine port index x) x
+            → calls.Takes B.machine (input.Rx port byte) (refusals.take_key_refusal B.machine port index x) x
             result (IsNode B.state B.machine self.new) }
         ensures unchanged { OnErr result (self.new ≡ self.old) }
     {
@@ -180,7 +180,7 @@ impl<B: Lockstep + Drop> Node<B> {
     pub fn sent(&mut self, port: u8, number: u64) -> R<()>
         requires port { port < PORTS }
         ensures answer { (x : protocol.Node B.State) → IsNode B.state B.machine self.old x
-            → calls.Takes B.machine (input.Sent port) (refusals.sent_refusal B.machine port number x) x result
+            → calls.Takes B.machine (input.Sent port) (refusals.tell_sent_refusal B.machine port number x) x result
             (IsNode B.state B.machine self.new) }
         ensures unchanged { OnErr result (self.new ≡ self.old) }
     {
@@ -194,7 +194,7 @@ impl<B: Lockstep + Drop> Node<B> {
     /// Takes the completion of a write. `NotDue` if the write is not outstanding.
     pub fn done(&mut self, number: u64) -> R<()>
         ensures answer { (x : protocol.Node B.State) → IsNode B.state B.machine self.old x
-            → calls.Takes B.machine (input.Written number) (refusals.done_refusal B.machine number x) x result
+            → calls.Takes B.machine (input.Written number) (refusals.put_reply_refusal B.machine number x) x result
             (IsNode B.state B.machine self.new) }
         ensures unchanged { OnErr result (self.new ≡ self.old) }
     {
@@ -209,7 +209,7 @@ impl<B: Lockstep + Drop> Node<B> {
     pub fn place(&self, sector: u8) -> R<SectorAddress>
         requires { sector < SECTORS }
         ensures { (x : protocol.Node B.State) → IsNode B.state B.machine self.now x
-            → calls.Finds B.machine sector x result }
+            → calls.Gets B.machine sector x result }
     {
         let selected = match self {
             Node::Primary(primary) => primary.sector(sector),
@@ -226,7 +226,7 @@ impl<B: Lockstep + Drop> Node<B> {
         requires sector { address.sector < SECTORS }
         ensures answer { (x : protocol.Node B.State) → IsNode B.state B.machine self.old x
             → calls.Takes B.machine (input.Sector address.drive address.sector number bytes)
-            (refusals.under_refusal B.machine address number bytes x) x result (IsNode B.state B.machine self.new) }
+            (refusals.get_reply_refusal B.machine address number bytes x) x result (IsNode B.state B.machine self.new) }
         ensures unchanged { OnErr result (self.new ≡ self.old) }
     {
         match self {
@@ -251,7 +251,7 @@ impl<B: Lockstep + Drop> Node<B> {
     /// false and changes nothing. `Malformed` and `WrongGeneration` as the packet is.
     pub fn on_log(&mut self, bytes: &[u8]) -> R<bool>
         ensures answer { (x : protocol.Node B.State) → IsNode B.state B.machine self.old x
-            → calls.Delivers (packet_at bytes.now) x result (IsNode B.state B.machine self.new) }
+            → calls.DeliversLog calls.WantsRoom (packet_at bytes.now) x result (IsNode B.state B.machine self.new) }
         ensures unchanged { OnErr result (self.new ≡ self.old) }
     {
         match self {
@@ -274,7 +274,7 @@ impl<B: Lockstep + Drop> Node<B> {
     /// than the log has.
     pub fn on_ack(&mut self, bytes: &[u8]) -> R<u64>
         ensures answer { (x : protocol.Node B.State) → IsNode B.state B.machine self.old x
-            → calls.Hears (packet_at bytes.now) x result (IsNode B.state B.machine self.new) }
+            → calls.DeliversAcknowledgement (packet_at bytes.now) x result (IsNode B.state B.machine self.new) }
         ensures unchanged { OnErr result (self.new ≡ self.old) }
     {
         match self {
@@ -287,7 +287,7 @@ impl<B: Lockstep + Drop> Node<B> {
     pub fn replay(&mut self, turns: u64) -> R<Replayed>
         requires on_trace { MayReplay B.state B.machine self.old }
         ensures answer { (x : protocol.Node B.State) → IsNode B.state B.machine self.old x
-            → calls.Replaying B.machine turns x result (IsNode B.state B.machine self.new) }
+            → calls.Replays B.machine turns x result (IsNode B.state B.machine self.new) }
         ensures unchanged { OnErr result (self.new ≡ self.old) }
     {
         match self {
@@ -327,7 +327,7 @@ impl<B: Lockstep + Drop> Node<B> {
     pub fn drain(&mut self, turns: u64) -> R<Drained>
         requires on_trace { MayReplay B.state B.machine self.old }
         ensures answer { (x : protocol.Node B.State) → IsNode B.state B.machine self.old x
-            → calls.Draining B.machine turns x result (IsNode B.state B.machine self.new) }
+            → calls.Drains B.machine turns x result (IsNode B.state B.machine self.new) }
         ensures unchanged { OnErr result (self.new ≡ self.old) }
     {
         let Node::Draining(draining) = self else {
@@ -347,7 +347,7 @@ impl<B: Lockstep + Drop> Node<B> {
     /// the other node has asked before; this one is then halted. `OutOfMemory` if the arbiter has no room.
     pub fn suspect(&mut self, id: u64, arbiter: &mut Arbiter) -> R<Won>
         ensures answer { (x : protocol.Node B.State) → IsNode B.state B.machine self.old x
-            → calls.Asks arbiter.old id x result arbiter.new (IsNode B.state B.machine self.new) }
+            → calls.Suspects arbiter.old id x result arbiter.new (IsNode B.state B.machine self.new) }
         ensures unchanged { IfErr result (λ fault. fault ≢ Lost → self.new ≡ self.old) }
         ensures arbiter { OnErr result (arbiter.new ≡ arbiter.old) }
     {

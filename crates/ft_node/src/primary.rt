@@ -72,7 +72,7 @@ impl<B: Lockstep> Primary<B> {
         ensures answer { (x : Node B.State)
             → IsPrimary B.machine (B.state self.now.recorder.board) self.now.recorder.log self.now.sender
             self.now.coverage x
-            → result ≡ answered (refusals.key_refusal B.machine port index x) }
+            → result ≡ answered (refusals.take_key_refusal B.machine port index x) }
         ensures room { OnOk result (B.machine.keys (B.state self.now.recorder.board) port < GREATEST_NUMBER) }
     {
         self.recorder.log().stands();
@@ -92,7 +92,7 @@ impl<B: Lockstep> Primary<B> {
         ensures { (x : Node B.State)
             → IsPrimary B.machine (B.state self.now.recorder.board) self.now.recorder.log self.now.sender
             self.now.coverage x
-            → result ≡ answered (refusals.sent_refusal B.machine port number x) }
+            → result ≡ answered (refusals.tell_sent_refusal B.machine port number x) }
     {
         self.recorder.log().stands();
         let due = self.recorder.board().due_byte(port).ok_or(Fault::NotDue)?;
@@ -107,7 +107,7 @@ impl<B: Lockstep> Primary<B> {
         ensures { (x : Node B.State)
             → IsPrimary B.machine (B.state self.now.recorder.board) self.now.recorder.log self.now.sender
             self.now.coverage x
-            → result ≡ answered (refusals.done_refusal B.machine number x) }
+            → result ≡ answered (refusals.put_reply_refusal B.machine number x) }
     {
         self.recorder.log().stands();
         self.recorder.board().check(&Input::Written(number))?;
@@ -126,7 +126,7 @@ impl<B: Lockstep> Primary<B> {
         ensures { (x : Node B.State)
             → IsPrimary B.machine (B.state self.now.recorder.board) self.now.recorder.log self.now.sender
             self.now.coverage x
-            → result ≡ answered (refusals.under_refusal B.machine address number bytes x) }
+            → result ≡ answered (refusals.get_reply_refusal B.machine address number bytes x) }
     {
         self.recorder.log().stands();
         if self
@@ -152,7 +152,7 @@ impl<B: Lockstep> Primary<B> {
         ensures answer { (x : Node B.State)
             → IsPrimary B.machine (B.state self.old.recorder.board) self.old.recorder.log self.old.sender
             self.old.coverage x
-            → calls.Takes B.machine (input.Rx port byte) (refusals.key_refusal B.machine port index x) x result
+            → calls.Takes B.machine (input.Rx port byte) (refusals.take_key_refusal B.machine port index x) x result
             (IsPrimary B.machine (B.state self.new.recorder.board) self.new.recorder.log self.new.sender
             self.new.coverage) }
         ensures unchanged { OnErr result (self.new ≡ self.old) }
@@ -168,7 +168,7 @@ impl<B: Lockstep> Primary<B> {
         ensures answer { (x : Node B.State)
             → IsPrimary B.machine (B.state self.old.recorder.board) self.old.recorder.log self.old.sender
             self.old.coverage x
-            → calls.Takes B.machine (input.Sent port) (refusals.sent_refusal B.machine port number x) x result
+            → calls.Takes B.machine (input.Sent port) (refusals.tell_sent_refusal B.machine port number x) x result
             (IsPrimary B.machine (B.state self.new.recorder.board) self.new.recorder.log self.new.sender
             self.new.coverage) }
         ensures unchanged { OnErr result (self.new ≡ self.old) }
@@ -184,7 +184,7 @@ impl<B: Lockstep> Primary<B> {
         ensures answer { (x : Node B.State)
             → IsPrimary B.machine (B.state self.old.recorder.board) self.old.recorder.log self.old.sender
             self.old.coverage x
-            → calls.Takes B.machine (input.Written number) (refusals.done_refusal B.machine number x) x result
+            → calls.Takes B.machine (input.Written number) (refusals.put_reply_refusal B.machine number x) x result
             (IsPrimary B.machine (B.state self.new.recorder.board) self.new.recorder.log self.new.sender
             self.new.coverage) }
         ensures unchanged { OnErr result (self.new ≡ self.old) }
@@ -208,7 +208,7 @@ impl<B: Lockstep> Primary<B> {
             → IsPrimary B.machine (B.state self.old.recorder.board) self.old.recorder.log self.old.sender
             self.old.coverage x
             → calls.Takes B.machine (input.Sector address.drive address.sector number bytes)
-            (refusals.under_refusal B.machine address number bytes x) x result
+            (refusals.get_reply_refusal B.machine address number bytes x) x result
             (IsPrimary B.machine (B.state self.new.recorder.board) self.new.recorder.log self.new.sender
             self.new.coverage) }
         ensures unchanged { OnErr result (self.new ≡ self.old) }
@@ -240,7 +240,7 @@ impl<B: Lockstep> Primary<B> {
         ensures answer { (x : Node B.State)
             → IsPrimary B.machine (B.state self.old.recorder.board) self.old.recorder.log self.old.sender
             self.old.coverage x
-            → calls.Hears (packet_at bytes.now) x result
+            → calls.DeliversAcknowledgement (packet_at bytes.now) x result
             (IsPrimary B.machine (B.state self.new.recorder.board) self.new.recorder.log self.new.sender
             self.new.coverage) }
         ensures unchanged { OnErr result (self.new ≡ self.old) }
@@ -256,7 +256,7 @@ impl<B: Lockstep> Primary<B> {
         ensures { (x : Node B.State)
             → IsPrimary B.machine (B.state self.now.recorder.board) self.now.recorder.log self.now.sender
             self.now.coverage x
-            → calls.Finds B.machine sector x (ok_or result NotDue) }
+            → calls.Gets B.machine sector x (ok_or result NotDue) }
     {
         let drive = self.recorder.board().selected()?;
         Some(self.recorder.board().sector_under(drive, sector))

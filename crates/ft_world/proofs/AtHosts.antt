@@ -10,12 +10,13 @@ use Rattle.i8080_words.specs.declared.refusal.Fault.TheVariants.{Unknown}
 use Rattle.shared_disk.specs.declared.store.Record.{Record}
 use Rattle.pair_protocol.specs.Node.{Node, Role, Primary, Backup, Joining, Draining, Alone, Spare, halts, is_role, wins}
 use Rattle.pair_protocol.specs.Refusals.{at_node, suspect_refusal}
+use Rattle.pair_protocol.specs.Rows.{OfNode}
+use Rattle.pair_protocol.specs.World.{World}
 use Rattle.pair_protocol.proofs.Traces.Lists.{get_set, same_or_not, get_set_other}
 use Rattle.pair_protocol.proofs.OneNode.{set_get}
-use Rattle.ft_node.specs.Calls.{Always, AskedOf, Asks, Unless, Gives}
+use Rattle.ft_node.specs.Calls.{Ask, SuspectsOf, Suspects, Call, Gives, Makes, Unless}
 use Rattle.ft_node.specs.Seats.{IsNode}
 use Rattle.ft_world.specs.Applies.{Shows}
-use Rattle.ft_world.specs.AtStation.{AtStation, DoesAtStation, Makes, WantsAtStation}
 use Rattle.ft_world.specs.Lending.{HasNoNode, WithStation}
 use Rattle.ft_world.specs.Running.{Running}
 use Rattle.ft_world.specs.Shows.{Agree, AreHosts, IsHost, IsStation}
@@ -23,7 +24,7 @@ use Rattle.ft_world.specs.Standing.{Course}
 use Rattle.ft_world.specs.declared.host.Host.{Host}
 use Rattle.ft_world.specs.declared.host.Host.TheVariants as host
 use Rattle.ft_world.specs.declared.station.Station.{Station}
-use Rattle.ft_world.proofs.Answering.{asked, maps, unless}
+use Rattle.ft_world.proofs.Answering.{asked, unless}
 
 -- the node of a number becomes another one, and every other host stays
 pub record Becomes {B H S : Type 0} (state : B → S) (M : Machine S) (nodes : List (Node S)) (n : ℕ)
@@ -34,52 +35,28 @@ pub record Becomes {B H S : Type 0} (state : B → S) (M : Machine S) (nodes : L
   pub done : does x y
   pub after : AreHosts state M new (slice_set nodes n y)
 
--- the refusal of the node's part, or what the event does there; if out of memory, nothing changes
-abbrev pub AtHost : {A B H S : Type 0} → (B → S) → Machine S → List (Node S) → ℕ → (Node S → Option Fault)
-    → Result A Fault → List (Host B H) → (A → Node S → Node S → Type 0) → Type 0
-AtHost state M nodes n part result new does =
-    Unless (at_node (slice_get nodes n) part) result (AreHosts state M new nodes)
-    (Gives result (AreHosts state M new nodes) (λ value. Becomes state M nodes n new (does value)))
+-- a call of the node of a number: what it returns, and what the hosts are then
+pub record AtHost {A B H S : Type 0} (state : B → S) (M : Machine S) (w : World S) (n : ℕ)
+    (part : Node S → Option Fault) (wants : Node S → Type 0) (does : A → Node S → Node S → Type 0)
+    (result : Result A Fault) (new : List (Host B H)) : Type 0 where
+  pub answer :
+      Unless (at_node (slice_get w.nodes n) part) result (AreHosts state M new w.nodes)
+      (Gives result (OfNode w n wants × AreHosts state M new w.nodes)
+      (λ value. Becomes state M w.nodes n new (does value)))
 
--- the same, for an event that needs no memory
-abbrev pub DoesAtHost : {A B H S : Type 0} → (B → S) → Machine S → List (Node S) → ℕ → (Node S → Option Fault)
-    → Result A Fault → List (Host B H) → (A → Node S → Node S → Type 0) → Type 0
-DoesAtHost state M nodes n part result new does =
-    Unless (at_node (slice_get nodes n) part) result (AreHosts state M new nodes)
-    (Always result (λ value. Becomes state M nodes n new (does value)))
-
--- what is asked of a node, which stays as it is
-pub record Says {S : Type 0} (nodes : List (Node S)) (n : ℕ) (says : Node S → Type 0) : Type 0 where
-  pub x : Node S
-  pub there : slice_get nodes n ≡ Some x
-  pub said : says x
-
--- the refusal of the node's part, or what the event does there; it is out of memory only if this holds of the node
-abbrev pub WantsAtHost : {A B H S : Type 0} → (B → S) → Machine S → List (Node S) → ℕ → (Node S → Option Fault)
-    → Result A Fault → (Node S → Type 0) → List (Host B H) → (A → Node S → Node S → Type 0) → Type 0
-WantsAtHost state M nodes n part result wants new does =
-    Unless (at_node (slice_get nodes n) part) result (AreHosts state M new nodes)
-    (Gives result (Says nodes n wants × AreHosts state M new nodes) (λ value. Becomes state M nodes n new (does value)))
-
-abbrev pub AskHost : {A S : Type 0} → List (Node S) → ℕ → (Node S → Option Fault) → Result A Fault
-    → (A → Node S → Type 0) → Type 0
-AskHost nodes n part result says =
-    Unless (at_node (slice_get nodes n) part) result (Unit {0})
-    (Gives result (Unit {0}) (λ value. Says nodes n (says value)))
-
--- the same, for an event that needs no memory
-abbrev pub ReadHost : {A S : Type 0} → List (Node S) → ℕ → (Node S → Option Fault) → Result A Fault
-    → (A → Node S → Type 0) → Type 0
-ReadHost nodes n part result says =
-    Unless (at_node (slice_get nodes n) part) result (Unit {0})
-    (Always result (λ value. Says nodes n (says value)))
+-- a node is asked, and stays as it is
+pub record AsksNode {A S : Type 0} (w : World S) (n : ℕ) (part : Node S → Option Fault) (wants : Node S → Type 0)
+    (says : A → Node S → Type 0) (result : Result A Fault) : Type 0 where
+  pub answer :
+      Unless (at_node (slice_get w.nodes n) part) result (Unit {0})
+      (Gives result (OfNode w n wants) (λ value. OfNode w n (says value)))
 
 -- the refusal of the node's part, or what asking the arbiter does there
 pub record Asked {B H S : Type 0} (state : B → S) (M : Machine S) (nodes : List (Node S)) (n : ℕ) (old : List Asking)
     (result : Result Won Fault) (hosts : List (Host B H)) (new : List Asking) : Type 0 where
   pub x : Node S
   pub there : slice_get nodes n ≡ Some x
-  pub answer : AskedOf (winner_of old x.generation) old n x result new
+  pub answer : SuspectsOf (winner_of old x.generation) old n x result new
       (λ y. AreHosts state M hosts (slice_set nodes n y))
 
 abbrev pub AsksHost : {B H S : Type 0} → (B → S) → Machine S → List (Node S) → ℕ → List Asking → Result Won Fault
@@ -165,83 +142,42 @@ module _ {B H D S : Type 0} {state : B → S} {M : Machine S} {records : D → L
     {c : Course S} (h : Shows state M records old c) where
   module _ {n : ℕ} {here s : Station B} {new : List (Host B H)} (at : slice_get old.hosts n ≡ Some (host.Node here))
       (w : WithStation old.hosts n s new) where
-    pub at_host : {A : Type 0} (part : Node S → Option Fault) (result : Result A Fault)
-        (does : A → Node S → Node S → Type 0)
-        → ((x : Node S) → IsStation state M here x → AtStation (part x) result x (IsStation state M s) does)
-        → AtHost state M c.world.nodes n part result new does
-    at_host part result does says =
-        at_station state M old.hosts c.world.nodes n h.parts.hosts here part result (AreHosts state M new c.world.nodes)
-        (Gives result (AreHosts state M new c.world.nodes) (λ v. Becomes state M c.world.nodes n new (does v))) at
-        (λ x there is. maps (part x) result (IsStation state M s x) (AreHosts state M new c.world.nodes)
-        (IsStation state M s x) (AreHosts state M new c.world.nodes)
-        (λ v. Makes x (IsStation state M s) (does v)) (λ v. Becomes state M c.world.nodes n new (does v))
-        (stayed state M old.hosts c.world.nodes n h.parts.hosts here s new at w x there)
-        (stayed state M old.hosts c.world.nodes n h.parts.hosts here s new at w x there)
-        (λ v none m. record {
-          x = x;
-          there = there;
-          y = m.y;
-          done = m.done;
-          after = moved state M old.hosts c.world.nodes n h.parts.hosts here s new at w x m.y there m.after;
-        })
-        (says x is))
-
-    -- the same, for an event that is out of memory only if this holds of the node
-    pub wants_at_host : {A : Type 0} (part : Node S → Option Fault) (result : Result A Fault) (wants : Node S → Type 0)
-        (does : A → Node S → Node S → Type 0)
-        → ((x : Node S) → IsStation state M here x
-        → WantsAtStation (part x) result wants x (IsStation state M s) does)
-        → WantsAtHost state M c.world.nodes n part result wants new does
-    wants_at_host part result wants does says =
-        at_station state M old.hosts c.world.nodes n h.parts.hosts here part result (AreHosts state M new c.world.nodes)
-        (Gives result (Says c.world.nodes n wants × AreHosts state M new c.world.nodes)
-        (λ v. Becomes state M c.world.nodes n new (does v))) at
-        (λ x there is. maps (part x) result (IsStation state M s x) (AreHosts state M new c.world.nodes)
-        (wants x × IsStation state M s x) (Says c.world.nodes n wants × AreHosts state M new c.world.nodes)
-        (λ v. Makes x (IsStation state M s) (does v)) (λ v. Becomes state M c.world.nodes n new (does v))
-        (stayed state M old.hosts c.world.nodes n h.parts.hosts here s new at w x there)
-        (λ p. (
-          record { x = x; there = there; said = p.0 },
-          stayed state M old.hosts c.world.nodes n h.parts.hosts here s new at w x there p.1,
-        ))
-        (λ v none m. record {
-          x = x;
-          there = there;
-          y = m.y;
-          done = m.done;
-          after = moved state M old.hosts c.world.nodes n h.parts.hosts here s new at w x m.y there m.after;
-        })
-        (says x is))
-
-    -- the same, for an event that needs no memory
-    pub does_at_host : {A : Type 0} (part : Node S → Option Fault) (result : Result A Fault)
-        (does : A → Node S → Node S → Type 0)
-        → ((x : Node S) → IsStation state M here x → DoesAtStation (part x) result x (IsStation state M s) does)
-        → DoesAtHost state M c.world.nodes n part result new does
-    does_at_host {A} part result does says =
-        at_station state M old.hosts c.world.nodes n h.parts.hosts here part result (AreHosts state M new c.world.nodes)
-        (Always result (λ v. Becomes state M c.world.nodes n new (does v))) at
-        (λ x there is. unless (part x) result (IsStation state M s x) (AreHosts state M new c.world.nodes)
-        (Always result (λ v. Makes x (IsStation state M s) (does v)))
-        (Always result (λ v. Becomes state M c.world.nodes n new (does v)))
-        (stayed state M old.hosts c.world.nodes n h.parts.hosts here s new at w x there) (becomes x there result) (says x is))
+    pub at_host : {A : Type 0} {part : Node S → Option Fault} {wants : Node S → Type 0}
+        {does : A → Node S → Node S → Type 0} {result : Result A Fault}
+        → ((x : Node S) → IsStation state M here x → Call (part x) wants does x result (IsStation state M s))
+        → AtHost state M c.world n part wants does result new
+    at_host {A} {part} {wants} {does} {result} says = record {
+      answer =
+          at_station state M old.hosts c.world.nodes n h.parts.hosts here part result
+          (AreHosts state M new c.world.nodes)
+          (Gives result (OfNode c.world n wants × AreHosts state M new c.world.nodes)
+          (λ v. Becomes state M c.world.nodes n new (does v))) at
+          (λ x there is. unless (part x) result (IsStation state M s x) (AreHosts state M new c.world.nodes) _ _
+          (stay x there) (gives x there result) (says x is));
+    }
       where
-        becomes : (x : Node S) → slice_get c.world.nodes n ≡ Some x → (r : Result A Fault)
-            → Always r (λ v. Makes x (IsStation state M s) (does v))
-            → Always r (λ v. Becomes state M c.world.nodes n new (does v))
-        becomes x there (Ok v) m = record {
+        stay : (x : Node S) → slice_get c.world.nodes n ≡ Some x → IsStation state M s x
+            → AreHosts state M new c.world.nodes
+        stay x there = stayed state M old.hosts c.world.nodes n h.parts.hosts here s new at w x there
+
+        gives : (x : Node S) → slice_get c.world.nodes n ≡ Some x → (r : Result A Fault)
+            → Gives r (wants x × IsStation state M s x) (λ v. Makes x (does v) (IsStation state M s))
+            → Gives r (OfNode c.world n wants × AreHosts state M new c.world.nodes)
+            (λ v. Becomes state M c.world.nodes n new (does v))
+        gives x there (Ok v) m = record {
           x = x;
           there = there;
           y = m.y;
           done = m.done;
           after = moved state M old.hosts c.world.nodes n h.parts.hosts here s new at w x m.y there m.after;
         }
-        becomes x there (Err fault) m = absurd m
+        gives x there (Err fault) d =
+            (d.0, (record { x = x; there = there; said = d.1.0 }, stay x there d.1.1))
 
     -- a node asks the arbiter
     pub suspects_host : (result : Result Won Fault) (askings : List Asking)
         → ((x : Node S) → IsStation state M here x
-        → Asks old.askings n x result askings (IsStation state M s))
+        → Suspects old.askings n x result askings (IsStation state M s))
         → AsksHost state M c.world.nodes n old.askings result new askings
     suspects_host result askings says =
         at_station state M old.hosts c.world.nodes n h.parts.hosts here suspect_refusal result
@@ -249,7 +185,7 @@ module _ {B H D S : Type 0} {state : B → S} {M : Machine S} {records : D → L
         (Asked state M c.world.nodes n old.askings result new askings) at
         (λ x there is. unless (suspect_refusal x) result (IsStation state M s x × (askings ≡ old.askings))
         (AreHosts state M new c.world.nodes × (askings ≡ old.askings))
-        (AskedOf (winner_of old.askings x.generation) old.askings n x result askings (IsStation state M s))
+        (SuspectsOf (winner_of old.askings x.generation) old.askings n x result askings (IsStation state M s))
         (Asked state M c.world.nodes n old.askings result new askings)
         (λ p. (stayed state M old.hosts c.world.nodes n h.parts.hosts here s new at w x there p.0, p.1))
         (λ d. record {
@@ -263,34 +199,24 @@ module _ {B H D S : Type 0} {state : B → S} {M : Machine S} {records : D → L
         })
         (says x is))
 
-  -- a node is asked, and stays as it is
-  module _ (n : ℕ) (here : Station B) (at : slice_get old.hosts n ≡ Some (host.Node here)) where
-    pub asks_host : {A : Type 0} (part : Node S → Option Fault) (result : Result A Fault) (says : A → Node S → Type 0)
-        → ((x : Node S) → IsNode state M here.node x
-        → Unless (part x) result (Unit {0}) (Gives result (Unit {0}) (λ v. says v x)))
-        → AskHost c.world.nodes n part result says
-    asks_host part result says answers =
+  -- a node is asked
+  pub asks_node : {A : Type 0} {n : ℕ} {here : Station B} {part : Node S → Option Fault} {wants : Node S → Type 0}
+      {says : A → Node S → Type 0} {result : Result A Fault} → slice_get old.hosts n ≡ Some (host.Node here)
+      → ((x : Node S) → IsNode state M here.node x → Ask (part x) wants says x result)
+      → AsksNode c.world n part wants says result
+  asks_node {A} {n} {here} {part} {wants} {says} {result} at answers = record {
+    answer =
         at_station state M old.hosts c.world.nodes n h.parts.hosts here part result (Unit {0})
-        (Gives result (Unit {0}) (λ v. Says c.world.nodes n (says v))) at
-        (λ x there is. maps (part x) result (Unit {0}) (Unit {0}) (Unit {0}) (Unit {0}) (λ v. says v x)
-        (λ v. Says c.world.nodes n (says v)) (λ p. p) (λ p. p) (λ v none s. record { x = x; there = there; said = s }) (answers x is.node))
-
-    -- the same, for an event that needs no memory
-    pub reads_host : {A : Type 0} (part : Node S → Option Fault) (result : Result A Fault)
-        (says : A → Node S → Type 0)
-        → ((x : Node S) → IsNode state M here.node x
-        → Unless (part x) result (Unit {0}) (Always result (λ v. says v x)))
-        → ReadHost c.world.nodes n part result says
-    reads_host {A} part result says answers =
-        at_station state M old.hosts c.world.nodes n h.parts.hosts here part result (Unit {0})
-        (Always result (λ v. Says c.world.nodes n (says v))) at
-        (λ x there is. unless (part x) result (Unit {0}) (Unit {0}) (Always result (λ v. says v x))
-        (Always result (λ v. Says c.world.nodes n (says v))) (λ p. p) (said x there result) (answers x is.node))
-      where
-        said : (x : Node S) → slice_get c.world.nodes n ≡ Some x → (r : Result A Fault) → Always r (λ v. says v x)
-            → Always r (λ v. Says c.world.nodes n (says v))
-        said x there (Ok v) s = record { x = x; there = there; said = s }
-        said x there (Err fault) s = absurd s
+        (Gives result (OfNode c.world n wants) (λ v. OfNode c.world n (says v))) at
+        (λ x there is. unless (part x) result (Unit {0}) (Unit {0}) _ _ (λ p. p) (gives x there result)
+        (answers x is.node));
+  }
+    where
+      gives : (x : Node S) → slice_get c.world.nodes n ≡ Some x → (r : Result A Fault)
+          → Gives r (wants x) (λ v. says v x)
+          → Gives r (OfNode c.world n wants) (λ v. OfNode c.world n (says v))
+      gives x there (Ok v) s = record { x = x; there = there; said = s }
+      gives x there (Err fault) d = (d.0, record { x = x; there = there; said = d.1 })
 
   -- no node has this number, and nothing changes
   pub no_host : (A : Type 0) (n : ℕ) (part : Node S → Option Fault) {fault : Fault} (P D' : Type 0) → fault ≡ Unknown
@@ -301,3 +227,14 @@ module _ {B H D S : Type 0} {state : B → S} {M : Machine S} {records : D → L
 
   pub same_hosts : (hosts : List (Host B H)) → hosts ≡ old.hosts → AreHosts state M hosts c.world.nodes
   same_hosts hosts same = subst (λ hs. AreHosts state M hs c.world.nodes) (sym same) h.parts.hosts
+
+  pub no_call : {A : Type 0} {n : ℕ} {part : Node S → Option Fault} {wants : Node S → Type 0}
+      {does : A → Node S → Node S → Type 0} {fault : Fault} {hosts : List (Host B H)} → fault ≡ Unknown
+      → HasNoNode old.hosts n → hosts ≡ old.hosts → AtHost state M c.world n part wants does (Err fault) hosts
+  no_call {A} {n} {part} unknown none same =
+      record { answer = no_host A n part _ _ unknown none (same_hosts _ same) }
+
+  pub asks_nobody : {A : Type 0} {n : ℕ} {part : Node S → Option Fault} {wants : Node S → Type 0}
+      {says : A → Node S → Type 0} {fault : Fault} → fault ≡ Unknown → HasNoNode old.hosts n
+      → AsksNode c.world n part wants says (Err fault)
+  asks_nobody {A} {n} {part} unknown none = record { answer = no_host A n part _ _ unknown none tt }

@@ -14,19 +14,20 @@ use Rattle.i8080_words.specs.declared.refusal.Fault.TheVariants.{Unknown}
 use Rattle.shared_disk.specs.declared.store.Record.{Record}
 use Rattle.terminals.specs.Screen.{Screen, blank}
 use Rattle.pair_protocol.specs.Copying.{no_copies}
+use Rattle.pair_protocol.specs.Effects.{Took}
 use Rattle.pair_protocol.specs.Event as protocol
-use Rattle.pair_protocol.specs.Node.{Alone, Backup, Draining, Joining, Node, Primary, Role, Spare}
+use Rattle.pair_protocol.specs.Node.{Node}
 use Rattle.pair_protocol.specs.Refusals as refusals
 use Rattle.pair_protocol.specs.Refusals.{at_node, fault_if, not_accepted, not_typed, refusal}
-use Rattle.pair_protocol.specs.Rows.{Does, Takes, took}
-use Rattle.pair_protocol.specs.Settled.{is_backup}
+use Rattle.pair_protocol.specs.Rows.{Does, Takes}
 use Rattle.pair_protocol.specs.World as world
-use Rattle.pair_protocol.specs.World.{World, no_terminal, terminal_in, with_node}
+use Rattle.pair_protocol.specs.World.{World, no_terminal, terminal_in}
+use Rattle.pair_protocol.proofs.Booted.{Took-booted}
+use Rattle.ft_node.specs.Calls.{Ever}
 use Rattle.ft_world.specs.Applies.{Applies, Shows}
 use Rattle.ft_world.proofs.AtHosts.{AtHost}
 use Rattle.ft_world.specs.Devices as table
 use Rattle.ft_world.specs.Devices.{screen_in}
-use Rattle.ft_world.specs.Does as does
 use Rattle.ft_world.specs.Running.{Running}
 use Rattle.ft_world.specs.Shows.{AreTerminals}
 use Rattle.ft_world.specs.Standing.{Course, machine_of}
@@ -36,56 +37,12 @@ use Rattle.pair_events.specs.declared.event.Event.TheVariants as event
 use Rattle.pair_events.specs.declared.reply.Reply.TheVariants as reply
 use Rattle.ft_world.specs.declared.host.Host.{Host}
 use Rattle.ft_world.proofs.Applying.{refuses}
-use Rattle.ft_world.proofs.AtOneNode.{RowAt, first_stands, node_applies, node_refused, second_of}
+use Rattle.ft_world.proofs.AtOneNode.{elsewhere, first_stands, node_applies, node_refused, second_of}
 use Rattle.ft_world.proofs.AtTerminals.{screen_is}
+use Rattle.ft_world.proofs.Keeping.{took_stays}
 use Rattle.ft_world.proofs.Reading.{accepted_is}
 
 -- A node takes an input.
-
-pub took_generation : {S : Type 0} (M : Machine S) (x : Node S) (role : Role) (s : S) (i : Input) →
-    (took M x role s i).generation ≡ x.generation
-took_generation M x Primary s i = refl
-took_generation M x Backup s i = refl
-took_generation M x Joining s i = refl
-took_generation M x Draining s i = refl
-took_generation M x Alone s i = refl
-took_generation M x Spare s i = refl
-
-took_role : {S : Type 0} (M : Machine S) (x : Node S) (role : Role) (s : S) (i : Input) →
-    (took M x role s i).role ≡ x.role
-took_role M x Primary s i = refl
-took_role M x Backup s i = refl
-took_role M x Joining s i = refl
-took_role M x Draining s i = refl
-took_role M x Alone s i = refl
-took_role M x Spare s i = refl
-
-took_same : {S : Type 0} (M : Machine S) (c : Course S) (x : Node S) (role : Role) (s : S) (i : Input) →
-    took M x role s i ≡ took (machine_of M c) x role s i
-took_same M c x Primary s i = refl
-took_same M c x Backup s i = refl
-took_same M c x Joining s i = refl
-took_same M c x Draining s i = refl
-took_same M c x Alone s i = refl
-took_same M c x Spare s i = refl
-
--- what the row says of the node
-input_at : {S : Type 0} (M : Machine S) (c : Course S) (e : Event) (n : ℕ) (i : Input) (x y : Node S) →
-    ((new : World S) → Takes (machine_of M c) c.world n i protocol.Taken new →
-    Does (machine_of M c) no_copies c.world (event_of e) protocol.Taken new) →
-    slice_get c.world.nodes n ≡ Some x → does.Took M i tt x y → RowAt M c e reply.Taken n x y
-input_at {S} M c e n i x y row there t = record {
-  row = row (with_node c.world n y) (record {
-    x = x;
-    there = there;
-    s = t.s;
-    takes = t.takes;
-    reply = refl;
-    after = ap (λ z. with_node c.world n z) (t.after ∙ took_same M c x x.role t.s i);
-  });
-  generation = ap (λ (z : Node S). z.generation) t.after ∙ took_generation M x x.role t.s i;
-  backup = ap (λ (z : Node S). is_backup z.role) t.after ∙ ap is_backup (took_role M x x.role t.s i);
-}
 
 pub input_applies : {B H D S : Type 0} (state : B → S) (M : Machine S) (records : D → List Record)
     (old : Running B H D) (c : Course S) (e : Event) (n : ℕ) (part : Node S → Option Fault) (i : Input)
@@ -93,11 +50,11 @@ pub input_applies : {B H D S : Type 0} (state : B → S) (M : Machine S) (record
     refusal (machine_of M c) no_copies c.world (event_of e) ≡ at_node (slice_get c.world.nodes n) part →
     ((new : World S) → Takes (machine_of M c) c.world n i protocol.Taken new →
     Does (machine_of M c) no_copies c.world (event_of e) protocol.Taken new) →
-    AtHost state M c.world.nodes n part (Ok tt) hosts (does.Took M i) →
+    AtHost {A = Unit {0}} state M c.world n part Ever (λ done. Took M i) (Ok tt) hosts →
     Applies state M records c e (Ok reply.Taken) (record old { hosts = hosts })
 input_applies state M records old c e n part i hosts h free row a =
-    node_applies state M records old c e n part (does.Took M i) tt reply.Taken hosts h free
-    (λ x y there t. input_at M c e n i x y row there t) a
+    node_applies h e reply.Taken hosts free (λ x y none t. took_stays t)
+    (λ new at. row new (record { at = elsewhere (λ x y t. Took-booted M c.boot c.sectors t) at; reply = refl })) a
 
 -- A key that was typed at a terminal.
 
@@ -135,7 +92,7 @@ key_unknown state M records old c n port index fault h e =
     let k = key_missing (slice_get (screen_in old.terminals port).typed index) fault e in
     refuses state M records old old c (event.TakeKey n port index) fault h refl
     (first_stands (not_typed c.world port index)
-    (at_node (slice_get c.world.nodes n) (refusals.key_refusal (machine_of M c) port index)) fault
+    (at_node (slice_get c.world.nodes n) (refusals.take_key_refusal (machine_of M c) port index)) fault
     (ap (λ o. fault_if (is_none o) Unknown) (key_in_world state M records old c port index h ∙ k.0)
     ∙ ap Some (sym k.1)))
     refl
@@ -146,13 +103,13 @@ key_typed : {B H D S : Type 0} (state : B → S) (M : Machine S) (records : D �
     ◌≡◌ {A = Result ℕ Fault} (Ok byte) (ok_or (slice_get (screen_in old.terminals port).typed index) Unknown) →
     (slice_get (terminal_in c.world.terminals port).typed index ≡ Some byte)
     × (refusal (machine_of M c) no_copies c.world (protocol.TakeKey n port index)
-    ≡ at_node (slice_get c.world.nodes n) (refusals.key_refusal M port index))
+    ≡ at_node (slice_get c.world.nodes n) (refusals.take_key_refusal M port index))
 key_typed state M records old c n port index byte h e =
     let typed = key_in_world state M records old c port index h
     ∙ key_found (slice_get (screen_in old.terminals port).typed index) byte e in (
       typed,
       second_of (not_typed c.world port index)
-          (at_node (slice_get c.world.nodes n) (refusals.key_refusal (machine_of M c) port index))
+          (at_node (slice_get c.world.nodes n) (refusals.take_key_refusal (machine_of M c) port index))
           (ap (λ o. fault_if (is_none o) Unknown) typed),
     )
 
@@ -160,23 +117,23 @@ pub key_refused : {B H D S : Type 0} (state : B → S) (M : Machine S) (records 
     (old : Running B H D) (c : Course S) (n port index byte : ℕ) (fault : Fault) (hosts : List (Host B H)) →
     Shows state M records old c →
     ◌≡◌ {A = Result ℕ Fault} (Ok byte) (ok_or (slice_get (screen_in old.terminals port).typed index) Unknown) →
-    AtHost {A = Unit {0}} state M c.world.nodes n (refusals.key_refusal M port index) (Err fault) hosts
-    (does.Took M (input.Rx port byte)) →
+    AtHost {A = Unit {0}} state M c.world n (refusals.take_key_refusal M port index) Ever (λ done. Took M (input.Rx port byte)) (Err fault)
+    hosts →
     Applies state M records c (event.TakeKey n port index) (Err fault) (record old { hosts = hosts })
 key_refused state M records old c n port index byte fault hosts h e a =
-    node_refused (Unit {0}) state M records old c (event.TakeKey n port index) n (refusals.key_refusal M port index)
-    (does.Took M (input.Rx port byte)) fault hosts h (key_typed state M records old c n port index byte h e).1 tt refl a
+    node_refused h (event.TakeKey n port index) fault hosts (key_typed state M records old c n port index byte h e).1
+    (λ s. tt) refl a
 
 pub key_applies : {B H D S : Type 0} (state : B → S) (M : Machine S) (records : D → List Record)
     (old : Running B H D) (c : Course S) (n port index byte : ℕ) (hosts : List (Host B H)) →
     Shows state M records old c →
     ◌≡◌ {A = Result ℕ Fault} (Ok byte) (ok_or (slice_get (screen_in old.terminals port).typed index) Unknown) →
-    AtHost state M c.world.nodes n (refusals.key_refusal M port index) (Ok tt) hosts
-    (does.Took M (input.Rx port byte)) →
+    AtHost {A = Unit {0}} state M c.world n (refusals.take_key_refusal M port index) Ever (λ done. Took M (input.Rx port byte)) (Ok tt)
+    hosts →
     Applies state M records c (event.TakeKey n port index) (Ok reply.Taken) (record old { hosts = hosts })
 key_applies state M records old c n port index byte hosts h e a =
     let k = key_typed state M records old c n port index byte h e in
-    input_applies state M records old c (event.TakeKey n port index) n (refusals.key_refusal M port index)
+    input_applies state M records old c (event.TakeKey n port index) n (refusals.take_key_refusal M port index)
     (input.Rx port byte) hosts h k.1 (λ new takes. record { byte = byte; typed = k.0; input = takes }) a
 
 -- A byte that its terminal has accepted.
@@ -204,7 +161,7 @@ pub sent_unknown : {B H D S : Type 0} (state : B → S) (M : Machine S) (records
 sent_unknown state M records old c n port number fault h e =
     refuses state M records old old c (event.TellSent n port number) fault h refl
     (first_stands (not_accepted c.world port number)
-    (at_node (slice_get c.world.nodes n) (refusals.sent_refusal (machine_of M c) port number)) fault
+    (at_node (slice_get c.world.nodes n) (refusals.tell_sent_refusal (machine_of M c) port number)) fault
     (not_accepted_is state M records old c port number h
     ∙ is_refused (table.not_accepted old.terminals port number) fault e))
     refl
@@ -213,10 +170,10 @@ sent_free : {B H D S : Type 0} (state : B → S) (M : Machine S) (records : D �
     (c : Course S) (n port number : ℕ) → Shows state M records old c →
     ◌≡◌ {A = Result (Unit {0}) Fault} (Ok tt) (answered (table.not_accepted old.terminals port number)) →
     refusal (machine_of M c) no_copies c.world (protocol.TellSent n port number)
-    ≡ at_node (slice_get c.world.nodes n) (refusals.sent_refusal M port number)
+    ≡ at_node (slice_get c.world.nodes n) (refusals.tell_sent_refusal M port number)
 sent_free state M records old c n port number h e =
     second_of (not_accepted c.world port number)
-    (at_node (slice_get c.world.nodes n) (refusals.sent_refusal (machine_of M c) port number))
+    (at_node (slice_get c.world.nodes n) (refusals.tell_sent_refusal (machine_of M c) port number))
     (not_accepted_is state M records old c port number h
     ∙ nothing_refused (table.not_accepted old.terminals port number) e)
 
@@ -224,20 +181,20 @@ pub sent_refused : {B H D S : Type 0} (state : B → S) (M : Machine S) (records
     (old : Running B H D) (c : Course S) (n port number : ℕ) (fault : Fault) (hosts : List (Host B H)) →
     Shows state M records old c →
     ◌≡◌ {A = Result (Unit {0}) Fault} (Ok tt) (answered (table.not_accepted old.terminals port number)) →
-    AtHost {A = Unit {0}} state M c.world.nodes n (refusals.sent_refusal M port number) (Err fault) hosts
-    (does.Took M (input.Sent port)) →
+    AtHost {A = Unit {0}} state M c.world n (refusals.tell_sent_refusal M port number) Ever (λ done. Took M (input.Sent port)) (Err fault)
+    hosts →
     Applies state M records c (event.TellSent n port number) (Err fault) (record old { hosts = hosts })
 sent_refused state M records old c n port number fault hosts h e a =
-    node_refused (Unit {0}) state M records old c (event.TellSent n port number) n
-    (refusals.sent_refusal M port number) (does.Took M (input.Sent port)) fault hosts h
-    (sent_free state M records old c n port number h e) tt refl a
+    node_refused h (event.TellSent n port number) fault hosts (sent_free state M records old c n port number h e)
+    (λ s. tt) refl a
 
 pub sent_applies : {B H D S : Type 0} (state : B → S) (M : Machine S) (records : D → List Record)
     (old : Running B H D) (c : Course S) (n port number : ℕ) (hosts : List (Host B H)) →
     Shows state M records old c →
     ◌≡◌ {A = Result (Unit {0}) Fault} (Ok tt) (answered (table.not_accepted old.terminals port number)) →
-    AtHost state M c.world.nodes n (refusals.sent_refusal M port number) (Ok tt) hosts (does.Took M (input.Sent port)) →
+    AtHost {A = Unit {0}} state M c.world n (refusals.tell_sent_refusal M port number) Ever (λ done. Took M (input.Sent port)) (Ok tt)
+    hosts →
     Applies state M records c (event.TellSent n port number) (Ok reply.Taken) (record old { hosts = hosts })
 sent_applies state M records old c n port number hosts h e a =
-    input_applies state M records old c (event.TellSent n port number) n (refusals.sent_refusal M port number)
+    input_applies state M records old c (event.TellSent n port number) n (refusals.tell_sent_refusal M port number)
     (input.Sent port) hosts h (sent_free state M records old c n port number h e) (λ new takes. takes) a

@@ -1,9 +1,9 @@
 -- A log entry arrives at a backup, and an acknowledgement at a primary. The bytes of a message spell one packet, so
 -- what the node does with that packet is what the row says of the entry, or of the acknowledgement, that was sent; a
 -- message of another kind brings neither, and is unknown.
-use Rattle.std.proofs.Common.{◌≡◌, ◌∙◌, Bool, Err, List, None, Ok, Some, ap, cond, false, inl, inr, refl, subst, true, ℕ}
+use Rattle.std.proofs.Common.{◌≡◌, Bool, Err, List, None, Ok, Some, ap, cond, false, refl, subst, true, ℕ}
 use Rattle.std.specs.Option.{option_and_then}
-use Rattle.std.specs.Prelude.{Option, slice_get}
+use Rattle.std.specs.Prelude.{Option, Result, slice_get}
 use Rattle.guest_board.specs.Machine.{Machine}
 use Rattle.i8080_words.specs.declared.refusal.Fault.{Fault}
 use Rattle.i8080_words.specs.declared.refusal.Fault.TheVariants.{Unknown}
@@ -11,29 +11,28 @@ use Rattle.log_channel.specs.Packet.{packet_at}
 use Rattle.log_channel.specs.declared.packet.Packet.TheVariants as packet
 use Rattle.log_entry.specs.declared.entry.Entry.{Entry}
 use Rattle.shared_disk.specs.declared.store.Record.{Record}
+use Rattle.pair_protocol.specs.Effects.{Heard, Held, WantsEntry}
 use Rattle.pair_protocol.specs.Event as protocol
 use Rattle.pair_protocol.specs.Node.{Node}
-use Rattle.pair_protocol.specs.Refusals.{at_acked, at_log}
-use Rattle.pair_protocol.specs.Settled.{is_backup}
+use Rattle.pair_protocol.specs.Refusals.{deliver_acknowledgement_refusal, at_acknowledgement, at_log_entry, deliver_log_refusal}
 use Rattle.pair_protocol.specs.World as world
-use Rattle.pair_protocol.specs.World.{with_node}
 use Rattle.pair_protocol.proofs.Traces.Lists.{same_some}
-use Rattle.pair_protocol.proofs.OneNode.{with_same}
 use Rattle.ft_world.specs.Applies.{Applies, Shows}
-use Rattle.ft_world.proofs.AtHosts.{AtHost, DoesAtHost, WantsAtHost}
-use Rattle.ft_world.specs.Does as does
+use Rattle.ft_node.specs.Calls.{Call, DeliversLog, DeliversAcknowledgement, Never}
+use Rattle.ft_world.proofs.AtHosts.{AtHost}
 use Rattle.ft_world.specs.Messages.{ack_of, log_of}
 use Rattle.ft_world.specs.Running.{Running}
 use Rattle.ft_world.specs.Shows.{Agree}
 use Rattle.ft_world.specs.Standing.{Course}
-use Rattle.ft_world.specs.Words.{IsMessage}
+use Rattle.ft_world.specs.Words.{IsMessage, reply_of}
 use Rattle.pair_events.specs.declared.event.Event.TheVariants as event
 use Rattle.pair_events.specs.declared.reply.Reply.TheVariants as reply
 use Rattle.ft_world.specs.declared.host.Host.{Host}
 use Rattle.ft_world.specs.declared.message.Message.{Message}
 use Rattle.ft_world.specs.declared.message.Message.TheVariants as message
 use Rattle.ft_world.proofs.Applying.{refuses}
-use Rattle.ft_world.proofs.AtOneNode.{RowAt, node_applies, node_refused_surely, node_refused_wanting}
+use Rattle.ft_world.proofs.AtOneNode.{node_applies, node_refused}
+use Rattle.ft_world.proofs.Keeping.{heard_kept, held_stays, kept_stays}
 
 -- ---- a log entry
 
@@ -63,7 +62,7 @@ brings_entry (Some (message.Sector r)) q bytes a e = (cc)
 brings_entry None q bytes a e = (cc)
 
 no_entry : {S : Type 0} (o : Option Message) (q : Option world.Message) (here : Option (Node S)) → Agree IsMessage o q →
-    option_and_then log_of o ≡ None → at_log here q ≡ Some Unknown
+    option_and_then log_of o ≡ None → at_log_entry here q ≡ Some Unknown
 no_entry None None here a e = refl
 no_entry None (Some y) here a e = absurd a
 no_entry (Some (message.Log b)) q here a e = (cc)
@@ -86,76 +85,51 @@ delivers_unknown state M records old c m n brings h =
     (no_entry (slice_get old.messages m) (slice_get c.world.messages m) (slice_get c.world.nodes n)
     (h.parts.messages.each m) brings) refl
 
+-- what a node does with the bytes is what it does with their packet
+pub spelled_log : {S : Type 0} {generation index : ℕ} {e : Entry} (bytes : List ℕ) (x : Node S)
+    (r : Result Bool Fault) (Is : Node S → Type 0) → packet_at bytes ≡ Some (packet.Log generation index e) →
+    DeliversLog WantsEntry (packet_at bytes) x r Is → Call (deliver_log_refusal generation x) (WantsEntry index) (Held index e) x r Is
+spelled_log bytes x r Is spelled d = subst (λ p. DeliversLog WantsEntry p x r Is) spelled d
+
+new_or_old : (new : Bool) → reply_of (cond new reply.New reply.Old) ≡ cond new protocol.New protocol.Old
+new_or_old true = refl
+new_or_old false = refl
+
 pub delivers_refused : {B H D S : Type 0} (state : B → S) (M : Machine S) (records : D → List Record)
     (old : Running B H D) (c : Course S) (m n : ℕ) (bytes : List ℕ) (fault : Fault) (hosts : List (Host B H)) →
     option_and_then log_of (slice_get old.messages m) ≡ Some bytes → Shows state M records old c →
-    WantsAtHost {A = Bool} state M c.world.nodes n (does.log_packet_refusal (packet_at bytes)) (Err fault)
-    (does.WantsNext (packet_at bytes)) hosts (does.Held (packet_at bytes)) →
+    ((generation index : ℕ) (e : Entry) → packet_at bytes ≡ Some (packet.Log generation index e) →
+    AtHost state M c.world n (deliver_log_refusal generation) (WantsEntry index) (Held index e) (Err fault) hosts) →
     Applies state M records c (event.DeliverLog m n) (Err fault) (record old { hosts = hosts })
-delivers_refused state M records old c m n bytes fault hosts brings h a =
-    let here = slice_get c.world.nodes n in
+delivers_refused state M records old c m n bytes fault hosts brings h at =
     let b = brings_entry (slice_get old.messages m) (slice_get c.world.messages m) bytes
     (h.parts.messages.each m) brings in
-    let p = Some (packet.Log b.generation b.index b.e) in
-    node_refused_wanting Bool state M records old c (event.DeliverLog m n) n (does.log_packet_refusal p)
-    (does.WantsNext p) (does.Held p) fault hosts h (ap (λ q. at_log here q) b.message)
-    (λ s. record {
-      x = s.x;
-      there = s.there;
-      generation = b.generation;
-      index = b.index;
-      e = b.e;
-      message = b.message;
-      next = s.said;
-    }) refl
-    (subst (λ p. WantsAtHost {A = Bool} state M c.world.nodes n (does.log_packet_refusal p) (Err fault)
-    (does.WantsNext p) hosts (does.Held p)) b.spelled a)
-
-delivered : {S : Type 0} (M : Machine S) (c : Course S) (m n g i : ℕ) (e : Entry) (new : Bool) (x y : Node S) →
-    slice_get c.world.messages m ≡ Some (world.LogEntry g i e) → slice_get c.world.nodes n ≡ Some x →
-    does.HeldNext i e new x y → RowAt M c (event.DeliverLog m n) (cond new reply.New reply.Old) n x y
-delivered {S} M c m n g i e true x y is there (next, held) = record {
-  row = record {
-    x = x;
-    there = there;
-    generation = g;
-    index = i;
-    e = e;
-    message = is;
-    holds = inl (next, refl, ap (λ (z : Node S). with_node c.world n z) held);
-  };
-  generation = ap (λ (z : Node S). z.generation) held;
-  backup = ap (λ (z : Node S). is_backup z.role) held;
-}
-delivered {S} M c m n g i e false x y is there (other, same) = record {
-  row = record {
-    x = x;
-    there = there;
-    generation = g;
-    index = i;
-    e = e;
-    message = is;
-    holds = inr (other, refl, ap (λ (z : Node S). with_node c.world n z) same ∙ with_same c.world n x there);
-  };
-  generation = ap (λ (z : Node S). z.generation) same;
-  backup = ap (λ (z : Node S). is_backup z.role) same;
-}
+    node_refused h (event.DeliverLog m n) fault hosts (ap (λ q. at_log_entry (slice_get c.world.nodes n) q) b.message)
+    (λ s. record { generation = b.generation; index = b.index; e = b.e; message = b.message; next = s }) refl
+    (at b.generation b.index b.e b.spelled)
 
 pub delivers_applies : {B H D S : Type 0} (state : B → S) (M : Machine S) (records : D → List Record)
     (old : Running B H D) (c : Course S) (m n : ℕ) (bytes : List ℕ) (new : Bool) (hosts : List (Host B H)) →
     option_and_then log_of (slice_get old.messages m) ≡ Some bytes → Shows state M records old c →
-    AtHost state M c.world.nodes n (does.log_packet_refusal (packet_at bytes)) (Ok new) hosts
-    (does.Held (packet_at bytes)) →
+    ((generation index : ℕ) (e : Entry) → packet_at bytes ≡ Some (packet.Log generation index e) →
+    AtHost state M c.world n (deliver_log_refusal generation) (WantsEntry index) (Held index e) (Ok new) hosts) →
     Applies state M records c (event.DeliverLog m n) (Ok (cond new reply.New reply.Old)) (record old { hosts = hosts })
-delivers_applies state M records old c m n bytes new hosts brings h a =
-    let here = slice_get c.world.nodes n in
+delivers_applies state M records old c m n bytes new hosts brings h at =
     let b = brings_entry (slice_get old.messages m) (slice_get c.world.messages m) bytes
     (h.parts.messages.each m) brings in
-    let p = Some (packet.Log b.generation b.index b.e) in
-    node_applies state M records old c (event.DeliverLog m n) n (does.log_packet_refusal p) (does.Held p) new
-    (cond new reply.New reply.Old) hosts h (ap (λ q. at_log here q) b.message)
-    (λ x y there held. delivered M c m n b.generation b.index b.e new x y b.message there held)
-    (subst (λ p. AtHost state M c.world.nodes n (does.log_packet_refusal p) (Ok new) hosts (does.Held p)) b.spelled a)
+    node_applies h (event.DeliverLog m n) (cond new reply.New reply.Old) hosts
+    (ap (λ q. at_log_entry (slice_get c.world.nodes n) q) b.message)
+    (λ x y free s. held_stays b.index b.e new x y s)
+    (λ world at. record {
+      generation = b.generation;
+      index = b.index;
+      e = b.e;
+      message = b.message;
+      next = new;
+      at = at;
+      reply = new_or_old new;
+    })
+    (at b.generation b.index b.e b.spelled)
 
 -- ---- an acknowledgement
 
@@ -183,7 +157,7 @@ brings_acknowledgement (Some (message.Sector r)) q bytes a e = (cc)
 brings_acknowledgement None q bytes a e = (cc)
 
 no_acknowledgement : {S : Type 0} (o : Option Message) (q : Option world.Message) (here : Option (Node S)) →
-    Agree IsMessage o q → option_and_then ack_of o ≡ None → at_acked here q ≡ Some Unknown
+    Agree IsMessage o q → option_and_then ack_of o ≡ None → at_acknowledgement here q ≡ Some Unknown
 no_acknowledgement None None here a e = refl
 no_acknowledgement None (Some y) here a e = absurd a
 no_acknowledgement (Some (message.Ack b)) q here a e = (cc)
@@ -206,50 +180,44 @@ hears_unknown state M records old c m n brings h =
     (no_acknowledgement (slice_get old.messages m) (slice_get c.world.messages m) (slice_get c.world.nodes n)
     (h.parts.messages.each m) brings) refl
 
+pub spelled_ack : {S : Type 0} {generation held : ℕ} (bytes : List ℕ) (x : Node S) (r : Result ℕ Fault)
+    (Is : Node S → Type 0) → packet_at bytes ≡ Some (packet.Ack generation held) →
+    DeliversAcknowledgement (packet_at bytes) x r Is → Call (deliver_acknowledgement_refusal generation held x) Never (Heard held 0) x r Is
+spelled_ack bytes x r Is spelled d = subst (λ p. DeliversAcknowledgement p x r Is) spelled d
+
 pub hears_refused : {B H D S : Type 0} (state : B → S) (M : Machine S) (records : D → List Record)
     (old : Running B H D) (c : Course S) (m n : ℕ) (bytes : List ℕ) (fault : Fault) (hosts : List (Host B H)) →
     option_and_then ack_of (slice_get old.messages m) ≡ Some bytes → Shows state M records old c →
-    DoesAtHost {A = ℕ} state M c.world.nodes n (does.ack_packet_refusal (packet_at bytes)) (Err fault) hosts
-    (does.Heard (packet_at bytes)) →
+    ((generation held : ℕ) → packet_at bytes ≡ Some (packet.Ack generation held) →
+    AtHost state M c.world n (deliver_acknowledgement_refusal generation held) Never (Heard held 0) (Err fault) hosts) →
     Applies state M records c (event.DeliverAcknowledgement m n) (Err fault) (record old { hosts = hosts })
-hears_refused state M records old c m n bytes fault hosts brings h a =
-    let here = slice_get c.world.nodes n in
+hears_refused state M records old c m n bytes fault hosts brings h at =
     let b = brings_acknowledgement (slice_get old.messages m) (slice_get c.world.messages m) bytes
     (h.parts.messages.each m) brings in
-    let p = Some (packet.Ack b.generation b.held) in
-    node_refused_surely ℕ state M records old c (event.DeliverAcknowledgement m n) n (does.ack_packet_refusal p)
-    (does.Heard p) fault hosts h (ap (λ q. at_acked here q) b.message) refl
-    (subst
-    (λ p. DoesAtHost {A = ℕ} state M c.world.nodes n (does.ack_packet_refusal p) (Err fault) hosts (does.Heard p))
-    b.spelled a)
+    node_refused h (event.DeliverAcknowledgement m n) fault hosts
+    (ap (λ q. at_acknowledgement (slice_get c.world.nodes n) q) b.message) (λ never. absurd never.said) refl
+    (at b.generation b.held b.spelled)
 
 pub hears_applies : {B H D S : Type 0} (state : B → S) (M : Machine S) (records : D → List Record)
     (old : Running B H D) (c : Course S) (m n : ℕ) (bytes : List ℕ) (covered : ℕ) (hosts : List (Host B H)) →
     option_and_then ack_of (slice_get old.messages m) ≡ Some bytes → Shows state M records old c →
-    DoesAtHost state M c.world.nodes n (does.ack_packet_refusal (packet_at bytes)) (Ok covered) hosts
-    (does.Heard (packet_at bytes)) →
+    ((generation held : ℕ) → packet_at bytes ≡ Some (packet.Ack generation held) →
+    AtHost state M c.world n (deliver_acknowledgement_refusal generation held) Never (Heard held 0) (Ok covered) hosts) →
     Applies state M records c (event.DeliverAcknowledgement m n) (Ok (reply.Held covered))
     (record old { hosts = hosts })
-hears_applies {S = S} state M records old c m n bytes covered hosts brings h a =
-    let here = slice_get c.world.nodes n in
+hears_applies state M records old c m n bytes covered hosts brings h at =
     let b = brings_acknowledgement (slice_get old.messages m) (slice_get c.world.messages m) bytes
     (h.parts.messages.each m) brings in
-    let p = Some (packet.Ack b.generation b.held) in
-    node_applies state M records old c (event.DeliverAcknowledgement m n) n (does.ack_packet_refusal p) (does.Heard p)
-    covered (reply.Held covered) hosts h (ap (λ q. at_acked here q) b.message)
-    (λ x y there heard. record {
-      row = record {
-        x = x;
-        there = there;
-        generation = b.generation;
-        held = b.held;
-        replayed = 0;
-        message = b.message;
-        reply = ap protocol.HeldIs heard.0;
-        after = ap (λ (z : Node S). with_node c.world n z) heard.1;
-      };
-      generation = ap (λ (z : Node S). z.generation) heard.1;
-      backup = ap (λ (z : Node S). is_backup z.role) heard.1;
+    node_applies h (event.DeliverAcknowledgement m n) (reply.Held covered) hosts
+    (ap (λ q. at_acknowledgement (slice_get c.world.nodes n) q) b.message)
+    (λ x y free s. kept_stays (heard_kept x y b.held 0 covered s))
+    (λ world at. record {
+      generation = b.generation;
+      held = b.held;
+      replayed = 0;
+      message = b.message;
+      covered = covered;
+      at = at;
+      reply = refl;
     })
-    (subst (λ p. DoesAtHost state M c.world.nodes n (does.ack_packet_refusal p) (Ok covered) hosts (does.Heard p))
-    b.spelled a)
+    (at b.generation b.held b.spelled)

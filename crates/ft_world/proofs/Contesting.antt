@@ -18,7 +18,7 @@ use Rattle.pair_protocol.specs.Row.{Accepts, Leaves, Refuses, Row, WantsMemory}
 use Rattle.pair_protocol.specs.World.{World, winner_in, with_node, with_winner}
 use Rattle.pair_protocol.proofs.Traces.Lists.{same_some}
 use Rattle.pair_protocol.proofs.OneNode.{set_get}
-use Rattle.ft_node.specs.Calls.{AskedOf, Unless}
+use Rattle.ft_node.specs.Calls.{SuspectsOf, Unless}
 use Rattle.ft_world.specs.Applies.{Applies, Shows}
 use Rattle.ft_world.proofs.AtHosts.{Asked, AsksHost}
 use Rattle.ft_world.specs.Running.{Running}
@@ -119,7 +119,7 @@ wins_it : {B H D S : Type 0} (state : B → S) (M : Machine S) (records : D → 
     (winner : Option ℕ) → Shows state M records old c → slice_get c.world.nodes n ≡ Some x →
     winner_of old.askings x.generation ≡ winner →
     refusal (machine_of M c) no_copies c.world (protocol.Suspect n) ≡ fault_if (is_other winner n) Lost →
-    AskedOf winner old.askings n x (Ok won) askings (λ y. AreHosts state M hosts (slice_set c.world.nodes n y)) →
+    SuspectsOf winner old.askings n x (Ok won) askings (λ y. AreHosts state M hosts (slice_set c.world.nodes n y)) →
     Applies state M records c (event.Suspect n) (Ok reply.Won) (record old { hosts = hosts; askings = askings })
 wins_it state M records old c n won hosts askings x None h there is free (asked, are) =
     subst (λ l. Applies state M records c (event.Suspect n) (Ok reply.Won) (record old { hosts = hosts; askings = l }))
@@ -154,14 +154,14 @@ loses_it : {B H D S : Type 0} (state : B → S) (M : Machine S) (records : D →
     (winner : Option ℕ) → Shows state M records old c → slice_get c.world.nodes n ≡ Some x →
     winner_of old.askings x.generation ≡ winner →
     refusal (machine_of M c) no_copies c.world (protocol.Suspect n) ≡ fault_if (is_other winner n) Lost →
-    AskedOf winner old.askings n x (Err fault) askings (λ y. AreHosts state M hosts (slice_set c.world.nodes n y)) →
+    SuspectsOf winner old.askings n x (Err fault) askings (λ y. AreHosts state M hosts (slice_set c.world.nodes n y)) →
     Applies state M records c (event.Suspect n) (Err fault) (record old { hosts = hosts; askings = askings })
 loses_it state M records old c n fault hosts askings x None h there is free (wants, same, are) =
     stays state M records old c n fault hosts askings h
     (subst (AreHosts state M hosts) (set_get c.world.nodes n x there) are) same
     (subst (λ f. Row (machine_of M c) no_copies c.world (protocol.Suspect n) (protocol.Refused f) c.world) (sym wants)
     (WantsMemory free
-    (record { x = x; there = there; nobody = sym (h.parts.winners x.generation) ∙ is })))
+    (record { x = x; there = there; said = sym (h.parts.winners x.generation) ∙ is })))
 loses_it state M records old c n fault hosts askings x (Some winner) h there is free (other, lost, same, are) =
     subst
     (λ l. Applies state M records c (event.Suspect n) (Err fault) (record old { hosts = hosts; askings = l }))
@@ -170,7 +170,7 @@ loses_it state M records old c n fault hosts askings x (Some winner) h there is 
     (λ f. Applies state M records c (event.Suspect n) (Err f) (record old { hosts = hosts })) (sym lost)
     (applies state M records old c (event.Suspect n) (Err Lost) (with_node c.world n (halts x))
     (record old { hosts = hosts }) h
-    (Refuses (free ∙ is_another winner n other) (record { x = x; there = there; after = refl }))
+    (Refuses (free ∙ is_another winner n other) (record { x = x; there = there; y = halts x; done = refl; after = refl }))
     (with_one_host state M records h.drives old c hosts n x (halts x) h.parts there refl refl are)))
 
 -- past the node's own refusal

@@ -12,12 +12,13 @@ use Rattle.shared_disk.specs.declared.store.Record.{Record}
 use Rattle.pair_protocol.specs.Copying.{no_copies}
 use Rattle.pair_protocol.specs.Event as protocol
 use Rattle.pair_protocol.specs.Node.{Node}
-use Rattle.pair_protocol.specs.Refusals.{at_done, at_node, at_under, done_refusal, refusal, under_refusal}
+use Rattle.pair_protocol.specs.Refusals.{at_write_done, at_node, at_sector_read, put_reply_refusal, refusal, get_reply_refusal}
 use Rattle.pair_protocol.specs.World as world
 use Rattle.pair_protocol.proofs.Traces.Lists.{same_some}
 use Rattle.ft_world.specs.Applies.{Applies, Shows}
 use Rattle.ft_world.proofs.AtHosts.{AtHost}
-use Rattle.ft_world.specs.Does as does
+use Rattle.ft_node.specs.Calls.{Ever}
+use Rattle.pair_protocol.specs.Effects.{Took}
 use Rattle.ft_world.specs.Messages.{sector_of, written_of}
 use Rattle.ft_world.specs.Running.{Running}
 use Rattle.ft_world.specs.Shows.{Agree}
@@ -47,7 +48,7 @@ brings_done (Some (message.Sector r)) q number a e = (cc)
 brings_done None q number a e = (cc)
 
 none_done : {S : Type 0} (M : Machine S) (here : Option (Node S)) (o : Option Message) (q : Option world.Message) →
-    Agree IsMessage o q → option_and_then written_of o ≡ None → at_done M here q ≡ Some Unknown
+    Agree IsMessage o q → option_and_then written_of o ≡ None → at_write_done M here q ≡ Some Unknown
 none_done M here None None a e = refl
 none_done M here None (Some y) a e = absurd a
 none_done M here (Some (message.Written k)) q a e = (cc)
@@ -81,28 +82,26 @@ done_there state M records old c m number brings h =
 done_free : {S : Type 0} (M : Machine S) (c : Course S) (m n number : ℕ) →
     slice_get c.world.messages m ≡ Some (world.WriteDone number) →
     refusal (machine_of M c) no_copies c.world (protocol.PutReply m n)
-    ≡ at_node (slice_get c.world.nodes n) (done_refusal M number)
-done_free M c m n number there = ap (λ q. at_done (machine_of M c) (slice_get c.world.nodes n) q) there
+    ≡ at_node (slice_get c.world.nodes n) (put_reply_refusal M number)
+done_free M c m n number there = ap (λ q. at_write_done (machine_of M c) (slice_get c.world.nodes n) q) there
 
 pub done_refused : {B H D S : Type 0} (state : B → S) (M : Machine S) (records : D → List Record)
     (old : Running B H D) (c : Course S) (m n number : ℕ) (fault : Fault) (hosts : List (Host B H)) →
     option_and_then written_of (slice_get old.messages m) ≡ Some number → Shows state M records old c →
-    AtHost {A = Unit {0}} state M c.world.nodes n (done_refusal M number) (Err fault) hosts
-    (does.Took M (input.Written number)) →
+    AtHost {A = Unit {0}} state M c.world n (put_reply_refusal M number) Ever (λ done. Took M (input.Written number)) (Err fault) hosts →
     Applies state M records c (event.PutReply m n) (Err fault) (record old { hosts = hosts })
 done_refused state M records old c m n number fault hosts brings h a =
-    node_refused (Unit {0}) state M records old c (event.PutReply m n) n (done_refusal M number)
-    (does.Took M (input.Written number)) fault hosts h
-    (done_free M c m n number (done_there state M records old c m number brings h)) tt refl a
+    node_refused h (event.PutReply m n) fault hosts
+    (done_free M c m n number (done_there state M records old c m number brings h)) (λ s. tt) refl a
 
 pub done_applies : {B H D S : Type 0} (state : B → S) (M : Machine S) (records : D → List Record)
     (old : Running B H D) (c : Course S) (m n number : ℕ) (hosts : List (Host B H)) →
     option_and_then written_of (slice_get old.messages m) ≡ Some number → Shows state M records old c →
-    AtHost state M c.world.nodes n (done_refusal M number) (Ok tt) hosts (does.Took M (input.Written number)) →
+    AtHost {A = Unit {0}} state M c.world n (put_reply_refusal M number) Ever (λ done. Took M (input.Written number)) (Ok tt) hosts →
     Applies state M records c (event.PutReply m n) (Ok reply.Taken) (record old { hosts = hosts })
 done_applies state M records old c m n number hosts brings h a =
     let there = done_there state M records old c m number brings h in
-    input_applies state M records old c (event.PutReply m n) n (done_refusal M number) (input.Written number) hosts h
+    input_applies state M records old c (event.PutReply m n) n (put_reply_refusal M number) (input.Written number) hosts h
     (done_free M c m n number there)
     (λ new takes. record { number = number; message = there; input = takes }) a
 
@@ -124,7 +123,7 @@ brings_read (Some (message.Written k)) q read a e = (cc)
 brings_read None q read a e = (cc)
 
 none_read : {S : Type 0} (M : Machine S) (here : Option (Node S)) (o : Option Message) (q : Option world.Message) →
-    Agree IsMessage o q → option_and_then sector_of o ≡ None → at_under M here q ≡ Some Unknown
+    Agree IsMessage o q → option_and_then sector_of o ≡ None → at_sector_read M here q ≡ Some Unknown
 none_read M here None None a e = refl
 none_read M here None (Some y) a e = absurd a
 none_read M here (Some (message.Sector r)) q a e = (cc)
@@ -158,31 +157,29 @@ read_there state M records old c m read brings h =
 read_free : {S : Type 0} (M : Machine S) (c : Course S) (m n : ℕ) (read : SectorRead) →
     slice_get c.world.messages m ≡ Some (world.SectorRead (read_address read) read.number read.bytes) →
     refusal (machine_of M c) no_copies c.world (protocol.GetReply m n)
-    ≡ at_node (slice_get c.world.nodes n) (under_refusal M (read_address read) read.number read.bytes)
-read_free M c m n read there = ap (λ q. at_under (machine_of M c) (slice_get c.world.nodes n) q) there
+    ≡ at_node (slice_get c.world.nodes n) (get_reply_refusal M (read_address read) read.number read.bytes)
+read_free M c m n read there = ap (λ q. at_sector_read (machine_of M c) (slice_get c.world.nodes n) q) there
 
 pub read_refused : {B H D S : Type 0} (state : B → S) (M : Machine S) (records : D → List Record)
     (old : Running B H D) (c : Course S) (m n : ℕ) (read : SectorRead) (fault : Fault) (hosts : List (Host B H)) →
     option_and_then sector_of (slice_get old.messages m) ≡ Some read → Shows state M records old c →
-    AtHost {A = Unit {0}} state M c.world.nodes n (under_refusal M (read_address read) read.number read.bytes)
-    (Err fault) hosts (does.Took M (input.Sector read.drive read.sector read.number read.bytes)) →
+    AtHost {A = Unit {0}} state M c.world n (get_reply_refusal M (read_address read) read.number read.bytes) Ever
+    (λ done. Took M (input.Sector read.drive read.sector read.number read.bytes)) (Err fault) hosts →
     Applies state M records c (event.GetReply m n) (Err fault) (record old { hosts = hosts })
 read_refused state M records old c m n read fault hosts brings h a =
-    node_refused (Unit {0}) state M records old c (event.GetReply m n) n
-    (under_refusal M (read_address read) read.number read.bytes)
-    (does.Took M (input.Sector read.drive read.sector read.number read.bytes)) fault hosts h
-    (read_free M c m n read (read_there state M records old c m read brings h)) tt refl a
+    node_refused h (event.GetReply m n) fault hosts
+    (read_free M c m n read (read_there state M records old c m read brings h)) (λ s. tt) refl a
 
 pub read_applies : {B H D S : Type 0} (state : B → S) (M : Machine S) (records : D → List Record)
     (old : Running B H D) (c : Course S) (m n : ℕ) (read : SectorRead) (hosts : List (Host B H)) →
     option_and_then sector_of (slice_get old.messages m) ≡ Some read → Shows state M records old c →
-    AtHost state M c.world.nodes n (under_refusal M (read_address read) read.number read.bytes) (Ok tt) hosts
-    (does.Took M (input.Sector read.drive read.sector read.number read.bytes)) →
+    AtHost {A = Unit {0}} state M c.world n (get_reply_refusal M (read_address read) read.number read.bytes) Ever
+    (λ done. Took M (input.Sector read.drive read.sector read.number read.bytes)) (Ok tt) hosts →
     Applies state M records c (event.GetReply m n) (Ok reply.Taken) (record old { hosts = hosts })
 read_applies state M records old c m n read hosts brings h a =
     let there = read_there state M records old c m read brings h in
     input_applies state M records old c (event.GetReply m n) n
-    (under_refusal M (read_address read) read.number read.bytes)
+    (get_reply_refusal M (read_address read) read.number read.bytes)
     (input.Sector read.drive read.sector read.number read.bytes) hosts h (read_free M c m n read there)
     (λ new takes. record {
       address = read_address read;

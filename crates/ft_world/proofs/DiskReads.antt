@@ -21,17 +21,18 @@ use Rattle.pair_protocol.specs.Change.{Serving}
 use Rattle.pair_protocol.specs.Copying.{no_copies}
 use Rattle.pair_protocol.specs.Event as protocol
 use Rattle.pair_protocol.specs.Node.{Alone, Node, Primary, Spare, acts_as, is_role}
-use Rattle.pair_protocol.specs.Refusals.{at_node, fault_if, first_of, no_sector, place_refusal, serves}
+use Rattle.pair_protocol.specs.Refusals.{at_node, fault_if, first_of, no_sector, get_refusal, serves}
 use Rattle.pair_protocol.specs.Row.{Accepts, DeviceFails, Row, WantsMemory}
+use Rattle.pair_protocol.specs.Effects.{IsUnder}
+use Rattle.pair_protocol.specs.Rows.{OfNode}
 use Rattle.pair_protocol.specs.World as sent
 use Rattle.pair_protocol.specs.World.{World, sector_record, with_read}
 use Rattle.pair_protocol.proofs.Traces.Lists.{same_some}
 use Rattle.pair_protocol.proofs.Passed.{first-passed, node-passed, serving}
 use Rattle.ft_world.specs.Applies.{Applies, Shows, ShowsSome}
-use Rattle.ft_world.proofs.AtHosts as host
-use Rattle.ft_world.proofs.AtHosts.{ReadHost}
+use Rattle.ft_node.specs.Calls.{Never}
+use Rattle.ft_world.proofs.AtHosts.{AsksNode}
 use Rattle.ft_world.specs.Devices.{GetsSector}
-use Rattle.ft_world.specs.Does as does
 use Rattle.ft_world.specs.Running.{Running}
 use Rattle.ft_world.specs.Shows.{AreMessages, IsDisk}
 use Rattle.ft_world.specs.Standing.{Course, machine_of}
@@ -42,8 +43,8 @@ use Rattle.ft_world.specs.declared.message.Message.TheVariants as message
 use Rattle.pair_events.specs.declared.reply.Reply.{Reply}
 use Rattle.ft_world.proofs.Applying.{applies, no_copies_copy, refuses, stands, stands_not, unchanged}
 use Rattle.ft_world.proofs.AtDisk.{not_put}
-use Rattle.ft_world.proofs.AtOneNode.{refused_surely}
-use Rattle.ft_world.proofs.Sending.{asked_ok, messages_push}
+use Rattle.ft_world.proofs.AtOneNode.{asks_refused, node_asked, node_asked_not}
+use Rattle.ft_world.proofs.Sending.{messages_push}
 use Rattle.ft_world.proofs.Standing.{serving_runs}
 
 -- Refusals: a sector of no track, and then those of the node.
@@ -64,18 +65,16 @@ pub gets_unknown : {B H D S : Type 0} (state : B → S) (M : Machine S) (records
     Applies state M records c (event.Get n sector) (Err Unknown) old
 gets_unknown state M records old c n sector h high =
     refuses state M records old old c (event.Get n sector) Unknown h refl
-    (no_sector_first sector (at_node (slice_get c.world.nodes n) (place_refusal (machine_of M c))) high) refl
+    (no_sector_first sector (at_node (slice_get c.world.nodes n) (get_refusal (machine_of M c))) high) refl
 
 pub gets_refused : {B H D S : Type 0} (state : B → S) (M : Machine S) (records : D → List Record)
     (old : Running B H D) (c : Course S) (n sector : ℕ) (fault : Fault) → Shows state M records old c →
     sector < SECTORS →
-    ReadHost {A = SectorAddress} c.world.nodes n (place_refusal M) (Err fault) (does.Finds M sector) →
+    AsksNode c.world n (get_refusal M) Never (IsUnder M sector) (Err fault) →
     Applies state M records c (event.Get n sector) (Err fault) old
 gets_refused state M records old c n sector fault h low a =
-    let o = at_node (slice_get c.world.nodes n) (place_refusal M) in
-    let k = refused_surely {A = SectorAddress} o fault (Unit {0})
-    (λ address. host.Says c.world.nodes n (does.Finds M sector address)) a in
-    refuses state M records old old c (event.Get n sector) fault h refl (is_sector sector o low ∙ k.0) refl
+    asks_refused h (event.Get n sector) fault
+    (is_sector sector (at_node (slice_get c.world.nodes n) (get_refusal M)) low) (λ never. absurd never.said) refl a
 
 -- a node that refuses names no failure of the disk
 same_fault : (here fault : Fault) → Some here ≡ Some fault → faults_in {T = Reply} (Err here) ≡ 0 →
@@ -91,24 +90,22 @@ no_role_or_drive false true fault e = same_fault NotDue fault e refl
 no_role_or_drive false false fault e = absurd (cc)
 
 no_place : {S : Type 0} (M : Machine S) (here : Option (Node S)) (fault : Fault) →
-    at_node here (place_refusal M) ≡ Some fault → faults_in {T = Reply} (Err fault) ≡ 0
+    at_node here (get_refusal M) ≡ Some fault → faults_in {T = Reply} (Err fault) ≡ 0
 no_place M None fault e = same_fault Unknown fault e refl
 no_place {S} M (Some x) fault e = go (is_role x.role Spare) e
   where
-    go : (b : Bool) → cond b (Some Unknown) (place_refusal M x) ≡ Some fault → faults_in {T = Reply} (Err fault) ≡ 0
+    go : (b : Bool) → cond b (Some Unknown) (get_refusal M x) ≡ Some fault → faults_in {T = Reply} (Err fault) ≡ 0
     go true e = same_fault Unknown fault e refl
     go false e =
         no_role_or_drive (not (acts_as x (Primary ∷ Alone ∷ []))) (is_none (M.selected x.machine)) fault e
 
-pub gets_no_failure : {S : Type 0} (M : Machine S) (nodes : List (Node S)) (n sector failures : ℕ) (fault : Fault)
+pub gets_no_failure : {S : Type 0} (M : Machine S) (w : World S) (n sector failures : ℕ) (fault : Fault)
     (result : Result Reply Fault) → result ≡ Err fault →
-    ReadHost {A = SectorAddress} nodes n (place_refusal M) (Err fault) (does.Finds M sector) →
+    AsksNode w n (get_refusal M) Never (IsUnder M sector) (Err fault) →
     failures ≡ failures + faults_in result
-gets_no_failure M nodes n sector failures fault result is a =
-    let o = at_node (slice_get nodes n) (place_refusal M) in
-    let k = refused_surely {A = SectorAddress} o fault (Unit {0})
-    (λ address. host.Says nodes n (does.Finds M sector address)) a in
-    let none : faults_in result ≡ 0 = ap faults_in is ∙ no_place M (slice_get nodes n) fault k.0 in
+gets_no_failure M w n sector failures fault result is a =
+    let none : faults_in result ≡ 0 = ap faults_in is
+    ∙ no_place M (slice_get w.nodes n) fault (node_asked_not w n (get_refusal M) fault a) in
     omega (arith, none)
 
 -- What is read.
@@ -129,35 +126,30 @@ read_is rs a met read at e = same_some (read_of a met) read _ (ap (λ o. option_
 -- the node's head is at a sector of the disk
 pub record StandsAt {S : Type 0} (N : Machine S) (drives : ℕ) (w : World S) (n sector : ℕ)
     (address : SectorAddress) : Type 0 where
-  pub x : Node S
-  pub here : slice_get w.nodes n ≡ Some x
-  pub drive : ℕ
-  pub selected : N.selected x.machine ≡ Some drive
-  pub address_is : address ≡ N.address x.machine drive sector
+  pub node : OfNode w n (IsUnder N sector address)
   pub there : IsTrue (has_sector drives address)
-  pub free : first_of (no_sector sector ∷ at_node (slice_get w.nodes n) (place_refusal N) ∷ []) ≡ None
+  pub free : first_of (no_sector sector ∷ at_node (slice_get w.nodes n) (get_refusal N) ∷ []) ≡ None
 
 pub stands_at : {B H D S : Type 0} (state : B → S) (M : Machine S) (records : D → List Record) (old : Running B H D)
     (c : Course S) (n sector : ℕ) (address : SectorAddress) → (h : Shows state M records old c) → sector < SECTORS →
-    ReadHost c.world.nodes n (place_refusal M) (Ok address) (does.Finds M sector) →
+    AsksNode c.world n (get_refusal M) Never (IsUnder M sector) (Ok address) →
     StandsAt (machine_of M c) h.drives c.world n sector address
 stands_at state M records old c n sector address h low a =
     let N = machine_of M c in
-    let o = at_node (slice_get c.world.nodes n) (place_refusal N) in
-    let k = asked_ok o address (Unit {0})
-    (λ address. host.Says c.world.nodes n (does.Finds M sector address)) a in
+    let o = at_node (slice_get c.world.nodes n) (get_refusal N) in
+    let k = node_asked c.world n (get_refusal M) address a in
     let x = k.1.x in
     let at = k.1.said in
-    let passed = node-passed (slice_get c.world.nodes n) x (place_refusal N) k.1.there k.0 in
+    let passed = node-passed (slice_get c.world.nodes n) x (get_refusal N) k.1.there k.0 in
     let serves_now = serving c.world n x k.1.there (first-passed (serves x) _ passed.1).0 in
     let is_serving = subst (λ role. Serving role) (sym serves_now.1.role_is) serves_now.2 in
     let r = serving_runs N c.world n x h.machine.lawful (no_copies_copy N) h.reached k.1.there is_serving in
     record {
-      x = x;
-      here = k.1.there;
-      drive = at.drive;
-      selected = at.selected;
-      address_is = at.address_is;
+      node = record {
+        x = x;
+        there = k.1.there;
+        said = record { drive = at.drive; selected = at.selected; address_is = at.address_is };
+      };
       there = subst (λ a. IsTrue (has_sector h.drives a)) (sym at.address_is)
           (h.machine.on_disk.reads r.0 x.machine at.drive sector r.1 at.selected low);
       free = is_sector sector o low ∙ k.0;
@@ -166,7 +158,7 @@ stands_at state M records old c n sector address h low a =
 pub gets_applies : {B H D S : Type 0} (state : B → S) (M : Machine S) (records : D → List Record)
     (old : Running B H D) (c : Course S) (n sector : ℕ) (address : SectorAddress) (answer : Result Reply Fault)
     (ms : List Message) (disk : D) → Shows state M records old c → sector < SECTORS →
-    ReadHost c.world.nodes n (place_refusal M) (Ok address) (does.Finds M sector) →
+    AsksNode c.world n (get_refusal M) Never (IsUnder M sector) (Ok address) →
     GetsSector old.messages (records old.disk) address answer ms (records disk) →
     Applies state M records c (event.Get n sector) answer (record old { messages = ms; disk = disk })
 gets_applies state M records old c n sector address (Ok r) ms disk h low a (read, is_read, said, sends, after) =
@@ -187,12 +179,10 @@ gets_applies state M records old c n sector address (Ok r) ms disk h low a (read
     applies state M records old c (event.Get n sector) (Ok r) (with_read N c.world address)
     (record old { messages = ms; disk = disk }) h
     (Accepts s.free (record {
-      x = s.x;
-      there = s.here;
-      drive = s.drive;
-      selected = s.selected;
+      address = address;
+      node = s.node;
       reply = ap reply_of said ∙ ap protocol.MessageIs h.parts.messages.count;
-      after = ap (λ a. with_read N c.world a) s.address_is;
+      after = refl;
     }))
     (record {
       hosts = h.parts.hosts;

@@ -8,12 +8,12 @@ use Rattle.i8080_words.specs.declared.refusal.Fault.{Fault}
 use Rattle.i8080_words.specs.declared.refusal.Fault.TheVariants.{Lost}
 use Rattle.pair_protocol.specs.Copying.{Copying, no_copies}
 use Rattle.pair_protocol.specs.Event as protocol
-use Rattle.pair_protocol.specs.Node.{Node, Spare, halts, wins}
+use Rattle.pair_protocol.specs.Node.{Node, Spare, wins}
 use Rattle.pair_protocol.specs.Refusals.{refusal}
 use Rattle.pair_protocol.specs.Row.{Accepts, DeviceFails, Leaves, Refuses, Row, WantsMemory}
-use Rattle.pair_protocol.specs.Rows.{Asks, Does, Takes, after_drain, at_end}
+use Rattle.pair_protocol.specs.Rows.{Suspects, AtNode, Does, Takes}
 use Rattle.pair_protocol.specs.Settled.{highest}
-use Rattle.pair_protocol.specs.World.{World, winner_in, with_node, with_winner}
+use Rattle.pair_protocol.specs.World.{World, winner_in, with_winner}
 use Rattle.pair_protocol.proofs.Promises.Growth.{asks_at_top, winner_added}
 use Rattle.pair_protocol.proofs.Invariant.{Inv}
 use Rattle.pair_protocol.proofs.RowActions.{asks_no_spare}
@@ -21,10 +21,8 @@ use Rattle.pair_protocol.proofs.Promises.Settling.{highest_is}
 use Rattle.ft_world.specs.Words.{event_of}
 use Rattle.pair_events.specs.declared.event.Event.{Event}
 use Rattle.pair_events.specs.declared.event.Event.TheVariants as event
-use Rattle.ft_world.proofs.AtInputs.{took_generation}
 use Rattle.ft_world.proofs.AtNodes.{highest_set}
-use Rattle.ft_world.proofs.AtReplays.{drained_generation}
-use Rattle.ft_world.proofs.Keeping.{advances_keep, replays_keep}
+use Rattle.ft_world.proofs.Keeping.{advances_keep, drained_generation, halted_kept, heard_kept, held_stays, replays_keep, took_stays}
 
 -- the highest generation stays, and any new winner has won it
 pub record KeepsHighest {S : Type 0} (w new : World S) : Type 0 where
@@ -44,10 +42,12 @@ keeps w new h e = record {
 nodes_stay : {S : Type 0} (w new : World S) → new.nodes ≡ w.nodes → new.winners ≡ w.winners → KeepsHighest w new
 nodes_stay w new e f = keeps w new (ap highest e) f
 
-node_changes : {S : Type 0} (w new : World S) (n : ℕ) (x y : Node S) → slice_get w.nodes n ≡ Some x →
-    y.generation ≡ x.generation → new ≡ with_node w n y → KeepsHighest w new
-node_changes w new n x y there g after =
-    keeps w new (ap (λ v. highest v.nodes) after ∙ highest_set w.nodes n x y there g) (ap (λ v. v.winners) after)
+node_changes : {S : Type 0} {w new : World S} {n : ℕ} {does : Node S → Node S → Type 0} → AtNode w n does new →
+    ((x y : Node S) → does x y → y.generation ≡ x.generation) → KeepsHighest w new
+node_changes {w = w} {new = new} {n = n} at same =
+    keeps w new
+    (ap (λ v. highest v.nodes) at.after ∙ highest_set w.nodes n at.x at.y at.there (same at.x at.y at.done))
+    (ap (λ v. v.winners) at.after)
 
 -- ---- a node wins
 
@@ -63,7 +63,7 @@ node_wins M C w new i n x there a_node none after = record {
 }
 
 asks_keeps : {S : Type 0} (M : Machine S) (C : Copying S) (w new : World S) (n : ℕ) (r : protocol.Reply) →
-    Inv M C w → refusal M C w (protocol.Suspect n) ≡ None → Asks w n r new → KeepsHighest w new
+    Inv M C w → refusal M C w (protocol.Suspect n) ≡ None → Suspects w n r new → KeepsHighest w new
 asks_keeps M C w new n r i free d = elim d.after [
   | inl won ↦ node_wins M C w new i n d.x d.there (asks_no_spare M C w n d.x d.there free) won.0 won.1
   | inr same ↦ nodes_stay w new (ap (λ v. v.nodes) same.1) (ap (λ v. v.winners) same.1)
@@ -73,8 +73,7 @@ asks_keeps M C w new n r i free d = elim d.after [
 
 takes_keeps : {S : Type 0} (M : Machine S) (w new : World S) (n : ℕ) (i : Input) (r : protocol.Reply) →
     Takes M w n i r new → KeepsHighest w new
-takes_keeps M w new n i r d =
-    node_changes w new n d.x _ d.there (took_generation M d.x d.x.role d.s i) d.after
+takes_keeps M w new n i r d = node_changes d.at (λ x y t. (took_stays t).generation)
 
 stays : {S : Type 0} (w new after : World S) → new ≡ after → after.nodes ≡ w.nodes → after.winners ≡ w.winners →
     KeepsHighest w new
@@ -84,19 +83,17 @@ does_keeps : {S : Type 0} (M : Machine S) (w new : World S) (e : Event) (r : pro
     Inv M no_copies w → refusal M no_copies w (event_of e) ≡ None → Does M no_copies w (event_of e) r new →
     KeepsHighest w new
 does_keeps M w new (event.Step n turns) r i free d =
-    node_changes w new n d.x d.y d.there (advances_keep M d.steps).generation d.after
+    node_changes d.at (λ x y s. (advances_keep M s.advances).generation)
 does_keeps M w new (event.TypeByte port byte) r i free d = stays w new _ d.after refl refl
 does_keeps M w new (event.TakeKey n port index) r i free d = takes_keeps M w new n _ r d.input
 does_keeps M w new (event.Send n index) r i free d = stays w new _ d.says.after refl refl
-does_keeps M w new (event.DeliverLog m n) r i free d = elim d.holds [
-  | inl next ↦ node_changes w new n d.x _ d.there refl next.2
-  | inr other ↦ stays w new _ other.2 refl refl
-]
+does_keeps M w new (event.DeliverLog m n) r i free d =
+    node_changes d.at (λ x y s. (held_stays d.index d.e d.next x y s).generation)
 does_keeps M w new (event.Acknowledge n) r i free d = stays w new _ d.says.after refl refl
 does_keeps M w new (event.DeliverAcknowledgement m n) r i free d =
-    node_changes w new n d.x _ d.there refl d.after
+    node_changes d.at (λ x y s. (heard_kept x y d.held d.replayed d.covered s).generation)
 does_keeps M w new (event.Replay n turns) r i free d =
-    node_changes w new n d.x d.y d.there (replays_keep M d.moves).generation d.after
+    node_changes d.at (λ x y s. (replays_keep M s.moves).generation)
 does_keeps M w new (event.Release n name) r i free d = stays w new _ d.says.after refl refl
 does_keeps M w new (event.Arrive m) r i free d = stays w new _ d.after refl refl
 does_keeps M w new (event.TellSent n port number) r i free d = takes_keeps M w new n _ r d
@@ -107,13 +104,12 @@ does_keeps M w new (event.Get n sector) r i free d = stays w new _ d.after refl 
 does_keeps M w new (event.GetReply m n) r i free d = takes_keeps M w new n _ r d.input
 does_keeps M w new (event.Suspect n) r i free d = asks_keeps M no_copies w new n r i free d
 does_keeps M w new (event.Drain n turns) r i free d =
-    node_changes w new n d.x (after_drain d.y (at_end d.y)) d.there
-    (drained_generation d.y (at_end d.y) ∙ (replays_keep M d.moves).generation) d.after
-does_keeps M w new (event.Stop n) r i free d = node_changes w new n d.x (halts d.x) d.there refl d.after
+    node_changes d.at (λ x y s. drained_generation s)
+does_keeps M w new (event.Stop n) r i free d = node_changes d.at (λ x y s. (halted_kept x y s).generation)
 
 leaves_keeps : {S : Type 0} (w new : World S) (e : protocol.Event) (fault : Fault) → Leaves w e fault new →
     KeepsHighest w new
-leaves_keeps w new (protocol.Suspect n) Lost d = node_changes w new n d.x (halts d.x) d.there refl d.after
+leaves_keeps w new (protocol.Suspect n) Lost d = node_changes d (λ x y s. (halted_kept x y s).generation)
 leaves_keeps w new e fault d = stays w new w d refl refl
 
 -- each row

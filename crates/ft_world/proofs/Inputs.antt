@@ -8,17 +8,15 @@ use Rattle.i8080_words.specs.declared.refusal.Fault.{Fault}
 use Rattle.plain_single.specs.Reach.{timed}
 use Rattle.guest_board.specs.Recorded.{Counts}
 use Rattle.pair_protocol.specs.Change.{Serving}
+use Rattle.pair_protocol.specs.Effects.{Took, took}
 use Rattle.pair_protocol.specs.Node.{Node, Role, Primary, Backup, Joining, Draining, Alone, Spare}
 use Rattle.pair_protocol.specs.Refusals.{serves}
-use Rattle.pair_protocol.specs.Rows.{took}
 use Rattle.ft_node.specs.Calls as calls
 use Rattle.ft_node.specs.Seats.{IsNode}
 use Rattle.ft_node.specs.declared.node.Node as code
-use Rattle.ft_world.specs.AtStation.{AtStation, Makes}
-use Rattle.ft_world.specs.Does as does
 use Rattle.ft_world.specs.Shows.{IsStation}
 use Rattle.ft_world.specs.declared.station.Station.{Station}
-use Rattle.ft_world.proofs.Answering.{finds}
+use Rattle.ft_world.proofs.Answering.{found, given}
 use Rattle.ft_world.proofs.Keeping.{serving_role, machine_count, own_inputs}
 
 -- a node that has taken an input
@@ -59,21 +57,17 @@ pub takes_on : {B S : Type 0} (state : B → S) (M : Machine S) (i : Input) (o :
     (node : code.Node B) (new : Station B) (x : Node S) → Counts M → (o ≡ None → serves x ≡ None)
     → IsStation state M h x → calls.Takes M i o x (Ok tt) (IsNode state M node) → new.node ≡ node
     → new.inputs ≡ h.inputs ++ timed h.count i ∷ [] → new.count ≡ h.count
-    → AtStation o (Ok tt) x (IsStation state M new) (does.Took M i)
-takes_on state M i None h node new x counts serve is t en e c =
-    let role : Serving x.role = serving_role x (serve refl) in
-    record {
-      y = took M x x.role t.s i;
-      done = record { s = t.s; takes = t.takes; after = refl };
-      after = took_station state M i h new x (took M x x.role t.s i) role
-          (takes M i x t.s counts t.takes x.role role) is
-          (subst (λ k. IsNode state M k (took M x x.role t.s i)) (sym en) t.after) e c;
-    }
-takes_on state M i (Some m) h node new x counts serve is t en e c = let no = t.0 in (cc)
+    → calls.Call {A = Unit {0}} o calls.Ever (λ done. Took M i) x (Ok tt) (IsStation state M new)
+takes_on state M i o h node new x counts serve is d en e c =
+    given {A = Unit {0}} o calls.Never calls.Ever (λ done. Took M i) x (IsNode state M node) (IsStation state M new) tt (λ y none t now.
+    (let role : Serving x.role = serving_role x (serve none) in
+    took_station state M i h new x y role
+    (subst (Takes M i x) (sym t.after) (takes M i x t.s counts t.takes x.role role)) is
+    (subst (λ k. IsNode state M k y) (sym en) now) e c)) d
 
 pub refused : {B S : Type 0} (state : B → S) (M : Machine S) (i : Input) (o : Option Fault)
     (r : Result (Unit {0}) Fault) (fault : Fault) (h : Station B) (x : Node S) → IsErrAnd r (λ k. k ≡ fault)
     → ◌≡◌ {A = Result (Unit {0}) Fault} (Err fault) (answered o) → IsStation state M h x
-    → AtStation o r x (IsStation state M h) (does.Took M i)
+    → calls.Call o calls.Ever (λ done. Took M i) x r (IsStation state M h)
 refused state M i o r fault h x at e is =
-    finds o r fault (IsStation state M h x) (λ v. Makes x (IsStation state M h) (does.Took M i v)) at e is
+    found o calls.Ever (λ done. Took M i) x (IsStation state M h) r fault at e is

@@ -1,15 +1,17 @@
 -- What moves of a node keep: its role, its generation, and the lists and the count that it began with. So what it
 -- settles changes only with its machine and its own inputs.
-use Rattle.std.proofs.Common.{◌≡◌, ◌∙◌, [], ◌∷◌, ◌++◌, ℕ, None, Option, Some, ap, inl, inr, refl, subst, sym}
+use Rattle.std.proofs.Common.{◌≡◌, ◌∙◌, [], ◌∷◌, ◌++◌, ℕ, Bool, true, false, None, Option, Some, ap, inl, inr, refl, subst, sym}
 use Rattle.event_callbacks.specs.declared.operations.Operation.{Operation}
 use Rattle.guest_board.specs.Machine.{Machine}
+use Rattle.guest_board.specs.declared.input.Input.{Input}
 use Rattle.log_entry.specs.Entries.{inputs_of, last_count}
+use Rattle.log_entry.specs.declared.entry.Entry.{Entry}
 use Rattle.pair_protocol.specs.Change.{Serving}
 use Rattle.pair_protocol.specs.Event.{Why}
 use Rattle.pair_protocol.specs.Node.{Node, Role, Primary, Backup, Joining, Draining, Alone, Spare, plainly_steps, passes_mark, passes_input}
 use Rattle.pair_protocol.specs.Refusals.{serves, role_refusal}
-use Rattle.pair_protocol.specs.Rows.{Advances, Replays, NoneLeft, Ends, Waits, Short, Gives, Goes, NoTurns, AtEnd, NoMemory, OneStep, OneMark, OneInput, stepped}
-use Rattle.pair_protocol.specs.Settled.{list_of, count_in}
+use Rattle.pair_protocol.specs.Effects.{Advances, Replays, NoneLeft, Ends, Waits, Short, Gives, Goes, NoTurns, AtEnd, NoMemory, OneStep, OneMark, OneInput, Took, Held, Heard, Drained, Halted, after_drain, stepped, took}
+use Rattle.pair_protocol.specs.Settled.{is_backup, list_of, count_in}
 use Rattle.pair_protocol.specs.World.{World}
 use Rattle.pair_protocol.proofs.Passed.{acts-in, serving}
 
@@ -72,6 +74,60 @@ replays_keep M (OneInput {x = x} {y = y} e i s g c q v rest) =
     kept_then x (passes_input x s) y
     (record { role = refl; generation = refl; list = refl; copy = refl; start = refl; held = refl })
     (replays_keep M rest)
+
+pub heard_kept : {S : Type 0} (x y : Node S) (held replayed covered : ℕ) → Heard held replayed covered x y → Kept x y
+heard_kept x y held replayed covered h = subst (Kept x) (sym h.1)
+    (record { role = refl; generation = refl; list = refl; copy = refl; start = refl; held = refl })
+
+pub halted_kept : {S : Type 0} (x y : Node S) → Halted x y → Kept x y
+halted_kept x y h = subst (Kept x) (sym h)
+    (record { role = refl; generation = refl; list = refl; copy = refl; start = refl; held = refl })
+
+-- ---- its generation and its role
+
+-- a node keeps its generation, and is a backup exactly if it was one before
+pub record Stays {S : Type 0} (x y : Node S) : Type 0 where
+  pub generation : y.generation ≡ x.generation
+  pub backup : is_backup y.role ≡ is_backup x.role
+
+pub kept_stays : {S : Type 0} {x y : Node S} → Kept x y → Stays x y
+kept_stays k = record { generation = k.generation; backup = ap is_backup k.role }
+
+pub took_stays : {S : Type 0} {M : Machine S} {i : Input} {x y : Node S} → Took M i x y → Stays x y
+took_stays {M = M} {i = i} {x = x} t = subst (Stays x) (sym t.after) (go x.role)
+  where
+    go : (q : Role) → Stays x (took M x q t.s i)
+    go Primary = record { generation = refl; backup = refl }
+    go Alone = record { generation = refl; backup = refl }
+    go Backup = record { generation = refl; backup = refl }
+    go Joining = record { generation = refl; backup = refl }
+    go Draining = record { generation = refl; backup = refl }
+    go Spare = record { generation = refl; backup = refl }
+
+pub held_stays : {S : Type 0} (index : ℕ) (e : Entry) (next : Bool) (x y : Node S) → Held index e next x y → Stays x y
+held_stays index e true x y h = subst (Stays x) (sym h.1) (record { generation = refl; backup = refl })
+held_stays index e false x y h = subst (Stays x) (sym h.1) (record { generation = refl; backup = refl })
+
+pub drained_generation : {S : Type 0} {M : Machine S} {turns made : ℕ} {alone : Bool} {x y : Node S}
+    → Drained M turns made alone x y → y.generation ≡ x.generation
+drained_generation {S} {M = M} {alone = alone} d =
+    ap (λ (z : Node S). z.generation) d.after ∙ go alone ∙ (replays_keep M d.replayed.moves).generation
+  where
+    go : (b : Bool) → (after_drain d.z b).generation ≡ d.z.generation
+    go true = refl
+    go false = refl
+
+-- a drained node is alone, and was no backup before
+pub drained_stays : {S : Type 0} {M : Machine S} {turns made : ℕ} {alone : Bool} {x y : Node S} → x.role ≡ Draining
+    → Drained M turns made alone x y → Stays x y
+drained_stays {S} {M = M} {alone = alone} role d = record {
+  generation = drained_generation d;
+  backup = ap (λ (z : Node S). is_backup z.role) d.after ∙ go alone ∙ sym (ap is_backup role);
+}
+  where
+    go : (b : Bool) → is_backup (after_drain d.z b).role ≡ false
+    go true = refl
+    go false = ap is_backup ((replays_keep M d.replayed.moves).role ∙ role)
 
 -- ---- what it settles
 

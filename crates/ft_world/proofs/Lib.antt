@@ -8,9 +8,9 @@ pub mod Agreeing
 pub mod Statuses
 pub mod Applying
 pub mod AtTerminals
-pub mod Sending
 pub mod AtNodes
 pub mod AtOneNode
+pub mod Sending
 pub mod Beginnings
 pub mod Releasing
 pub mod Winning
@@ -18,7 +18,7 @@ pub mod Contesting
 pub mod AtInputs
 pub mod DiskAnswers
 pub mod AtLog
-pub mod AtReplays
+pub mod AtMoves
 pub mod Standing
 pub mod Released
 pub mod AtDisk

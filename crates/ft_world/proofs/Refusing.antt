@@ -16,8 +16,8 @@ use Rattle.i8080_words.specs.declared.refusal.Fault.{Fault}
 use Rattle.i8080_words.specs.declared.refusal.Fault.TheVariants.{DeviceFault, Lost, NotWhole, OutOfMemory, WrongRole}
 use Rattle.shared_disk.specs.declared.store.Record.{Record}
 use Rattle.pair_protocol.specs.Node.{Joining, Node, halts, is_role}
-use Rattle.pair_protocol.specs.Refusals.{fault_if, first_of, place_refusal}
-use Rattle.ft_node.specs.Calls.{AskedOf, Asks, Unless}
+use Rattle.pair_protocol.specs.Refusals.{fault_if, first_of, get_refusal}
+use Rattle.ft_node.specs.Calls.{SuspectsOf, Suspects, Never, Unless}
 use Rattle.ft_node.specs.Seats.{IsNode}
 use Rattle.ft_node.specs.declared.halted.Halted.{Halted}
 use Rattle.ft_node.specs.declared.node.Node as code
@@ -26,7 +26,7 @@ use Rattle.pair_events.specs.declared.event.Event.TheVariants as event
 use Rattle.pair_events.specs.declared.reply.Reply.{Reply}
 use Rattle.ft_world.specs.Applies.{ShowsSome}
 use Rattle.ft_world.specs.Devices.{GetsSector, PutsWrite}
-use Rattle.ft_world.specs.Does.{Finds}
+use Rattle.pair_protocol.specs.Effects.{IsUnder}
 use Rattle.ft_world.specs.Lending.{WithStation}
 use Rattle.ft_world.specs.Messages.{write_of}
 use Rattle.ft_world.specs.Running.{Running}
@@ -40,7 +40,7 @@ use Rattle.ft_world.specs.declared.station.Station.{Station}
 use Rattle.ft_world.proofs.Agreeing.{agree-other}
 use Rattle.ft_world.proofs.Applying.{no_copies_copy}
 use Rattle.ft_world.proofs.AtDisk.{brings_write, not_put}
-use Rattle.ft_world.proofs.AtHosts.{ReadHost}
+use Rattle.ft_world.proofs.AtHosts.{AsksNode}
 use Rattle.ft_world.proofs.DiskReads.{stands_at}
 use Rattle.ft_world.proofs.Released.{writes_on_disk}
 
@@ -54,7 +54,7 @@ asked_where_lost false true P D d = let no = d.0 in (cc)
 asked_where_lost false false P D d = d
 
 halted_where_lost : {S : Type 0} (winner : Option ℕ) (old new : List Asking) (n : ℕ) (x : Node S)
-    (Is : Node S → Type 0) → AskedOf winner old n x (Err Lost) new Is → Is (halts x)
+    (Is : Node S → Type 0) → SuspectsOf winner old n x (Err Lost) new Is → Is (halts x)
 halted_where_lost None old new n x Is d = let no = d.0 in (cc)
 halted_where_lost (Some winner) old new n x Is d = d.3
 
@@ -70,7 +70,7 @@ is_halted state M (node.Halted halted) x is = (halted, refl)
 suspect_leaves : {B H D S : Type 0} (state : B → S) (M : Machine S) (records : D → List Record) (old : Running B H D)
     (n : ℕ) (here s : Station B) (hosts : List (Host B H)) (askings : List Asking) (fault : Fault)
     → ShowsSome state M records old → slice_get old.hosts n ≡ Some (host.Node here) → WithStation old.hosts n s hosts
-    → ((x : Node S) → IsStation state M here x → Asks old.askings n x (Err fault) askings (IsStation state M s))
+    → ((x : Node S) → IsStation state M here x → Suspects old.askings n x (Err fault) askings (IsStation state M s))
     → s ≡ record here { node = s.node } → (fault ≢ Lost → s ≡ here)
     → Except Lost fault (NodeHalts n old (record old { hosts = hosts })) (record old { hosts = hosts } ≡ old)
 suspect_leaves state M records old n here s hosts askings fault some at w asks beside same = (
@@ -79,8 +79,8 @@ suspect_leaves state M records old n here s hosts askings fault some at w asks b
       at (some.shows.parts.hosts n) in
       let asked = asked_where_lost (not x.0.running) (is_role x.0.role Joining)
       (IsStation state M s x.0 × (askings ≡ old.askings))
-      (AskedOf (winner_of old.askings x.0.generation) old.askings n x.0 (Err Lost) askings (IsStation state M s))
-      (subst (λ f. Asks old.askings n x.0 (Err f) askings (IsStation state M s)) lost (asks x.0 x.2)) in
+      (SuspectsOf (winner_of old.askings x.0.generation) old.askings n x.0 (Err Lost) askings (IsStation state M s))
+      (subst (λ f. Suspects old.askings n x.0 (Err f) askings (IsStation state M s)) lost (asks x.0 x.2)) in
       let halted = is_halted state M s.node x.0
       (halted_where_lost (winner_of old.askings x.0.generation) old.askings askings n x.0 (IsStation state M s) asked).node
       in
@@ -98,7 +98,7 @@ pub suspect_stays : {B H D S : Type 0} (state : B → S) (M : Machine S) (record
     (old : Running B H D) (n : ℕ) (here s : Station B) (hosts : List (Host B H)) (askings : List Asking)
     (r : Result Reply Fault) (fault : Fault) → ShowsSome state M records old
     → slice_get old.hosts n ≡ Some (host.Node here) → WithStation old.hosts n s hosts
-    → ((x : Node S) → IsStation state M here x → Asks old.askings n x (Err fault) askings (IsStation state M s))
+    → ((x : Node S) → IsStation state M here x → Suspects old.askings n x (Err fault) askings (IsStation state M s))
     → s ≡ record here { node = s.node } → (fault ≢ Lost → s ≡ here) → askings ≡ old.askings
     → IsErrAnd r (λ k. k ≡ fault)
     → IfErr r (λ k. Stays records (event.Suspect n) k old (record old { hosts = hosts; askings = askings }))
@@ -147,7 +147,7 @@ put_stays state M records old m write (Err fault) ms disk some brings (why, same
 pub get_stays : {B H D S : Type 0} (state : B → S) (M : Machine S) (records : D → List Record) (old : Running B H D)
     (n sector : ℕ) (address : SectorAddress) (r : Result Reply Fault) (ms : List Message) (disk : D)
     → (some : ShowsSome state M records old) → sector < SECTORS
-    → ReadHost some.course.world.nodes n (place_refusal M) (Ok address) (Finds M sector)
+    → AsksNode some.course.world n (get_refusal M) Never (IsUnder M sector) (Ok address)
     → GetsSector old.messages (records old.disk) address r ms (records disk)
     → IfErr r (λ fault. fault ≡ OutOfMemory → disk ≡ old.disk)
     → IfErr r (λ fault. Stays records (event.Get n sector) fault old (record old { messages = ms; disk = disk }))

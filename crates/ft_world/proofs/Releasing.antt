@@ -14,16 +14,17 @@ use Rattle.i8080_words.specs.declared.refusal.Fault.{Fault}
 use Rattle.i8080_words.specs.declared.refusal.Fault.TheVariants.{Unknown}
 use Rattle.shared_disk.specs.declared.store.Record.{Record}
 use Rattle.terminals.specs.Screen.{Screen, after_telling}
-use Rattle.pair_protocol.specs.Event as protocol
+use Rattle.pair_protocol.proofs.Booted.{keys_covered-booted}
+use Rattle.pair_protocol.specs.Effects.{HasCovered, HasOutstanding}
+use Rattle.pair_protocol.specs.Node.{Node}
 use Rattle.pair_protocol.specs.Refusals.{at_node, fault_if, first_of, no_such, no_port, release_refusal, told_refusal}
 use Rattle.pair_protocol.specs.Row.{Accepts}
 use Rattle.pair_protocol.specs.World as world
 use Rattle.pair_protocol.specs.World.{World, terminal_in, with_told}
 use Rattle.ft_world.specs.Applies.{Applies, Shows}
-use Rattle.ft_world.proofs.AtHosts as host
-use Rattle.ft_world.proofs.AtHosts.{ReadHost}
+use Rattle.ft_node.specs.Calls.{Never}
+use Rattle.ft_world.proofs.AtHosts.{AsksNode}
 use Rattle.ft_world.specs.Devices.{no_device, screen_in}
-use Rattle.ft_world.specs.Does as does
 use Rattle.ft_world.specs.Messages.{Says, released}
 use Rattle.ft_world.specs.Running.{Running}
 use Rattle.ft_world.specs.Shows.{AreTerminals, IsTerminal}
@@ -34,9 +35,9 @@ use Rattle.pair_events.specs.declared.reply.Reply.{Reply}
 use Rattle.pair_events.specs.declared.reply.Reply.TheVariants as reply
 use Rattle.ft_world.specs.declared.message.Message.{Message}
 use Rattle.ft_world.proofs.Applying.{applies, refuses}
-use Rattle.ft_world.proofs.AtOneNode.{first_stands, refused_surely, second_of}
+use Rattle.ft_world.proofs.AtOneNode.{asks_refused, elsewhere_of, first_stands, node_asked, second_of}
 use Rattle.ft_world.proofs.AtTerminals.{port_missing, port_there, screen_is, terminals_set, with_screens}
-use Rattle.ft_world.proofs.Sending.{asked_ok, says_applies}
+use Rattle.ft_world.proofs.Sending.{says_applies}
 
 -- ---- an operation is released
 
@@ -81,33 +82,24 @@ node_left state M records old c n name done h e =
 pub releases_refused : {B H D S : Type 0} (state : B → S) (M : Machine S) (records : D → List Record)
     (old : Running B H D) (c : Course S) (n : ℕ) (name : OpId) (done : Unit {0}) (fault : Fault) →
     Shows state M records old c → ◌≡◌ {A = Result (Unit {0}) Fault} (Ok done) (answered (no_device name)) →
-    ReadHost {A = Operation} c.world.nodes n (release_refusal M name) (Err fault) (does.Releases M name) →
+    AsksNode c.world n (release_refusal M name) Never (HasOutstanding M name) (Err fault) →
     Applies state M records c (event.Release n name) (Err fault) old
 releases_refused state M records old c n name done fault h e a =
-    let k = refused_surely {A = Operation} (at_node (slice_get c.world.nodes n) (release_refusal M name)) fault
-    (Unit {0}) (λ o. host.Says c.world.nodes n (does.Releases M name o)) a in
-    refuses state M records old old c (event.Release n name) fault h refl
-    (node_left state M records old c n name done h e ∙ k.0) refl
+    asks_refused h (event.Release n name) fault (node_left state M records old c n name done h e)
+    (λ never. absurd never.said) refl a
 
 pub releases_applies : {B H D S : Type 0} (state : B → S) (M : Machine S) (records : D → List Record)
     (old : Running B H D) (c : Course S) (n : ℕ) (name : OpId) (done : Unit {0}) (o : Operation)
     (answer : Result Reply Fault) (ms : List Message) → Shows state M records old c →
     ◌≡◌ {A = Result (Unit {0}) Fault} (Ok done) (answered (no_device name)) →
-    ReadHost c.world.nodes n (release_refusal M name) (Ok o) (does.Releases M name) →
+    AsksNode c.world n (release_refusal M name) Never (HasOutstanding M name) (Ok o) →
     Says old.messages (released o) answer ms →
     Applies state M records c (event.Release n name) answer (record old { messages = ms })
 releases_applies state M records old c n name done o answer ms h e a said =
-    let k = asked_ok (at_node (slice_get c.world.nodes n) (release_refusal M name)) o (Unit {0})
-    (λ o. host.Says c.world.nodes n (does.Releases M name o)) a in
+    let k = node_asked c.world n (release_refusal M name) o a in
     says_applies state M records old c (event.Release n name) (released o) (world.Released o) answer ms h
     (released_is o) (node_left state M records old c n name done h e ∙ k.0) tt
-    (record {
-      x = k.1.x;
-      there = k.1.there;
-      o = o;
-      outstanding = k.1.said;
-      says = record { reply = refl; after = refl };
-    })
+    (record { o = o; node = k.1; says = record { reply = refl; after = refl } })
     said
 
 -- ---- a terminal is told
@@ -130,26 +122,28 @@ tells_left state M records old c n port h low =
 
 pub tells_refused : {B H D S : Type 0} (state : B → S) (M : Machine S) (records : D → List Record)
     (old : Running B H D) (c : Course S) (n port : ℕ) (fault : Fault) → Shows state M records old c → port < PORTS →
-    ReadHost {A = ℕ} c.world.nodes n told_refusal (Err fault) (does.Tells M port) →
+    AsksNode c.world n told_refusal Never (HasCovered M port) (Err fault) →
     Applies state M records c (event.Told n port) (Err fault) old
 tells_refused state M records old c n port fault h low a =
-    let k = refused_surely {A = ℕ} (at_node (slice_get c.world.nodes n) told_refusal) fault (Unit {0})
-    (λ keys. host.Says c.world.nodes n (does.Tells M port keys)) a in
-    refuses state M records old old c (event.Told n port) fault h refl
-    (tells_left state M records old c n port h low ∙ k.0) refl
+    asks_refused h (event.Told n port) fault (tells_left state M records old c n port h low)
+    (λ never. absurd never.said) refl a
 
 told_is : (s : Screen) (t : world.Terminal) (keys : ℕ) → IsTerminal s t →
     IsTerminal (after_telling s keys) (record t { told = max t.told keys })
 told_is s t keys i = record { accepted = i.accepted; typed = i.typed; told = ap (λ n. max n keys) i.told }
 
+-- a node has as many keys covered if its machine began elsewhere
+has_covered : {S : Type 0} (M : Machine S) (c : Course S) (port keys : ℕ) (x : Node S) → HasCovered M port keys x →
+    HasCovered (machine_of M c) port keys x
+has_covered M c port keys x s = s ∙ sym (keys_covered-booted M c.boot c.sectors x port x.role)
+
 pub tells_applies : {B H D S : Type 0} (state : B → S) (M : Machine S) (records : D → List Record)
     (old : Running B H D) (c : Course S) (n port keys : ℕ) (screens : List Screen) → Shows state M records old c →
-    port < PORTS → ReadHost c.world.nodes n told_refusal (Ok keys) (does.Tells M port) →
+    port < PORTS → AsksNode c.world n told_refusal Never (HasCovered M port) (Ok keys) →
     screens ≡ slice_set old.terminals port (after_telling (screen_in old.terminals port) keys) →
     Applies state M records c (event.Told n port) (Ok (reply.Told keys)) (record old { terminals = screens })
 tells_applies state M records old c n port keys screens h low a after =
-    let k = asked_ok (at_node (slice_get c.world.nodes n) told_refusal) keys (Unit {0})
-    (λ keys. host.Says c.world.nodes n (does.Tells M port keys)) a in
+    let k = node_asked c.world n told_refusal keys a in
     let ts = c.world.terminals in
     let i = screen_is old.terminals ts port h.parts.terminals low in
     let are = terminals_set old.terminals ts port (after_telling (screen_in old.terminals port) keys)
@@ -157,11 +151,6 @@ tells_applies state M records old c n port keys screens h low a after =
     (told_is (screen_in old.terminals port) (terminal_in ts port) keys i) in
     applies state M records old c (event.Told n port) (Ok (reply.Told keys)) (with_told c.world port keys)
     (record old { terminals = screens }) h
-    (Accepts (tells_left state M records old c n port h low ∙ k.0) (record {
-      x = k.1.x;
-      there = k.1.there;
-      reply = ap protocol.ToldIs k.1.said;
-      after = ap (λ m. with_told c.world port m) k.1.said;
-    }))
+    (Accepts (tells_left state M records old c n port h low ∙ k.0) (record { keys = keys; node = elsewhere_of (λ x s. has_covered M c port keys x s) k.1; reply = refl; after = refl }))
     (with_screens state M records h.drives old c screens (with_told c.world port keys).terminals h.parts
     (subst (λ l. AreTerminals l (with_told c.world port keys).terminals) (sym after) are))

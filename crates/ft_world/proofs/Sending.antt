@@ -1,28 +1,27 @@
 -- A message is sent: one more is appended, here and in the world that is shown. What a node is asked for is refused as
 -- its part says, or is what the node has.
-use Rattle.std.proofs.Common.{◌≡◌, ◌+◌, [], ◌∷◌, ◌++◌, ◌∙◌, Err, List, None, Ok, Some, ap, inl, inr, length, refl, subst, sym, ℕ}
-use Rattle.std.specs.Prelude.{Option, Result, slice_get, ◌⊎◌}
+use Rattle.std.proofs.Common.{◌≡◌, ◌+◌, [], ◌∷◌, ◌++◌, ◌∙◌, Err, List, None, Ok, ap, length, refl, subst, sym, ℕ}
+use Rattle.std.specs.Prelude.{Result}
 use Rattle.std.specs.Global.{Vec}
 use Rattle.std.proofs.lemmas.List.{length-append}
 use Rattle.guest_board.specs.Machine.{Machine}
 use Rattle.i8080_words.specs.declared.refusal.Fault.{Fault}
-use Rattle.i8080_words.specs.declared.refusal.Fault.TheVariants.{OutOfMemory}
 use Rattle.shared_disk.specs.declared.store.Record.{Record}
 use Rattle.log_channel.specs.declared.packet.Packet.TheVariants as packet
 use Rattle.log_channel.proofs.PacketLaws.{is_only}
 use Rattle.pair_protocol.specs.Copying.{no_copies}
 use Rattle.pair_protocol.specs.Event as protocol
-use Rattle.pair_protocol.specs.Refusals.{ack_refusal, at_node, refusal, send_refusal}
-use Rattle.pair_protocol.specs.Row.{Accepts, Leaves, MayWantMemory}
+use Rattle.pair_protocol.specs.Node.{Node}
+use Rattle.pair_protocol.specs.Refusals.{acknowledge_refusal, refusal, send_refusal}
+use Rattle.pair_protocol.specs.Row.{Accepts, MayWantMemory}
 use Rattle.pair_protocol.specs.Rows.{Does}
 use Rattle.pair_protocol.specs.World as sent
 use Rattle.pair_protocol.specs.World.{with_message}
-use Rattle.ft_node.specs.Calls.{Gives, SendsEntry, Unless}
+use Rattle.ft_node.specs.Calls.{Ever, IsSpelled, SendsEntry}
 use Rattle.ft_world.specs.Applies.{Applies, Shows, ShowsParts}
-use Rattle.ft_world.proofs.AtHosts as host
-use Rattle.ft_world.proofs.AtHosts.{AskHost}
+use Rattle.ft_world.proofs.AtHosts.{AsksNode}
+use Rattle.ft_world.proofs.AtOneNode.{asks_refused, node_asked}
 use Rattle.ft_world.specs.Messages.{Says}
-use Rattle.ft_world.specs.Does as does
 use Rattle.ft_world.specs.Running.{Running}
 use Rattle.ft_world.specs.Shows.{AreMessages}
 use Rattle.ft_world.specs.Standing.{Course, machine_of}
@@ -33,7 +32,7 @@ use Rattle.ft_world.specs.declared.message.Message.{Message}
 use Rattle.ft_world.specs.declared.message.Message.TheVariants as message
 use Rattle.pair_events.specs.declared.reply.Reply.{Reply}
 use Rattle.ft_world.proofs.Agreeing.{agree-push}
-use Rattle.ft_world.proofs.Applying.{applies, refuses, wants_memory}
+use Rattle.ft_world.proofs.Applying.{applies, wants_memory}
 
 pub messages_push : (ms : List Message) (ss : List sent.Message) (m : Message) (s : sent.Message) → AreMessages ms ss →
     IsMessage m s → AreMessages (ms ++ m ∷ []) (ss ++ s ∷ [])
@@ -79,93 +78,62 @@ says_applies state M records old c e m s (Err fault) ms h i free takes does (is,
     wants_memory state M records old (record old { messages = ms }) c e fault h
     (ap (λ l. record old { messages = l }) same) free takes is
 
--- What a node is asked for.
-
-pub asked_err : {A : Type 0} (o : Option Fault) (fault : Fault) (stays : Type 0) (does : A → Type 0) →
-    Unless {A = A} o (Err fault) stays (Gives {A = A} (Err fault) stays does) →
-    ((o ≡ Some fault) ⊎ ((o ≡ None) × (fault ≡ OutOfMemory))) × stays
-asked_err None fault stays does (e, s) = (inr (refl, e), s)
-asked_err (Some f) fault stays does (e, s) = (inl (let k : f ≡ fault = (cc) in ap Some k), s)
-
--- the same, with what holds if the event is out of memory
-pub asked_wanting : {A : Type 0} (o : Option Fault) (fault : Fault) (stays wants : Type 0) (does : A → Type 0) →
-    Unless {A = A} o (Err fault) stays (Gives {A = A} (Err fault) (wants × stays) does) →
-    ((o ≡ Some fault) ⊎ ((o ≡ None) × (fault ≡ OutOfMemory) × wants)) × stays
-asked_wanting None fault stays wants does (e, (w, s)) = (inr (refl, e, w), s)
-asked_wanting (Some f) fault stays wants does (e, s) = (inl (let k : f ≡ fault = (cc) in ap Some k), s)
-
-pub asked_ok : {A : Type 0} (o : Option Fault) (value : A) (stays : Type 0) (does : A → Type 0) →
-    Unless o (Ok value) stays (Gives (Ok value) stays does) → (o ≡ None) × does value
-asked_ok None value stays does d = (refl, d)
-asked_ok (Some f) value stays does (e, s) = absurd (cc)
-
--- an event that is refused as the node refuses it, or is out of memory
-pub asked_in_vain : {B H D S : Type 0} (state : B → S) (M : Machine S) (records : D → List Record)
-    (old new : Running B H D) (c : Course S) (e : Event) (fault : Fault) → Shows state M records old c → new ≡ old →
-    MayWantMemory (machine_of M c) c.world (event_of e) → Leaves c.world (event_of e) fault c.world →
-    ((refusal (machine_of M c) no_copies c.world (event_of e) ≡ Some fault)
-    ⊎ ((refusal (machine_of M c) no_copies c.world (event_of e) ≡ None) × (fault ≡ OutOfMemory))) →
-    Applies state M records c e (Err fault) new
-asked_in_vain state M records old new c e fault h same takes leaves (inl because) =
-    refuses state M records old new c e fault h same because leaves
-asked_in_vain state M records old new c e fault h same takes leaves (inr (free, is)) =
-    wants_memory state M records old new c e fault h same free takes is
-
 -- A primary sends an entry of its log.
 
 pub sends_refused : {B H D S : Type 0} (state : B → S) (M : Machine S) (records : D → List Record)
     (old : Running B H D) (c : Course S) (n index : ℕ) (fault : Fault) → Shows state M records old c →
-    AskHost {A = Vec ℕ} c.world.nodes n (send_refusal index) (Err fault) (λ bytes x. SendsEntry index x bytes) →
+    AsksNode c.world n (send_refusal index) Ever (λ bytes x. SendsEntry index x bytes) (Err fault) →
     Applies state M records c (event.Send n index) (Err fault) old
 sends_refused state M records old c n index fault h a =
-    let k = asked_err {A = Vec ℕ} (at_node (slice_get c.world.nodes n) (send_refusal index)) fault (Unit {0})
-    (λ bytes. host.Says c.world.nodes n (λ x. SendsEntry index x bytes)) a in
-    asked_in_vain state M records old old c (event.Send n index) fault h refl tt refl k.0
+    asks_refused h (event.Send n index) fault refl (λ s. tt) refl a
 
 pub sends_applies : {B H D S : Type 0} (state : B → S) (M : Machine S) (records : D → List Record)
     (old : Running B H D) (c : Course S) (n index : ℕ) (bytes : Vec ℕ) (answer : Result Reply Fault)
     (ms : List Message) → Shows state M records old c →
-    AskHost c.world.nodes n (send_refusal index) (Ok bytes) (λ bytes x. SendsEntry index x bytes) →
+    AsksNode c.world n (send_refusal index) Ever (λ bytes x. SendsEntry index x bytes) (Ok bytes) →
     Says old.messages (message.Log bytes) answer ms →
     Applies state M records c (event.Send n index) answer (record old { messages = ms })
 sends_applies state M records old c n index bytes answer ms h a said =
-    let k = asked_ok (at_node (slice_get c.world.nodes n) (send_refusal index)) bytes (Unit {0})
-    (λ bytes. host.Says c.world.nodes n (λ x. SendsEntry index x bytes)) a in
+    let k = node_asked c.world n (send_refusal index) bytes a in
     let x = k.1.x in
     let s = k.1.said in
     says_applies state M records old c (event.Send n index) (message.Log bytes)
     (sent.LogEntry x.generation index s.e) answer ms h
     (is_only bytes.items (packet.Log x.generation index s.e) s.spelled.0 s.spelled.1) k.0 tt
     (record {
-      x = x;
-      there = k.1.there;
       e = s.e;
-      entry = s.entry;
+      node = record { x = x; there = k.1.there; said = s.entry };
       says = record { reply = refl; after = refl };
     })
     said
 
 -- A backup acknowledges all that it holds.
 
+-- the packet spells what it holds
+abbrev pub SpellsHeld : {S : Type 0} → Vec ℕ → Node S → Type 0
+SpellsHeld bytes x = IsSpelled (packet.Ack x.generation (length x.held)) bytes
+
 pub acknowledges_refused : {B H D S : Type 0} (state : B → S) (M : Machine S) (records : D → List Record)
     (old : Running B H D) (c : Course S) (n : ℕ) (fault : Fault) → Shows state M records old c →
-    AskHost {A = Vec ℕ} c.world.nodes n ack_refusal (Err fault) does.Acknowledges →
+    AsksNode c.world n acknowledge_refusal Ever SpellsHeld (Err fault) →
     Applies state M records c (event.Acknowledge n) (Err fault) old
 acknowledges_refused state M records old c n fault h a =
-    let k = asked_err {A = Vec ℕ} (at_node (slice_get c.world.nodes n) ack_refusal) fault (Unit {0})
-    (λ bytes. host.Says c.world.nodes n (does.Acknowledges bytes)) a in
-    asked_in_vain state M records old old c (event.Acknowledge n) fault h refl tt refl k.0
+    asks_refused h (event.Acknowledge n) fault refl (λ s. tt) refl a
 
 pub acknowledges_applies : {B H D S : Type 0} (state : B → S) (M : Machine S) (records : D → List Record)
     (old : Running B H D) (c : Course S) (n : ℕ) (bytes : Vec ℕ) (answer : Result Reply Fault) (ms : List Message) →
-    Shows state M records old c → AskHost c.world.nodes n ack_refusal (Ok bytes) does.Acknowledges →
+    Shows state M records old c → AsksNode c.world n acknowledge_refusal Ever SpellsHeld (Ok bytes) →
     Says old.messages (message.Ack bytes) answer ms →
     Applies state M records c (event.Acknowledge n) answer (record old { messages = ms })
 acknowledges_applies state M records old c n bytes answer ms h a said =
-    let k = asked_ok (at_node (slice_get c.world.nodes n) ack_refusal) bytes (Unit {0})
-    (λ bytes. host.Says c.world.nodes n (does.Acknowledges bytes)) a in
+    let k = node_asked c.world n acknowledge_refusal bytes a in
     let x = k.1.x in
     says_applies state M records old c (event.Acknowledge n) (message.Ack bytes)
     (sent.Acknowledgement x.generation (length x.held) 0) answer ms h
     (is_only bytes.items (packet.Ack x.generation (length x.held)) k.1.said.0 k.1.said.1, refl) k.0 tt
-    (record { x = x; there = k.1.there; says = record { reply = refl; after = refl } }) said
+    (record {
+      held = length x.held;
+      replayed = 0;
+      node = record { x = x; there = k.1.there; said = (refl, refl) };
+      says = record { reply = refl; after = refl };
+    }) said

@@ -2,8 +2,6 @@ pub mod Words
 pub mod Standing
 pub mod Running
 pub mod Shows
-pub mod Does
-pub mod AtStation
 pub mod Messages
 pub mod Devices
 pub mod Pairs

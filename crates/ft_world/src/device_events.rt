@@ -67,7 +67,7 @@ impl<B: Lockstep + Drop, D: SectorStore, H: Drop> Pair<B, D, H> {
     {
         devices::check_accepted(&self.terminals, port, number)?;
         let station = hosts::station_mut(&mut self.hosts, node)?;
-        station.sent(port, number)?;
+        station.tell_sent(port, number)?;
         Ok(Reply::Taken)
     }
 
@@ -117,7 +117,7 @@ impl<B: Lockstep + Drop, D: SectorStore, H: Drop> Pair<B, D, H> {
             return Err(Fault::Unknown);
         };
         let station = hosts::station_mut(&mut self.hosts, node)?;
-        station.done(number)?;
+        station.put_reply(number)?;
         Ok(Reply::Taken)
     }
 
@@ -157,7 +157,7 @@ impl<B: Lockstep + Drop, D: SectorStore, H: Drop> Pair<B, D, H> {
             sector: read.sector,
         };
         let station = hosts::station_mut(&mut self.hosts, node)?;
-        station.under(address, read.number, read.bytes)?;
+        station.get_reply(address, read.number, read.bytes)?;
         Ok(Reply::Taken)
     }
 }

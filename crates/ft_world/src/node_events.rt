@@ -44,7 +44,7 @@ impl<B: Lockstep + Drop, D: SectorStore, H: Drop> Pair<B, D, H> {
     {
         let byte = devices::key_at(&self.terminals, port, index)?;
         let station = hosts::station_mut(&mut self.hosts, node)?;
-        station.key(port, index, byte)?;
+        station.take_key(port, index, byte)?;
         Ok(Reply::Taken)
     }
 
@@ -73,7 +73,7 @@ impl<B: Lockstep + Drop, D: SectorStore, H: Drop> Pair<B, D, H> {
             return Err(Fault::Unknown);
         };
         let station = hosts::station_mut(&mut self.hosts, node)?;
-        if station.on_log(packet)? {
+        if station.deliver_log(packet)? {
             Ok(Reply::New)
         } else {
             Ok(Reply::Old)
@@ -105,7 +105,7 @@ impl<B: Lockstep + Drop, D: SectorStore, H: Drop> Pair<B, D, H> {
             return Err(Fault::Unknown);
         };
         let station = hosts::station_mut(&mut self.hosts, node)?;
-        let held = station.on_ack(packet)?;
+        let held = station.deliver_acknowledgement(packet)?;
         Ok(Reply::Held { held })
     }
 

@@ -6,12 +6,11 @@ ghost use Rattle.event_callbacks.specs.declared.devices.TheConstants.{PORTS};
 ghost use Rattle.guest_board.specs.declared.input.Input.TheVariants as input;
 ghost use Rattle.i8080_words.specs.declared.refusal.Fault.TheVariants.{Lost};
 ghost use Rattle.log_channel.specs.Packet.{packet_at};
+ghost use Rattle.pair_protocol.specs.Effects.{Took, WantsEntry};
 ghost use Rattle.pair_protocol.specs.Node as protocol;
 ghost use Rattle.pair_protocol.specs.Refusals as refusals;
 ghost use Rattle.ft_node.specs.Calls as calls;
 ghost use Rattle.ft_node.specs.Seats.{IsNode, MayRun, MayReplay};
-ghost use Rattle.ft_world.specs.AtStation.{AtStation, DoesAtStation, WantsAtStation};
-ghost use Rattle.ft_world.specs.Does as does;
 ghost use Rattle.ft_world.specs.Shows.{IsStation};
 
 use crate::input_list::Inputs;
@@ -61,8 +60,7 @@ impl<B: Lockstep + Drop> Station<B> {
     pub(crate) fn step(&mut self, turns: u64) -> R<Ran>
         requires few { MayRun B.state B.machine self.old.node }
         ensures answer { (x : protocol.Node B.State) → IsStation B.state B.machine self.old x
-            → WantsAtStation (refusals.step_refusal B.machine turns x) result (does.WantsSteps turns) x
-            (IsStation B.state B.machine self.new) (does.Stepped B.machine turns) }
+            → calls.Steps B.machine turns x result (IsStation B.state B.machine self.new) }
         ensures unchanged { OnErr result (self.new ≡ self.old) }
     {
         let ran = self.node.step(turns)?;
@@ -71,11 +69,11 @@ impl<B: Lockstep + Drop> Station<B> {
     }
 
     /// A node takes the key that was typed at an index, from 0.
-    pub(crate) fn key(&mut self, port: u8, index: u64, byte: u8) -> R<()>
+    pub(crate) fn take_key(&mut self, port: u8, index: u64, byte: u8) -> R<()>
         requires port { port < PORTS }
         ensures answer { (x : protocol.Node B.State) → IsStation B.state B.machine self.old x
-            → AtStation (refusals.key_refusal B.machine port index x) result x
-            (IsStation B.state B.machine self.new) (does.Took B.machine (input.Rx port byte)) }
+            → calls.Call (refusals.take_key_refusal B.machine port index x) calls.Ever
+            (λ done. Took B.machine (input.Rx port byte)) x result (IsStation B.state B.machine self.new) }
         ensures unchanged { OnErr result (self.new ≡ self.old) }
     {
         self.node.check_key(port, index)?;
@@ -94,11 +92,11 @@ impl<B: Lockstep + Drop> Station<B> {
     }
 
     /// A node takes the acceptance of the byte with a number, from 1.
-    pub(crate) fn sent(&mut self, port: u8, number: u64) -> R<()>
+    pub(crate) fn tell_sent(&mut self, port: u8, number: u64) -> R<()>
         requires port { port < PORTS }
         ensures answer { (x : protocol.Node B.State) → IsStation B.state B.machine self.old x
-            → AtStation (refusals.sent_refusal B.machine port number x) result x
-            (IsStation B.state B.machine self.new) (does.Took B.machine (input.Sent port)) }
+            → calls.Call (refusals.tell_sent_refusal B.machine port number x) calls.Ever
+            (λ done. Took B.machine (input.Sent port)) x result (IsStation B.state B.machine self.new) }
         ensures unchanged { OnErr result (self.new ≡ self.old) }
     {
         self.node.check_sent(port, number)?;
@@ -117,10 +115,10 @@ impl<B: Lockstep + Drop> Station<B> {
     }
 
     /// A node takes the completion of the write with a number.
-    pub(crate) fn done(&mut self, number: u64) -> R<()>
+    pub(crate) fn put_reply(&mut self, number: u64) -> R<()>
         ensures answer { (x : protocol.Node B.State) → IsStation B.state B.machine self.old x
-            → AtStation (refusals.done_refusal B.machine number x) result x
-            (IsStation B.state B.machine self.new) (does.Took B.machine (input.Written number)) }
+            → calls.Call (refusals.put_reply_refusal B.machine number x) calls.Ever
+            (λ done. Took B.machine (input.Written number)) x result (IsStation B.state B.machine self.new) }
         ensures unchanged { OnErr result (self.new ≡ self.old) }
     {
         self.node.check_done(number)?;
@@ -139,7 +137,7 @@ impl<B: Lockstep + Drop> Station<B> {
     }
 
     /// A node takes a sector that was read, with the number of the write that brought its bytes.
-    pub(crate) fn under(
+    pub(crate) fn get_reply(
         &mut self,
         address: SectorAddress,
         number: u64,
@@ -148,9 +146,9 @@ impl<B: Lockstep + Drop> Station<B> {
         requires drive { address.drive < DRIVES }
         requires sector { address.sector < SECTORS }
         ensures answer { (x : protocol.Node B.State) → IsStation B.state B.machine self.old x
-            → AtStation (refusals.under_refusal B.machine address number bytes x) result x
-            (IsStation B.state B.machine self.new)
-            (does.Took B.machine (input.Sector address.drive address.sector number bytes)) }
+            → calls.Call (refusals.get_reply_refusal B.machine address number bytes x) calls.Ever
+            (λ done. Took B.machine (input.Sector address.drive address.sector number bytes)) x result
+            (IsStation B.state B.machine self.new) }
         ensures unchanged { OnErr result (self.new ≡ self.old) }
     {
         self.node.check_under(address, number, bytes)?;
@@ -170,11 +168,9 @@ impl<B: Lockstep + Drop> Station<B> {
 
     /// A node takes a packet of the log: true if its entry is the next one, and is now held; a repeat, or one past a
     /// gap, is false.
-    pub(crate) fn on_log(&mut self, bytes: &[u8]) -> R<bool>
+    pub(crate) fn deliver_log(&mut self, bytes: &[u8]) -> R<bool>
         ensures answer { (x : protocol.Node B.State) → IsStation B.state B.machine self.old x
-            → WantsAtStation (does.log_packet_refusal (packet_at bytes.now) x) result
-            (does.WantsNext (packet_at bytes.now)) x (IsStation B.state B.machine self.new)
-            (does.Held (packet_at bytes.now)) }
+            → calls.DeliversLog WantsEntry (packet_at bytes.now) x result (IsStation B.state B.machine self.new) }
         ensures unchanged { OnErr result (self.new ≡ self.old) }
     {
         let next = self.node.next_entry(bytes)?;
@@ -198,10 +194,9 @@ impl<B: Lockstep + Drop> Station<B> {
     }
 
     /// A node takes an acknowledgement, and returns how many entries are acknowledged then.
-    pub(crate) fn on_ack(&mut self, bytes: &[u8]) -> R<u64>
+    pub(crate) fn deliver_acknowledgement(&mut self, bytes: &[u8]) -> R<u64>
         ensures answer { (x : protocol.Node B.State) → IsStation B.state B.machine self.old x
-            → DoesAtStation (does.ack_packet_refusal (packet_at bytes.now) x) result x
-            (IsStation B.state B.machine self.new) (does.Heard (packet_at bytes.now)) }
+            → calls.DeliversAcknowledgement (packet_at bytes.now) x result (IsStation B.state B.machine self.new) }
         ensures unchanged { OnErr result (self.new ≡ self.old) }
     {
         self.node.on_ack(bytes)
@@ -211,8 +206,7 @@ impl<B: Lockstep + Drop> Station<B> {
     pub(crate) fn replay(&mut self, turns: u64) -> R<Replayed>
         requires on_trace { MayReplay B.state B.machine self.old.node }
         ensures answer { (x : protocol.Node B.State) → IsStation B.state B.machine self.old x
-            → WantsAtStation (refusals.replay_refusal x) result (does.WantsMoves B.machine turns) x
-            (IsStation B.state B.machine self.new) (does.Repeated B.machine turns) }
+            → calls.Replays B.machine turns x result (IsStation B.state B.machine self.new) }
         ensures unchanged { OnErr result (self.new ≡ self.old) }
     {
         self.node.replay(turns)
@@ -222,8 +216,7 @@ impl<B: Lockstep + Drop> Station<B> {
     pub(crate) fn drain(&mut self, turns: u64) -> R<Drained>
         requires on_trace { MayReplay B.state B.machine self.old.node }
         ensures answer { (x : protocol.Node B.State) → IsStation B.state B.machine self.old x
-            → WantsAtStation (refusals.drain_refusal x) result (does.WantsMoves B.machine turns) x
-            (IsStation B.state B.machine self.new) (does.Emptied B.machine turns) }
+            → calls.Drains B.machine turns x result (IsStation B.state B.machine self.new) }
         ensures unchanged { OnErr result (self.new ≡ self.old) }
     {
         let drained = self.node.drain(turns)?;
@@ -234,8 +227,7 @@ impl<B: Lockstep + Drop> Station<B> {
     /// A node halts.
     pub(crate) fn stop(&mut self) -> R<()>
         ensures answer { (x : protocol.Node B.State) → IsStation B.state B.machine self.old x
-            → DoesAtStation (refusals.stop_refusal x) result x
-            (IsStation B.state B.machine self.new) does.Halted }
+            → calls.Stops x result (IsStation B.state B.machine self.new) }
         ensures unchanged { OnErr result (self.new ≡ self.old) }
     {
         self.node.stop()
@@ -244,7 +236,7 @@ impl<B: Lockstep + Drop> Station<B> {
     /// Asks the arbiter for the generation: the first node to ask goes on alone, a backup once it is drained.
     pub(crate) fn suspect(&mut self, id: u64, arbiter: &mut Arbiter) -> R<Won>
         ensures answer { (x : protocol.Node B.State) → IsStation B.state B.machine self.old x
-            → calls.Asks arbiter.old id x result arbiter.new (IsStation B.state B.machine self.new) }
+            → calls.Suspects arbiter.old id x result arbiter.new (IsStation B.state B.machine self.new) }
         ensures beside { self.new ≡ record self.old { node = self.new.node } }
         ensures unchanged { IfErr result (λ fault. fault ≢ Lost → self.new ≡ self.old) }
         ensures arbiter { OnErr result (arbiter.new ≡ arbiter.old) }

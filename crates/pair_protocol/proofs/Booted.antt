@@ -5,12 +5,13 @@ use Rattle.disk_dcdd.specs.declared.address.SectorAddress.{SectorAddress}
 use Rattle.event_callbacks.specs.declared.operations.OpId.{OpId}
 use Rattle.guest_board.proofs.Booted.{Recorded-booted}
 use Rattle.guest_board.specs.Machine.{Machine, Move, booted_from}
+use Rattle.guest_board.specs.declared.input.Input.{Input}
 use Rattle.log_entry.specs.Standing.{Stands, IsOnTrace}
 use Rattle.log_entry.specs.declared.entry.Entry.{Entry}
 use Rattle.pair_protocol.specs.Event.{Why}
 use Rattle.pair_protocol.specs.Node.{Node, Role, keys_covered}
-use Rattle.pair_protocol.specs.Refusals.{step_refusal, key_refusal, sent_refusal, done_refusal, under_refusal, release_refusal, place_refusal}
-use Rattle.pair_protocol.specs.Rows.{Advances, NoneLeft, Ends, Waits, Short, Gives, Goes, IsBehind, Replays, NoTurns, AtEnd, NoMemory, OneStep, OneMark, OneInput}
+use Rattle.pair_protocol.specs.Refusals.{step_refusal, take_key_refusal, tell_sent_refusal, put_reply_refusal, get_reply_refusal, release_refusal, get_refusal}
+use Rattle.pair_protocol.specs.Effects.{Advances, Drained, Replayed, Stepped, Took, NoneLeft, Ends, Waits, Short, Gives, Goes, IsBehind, Replays, NoTurns, AtEnd, NoMemory, OneStep, OneMark, OneInput}
 
 -- ---- to the machine that boots elsewhere
 
@@ -50,34 +51,49 @@ module _ {S : Type 0} (M : Machine S) (start : S) (sectors : SectorAddress → L
   Replays-booted (OneMark e next at mark rest) = OneMark e next at mark (Replays-booted rest)
   Replays-booted (OneInput e i s next at input taken rest) = OneInput e i s next at input taken (Replays-booted rest)
 
+  pub Stepped-booted : {turns made count : ℕ} {why : Why} {x y : Node S} → Stepped M turns made count why x y
+      → Stepped (booted_from M start sectors) turns made count why x y
+  Stepped-booted h = record { advances = Advances-booted h.advances; some = h.some; counted = h.counted }
+
+  pub Took-booted : {i : Input} {x y : Node S} → Took M i x y → Took (booted_from M start sectors) i x y
+  Took-booted h = record { s = h.s; takes = h.takes; after = h.after }
+
+  pub Replayed-booted : {turns made : ℕ} {end : Bool} {x y : Node S} → Replayed M turns made end x y
+      → Replayed (booted_from M start sectors) turns made end x y
+  Replayed-booted h = record { moves = Replays-booted h.moves; some = h.some; ends = h.ends }
+
+  pub Drained-booted : {turns made : ℕ} {alone : Bool} {x y : Node S} → Drained M turns made alone x y
+      → Drained (booted_from M start sectors) turns made alone x y
+  Drained-booted h = record { z = h.z; replayed = Replayed-booted h.replayed; after = h.after }
+
   -- ---- refusals, which are the same
 
   pub step_refusal-booted : (turns : ℕ) (x : Node S)
       → step_refusal (booted_from M start sectors) turns x ≡ step_refusal M turns x
   step_refusal-booted turns x = refl
 
-  pub key_refusal-booted : (port index : ℕ) (x : Node S)
-      → key_refusal (booted_from M start sectors) port index x ≡ key_refusal M port index x
-  key_refusal-booted port index x = refl
+  pub take_key_refusal-booted : (port index : ℕ) (x : Node S)
+      → take_key_refusal (booted_from M start sectors) port index x ≡ take_key_refusal M port index x
+  take_key_refusal-booted port index x = refl
 
-  pub sent_refusal-booted : (port number : ℕ) (x : Node S)
-      → sent_refusal (booted_from M start sectors) port number x ≡ sent_refusal M port number x
-  sent_refusal-booted port number x = refl
+  pub tell_sent_refusal-booted : (port number : ℕ) (x : Node S)
+      → tell_sent_refusal (booted_from M start sectors) port number x ≡ tell_sent_refusal M port number x
+  tell_sent_refusal-booted port number x = refl
 
-  pub done_refusal-booted : (number : ℕ) (x : Node S)
-      → done_refusal (booted_from M start sectors) number x ≡ done_refusal M number x
-  done_refusal-booted number x = refl
+  pub put_reply_refusal-booted : (number : ℕ) (x : Node S)
+      → put_reply_refusal (booted_from M start sectors) number x ≡ put_reply_refusal M number x
+  put_reply_refusal-booted number x = refl
 
-  pub under_refusal-booted : (address : SectorAddress) (number : ℕ) (bytes : List ℕ) (x : Node S)
-      → under_refusal (booted_from M start sectors) address number bytes x ≡ under_refusal M address number bytes x
-  under_refusal-booted address number bytes x = refl
+  pub get_reply_refusal-booted : (address : SectorAddress) (number : ℕ) (bytes : List ℕ) (x : Node S)
+      → get_reply_refusal (booted_from M start sectors) address number bytes x ≡ get_reply_refusal M address number bytes x
+  get_reply_refusal-booted address number bytes x = refl
 
   pub release_refusal-booted : (name : OpId) (x : Node S)
       → release_refusal (booted_from M start sectors) name x ≡ release_refusal M name x
   release_refusal-booted name x = refl
 
-  pub place_refusal-booted : (x : Node S) → place_refusal (booted_from M start sectors) x ≡ place_refusal M x
-  place_refusal-booted x = refl
+  pub get_refusal-booted : (x : Node S) → get_refusal (booted_from M start sectors) x ≡ get_refusal M x
+  get_refusal-booted x = refl
 
   pub keys_covered-booted : (x : Node S) (port : ℕ) (role : Role)
       → keys_covered (booted_from M start sectors) x port role ≡ keys_covered M x port role

@@ -10,8 +10,9 @@ use Rattle.pair_protocol.specs.Copying.{Copying}
 use Rattle.pair_protocol.specs.Event.{GetReply, PutReply, Reply, TakeKey, TellSent}
 use Rattle.pair_protocol.specs.Lawful.{Among}
 use Rattle.pair_protocol.specs.Node.{Node, Role}
-use Rattle.pair_protocol.specs.Refusals.{at_done, at_under, done_refusal, fault_if, is_number, key_refusal, not_accepted, not_typed, refusal, sent_refusal, serves, under_refusal}
-use Rattle.pair_protocol.specs.Rows.{Takes, TakesDone, TakesKey, TakesSector, took}
+use Rattle.pair_protocol.specs.Refusals.{at_write_done, at_sector_read, put_reply_refusal, fault_if, is_number, take_key_refusal, not_accepted, not_typed, refusal, tell_sent_refusal, serves, get_reply_refusal}
+use Rattle.pair_protocol.specs.Effects.{took}
+use Rattle.pair_protocol.specs.Rows.{Takes, TakesPutReply, TakesKey, TakesGetReply}
 use Rattle.pair_protocol.specs.World.{SectorRead, World, WriteDone, accepted, terminal, with_node}
 use Rattle.guest_board.specs.declared.input.Input.TheVariants as input
 use Rattle.pair_protocol.proofs.Keeps.Disk.{same_address-is}
@@ -34,18 +35,21 @@ takes_once M C w n x r s i (inr e) a m ok h =
     (AloneTakes n x s i (record { there = a.there; up = a.up; role_is = a.role_is ∙ e }) m ok h)
 
 pub takes : {S : Type 0} (M : Machine S) (C : Copying S) (w : World S) (n : ℕ) (i : Input) (r : Reply) (new : World S)
-    (d : Takes M w n i r new) → serves d.x ≡ None → MayTake M w d.x i → refusal_of M d.x.machine i ≡ None →
+    (d : Takes M w n i r new) → serves d.at.x ≡ None → MayTake M w d.at.x i → refusal_of M d.at.x.machine i ≡ None →
     Changes M C w new
 takes M C w n i r new d p may ok =
-    let a = serving w n d.x d.there p in
-    changed M C w new _ d.after (takes_once M C w n d.x a.0 d.s i a.2 a.1 may ok d.takes)
+    let x = d.at.x in
+    let t = d.at.done in
+    let a = serving w n x d.at.there p in
+    changed M C w new (with_node w n (took M x x.role t.s i)) (d.at.after ∙ ap (with_node w n) t.after)
+    (takes_once M C w n x a.0 t.s i a.2 a.1 may ok t.takes)
 
-pub does_key : {S : Type 0} (M : Machine S) (C : Copying S) (w : World S) (n port index : ℕ) (r : Reply) (new : World S) →
+pub does_take_key : {S : Type 0} (M : Machine S) (C : Copying S) (w : World S) (n port index : ℕ) (r : Reply) (new : World S) →
     refusal M C w (TakeKey n port index) ≡ None → TakesKey M w n port index r new → Changes M C w new
-does_key M C w n port index r new p d =
-    let x = d.input.x in
+does_take_key M C w n port index r new p d =
+    let x = d.input.at.x in
     let k = only-passed _ (first-passed (not_typed w port index) _ p).1 in
-    let q = (node-passed (slice_get w.nodes n) x (key_refusal M port index) d.input.there k).1 in
+    let q = (node-passed (slice_get w.nodes n) x (take_key_refusal M port index) d.input.at.there k).1 in
     let f = first-passed (serves x) _ q in
     let g = first-passed (fault_if (not (index == M.keys x.machine port)) WrongNumber) _ f.1 in
     let e : index ≡ M.keys x.machine port = eqb-true index (M.keys x.machine port) (passes-if _ WrongNumber g.0) in
@@ -56,36 +60,37 @@ pub number-is : (o : Option ℕ) (k : ℕ) → is_number o k ≡ true → o ≡ 
 number-is None k h = (cc)
 number-is (Some j) k h = ap Some (eqb-true j k h)
 
-pub does_sent : {S : Type 0} (M : Machine S) (C : Copying S) (w : World S) (n port k : ℕ) (r : Reply) (new : World S) →
+pub does_tell_sent : {S : Type 0} (M : Machine S) (C : Copying S) (w : World S) (n port k : ℕ) (r : Reply) (new : World S) →
     refusal M C w (TellSent n port k) ≡ None → Takes M w n (input.Sent port) r new → Changes M C w new
-does_sent M C w n port k r new p d =
+does_tell_sent M C w n port k r new p d =
     let f = first-passed (not_accepted w port k) _ p in
-    let q = (node-passed (slice_get w.nodes n) d.x (sent_refusal M port k) d.there (only-passed _ f.1)).1 in
-    let g = first-passed (serves d.x) _ q in
-    let h = first-passed (refusal_of M d.x.machine (input.Sent port)) _ g.1 in
-    let j = first-passed (fault_if (not (is_number (M.due_byte d.x.machine port) k)) WrongNumber) _ h.1 in
+    let x = d.at.x in
+    let q = (node-passed (slice_get w.nodes n) x (tell_sent_refusal M port k) d.at.there (only-passed _ f.1)).1 in
+    let g = first-passed (serves x) _ q in
+    let h = first-passed (refusal_of M x.machine (input.Sent port)) _ g.1 in
+    let j = first-passed (fault_if (not (is_number (M.due_byte x.machine port) k)) WrongNumber) _ h.1 in
     let l : k ≤ length (accepted w port) =
     ltb-false (length (accepted w port)) k (or-false (k == 0) _ (not-stands _ Unknown f.0)).1 in
     takes M C w n (input.Sent port) r new d g.0
-    (k, number-is (M.due_byte d.x.machine port) k (passes-if _ WrongNumber j.0), l) h.0
+    (k, number-is (M.due_byte x.machine port) k (passes-if _ WrongNumber j.0), l) h.0
 
-pub does_done : {S : Type 0} (M : Machine S) (C : Copying S) (w : World S) (m n : ℕ) (r : Reply) (new : World S) →
-    refusal M C w (PutReply m n) ≡ None → TakesDone M w m n r new → Changes M C w new
-does_done M C w m n r new p d =
-    let k = subst (λ z. at_done M (slice_get w.nodes n) z ≡ None) d.message p in
-    let q = (node-passed (slice_get w.nodes n) d.input.x (done_refusal M d.number) d.input.there k).1 in
-    let f = first-passed (serves d.input.x) _ q in
+pub does_put_reply : {S : Type 0} (M : Machine S) (C : Copying S) (w : World S) (m n : ℕ) (r : Reply) (new : World S) →
+    refusal M C w (PutReply m n) ≡ None → TakesPutReply M w m n r new → Changes M C w new
+does_put_reply M C w m n r new p d =
+    let k = subst (λ z. at_write_done M (slice_get w.nodes n) z ≡ None) d.message p in
+    let q = (node-passed (slice_get w.nodes n) d.input.at.x (put_reply_refusal M d.number) d.input.at.there k).1 in
+    let f = first-passed (serves d.input.at.x) _ q in
     takes M C w n (input.Written d.number) r new d.input f.0
     (same_get w.messages m (WriteDone d.number) d.message)
-    (first-passed (refusal_of M d.input.x.machine (input.Written d.number)) _ f.1).0
+    (first-passed (refusal_of M d.input.at.x.machine (input.Written d.number)) _ f.1).0
 
-pub does_under : {S : Type 0} (M : Machine S) (C : Copying S) (w : World S) (m n : ℕ) (r : Reply) (new : World S) →
-    refusal M C w (GetReply m n) ≡ None → TakesSector M w m n r new → Changes M C w new
-does_under M C w m n r new p d =
-    let x = d.input.x in
+pub does_get_reply : {S : Type 0} (M : Machine S) (C : Copying S) (w : World S) (m n : ℕ) (r : Reply) (new : World S) →
+    refusal M C w (GetReply m n) ≡ None → TakesGetReply M w m n r new → Changes M C w new
+does_get_reply M C w m n r new p d =
+    let x = d.input.at.x in
     let a = d.address in
-    let k = subst (λ z. at_under M (slice_get w.nodes n) z ≡ None) d.message p in
-    let q = (node-passed (slice_get w.nodes n) x (under_refusal M a d.number d.bytes) d.input.there k).1 in
+    let k = subst (λ z. at_sector_read M (slice_get w.nodes n) z ≡ None) d.message p in
+    let q = (node-passed (slice_get w.nodes n) x (get_reply_refusal M a d.number d.bytes) d.input.at.there k).1 in
     let f = first-passed (serves x) _ q in
     let g = first-passed (fault_if (not (same_address (M.address x.machine a.drive a.sector) a)) NotDue) _ f.1 in
     let e : M.address x.machine a.drive a.sector ≡ a =

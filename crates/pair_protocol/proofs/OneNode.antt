@@ -7,7 +7,7 @@ use Rattle.pair_protocol.specs.Change.{Acts, AloneSteps, Change, Changes, Primar
 use Rattle.pair_protocol.specs.Copying.{Copying}
 use Rattle.pair_protocol.specs.Event.{Why}
 use Rattle.pair_protocol.specs.Node.{Alone, Backup, Draining, Joining, Node, Primary, Role, Spare, passes_input, passes_mark, plainly_steps}
-use Rattle.pair_protocol.specs.Rows.{Advances, AtEnd, Ends, Gives, Goes, NoMemory, NoTurns, NoneLeft, OneInput, OneMark, OneStep, Replays, Short, Waits, stepped}
+use Rattle.pair_protocol.specs.Effects.{Advances, AtEnd, Ends, Gives, Goes, NoMemory, NoTurns, NoneLeft, OneInput, OneMark, OneStep, Replays, Short, Waits, stepped}
 use Rattle.pair_protocol.specs.World.{World, with_node}
 use Rattle.pair_protocol.proofs.Traces.Lists.{get_set}
 

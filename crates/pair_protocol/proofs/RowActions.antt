@@ -1,23 +1,25 @@
 -- A row is a sequence of actions: what passes the refusals meets what the actions ask for.
-use Rattle.std.proofs.Common.{◌≡◌, [], ◌∷◌, ◌∙◌, Bool, None, Some, ap, arith, eqb-true, false, inl, inr, length, not, refl, subst, suc, true, zero, ℕ}
+use Rattle.std.proofs.Common.{◌≡◌, [], ◌∷◌, ◌∙◌, Bool, None, Some, ap, arith, eqb-true, false, inl, inr, length, not, refl, subst, suc, sym, true, zero, ℕ}
 use Rattle.std.specs.Prelude.{is_none, slice_get, ◌&&◌}
 use Rattle.event_callbacks.specs.declared.operations.OpId.{OpId}
 use Rattle.event_callbacks.specs.declared.operations.Operation.{Operation}
 use Rattle.guest_board.specs.Machine.{Machine}
 use Rattle.i8080_words.specs.declared.refusal.Fault.{Fault}
 use Rattle.i8080_words.specs.declared.refusal.Fault.TheVariants.{Lost, NotCovered, NotDue, NotWhole, Unknown, WrongGeneration, WrongRole}
+use Rattle.log_entry.specs.declared.entry.Entry.{Entry}
 use Rattle.pair_protocol.specs.Change.{Acts, AloneReleases, Begins, Change, Changes, GoesLive, Joins, PrimaryReleases, Reads, Serving, Stays, Then, Wins}
 use Rattle.pair_protocol.specs.Copying.{Copying}
-use Rattle.pair_protocol.specs.Event.{Ack, Arrive, BeginPair, DeliverAck, DeliverLog, Drain, Event, Get, GetReply, PartComes, Put, PutReply, Release, Replay, Reply, Send, SendPart, Step, Stop, Suspect, TakeKey, TellSent, Told, TypeByte}
-use Rattle.pair_protocol.specs.Node.{Alone, Backup, Draining, Joining, Node, Primary, Role, Spare, acts_as, covers, gets_part, is_role, joins, note_of, replay_told}
-use Rattle.pair_protocol.specs.Refusals.{ack_refusal, acked_refusal, ask_refusal, at_acked, at_host, at_log, at_part, drain_refusal, fault_if, first_of, generation_refusal, log_refusal, no_port, no_such, pair_refusal, part_refusal, refusal, release_refusal, replay_refusal, role_refusal, send_part_refusal, send_refusal, serves, step_refusal, stop_refusal, suspect_refusal, told_refusal}
+use Rattle.pair_protocol.specs.Event.{Acknowledge, Arrive, BeginPair, DeliverAcknowledgement, DeliverLog, Drain, Event, Get, GetReply, PartComes, Put, PutReply, Release, Replay, Reply, Send, SendPart, Step, Stop, Suspect, TakeKey, TellSent, Told, TypeByte}
+use Rattle.pair_protocol.specs.Node.{Alone, Backup, Draining, Joining, Node, Primary, Role, Spare, acts_as, covers, gets_part, halts, hears, holds, is_role, joins, keys_covered, note_of, replay_told}
+use Rattle.pair_protocol.specs.Refusals.{acknowledge_refusal, deliver_acknowledgement_refusal, ask_refusal, at_acknowledgement, at_host, at_log_entry, at_part, drain_refusal, fault_if, first_of, generation_refusal, deliver_log_refusal, no_port, no_such, pair_refusal, part_comes_refusal, refusal, release_refusal, replay_refusal, role_refusal, send_part_refusal, send_refusal, serves, step_refusal, stop_refusal, suspect_refusal, told_refusal}
 use Rattle.pair_protocol.specs.Row.{Accepts, DeviceFails, Leaves, Refuses, Row, WantsMemory}
-use Rattle.pair_protocol.specs.Rows.{Again, Asks, BeginsPair, Comes, Completes, Delivers, Does, Drains, PartDoes, Steps, after_drain, at_end}
-use Rattle.pair_protocol.specs.World.{Acknowledgement, ImagePart, LogEntry, Released, World, winner_in, with_message, with_node, with_winner}
+use Rattle.pair_protocol.specs.Effects.{Again, Comes, Completes, GotPart, Halted, Held, after_drain, at_end}
+use Rattle.pair_protocol.specs.Rows.{Suspects, AtNode, BeginsPair, DeliversLog, Does, Drains, Steps}
+use Rattle.pair_protocol.specs.World.{Acknowledgement, ImagePart, LogEntry, Released, World, winner_in, with_message, with_node, with_told, with_winner}
 use Rattle.pair_protocol.specs.Rows as row
-use Rattle.pair_protocol.proofs.Passed.{acts-in, and-false, changed, changes-append, first-passed, lost-no_spare, node-passed, not-false, not-stands, one, only-passed, or-false, passes-if, role_of, serving, unchanged}
-use Rattle.pair_protocol.proofs.OneNode.{advance_changes, from_here, moving, on, replay_changes}
-use Rattle.pair_protocol.proofs.InputRows.{does_done, does_key, does_sent, does_under}
+use Rattle.pair_protocol.proofs.Passed.{acts-in, and-false, changed, changes-append, first-passed, lost-no_spare, node-passed, not-false, not-stands, only-passed, or-false, passes-if, role_of, serving, unchanged}
+use Rattle.pair_protocol.proofs.OneNode.{advance_changes, from_here, moving, on, replay_changes, with_same}
+use Rattle.pair_protocol.proofs.InputRows.{does_put_reply, does_take_key, does_tell_sent, does_get_reply}
 
 -- ---- each event
 
@@ -28,61 +30,75 @@ step-serves M (suc turns) x h = (first-passed (serves x) _ h).0
 pub does_step : {S : Type 0} (M : Machine S) (C : Copying S) (w : World S) (n turns : ℕ) (r : Reply) (new : World S) →
     refusal M C w (Step n turns) ≡ None → Steps M w n turns r new → Changes M C w new
 does_step M C w n turns r new p d =
-    let q = node-passed (slice_get w.nodes n) d.x (step_refusal M turns) d.there p in
-    let a = serving w n d.x d.there (step-serves M turns d.x q.1) in
-    from_here M C w new n d.x d.y d.there d.after
-    (advance_changes M C w n d.x a.0 d.there a.2 d.steps a.1.up a.1.role_is)
+    let x = d.at.x in
+    let q = node-passed (slice_get w.nodes n) x (step_refusal M turns) d.at.there p in
+    let a = serving w n x d.at.there (step-serves M turns x q.1) in
+    from_here M C w new n x d.at.y d.at.there d.at.after
+    (advance_changes M C w n x a.0 d.at.there a.2 d.at.done.advances a.1.up a.1.role_is)
 
 pub does_send : {S : Type 0} (M : Machine S) (C : Copying S) (w : World S) (n index : ℕ) (r : Reply) (new : World S) →
     refusal M C w (Send n index) ≡ None → row.Sends w n index r new → Changes M C w new
 does_send M C w n index r new p d =
-    let q = (node-passed (slice_get w.nodes n) d.x (send_refusal index) d.there p).1 in
-    let o = or-false (not (acts_as d.x (Primary ∷ []))) _ (not-stands _ Unknown q) in
-    let a = acts-in w n d.x Primary d.there (ap (λ b. fault_if b WrongRole) o.0) in
-    changed M C w new _ d.says.after (Change.Sends n d.x index d.e a d.entry)
+    let x = d.node.x in
+    let q = (node-passed (slice_get w.nodes n) x (send_refusal index) d.node.there p).1 in
+    let o = or-false (not (acts_as x (Primary ∷ []))) _ (not-stands _ Unknown q) in
+    let a = acts-in w n x Primary d.node.there (ap (λ b. fault_if b WrongRole) o.0) in
+    changed M C w new _ d.says.after (Change.Sends n x index d.e a d.node.said)
 
-pub does_log : {S : Type 0} (M : Machine S) (C : Copying S) (w : World S) (m n : ℕ) (r : Reply) (new : World S) →
-    refusal M C w (DeliverLog m n) ≡ None → Delivers w m n r new → Changes M C w new
-does_log M C w m n r new p d =
-    let k = subst (λ z. at_log (slice_get w.nodes n) z ≡ None) d.message p in
-    let q = (node-passed (slice_get w.nodes n) d.x (log_refusal d.generation) d.there k).1 in
-    let f = first-passed (role_refusal (Backup ∷ []) d.x) _ q in
-    let a = acts-in w n d.x Backup d.there f.0 in
-    let g : d.generation ≡ d.x.generation =
-    eqb-true d.generation d.x.generation (passes-if _ WrongGeneration (only-passed _ f.1)) in
-    elim d.holds [
-      | inl h ↦ changed M C w new _ h.2
-          (Change.Holds n d.x m d.e a (d.message ∙ ap (λ z. Some (LogEntry z d.index d.e)) g
-          ∙ ap (λ z. Some (LogEntry d.x.generation z d.e)) h.0))
-      | inr h ↦ unchanged M C w new h.2
-    ]
+held_changes : {S : Type 0} (M : Machine S) (C : Copying S) (w : World S) (m n : ℕ) (x y : Node S) (index : ℕ)
+    (e : Entry) (next : Bool) (new : World S) → Acts w n x Backup →
+    slice_get w.messages m ≡ Some (LogEntry x.generation index e) → Held index e next x y → new ≡ with_node w n y →
+    Changes M C w new
+held_changes M C w m n x y index e true new a message h after =
+    changed M C w new (with_node w n (holds x e)) (after ∙ ap (with_node w n) h.1)
+    (Change.Holds n x m e a (message ∙ ap (λ z. Some (LogEntry x.generation z e)) h.0))
+held_changes M C w m n x y index e false new a message h after =
+    unchanged M C w new (after ∙ ap (with_node w n) h.1 ∙ with_same w n x a.there)
 
-pub does_ack : {S : Type 0} (M : Machine S) (C : Copying S) (w : World S) (n : ℕ) (r : Reply) (new : World S) →
-    refusal M C w (Ack n) ≡ None → row.Acknowledges w n r new → Changes M C w new
-does_ack M C w n r new p d =
-    let q = (node-passed (slice_get w.nodes n) d.x ack_refusal d.there p).1 in
-    changed M C w new _ d.says.after
-    (Change.Acknowledges n d.x (replay_told d.x) (acts-in w n d.x Backup d.there q) (omega arith))
+pub does_deliver_log : {S : Type 0} (M : Machine S) (C : Copying S) (w : World S) (m n : ℕ) (r : Reply) (new : World S) →
+    refusal M C w (DeliverLog m n) ≡ None → DeliversLog w m n r new → Changes M C w new
+does_deliver_log M C w m n r new p d =
+    let x = d.at.x in
+    let k = subst (λ z. at_log_entry (slice_get w.nodes n) z ≡ None) d.message p in
+    let q = (node-passed (slice_get w.nodes n) x (deliver_log_refusal d.generation) d.at.there k).1 in
+    let f = first-passed (role_refusal (Backup ∷ []) x) _ q in
+    let g : d.generation ≡ x.generation =
+    eqb-true d.generation x.generation (passes-if _ WrongGeneration (only-passed _ f.1)) in
+    held_changes M C w m n x d.at.y d.index d.e d.next new (acts-in w n x Backup d.at.there f.0)
+    (d.message ∙ ap (λ z. Some (LogEntry z d.index d.e)) g) d.at.done d.at.after
 
-pub does_acked : {S : Type 0} (M : Machine S) (C : Copying S) (w : World S) (m n : ℕ) (r : Reply) (new : World S) →
-    refusal M C w (DeliverAck m n) ≡ None → row.Hears w m n r new → Changes M C w new
-does_acked M C w m n r new p d =
-    let k = subst (λ z. at_acked (slice_get w.nodes n) z ≡ None) d.message p in
-    let q = (node-passed (slice_get w.nodes n) d.x (acked_refusal d.generation d.held) d.there k).1 in
-    let f = first-passed (role_refusal (Primary ∷ []) d.x) _ q in
-    let g : d.generation ≡ d.x.generation =
-    eqb-true d.generation d.x.generation
-    (passes-if _ WrongGeneration (first-passed (generation_refusal d.generation d.x) _ f.1).0) in
-    changed M C w new _ d.after (Change.Hears n d.x m d.held d.replayed (acts-in w n d.x Primary d.there f.0) (d.message
-    ∙ ap (λ z. Some (Acknowledgement z d.held d.replayed)) g))
+pub does_acknowledge : {S : Type 0} (M : Machine S) (C : Copying S) (w : World S) (n : ℕ) (r : Reply) (new : World S) →
+    refusal M C w (Acknowledge n) ≡ None → row.Acknowledges w n r new → Changes M C w new
+does_acknowledge M C w n r new p d =
+    let x = d.node.x in
+    let q = (node-passed (slice_get w.nodes n) x acknowledge_refusal d.node.there p).1 in
+    changed M C w new (with_message w (Acknowledgement x.generation (length x.held) (replay_told x)))
+    (d.says.after ∙ ap (λ k. with_message w (Acknowledgement x.generation k d.replayed)) d.node.said.0
+    ∙ ap (λ k. with_message w (Acknowledgement x.generation (length x.held) k)) d.node.said.1)
+    (Change.Acknowledges n x (replay_told x) (acts-in w n x Backup d.node.there q) (omega arith))
+
+pub does_deliver_acknowledgement : {S : Type 0} (M : Machine S) (C : Copying S) (w : World S) (m n : ℕ) (r : Reply) (new : World S) →
+    refusal M C w (DeliverAcknowledgement m n) ≡ None → row.DeliversAcknowledgement w m n r new → Changes M C w new
+does_deliver_acknowledgement M C w m n r new p d =
+    let k = subst (λ z. at_acknowledgement (slice_get w.nodes n) z ≡ None) d.message p in
+    let x = d.at.x in
+    let q = (node-passed (slice_get w.nodes n) x (deliver_acknowledgement_refusal d.generation d.held) d.at.there k).1 in
+    let f = first-passed (role_refusal (Primary ∷ []) x) _ q in
+    let g : d.generation ≡ x.generation =
+    eqb-true d.generation x.generation
+    (passes-if _ WrongGeneration (first-passed (generation_refusal d.generation x) _ f.1).0) in
+    changed M C w new (with_node w n (hears x d.held d.replayed)) (d.at.after ∙ ap (with_node w n) d.at.done.1)
+    (Change.Hears n x m d.held d.replayed (acts-in w n x Primary d.at.there f.0)
+    (d.message ∙ ap (λ z. Some (Acknowledgement z d.held d.replayed)) g))
 
 pub does_replay : {S : Type 0} (M : Machine S) (C : Copying S) (w : World S) (n turns : ℕ) (r : Reply) (new : World S) →
     refusal M C w (Replay n turns) ≡ None → row.Replaying M w n turns r new → Changes M C w new
 does_replay M C w n turns r new p d =
-    let q = (node-passed (slice_get w.nodes n) d.x replay_refusal d.there p).1 in
-    let a = acts-in w n d.x Backup d.there q in
-    from_here M C w new n d.x d.y d.there d.after
-    (replay_changes M C w n d.x Backup d.there (inl refl) d.moves a.up a.role_is).0
+    let x = d.at.x in
+    let q = (node-passed (slice_get w.nodes n) x replay_refusal d.at.there p).1 in
+    let a = acts-in w n x Backup d.at.there q in
+    from_here M C w new n x d.at.y d.at.there d.at.after
+    (replay_changes M C w n x Backup d.at.there (inl refl) d.at.done.moves a.up a.role_is).0
 
 pub releases : {S : Type 0} (M : Machine S) (C : Copying S) (w : World S) (n : ℕ) (x : Node S) (name : OpId)
     (o : Operation) (r : Role) → Serving r → Acts w n x r → M.find x.machine name ≡ Some o →
@@ -98,25 +114,33 @@ pub does_release : {S : Type 0} (M : Machine S) (C : Copying S) (w : World S) (n
     (new : World S) → refusal M C w (Release n name) ≡ None → row.Releases M w n name r new → Changes M C w new
 does_release M C w n name r new p d =
     let k = only-passed _ (first-passed (no_such w name) _ p).1 in
-    let q = (node-passed (slice_get w.nodes n) d.x (release_refusal M name) d.there k).1 in
-    let f = first-passed (serves d.x) _ q in
-    let g = first-passed (fault_if (is_none (M.find d.x.machine name)) NotDue) _ f.1 in
-    let a = serving w n d.x d.there f.0 in
+    let x = d.node.x in
+    let q = (node-passed (slice_get w.nodes n) x (release_refusal M name) d.node.there k).1 in
+    let f = first-passed (serves x) _ q in
+    let g = first-passed (fault_if (is_none (M.find x.machine name)) NotDue) _ f.1 in
+    let a = serving w n x d.node.there f.0 in
     changed M C w new _ d.says.after
-    (releases M C w n d.x name d.o a.0 a.2 a.1 d.outstanding (not-stands _ NotCovered (only-passed _ g.1)))
+    (releases M C w n x name d.o a.0 a.2 a.1 d.node.said (not-stands _ NotCovered (only-passed _ g.1)))
 
 pub does_told : {S : Type 0} (M : Machine S) (C : Copying S) (w : World S) (n port : ℕ) (r : Reply) (new : World S) →
     refusal M C w (Told n port) ≡ None → row.Tells M w n port r new → Changes M C w new
 does_told M C w n port r new p d =
     let k = only-passed _ (first-passed (no_port w port) _ p).1 in
-    let q = (node-passed (slice_get w.nodes n) d.x told_refusal d.there k).1 in
-    let a = serving w n d.x d.there q in
-    changed M C w new _ d.after (Change.Tells n d.x port a.0 a.1 a.2)
+    let x = d.node.x in
+    let q = (node-passed (slice_get w.nodes n) x told_refusal d.node.there k).1 in
+    let a = serving w n x d.node.there q in
+    changed M C w new (with_told w port (keys_covered M x port x.role)) (d.after ∙ ap (with_told w port) d.node.said)
+    (Change.Tells n x port a.0 a.1 a.2)
+
+halts_changes : {S : Type 0} (M : Machine S) (C : Copying S) (w new : World S) (n : ℕ) (at : AtNode w n Halted new) →
+    (at.x.role ≡ Spare → ⊥) → Changes M C w new
+halts_changes M C w new n at a_node = changed M C w new (with_node w n (halts at.x))
+    (at.after ∙ ap (with_node w n) at.done) (Change.Stops n at.x at.there a_node)
 
 pub does_stop : {S : Type 0} (M : Machine S) (C : Copying S) (w : World S) (n : ℕ) (r : Reply) (new : World S) →
     refusal M C w (Stop n) ≡ None → row.Stops w n r new → Changes M C w new
-does_stop M C w n r new p d = changed M C w new _ d.after
-    (Change.Stops n d.x d.there (node-passed (slice_get w.nodes n) d.x stop_refusal d.there p).0)
+does_stop M C w n r new p d = halts_changes M C w new n d.at
+    (node-passed (slice_get w.nodes n) d.at.x stop_refusal d.at.there p).0
 
 pub suspect_wins : {S : Type 0} (M : Machine S) (C : Copying S) (w : World S) (n : ℕ) (x : Node S) →
     slice_get w.nodes n ≡ Some x → refusal M C w (Suspect n) ≡ None → winner_in w.winners x.generation ≡ None →
@@ -135,7 +159,7 @@ pub asks_no_spare : {S : Type 0} (M : Machine S) (C : Copying S) (w : World S) (
 asks_no_spare M C w n x there p = (node-passed (slice_get w.nodes n) x (ask_refusal w n) there p).0
 
 pub does_suspect : {S : Type 0} (M : Machine S) (C : Copying S) (w : World S) (n : ℕ) (r : Reply) (new : World S) →
-    refusal M C w (Suspect n) ≡ None → Asks w n r new → Changes M C w new
+    refusal M C w (Suspect n) ≡ None → Suspects w n r new → Changes M C w new
 does_suspect M C w n r new p d = elim d.after [
   | inl h ↦ changed M C w new _ h.1 (suspect_wins M C w n d.x d.there p h.0)
   | inr h ↦ unchanged M C w new h.1
@@ -153,15 +177,17 @@ drained M C w n x y h u e true t c =
 pub does_drain : {S : Type 0} (M : Machine S) (C : Copying S) (w : World S) (n turns : ℕ) (r : Reply) (new : World S) →
     refusal M C w (Drain n turns) ≡ None → Drains M w n turns r new → Changes M C w new
 does_drain M C w n turns r new p d =
-    let q = (node-passed (slice_get w.nodes n) d.x drain_refusal d.there p).1 in
-    let a = acts-in w n d.x Draining d.there q in
-    let t = replay_changes M C w n d.x Draining d.there (inr refl) d.moves a.up a.role_is in
-    from_here M C w new n d.x (after_drain d.y (at_end d.y)) d.there d.after
-    (drained M C w n d.x d.y d.there t.1 t.2 (at_end d.y) refl t.0)
+    let x = d.at.x in
+    let made = d.at.done in
+    let q = (node-passed (slice_get w.nodes n) x drain_refusal d.at.there p).1 in
+    let a = acts-in w n x Draining d.at.there q in
+    let t = replay_changes M C w n x Draining d.at.there (inr refl) made.replayed.moves a.up a.role_is in
+    from_here M C w new n x (after_drain made.z d.alone) d.at.there (d.at.after ∙ ap (with_node w n) made.after)
+    (drained M C w n x made.z d.at.there t.1 t.2 d.alone (sym made.replayed.ends) t.0)
 
-pub does_begin : {S : Type 0} (M : Machine S) (C : Copying S) (w : World S) (n host : ℕ) (r : Reply) (new : World S) →
+pub does_begin_pair : {S : Type 0} (M : Machine S) (C : Copying S) (w : World S) (n host : ℕ) (r : Reply) (new : World S) →
     refusal M C w (BeginPair n host) ≡ None → BeginsPair M C w n host r new → Changes M C w new
-does_begin M C w n host r new p d =
+does_begin_pair M C w n host r new p d =
     let k = subst (λ z. at_host z (slice_get w.nodes n) ≡ None) d.spare p in
     let q = (node-passed (slice_get w.nodes n) d.x (pair_refusal d.y) d.there k).1 in
     let f = first-passed (fault_if (not (is_role d.y.role Spare)) WrongRole) _ q in
@@ -172,28 +198,30 @@ does_begin M C w n host r new p d =
 pub does_send_part : {S : Type 0} (M : Machine S) (C : Copying S) (w : World S) (n index : ℕ) (r : Reply)
     (new : World S) → refusal M C w (SendPart n index) ≡ None → row.SendsPart C w n index r new → Changes M C w new
 does_send_part M C w n index r new p d =
-    let q = (node-passed (slice_get w.nodes n) d.x (send_part_refusal C index) d.there p).1 in
-    let o = or-false (not (acts_as d.x (Primary ∷ []))) _ (not-stands _ Unknown q) in
+    let x = d.node.x in
+    let has = d.node.said in
+    let q = (node-passed (slice_get w.nodes n) x (send_part_refusal C index) d.node.there p).1 in
+    let o = or-false (not (acts_as x (Primary ∷ []))) _ (not-stands _ Unknown q) in
     changed M C w new _ d.says.after
-    (Change.SendsPart n d.x d.s index d.part
-    (acts-in w n d.x Primary d.there (ap (λ b. fault_if b WrongRole) o.0)) d.image d.is_part)
+    (Change.SendsPart n x has.s index d.part
+    (acts-in w n x Primary d.node.there (ap (λ b. fault_if b WrongRole) o.0)) has.image has.is_part)
 
-pub does_part : {S : Type 0} (M : Machine S) (C : Copying S) (w : World S) (m n : ℕ) (r : Reply) (new : World S) →
+pub does_part_comes : {S : Type 0} (M : Machine S) (C : Copying S) (w : World S) (m n : ℕ) (r : Reply) (new : World S) →
     refusal M C w (PartComes m n) ≡ None → row.GetsPart C w m n r new → Changes M C w new
-does_part {S} M C w m n r new p d = go d.does
+does_part_comes {S} M C w m n r new p d = go d.at.done d.at.after
   where
     x : Node S
-    x = d.x
+    x = d.at.x
 
-    q : part_refusal d.generation x ≡ None
-    q = (node-passed (slice_get w.nodes n) x (part_refusal d.generation) d.there
+    q : part_comes_refusal d.generation x ≡ None
+    q = (node-passed (slice_get w.nodes n) x (part_comes_refusal d.generation) d.at.there
         (subst (λ z. at_part (slice_get w.nodes n) z ≡ None) d.message p)).1
 
     f : (role_refusal (Joining ∷ []) x ≡ None) × (first_of (generation_refusal d.generation x ∷ []) ≡ None)
     f = first-passed (role_refusal (Joining ∷ []) x) (generation_refusal d.generation x ∷ []) q
 
     a : Acts w n x Joining
-    a = acts-in w n x Joining d.there f.0
+    a = acts-in w n x Joining d.at.there f.0
 
     g : d.generation ≡ x.generation
     g = eqb-true d.generation x.generation (passes-if _ WrongGeneration (only-passed _ f.1))
@@ -201,45 +229,46 @@ does_part {S} M C w m n r new p d = go d.does
     gets : Change M C w (with_node w n (gets_part x d.index d.part))
     gets = Change.GetsPart n x m d.index d.part a (d.message ∙ ap (λ z. Some (ImagePart z d.index d.part)) g)
 
-    go : {r : Reply} {new : World S} → PartDoes C w n x d.index d.part r new → Changes M C w new
-    go (Again k) = Stays
-    go (Comes k v) = one M C w _ gets
-    go (Completes parts s k v made) =
+    go : {r : Reply} {y : Node S} {new : World S} → GotPart C d.index d.part x r y → new ≡ with_node w n y →
+        Changes M C w new
+    go {new = new} (Again k) e = unchanged M C w new (e ∙ with_same w n x d.at.there)
+    go {new = new} (Comes k v) e = changed M C w new _ e gets
+    go {new = new} (Completes parts s k v made) e =
         let y = gets_part x d.index d.part in
-        Then gets (on M C w n y (joins y s) (joins y s)
-        (Joins n y parts s (moving w n x y Joining d.there a.up a.role_is) v made) Stays)
+        subst (λ z. Changes M C w z) (sym e)
+        (Then gets (on M C w n y (joins y s) (joins y s)
+        (Joins n y parts s (moving w n x y Joining d.at.there a.up a.role_is) v made) Stays))
 
 pub does_changes : {S : Type 0} (M : Machine S) (C : Copying S) (w : World S) (e : Event) (r : Reply) (new : World S) →
     refusal M C w e ≡ None → Does M C w e r new → Changes M C w new
 does_changes M C w (Step n turns) r new p d = does_step M C w n turns r new p d
 does_changes M C w (TypeByte port byte) r new p d = changed M C w new _ d.after (Change.Types port byte)
-does_changes M C w (TakeKey n port index) r new p d = does_key M C w n port index r new p d
+does_changes M C w (TakeKey n port index) r new p d = does_take_key M C w n port index r new p d
 does_changes M C w (Send n index) r new p d = does_send M C w n index r new p d
-does_changes M C w (DeliverLog m n) r new p d = does_log M C w m n r new p d
-does_changes M C w (Ack n) r new p d = does_ack M C w n r new p d
-does_changes M C w (DeliverAck m n) r new p d = does_acked M C w m n r new p d
+does_changes M C w (DeliverLog m n) r new p d = does_deliver_log M C w m n r new p d
+does_changes M C w (Acknowledge n) r new p d = does_acknowledge M C w n r new p d
+does_changes M C w (DeliverAcknowledgement m n) r new p d = does_deliver_acknowledgement M C w m n r new p d
 does_changes M C w (Replay n turns) r new p d = does_replay M C w n turns r new p d
 does_changes M C w (Release n name) r new p d = does_release M C w n name r new p d
 does_changes M C w (Arrive m) r new p d =
     changed M C w new _ d.after (Change.Arrives m d.port d.number d.byte d.message)
-does_changes M C w (TellSent n port k) r new p d = does_sent M C w n port k r new p d
+does_changes M C w (TellSent n port k) r new p d = does_tell_sent M C w n port k r new p d
 does_changes M C w (Told n port) r new p d = does_told M C w n port r new p d
 does_changes M C w (Stop n) r new p d = does_stop M C w n r new p d
 does_changes M C w (Suspect n) r new p d = does_suspect M C w n r new p d
 does_changes M C w (Drain n turns) r new p d = does_drain M C w n turns r new p d
 does_changes M C w (Put m) r new p d = changed M C w new _ d.after (Change.Puts m d.write d.message)
-does_changes M C w (PutReply m n) r new p d = does_done M C w m n r new p d
-does_changes M C w (Get n sector) r new p d = changed M C w new _ d.after (Reads (M.address d.x.machine d.drive sector))
-does_changes M C w (GetReply m n) r new p d = does_under M C w m n r new p d
-does_changes M C w (BeginPair n host) r new p d = does_begin M C w n host r new p d
+does_changes M C w (PutReply m n) r new p d = does_put_reply M C w m n r new p d
+does_changes M C w (Get n sector) r new p d = changed M C w new _ d.after (Reads d.address)
+does_changes M C w (GetReply m n) r new p d = does_get_reply M C w m n r new p d
+does_changes M C w (BeginPair n host) r new p d = does_begin_pair M C w n host r new p d
 does_changes M C w (SendPart n index) r new p d = does_send_part M C w n index r new p d
-does_changes M C w (PartComes m n) r new p d = does_part M C w m n r new p d
+does_changes M C w (PartComes m n) r new p d = does_part_comes M C w m n r new p d
 
 pub leaves_changes : {S : Type 0} (M : Machine S) (C : Copying S) (w : World S) (e : Event) (fault : Fault)
     (new : World S) → refusal M C w e ≡ Some fault → Leaves w e fault new → Changes M C w new
 leaves_changes M C w (Suspect n) Lost new p d =
-    changed M C w new _ d.after (Change.Stops n d.x d.there
-    (lost-no_spare (slice_get w.nodes n) d.x (ask_refusal w n) d.there p))
+    halts_changes M C w new n d (lost-no_spare (slice_get w.nodes n) d.x (ask_refusal w n) d.there p)
 leaves_changes M C w e fault new p d = unchanged M C w new d
 
 pub row_changes : {S : Type 0} (M : Machine S) (C : Copying S) (w new : World S) (e : Event) (r : Reply) →

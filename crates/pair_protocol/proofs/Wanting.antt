@@ -1,17 +1,18 @@
 -- Out of memory is answered only if no refusal applies and the event may need memory.
 use Rattle.std.proofs.Common.{◌≡◌, ◌≢◌, [], ◌∷◌, ◌⊎◌, ◌∙◌, Bool, List, None, Option, Some, ap, cond, false, inl, inr, not, refl, subst, suc, sym, true, ℕ, arith}
-use Rattle.std.specs.Prelude.{length, slice_get, ◌<◌, ◌==◌}
+use Rattle.std.specs.Prelude.{if◌then◌else◌, length, slice_get, ◌<◌, ◌==◌}
 use Rattle.guest_board.specs.Machine.{Machine}
 use Rattle.i8080_words.specs.declared.refusal.Fault.{Fault}
 use Rattle.i8080_words.specs.declared.refusal.Fault.TheVariants.{Lost, NotWhole, OutOfMemory, Unknown, WrongGeneration, WrongRole}
 use Rattle.log_entry.specs.Entries.{count_of}
 use Rattle.log_entry.specs.declared.entry.Entry.{Entry}
 use Rattle.pair_protocol.specs.Copying.{Copying}
-use Rattle.pair_protocol.specs.Event.{DeliverLog, Drain, Event, Replay, Reply, Refused, Step, Suspect}
+use Rattle.pair_protocol.specs.Event.{DeliverLog, Drain, Event, New, Old, Replay, Reply, Refused, Step, Suspect}
 use Rattle.pair_protocol.specs.Node.{Alone, Backup, Draining, Joining, Node, Primary, Spare, acts_as, is_role}
-use Rattle.pair_protocol.specs.Refusals.{ask_refusal, at_log, at_node, fault_if, first_of, is_other, log_refusal, refusal, role_refusal, step_refusal, suspect_refusal}
-use Rattle.pair_protocol.specs.Row.{Accepts, DeviceFails, MayWantMemory, Refuses, StepsFirst, WantsMemory}
-use Rattle.pair_protocol.specs.Rows.{AtEnd, Does, IsBehind, NoMemory, NoTurns, OneInput, OneMark, OneStep, Replays, drain_reply}
+use Rattle.pair_protocol.specs.Refusals.{ask_refusal, at_log_entry, at_node, fault_if, first_of, is_other, deliver_log_refusal, refusal, role_refusal, step_refusal, suspect_refusal}
+use Rattle.pair_protocol.specs.Effects.{AtEnd, IsBehind, NoMemory, NoTurns, OneInput, OneMark, OneStep, Replays, WantsMoves}
+use Rattle.pair_protocol.specs.Row.{Accepts, DeviceFails, MayWantMemory, Refuses, WantsMemory}
+use Rattle.pair_protocol.specs.Rows.{Does, OfNode, drain_reply}
 use Rattle.pair_protocol.specs.Wanting.{WantsNone}
 use Rattle.pair_protocol.specs.World.{LogEntry, Message, World, winner_in}
 use Rattle.pair_protocol.proofs.Traces.Lists.{same_some}
@@ -46,7 +47,7 @@ none_other is = (cc)
 role_other : (b : Bool) → Other (fault_if b WrongRole)
 role_other b = other_if b WrongRole (λ is. (cc))
 
-log_other : {S : Type 0} (generation : ℕ) (x : Node S) → Other (log_refusal generation x)
+log_other : {S : Type 0} (generation : ℕ) (x : Node S) → Other (deliver_log_refusal generation x)
 log_other generation x =
     other_first (role_refusal (Backup ∷ []) x) (fault_if (not (generation == x.generation)) WrongGeneration ∷ [])
     (role_other (not (acts_as x (Backup ∷ []))))
@@ -54,10 +55,10 @@ log_other generation x =
     (other_if (not (generation == x.generation)) WrongGeneration (λ is. (cc))) none_other)
 
 log_message_other : {S : Type 0} (here : Option (Node S)) (q : Option Message) (generation index : ℕ) (e : Entry)
-    → q ≡ Some (LogEntry generation index e) → Other (at_log here q)
+    → q ≡ Some (LogEntry generation index e) → Other (at_log_entry here q)
 log_message_other here q generation index e is =
-    subst (λ q. Other (at_log here q)) (sym is)
-    (other_at here (log_refusal generation) (λ x. log_other generation x))
+    subst (λ q. Other (at_log_entry here q)) (sym is)
+    (other_at here (deliver_log_refusal generation) (λ x. log_other generation x))
 
 ask_other : {S : Type 0} (w : World S) (n : ℕ) (x : Node S) → Other (ask_refusal w n x)
 ask_other w n x =
@@ -92,21 +93,21 @@ steps_none M C w n =
     (λ r new d is. (let ran = sym is ∙ d.reply in (cc))) (λ some. omega (arith, some))
 
 replays_none : {S : Type 0} (M : Machine S) (C : Copying S) (w : World S) (n turns : ℕ)
-    → (StepsFirst M w n turns → ⊥) → WantsNone M C w (Replay n turns)
+    → (OfNode w n (WantsMoves M turns) → ⊥) → WantsNone M C w (Replay n turns)
 replays_none M C w n turns wants =
     wants_none M C w (Replay n turns)
     (other_at (slice_get w.nodes n) (role_refusal (Backup ∷ [])) (λ x. role_other (not (acts_as x (Backup ∷ [])))))
     (λ r new d is. (let moved = sym is ∙ d.reply in (cc))) wants
 
 drains_none : {S : Type 0} (M : Machine S) (C : Copying S) (w : World S) (n turns : ℕ)
-    → (StepsFirst M w n turns → ⊥) → WantsNone M C w (Drain n turns)
+    → (OfNode w n (WantsMoves M turns) → ⊥) → WantsNone M C w (Drain n turns)
 drains_none M C w n turns wants =
     wants_none M C w (Drain n turns)
     (other_at (slice_get w.nodes n) (role_refusal (Draining ∷ [])) (λ x. role_other (not (acts_as x (Draining ∷ [])))))
     (λ r new d is. drain_other d.made _ (sym d.reply ∙ is)) wants
 
-none_asked : {S : Type 0} (M : Machine S) (w : World S) (n : ℕ) → StepsFirst M w n 0 → ⊥
-none_asked M w n h = let some = h.some in omega (arith, some)
+none_asked : {S : Type 0} (M : Machine S) (w : World S) (n : ℕ) → OfNode w n (WantsMoves M 0) → ⊥
+none_asked M w n h = let some = h.said.0 in omega (arith, some)
 
 pub no_turns : {S : Type 0} (M : Machine S) (C : Copying S) (w : World S) (n : ℕ)
     → WantsNone M C w (Step n 0) × WantsNone M C w (Replay n 0) × WantsNone M C w (Drain n 0)
@@ -114,9 +115,9 @@ no_turns M C w n =
     (steps_none M C w n, replays_none M C w n 0 (none_asked M w n), drains_none M C w n 0 (none_asked M w n))
 
 not_first : {S : Type 0} (M : Machine S) (w : World S) (n turns : ℕ) (x : Node S) → slice_get w.nodes n ≡ Some x
-    → (IsBehind M x → ⊥) → StepsFirst M w n turns → ⊥
+    → (IsBehind M x → ⊥) → OfNode w n (WantsMoves M turns) → ⊥
 not_first M w n turns x there other h =
-    other (subst (λ y. IsBehind M y) (same_some h.x x (slice_get w.nodes n) h.there there) h.behind)
+    other (subst (λ y. IsBehind M y) (same_some h.x x (slice_get w.nodes n) h.there there) h.said.1)
 
 pub other_moves : {S : Type 0} (M : Machine S) (C : Copying S) (w : World S) (n turns : ℕ) (x : Node S)
     → slice_get w.nodes n ≡ Some x → (IsBehind M x → ⊥)
@@ -128,10 +129,11 @@ other_moves M C w n turns x there other = (
 
 held_or_not : {S : Type 0} (M : Machine S) (C : Copying S) (w : World S) (m n : ℕ) (r : Reply) (new : World S)
     → Does M C w (DeliverLog m n) r new → r ≢ Refused OutOfMemory
-held_or_not M C w m n r new d is = elim d.holds [
-  | inl next ↦ (let new_is = sym is ∙ next.1 in (cc))
-  | inr other ↦ (let old_is = sym is ∙ other.1 in (cc))
-]
+held_or_not M C w m n r new d is = go d.next (sym d.reply ∙ is)
+  where
+    go : (next : Bool) → (if next then New else Old) ≢ Refused OutOfMemory
+    go true is = (cc)
+    go false is = (cc)
 
 same_index : (q : Option Message) (g h i k : ℕ) (e d : Entry) → q ≡ Some (LogEntry g i e) → q ≡ Some (LogEntry h k d)
     → i ≡ k
@@ -145,7 +147,7 @@ other_entries {S} M C w m n generation index e x message there other =
     (log_message_other (slice_get w.nodes n) (slice_get w.messages m) generation index e message)
     (held_or_not M C w m n)
     (λ h. other (same_index (slice_get w.messages m) generation h.generation index h.index e h.e message h.message
-    ∙ h.next ∙ ap (λ (y : Node S). length y.held) (same_some h.x x (slice_get w.nodes n) h.there there)))
+    ∙ h.next.said ∙ ap (λ (y : Node S). length y.held) (same_some h.next.x x (slice_get w.nodes n) h.next.there there)))
 
 pub winners : {S : Type 0} (M : Machine S) (C : Copying S) (w : World S) (n : ℕ) (x : Node S)
     → slice_get w.nodes n ≡ Some x → winner_in w.winners x.generation ≡ Some n → WantsNone M C w (Suspect n)
@@ -154,7 +156,7 @@ winners {S} M C w n x there won =
     (other_at (slice_get w.nodes n) (ask_refusal w n) (λ x. ask_other w n x))
     (λ r new d is. (let won = sym is ∙ d.reply in (cc)))
     (λ h. (let same : h.x ≡ x = same_some h.x x (slice_get w.nodes n) h.there there in
-    let nobody = sym h.nobody ∙ ap (λ (y : Node S). winner_in w.winners y.generation) same ∙ won in (cc)))
+    let nobody = sym h.said ∙ ap (λ (y : Node S). winner_in w.winners y.generation) same ∙ won in (cc)))
 
 -- ---- where moves end
 

@@ -13,8 +13,8 @@ pub data Event : Type 0 where
   -- the log: an entry is sent, and arrives; an acknowledgement is sent, and arrives
   Send : (n index : ℕ) → Event
   DeliverLog : (m n : ℕ) → Event
-  Ack : (n : ℕ) → Event
-  DeliverAck : (m n : ℕ) → Event
+  Acknowledge : (n : ℕ) → Event
+  DeliverAcknowledgement : (m n : ℕ) → Event
   -- a backup makes at most this many moves of what it holds
   Replay : (n turns : ℕ) → Event
   -- an operation is released; a byte arrives at its terminal; a node hears that the terminal has accepted it

@@ -15,7 +15,7 @@ use Rattle.i8080_words.specs.declared.refusal.Fault.TheVariants.{WrongRole}
 use Rattle.log_entry.specs.declared.entry.Entry.TheVariants.{Mark, Sector}
 use Rattle.pair_protocol.specs.Copying.{Copying}
 use Rattle.pair_protocol.specs.World.{World, Message, LogEntry, Acknowledgement, Released, WriteDone, SectorRead, opening, accepted}
-use Rattle.pair_protocol.specs.Event.{Event, Step, TypeByte, TakeKey, Send, DeliverLog, Ack, DeliverAck, Release, Arrive, Stop, Suspect, Drain, Put, PutReply, Get, GetReply, Reply, Ran, Turns, Gave, TypedAt, Taken, New, Accepted, Dropped, Won, Stopped, MessageIs, HeldIs, MovedAlone, Refused}
+use Rattle.pair_protocol.specs.Event.{Event, Step, TypeByte, TakeKey, Send, DeliverLog, Acknowledge, DeliverAcknowledgement, Release, Arrive, Stop, Suspect, Drain, Put, PutReply, Get, GetReply, Reply, Ran, Turns, Gave, TypedAt, Taken, New, Accepted, Dropped, Won, Stopped, MessageIs, HeldIs, MovedAlone, Refused}
 use Rattle.pair_protocol.specs.Row.{Run}
 
 -- ---- a machine that sends a byte
@@ -76,7 +76,7 @@ small_copying = record { parts = λ s. (s ∷ []) ∷ []; part_count = 1; assemb
 -- byte; when the byte arrives again it is dropped
 abbrev pub failover : List Event
 failover =
-    Step 0 10 ∷ Send 0 0 ∷ DeliverLog 0 1 ∷ Ack 1 ∷ Stop 0 ∷ Suspect 1 ∷ TypeByte 0 65 ∷ TakeKey 1 0 0 ∷ Drain 1 10
+    Step 0 10 ∷ Send 0 0 ∷ DeliverLog 0 1 ∷ Acknowledge 1 ∷ Stop 0 ∷ Suspect 1 ∷ TypeByte 0 65 ∷ TakeKey 1 0 0 ∷ Drain 1 10
     ∷ Release 1 (id.Byte 0 1) ∷ Arrive 2 ∷ Arrive 2 ∷ []
 
 abbrev pub failover_replies : List Reply
@@ -149,8 +149,8 @@ small_disk = record {
 -- again
 abbrev pub disk_write : List Event
 disk_write =
-    Step 0 2 ∷ Get 0 0 ∷ GetReply 0 0 ∷ Step 0 10 ∷ Send 0 0 ∷ Send 0 1 ∷ DeliverLog 1 1 ∷ DeliverLog 2 1 ∷ Ack 1
-    ∷ DeliverAck 3 0 ∷ Release 0 (id.Write 1) ∷ Put 4 ∷ PutReply 5 0 ∷ Get 0 0 ∷ []
+    Step 0 2 ∷ Get 0 0 ∷ GetReply 0 0 ∷ Step 0 10 ∷ Send 0 0 ∷ Send 0 1 ∷ DeliverLog 1 1 ∷ DeliverLog 2 1 ∷ Acknowledge 1
+    ∷ DeliverAcknowledgement 3 0 ∷ Release 0 (id.Write 1) ∷ Put 4 ∷ PutReply 5 0 ∷ Get 0 0 ∷ []
 
 abbrev pub disk_write_replies : List Reply
 disk_write_replies =

@@ -11,6 +11,7 @@ pub mod Copying
 pub mod Change
 pub mod Event
 pub mod Refusals
+pub mod Effects
 pub mod Rows
 pub mod Row
 pub mod Survival

@@ -14,7 +14,7 @@ use Rattle.pair_protocol.specs.Lawful.{top}
 use Rattle.pair_protocol.specs.Copying.{Copying}
 use Rattle.pair_protocol.specs.Node.{Node, Role, Primary, Backup, Joining, Draining, Alone, Spare, is_role, acts_as, note_of, covers}
 use Rattle.pair_protocol.specs.World.{World, Message, LogEntry, Acknowledgement, ImagePart, Released, WriteDone, SectorRead, terminal, accepted, winner_in}
-use Rattle.pair_protocol.specs.Event.{Event, Step, TypeByte, TakeKey, Send, DeliverLog, Ack, DeliverAck, Replay, Release, Arrive, TellSent, Told, Stop, Suspect, Drain, Put, PutReply, Get, GetReply, BeginPair, SendPart, PartComes}
+use Rattle.pair_protocol.specs.Event.{Event, Step, TypeByte, TakeKey, Send, DeliverLog, Acknowledge, DeliverAcknowledgement, Replay, Release, Arrive, TellSent, Told, Stop, Suspect, Drain, Put, PutReply, Get, GetReply, BeginPair, SendPart, PartComes}
 
 -- a fault if the condition holds
 abbrev pub fault_if : Bool → Fault → Option Fault
@@ -60,8 +60,8 @@ step_refusal M (suc turns) x =
 abbrev pub keys_spent : {S : Type 0} → Machine S → ℕ → Node S → Option Fault
 keys_spent M port x = fault_if (nat_le top (M.keys x.machine port)) Spent
 
-abbrev pub key_refusal : {S : Type 0} → Machine S → ℕ → ℕ → Node S → Option Fault
-key_refusal M port index x =
+abbrev pub take_key_refusal : {S : Type 0} → Machine S → ℕ → ℕ → Node S → Option Fault
+take_key_refusal M port index x =
     first_of
     (serves x ∷ fault_if (not (index == M.keys x.machine port)) WrongNumber ∷ log_full x ∷ log_spent x
     ∷ keys_spent M port x ∷ [])
@@ -71,19 +71,19 @@ abbrev pub is_number : Option ℕ → ℕ → Bool
 is_number None number = false
 is_number (Some k) number = k == number
 
-abbrev pub sent_refusal : {S : Type 0} → Machine S → ℕ → ℕ → Node S → Option Fault
-sent_refusal M port number x =
+abbrev pub tell_sent_refusal : {S : Type 0} → Machine S → ℕ → ℕ → Node S → Option Fault
+tell_sent_refusal M port number x =
     first_of
     (serves x ∷ refusal_of M x.machine (input.Sent port)
     ∷ fault_if (not (is_number (M.due_byte x.machine port) number)) WrongNumber ∷ log_full x ∷ log_spent x ∷ [])
 
-abbrev pub done_refusal : {S : Type 0} → Machine S → ℕ → Node S → Option Fault
-done_refusal M number x =
+abbrev pub put_reply_refusal : {S : Type 0} → Machine S → ℕ → Node S → Option Fault
+put_reply_refusal M number x =
     first_of (serves x ∷ refusal_of M x.machine (input.Written number) ∷ log_full x ∷ log_spent x ∷ [])
 
 -- a sector that was read arrives; it is refused if the node's drive or track is another by now
-abbrev pub under_refusal : {S : Type 0} → Machine S → SectorAddress → ℕ → List ℕ → Node S → Option Fault
-under_refusal M address number bytes x =
+abbrev pub get_reply_refusal : {S : Type 0} → Machine S → SectorAddress → ℕ → List ℕ → Node S → Option Fault
+get_reply_refusal M address number bytes x =
     first_of
     (serves x ∷ fault_if (not (same_address (M.address x.machine address.drive address.sector) address)) NotDue
     ∷ refusal_of M x.machine (input.Sector address.drive address.sector number bytes) ∷ log_full x ∷ log_spent x ∷ [])
@@ -93,14 +93,14 @@ abbrev pub send_refusal : {S : Type 0} → ℕ → Node S → Option Fault
 send_refusal index x =
     fault_if (not (acts_as x (Primary ∷ [])) || (nat_lt index x.covered || is_none (slice_get x.log index))) Unknown
 
-abbrev pub log_refusal : {S : Type 0} → ℕ → Node S → Option Fault
-log_refusal generation x = first_of (role_refusal (Backup ∷ []) x ∷ generation_refusal generation x ∷ [])
+abbrev pub deliver_log_refusal : {S : Type 0} → ℕ → Node S → Option Fault
+deliver_log_refusal generation x = first_of (role_refusal (Backup ∷ []) x ∷ generation_refusal generation x ∷ [])
 
-abbrev pub ack_refusal : {S : Type 0} → Node S → Option Fault
-ack_refusal x = role_refusal (Backup ∷ []) x
+abbrev pub acknowledge_refusal : {S : Type 0} → Node S → Option Fault
+acknowledge_refusal x = role_refusal (Backup ∷ []) x
 
-abbrev pub acked_refusal : {S : Type 0} → ℕ → ℕ → Node S → Option Fault
-acked_refusal generation held x =
+abbrev pub deliver_acknowledgement_refusal : {S : Type 0} → ℕ → ℕ → Node S → Option Fault
+deliver_acknowledgement_refusal generation held x =
     first_of
     (role_refusal (Primary ∷ []) x ∷ generation_refusal generation x ∷ fault_if (nat_lt (length x.log) held) BadAck
     ∷ [])
@@ -128,15 +128,15 @@ abbrev pub drain_refusal : {S : Type 0} → Node S → Option Fault
 drain_refusal x = role_refusal (Draining ∷ []) x
 
 -- a sector is read at the selected drive
-abbrev pub place_refusal : {S : Type 0} → Machine S → Node S → Option Fault
-place_refusal M x = first_of (serves x ∷ fault_if (is_none (M.selected x.machine)) NotDue ∷ [])
+abbrev pub get_refusal : {S : Type 0} → Machine S → Node S → Option Fault
+get_refusal M x = first_of (serves x ∷ fault_if (is_none (M.selected x.machine)) NotDue ∷ [])
 
 -- the greatest generation
 unfoldable pub last_generation : ℕ
 last_generation = 2 ^ 32 - 1
 
-abbrev pub begin_refusal : {S : Type 0} → Node S → Option Fault
-begin_refusal x =
+abbrev pub begin_pair_refusal : {S : Type 0} → Node S → Option Fault
+begin_pair_refusal x =
     first_of (role_refusal (Alone ∷ []) x ∷ fault_if (nat_le last_generation x.generation) Spent ∷ [])
 
 -- only a primary has an image, until the first acknowledgement of its generation
@@ -147,8 +147,8 @@ has_part C (Some s) index = not (is_none (slice_get (C.parts s) index))
 abbrev pub send_part_refusal : {S : Type 0} → Copying S → ℕ → Node S → Option Fault
 send_part_refusal C index x = fault_if (not (acts_as x (Primary ∷ [])) || not (has_part C x.image index)) Unknown
 
-abbrev pub part_refusal : {S : Type 0} → ℕ → Node S → Option Fault
-part_refusal generation x = first_of (role_refusal (Joining ∷ []) x ∷ generation_refusal generation x ∷ [])
+abbrev pub part_comes_refusal : {S : Type 0} → ℕ → Node S → Option Fault
+part_comes_refusal generation x = first_of (role_refusal (Joining ∷ []) x ∷ generation_refusal generation x ∷ [])
 
 -- ---- the world's part
 
@@ -158,24 +158,24 @@ at_node None part = Some Unknown
 at_node (Some x) part = if is_role x.role Spare then Some Unknown else part x
 
 -- what a message brings to a node; a message of another kind is unknown
-abbrev pub at_log : {S : Type 0} → Option (Node S) → Option Message → Option Fault
-at_log here (Some (LogEntry generation index e)) = at_node here (log_refusal generation)
-at_log here _ = Some Unknown
+abbrev pub at_log_entry : {S : Type 0} → Option (Node S) → Option Message → Option Fault
+at_log_entry here (Some (LogEntry generation index e)) = at_node here (deliver_log_refusal generation)
+at_log_entry here _ = Some Unknown
 
-abbrev pub at_acked : {S : Type 0} → Option (Node S) → Option Message → Option Fault
-at_acked here (Some (Acknowledgement generation held replayed)) = at_node here (acked_refusal generation held)
-at_acked here _ = Some Unknown
+abbrev pub at_acknowledgement : {S : Type 0} → Option (Node S) → Option Message → Option Fault
+at_acknowledgement here (Some (Acknowledgement generation held replayed)) = at_node here (deliver_acknowledgement_refusal generation held)
+at_acknowledgement here _ = Some Unknown
 
-abbrev pub at_done : {S : Type 0} → Machine S → Option (Node S) → Option Message → Option Fault
-at_done M here (Some (WriteDone number)) = at_node here (done_refusal M number)
-at_done M here _ = Some Unknown
+abbrev pub at_write_done : {S : Type 0} → Machine S → Option (Node S) → Option Message → Option Fault
+at_write_done M here (Some (WriteDone number)) = at_node here (put_reply_refusal M number)
+at_write_done M here _ = Some Unknown
 
-abbrev pub at_under : {S : Type 0} → Machine S → Option (Node S) → Option Message → Option Fault
-at_under M here (Some (SectorRead address number bytes)) = at_node here (under_refusal M address number bytes)
-at_under M here _ = Some Unknown
+abbrev pub at_sector_read : {S : Type 0} → Machine S → Option (Node S) → Option Message → Option Fault
+at_sector_read M here (Some (SectorRead address number bytes)) = at_node here (get_reply_refusal M address number bytes)
+at_sector_read M here _ = Some Unknown
 
 abbrev pub at_part : {S : Type 0} → Option (Node S) → Option Message → Option Fault
-at_part here (Some (ImagePart generation index part)) = at_node here (part_refusal generation)
+at_part here (Some (ImagePart generation index part)) = at_node here (part_comes_refusal generation)
 at_part here _ = Some Unknown
 
 -- the message releases a byte, or a write
@@ -213,7 +213,7 @@ ask_refusal w n x =
 
 -- a generation begins with a host that has no role
 abbrev pub pair_refusal : {S : Type 0} → Node S → Node S → Option Fault
-pair_refusal host x = first_of (fault_if (not (is_role host.role Spare)) WrongRole ∷ begin_refusal x ∷ [])
+pair_refusal host x = first_of (fault_if (not (is_role host.role Spare)) WrongRole ∷ begin_pair_refusal x ∷ [])
 
 abbrev pub at_host : {S : Type 0} → Option (Node S) → Option (Node S) → Option Fault
 at_host None here = Some Unknown
@@ -229,25 +229,25 @@ abbrev pub refusal : {S : Type 0} → Machine S → Copying S → World S → Ev
 refusal M C w (Step n turns) = at_node (slice_get w.nodes n) (step_refusal M turns)
 refusal M C w (TypeByte port byte) = no_port w port
 refusal M C w (TakeKey n port index) =
-    first_of (not_typed w port index ∷ at_node (slice_get w.nodes n) (key_refusal M port index) ∷ [])
+    first_of (not_typed w port index ∷ at_node (slice_get w.nodes n) (take_key_refusal M port index) ∷ [])
 refusal M C w (Send n index) = at_node (slice_get w.nodes n) (send_refusal index)
-refusal M C w (DeliverLog m n) = at_log (slice_get w.nodes n) (slice_get w.messages m)
-refusal M C w (Ack n) = at_node (slice_get w.nodes n) ack_refusal
-refusal M C w (DeliverAck m n) = at_acked (slice_get w.nodes n) (slice_get w.messages m)
+refusal M C w (DeliverLog m n) = at_log_entry (slice_get w.nodes n) (slice_get w.messages m)
+refusal M C w (Acknowledge n) = at_node (slice_get w.nodes n) acknowledge_refusal
+refusal M C w (DeliverAcknowledgement m n) = at_acknowledgement (slice_get w.nodes n) (slice_get w.messages m)
 refusal M C w (Replay n turns) = at_node (slice_get w.nodes n) replay_refusal
 refusal M C w (Release n name) =
     first_of (no_such w name ∷ at_node (slice_get w.nodes n) (release_refusal M name) ∷ [])
 refusal M C w (Arrive m) = byte_refusal (slice_get w.messages m)
 refusal M C w (TellSent n port number) =
-    first_of (not_accepted w port number ∷ at_node (slice_get w.nodes n) (sent_refusal M port number) ∷ [])
+    first_of (not_accepted w port number ∷ at_node (slice_get w.nodes n) (tell_sent_refusal M port number) ∷ [])
 refusal M C w (Told n port) = first_of (no_port w port ∷ at_node (slice_get w.nodes n) told_refusal ∷ [])
 refusal M C w (Stop n) = at_node (slice_get w.nodes n) stop_refusal
 refusal M C w (Suspect n) = at_node (slice_get w.nodes n) (ask_refusal w n)
 refusal M C w (Drain n turns) = at_node (slice_get w.nodes n) drain_refusal
 refusal M C w (Put m) = write_refusal (slice_get w.messages m)
-refusal M C w (PutReply m n) = at_done M (slice_get w.nodes n) (slice_get w.messages m)
-refusal M C w (Get n sector) = first_of (no_sector sector ∷ at_node (slice_get w.nodes n) (place_refusal M) ∷ [])
-refusal M C w (GetReply m n) = at_under M (slice_get w.nodes n) (slice_get w.messages m)
+refusal M C w (PutReply m n) = at_write_done M (slice_get w.nodes n) (slice_get w.messages m)
+refusal M C w (Get n sector) = first_of (no_sector sector ∷ at_node (slice_get w.nodes n) (get_refusal M) ∷ [])
+refusal M C w (GetReply m n) = at_sector_read M (slice_get w.nodes n) (slice_get w.messages m)
 refusal M C w (BeginPair n host) = at_host (slice_get w.nodes host) (slice_get w.nodes n)
 refusal M C w (SendPart n index) = at_node (slice_get w.nodes n) (send_part_refusal C index)
 refusal M C w (PartComes m n) = at_part (slice_get w.nodes n) (slice_get w.messages m)

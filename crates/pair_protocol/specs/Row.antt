@@ -1,65 +1,44 @@
 -- One row: an event, its reply or refusal, and the world after it. And whole runs.
-use Rattle.std.specs.Prelude.{◌≡◌, ℕ, ◌<◌, IsTrue, Some, None, length, List, [], ◌∷◌, slice_get}
+use Rattle.std.specs.Prelude.{◌≡◌, ℕ, ◌<◌, IsTrue, Some, None, List, [], ◌∷◌, slice_get}
 use Rattle.guest_board.specs.Machine.{Machine}
 use Rattle.i8080_words.specs.declared.refusal.Fault.{Fault}
 use Rattle.i8080_words.specs.declared.refusal.Fault.TheVariants.{Lost, DeviceFault, OutOfMemory}
 use Rattle.log_entry.specs.declared.entry.Entry.{Entry}
 use Rattle.pair_protocol.specs.Copying.{Copying}
-use Rattle.pair_protocol.specs.Node.{Node, halts}
-use Rattle.pair_protocol.specs.World.{World, LogEntry, winner_in, with_node, with_host}
-use Rattle.pair_protocol.specs.Event.{Event, Step, DeliverLog, DeliverAck, Replay, Told, Stop, Suspect, Drain, Reply, Refused, is_disk}
+use Rattle.pair_protocol.specs.Effects.{Halted, WantsEntry, WantsMoves}
+use Rattle.pair_protocol.specs.World.{World, LogEntry, winner_in, with_host}
+use Rattle.pair_protocol.specs.Event.{Event, Step, DeliverLog, DeliverAcknowledgement, Replay, Told, Stop, Suspect, Drain, Reply, Refused, is_disk}
 use Rattle.pair_protocol.specs.Refusals.{refusal}
-use Rattle.pair_protocol.specs.Rows.{Does, IsBehind}
+use Rattle.pair_protocol.specs.Rows.{AtNode, OfNode, Does}
 
 -- ---- which events may need memory
 
 -- a packet brings the entry that its node holds next
 pub record BringsNext {S : Type 0} (w : World S) (m n : ℕ) : Type 0 where
-  pub x : Node S
-  pub there : slice_get w.nodes n ≡ Some x
   pub generation : ℕ
   pub index : ℕ
   pub e : Entry
   pub message : slice_get w.messages m ≡ Some (LogEntry generation index e)
-  pub next : index ≡ length x.held
-
--- a node is to make moves, and the first one is a step
-pub record StepsFirst {S : Type 0} (M : Machine S) (w : World S) (n turns : ℕ) : Type 0 where
-  pub some : 0 < turns
-  pub x : Node S
-  pub there : slice_get w.nodes n ≡ Some x
-  pub behind : IsBehind M x
-
--- nobody has won the generation of a node
-pub record AsksFirst {S : Type 0} (w : World S) (n : ℕ) : Type 0 where
-  pub x : Node S
-  pub there : slice_get w.nodes n ≡ Some x
-  pub nobody : winner_in w.winners x.generation ≡ None
+  pub next : OfNode w n (WantsEntry index)
 
 -- what holds if an event is answered with out of memory: never for no turns, for moves whose first is not a step, for a
 -- repeat or a packet past a gap, or for a winner that asks again
 abbrev pub MayWantMemory : {S : Type 0} → Machine S → World S → Event → Type 0
 MayWantMemory M w (Step n turns) = 0 < turns
 MayWantMemory M w (DeliverLog m n) = BringsNext w m n
-MayWantMemory M w (DeliverAck m n) = ⊥
-MayWantMemory M w (Replay n turns) = StepsFirst M w n turns
+MayWantMemory M w (DeliverAcknowledgement m n) = ⊥
+MayWantMemory M w (Replay n turns) = OfNode w n (WantsMoves M turns)
 MayWantMemory M w (Told n port) = ⊥
 MayWantMemory M w (Stop n) = ⊥
-MayWantMemory M w (Suspect n) = AsksFirst w n
-MayWantMemory M w (Drain n turns) = StepsFirst M w n turns
+MayWantMemory M w (Suspect n) = OfNode w n (λ x. winner_in w.winners x.generation ≡ None)
+MayWantMemory M w (Drain n turns) = OfNode w n (WantsMoves M turns)
 MayWantMemory M w e = Unit {0}
 
 -- ---- the row
 
--- a node that asked the arbiter and lost is halted
-pub record Halts {S : Type 0} (w : World S) (n : ℕ) (new : World S) : Type 0 where
-  pub x : Node S
-  pub there : slice_get w.nodes n ≡ Some x
-  pub after : new ≡ with_node w n (halts x)
-
--- any other refused event leaves the world as it was
+-- a node that asked the arbiter and lost is halted; any other refused event leaves the world as it was
 abbrev pub Leaves : {S : Type 0} → World S → Event → Fault → World S → Type 0
-Leaves w (Suspect n) Lost new = Halts w n new
+Leaves w (Suspect n) Lost new = AtNode w n Halted new
 Leaves w e fault new = new ≡ w
 
 pub data Row {S : Type 0} (M : Machine S) (C : Copying S) (w : World S) (e : Event) : Reply → World S → Type 0 where

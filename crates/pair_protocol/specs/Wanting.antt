@@ -8,7 +8,7 @@ use Rattle.pair_protocol.specs.Copying.{Copying}
 use Rattle.pair_protocol.specs.Node.{Node}
 use Rattle.pair_protocol.specs.World.{World, LogEntry, winner_in}
 use Rattle.pair_protocol.specs.Event.{Event, Step, DeliverLog, Replay, Suspect, Drain, Reply, Refused}
-use Rattle.pair_protocol.specs.Rows.{IsBehind, Replays}
+use Rattle.pair_protocol.specs.Effects.{IsBehind, Replays}
 use Rattle.pair_protocol.specs.Row.{Row}
 
 -- an event is never answered with out of memory

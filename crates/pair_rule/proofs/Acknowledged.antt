@@ -5,9 +5,9 @@ use Rattle.pair_protocol.specs.Lawful.{Among}
 use Rattle.pair_protocol.specs.Copying.{Copying}
 use Rattle.i8080_words.specs.declared.refusal.Fault.TheVariants.{BadAck}
 use Rattle.pair_protocol.specs.Node.{Node, hears, holds}
-use Rattle.pair_protocol.specs.Refusals.{fault_if, first_of, at_log, at_node, at_acked, ack_refusal}
+use Rattle.pair_protocol.specs.Refusals.{fault_if, first_of, at_log_entry, at_node, at_acknowledgement, acknowledge_refusal}
 use Rattle.pair_protocol.specs.World.{World, LogEntry, Acknowledgement, with_node}
-use Rattle.pair_protocol.specs.Event.{DeliverLog, Ack, DeliverAck, MessageIs, HeldIs, New, Old}
+use Rattle.pair_protocol.specs.Event.{DeliverLog, Acknowledge, DeliverAcknowledgement, MessageIs, HeldIs, New, Old}
 use Rattle.pair_protocol.specs.Row.{Accepts}
 use Rattle.pair_rule.specs.Law.{SeeEvents}
 use Rattle.pair_rule.specs.Shown.{First, Nothing}
@@ -36,13 +36,13 @@ module _ {S : Type 0} (M : Machine S) (C : Copying S) (typed0 typed1 : List ℕ)
   at_backup none = second_node M C typed0 typed1 k w z none
 
   -- the backup acknowledges what it holds
-  pub hold_leads : k.backup.winner ≡ 0 → Leads M C typed0 typed1 (held k) w (λ events. events ≡ Ack 1 ∷ [])
+  pub hold_leads : k.backup.winner ≡ 0 → Leads M C typed0 typed1 (held k) w (λ events. events ≡ Acknowledge 1 ∷ [])
   hold_leads none = record {
-    events = Ack 1 ∷ [];
+    events = Acknowledge 1 ∷ [];
     formed = refl;
     replies = MessageIs (length w.messages) ∷ [];
     new = record w { messages = w.messages ++ Acknowledgement 1 (length k.backup.list) 0 ∷ [] };
-    run = First (Accepts (ap (λ o. at_node o ack_refusal) (at_backup none)) record { x = backup; there = at_backup none; says = record { reply = refl; after = refl } }) Nothing;
+    run = First (Accepts (ap (λ o. at_node o acknowledge_refusal) (at_backup none)) record { held = length k.backup.list; replayed = 0; node = record { x = backup; there = at_backup none; said = (refl, refl) }; says = record { reply = refl; after = refl } }) Nothing;
     once = inl refl;
     shows = record {
       moves = z.moves;
@@ -92,14 +92,14 @@ module _ {S : Type 0} (M : Machine S) (C : Copying S) (typed0 typed1 : List ℕ)
   see_none : (n : ℕ) → n ≡ k.primary.seen → Leads M C typed0 typed1 (saw n k) w (λ events. events ≡ [])
   see_none n e = record { events = []; formed = refl; replies = []; new = w; run = Nothing; once = inl refl; shows = saw_shows n w (omega (arith, e)) (z.nodes ∙ (λ i. primary_node (saw (sym e i) k) z.moves z.s ∷ backup_node M k ∷ [])) refl refl refl refl }
 
-  see_one : (n : ℕ) → k.primary.winner ≡ 0 → k.primary.seen ≤ n → n ≤ length k.primary.list → Among n k.backup.held_values → Leads M C typed0 typed1 (saw n k) w (λ events. (m : ℕ) × (events ≡ DeliverAck m 0 ∷ []))
+  see_one : (n : ℕ) → k.primary.winner ≡ 0 → k.primary.seen ≤ n → n ≤ length k.primary.list → Among n k.backup.held_values → Leads M C typed0 typed1 (saw n k) w (λ events. (m : ℕ) × (events ≡ DeliverAcknowledgement m 0 ∷ []))
   see_one n none more short at = let m = index_of (Acknowledgement 1 n 0) w.messages (z.sent.acks n at) in
       let greater : max k.primary.seen n ≡ n = omega arith in record {
-        events = DeliverAck m.0 0 ∷ [];
+        events = DeliverAcknowledgement m.0 0 ∷ [];
         formed = (m.0, refl);
         replies = HeldIs (hears primary n 0).covered ∷ [];
         new = with_node w 0 (hears primary n 0);
-        run = First (Accepts ((λ i. at_acked (at_primary none i) (m.1 i)) ∙ ap (λ b. first_of (fault_if b BadAck ∷ [])) (not_below (length k.primary.list) n short)) record { x = primary; there = at_primary none; generation = 1; held = n; replayed = 0; message = m.1; reply = refl; after = refl }) Nothing;
+        run = First (Accepts ((λ i. at_acknowledgement (at_primary none i) (m.1 i)) ∙ ap (λ b. first_of (fault_if b BadAck ∷ [])) (not_below (length k.primary.list) n short)) record { generation = 1; held = n; replayed = 0; message = m.1; covered = (hears primary n 0).covered; at = record { x = primary; there = at_primary none; y = hears primary n 0; done = (refl, refl); after = refl }; reply = refl }) Nothing;
         once = inl refl;
         shows = saw_shows n (with_node w 0 (hears primary n 0)) more
             (ap (λ l. slice_set l 0 (hears primary n 0)) z.nodes ∙ (λ i. record primary { role = primary_role (sym none i); running = primary_runs (sym none i); covered = greater i } ∷ backup_node M k ∷ []))
@@ -125,7 +125,7 @@ module _ {S : Type 0} (M : Machine S) (C : Copying S) (typed0 typed1 : List ℕ)
     formed = (m, refl);
     replies = New ∷ [];
     new = with_node w 1 (holds backup p.entry);
-    run = First (Accepts (λ i. at_log (at_backup none i) (there i)) record { x = backup; there = at_backup none; generation = 1; index = p.index; e = p.entry; message = there; holds = inl (next, refl, refl) }) Nothing;
+    run = First (Accepts (λ i. at_log_entry (at_backup none i) (there i)) record { generation = 1; index = p.index; e = p.entry; message = there; next = true; at = record { x = backup; there = at_backup none; y = holds backup p.entry; done = (next, refl); after = refl }; reply = refl }) Nothing;
     once = inl refl;
     shows = record {
       moves = z.moves;
@@ -150,7 +150,7 @@ module _ {S : Type 0} (M : Machine S) (C : Copying S) (typed0 typed1 : List ℕ)
     formed = (m, refl);
     replies = Old ∷ [];
     new = w;
-    run = First (Accepts (λ i. at_log (at_backup none i) (there i)) record { x = backup; there = at_backup none; generation = 1; index = p.index; e = p.entry; message = there; holds = inr ((λ e. let c : true ≡ false = sym (eq-eqb p.index (length k.backup.list) e) ∙ is in absurd (cc)), refl, refl) }) Nothing;
+    run = First (Accepts (λ i. at_log_entry (at_backup none i) (there i)) record { generation = 1; index = p.index; e = p.entry; message = there; next = false; at = record { x = backup; there = at_backup none; y = backup; done = ((λ e. let c : true ≡ false = sym (eq-eqb p.index (length k.backup.list) e) ∙ is in absurd (cc)), refl); after = sym (with_same w 1 backup (at_backup none)) }; reply = refl }) Nothing;
     once = inl refl;
     shows = record {
       moves = z.moves;

@@ -27,8 +27,8 @@ use Rattle.pair_protocol.specs.Event.{Event, Step, Send, TakeKey, TellSent, PutR
 use Rattle.pair_protocol.specs.Row.{Accepts}
 use Rattle.pair_rule.specs.Law.{AppendEvents}
 use Rattle.pair_rule.specs.Shown.{IsAcknowledged, IsSentBy, Happens, First, Nothing}
-use Rattle.pair_protocol.specs.Rows.{Advances, NoneLeft, Gives, Goes}
-use Rattle.pair_protocol.specs.Refusals.{fault_if, first_of, at_node, refusal, step_refusal, send_refusal, log_size, key_refusal, sent_refusal, is_number, at_done, at_under, place_refusal}
+use Rattle.pair_protocol.specs.Effects.{Advances, NoneLeft, Gives, Goes}
+use Rattle.pair_protocol.specs.Refusals.{fault_if, first_of, at_node, refusal, step_refusal, send_refusal, log_size, take_key_refusal, tell_sent_refusal, is_number, at_write_done, at_sector_read, get_refusal}
 use Rattle.pair_protocol.proofs.Traces.Lists.{among-prefix, among-split, map-append}
 use Rattle.pair_protocol.proofs.Traces.Moves.{operations-prefix, inputs-append, inputs_of-append, timed_entry, count_entry, entries-append}
 use Rattle.pair_rule.specs.declared.view.Knowledge.{Knowledge}
@@ -145,7 +145,7 @@ module _ {S : Type 0} (M : Machine S) (C : Copying S) (counts : Counts M) (laws 
         (ap (λ l. at_node (slice_get l 0) (send_refusal (length list))) nodes
         ∙ (let a : nat_lt (length list) k.primary.seen ≡ false = (let b = held_short k st in let c = st.behind in grind arith) in
         λ i. fault_if (false || (a i || is_none (get_last list e i))) Unknown))
-        record { x = y; there = ap (λ l. slice_get l 0) nodes; e = e; entry = get_last list e; says = record { reply = refl; after = refl } }) Nothing);
+        record { e = e; node = record { x = y; there = ap (λ l. slice_get l 0) nodes; said = get_last list e }; says = record { reply = refl; after = refl } }) Nothing);
     once = inl winners;
     shows = record {
       moves = moves;
@@ -216,17 +216,23 @@ module _ {S : Type 0} (M : Machine S) (C : Copying S) (counts : Counts M) (laws 
       (recorded-append M M.boot z.s u z.moves (r.moves ++ Do (Some o) ∷ []) z.recorded (recorded-append M z.s t u r.moves (Do (Some o) ∷ []) r.recorded (u, step, refl)))
       (longer_entries n t r (Do (Some o)) ∙ ap (λ c. list ++ Mark c ∷ []) (sym same)) refl
       (First (Accepts (step_allowed n x.0 x.1) record {
-        x = here;
-        there = first_node M C typed0 typed1 k w z none;
-        y = y;
         made = suc n;
+        count = M.count u;
         why = Gave (id_of o);
-        steps = subst (λ (p : ℕ × Node S). Advances M here p.0 p.1 p.0 (Gave (id_of o)))
-            (λ i. (let e : n + 1 ≡ suc n = omega arith in e i, record y { list = sym (inputs_of-append list (e ∷ []) ∙ append-nil (inputs_of list)) i; notes = sym (longer_notes n t r (Do (Some o))) i }))
-            (advance_quiet z.s n t q 1 (record (at u) { log = list ++ e ∷ []; notes = notes_after (notes_from 0 [] [] z.moves) list (Some o) }) 1 (Gave (id_of o)) (Gives u o step));
-        some = inr (omega arith);
+        at = record {
+          x = here;
+          there = first_node M C typed0 typed1 k w z none;
+          y = y;
+          done = record {
+            advances = subst (λ (p : ℕ × Node S). Advances M here p.0 p.1 p.0 (Gave (id_of o)))
+                (λ i. (let e : n + 1 ≡ suc n = omega arith in e i, record y { list = sym (inputs_of-append list (e ∷ []) ∙ append-nil (inputs_of list)) i; notes = sym (longer_notes n t r (Do (Some o))) i }))
+                (advance_quiet z.s n t q 1 (record (at u) { log = list ++ e ∷ []; notes = notes_after (notes_from 0 [] [] z.moves) list (Some o) }) 1 (Gave (id_of o)) (Gives u o step));
+            some = inr (omega arith);
+            counted = refl;
+          };
+          after = refl;
+        };
         reply = refl;
-        after = refl;
       }) Nothing)
       (ap (λ l. slice_set l 0 y) z.nodes) z.sent refl refl refl z.only (r.moves ++ Do (Some o) ∷ [], refl) (longer_done n t r (Do (Some o)) (λ c number a. absurd a)) (suc n, refl)
 
@@ -243,21 +249,27 @@ module _ {S : Type 0} (M : Machine S) (C : Copying S) (counts : Counts M) (laws 
   quiet_event n t Begin = (
     Ran 0 (M.count z.s) Turns,
     First (Accepts (ap (λ o. at_node o (step_refusal M 0)) (first_node M C typed0 typed1 k w z none))
-        record { x = here; there = first_node M C typed0 typed1 k w z none; y = here; made = 0; why = Turns; steps = NoneLeft; some = inl refl; reply = refl; after = refl }) Nothing,
+        record { made = 0; count = M.count z.s; why = Turns; at = record { x = here; there = first_node M C typed0 typed1 k w z none; y = here; done = record { advances = NoneLeft; some = inl refl; counted = refl }; after = refl }; reply = refl }) Nothing,
   )
   quiet_event m u (More {n = n} {t = t} q free step) = let x = quiet_first M z.s n t (u, None) q step in (
     Ran (suc n) (M.count u) Turns,
     First (Accepts (step_allowed n x.0 x.1)
         record {
-          x = here;
-          there = first_node M C typed0 typed1 k w z none;
-          y = at u;
           made = suc n;
+          count = M.count u;
           why = Turns;
-          steps = subst (λ p. Advances M here p (at u) p Turns) (let e : n + 1 ≡ suc n = omega arith in e) (advance_quiet z.s n t q 1 (at u) 1 Turns (advance_one t u 0 (at u) 0 Turns step NoneLeft));
-          some = inr (omega arith);
+          at = record {
+            x = here;
+            there = first_node M C typed0 typed1 k w z none;
+            y = at u;
+            done = record {
+              advances = subst (λ p. Advances M here p (at u) p Turns) (let e : n + 1 ≡ suc n = omega arith in e) (advance_quiet z.s n t q 1 (at u) 1 Turns (advance_one t u 0 (at u) 0 Turns step NoneLeft));
+              some = inr (omega arith);
+              counted = refl;
+            };
+            after = refl;
+          };
           reply = refl;
-          after = refl;
         }) Nothing,
   )
 
@@ -294,9 +306,9 @@ module _ {S : Type 0} (M : Machine S) (C : Copying S) (counts : Counts M) (laws 
       → Leads M C typed0 typed1 (appended (entry_of (M.count t) (input.Rx port byte)) k) w (AppendEvents (length list) (entry_of (M.count t) (input.Rx port byte)))
   key_leads n t u port byte q accepts typed = let short : M.keys t port < top = key_room M (M.keys t port) accepts.room in let w1 : World S = with_node w 0 (at t) in
       input_leads n t u (input.Rx port byte) q accepts (TakeKey 0 port (M.keys t port) ∷ []) (Taken ∷ []) (with_node w1 0 (taken t u (input.Rx port byte)))
-      (First (Accepts ((λ i. first_of (fault_if (is_none (typed i)) Unknown ∷ at_node (there_at t i) (key_refusal M port (M.keys t port)) ∷ []))
+      (First (Accepts ((λ i. first_of (fault_if (is_none (typed i)) Unknown ∷ at_node (there_at t i) (take_key_refusal M port (M.keys t port)) ∷ []))
       ∙ (λ i. first_of (first_of (fault_if (not (eq-eqb (M.keys t port) (M.keys t port) refl i)) WrongNumber ∷ fault_if (no_full i) LogFull ∷ fault_if (no_spent i) Spent ∷ fault_if (too_low (M.keys t port) top short i) Spent ∷ []) ∷ [])))
-      record { byte = byte; typed = typed; input = record { x = at t; there = there_at t; s = u; takes = accepts.taken; reply = refl; after = refl } }) Nothing)
+      record { byte = byte; typed = typed; input = record { at = record { x = at t; there = there_at t; y = taken t u (input.Rx port byte); done = record { s = u; takes = accepts.taken; after = refl }; after = refl }; reply = refl } }) Nothing)
       (then_nodes t (taken t u (input.Rx port byte))) z.sent refl refl refl z.only (λ m e. absurd (let c : Written m ≡ bare (input.Rx port byte) = e in cc)) (n, M.keys t port, refl)
 
   -- the acceptance of a byte that its terminal has counted
@@ -305,10 +317,10 @@ module _ {S : Type 0} (M : Machine S) (C : Copying S) (counts : Counts M) (laws 
   sent_leads n t u port number q accepts due some came = let w1 : World S = with_node w 0 (at t) in
       input_leads n t u (input.Sent port) q accepts (TellSent 0 port number ∷ []) (Taken ∷ []) (with_node w1 0 (taken t u (input.Sent port)))
       (First (Accepts (let a : (number == 0) ≡ false = ne_eqb number 0 (λ e. omega arith) in let b : nat_lt (length (accepted w port)) number ≡ false = grind arith in
-      (λ i. first_of (fault_if (a i || b i) Unknown ∷ at_node (there_at t i) (sent_refusal M port number) ∷ []))
+      (λ i. first_of (fault_if (a i || b i) Unknown ∷ at_node (there_at t i) (tell_sent_refusal M port number) ∷ []))
       ∙ (λ i. first_of (first_of (fault_if (is_none (due i)) NotDue ∷ fault_if (not (is_number (due i) number)) WrongNumber ∷ fault_if (no_full i) LogFull ∷ fault_if (no_spent i) Spent ∷ []) ∷ []))
       ∙ (λ i. first_of (first_of (None ∷ fault_if (not (eq-eqb number number refl i)) WrongNumber ∷ None ∷ None ∷ []) ∷ [])))
-      record { x = at t; there = there_at t; s = u; takes = accepts.taken; reply = refl; after = refl }) Nothing)
+      record { at = record { x = at t; there = there_at t; y = taken t u (input.Sent port); done = record { s = u; takes = accepts.taken; after = refl }; after = refl }; reply = refl }) Nothing)
       (then_nodes t (taken t u (input.Sent port))) z.sent refl refl refl z.only (λ m e. absurd (let c : Written m ≡ bare (input.Sent port) = e in cc)) (n, number, refl)
 
   -- a write that the disk has answered
@@ -316,9 +328,9 @@ module _ {S : Type 0} (M : Machine S) (C : Copying S) (counts : Counts M) (laws 
       → Leads M C typed0 typed1 (appended (entry_of (M.count t) (input.Written number)) k) w (AppendEvents (length list) (entry_of (M.count t) (input.Written number)))
   done_leads n t u number q accepts at_disk put = let w1 : World S = with_node w 0 (at t) in let m = index_of (WriteDone number) w.messages at_disk in
       input_leads n t u (input.Written number) q accepts (PutReply m.0 0 ∷ []) (Taken ∷ []) (with_node w1 0 (taken t u (input.Written number)))
-      (First (Accepts ((λ i. at_done M (there_at t i) (m.1 i))
+      (First (Accepts ((λ i. at_write_done M (there_at t i) (m.1 i))
       ∙ (λ i. first_of (accepts.allowed i ∷ fault_if (no_full i) LogFull ∷ fault_if (no_spent i) Spent ∷ [])))
-      record { number = number; message = m.1; input = record { x = at t; there = there_at t; s = u; takes = accepts.taken; reply = refl; after = refl } }) Nothing)
+      record { number = number; message = m.1; input = record { at = record { x = at t; there = there_at t; y = taken t u (input.Written number); done = record { s = u; takes = accepts.taken; after = refl }; after = refl }; reply = refl } }) Nothing)
       (then_nodes t (taken t u (input.Written number))) z.sent refl refl refl z.only (λ m e. subst (HasWrite k.disk.puts) (sym (same_number m number e)) put) (n, m.0, refl)
 
   -- a sector that the disk read: its record is still the same
@@ -334,10 +346,10 @@ module _ {S : Type 0} (M : Machine S) (C : Copying S) (counts : Counts M) (laws 
       let same : same_address (M.address t drive sector) (record address { drive = drive; sector = sector }) ≡ true = ap (λ a. same_address (M.address t drive sector) a) (sym placed) ∙ same_self (M.address t drive sector) in
       input_leads n t u i q accepts (Get 0 sector ∷ GetReply (length w.messages) 0 ∷ []) (MessageIs (length w.messages) ∷ Taken ∷ []) (with_node w2 0 (taken t u i))
       (First (Accepts (let a : nat_le 32 sector ≡ false = too_low sector 32 accepts.is_input.1 in
-      (λ j. first_of (fault_if (a j) Unknown ∷ at_node (there_at t j) (place_refusal M) ∷ []))
+      (λ j. first_of (fault_if (a j) Unknown ∷ at_node (there_at t j) (get_refusal M) ∷ []))
       ∙ (λ j. first_of (first_of (fault_if (is_none (selected j)) NotDue ∷ []) ∷ [])))
-      record { x = at t; there = there_at t; drive = drive; selected = selected; reply = refl; after = refl })
-      (First (Accepts ((λ j. at_under M (there_at t j) (read j))
+      record { address = address; node = record { x = at t; there = there_at t; said = record { drive = drive; selected = selected; address_is = refl } }; reply = refl; after = refl })
+      (First (Accepts ((λ j. at_sector_read M (there_at t j) (read j))
       ∙ (λ j. first_of (fault_if (not (same j)) NotDue ∷ accepts.allowed j ∷ fault_if (no_full j) LogFull ∷ fault_if (no_spent j) Spent ∷ [])))
-      record { address = record address { drive = drive; sector = sector }; number = number; bytes = bytes; message = read; input = record { x = at t; there = there_at t; s = u; takes = accepts.taken; reply = refl; after = refl } }) Nothing))
+      record { address = record address { drive = drive; sector = sector }; number = number; bytes = bytes; message = read; input = record { at = record { x = at t; there = there_at t; y = taken t u i; done = record { s = u; takes = accepts.taken; after = refl }; after = refl }; reply = refl } }) Nothing))
       (then_nodes t (taken t u i)) (more_sent k w.messages (SectorRead address (sector_record M w.puts address).number (sector_record M w.puts address).bytes ∷ []) z.sent) refl refl refl (only_more list k.backup.held_values (SectorRead address (sector_record M w.puts address).number (sector_record M w.puts address).bytes) w.messages tt z.only) (λ m e. absurd (let c : Written m ≡ bare (input.Sector drive sector number bytes) = e in cc)) (n, length w.messages, refl)

@@ -48,7 +48,7 @@ module _ {S : Type 0} (M : Machine S) (C : Copying S) (typed0 typed1 : List ℕ)
   release_event o name there none found covered = First (Accepts
       ((λ i. first_of (there i ∷ at_node (at_primary none i) (release_refusal M name) ∷ []))
       ∙ (λ i. first_of (first_of (fault_if (is_none (found i)) NotDue ∷ fault_if (not (covered i)) NotCovered ∷ []) ∷ [])))
-      record { x = primary; there = at_primary none; o = o; outstanding = found; says = record { reply = refl; after = refl } }) Nothing
+      record { o = o; node = record { x = primary; there = at_primary none; said = found }; says = record { reply = refl; after = refl } }) Nothing
 
   pub release_leads : (o : Operation) → Among o (operations z.moves) → IsAcknowledged z.moves k.primary.seen o → no_such w (id_of o) ≡ None → k.primary.winner ≡ 0 → M.find z.s (id_of o) ≡ Some o → covers k.primary.seen 0 (note_of (notes_from 0 [] [] z.moves) (id_of o)) ≡ true
       → Leads M C typed0 typed1 (record k { primary = record k.primary { released = k.primary.released ++ o ∷ [] } }) w (λ events. events ≡ Release 0 (id_of o) ∷ [])

@@ -8,7 +8,7 @@ use Rattle.log_entry.specs.declared.entry.Entry.TheVariants.{Mark, Rx, Sent, Sec
 use Rattle.plain_single.specs.Reach.{keys, acceptances}
 use Rattle.pair_protocol.specs.Faithful.{IsPrefix}
 use Rattle.pair_protocol.specs.Lawful.{Among}
-use Rattle.pair_protocol.proofs.Moves.{inputs_of-append, keys-append, acceptances-append}
+use Rattle.pair_protocol.proofs.Traces.Moves.{inputs_of-append, acceptances-append, keys-append}
 use Rattle.pair_rule.specs.declared.payload.DiskAnswer.{DiskAnswer}
 use Rattle.pair_rule.specs.declared.payload.DiskAnswer.TheVariants as answer
 use Rattle.pair_rule.specs.declared.view.Knowledge.{Knowledge}

@@ -15,7 +15,7 @@ use Rattle.plain_single.specs.Reach.{keys, acceptances}
 use Rattle.shared_disk.specs.declared.disk.SectorRead.{SectorRead}
 use Rattle.pair_protocol.specs.Change.{Reached}
 use Rattle.pair_protocol.specs.Copying.{Copying, IsCopying}
-use Rattle.pair_protocol.specs.Event.{Event, Reply, Step, TakeKey, Send, DeliverLog, Ack, DeliverAck, Release, Arrive, TellSent, Suspect, Put, PutReply, Get, GetReply}
+use Rattle.pair_protocol.specs.Event.{Event, Reply, Step, TakeKey, Send, DeliverLog, Acknowledge, DeliverAcknowledgement, Release, Arrive, TellSent, Suspect, Put, PutReply, Get, GetReply}
 use Rattle.pair_protocol.specs.Faithful.{Faithful, IsPrefix}
 use Rattle.pair_protocol.specs.Grows.{Grows}
 use Rattle.pair_protocol.specs.Lawful.{Among, Lawful, top}
@@ -127,13 +127,13 @@ AppendEvents i (Sector count drive sector number bytes) events =
 -- what is seen is one acknowledgement that comes, or nothing at 0
 abbrev pub SeeEvents : ℕ → List Event → Type 0
 SeeEvents zero events = events ≡ []
-SeeEvents (suc n) events = (m : ℕ) × (events ≡ DeliverAck m 0 ∷ [])
+SeeEvents (suc n) events = (m : ℕ) × (events ≡ DeliverAcknowledgement m 0 ∷ [])
 
 -- the events of each step
 abbrev pub EventsOf : {S : Type 0} {M : Machine S} {typed0 typed1 : List ℕ} {k new : Knowledge} →
     ThreadStep M typed0 typed1 k new → List Event → Type 0
 EventsOf {k = k} (Appends e run may told) events = AppendEvents (length k.primary.list) e events
-EventsOf (Holds waits) events = events ≡ Ack 1 ∷ []
+EventsOf (Holds waits) events = events ≡ Acknowledge 1 ∷ []
 EventsOf {k = k} (Sees serves) events = SeeEvents (last_or 0 k.backup.held_values) events
 EventsOf (Takes p waits is) events = (m : ℕ) × (events ≡ DeliverLog m 1 ∷ [])
 EventsOf (PrimaryWins serves waits) events = events ≡ Suspect 0 ∷ []

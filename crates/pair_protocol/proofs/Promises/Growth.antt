@@ -8,14 +8,14 @@ use Rattle.i8080_words.specs.declared.refusal.Fault.TheVariants.{Lost}
 use Rattle.plain_single.specs.declared.timed.Timed.{Timed}
 use Rattle.pair_protocol.specs.Change.{Change, Changes, Reached, Stays, Then, Wins}
 use Rattle.pair_protocol.specs.Copying.{Copying, IsCopying}
-use Rattle.pair_protocol.specs.Event.{Ack, DeliverLog, Event, GetReply, PartComes, PutReply, Release, Reply, Send, SendPart, Suspect, TakeKey}
+use Rattle.pair_protocol.specs.Event.{Acknowledge, DeliverAcknowledgement, DeliverLog, Drain, Step, Replay, Stop, TellSent, Event, GetReply, PartComes, PutReply, Release, Reply, Send, SendPart, Suspect, TakeKey}
 use Rattle.pair_protocol.specs.Faithful.{IsPrefix}
 use Rattle.pair_protocol.specs.Grows.{Grows}
 use Rattle.pair_protocol.specs.Lawful.{Lawful}
 use Rattle.pair_protocol.specs.Node.{Node, Role, Spare, wins, won_role}
 use Rattle.pair_protocol.specs.Refusals.{refusal}
 use Rattle.pair_protocol.specs.Row.{Accepts, DeviceFails, Leaves, Refuses, Row, WantsMemory}
-use Rattle.pair_protocol.specs.Rows.{Again, Asks, Comes, Completes, Does, PartDoes}
+use Rattle.pair_protocol.specs.Rows.{Suspects, Does}
 use Rattle.pair_protocol.specs.Settled.{Settled, Settles, highest, list_of}
 use Rattle.pair_protocol.specs.World.{Winner, World, winner_in, with_winner}
 use Rattle.pair_protocol.proofs.Invariant.{BackupWon, Inv, LineOf, PrimaryWon, Stage, Undecided, settled, winner_at}
@@ -134,12 +134,6 @@ won_list {S} M C laws copies w i n x h ns none c list count g m y settled before
 
 -- ---- rows
 
-part_winners : {S : Type 0} (C : Copying S) (w : World S) (n : ℕ) (x : Node S) (index : ℕ) (part : List ℕ) (r : Reply)
-    (new : World S) → PartDoes C w n x index part r new → new.winners ≡ w.winners
-part_winners C w n x index part r new (Again k) = refl
-part_winners C w n x index part r new (Comes k v) = refl
-part_winners C w n x index part r new (Completes parts s k v made) = refl
-
 -- every event except a suspicion leaves the winners as they are
 abbrev IsSuspicion : Event → Type 0
 IsSuspicion (Suspect n) = Unit {0}
@@ -147,17 +141,22 @@ IsSuspicion e = ⊥
 
 does_winners : {S : Type 0} (M : Machine S) (C : Copying S) (w : World S) (e : Event) (r : Reply) (new : World S) →
     (IsSuspicion e → ⊥) → Does M C w e r new → new.winners ≡ w.winners
-does_winners M C w (TakeKey n port index) r new h d = ap (λ v. v.winners) d.input.after
+does_winners M C w (Step n turns) r new h d = ap (λ v. v.winners) d.at.after
+does_winners M C w (TakeKey n port index) r new h d = ap (λ v. v.winners) d.input.at.after
 does_winners M C w (Send n index) r new h d = ap (λ v. v.winners) d.says.after
-does_winners M C w (DeliverLog m n) r new h d =
-    elim d.holds [ inl k ↦ ap (λ v. v.winners) k.2 | inr k ↦ ap (λ v. v.winners) k.2 ]
-does_winners M C w (Ack n) r new h d = ap (λ v. v.winners) d.says.after
+does_winners M C w (DeliverLog m n) r new h d = ap (λ v. v.winners) d.at.after
+does_winners M C w (Acknowledge n) r new h d = ap (λ v. v.winners) d.says.after
+does_winners M C w (DeliverAcknowledgement m n) r new h d = ap (λ v. v.winners) d.at.after
+does_winners M C w (Replay n turns) r new h d = ap (λ v. v.winners) d.at.after
 does_winners M C w (Release n name) r new h d = ap (λ v. v.winners) d.says.after
+does_winners M C w (TellSent n port k) r new h d = ap (λ v. v.winners) d.at.after
+does_winners M C w (Stop n) r new h d = ap (λ v. v.winners) d.at.after
 does_winners M C w (Suspect n) r new h d = absurd (h tt)
-does_winners M C w (PutReply m n) r new h d = ap (λ v. v.winners) d.input.after
-does_winners M C w (GetReply m n) r new h d = ap (λ v. v.winners) d.input.after
+does_winners M C w (Drain n turns) r new h d = ap (λ v. v.winners) d.at.after
+does_winners M C w (PutReply m n) r new h d = ap (λ v. v.winners) d.input.at.after
+does_winners M C w (GetReply m n) r new h d = ap (λ v. v.winners) d.input.at.after
 does_winners M C w (SendPart n index) r new h d = ap (λ v. v.winners) d.says.after
-does_winners M C w (PartComes m n) r new h d = part_winners C w n d.x d.index d.part r new d.does
+does_winners M C w (PartComes m n) r new h d = ap (λ v. v.winners) d.at.after
 does_winners M C w e r new h d = ap (λ v. v.winners) d.after
 
 leaves_winners : {S : Type 0} (w : World S) (e : Event) (fault : Fault) (new : World S) → Leaves w e fault new →
@@ -174,7 +173,7 @@ suspicion (Suspect n) = inr (n, refl)
 suspicion e = inl (λ h. h)
 
 asks_won : {S : Type 0} (M : Machine S) (C : Copying S) → Lawful M → IsCopying M C →
-    (w new : World S) (n : ℕ) (r : Reply) → Inv M C w → refusal M C w (Suspect n) ≡ None → Asks w n r new →
+    (w new : World S) (n : ℕ) (r : Reply) → Inv M C w → refusal M C w (Suspect n) ≡ None → Suspects w n r new →
     WonList M w new
 asks_won M C laws copies w new n r i p d = elim d.after [
   | inl h ↦ subst (λ v. WonList M w v) (sym h.1)

@@ -6,12 +6,12 @@ use Rattle.guest_board.specs.Machine.{Machine}
 use Rattle.i8080_words.specs.declared.refusal.Fault.TheVariants.{WrongRole}
 use Rattle.log_entry.specs.declared.entry.Entry.TheVariants.{Mark}
 use Rattle.pair_protocol.specs.Copying.{Copying}
-use Rattle.pair_protocol.specs.Event.{Accepted, Ack, Arrive, DeliverLog, Drain, Dropped, Event, Gave, MessageIs, MovedAlone, New, Ran, Refused, Release, Reply, Send, Step, Stop, Stopped, Suspect, TakeKey, TypeByte, TypedAt, Won}
+use Rattle.pair_protocol.specs.Event.{Accepted, Acknowledge, Arrive, DeliverLog, Drain, Dropped, Event, Gave, MessageIs, MovedAlone, New, Ran, Refused, Release, Reply, Send, Step, Stop, Stopped, Suspect, TakeKey, TypeByte, TypedAt, Won}
 use Rattle.pair_protocol.specs.Examples.{TakesOver, WritesDisk, letter, sector_write, small, small_copying}
 use Rattle.pair_protocol.specs.Lawful.{top}
 use Rattle.pair_protocol.specs.Node.{Alone, Node, Primary}
 use Rattle.pair_protocol.specs.Row.{Accepts, First, Nothing, Refuses, Run}
-use Rattle.pair_protocol.specs.Rows.{AtEnd, Gives, Goes, NoneLeft, OneMark, OneStep}
+use Rattle.pair_protocol.specs.Effects.{AtEnd, Gives, Goes, NoneLeft, OneMark, OneStep}
 use Rattle.pair_protocol.specs.Waiting.{is_read}
 use Rattle.pair_protocol.specs.World.{Acknowledgement, LogEntry, World, accepted, opening, with_host}
 
@@ -74,7 +74,7 @@ drained = record {
 }
 
 abbrev first_events : List Event
-first_events = Step 0 10 ∷ Send 0 0 ∷ DeliverLog 0 1 ∷ Ack 1 ∷ Stop 0 ∷ Suspect 1 ∷ TypeByte 0 65 ∷ TakeKey 1 0 0 ∷
+first_events = Step 0 10 ∷ Send 0 0 ∷ DeliverLog 0 1 ∷ Acknowledge 1 ∷ Stop 0 ∷ Suspect 1 ∷ TypeByte 0 65 ∷ TakeKey 1 0 0 ∷
     Drain 1 10 ∷ []
 
 abbrev first_replies : List Reply
@@ -85,52 +85,62 @@ until_drained : Run small small_copying (opening small) first_events first_repli
 unfolding top
 until_drained =
     First (Accepts refl (record {
-      x = _;
-      there = refl;
-      y = _;
       made = _;
+      count = _;
       why = _;
-      steps = Goes 1 refl (Goes 2 refl (Goes 3 refl (Goes 4 refl (Goes 5 refl (Gives 6 letter refl)))));
-      some = inr (omega arith);
+      at = record {
+        x = _;
+        there = refl;
+        y = _;
+        done = record { advances = Goes 1 refl (Goes 2 refl (Goes 3 refl (Goes 4 refl (Goes 5 refl (Gives 6 letter refl))))); some = inr (omega arith); counted = refl };
+        after = refl;
+      };
       reply = refl;
-      after = refl;
     }))
+    (First (Accepts refl (record { e = _; node = record { x = _; there = refl; said = refl }; says = record { reply = refl; after = refl } }))
     (First (Accepts refl (record {
-      x = _;
-      there = refl;
-      e = _;
-      entry = refl;
-      says = record { reply = refl; after = refl };
-    }))
-    (First (Accepts refl (record {
-      x = _;
-      there = refl;
       generation = _;
       index = _;
       e = _;
       message = refl;
-      holds = inl (refl, refl, refl);
+      next = true;
+      at = record { x = _; there = refl; y = _; done = (refl, refl); after = refl };
+      reply = refl;
     }))
-    (First (Accepts refl (record { x = _; there = refl; says = record { reply = refl; after = refl } }))
-    (First (Accepts refl (record { x = _; there = refl; reply = refl; after = refl }))
+    (First (Accepts refl (record {
+      held = _;
+      replayed = _;
+      node = record { x = _; there = refl; said = (refl, refl) };
+      says = record { reply = refl; after = refl };
+    }))
+    (First (Accepts refl (record { at = record { x = _; there = refl; y = _; done = refl; after = refl }; reply = refl }))
     (First (Accepts refl (record { x = _; there = refl; reply = refl; after = inl (refl, refl) }))
     (First (Accepts refl (record { reply = refl; after = refl }))
     (First (Refuses refl refl)
     (First (Accepts refl (record {
-      x = _;
-      there = refl;
-      y = _;
       made = _;
-      moves = OneStep _ 1 None refl (omega arith) refl
-          (OneStep _ 2 None refl (omega arith) refl
-          (OneStep _ 3 None refl (omega arith) refl
-          (OneStep _ 4 None refl (omega arith) refl
-          (OneStep _ 5 None refl (omega arith) refl
-          (OneStep _ 6 (Some letter) refl (let l : 5 < 6 = omega arith in l) refl
-          (OneMark _ refl refl refl (AtEnd refl)))))));
-      some = inl (omega arith);
+      alone = true;
+      at = record {
+        x = _;
+        there = refl;
+        y = _;
+        done = record {
+          z = _;
+          replayed = record {
+            moves = OneStep _ 1 None refl (omega arith) refl
+                (OneStep _ 2 None refl (omega arith) refl
+                (OneStep _ 3 None refl (omega arith) refl
+                (OneStep _ 4 None refl (omega arith) refl
+                (OneStep _ 5 None refl (omega arith) refl
+                (OneStep _ 6 (Some letter) refl (let l : 5 < 6 = omega arith in l) refl (OneMark _ refl refl refl (AtEnd refl)))))));
+            some = inl (omega arith);
+            ends = refl;
+          };
+          after = refl;
+        };
+        after = refl;
+      };
       reply = refl;
-      after = refl;
     }))
     Nothing))))))))
 
@@ -144,13 +154,7 @@ after_drained : (w : World ℕ) × Run small small_copying drained last_events l
 unfolding top
 after_drained = (
   _,
-  First (Accepts refl (record {
-    x = _;
-    there = refl;
-    o = _;
-    outstanding = refl;
-    says = record { reply = refl; after = refl };
-  }))
+  First (Accepts refl (record { o = _; node = record { x = _; there = refl; said = refl }; says = record { reply = refl; after = refl } }))
       (First (Accepts refl (record { port = _; number = _; byte = _; message = refl; reply = refl; after = refl }))
       (First (Accepts refl (record { port = _; number = _; byte = _; message = refl; reply = refl; after = refl }))
       Nothing)),
@@ -171,92 +175,110 @@ unfolding top is_read
 writes_disk = (
   _,
   First (Accepts refl (record {
-    x = _;
-    there = refl;
-    y = _;
     made = _;
+    count = _;
     why = _;
-    steps = Goes 1 refl (Goes 2 refl NoneLeft);
-    some = inr (omega arith);
+    at = record {
+      x = _;
+      there = refl;
+      y = _;
+      done = record { advances = Goes 1 refl (Goes 2 refl NoneLeft); some = inr (omega arith); counted = refl };
+      after = refl;
+    };
     reply = refl;
-    after = refl;
   }))
-      (First (Accepts refl (record { x = _; there = refl; drive = _; selected = refl; reply = refl; after = refl }))
+      (First (Accepts refl (record {
+        address = _;
+        node = record { x = _; there = refl; said = record { drive = _; selected = refl; address_is = refl } };
+        reply = refl;
+        after = refl;
+      }))
       (First (Accepts refl (record {
         address = _;
         number = _;
         bytes = _;
         message = refl;
-        input = record { x = _; there = refl; s = 3; takes = refl; reply = refl; after = refl };
+        input = record {
+          at = record {
+            x = _;
+            there = refl;
+            y = _;
+            done = record { s = 3; takes = refl; after = refl };
+            after = refl;
+          };
+          reply = refl;
+        };
       }))
       (First (Accepts refl (record {
-        x = _;
-        there = refl;
-        y = _;
         made = _;
+        count = _;
         why = _;
-        steps = Gives 4 (Write sector_write) refl;
-        some = inr (omega arith);
+        at = record {
+          x = _;
+          there = refl;
+          y = _;
+          done = record { advances = Gives 4 (Write sector_write) refl; some = inr (omega arith); counted = refl };
+          after = refl;
+        };
         reply = refl;
-        after = refl;
       }))
+      (First (Accepts refl (record { e = _; node = record { x = _; there = refl; said = refl }; says = record { reply = refl; after = refl } }))
+      (First (Accepts refl (record { e = _; node = record { x = _; there = refl; said = refl }; says = record { reply = refl; after = refl } }))
       (First (Accepts refl (record {
-        x = _;
-        there = refl;
-        e = _;
-        entry = refl;
-        says = record { reply = refl; after = refl };
-      }))
-      (First (Accepts refl (record {
-        x = _;
-        there = refl;
-        e = _;
-        entry = refl;
-        says = record { reply = refl; after = refl };
-      }))
-      (First (Accepts refl (record {
-        x = _;
-        there = refl;
         generation = _;
         index = _;
         e = _;
         message = refl;
-        holds = inl (refl, refl, refl);
+        next = true;
+        at = record { x = _; there = refl; y = _; done = (refl, refl); after = refl };
+        reply = refl;
       }))
       (First (Accepts refl (record {
-        x = _;
-        there = refl;
         generation = _;
         index = _;
         e = _;
         message = refl;
-        holds = inl (refl, refl, refl);
+        next = true;
+        at = record { x = _; there = refl; y = _; done = (refl, refl); after = refl };
+        reply = refl;
       }))
-      (First (Accepts refl (record { x = _; there = refl; says = record { reply = refl; after = refl } }))
       (First (Accepts refl (record {
-        x = _;
-        there = refl;
+        held = _;
+        replayed = _;
+        node = record { x = _; there = refl; said = (refl, refl) };
+        says = record { reply = refl; after = refl };
+      }))
+      (First (Accepts refl (record {
         generation = _;
         held = _;
         replayed = _;
         message = refl;
+        covered = _;
+        at = record { x = _; there = refl; y = _; done = (refl, refl); after = refl };
         reply = refl;
-        after = refl;
       }))
-      (First (Accepts refl (record {
-        x = _;
-        there = refl;
-        o = _;
-        outstanding = refl;
-        says = record { reply = refl; after = refl };
-      }))
+      (First (Accepts refl (record { o = _; node = record { x = _; there = refl; said = refl }; says = record { reply = refl; after = refl } }))
       (First (Accepts refl (record { write = _; message = refl; reply = refl; after = refl }))
       (First (Accepts refl (record {
         number = _;
         message = refl;
-        input = record { x = _; there = refl; s = 5; takes = refl; reply = refl; after = refl };
+        input = record {
+          at = record {
+            x = _;
+            there = refl;
+            y = _;
+            done = record { s = 5; takes = refl; after = refl };
+            after = refl;
+          };
+          reply = refl;
+        };
       }))
-      (First (Accepts refl (record { x = _; there = refl; drive = _; selected = refl; reply = refl; after = refl }))
+      (First (Accepts refl (record {
+        address = _;
+        node = record { x = _; there = refl; said = record { drive = _; selected = refl; address_is = refl } };
+        reply = refl;
+        after = refl;
+      }))
       Nothing))))))))))))),
   refl,
 )

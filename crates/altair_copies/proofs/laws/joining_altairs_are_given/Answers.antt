@@ -1,6 +1,6 @@
 use Rattle.guest_board.specs.Guest.{altair}
-use Rattle.pair_protocol.proofs.Given.{joining_is_given}
-use Rattle.pair_protocol.proofs.Runs.{run_reaches}
+use Rattle.pair_protocol.proofs.Promises.Joining.{joining_is_given}
+use Rattle.pair_protocol.proofs.Promises.Runs.{run_reaches}
 use Rattle.altair_copies.specs.Copies.{image_copy}
 use Rattle.altair_copies.proofs.laws.joining_altairs_are_given.Goals as goal
 

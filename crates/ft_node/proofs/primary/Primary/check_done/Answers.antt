@@ -3,7 +3,7 @@ use Rattle.std.proofs.Common.{◌≡◌, None, sym, ap, subst, ◌∙◌}
 use Rattle.guest_board.specs.Machine.{refusal_of}
 use Rattle.guest_board.specs.declared.input.Input.TheVariants as input
 use Rattle.log_buffer.specs.Log.{IsWithinLimits, room_answer}
-use Rattle.pair_protocol.specs.Refusals.{done_refusal}
+use Rattle.pair_protocol.specs.Refusals.{put_reply_refusal}
 use Rattle.ft_node.proofs.PassedChecks.{not_refused}
 use Rattle.ft_node.proofs.PrimaryChecks.{log_answers}
 use Rattle.ft_node.proofs.PrimaryInputs.{keeps_log}
@@ -23,5 +23,5 @@ returns g c = λ x p.
     ap (λ s. refusal_of M s i) p.machine
     ∙ ap (λ board. refusal_of M (g.B.Lockstep.state board) i) (sym c.board.ensures)
     ∙ not_refused _ c.in_ok-check.field-0 c.in_ok-check.ensures.answer in
-    log_answers (done_refusal M c.args.number x) (refusal_of M x.machine i) l c.room.result
+    log_answers (put_reply_refusal M c.args.number x) (refusal_of M x.machine i) l c.room.result
     (write_done M c.args.number x l keeps) own (c.room.ensures ∙ ap room_answer c.log-2.ensures)

@@ -5,7 +5,7 @@ use Rattle.std.proofs.lemmas.Result.{err_from_is_err_and}
 use Rattle.i8080_words.specs.declared.limits.TheConstants.{GREATEST_NUMBER}
 use Rattle.i8080_words.specs.declared.refusal.Fault.TheVariants.{Spent}
 use Rattle.log_buffer.specs.Log.{IsWithinLimits, refusal_of, room_answer}
-use Rattle.pair_protocol.specs.Refusals.{first_of, key_refusal, keys_spent}
+use Rattle.pair_protocol.specs.Refusals.{first_of, take_key_refusal, keys_spent}
 use Rattle.ft_node.proofs.PrimaryChecks.{allowed_by, refused_by}
 use Rattle.ft_node.proofs.PrimaryInputs.{keeps_log}
 use Rattle.ft_node.proofs.PrimaryRefusals.{next_key, keys_are_left, keys_are_spent, room_refused, room_there}
@@ -27,7 +27,7 @@ returns-in_err-room-clause-answer g c = λ x p.
     let answer = c.in_err-room.ensures ∙ ap room_answer c.log-2.ensures in
     let e = err_from_is_err_and c.from_residual.result c.from_residual.ensures.1 in
     rw (e.1, e.2)
-    (refused_by (key_refusal M c.args.port c.args.index x) c.in_err-room.field-0.0
+    (refused_by (take_key_refusal M c.args.port c.args.index x) c.in_err-room.field-0.0
     (next ∙ room_refused (refusal_of l) (first_of (keys_spent M c.args.port x ∷ [])) c.in_err-room.field-0.0 answer))
 
 pub returns-then-index-ge-GREATEST_NUMBER-clause-answer : goal.returns-then-index-ge-GREATEST_NUMBER-clause-answer
@@ -46,7 +46,7 @@ returns-then-index-ge-GREATEST_NUMBER-clause-answer g c = λ x p.
     let answer = c.in_ok-room.ensures ∙ ap room_answer c.log-2.ensures in
     let most : GREATEST_NUMBER ≤ M.keys x.machine c.args.port =
     subst (λ n. GREATEST_NUMBER ≤ n) index_is c.if-index-ge-GREATEST_NUMBER.true in
-    refused_by (key_refusal M c.args.port c.args.index x) Spent
+    refused_by (take_key_refusal M c.args.port c.args.index x) Spent
     (next ∙ room_there (refusal_of l) (first_of (keys_spent M c.args.port x ∷ [])) c.in_ok-room.field-0 answer
     ∙ keys_are_spent M c.args.port x most)
 
@@ -66,6 +66,6 @@ returns-clause-answer g c = λ x p.
     let answer = c.in_ok-room.ensures ∙ ap room_answer c.log-2.ensures in
     let left : M.keys x.machine c.args.port < GREATEST_NUMBER =
     subst (λ n. n < GREATEST_NUMBER) index_is c.if-index-ge-GREATEST_NUMBER.false in
-    allowed_by (key_refusal M c.args.port c.args.index x)
+    allowed_by (take_key_refusal M c.args.port c.args.index x)
     (next ∙ room_there (refusal_of l) (first_of (keys_spent M c.args.port x ∷ [])) c.in_ok-room.field-0 answer
     ∙ keys_are_left M c.args.port x left)

@@ -5,7 +5,7 @@ use Rattle.i8080_words.specs.declared.refusal.Fault.TheVariants.{NotDue}
 use Rattle.guest_board.specs.Machine.{refusal_of}
 use Rattle.guest_board.specs.declared.input.Input.TheVariants as input
 use Rattle.log_buffer.specs.Log.{IsWithinLimits, room_answer}
-use Rattle.pair_protocol.specs.Refusals.{sent_refusal}
+use Rattle.pair_protocol.specs.Refusals.{tell_sent_refusal}
 use Rattle.ft_node.proofs.PrimaryChecks.{log_answers}
 use Rattle.ft_node.proofs.PrimaryInputs.{keeps_log}
 use Rattle.ft_node.proofs.PrimaryRefusals.{byte_due}
@@ -27,7 +27,7 @@ returns g c = λ x p.
     ∙ some in
     let own : refusal_of M x.machine (input.Sent c.args.port) ≡ None =
     ap (λ d. cond (is_none d) (Some NotDue) None) is in
-    log_answers (sent_refusal M c.args.port c.args.number x) (refusal_of M x.machine (input.Sent c.args.port)) l
+    log_answers (tell_sent_refusal M c.args.port c.args.number x) (refusal_of M x.machine (input.Sent c.args.port)) l
     c.room.result
     (byte_due M c.args.port c.args.number due x l keeps is (eq-eqb due c.args.number c.if-due-number.false)) own
     (c.room.ensures ∙ ap room_answer c.log-2.ensures)

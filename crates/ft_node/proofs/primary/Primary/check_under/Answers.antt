@@ -4,7 +4,7 @@ use Rattle.pair_protocol.proofs.Keeps.Disk.{same_address-refl}
 use Rattle.guest_board.specs.Machine.{refusal_of}
 use Rattle.guest_board.specs.declared.input.Input.TheVariants as input
 use Rattle.log_buffer.specs.Log.{IsWithinLimits, room_answer}
-use Rattle.pair_protocol.specs.Refusals.{under_refusal}
+use Rattle.pair_protocol.specs.Refusals.{get_reply_refusal}
 use Rattle.ft_node.proofs.PassedChecks.{not_refused}
 use Rattle.ft_node.proofs.PrimaryChecks.{log_answers}
 use Rattle.ft_node.proofs.PrimaryInputs.{keeps_log}
@@ -30,6 +30,6 @@ returns g c = λ x p.
     ap (λ s. refusal_of M s i) p.machine
     ∙ ap (λ board. refusal_of M (g.B.Lockstep.state board) i) (sym c.board-2.ensures)
     ∙ not_refused _ c.in_ok-check.field-0 c.in_ok-check.ensures.answer in
-    log_answers (under_refusal M a c.args.number c.args.bytes x) (refusal_of M x.machine i) l c.room.result
+    log_answers (get_reply_refusal M a c.args.number c.args.bytes x) (refusal_of M x.machine i) l c.room.result
     (under_head M a c.args.number c.args.bytes x l keeps (same_address-refl _ a here)) own
     (c.room.ensures ∙ ap room_answer c.log-2.ensures)

@@ -1,6 +1,6 @@
 -- The check let the completion pass, so the offer takes it, and the write no longer has a note.
 use Rattle.guest_board.specs.declared.input.Input.TheVariants as input
-use Rattle.pair_protocol.specs.Refusals.{done_refusal}
+use Rattle.pair_protocol.specs.Refusals.{put_reply_refusal}
 use Rattle.ft_node.proofs.PassedChecks.{done_passes}
 use Rattle.ft_node.proofs.PrimaryInputs.{offer_stands, offer_done}
 use Rattle.ft_node.proofs.primary.Primary.done.Goals as goal
@@ -11,7 +11,7 @@ returns-in_err-offer-clause-answer g c = λ x p.
     let passes =
     done_passes M c.args.number x c.in_ok-check_done.field-0 (c.in_ok-check_done.ensures x p) in
     absurd (offer_stands M (g.B.Lockstep.state c.args.self.now.recorder.board) c.args.self.now.recorder.log
-    c.args.self.now.sender c.args.self.now.coverage x (input.Written c.args.number) (done_refusal M c.args.number x)
+    c.args.self.now.sender c.args.self.now.coverage x (input.Written c.args.number) (put_reply_refusal M c.args.number x)
     c.in_err-offer.field-0.0 p passes c.in_err-offer.ensures.answer)
 
 pub returns-clause-answer : goal.returns-clause-answer
@@ -22,5 +22,5 @@ returns-clause-answer g c = λ x p.
     rw c.forget.ensures
     (offer_done M (g.B.Lockstep.state c.args.self.now.recorder.board) (g.B.Lockstep.state c.offer.new.self.board)
     c.args.self.now.recorder.log c.offer.new.self.log c.args.self.now.sender c.args.self.now.coverage x
-    (input.Written c.args.number) (done_refusal M c.args.number x) c.in_ok-offer.field-0 g.met.B.Lockstep.operations p
+    (input.Written c.args.number) (put_reply_refusal M c.args.number x) c.in_ok-offer.field-0 g.met.B.Lockstep.operations p
     passes.allowed c.in_ok-offer.ensures.after c.in_ok-offer.ensures.entry)

@@ -5,7 +5,7 @@ use Rattle.std.specs.Option.{option_map}
 use Rattle.event_callbacks.specs.declared.operations.OpId.TheVariants as id
 use Rattle.guest_board.specs.declared.input.Input.TheVariants as input
 use Rattle.output_rule.specs.Covering.{Covering}
-use Rattle.pair_protocol.specs.Refusals.{sent_refusal}
+use Rattle.pair_protocol.specs.Refusals.{tell_sent_refusal}
 use Rattle.ft_node.specs.Calls.{Takes}
 use Rattle.ft_node.specs.Roles.{IsPrimary}
 use Rattle.ft_node.proofs.PassedChecks.{sent_passes}
@@ -19,7 +19,7 @@ returns-in_err-offer-clause-answer g c = λ x p.
     sent_passes M c.args.port c.args.number x c.in_ok-check_sent.field-0 (c.in_ok-check_sent.ensures x p) in
     absurd (offer_stands M (g.B.Lockstep.state c.args.self.now.recorder.board) c.args.self.now.recorder.log
     c.args.self.now.sender c.args.self.now.coverage x (input.Sent c.args.port)
-    (sent_refusal M c.args.port c.args.number x) c.in_err-offer.field-0.0 p passes.0 c.in_err-offer.ensures.answer)
+    (tell_sent_refusal M c.args.port c.args.number x) c.in_err-offer.field-0.0 p passes.0 c.in_err-offer.ensures.answer)
 
 pub returns-clause-answer : goal.returns-clause-answer
 returns-clause-answer g c = λ x p.
@@ -32,10 +32,10 @@ returns-clause-answer g c = λ x p.
     ap (λ s. M.due_byte s c.args.port) (sym p.machine) ∙ passes.1 in
     rw c.forget.ensures
     (subst
-    (λ (later : Covering). Takes M (input.Sent c.args.port) (sent_refusal M c.args.port c.args.number x) x (Ok tt)
+    (λ (later : Covering). Takes M (input.Sent c.args.port) (tell_sent_refusal M c.args.port c.args.number x) x (Ok tt)
     (IsPrimary M t c.offer.new.self.log c.args.self.now.sender later))
     (ap (λ d. notes_left (option_map (λ number. id.Byte c.args.port number) d) c.args.self.now.coverage) due)
     (offer_done M s t c.args.self.now.recorder.log c.offer.new.self.log c.args.self.now.sender
-    c.args.self.now.coverage x (input.Sent c.args.port) (sent_refusal M c.args.port c.args.number x)
+    c.args.self.now.coverage x (input.Sent c.args.port) (tell_sent_refusal M c.args.port c.args.number x)
     c.in_ok-offer.field-0 g.met.B.Lockstep.operations p passes.0.allowed c.in_ok-offer.ensures.after
     c.in_ok-offer.ensures.entry))

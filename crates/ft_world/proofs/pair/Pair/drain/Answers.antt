@@ -1,13 +1,12 @@
 -- There is no such node, or it refuses, or it moves by what it still holds, and is alone if none of it is left.
 use Rattle.std.proofs.Common.{Ok, ap, cond, false, is_ok, subst}
 use Rattle.ft_world.specs.Applies.{Applies}
-use Rattle.ft_world.specs.Does as does
 use Rattle.ft_world.specs.Pairs.{running_of}
 use Rattle.pair_events.specs.declared.event.Event.TheVariants as event
 use Rattle.pair_events.specs.declared.reply.Reply.TheVariants as reply
 use Rattle.ft_world.proofs.Applying.{hands_on}
-use Rattle.ft_world.proofs.AtHosts.{at_host, no_host, same_hosts, wants_at_host}
-use Rattle.ft_world.proofs.AtReplays.{drains_applies, drains_refused, station_may_replay}
+use Rattle.ft_world.proofs.AtHosts.{at_host, no_call}
+use Rattle.ft_world.proofs.AtMoves.{drains_applies, drains_refused, station_may_replay}
 use Rattle.ft_world.proofs.pair.Pair.drain.Goals as goal
 
 pub drain-requires : goal.drain-requires
@@ -23,17 +22,16 @@ returns-in_err-station-clause-row g c = λ course h.
     hands_on c.from_residual.result c.in_err-station.field-0.0 c.from_residual.ensures.1
     (drains_refused g.B.Lockstep.state g.B.Lockstep.machine g.D.SectorStore.records (running_of c.args.self.now)
     course c.args.node c.args.turns c.in_err-station.field-0.0 c.station_mut.follows.lender-at-none.items h
-    (no_host h _ c.args.node _ _ _ c.in_err-station.ensures.absent.0 c.in_err-station.ensures.absent.1
-    (same_hosts h _ (rw c.in_err-station.was at c.station_mut.follows.holds-at-none))))
+    (no_call h c.in_err-station.ensures.absent.0 c.in_err-station.ensures.absent.1
+    (rw c.in_err-station.was at c.station_mut.follows.holds-at-none)))
 
 pub returns-in_err-drained-clause-row : goal.returns-in_err-drained-clause-row
 returns-in_err-drained-clause-row g c = λ course h.
     hands_on c.from_residual-in_err-drained.result c.in_err-drained.field-0.0 c.from_residual-in_err-drained.ensures.1
     (drains_refused g.B.Lockstep.state g.B.Lockstep.machine g.D.SectorStore.records (running_of c.args.self.now)
     course c.args.node c.args.turns c.in_err-drained.field-0.0 (c.station_mut.follows.lender c.drain.new.self).items h
-    (wants_at_host h c.in_ok-station.ensures.found
-    (c.station_mut.follows.holds c.drain.new.self (ap is_ok c.in_ok-station.was)) _ _
-    (does.WantsMoves g.B.Lockstep.machine c.args.turns) (does.Emptied g.B.Lockstep.machine c.args.turns) c.in_err-drained.ensures.answer))
+    (at_host h c.in_ok-station.ensures.found
+    (c.station_mut.follows.holds c.drain.new.self (ap is_ok c.in_ok-station.was)) c.in_err-drained.ensures.answer))
 
 pub returns-then-drained-clause-row : goal.returns-then-drained-clause-row
 returns-then-drained-clause-row g c = λ course h.
@@ -45,8 +43,7 @@ returns-then-drained-clause-row g c = λ course h.
     (drains_applies g.B.Lockstep.state g.B.Lockstep.machine g.D.SectorStore.records (running_of c.args.self.now)
     course c.args.node c.args.turns d (c.station_mut.follows.lender c.drain.new.self).items h
     (at_host h c.in_ok-station.ensures.found
-    (c.station_mut.follows.holds c.drain.new.self (ap is_ok c.in_ok-station.was)) _ _
-    (does.Emptied g.B.Lockstep.machine c.args.turns) c.in_ok-drained.ensures.answer))
+    (c.station_mut.follows.holds c.drain.new.self (ap is_ok c.in_ok-station.was)) c.in_ok-drained.ensures.answer))
 
 pub returns-else-drained-clause-row : goal.returns-else-drained-clause-row
 returns-else-drained-clause-row g c = λ course h.
@@ -58,5 +55,4 @@ returns-else-drained-clause-row g c = λ course h.
     (drains_applies g.B.Lockstep.state g.B.Lockstep.machine g.D.SectorStore.records (running_of c.args.self.now)
     course c.args.node c.args.turns d (c.station_mut.follows.lender c.drain.new.self).items h
     (at_host h c.in_ok-station.ensures.found
-    (c.station_mut.follows.holds c.drain.new.self (ap is_ok c.in_ok-station.was)) _ _
-    (does.Emptied g.B.Lockstep.machine c.args.turns) c.in_ok-drained.ensures.answer))
+    (c.station_mut.follows.holds c.drain.new.self (ap is_ok c.in_ok-station.was)) c.in_ok-drained.ensures.answer))

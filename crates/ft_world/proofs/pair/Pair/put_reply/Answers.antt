@@ -2,12 +2,10 @@
 use Rattle.std.proofs.Common.{◌≡◌, None, Some, ap, is_ok}
 use Rattle.std.specs.Option.{option_and_then}
 use Rattle.std.specs.Prelude.{slice_get}
-use Rattle.guest_board.specs.declared.input.Input.TheVariants as input
-use Rattle.ft_world.specs.Does as does
 use Rattle.ft_world.specs.Messages.{written_of}
 use Rattle.ft_world.specs.Pairs.{running_of}
 use Rattle.ft_world.proofs.Applying.{hands_on}
-use Rattle.ft_world.proofs.AtHosts.{at_host, no_host, same_hosts}
+use Rattle.ft_world.proofs.AtHosts.{at_host, no_call}
 use Rattle.ft_world.proofs.DiskAnswers.{done_applies, done_refused, done_unknown}
 use Rattle.ft_world.proofs.pair.Pair.put_reply.Goals as goal
 
@@ -24,25 +22,23 @@ returns-in_err-station-clause-row g c = λ course h.
     (done_refused g.B.Lockstep.state g.B.Lockstep.machine g.D.SectorStore.records (running_of c.args.self.now) course
     c.args.message c.args.node c.in-Some.number c.in_err-station.field-0.0 c.station_mut.follows.lender-at-none.items
     brings h
-    (no_host h _ c.args.node _ _ _ c.in_err-station.ensures.absent.0 c.in_err-station.ensures.absent.1
-    (same_hosts h _ (rw c.in_err-station.was at c.station_mut.follows.holds-at-none))))
+    (no_call h c.in_err-station.ensures.absent.0 c.in_err-station.ensures.absent.1
+    (rw c.in_err-station.was at c.station_mut.follows.holds-at-none)))
 
-pub returns-in_err-done-clause-row : goal.returns-in_err-done-clause-row
-returns-in_err-done-clause-row g c = λ course h.
+pub returns-in_err-put_reply-clause-row : goal.returns-in_err-put_reply-clause-row
+returns-in_err-put_reply-clause-row g c = λ course h.
     let brings : option_and_then written_of (slice_get c.args.self.now.messages.items c.args.message) ≡ Some c.in-Some.number = (cc) in
-    hands_on c.from_residual-in_err-done.result c.in_err-done.field-0.0 c.from_residual-in_err-done.ensures.1
+    hands_on c.from_residual-in_err-put_reply.result c.in_err-put_reply.field-0.0 c.from_residual-in_err-put_reply.ensures.1
     (done_refused g.B.Lockstep.state g.B.Lockstep.machine g.D.SectorStore.records (running_of c.args.self.now) course
-    c.args.message c.args.node c.in-Some.number c.in_err-done.field-0.0
-    (c.station_mut.follows.lender c.done.new.self).items brings h
+    c.args.message c.args.node c.in-Some.number c.in_err-put_reply.field-0.0
+    (c.station_mut.follows.lender c.put_reply.new.self).items brings h
     (at_host h c.in_ok-station.ensures.found
-    (c.station_mut.follows.holds c.done.new.self (ap is_ok c.in_ok-station.was)) _ _
-    (does.Took g.B.Lockstep.machine (input.Written c.in-Some.number)) c.in_err-done.ensures.answer))
+    (c.station_mut.follows.holds c.put_reply.new.self (ap is_ok c.in_ok-station.was)) c.in_err-put_reply.ensures.answer))
 
 pub returns-clause-row : goal.returns-clause-row
 returns-clause-row g c = λ course h.
     let brings : option_and_then written_of (slice_get c.args.self.now.messages.items c.args.message) ≡ Some c.in-Some.number = (cc) in
     done_applies g.B.Lockstep.state g.B.Lockstep.machine g.D.SectorStore.records (running_of c.args.self.now) course
-    c.args.message c.args.node c.in-Some.number (c.station_mut.follows.lender c.done.new.self).items brings h
+    c.args.message c.args.node c.in-Some.number (c.station_mut.follows.lender c.put_reply.new.self).items brings h
     (at_host h c.in_ok-station.ensures.found
-    (c.station_mut.follows.holds c.done.new.self (ap is_ok c.in_ok-station.was)) _ _
-    (does.Took g.B.Lockstep.machine (input.Written c.in-Some.number)) c.in_ok-done.ensures.answer)
+    (c.station_mut.follows.holds c.put_reply.new.self (ap is_ok c.in_ok-station.was)) c.in_ok-put_reply.ensures.answer)

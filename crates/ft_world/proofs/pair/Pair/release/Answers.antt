@@ -1,10 +1,9 @@
 -- The device is not there, or there is no such node, or it refuses, or the operation is sent.
 use Rattle.std.proofs.Common.{subst}
-use Rattle.ft_world.specs.Does as does
 use Rattle.ft_world.specs.Messages.{Says}
 use Rattle.ft_world.specs.Pairs.{running_of}
 use Rattle.ft_world.proofs.Applying.{hands_on}
-use Rattle.ft_world.proofs.AtHosts.{no_host, reads_host}
+use Rattle.ft_world.proofs.AtHosts.{asks_nobody, asks_node}
 use Rattle.ft_world.proofs.Releasing.{releases_applies, releases_nowhere, releases_refused}
 use Rattle.ft_world.proofs.pair.Pair.release.Goals as goal
 
@@ -20,7 +19,7 @@ returns-in_err-station-clause-row g c = λ course h.
     (releases_refused g.B.Lockstep.state g.B.Lockstep.machine g.D.SectorStore.records (running_of c.args.self.now)
     course c.args.node c.args.id c.in_ok-check_device.field-0 c.in_err-station.field-0.0 h
     c.in_ok-check_device.ensures
-    (no_host h _ c.args.node _ _ _ c.in_err-station.ensures.absent.0 c.in_err-station.ensures.absent.1 tt))
+    (asks_nobody h c.in_err-station.ensures.absent.0 c.in_err-station.ensures.absent.1))
 
 pub returns-in_err-operation-clause-row : goal.returns-in_err-operation-clause-row
 returns-in_err-operation-clause-row g c = λ course h.
@@ -29,15 +28,13 @@ returns-in_err-operation-clause-row g c = λ course h.
     (releases_refused g.B.Lockstep.state g.B.Lockstep.machine g.D.SectorStore.records (running_of c.args.self.now)
     course c.args.node c.args.id c.in_ok-check_device.field-0 c.in_err-operation.field-0.0 h
     c.in_ok-check_device.ensures
-    (reads_host h c.args.node c.in_ok-station.station.now c.in_ok-station.ensures.found _ _
-    (does.Releases g.B.Lockstep.machine c.args.id) c.in_err-operation.ensures))
+    (asks_node h c.in_ok-station.ensures.found c.in_err-operation.ensures))
 
 pub returns-clause-row : goal.returns-clause-row
 returns-clause-row g c = λ course h.
     releases_applies g.B.Lockstep.state g.B.Lockstep.machine g.D.SectorStore.records (running_of c.args.self.now)
     course c.args.node c.args.id c.in_ok-check_device.field-0 c.in_ok-operation.operation c.say.result
     c.say.new.messages.items h c.in_ok-check_device.ensures
-    (reads_host h c.args.node c.in_ok-station.station.now c.in_ok-station.ensures.found _ _
-    (does.Releases g.B.Lockstep.machine c.args.id) c.in_ok-operation.ensures)
+    (asks_node h c.in_ok-station.ensures.found c.in_ok-operation.ensures)
     (subst (λ m. Says c.args.self.now.messages.items m c.say.result c.say.new.messages.items) c.releasing.ensures
     c.say.ensures)

@@ -1,10 +1,9 @@
 -- There is no such node, or it refuses, or it moves by what it holds.
 use Rattle.std.proofs.Common.{ap, is_ok}
-use Rattle.ft_world.specs.Does as does
 use Rattle.ft_world.specs.Pairs.{running_of}
 use Rattle.ft_world.proofs.Applying.{hands_on}
-use Rattle.ft_world.proofs.AtHosts.{at_host, no_host, same_hosts, wants_at_host}
-use Rattle.ft_world.proofs.AtReplays.{replays_applies, replays_refused, station_may_replay}
+use Rattle.ft_world.proofs.AtHosts.{at_host, no_call}
+use Rattle.ft_world.proofs.AtMoves.{replays_applies, replays_refused, station_may_replay}
 use Rattle.ft_world.proofs.pair.Pair.replay.Goals as goal
 
 pub replay-requires : goal.replay-requires
@@ -20,8 +19,8 @@ returns-in_err-station-clause-row g c = λ course h.
     hands_on c.from_residual.result c.in_err-station.field-0.0 c.from_residual.ensures.1
     (replays_refused g.B.Lockstep.state g.B.Lockstep.machine g.D.SectorStore.records (running_of c.args.self.now)
     course c.args.node c.args.turns c.in_err-station.field-0.0 c.station_mut.follows.lender-at-none.items h
-    (no_host h _ c.args.node _ _ _ c.in_err-station.ensures.absent.0 c.in_err-station.ensures.absent.1
-    (same_hosts h _ (rw c.in_err-station.was at c.station_mut.follows.holds-at-none))))
+    (no_call h c.in_err-station.ensures.absent.0 c.in_err-station.ensures.absent.1
+    (rw c.in_err-station.was at c.station_mut.follows.holds-at-none)))
 
 pub returns-in_err-replayed-clause-row : goal.returns-in_err-replayed-clause-row
 returns-in_err-replayed-clause-row g c = λ course h.
@@ -30,14 +29,12 @@ returns-in_err-replayed-clause-row g c = λ course h.
     (replays_refused g.B.Lockstep.state g.B.Lockstep.machine g.D.SectorStore.records (running_of c.args.self.now)
     course c.args.node c.args.turns c.in_err-replayed.field-0.0 (c.station_mut.follows.lender c.replay.new.self).items
     h
-    (wants_at_host h c.in_ok-station.ensures.found
-    (c.station_mut.follows.holds c.replay.new.self (ap is_ok c.in_ok-station.was)) _ _
-    (does.WantsMoves g.B.Lockstep.machine c.args.turns) (does.Repeated g.B.Lockstep.machine c.args.turns) c.in_err-replayed.ensures.answer))
+    (at_host h c.in_ok-station.ensures.found
+    (c.station_mut.follows.holds c.replay.new.self (ap is_ok c.in_ok-station.was)) c.in_err-replayed.ensures.answer))
 
 pub returns-clause-row : goal.returns-clause-row
 returns-clause-row g c = λ course h.
     replays_applies g.B.Lockstep.state g.B.Lockstep.machine g.D.SectorStore.records (running_of c.args.self.now)
     course c.args.node c.args.turns c.in_ok-replayed.replayed (c.station_mut.follows.lender c.replay.new.self).items h
     (at_host h c.in_ok-station.ensures.found
-    (c.station_mut.follows.holds c.replay.new.self (ap is_ok c.in_ok-station.was)) _ _
-    (does.Repeated g.B.Lockstep.machine c.args.turns) c.in_ok-replayed.ensures.answer)
+    (c.station_mut.follows.holds c.replay.new.self (ap is_ok c.in_ok-station.was)) c.in_ok-replayed.ensures.answer)

@@ -1,10 +1,8 @@
 -- No such key was typed, or there is no such node, or it refuses, or it takes the key.
 use Rattle.std.proofs.Common.{ap, is_ok}
-use Rattle.guest_board.specs.declared.input.Input.TheVariants as input
-use Rattle.ft_world.specs.Does as does
 use Rattle.ft_world.specs.Pairs.{running_of}
 use Rattle.ft_world.proofs.Applying.{hands_on}
-use Rattle.ft_world.proofs.AtHosts.{at_host, no_host, same_hosts}
+use Rattle.ft_world.proofs.AtHosts.{at_host, no_call}
 use Rattle.ft_world.proofs.AtInputs.{key_applies, key_refused, key_unknown}
 use Rattle.ft_world.proofs.pair.Pair.take_key.Goals as goal
 
@@ -20,24 +18,22 @@ returns-in_err-station-clause-row g c = λ course h.
     (key_refused g.B.Lockstep.state g.B.Lockstep.machine g.D.SectorStore.records (running_of c.args.self.now) course
     c.args.node c.args.port c.args.index c.in_ok-byte.byte c.in_err-station.field-0.0
     c.station_mut.follows.lender-at-none.items h c.in_ok-byte.ensures.answer
-    (no_host h _ c.args.node _ _ _ c.in_err-station.ensures.absent.0 c.in_err-station.ensures.absent.1
-    (same_hosts h _ (rw c.in_err-station.was at c.station_mut.follows.holds-at-none))))
+    (no_call h c.in_err-station.ensures.absent.0 c.in_err-station.ensures.absent.1
+    (rw c.in_err-station.was at c.station_mut.follows.holds-at-none)))
 
-pub returns-in_err-key-clause-row : goal.returns-in_err-key-clause-row
-returns-in_err-key-clause-row g c = λ course h.
-    hands_on c.from_residual-in_err-key.result c.in_err-key.field-0.0 c.from_residual-in_err-key.ensures.1
+pub returns-in_err-take_key-clause-row : goal.returns-in_err-take_key-clause-row
+returns-in_err-take_key-clause-row g c = λ course h.
+    hands_on c.from_residual-in_err-take_key.result c.in_err-take_key.field-0.0 c.from_residual-in_err-take_key.ensures.1
     (key_refused g.B.Lockstep.state g.B.Lockstep.machine g.D.SectorStore.records (running_of c.args.self.now) course
-    c.args.node c.args.port c.args.index c.in_ok-byte.byte c.in_err-key.field-0.0
-    (c.station_mut.follows.lender c.key.new.self).items h c.in_ok-byte.ensures.answer
+    c.args.node c.args.port c.args.index c.in_ok-byte.byte c.in_err-take_key.field-0.0
+    (c.station_mut.follows.lender c.take_key.new.self).items h c.in_ok-byte.ensures.answer
     (at_host h c.in_ok-station.ensures.found
-    (c.station_mut.follows.holds c.key.new.self (ap is_ok c.in_ok-station.was)) _ _
-    (does.Took g.B.Lockstep.machine (input.Rx c.args.port c.in_ok-byte.byte)) c.in_err-key.ensures.answer))
+    (c.station_mut.follows.holds c.take_key.new.self (ap is_ok c.in_ok-station.was)) c.in_err-take_key.ensures.answer))
 
 pub returns-clause-row : goal.returns-clause-row
 returns-clause-row g c = λ course h.
     key_applies g.B.Lockstep.state g.B.Lockstep.machine g.D.SectorStore.records (running_of c.args.self.now) course
-    c.args.node c.args.port c.args.index c.in_ok-byte.byte (c.station_mut.follows.lender c.key.new.self).items h
+    c.args.node c.args.port c.args.index c.in_ok-byte.byte (c.station_mut.follows.lender c.take_key.new.self).items h
     c.in_ok-byte.ensures.answer
     (at_host h c.in_ok-station.ensures.found
-    (c.station_mut.follows.holds c.key.new.self (ap is_ok c.in_ok-station.was)) _ _
-    (does.Took g.B.Lockstep.machine (input.Rx c.args.port c.in_ok-byte.byte)) c.in_ok-key.ensures.answer)
+    (c.station_mut.follows.holds c.take_key.new.self (ap is_ok c.in_ok-station.was)) c.in_ok-take_key.ensures.answer)

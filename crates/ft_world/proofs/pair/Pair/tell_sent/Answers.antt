@@ -1,10 +1,8 @@
 -- The terminal has not accepted such a byte, or there is no such node, or it refuses, or it takes the acceptance.
 use Rattle.std.proofs.Common.{ap, is_ok}
-use Rattle.guest_board.specs.declared.input.Input.TheVariants as input
-use Rattle.ft_world.specs.Does as does
 use Rattle.ft_world.specs.Pairs.{running_of}
 use Rattle.ft_world.proofs.Applying.{hands_on}
-use Rattle.ft_world.proofs.AtHosts.{at_host, no_host, same_hosts}
+use Rattle.ft_world.proofs.AtHosts.{at_host, no_call}
 use Rattle.ft_world.proofs.AtInputs.{sent_applies, sent_refused, sent_unknown}
 use Rattle.ft_world.proofs.pair.Pair.tell_sent.Goals as goal
 
@@ -20,24 +18,22 @@ returns-in_err-station-clause-row g c = λ course h.
     (sent_refused g.B.Lockstep.state g.B.Lockstep.machine g.D.SectorStore.records (running_of c.args.self.now) course
     c.args.node c.args.port c.args.number c.in_err-station.field-0.0 c.station_mut.follows.lender-at-none.items h
     c.in_ok-check_accepted.ensures.answer
-    (no_host h _ c.args.node _ _ _ c.in_err-station.ensures.absent.0 c.in_err-station.ensures.absent.1
-    (same_hosts h _ (rw c.in_err-station.was at c.station_mut.follows.holds-at-none))))
+    (no_call h c.in_err-station.ensures.absent.0 c.in_err-station.ensures.absent.1
+    (rw c.in_err-station.was at c.station_mut.follows.holds-at-none)))
 
-pub returns-in_err-sent-clause-row : goal.returns-in_err-sent-clause-row
-returns-in_err-sent-clause-row g c = λ course h.
-    hands_on c.from_residual-in_err-sent.result c.in_err-sent.field-0.0 c.from_residual-in_err-sent.ensures.1
+pub returns-in_err-tell_sent-clause-row : goal.returns-in_err-tell_sent-clause-row
+returns-in_err-tell_sent-clause-row g c = λ course h.
+    hands_on c.from_residual-in_err-tell_sent.result c.in_err-tell_sent.field-0.0 c.from_residual-in_err-tell_sent.ensures.1
     (sent_refused g.B.Lockstep.state g.B.Lockstep.machine g.D.SectorStore.records (running_of c.args.self.now) course
-    c.args.node c.args.port c.args.number c.in_err-sent.field-0.0 (c.station_mut.follows.lender c.sent.new.self).items
+    c.args.node c.args.port c.args.number c.in_err-tell_sent.field-0.0 (c.station_mut.follows.lender c.tell_sent.new.self).items
     h c.in_ok-check_accepted.ensures.answer
     (at_host h c.in_ok-station.ensures.found
-    (c.station_mut.follows.holds c.sent.new.self (ap is_ok c.in_ok-station.was)) _ _
-    (does.Took g.B.Lockstep.machine (input.Sent c.args.port)) c.in_err-sent.ensures.answer))
+    (c.station_mut.follows.holds c.tell_sent.new.self (ap is_ok c.in_ok-station.was)) c.in_err-tell_sent.ensures.answer))
 
 pub returns-clause-row : goal.returns-clause-row
 returns-clause-row g c = λ course h.
     sent_applies g.B.Lockstep.state g.B.Lockstep.machine g.D.SectorStore.records (running_of c.args.self.now) course
-    c.args.node c.args.port c.args.number (c.station_mut.follows.lender c.sent.new.self).items h
+    c.args.node c.args.port c.args.number (c.station_mut.follows.lender c.tell_sent.new.self).items h
     c.in_ok-check_accepted.ensures.answer
     (at_host h c.in_ok-station.ensures.found
-    (c.station_mut.follows.holds c.sent.new.self (ap is_ok c.in_ok-station.was)) _ _
-    (does.Took g.B.Lockstep.machine (input.Sent c.args.port)) c.in_ok-sent.ensures.answer)
+    (c.station_mut.follows.holds c.tell_sent.new.self (ap is_ok c.in_ok-station.was)) c.in_ok-tell_sent.ensures.answer)

@@ -1,9 +1,9 @@
--- A backup replays, and a node that won drains. What such a node holds and has not replayed are the next entries of a
+-- The machine of a node makes steps, a backup replays, and a node that won drains; a node halts. What such a node holds and has not replayed are the next entries of a
 -- recorded run, as at every node of a world that actions reach; so its calls may be made. Its moves keep its generation
 -- and its role, and a machine that begins elsewhere makes the same moves. A drained node is alone, and was no backup
 -- before.
-use Rattle.std.proofs.Common.{◌≡◌, ◌∙◌, Bool, Err, List, Ok, Some, ap, cond, drop, false, inl, inr, refl, subst, sym, true, ℕ}
-use Rattle.std.specs.Prelude.{slice_get}
+use Rattle.std.proofs.Common.{◌≡◌, Bool, Err, List, Ok, Some, cond, drop, false, inl, inr, refl, subst, sym, true, ℕ}
+use Rattle.std.specs.Prelude.{slice_get, ◌<◌}
 use Rattle.guest_board.specs.Machine.{Machine}
 use Rattle.i8080_words.specs.declared.refusal.Fault.{Fault}
 use Rattle.log_channel.specs.Channel.{Receiving}
@@ -12,27 +12,24 @@ use Rattle.replayer.specs.declared.replayer.Replayed.{Replayed}
 use Rattle.shared_disk.specs.declared.store.Record.{Record}
 use Rattle.pair_protocol.specs.Change.{Replaying}
 use Rattle.pair_protocol.specs.Copying.{no_copies}
-use Rattle.pair_protocol.specs.Event as protocol
+use Rattle.pair_protocol.specs.Effects.{Halted, WantsMoves}
 use Rattle.pair_protocol.specs.Node.{Backup, Draining, Node, Role}
-use Rattle.pair_protocol.specs.Refusals.{at_node, drain_refusal, replay_refusal}
-use Rattle.pair_protocol.specs.Row.{StepsFirst}
-use Rattle.pair_protocol.specs.Rows.{after_drain, at_end, drain_reply}
-use Rattle.pair_protocol.specs.Settled.{is_backup}
-use Rattle.pair_protocol.specs.World.{with_node}
-use Rattle.pair_protocol.proofs.Booted.{IsBehind-booted, IsOnTrace-back, Replays-booted}
+use Rattle.pair_protocol.specs.Refusals.{drain_refusal, replay_refusal, step_refusal, stop_refusal}
+use Rattle.pair_protocol.specs.Rows.{OfNode, drain_reply}
+use Rattle.pair_protocol.proofs.Booted.{Drained-booted, IsBehind-booted, IsOnTrace-back, Replayed-booted, Stepped-booted}
 use Rattle.pair_protocol.proofs.Promises.NodeStands.{nodes_stand}
-use Rattle.pair_protocol.proofs.Passed.{node-passed}
+use Rattle.ft_node.specs.Calls.{DrainedBy, Never, ReplayedBy, SteppedBy, why_of}
 use Rattle.ft_node.specs.Roles.{IsFollower}
 use Rattle.ft_node.specs.Seats.{IsNode, MayReplay}
 use Rattle.ft_node.specs.declared.node.Node as code
 use Rattle.ft_node.specs.declared.node.Node.TheVariants as seat
 use Rattle.ft_node.specs.declared.ran.Drained.{Drained}
+use Rattle.ft_node.specs.declared.ran.Ran.{Ran}
 use Rattle.ft_world.specs.Applies.{Applies, Shows, ShowsSome}
-use Rattle.ft_world.proofs.AtHosts.{AtHost, Becomes, Says, WantsAtHost}
+use Rattle.ft_world.proofs.AtHosts.{AtHost}
 use Rattle.ft_world.specs.declared.station.Station.{Station}
-use Rattle.ft_world.specs.Does.{Emptied, Repeated, WantsMoves}
 use Rattle.ft_world.specs.Running.{Running}
-use Rattle.ft_world.specs.Shows.{AreHosts, IsHost}
+use Rattle.ft_world.specs.Shows.{IsHost}
 use Rattle.ft_world.specs.Standing.{Course, machine_of}
 use Rattle.ft_world.specs.Words.{reply_of}
 use Rattle.pair_events.specs.declared.event.Event.TheVariants as event
@@ -41,9 +38,8 @@ use Rattle.ft_world.specs.declared.host.Host.{Host}
 use Rattle.ft_world.specs.declared.host.Host.TheVariants as host
 use Rattle.ft_world.proofs.Agreeing.{agree-other}
 use Rattle.ft_world.proofs.Applying.{no_copies_copy}
-use Rattle.ft_world.proofs.AtOneNode.{RowAt, node_applies, node_refused_wanting}
-use Rattle.ft_world.proofs.Keeping.{acting_role, replays_keep}
-use Rattle.ft_world.proofs.Sending.{asked_ok}
+use Rattle.ft_world.proofs.AtOneNode.{elsewhere, node_applies, node_refused}
+use Rattle.ft_world.proofs.Keeping.{acting_role, advances_keep, drained_stays, halted_kept, kept_stays, replays_keep}
 
 -- ---- what the calls require
 
@@ -79,112 +75,110 @@ station_may_replay state M records old n station some at =
     (some.shows.parts.hosts n) in
     may_replay state M records old c n x.0 station.node some.shows x.1 x.2.node
 
+-- ---- the machine of a node makes steps
+
+pub steps_refused : {B H D S : Type 0} (state : B → S) (M : Machine S) (records : D → List Record)
+    (old : Running B H D) (c : Course S) (n turns : ℕ) (fault : Fault) (hosts : List (Host B H)) →
+    Shows state M records old c →
+    AtHost state M c.world n (step_refusal M turns) (λ x. 0 < turns) (SteppedBy M turns) (Err fault) hosts →
+    Applies state M records c (event.Step n turns) (Err fault) (record old { hosts = hosts })
+steps_refused state M records old c n turns fault hosts h a =
+    node_refused h (event.Step n turns) fault hosts refl (λ s. s.said) refl a
+
+pub steps_applies : {B H D S : Type 0} (state : B → S) (M : Machine S) (records : D → List Record)
+    (old : Running B H D) (c : Course S) (n turns : ℕ) (ran : Ran) (hosts : List (Host B H)) →
+    Shows state M records old c →
+    AtHost state M c.world n (step_refusal M turns) (λ x. 0 < turns) (SteppedBy M turns) (Ok ran) hosts →
+    Applies state M records c (event.Step n turns) (Ok (reply.Ran ran.steps ran.count ran.why))
+    (record old { hosts = hosts })
+steps_applies state M records old c n turns ran hosts h a =
+    node_applies h (event.Step n turns) (reply.Ran ran.steps ran.count ran.why) hosts refl
+    (λ x y free s. kept_stays (advances_keep M s.advances))
+    (λ new at. record {
+      made = ran.steps;
+      count = ran.count;
+      why = why_of ran.why;
+      at = elsewhere (λ x y s. Stepped-booted M c.boot c.sectors s) at;
+      reply = refl;
+    }) a
+
 -- ---- a backup replays
 
 -- if the event is out of memory, the first move is a step
-steps_first : {S : Type 0} (M : Machine S) (c : Course S) (n turns : ℕ) → Says c.world.nodes n (WantsMoves M turns) →
-    StepsFirst (machine_of M c) c.world n turns
-steps_first M c n turns s = record {
-  some = s.said.0;
-  x = s.x;
-  there = s.there;
-  behind = IsBehind-booted M c.boot c.sectors s.x s.said.1;
-}
+steps_first : {S : Type 0} (M : Machine S) (c : Course S) (n turns : ℕ) → OfNode c.world n (WantsMoves M turns) →
+    OfNode c.world n (WantsMoves (machine_of M c) turns)
+steps_first M c n turns s =
+    record { x = s.x; there = s.there; said = (s.said.0, IsBehind-booted M c.boot c.sectors s.x s.said.1) }
 
 pub replays_refused : {B H D S : Type 0} (state : B → S) (M : Machine S) (records : D → List Record)
     (old : Running B H D) (c : Course S) (n turns : ℕ) (fault : Fault) (hosts : List (Host B H)) →
     Shows state M records old c →
-    WantsAtHost {A = Replayed} state M c.world.nodes n replay_refusal (Err fault) (WantsMoves M turns) hosts
-    (Repeated M turns) →
+    AtHost state M c.world n replay_refusal (WantsMoves M turns) (ReplayedBy M turns) (Err fault) hosts →
     Applies state M records c (event.Replay n turns) (Err fault) (record old { hosts = hosts })
 replays_refused state M records old c n turns fault hosts h a =
-    node_refused_wanting Replayed state M records old c (event.Replay n turns) n replay_refusal (WantsMoves M turns)
-    (Repeated M turns) fault hosts h refl (steps_first M c n turns) refl a
+    node_refused h (event.Replay n turns) fault hosts refl (steps_first M c n turns) refl a
 
 pub replays_applies : {B H D S : Type 0} (state : B → S) (M : Machine S) (records : D → List Record)
     (old : Running B H D) (c : Course S) (n turns : ℕ) (r : Replayed) (hosts : List (Host B H)) →
     Shows state M records old c →
-    AtHost state M c.world.nodes n replay_refusal (Ok r) hosts (Repeated M turns) →
+    AtHost state M c.world n replay_refusal (WantsMoves M turns) (ReplayedBy M turns) (Ok r) hosts →
     Applies state M records c (event.Replay n turns) (Ok (reply.Moved r.moves r.at_end))
     (record old { hosts = hosts })
 replays_applies state M records old c n turns r hosts h a =
-    node_applies state M records old c (event.Replay n turns) n replay_refusal (Repeated M turns) r
-    (reply.Moved r.moves r.at_end) hosts h refl
-    (λ x y there does. (let k = replays_keep M does.moves in record {
-      row = record {
-        x = x;
-        there = there;
-        y = y;
-        made = r.moves;
-        moves = Replays-booted M c.boot c.sectors does.moves;
-        some = does.some;
-        reply = ap (λ end. protocol.Moved r.moves end) does.ends;
-        after = refl;
-      };
-      generation = k.generation;
-      backup = ap is_backup k.role;
-    }))
-    a
+    node_applies h (event.Replay n turns) (reply.Moved r.moves r.at_end) hosts refl
+    (λ x y free s. kept_stays (replays_keep M s.moves))
+    (λ new at. record {
+      made = r.moves;
+      end = r.at_end;
+      at = elsewhere (λ x y s. Replayed-booted M c.boot c.sectors s) at;
+      reply = refl;
+    }) a
 
 -- ---- a node that won drains
 
 pub drains_refused : {B H D S : Type 0} (state : B → S) (M : Machine S) (records : D → List Record)
     (old : Running B H D) (c : Course S) (n turns : ℕ) (fault : Fault) (hosts : List (Host B H)) →
     Shows state M records old c →
-    WantsAtHost {A = Drained} state M c.world.nodes n drain_refusal (Err fault) (WantsMoves M turns) hosts
-    (Emptied M turns) →
+    AtHost state M c.world n drain_refusal (WantsMoves M turns) (DrainedBy M turns) (Err fault) hosts →
     Applies state M records c (event.Drain n turns) (Err fault) (record old { hosts = hosts })
 drains_refused state M records old c n turns fault hosts h a =
-    node_refused_wanting Drained state M records old c (event.Drain n turns) n drain_refusal (WantsMoves M turns)
-    (Emptied M turns) fault hosts h refl (steps_first M c n turns) refl a
-
-pub drained_generation : {S : Type 0} (z : Node S) (b : Bool) → (after_drain z b).generation ≡ z.generation
-drained_generation z true = refl
-drained_generation z false = refl
-
-drained_is_none : {S : Type 0} (z : Node S) (b : Bool) → z.role ≡ Draining →
-    is_backup (after_drain z b).role ≡ false
-drained_is_none z true e = refl
-drained_is_none z false e = ap is_backup e
+    node_refused h (event.Drain n turns) fault hosts refl (steps_first M c n turns) refl a
 
 drained_reply : (moves : ℕ) (b : Bool) →
     reply_of (cond b (reply.MovedAlone moves) (reply.Moved moves false)) ≡ drain_reply moves b
 drained_reply moves true = refl
 drained_reply moves false = refl
 
-drained : {S : Type 0} (M : Machine S) (c : Course S) (n turns : ℕ) (d : Drained) (x y : Node S) →
-    slice_get c.world.nodes n ≡ Some x → x.role ≡ Draining → Emptied M turns d x y →
-    RowAt M c (event.Drain n turns) (cond d.alone (reply.MovedAlone d.moves) (reply.Moved d.moves false)) n x y
-drained {S} M c n turns d x y there role does =
-    let z = does.z in
-    let k = replays_keep M does.moves in
-    record {
-      row = record {
-        x = x;
-        there = there;
-        y = z;
-        made = d.moves;
-        moves = Replays-booted M c.boot c.sectors does.moves;
-        some = does.some;
-        reply = drained_reply d.moves d.alone ∙ ap (λ b. drain_reply d.moves b) does.ends;
-        after = ap (λ (u : Node S). with_node c.world n u) does.after;
-      };
-      generation = ap (λ (u : Node S). u.generation) does.after ∙ drained_generation z (at_end z) ∙ k.generation;
-      backup = ap (λ (u : Node S). is_backup u.role) does.after ∙ drained_is_none z (at_end z) (k.role ∙ role)
-          ∙ sym (ap is_backup role);
-    }
-
 pub drains_applies : {B H D S : Type 0} (state : B → S) (M : Machine S) (records : D → List Record)
     (old : Running B H D) (c : Course S) (n turns : ℕ) (d : Drained) (hosts : List (Host B H)) →
     Shows state M records old c →
-    AtHost state M c.world.nodes n drain_refusal (Ok d) hosts (Emptied M turns) →
+    AtHost state M c.world n drain_refusal (WantsMoves M turns) (DrainedBy M turns) (Ok d) hosts →
     Applies state M records c (event.Drain n turns)
     (Ok (cond d.alone (reply.MovedAlone d.moves) (reply.Moved d.moves false))) (record old { hosts = hosts })
 drains_applies state M records old c n turns d hosts h a =
-    let here = slice_get c.world.nodes n in
-    let free = (asked_ok (at_node here drain_refusal) d (AreHosts state M hosts c.world.nodes)
-    (λ v. Becomes state M c.world.nodes n hosts (Emptied M turns v)) a).0 in
-    node_applies state M records old c (event.Drain n turns) n drain_refusal (Emptied M turns) d
-    (cond d.alone (reply.MovedAlone d.moves) (reply.Moved d.moves false)) hosts h refl
-    (λ x y there does. drained M c n turns d x y there
-    (acting_role x Draining (node-passed here x drain_refusal there free).1) does) a
+    node_applies h (event.Drain n turns) (cond d.alone (reply.MovedAlone d.moves) (reply.Moved d.moves false)) hosts refl
+    (λ x y free s. drained_stays (acting_role x Draining free) s)
+    (λ new at. record {
+      made = d.moves;
+      alone = d.alone;
+      at = elsewhere (λ x y s. Drained-booted M c.boot c.sectors s) at;
+      reply = drained_reply d.moves d.alone;
+    }) a
+
+-- ---- a node halts
+
+pub stops_refused : {B H D S : Type 0} (state : B → S) (M : Machine S) (records : D → List Record)
+    (old : Running B H D) (c : Course S) (n : ℕ) (fault : Fault) (hosts : List (Host B H)) →
+    Shows state M records old c →
+    AtHost {A = Unit {0}} state M c.world n stop_refusal Never (λ done. Halted) (Err fault) hosts →
+    Applies state M records c (event.Stop n) (Err fault) (record old { hosts = hosts })
+stops_refused state M records old c n fault hosts h a =
+    node_refused h (event.Stop n) fault hosts refl (λ never. absurd never.said) refl a
+
+pub stops_applies : {B H D S : Type 0} (state : B → S) (M : Machine S) (records : D → List Record)
+    (old : Running B H D) (c : Course S) (n : ℕ) (hosts : List (Host B H)) → Shows state M records old c →
+    AtHost {A = Unit {0}} state M c.world n stop_refusal Never (λ done. Halted) (Ok tt) hosts →
+    Applies state M records c (event.Stop n) (Ok reply.Stopped) (record old { hosts = hosts })
+stops_applies state M records old c n hosts h a =
+    node_applies h (event.Stop n) reply.Stopped hosts refl (λ x y free s. kept_stays (halted_kept x y s))
+    (λ new at. record { at = at; reply = refl }) a

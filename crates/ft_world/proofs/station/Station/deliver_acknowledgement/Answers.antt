@@ -1,7 +1,7 @@
 -- An acknowledgement changes nothing by which the node settles.
 use Rattle.log_channel.specs.Packet.{packet_at}
 use Rattle.ft_world.proofs.Stations.{hears_on}
-use Rattle.ft_world.proofs.station.Station.on_ack.Goals as goal
+use Rattle.ft_world.proofs.station.Station.deliver_acknowledgement.Goals as goal
 
 pub returns-clause-answer : goal.returns-clause-answer
 returns-clause-answer g c = λ x is.

@@ -3,7 +3,7 @@ use Rattle.std.proofs.Common.{Ok, refl, subst}
 use Rattle.log_channel.specs.Packet.{packet_at}
 use Rattle.ft_node.specs.Calls as calls
 use Rattle.ft_world.proofs.Holding.{expects_not, holds_on, passes_by}
-use Rattle.ft_world.proofs.station.Station.on_log.Goals as goal
+use Rattle.ft_world.proofs.station.Station.deliver_log.Goals as goal
 
 pub returns-in_err-next-clause-answer : goal.returns-in_err-next-clause-answer
 returns-in_err-next-clause-answer g c = λ x is.

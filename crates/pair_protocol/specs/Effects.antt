@@ -1,0 +1,171 @@
+-- What an event does at a node, as a relation of the node before and the node after it; what an event asks of a node,
+-- which then stays as it is; and what holds of a node at which an event is out of memory.
+use Rattle.std.specs.Prelude.{◌≡◌, ◌≢◌, ℕ, suc, ◌≤◌, ◌<◌, Bool, true, false, ◌==◌, ◌⊎◌, Option, Some, None, is_none, List, length, slice_get}
+use Rattle.disk_dcdd.specs.declared.address.SectorAddress.{SectorAddress}
+use Rattle.event_callbacks.specs.Operations.{id_of}
+use Rattle.event_callbacks.specs.declared.operations.OpId.{OpId}
+use Rattle.event_callbacks.specs.declared.operations.Operation.{Operation}
+use Rattle.guest_board.specs.Machine.{Machine}
+use Rattle.guest_board.specs.declared.input.Input.{Input}
+use Rattle.log_entry.specs.Entries.{count_of, input_of}
+use Rattle.log_entry.specs.declared.entry.Entry.{Entry}
+use Rattle.pair_protocol.specs.Copying.{Copying}
+use Rattle.pair_protocol.specs.Event.{Reply, New, Old, Whole, Why, Turns, Idles, IsSpent, Memory, Gave}
+use Rattle.pair_protocol.specs.Node.{Node, Role, Primary, Backup, Joining, Draining, Alone, Spare, primary_steps, plainly_steps, primary_takes, alone_takes, holds, passes_mark, passes_input, replay_told, hears, halts, goes_live, gets_part, joins, gathered, keys_covered}
+
+-- ---- moves of a machine
+
+-- a step, and an input, at a primary or alone node
+abbrev pub stepped : {S : Type 0} → Machine S → Node S → Role → S → Option Operation → Node S
+stepped M x Primary s gives = primary_steps M x s gives
+stepped M x Alone s gives = plainly_steps x s
+stepped M x Backup s gives = x
+stepped M x Joining s gives = x
+stepped M x Draining s gives = x
+stepped M x Spare s gives = x
+
+abbrev pub took : {S : Type 0} → Machine S → Node S → Role → S → Input → Node S
+took M x Primary s i = primary_takes M x s i
+took M x Alone s i = alone_takes M x s i
+took M x Backup s i = x
+took M x Joining s i = x
+took M x Draining s i = x
+took M x Spare s i = x
+
+-- x makes at most this many steps, up to the first that gives an operation, and is then y
+pub data Advances {S : Type 0} (M : Machine S) : Node S → ℕ → Node S → ℕ → Why → Type 0 where
+  NoneLeft : {x : Node S} → Advances M x 0 x 0 Turns
+  Ends : {x : Node S} {turns : ℕ} → M.is_spent x.machine ≡ true → Advances M x (suc turns) x 0 IsSpent
+  Waits : {x : Node S} {turns : ℕ} → M.is_spent x.machine ≡ false → M.step x.machine ≡ None →
+      Advances M x (suc turns) x 0 Idles
+  -- a step that nothing else refuses is out of memory
+  Short : {x : Node S} {turns : ℕ} → M.is_spent x.machine ≡ false → is_none (M.step x.machine) ≡ false →
+      Advances M x (suc turns) x 0 Memory
+  Gives : {x : Node S} {turns : ℕ} (s : S) (o : Operation) → M.step x.machine ≡ Some (s, Some o) →
+      Advances M x (suc turns) (stepped M x x.role s (Some o)) 1 (Gave (id_of o))
+  Goes : {x y : Node S} {turns made : ℕ} {why : Why} (s : S) → M.step x.machine ≡ Some (s, None) →
+      Advances M (stepped M x x.role s None) turns y made why → Advances M x (suc turns) y (suc made) why
+
+-- its next move is a step: the next entry is at a later count
+pub record IsBehind {S : Type 0} (M : Machine S) (x : Node S) : Type 0 where
+  pub next : Entry
+  pub held : slice_get x.held x.replayed ≡ Some next
+  pub later : M.count x.machine < count_of next
+
+-- x makes at most this many moves of what it holds, and is then y
+pub data Replays {S : Type 0} (M : Machine S) : Node S → ℕ → Node S → ℕ → Type 0 where
+  NoTurns : {x : Node S} → Replays M x 0 x 0
+  AtEnd : {x : Node S} {turns : ℕ} → x.replayed ≡ length x.held → Replays M x (suc turns) x 0
+  -- a step is out of memory; no other move needs any
+  NoMemory : {x : Node S} {turns : ℕ} → IsBehind M x → Replays M x (suc turns) x 0
+  OneStep : {x y : Node S} {turns made : ℕ} (e : Entry) (s : S) (gives : Option Operation) →
+      slice_get x.held x.replayed ≡ Some e → M.count x.machine < count_of e → M.step x.machine ≡ Some (s, gives) →
+      Replays M (plainly_steps x s) turns y made → Replays M x (suc turns) y (suc made)
+  OneMark : {x y : Node S} {turns made : ℕ} (e : Entry) →
+      slice_get x.held x.replayed ≡ Some e → M.count x.machine ≡ count_of e → input_of e ≡ None →
+      Replays M (passes_mark x) turns y made → Replays M x (suc turns) y (suc made)
+  OneInput : {x y : Node S} {turns made : ℕ} (e : Entry) (i : Input) (s : S) →
+      slice_get x.held x.replayed ≡ Some e → M.count x.machine ≡ count_of e → input_of e ≡ Some i →
+      M.take x.machine i ≡ Some s →
+      Replays M (passes_input x s) turns y made → Replays M x (suc turns) y (suc made)
+
+-- no move is made only if none was asked for, or none was left
+abbrev pub MovesSome : {S : Type 0} → Node S → ℕ → ℕ → Type 0
+MovesSome x turns made = (1 ≤ made) ⊎ (turns ≡ 0) ⊎ (x.replayed ≡ length x.held)
+
+-- nothing is left to replay
+abbrev pub at_end : {S : Type 0} → Node S → Bool
+at_end x = x.replayed == length x.held
+
+-- a node that won goes live once nothing is left
+abbrev pub after_drain : {S : Type 0} → Node S → Bool → Node S
+after_drain y false = y
+after_drain y true = goes_live y
+
+-- ---- what an event does at a node
+
+-- the machine makes steps
+pub record Stepped {S : Type 0} (M : Machine S) (turns made count : ℕ) (why : Why) (x y : Node S) : Type 0 where
+  pub advances : Advances M x turns y made why
+  pub some : (turns ≡ 0) ⊎ (1 ≤ made)
+  pub counted : count ≡ M.count y.machine
+
+-- an input is taken
+pub record Took {S : Type 0} (M : Machine S) (i : Input) (x y : Node S) : Type 0 where
+  pub s : S
+  pub takes : M.take x.machine i ≡ Some s
+  pub after : y ≡ took M x x.role s i
+
+-- the next entry is held; a repeat, or an entry past a gap, changes nothing
+abbrev pub Held : {S : Type 0} → ℕ → Entry → Bool → Node S → Node S → Type 0
+Held index e true x y = (index ≡ length x.held) × (y ≡ holds x e)
+Held index e false x y = (index ≢ length x.held) × (y ≡ x)
+
+-- an acknowledgement arrives, and this many entries are covered
+abbrev pub Heard : {S : Type 0} → ℕ → ℕ → ℕ → Node S → Node S → Type 0
+Heard held replayed covered x y = (covered ≡ (hears x held replayed).covered) × (y ≡ hears x held replayed)
+
+-- moves are made of what a node holds
+pub record Replayed {S : Type 0} (M : Machine S) (turns made : ℕ) (end : Bool) (x y : Node S) : Type 0 where
+  pub moves : Replays M x turns y made
+  pub some : MovesSome x turns made
+  pub ends : end ≡ at_end y
+
+-- a node that won makes such moves, and is alone if nothing is left
+pub record Drained {S : Type 0} (M : Machine S) (turns made : ℕ) (alone : Bool) (x y : Node S) : Type 0 where
+  pub z : Node S
+  pub replayed : Replayed M turns made alone x z
+  pub after : y ≡ after_drain z alone
+
+-- a node halts
+abbrev pub Halted : {S : Type 0} → Node S → Node S → Type 0
+Halted x y = y ≡ halts x
+
+-- a part that arrived before changes nothing; the last missing one makes the node the backup
+pub data GotPart {S : Type 0} (C : Copying S) (index : ℕ) (part : List ℕ) (x : Node S) : Reply → Node S → Type 0 where
+  Again : {before : List ℕ} → slice_get x.parts index ≡ Some (Some before) → GotPart C index part x Old x
+  Comes : slice_get x.parts index ≡ Some None → gathered (gets_part x index part).parts ≡ None →
+      GotPart C index part x New (gets_part x index part)
+  Completes : (parts : List (List ℕ)) (s : S) → slice_get x.parts index ≡ Some None →
+      gathered (gets_part x index part).parts ≡ Some parts → C.assemble parts ≡ Some s →
+      GotPart C index part x Whole (joins (gets_part x index part) s)
+
+-- ---- what an event asks of a node
+
+-- the log has an entry at an index
+abbrev pub HasEntry : {S : Type 0} → ℕ → Entry → Node S → Type 0
+HasEntry index e x = slice_get x.log index ≡ Some e
+
+-- how many entries a backup holds, and how many it reports as replayed
+abbrev pub HasHeld : {S : Type 0} → ℕ → ℕ → Node S → Type 0
+HasHeld held replayed x = (held ≡ length x.held) × (replayed ≡ replay_told x)
+
+-- an operation is outstanding
+abbrev pub HasOutstanding : {S : Type 0} → Machine S → OpId → Operation → Node S → Type 0
+HasOutstanding M name o x = M.find x.machine name ≡ Some o
+
+-- how many keys are covered
+abbrev pub HasCovered : {S : Type 0} → Machine S → ℕ → ℕ → Node S → Type 0
+HasCovered M port keys x = keys ≡ keys_covered M x port x.role
+
+-- the sector with a number at the selected drive, at its head's track
+pub record IsUnder {S : Type 0} (M : Machine S) (sector : ℕ) (address : SectorAddress) (x : Node S) : Type 0 where
+  pub drive : ℕ
+  pub selected : M.selected x.machine ≡ Some drive
+  pub address_is : address ≡ M.address x.machine drive sector
+
+-- the image has a part
+pub record HasPart {S : Type 0} (C : Copying S) (index : ℕ) (part : List ℕ) (x : Node S) : Type 0 where
+  pub s : S
+  pub image : x.image ≡ Some s
+  pub is_part : slice_get (C.parts s) index ≡ Some part
+
+-- ---- what holds of a node at which an event is out of memory
+
+-- it is to make moves, and the first one is a step
+abbrev pub WantsMoves : {S : Type 0} → Machine S → ℕ → Node S → Type 0
+WantsMoves M turns x = (0 < turns) × IsBehind M x
+
+-- it holds the entry next
+abbrev pub WantsEntry : {S : Type 0} → ℕ → Node S → Type 0
+WantsEntry index x = index ≡ length x.held
