@@ -9,6 +9,7 @@ use Rattle.pair_protocol.specs.Refusals.{fault_if, first_of, at_log_entry, at_no
 use Rattle.pair_protocol.specs.World.{World, LogEntry, Acknowledgement, with_node}
 use Rattle.pair_protocol.specs.Event.{DeliverLog, Acknowledge, DeliverAcknowledgement, MessageIs, HeldIs, New, Old}
 use Rattle.pair_protocol.specs.Row.{Accepts}
+use Rattle.pair_protocol.proofs.OneNode.{with_same}
 use Rattle.pair_rule.specs.Law.{SeeEvents}
 use Rattle.pair_rule.specs.Shown.{First, Nothing}
 use Rattle.pair_rule.specs.declared.view.Knowledge.{Knowledge}
