@@ -1,0 +1,498 @@
+-- Each group of the first part: what is written is read again, and what is read is written just so.
+use Rattle.std.proofs.Common.{◌≡◌, ℕ, zero, suc, ◌+◌, ◌-◌, ◌*◌, ◌/◌, ◌%◌, ◌<◌, ◌≤◌, ◌^◌, Bool, true, false, not, cond, eqb, List, [], ◌∷◌, ◌++◌, length, take, drop, map, replicate, Option, Some, None, refl, sym, ap, subst, ◌∙◌, arith}
+use Rattle.std.specs.Prelude.{All, IfSome, ◌==◌, ◌&&◌, ◌||◌, is_none, slice_index}
+use Rattle.std.specs.List.{list_all, zip}
+use Rattle.std.proofs.lemmas.Bool.{ne_eqb, eqb-true, ltb-true, and_parts}
+use Rattle.i8080_words.specs.Arithmetic.{bit, has_bit, flag_byte, flags_from}
+use Rattle.i8080_words.specs.declared.arithmetic.Flags.{Flags}
+use Rattle.i8080_words.specs.declared.registers.Interrupts.{Interrupts}
+use Rattle.i8080_words.specs.declared.registers.Interrupts.TheVariants.{Off, Soon, On}
+use Rattle.i8080_words.specs.declared.registers.Processor.{Processor}
+use Rattle.serial_2sio.specs.Port as serial
+use Rattle.serial_2sio.specs.declared.acia.Receiver.{Receiver}
+use Rattle.serial_2sio.specs.declared.acia.Receiver.TheVariants.{Empty, Full, FullLost, Over}
+use Rattle.disk_dcdd.specs.declared.drive.Drive.{Drive}
+use Rattle.disk_dcdd.specs.declared.sector.CurrentSector.{CurrentSector}
+use Rattle.disk_dcdd.specs.declared.sector.SectorWrite.{SectorWrite}
+use Rattle.clone_state.specs.Codec.{Codec, Again, both, by, only, one, bytes, number, times}
+use Rattle.clone_state.specs.Possible.{are_zeros, is_window}
+use Rattle.clone_state.specs.FirstPart.{is_bit, truth, word, or_none, some_below, maybe, is_flag_byte, flags, code_of_interrupts, interrupts_of, is_interrupts, interrupts, registers, Registers, processor, code_of_receiver, receiver_of, is_receiver, receiver, PortImage, has_window, port, PortImage01, has_byte, port_01, CurrentImage, no_bytes, shown_current, is_current, current_of, current, drive_with, drives, write}
+use Rattle.clone_state.proofs.Codecs.{both_again, by_again, only_again, one_again, bytes_again, numbers_again, times_again}
+use Rattle.clone_state.proofs.Spellings.{Spells, one_spells, bytes_spells, number_spells, both_spells, by_spells, only_spells, times_spells}
+
+-- nothing more is known
+abbrev pub Anything : {A : Type 0} → A → Type 0
+Anything x = Unit {0}
+
+-- ---- truth values, words, numbers that may be missing
+
+pub truth_again : (b : Bool) → Again truth b
+unfolding truth
+truth_again true = by_again (only one is_bit) bit (λ n. n == 1) true (only_again one is_bit 1 (one_again 1) refl) refl
+truth_again false = by_again (only one is_bit) bit (λ n. n == 1) false (only_again one is_bit 0 (one_again 0) refl) refl
+
+pub truth_spells : Spells truth Anything
+unfolding truth
+truth_spells =
+    by_spells (only one is_bit) bit (λ n. n == 1) (only_spells one is_bit one_spells)
+    (λ n h. back n (ltb-true n 2 h.1)) (λ n h. tt)
+  where
+    back : (n : ℕ) → n < 2 → bit (n == 1) ≡ n
+    back zero h = refl
+    back (suc zero) h = refl
+    back (suc (suc n)) h = absurd (omega (arith, h))
+
+pub word_again : (n : ℕ) → Again word n
+unfolding word
+word_again n =
+    by_again (both one one) (λ n. (n / 256, n % 256)) (λ p. p.0 * 256 + p.1) n
+    (both_again one one (n / 256) (n % 256) (one_again (n / 256)) (one_again (n % 256))) (omega arith)
+
+abbrev pair : ℕ → ℕ → ℕ × ℕ
+pair a b = (a, b)
+
+pub word_spells : Spells word (λ n. n < 2 ^ 16)
+unfolding word
+word_spells =
+    by_spells (both one one) (λ n. (n / 256, n % 256)) (λ p. p.0 * 256 + p.1) (both_spells one one one_spells one_spells)
+    (λ p h. back p.0 p.1 h.1) (λ p h. few p.0 p.1 h.0 h.1)
+  where
+    back : (high low : ℕ) → low < 256
+        → ◌≡◌ {A = ℕ × ℕ} ((high * 256 + low) / 256, (high * 256 + low) % 256) (high, low)
+    back high low h =
+        let a : (high * 256 + low) / 256 ≡ high = omega (arith, h) in
+        let b : (high * 256 + low) % 256 ≡ low = omega (arith, h) in
+        ap (λ (x : ℕ). pair x ((high * 256 + low) % 256)) a ∙ ap (pair high) b
+
+    few : (high low : ℕ) → high < 256 → low < 256 → high * 256 + low < 2 ^ 16
+    few high low h l = omega (arith, h, l)
+
+pub maybe_again : (o : Option ℕ) → IfSome o (λ n. n < 255) → Again maybe o
+unfolding maybe
+maybe_again o few = by_again one or_none some_below o (one_again (or_none o)) (back o few)
+  where
+    back : (o : Option ℕ) → IfSome o (λ n. n < 255) → some_below (or_none o) ≡ o
+    back None few = refl
+    back (Some n) few = let other = ne_eqb n 255 (λ e. omega (arith, few, e)) in rw other refl
+
+pub maybe_spells : Spells maybe Anything
+unfolding maybe
+maybe_spells = by_spells one or_none some_below one_spells (λ n h. back n (n == 255) refl) (λ n h. tt)
+  where
+    back : (n : ℕ) (b : Bool) → (n == 255) ≡ b → or_none (some_below n) ≡ n
+    back n true e = ap (λ t. or_none (cond t None (Some n))) e ∙ sym (eqb-true n 255 e)
+    back n false e = ap (λ t. or_none (cond t None (Some n))) e
+
+-- ---- the processor
+
+-- a flag byte that is written
+abbrev Comes : Flags → Type 0
+Comes f = (is_flag_byte (flag_byte f) ≡ true) × (flags_from (flag_byte f) ≡ f)
+
+abbrev of : Bool → Bool → Bool → Bool → Bool → Flags
+of s z ac p cy = record { s = s; z = z; ac = ac; p = p; cy = cy }
+
+pub flags_again : (f : Flags) → Again flags f
+unfolding flags
+flags_again f =
+    by_again (only one is_flag_byte) flag_byte flags_from f
+    (only_again one is_flag_byte (flag_byte f) (one_again (flag_byte f)) (go f.s f.z f.ac f.p f.cy).0)
+    (go f.s f.z f.ac f.p f.cy).1
+  where
+    low : (s z ac : Bool) → Comes (of s z ac true true) → Comes (of s z ac true false) → Comes (of s z ac false true)
+        → Comes (of s z ac false false) → (p cy : Bool) → Comes (of s z ac p cy)
+    low s z ac a b c d true true = a
+    low s z ac a b c d true false = b
+    low s z ac a b c d false true = c
+    low s z ac a b c d false false = d
+
+    go : (s z ac p cy : Bool) → Comes (of s z ac p cy)
+    go true true true = low true true true (refl, refl) (refl, refl) (refl, refl) (refl, refl)
+    go true true false = low true true false (refl, refl) (refl, refl) (refl, refl) (refl, refl)
+    go true false true = low true false true (refl, refl) (refl, refl) (refl, refl) (refl, refl)
+    go true false false = low true false false (refl, refl) (refl, refl) (refl, refl) (refl, refl)
+    go false true true = low false true true (refl, refl) (refl, refl) (refl, refl) (refl, refl)
+    go false true false = low false true false (refl, refl) (refl, refl) (refl, refl) (refl, refl)
+    go false false true = low false false true (refl, refl) (refl, refl) (refl, refl) (refl, refl)
+    go false false false = low false false false (refl, refl) (refl, refl) (refl, refl) (refl, refl)
+
+bit_of : (n : ℕ) → n < 2 → bit (n == 1) ≡ n
+bit_of zero h = refl
+bit_of (suc zero) h = refl
+bit_of (suc (suc n)) h = absurd (omega (arith, h))
+
+-- the bits of a byte
+bits_of : (n : ℕ) → n < 256
+    → 128 * (n / 128 % 2) + 64 * (n / 64 % 2) + 32 * (n / 32 % 2) + 16 * (n / 16 % 2) + 8 * (n / 8 % 2)
+    + 4 * (n / 4 % 2) + 2 * (n / 2 % 2) + n / 1 % 2 ≡ n
+bits_of n h = omega (arith, h)
+
+pub flags_spells : Spells flags Anything
+unfolding flags
+flags_spells =
+    by_spells (only one is_flag_byte) flag_byte flags_from (only_spells one is_flag_byte one_spells)
+    (λ n h. back n h.0 h.1) (λ n h. tt)
+  where
+    low : (n : ℕ) → n % 2 < 2
+    low n = omega arith
+
+    zero_bit : (n : ℕ) → n < 2 → not (n == 1) ≡ true → n ≡ 0
+    zero_bit zero h e = refl
+    zero_bit (suc zero) h e = absurd cc
+    zero_bit (suc (suc n)) h e = absurd (omega (arith, h))
+
+    back : (n : ℕ) → n < 256 → is_flag_byte n ≡ true → flag_byte (flags_from n) ≡ n
+    back n h e =
+        let two = and_parts (not (has_bit n 32) && not (has_bit n 8)) (has_bit n 2) e in
+        let both = and_parts (not (has_bit n 32)) (not (has_bit n 8)) two.0 in
+        let five : n / 32 % 2 ≡ 0 = zero_bit (n / 32 % 2) (low (n / 32)) both.0 in
+        let three : n / 8 % 2 ≡ 0 = zero_bit (n / 8 % 2) (low (n / 8)) both.1 in
+        let one : n / 2 % 2 ≡ 1 = eqb-true (n / 2 % 2) 1 two.1 in
+        let s = bit_of (n / 128 % 2) (low (n / 128)) in
+        let z = bit_of (n / 64 % 2) (low (n / 64)) in
+        let ac = bit_of (n / 16 % 2) (low (n / 16)) in
+        let p = bit_of (n / 4 % 2) (low (n / 4)) in
+        let cy = bit_of (n / 1 % 2) (low (n / 1)) in
+        let all = bits_of n h in
+        omega (arith, s, z, ac, p, cy, five, three, one, all)
+
+pub interrupts_again : (i : Interrupts) → Again interrupts i
+unfolding interrupts
+interrupts_again i =
+    by_again (only one is_interrupts) code_of_interrupts interrupts_of i
+    (only_again one is_interrupts (code_of_interrupts i) (one_again (code_of_interrupts i)) (back i).0) (back i).1
+  where
+    back : (i : Interrupts) → (is_interrupts (code_of_interrupts i) ≡ true) × (interrupts_of (code_of_interrupts i) ≡ i)
+    back Off = (refl, refl)
+    back Soon = (refl, refl)
+    back On = (refl, refl)
+
+pub interrupts_spells : Spells interrupts Anything
+unfolding interrupts
+interrupts_spells =
+    by_spells (only one is_interrupts) code_of_interrupts interrupts_of (only_spells one is_interrupts one_spells)
+    (λ n h. back n (ltb-true n 3 h.1)) (λ n h. tt)
+  where
+    back : (n : ℕ) → n < 3 → code_of_interrupts (interrupts_of n) ≡ n
+    back zero h = refl
+    back (suc zero) h = refl
+    back (suc (suc zero)) h = refl
+    back (suc (suc (suc n))) h = absurd (omega (arith, h))
+
+pub processor_again : (p : Processor) → Again processor p
+unfolding processor registers
+processor_again p =
+    by_again _ _ _ p
+    (both_again _ _ _ _
+    (both_again one _ _ _ (one_again _) (both_again flags _ _ _ (flags_again _) (both_again one _ _ _ (one_again _)
+    (both_again one _ _ _ (one_again _) (both_again one _ _ _ (one_again _) (both_again one _ _ _ (one_again _)
+    (both_again one one _ _ (one_again _) (one_again _))))))))
+    (both_again word _ _ _ (word_again p.regs.sp) (both_again word _ _ _ (word_again p.regs.pc)
+    (both_again interrupts truth _ _ (interrupts_again p.interrupts) (truth_again p.halted))))) refl
+
+registers_spells : Spells registers Anything
+unfolding registers
+registers_spells =
+    loose _ (both_spells one _ one_spells (both_spells flags _ flags_spells (both_spells one _ one_spells
+    (both_spells one _ one_spells (both_spells one _ one_spells (both_spells one _ one_spells
+    (both_spells one one one_spells one_spells)))))))
+  where
+    loose : {A : Type 0} {P : A → Type 0} (c : Codec A) → Spells c P → Spells c Anything
+    loose c h = record { written = h.written; holds = λ bytes r all e. tt }
+
+pub processor_spells : Spells processor Anything
+unfolding processor
+processor_spells =
+    by_spells _ _ _
+    (both_spells registers _ registers_spells (both_spells word _ word_spells (both_spells word _ word_spells
+    (both_spells interrupts truth interrupts_spells truth_spells))))
+    (λ r h. refl) (λ r h. tt)
+
+-- ---- a port
+
+pub receiver_again : (r : Receiver) → Again receiver r
+unfolding receiver
+receiver_again r =
+    by_again (only one is_receiver) code_of_receiver receiver_of r
+    (only_again one is_receiver (code_of_receiver r) (one_again (code_of_receiver r)) (back r).0) (back r).1
+  where
+    back : (r : Receiver) → (is_receiver (code_of_receiver r) ≡ true) × (receiver_of (code_of_receiver r) ≡ r)
+    back Empty = (refl, refl)
+    back Full = (refl, refl)
+    back FullLost = (refl, refl)
+    back Over = (refl, refl)
+
+pub receiver_spells : Spells receiver Anything
+unfolding receiver
+receiver_spells =
+    by_spells (only one is_receiver) code_of_receiver receiver_of (only_spells one is_receiver one_spells)
+    (λ n h. back n (ltb-true n 4 h.1)) (λ n h. tt)
+  where
+    back : (n : ℕ) → n < 4 → code_of_receiver (receiver_of n) ≡ n
+    back zero h = refl
+    back (suc zero) h = refl
+    back (suc (suc zero)) h = refl
+    back (suc (suc (suc zero))) h = refl
+    back (suc (suc (suc (suc n)))) h = absurd (omega (arith, h))
+
+pub port_again : (p : PortImage) → length p.1 ≡ serial.window → has_window p ≡ true → Again port p
+unfolding port
+port_again p long h =
+    only_again _ has_window p
+    (by_again _ _ _ p
+    (both_again one _ _ _ (one_again _) (both_again one _ _ _ (one_again _)
+    (both_again receiver _ _ _ (receiver_again p.0.receiver)
+    (both_again one (bytes serial.window) _ _ (one_again _) (bytes_again serial.window p.1 long)))))
+    refl) h
+
+pub port_spells : Spells port (λ p. (length p.1 ≡ serial.window) × (has_window p ≡ true))
+unfolding port
+port_spells =
+    only_spells _ has_window
+    (by_spells _ _ _
+    (both_spells one _ one_spells (both_spells one _ one_spells (both_spells receiver _ receiver_spells
+    (both_spells one (bytes serial.window) one_spells (bytes_spells serial.window)))))
+    (λ r h. refl) (λ r h. h.1.1.1.1))
+
+-- at most one byte of the port is unaccepted
+abbrev pub HasOne : PortImage → Type 0
+HasOne p = p.0.unaccepted ≤ 1
+
+zeros_are : (n : ℕ) (xs : List ℕ) → length xs ≡ n → are_zeros xs ≡ true → xs ≡ replicate n 0
+zeros_are zero [] e h = refl
+zeros_are zero (x ∷ xs) e h = absurd (omega (arith, e))
+zeros_are (suc n) [] e h = absurd (omega (arith, e))
+zeros_are (suc n) (x ∷ xs) e h =
+    let two = and_parts (x == 0) (are_zeros xs) h in
+    ap (λ y. y ∷ xs) (eqb-true x 0 two.0) ∙ ap (λ ys. 0 ∷ ys) (zeros_are n xs (omega (arith, e)) two.1)
+
+pub port_01_again : (p : PortImage) → length p.1 ≡ serial.window → has_window p ≡ true → HasOne p → Again port_01 p
+unfolding port_01
+port_01_again p long h few =
+    by_again _ _ _ p
+    (only_again _ has_byte _
+    (both_again one _ _ _ (one_again _) (both_again one _ _ _ (one_again _)
+    (both_again receiver _ _ _ (receiver_again p.0.receiver)
+    (both_again truth one _ _ (truth_again (p.0.unaccepted == 0)) (one_again _)))))
+    (tested p.0.unaccepted p.1 long h few))
+    (ap (λ u. (record p.0 { unaccepted = u }, slice_index p.1 0 ∷ replicate 15 0)) (counted p.0.unaccepted few)
+    ∙ ap (λ xs. (p.0, xs)) (one_byte p.0.unaccepted p.1 long h few))
+  where
+    tested : (u : ℕ) (xs : List ℕ) → length xs ≡ 16 → is_window u xs ≡ true → u ≤ 1
+        → (not (u == 0) || slice_index xs 0 == 0) ≡ true
+    tested u [] long h few = absurd (omega (arith, long))
+    tested zero (x ∷ xs) long h few = (and_parts (x == 0) (are_zeros xs) h).0
+    tested (suc zero) (x ∷ xs) long h few = refl
+    tested (suc (suc u)) (x ∷ xs) long h few = absurd (omega (arith, few))
+
+    counted : (u : ℕ) → u ≤ 1 → cond (u == 0) 0 1 ≡ u
+    counted zero few = refl
+    counted (suc zero) few = refl
+    counted (suc (suc u)) few = absurd (omega (arith, few))
+
+    one_byte : (u : ℕ) (xs : List ℕ) → length xs ≡ 16 → is_window u xs ≡ true → u ≤ 1
+        → slice_index xs 0 ∷ replicate 15 0 ≡ xs
+    one_byte u [] long h few = absurd (omega (arith, long))
+    one_byte zero (x ∷ xs) long h few =
+        ap (λ ys. x ∷ ys) (sym (zeros_are 15 xs (omega (arith, long)) (and_parts (x == 0) (are_zeros xs) h).1))
+    one_byte (suc zero) (x ∷ xs) long h few = ap (λ ys. x ∷ ys) (sym (zeros_are 15 xs (omega (arith, long)) h))
+    one_byte (suc (suc u)) (x ∷ xs) long h few = absurd (omega (arith, few))
+
+pub port_01_spells : Spells port_01 (λ p. (length p.1 ≡ serial.window) × (has_window p ≡ true))
+unfolding port_01
+port_01_spells =
+    by_spells _ _ _
+    (only_spells _ has_byte (both_spells one _ one_spells (both_spells one _ one_spells
+    (both_spells receiver _ receiver_spells (both_spells truth one truth_spells one_spells)))))
+    (λ r h. back r.0 r.1.0 r.1.1.0 r.1.1.1.0 r.1.1.1.1) (λ r h. (refl, window r.1.1.1.0 r.1.1.1.1 h.1))
+  where
+    back : (control byte_in : ℕ) (r : Receiver) (tdre : Bool) (byte : ℕ)
+        → ◌≡◌ {A = PortImage01} (control, (byte_in, (r, ((cond tdre 0 1) == 0, byte))))
+        (control, (byte_in, (r, (tdre, byte))))
+    back control byte_in r true byte = refl
+    back control byte_in r false byte = refl
+
+    window : (tdre : Bool) (byte : ℕ) → (not tdre || byte == 0) ≡ true
+        → has_window (serial.port_with 0 0 Empty (cond tdre 0 1), byte ∷ replicate 15 0) ≡ true
+    window true byte h = ap (λ b. b && true) h
+    window false byte h = refl
+
+-- ---- the controller
+
+are_zeros_of : (n : ℕ) → are_zeros (replicate n 0) ≡ true
+are_zeros_of zero = refl
+are_zeros_of (suc n) = are_zeros_of n
+
+no_bytes_length : length no_bytes ≡ 137
+unfolding no_bytes
+no_bytes_length = refl
+
+no_bytes_zeros : are_zeros no_bytes ≡ true
+unfolding no_bytes
+no_bytes_zeros = are_zeros_of 137
+
+no_bytes_are : (xs : List ℕ) → length xs ≡ 137 → are_zeros xs ≡ true → no_bytes ≡ xs
+unfolding no_bytes
+no_bytes_are xs long h = sym (zeros_are 137 xs long h)
+
+-- a sector under the head with all its bytes
+abbrev pub IsCurrent : Option CurrentSector → Type 0
+IsCurrent o = IfSome o (λ s. (length s.bytes ≡ 137) × IfSome s.filled (λ n. n < 255))
+
+pub current_again : (o : Option CurrentSector) → IsCurrent o → Again current o
+unfolding current
+current_again o h =
+    by_again _ shown_current current_of o
+    (only_again _ is_current (shown_current o) (shown o h) (canonical o)) (back o)
+  where
+    all : Codec CurrentImage
+    all = both truth (both one (both truth (both one (both maybe (bytes 137)))))
+
+    shown : (o : Option CurrentSector) → IsCurrent o → Again all (shown_current o)
+    shown None h =
+        both_again truth _ _ _ (truth_again _) (both_again one _ _ _ (one_again _) (both_again truth _ _ _ (truth_again _)
+        (both_again one _ _ _ (one_again _) (both_again maybe (bytes 137) _ _ (maybe_again None tt)
+        (bytes_again 137 no_bytes no_bytes_length)))))
+    shown (Some s) h =
+        both_again truth _ _ _ (truth_again _) (both_again one _ _ _ (one_again _) (both_again truth _ _ _ (truth_again _)
+        (both_again one _ _ _ (one_again _) (both_again maybe (bytes 137) _ _ (maybe_again s.filled h.1)
+        (bytes_again 137 s.bytes h.0)))))
+
+    canonical : (o : Option CurrentSector) → is_current (shown_current o) ≡ true
+    canonical None = no_bytes_zeros
+    canonical (Some s) = refl
+
+    back : (o : Option CurrentSector) → current_of (shown_current o) ≡ o
+    back None = refl
+    back (Some s) = refl
+
+abbrev image_with : Bool → ℕ → Bool → ℕ → Option ℕ → List ℕ → CurrentImage
+image_with present sector shown read filled xs = (present, (sector, (shown, (read, (filled, xs)))))
+
+pub current_spells : Spells current Anything
+unfolding current
+current_spells =
+    by_spells _ shown_current current_of
+    (only_spells _ is_current (both_spells truth _ truth_spells (both_spells one _ one_spells
+    (both_spells truth _ truth_spells (both_spells one _ one_spells
+    (both_spells maybe (bytes 137) maybe_spells (bytes_spells 137)))))))
+    (λ r h. back r.0 r.1.0 r.1.1.0 r.1.1.1.0 r.1.1.1.1.0 r.1.1.1.1.1 h.0.1.1.1.1.1 h.1) (λ r h. tt)
+  where
+    none_is : (o : Option ℕ) → is_none o ≡ true → o ≡ None
+    none_is None e = refl
+    none_is (Some n) e = absurd cc
+
+    off : (b : Bool) → not b ≡ true → b ≡ false
+    off true e = absurd cc
+    off false e = refl
+
+    same : (a c : ℕ) (b : Bool) (o : Option ℕ) (xs : List ℕ) → a ≡ 0 → b ≡ false → c ≡ 0 → o ≡ None → no_bytes ≡ xs
+        → image_with false 0 false 0 None no_bytes ≡ image_with false a b c o xs
+    same a c b o xs e1 e2 e3 e4 e5 =
+        ap (λ x. image_with false x false 0 None no_bytes) (sym e1)
+        ∙ ap (λ x. image_with false a x 0 None no_bytes) (sym e2)
+        ∙ ap (λ x. image_with false a b x None no_bytes) (sym e3)
+        ∙ ap (λ x. image_with false a b c x no_bytes) (sym e4)
+        ∙ ap (λ x. image_with false a b c o x) e5
+
+    back : (present : Bool) (sector : ℕ) (shown : Bool) (read : ℕ) (filled : Option ℕ) (xs : List ℕ)
+        → length xs ≡ 137 → is_current (image_with present sector shown read filled xs) ≡ true
+        → shown_current (current_of (image_with present sector shown read filled xs))
+        ≡ image_with present sector shown read filled xs
+    back true sector shown read filled xs long h = refl
+    back false sector shown read filled xs long h =
+        let a = and_parts (sector == 0 && not shown && read == 0 && is_none filled) (are_zeros xs) h in
+        let b = and_parts (sector == 0 && not shown && read == 0) (is_none filled) a.0 in
+        let c = and_parts (sector == 0 && not shown) (read == 0) b.0 in
+        let d = and_parts (sector == 0) (not shown) c.0 in
+        same sector read shown filled xs (eqb-true sector 0 d.0) (off shown d.1) (eqb-true read 0 c.1)
+        (none_is filled b.1) (no_bytes_are xs long a.1)
+
+pub map_length : {A B : Type 0} (f : A → B) (xs : List A) → length (map f xs) ≡ length xs
+map_length f [] = refl
+map_length f (x ∷ xs) = ap suc (map_length f xs)
+
+pub zip_first : {A B : Type 0} (xs : List A) (ys : List B) → length xs ≡ length ys
+    → map (λ (p : A × B). p.0) (zip xs ys) ≡ xs
+zip_first [] ys e = refl
+zip_first (x ∷ xs) [] e = absurd (omega (arith, e))
+zip_first (x ∷ xs) (y ∷ ys) e = ap (λ zs. x ∷ zs) (zip_first xs ys (omega (arith, e)))
+
+pub zip_second : {A B : Type 0} (xs : List A) (ys : List B) → length xs ≡ length ys
+    → map (λ (p : A × B). p.1) (zip xs ys) ≡ ys
+zip_second [] [] e = refl
+zip_second [] (y ∷ ys) e = absurd (omega (arith, e))
+zip_second (x ∷ xs) [] e = absurd (omega (arith, e))
+zip_second (x ∷ xs) (y ∷ ys) e = ap (λ zs. y ∷ zs) (zip_second xs ys (omega (arith, e)))
+
+pub zip_length : {A B : Type 0} (xs : List A) (ys : List B) → length xs ≡ length ys
+    → length (zip xs ys) ≡ length xs
+zip_length [] ys e = refl
+zip_length (x ∷ xs) [] e = absurd (omega (arith, e))
+zip_length (x ∷ xs) (y ∷ ys) e = ap suc (zip_length xs ys (omega (arith, e)))
+
+pub zip_again : {A B : Type 0} (ps : List (A × B)) → zip (map (λ (p : A × B). p.0) ps) (map (λ (p : A × B). p.1) ps) ≡ ps
+zip_again [] = refl
+zip_again (p ∷ ps) = ap (λ zs. p ∷ zs) (zip_again ps)
+
+pub drives_again : (ds : List Drive) → length ds ≡ 4 → Again drives ds
+unfolding drives
+drives_again ds four =
+    by_again _ _ _ ds
+    (both_again (times 4 one) (times 4 truth) _ _
+    (times_again 4 one (map (λ (d : Drive). d.track) ds) (map_length (λ (d : Drive). d.track) ds ∙ four)
+    (λ k x inside. one_again _))
+    (times_again 4 truth (map (λ (d : Drive). d.loaded) ds) (map_length (λ (d : Drive). d.loaded) ds ∙ four)
+    (λ k x inside. truth_again _)))
+    (back ds)
+  where
+    back : (ds : List Drive)
+        → map drive_with (zip (map (λ (d : Drive). d.track) ds) (map (λ (d : Drive). d.loaded) ds)) ≡ ds
+    back [] = refl
+    back (d ∷ ds) = ap (λ xs. d ∷ xs) (back ds)
+
+abbrev two_lists : List ℕ → List Bool → List ℕ × List Bool
+two_lists ts ls = (ts, ls)
+
+pub drives_spells : Spells drives (λ ds. length ds ≡ 4)
+unfolding drives
+drives_spells =
+    by_spells _ _ _ (both_spells (times 4 one) (times 4 truth) (times_spells 4 one one_spells)
+    (times_spells 4 truth truth_spells))
+    (λ r h. ap (λ ts. two_lists ts (map (λ (d : Drive). d.loaded) (map drive_with (zip r.0 r.1))))
+    (tracks r.0 r.1 (h.0 ∙ sym h.1)) ∙ ap (two_lists r.0) (heads r.0 r.1 (h.0 ∙ sym h.1)))
+    (λ r h. map_length drive_with (zip r.0 r.1) ∙ zip_length r.0 r.1 (h.0 ∙ sym h.1) ∙ h.0)
+  where
+    tracks : (ts : List ℕ) (ls : List Bool) → length ts ≡ length ls
+        → map (λ (d : Drive). d.track) (map drive_with (zip ts ls)) ≡ ts
+    tracks [] ls e = refl
+    tracks (t ∷ ts) [] e = absurd (omega (arith, e))
+    tracks (t ∷ ts) (l ∷ ls) e = ap (λ xs. t ∷ xs) (tracks ts ls (omega (arith, e)))
+
+    heads : (ts : List ℕ) (ls : List Bool) → length ts ≡ length ls
+        → map (λ (d : Drive). d.loaded) (map drive_with (zip ts ls)) ≡ ls
+    heads [] [] e = refl
+    heads [] (l ∷ ls) e = absurd (omega (arith, e))
+    heads (t ∷ ts) [] e = absurd (omega (arith, e))
+    heads (t ∷ ts) (l ∷ ls) e = ap (λ xs. l ∷ xs) (heads ts ls (omega (arith, e)))
+
+-- a write with a number in its range and all its bytes
+pub record IsWrite (w : SectorWrite) : Type 0 where
+  pub number : w.number < 2 ^ 62
+  pub bytes : length w.bytes ≡ 137
+
+pub write_again : (w : SectorWrite) → IsWrite w → Again write w
+unfolding write
+write_again w h =
+    by_again _ _ _ w
+    (both_again number _ _ _ (numbers_again w.number h.number) (both_again one _ _ _ (one_again w.drive)
+    (both_again one _ _ _ (one_again w.track) (both_again one (bytes 137) _ _ (one_again w.sector)
+    (bytes_again 137 w.bytes h.bytes))))) refl
+
+pub write_spells : Spells write IsWrite
+unfolding write
+write_spells =
+    by_spells _ _ _
+    (both_spells number _ number_spells (both_spells one _ one_spells (both_spells one _ one_spells
+    (both_spells one (bytes 137) one_spells (bytes_spells 137)))))
+    (λ r h. refl) (λ r h. record { number = h.0; bytes = h.1.1.1.1 })

@@ -1,0 +1,31 @@
+//! What follows from the definitions alone.
+ghost use Rattle.clone_state.specs.Laws.{
+    FirstIsWrittenSo, MessageIsReadAgain, MessageIsWrittenSo, OldPartsMakeIt, PartsAreCounted, PartsAreWrittenSo, PartsMakeIt, SaysItAll
+};
+ghost use Rattle.clone_state.specs.Possible.{ControllersAreDecided};
+
+/// The parts of a machine make that machine again, also with the first part in version 01 if no port has more than one
+/// unaccepted byte. An image has as many parts as its drives ask for.
+pub fn parts_make_their_machines()
+    ensures says { SaysItAll }
+    ensures makes { PartsMakeIt }
+    ensures old { OldPartsMakeIt }
+    ensures counted { PartsAreCounted }
+{}
+
+/// What is read is written just so: every part has one spelling, but that the first may also come in version 01.
+pub fn parts_are_written_one_way()
+    ensures first { FirstIsWrittenSo }
+    ensures parts { PartsAreWrittenSo }
+{}
+
+/// A part's message is read again, and what is read as one is written just so.
+pub fn messages_are_written_one_way()
+    ensures again { MessageIsReadAgain }
+    ensures one_way { MessageIsWrittenSo }
+{}
+
+/// The tests of a controller pass exactly for what a controller can be.
+pub fn controllers_are_decided()
+    ensures { ControllersAreDecided }
+{}

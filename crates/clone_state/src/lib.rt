@@ -1,0 +1,8 @@
+//! The image of a machine: its parts, and the machine that they make.
+#![tactic(auto)]
+
+mod laws;
+
+pub use laws::{
+    controllers_are_decided, messages_are_written_one_way, parts_are_written_one_way, parts_make_their_machines,
+};
