@@ -7,3 +7,7 @@ pub mod Controllers
 pub mod Guests
 pub mod Copyable
 pub mod Messages
+pub mod Windows
+pub mod Copied
+pub mod Payloads
+pub mod PartBytes

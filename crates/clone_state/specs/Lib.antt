@@ -5,3 +5,4 @@ pub mod FirstPart
 pub mod Parts
 pub mod Assembly
 pub mod Laws
+pub mod Image
