@@ -15,8 +15,8 @@ use Rattle.clone_state.specs.Possible.{is_possible}
 use Rattle.clone_state.specs.FirstPart.{truth, maybe, processor, PortImage, has_window, port, port_01, current, drives, write, FirstImage, fields, image_of_first, first_of_image, versioned, read_version, first, spelling_01}
 use Rattle.clone_state.specs.Parts.{first_in, of_drives}
 use Rattle.clone_state.proofs.Codecs.{both_again, by_again, only_again, one_again, bytes_again, numbers_again, times_again, counted_again, all_again}
-use Rattle.clone_state.proofs.Spellings.{Spells, one_spells, bytes_spells, number_spells, both_spells, by_spells, only_spells, times_spells, counted_spells}
-use Rattle.clone_state.proofs.Groups.{Anything, truth_again, truth_spells, maybe_again, maybe_spells, processor_again, processor_spells, HasOne, port_again, port_spells, port_01_again, port_01_spells, IsCurrent, current_again, current_spells, zip_first, zip_second, zip_length, zip_again, drives_again, drives_spells, IsWrite, write_again, write_spells}
+use Rattle.clone_state.proofs.Spellings.{Spells, weaker, one_spells, bytes_spells, number_spells, both_spells, by_spells, only_spells, times_spells, counted_spells}
+use Rattle.clone_state.proofs.Groups.{truth_again, truth_spells, maybe_again, maybe_spells, processor_again, processor_spells, HasOne, port_again, port_spells, port_01_again, port_01_spells, IsCurrent, current_again, current_spells, zip_first, zip_second, zip_length, zip_again, drives_again, drives_spells, IsWrite, write_again, write_spells}
 
 -- ---- what is written is read again
 
@@ -133,39 +133,47 @@ first_in_again_01 drives f h few e = read_of_drives drives f (spelling_01 f) rea
 
 -- ---- what is read is written just so
 
-fields_spells : {P : PortImage → Type 0} (c : Codec PortImage) → Spells c P → Spells (fields c) Anything
+-- the count is in its range
+abbrev HasCount : FirstImage → Type 0
+HasCount r = r.1.1.1.0 < 2 ^ 62
+
+fields_spells : {P : PortImage → Type 0} (c : Codec PortImage) → Spells c P → Spells (fields c) HasCount
 unfolding fields
 fields_spells c h =
-    loose (both_spells one _ one_spells (both_spells (bytes 3) _ (bytes_spells 3) (both_spells one _ one_spells
+    weaker (both_spells one _ one_spells (both_spells (bytes 3) _ (bytes_spells 3) (both_spells one _ one_spells
     (both_spells number _ number_spells (both_spells processor _ processor_spells
     (both_spells (times 2 number) _ (times_spells 2 number number_spells)
     (both_spells (times 2 number) _ (times_spells 2 number number_spells)
     (both_spells (times 2 c) _ (times_spells 2 c h) (both_spells number _ number_spells
     (both_spells maybe _ maybe_spells (both_spells truth _ truth_spells (both_spells drives _ drives_spells
     (both_spells current (counted write) current_spells (counted_spells write write_spells))))))))))))))
-  where
-    loose : {A : Type 0} {Q : A → Type 0} {d : Codec A} → Spells d Q → Spells d Anything
-    loose h = record { written = h.written; holds = λ bytes r all e. tt }
+    (λ r p. p.1.1.1.0)
 
 abbrev with_ports : FirstImage → List PortImage → FirstImage
 with_ports r ports =
     (r.0, (r.1.0, (r.1.1.0, (r.1.1.1.0, (r.1.1.1.1.0, (r.1.1.1.1.1.0, (r.1.1.1.1.1.1.0,
     (ports, r.1.1.1.1.1.1.1.1))))))))
 
+-- the count is in its range, and the controller waits for just these writes
+abbrev HasWrites : FirstPart → Type 0
+HasWrites f = (f.count < 2 ^ 62) × (map place_of f.writes ≡ f.devices.disk.outstanding)
+
 versioned_spells : {P : PortImage → Type 0} (c : Codec PortImage) → Spells c P
-    → Spells (versioned c) (λ f. Anything f × (is_possible f ≡ true))
+    → Spells (versioned c) (λ f. HasWrites f × (is_possible f ≡ true))
 unfolding versioned
 versioned_spells c h =
     only_spells (by (fields c) image_of_first first_of_image) is_possible
-    (by_spells (fields c) image_of_first first_of_image (fields_spells c h) (λ r p. back r) (λ r p. tt))
+    (by_spells (fields c) image_of_first first_of_image (fields_spells c h) (λ r p. back r)
+    (λ r p. (p, refl)))
   where
     back : (r : FirstImage) → image_of_first (first_of_image r) ≡ r
     back r =
         ap (with_ports r) (zip_again r.1.1.1.1.1.1.1.0)
 
--- the bytes are the value's spelling in version 02 or in version 01
-abbrev pub IsSpelled : FirstPart → List ℕ → List ℕ → Type 0
-IsSpelled f bytes rest = (bytes ≡ first.spell f ++ rest) ⊎ (bytes ≡ spelling_01 f ++ rest)
+-- the bytes are the value's spelling in version 02 or in version 01, and a board can have the value
+pub record IsSpelled (f : FirstPart) (bytes rest : List ℕ) : Type 0 where
+  pub spelled : (bytes ≡ first.spell f ++ rest) ⊎ (bytes ≡ spelling_01 f ++ rest)
+  pub holds : HasWrites f × (is_possible f ≡ true)
 
 version_spelled : (version : ℕ) (a b : Bool) (bytes : List ℕ) (r : FirstPart × List ℕ) → IsBytes bytes
     → eqb version 2 ≡ a → eqb version 1 ≡ b
@@ -173,11 +181,17 @@ version_spelled : (version : ℕ) (a b : Bool) (bytes : List ℕ) (r : FirstPart
     → IsSpelled r.0 (version ∷ bytes) r.1
 unfolding first
 version_spelled version true b bytes r all is_two is_one e =
-    inl (ap (λ n. n ∷ bytes) (eqb-true version 2 is_two)
-    ∙ ap (λ xs. 2 ∷ xs) ((versioned_spells port port_spells).written bytes r all e))
+    record {
+      spelled = inl (ap (λ n. n ∷ bytes) (eqb-true version 2 is_two)
+          ∙ ap (λ xs. 2 ∷ xs) ((versioned_spells port port_spells).written bytes r all e));
+      holds = (versioned_spells port port_spells).holds bytes r all e;
+    }
 version_spelled version false true bytes r all is_two is_one e =
-    inr (ap (λ n. n ∷ bytes) (eqb-true version 1 is_one)
-    ∙ ap (λ xs. 1 ∷ xs) ((versioned_spells port_01 port_01_spells).written bytes r all e))
+    record {
+      spelled = inr (ap (λ n. n ∷ bytes) (eqb-true version 1 is_one)
+          ∙ ap (λ xs. 1 ∷ xs) ((versioned_spells port_01 port_01_spells).written bytes r all e));
+      holds = (versioned_spells port_01 port_01_spells).holds bytes r all e;
+    }
 version_spelled version false false bytes r all is_two is_one e = absurd (none-some r e)
 
 pub first_spelled : (bytes : List ℕ) (r : FirstPart × List ℕ) → IsBytes bytes → first.read bytes ≡ Some r
@@ -191,6 +205,7 @@ first_spelled (version ∷ bytes) r all e =
 pub record FirstRead (drives : ℕ) (payload : List ℕ) (f : FirstPart) : Type 0 where
   pub spelled : (payload ≡ first.spell f) ⊎ (payload ≡ spelling_01 f)
   pub attached : f.devices.disk.attached ≡ drives
+  pub holds : HasWrites f × (is_possible f ≡ true)
 
 pub first_in_spelled : (drives : ℕ) (payload : List ℕ) (f : FirstPart) → IsBytes payload
     → first_in drives payload ≡ Some f → FirstRead drives payload f
@@ -202,12 +217,14 @@ first_in_spelled drives payload f all e =
     let a = admitted (eqb (length r.0.1) 0) r.0.0 x.0 r.2 in
     let nothing : r.0.1 ≡ [] = nil_from_length r.0.1 (eqb-true _ _ a.0) in
     let same : r.0.0 ≡ f = a.1 ∙ d.1 in
+    let s = first_spelled payload r.0 all r.1 in
     record {
-      spelled = elim (first_spelled payload r.0 all r.1) [
+      spelled = elim s.spelled [
         | inl e ↦ inl (e ∙ ap (λ xs. first.spell r.0.0 ++ xs) nothing ∙ append-nil (first.spell r.0.0)
           ∙ ap first.spell same)
         | inr e ↦ inr (e ∙ ap (λ xs. spelling_01 r.0.0 ++ xs) nothing ∙ append-nil (spelling_01 r.0.0)
           ∙ ap spelling_01 same)
       ];
       attached = ap (λ (g : FirstPart). g.devices.disk.attached) (sym d.1) ∙ eqb-true _ _ d.0;
+      holds = subst (λ g. HasWrites g × (is_possible g ≡ true)) same s.holds;
     }

@@ -11,3 +11,4 @@ pub mod Windows
 pub mod Copied
 pub mod Payloads
 pub mod PartBytes
+pub mod Rebuilding

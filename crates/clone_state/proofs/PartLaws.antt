@@ -229,8 +229,13 @@ parts_spelled drives (front ∷ rest) c all e =
         | inl e ↦ inl (ap (λ x. x ∷ rest) e ∙ ap (λ xs. first.spell c.first ∷ xs) later)
         | inr e ↦ inr (ap (λ x. x ∷ rest) e ∙ ap (λ xs. spelling_01 c.first ∷ xs) later)
       ];
-      attached = r.0.attached;
-      fits = r.2;
+      state = record {
+        attached = r.0.attached;
+        possible = r.0.holds.1;
+        count = r.0.holds.0.0;
+        writes = r.0.holds.0.1;
+        fits = r.2;
+      };
     }
   where
     passed : (b : Bool) (o : Option Checkpoint) → cond b o None ≡ Some c → (b ≡ true) × (o ≡ Some c)

@@ -19,6 +19,9 @@ pub record Spells {A : Type 0} (c : Codec A) (P : A → Type 0) : Type 0 where
 pub one_spelling : {A : Type 0} {P : A → Type 0} (c : Codec A) → Spells c P → OneSpelling c
 one_spelling c h = record { exact = λ bytes rest x all e. h.written bytes (x, rest) all e }
 
+pub weaker : {A : Type 0} {P Q : A → Type 0} {c : Codec A} → Spells c P → ((x : A) → P x → Q x) → Spells c Q
+weaker h f = record { written = h.written; holds = λ bytes r all e. f r.0 (h.holds bytes r all e) }
+
 -- what is after the value is bytes too
 behind : (xs ys bytes : List ℕ) → bytes ≡ xs ++ ys → IsBytes bytes → IsBytes ys
 behind xs ys bytes e all = subst IsBytes (drop_front xs ys) (IsBytes-drop (length xs) (xs ++ ys) (subst IsBytes e all))

@@ -1,5 +1,5 @@
 -- What code that sends or gathers parts may rely on: an image makes its machine again, and each part is written in one way.
-use Rattle.std.specs.Prelude.{◌≡◌, ◌⊎◌, ℕ, ◌<◌, ◌≤◌, ◌^◌, true, Some, List, ◌∷◌, All, length}
+use Rattle.std.specs.Prelude.{◌≡◌, ◌⊎◌, ℕ, ◌<◌, ◌≤◌, ◌^◌, true, Some, List, ◌∷◌, All, length, map}
 use Rattle.serial_2sio.specs.Port as serial
 use Rattle.disk_dcdd.specs.Controller.{IsDrives}
 use Rattle.disk_dcdd.specs.Sector.{place_of}
@@ -11,12 +11,14 @@ use Rattle.event_callbacks.specs.declared.operations.OpId.TheVariants as id
 use Rattle.event_callbacks.specs.declared.operations.Operation.TheVariants as operation
 use Rattle.guest_board.specs.Board.{IsBoard}
 use Rattle.guest_board.specs.Guest.{Guest}
+use Rattle.guest_board.specs.Parts.{guest_of_parts, stands}
+use Rattle.guest_board.specs.declared.parts.BoardParts.{BoardParts}
 use Rattle.guest_memory.specs.declared.memory.TheConstants.{BYTES}
 use Rattle.log_entry.specs.Numbers.{IsBytes}
-use Rattle.clone_state.specs.Checkpoint.{Checkpoint, FirstPart, checkpoint_of, guest_of}
+use Rattle.clone_state.specs.Checkpoint.{Checkpoint, FirstPart, checkpoint_in_parts, checkpoint_of, guest_of}
 use Rattle.clone_state.specs.FirstPart.{first, spelling_01}
 use Rattle.clone_state.specs.Parts.{PartMessage, checkpoint_in, first_in, guest_in, is_payload, later_parts, message_at, message_bytes, part_count, parts_of}
-use Rattle.clone_state.specs.Possible.{fits_together, may_halt}
+use Rattle.clone_state.specs.Possible.{fits_together, is_possible, may_halt}
 
 -- ---- an image makes its machine again
 
@@ -68,17 +70,31 @@ FirstIsWrittenSo = (drives : ℕ) (payload : List ℕ) (f : FirstPart) → IsByt
 abbrev pub AreParts : Checkpoint → List (List ℕ) → Type 0
 AreParts c parts = (parts ≡ parts_of c) ⊎ (parts ≡ spelling_01 c.first ∷ later_parts c)
 
--- parts that are read are those of what they say, which fits a board of this many drives
+-- a board of this many drives can be in the state
+pub record FitsBoard (drives : ℕ) (c : Checkpoint) : Type 0 where
+  pub attached : c.first.devices.disk.attached ≡ drives
+  pub possible : is_possible c.first ≡ true
+  pub count : c.first.count < 2 ^ 62
+  pub writes : map place_of c.first.writes ≡ c.first.devices.disk.outstanding
+  pub fits : fits_together c ≡ true
+
+-- parts that are read are those of what they say, and a board can be in that state
 pub record AreRead (drives : ℕ) (parts : List (List ℕ)) (c : Checkpoint) : Type 0 where
   pub written : AreParts c parts
-  pub attached : c.first.devices.disk.attached ≡ drives
-  pub fits : fits_together c ≡ true
+  pub state : FitsBoard drives c
 
 abbrev pub PartsAreWrittenSo : Type 0
 PartsAreWrittenSo = (drives : ℕ) (parts : List (List ℕ)) (c : Checkpoint) → All IsBytes parts
     → checkpoint_in drives parts ≡ Some c → AreRead drives parts c
 
--- ---- and so is each message
+-- ---- what is read can be rebuilt
+
+-- the parts of a board that say it pass the board's own tests, and describe the machine that the image makes
+abbrev pub BoardsCanBeRebuilt : Type 0
+BoardsCanBeRebuilt = (drives : ℕ) (p : BoardParts) → FitsBoard drives (checkpoint_in_parts p)
+    → (stands p ≡ true) × (guest_of_parts p ≡ guest_of (checkpoint_in_parts p))
+
+-- ---- each message is written in one way
 
 -- the generation and the index fit their places, and the payload is one of that index
 pub record IsMessage (drives : ℕ) (m : PartMessage) : Type 0 where

@@ -1,6 +1,6 @@
 //! What follows from the definitions alone.
 ghost use Rattle.clone_state.specs.Laws.{
-    FirstIsWrittenSo, MessageIsReadAgain, MessageIsWrittenSo, OldPartsMakeIt, PartsAreCounted, PartsAreWrittenSo, PartsMakeIt, SaysItAll
+    BoardsCanBeRebuilt, FirstIsWrittenSo, MessageIsReadAgain, MessageIsWrittenSo, OldPartsMakeIt, PartsAreCounted, PartsAreWrittenSo, PartsMakeIt, SaysItAll
 };
 ghost use Rattle.clone_state.specs.Possible.{ControllersAreDecided};
 
@@ -28,4 +28,10 @@ pub fn messages_are_written_one_way()
 /// The tests of a controller pass exactly for what a controller can be.
 pub fn controllers_are_decided()
     ensures { ControllersAreDecided }
+{}
+
+/// What is read is never refused by a board: its parts pass the board's own tests, and describe the machine that the
+/// image makes.
+pub fn boards_can_be_rebuilt()
+    ensures { BoardsCanBeRebuilt }
 {}

@@ -98,14 +98,41 @@ fn parts(alloc: Global) -> R<BoardParts> {
     })
 }
 
-// The image of a board that is made of these parts.
-fn image<T: Completes + Drop, S: Completes + Drop, W: Completes + Drop>(
+// A board that is made of these parts, at the second attempt if memory is refused at the first.
+fn board<T: Completes + Drop, S: Completes + Drop, W: Completes + Drop>(
     alloc: Global,
     callbacks: Callbacks<T, S, W>,
-) -> R<Image> {
-    match Board::rebuild(alloc, parts(alloc)?, callbacks) {
-        Ok(board) => Image::of(alloc, &board, 2),
+) -> R<Board<T, S, W>> {
+    let made = match parts(alloc) {
+        Err(Fault::OutOfMemory) => parts(alloc)?,
+        made => made?,
+    };
+    let refused = match Board::rebuild(alloc, made, callbacks) {
+        Ok(board) => return Ok(board),
+        Err((parts, callbacks, _)) => Board::rebuild(alloc, parts, callbacks),
+    };
+    match refused {
+        Ok(board) => Ok(board),
         Err((_, _, fault)) => Err(fault),
+    }
+}
+
+// The image of this board, at the second attempt if memory is refused at the first.
+fn image<T: Completes, S: Completes, W: Completes>(
+    alloc: Global,
+    board: &Board<T, S, W>,
+) -> R<Image> {
+    match Image::of(alloc, board, 2) {
+        Err(Fault::OutOfMemory) => Image::of(alloc, board, 2),
+        made => made,
+    }
+}
+
+// A part of it, likewise.
+fn part(alloc: Global, image: &Image, index: u16) -> R<Vec<u8>> {
+    match image.part(alloc, index) {
+        Err(Fault::OutOfMemory) => image.part(alloc, index),
+        spelled => spelled,
     }
 }
 
@@ -121,19 +148,20 @@ fn spell<T: Completes + Drop, S: Completes + Drop, W: Completes + Drop>(
     requires sector { Keeps (S.may sector) (S.gives sector) SECTOR }
     requires written { Keeps (W.may written) (W.gives written) WRITTEN }
 {
-    let image = image(rt.alloc(), Callbacks::of(sent, sector, written))?;
+    let board = board(rt.alloc(), Callbacks::of(sent, sector, written))?;
+    let image = image(rt.alloc(), &board)?;
     assert_eq!(rt; image.parts(), 334);
-    let first = image.part(rt.alloc(), 0)?;
+    let first = part(rt.alloc(), &image, 0)?;
     assert_eq!(rt; first.len(), 564);
     assert_eq!(rt; first.get(..9), Some([0x50, 0, 0, 0, 2, 0, 0, 2, 1].as_slice()));
     assert_eq!(rt; first.get(67..72), Some([0x15, 0x00, 0x00, 0x01, 0x48].as_slice()));
     assert_eq!(rt; first.get(267..279), Some([2, 0, 0, 0, 0, 0, 0, 0, 4, 0, 0, 6].as_slice()));
     for index in 1..image.parts() {
-        assert_eq!(rt; image.part(rt.alloc(), index)?.len(), 263, "part {index}");
+        assert_eq!(rt; part(rt.alloc(), &image, index)?.len(), 263, "part {index}");
     }
-    let page = image.part(rt.alloc(), 1)?;
+    let page = part(rt.alloc(), &image, 1)?;
     assert_eq!(rt; page.get(..13), Some([0x50, 0, 0, 0, 2, 0, 1, 0x3e, 0x48, 0x32, 0x00, 0x20, 0x76].as_slice()));
-    let table = image.part(rt.alloc(), 257)?;
+    let table = part(rt.alloc(), &image, 257)?;
     assert_eq!(rt; table.get(..23), Some(
         [0x50, 0, 0, 0, 2, 1, 1, 0, 0, 0, 0, 0, 0, 0, 0, 0, 0, 0, 0, 0, 0, 0, 3].as_slice()
     ));

@@ -1,8 +1,9 @@
 use Rattle.std.proofs.Common.{◌≡◌, ℕ, Some, List, length, sym, ap, subst, ◌∙◌}
 use Rattle.std.proofs.lemmas.Option.{same_Some}
-use Rattle.guest_board.specs.Guest.{Guest}
+use Rattle.guest_board.specs.Guest.{Guest, altair}
 use Rattle.clone_state.specs.Checkpoint.{checkpoint_of}
 use Rattle.clone_state.specs.Parts.{guest_in, part_count, parts_of}
+use Rattle.pair_protocol.specs.Copying.{Makes}
 use Rattle.altair_copies.specs.Copies.{image_copy}
 use Rattle.altair_copies.proofs.Owned.{owned_whole}
 use Rattle.altair_copies.proofs.laws.the_image_copies.Goals as goal
@@ -14,7 +15,7 @@ returns c setup sectors is =
     let law = c.parts_make_their_machines.ensures in
     let whole = owned_whole setup sectors is.disk (c.altairs_stay_on_their_disks.ensures setup sectors)
     (stands setup sectors) in
-    let makes = λ moves s r own. subst (λ n. guest_in n (parts_of (checkpoint_of s)) ≡ Some s)
+    let makes : Makes (altair setup sectors) (image_copy setup.drives) = λ moves s r own. subst (λ n. guest_in n (parts_of (checkpoint_of s)) ≡ Some s)
     (stands setup sectors moves s r).sizes.attached
     (law.makes s (c.altairs_may_be_copied.ensures setup sectors is moves s (whole moves s r own) r)) in
     (
