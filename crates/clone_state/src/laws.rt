@@ -1,6 +1,14 @@
 //! What follows from the definitions alone.
 ghost use Rattle.clone_state.specs.Laws.{
-    BoardsCanBeRebuilt, FirstIsWrittenSo, MessageIsReadAgain, MessageIsWrittenSo, OldPartsMakeIt, PartsAreCounted, PartsAreWrittenSo, PartsMakeIt, SaysItAll
+  BoardsCanBeRebuilt,
+  FirstIsWrittenSo,
+  MessageIsReadAgain,
+  MessageIsWrittenSo,
+  OldPartsMakeIt,
+  PartsAreCounted,
+  PartsAreWrittenSo,
+  PartsMakeIt,
+  SaysItAll,
 };
 ghost use Rattle.clone_state.specs.Possible.{ControllersAreDecided};
 

@@ -9,5 +9,6 @@ mod tests;
 
 pub use image::Image;
 pub use laws::{
-    boards_can_be_rebuilt, controllers_are_decided, messages_are_written_one_way, parts_are_written_one_way, parts_make_their_machines,
+    boards_can_be_rebuilt, controllers_are_decided, messages_are_written_one_way,
+    parts_are_written_one_way, parts_make_their_machines,
 };

@@ -153,18 +153,34 @@ fn spell<T: Completes + Drop, S: Completes + Drop, W: Completes + Drop>(
     assert_eq!(rt; image.parts(), 334);
     let first = part(rt.alloc(), &image, 0)?;
     assert_eq!(rt; first.len(), 564);
-    assert_eq!(rt; first.get(..9), Some([0x50, 0, 0, 0, 2, 0, 0, 2, 1].as_slice()));
-    assert_eq!(rt; first.get(67..72), Some([0x15, 0x00, 0x00, 0x01, 0x48].as_slice()));
-    assert_eq!(rt; first.get(267..279), Some([2, 0, 0, 0, 0, 0, 0, 0, 4, 0, 0, 6].as_slice()));
+    assert_eq!(rt;
+        first.get(..9),
+        Some([0x50, 0, 0, 0, 2, 0, 0, 2, 1].as_slice())
+    );
+    assert_eq!(rt;
+        first.get(67..72),
+        Some([0x15, 0x00, 0x00, 0x01, 0x48].as_slice())
+    );
+    assert_eq!(rt;
+        first.get(267..279),
+        Some([2, 0, 0, 0, 0, 0, 0, 0, 4, 0, 0, 6].as_slice())
+    );
     for index in 1..image.parts() {
         assert_eq!(rt; part(rt.alloc(), &image, index)?.len(), 263, "part {index}");
     }
     let page = part(rt.alloc(), &image, 1)?;
-    assert_eq!(rt; page.get(..13), Some([0x50, 0, 0, 0, 2, 0, 1, 0x3e, 0x48, 0x32, 0x00, 0x20, 0x76].as_slice()));
+    assert_eq!(rt;
+        page.get(..13),
+        Some([0x50, 0, 0, 0, 2, 0, 1, 0x3e, 0x48, 0x32, 0x00, 0x20, 0x76].as_slice())
+    );
     let table = part(rt.alloc(), &image, 257)?;
-    assert_eq!(rt; table.get(..23), Some(
-        [0x50, 0, 0, 0, 2, 1, 1, 0, 0, 0, 0, 0, 0, 0, 0, 0, 0, 0, 0, 0, 0, 0, 3].as_slice()
-    ));
+    assert_eq!(rt;
+        table.get(..23),
+        Some([
+            0x50, 0, 0, 0, 2, 1, 1, 0, 0, 0, 0, 0, 0, 0, 0, 0, 0, 0, 0, 0, 0, 0, 3
+        ]
+        .as_slice())
+    );
     assert_eq!(rt; image.part(rt.alloc(), 334).err(), Some(Fault::Unknown));
     Ok(())
 }

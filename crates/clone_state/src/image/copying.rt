@@ -49,7 +49,10 @@ pub(super) fn parts_of_board<T: Completes, S: Completes, W: Completes>(
 }
 
 // The guest's memory, page after page.
-fn copied_memory<T: Completes, S: Completes, W: Completes>(alloc: Global, board: &Board<T, S, W>) -> R<Vec<u8>>
+fn copied_memory<T: Completes, S: Completes, W: Completes>(
+    alloc: Global,
+    board: &Board<T, S, W>,
+) -> R<Vec<u8>>
     ensures ok { IfOk result (λ memory. memory.items ≡ board.now.guest.memory) }
     ensures full { IsOkUnless result OutOfMemory }
 {
@@ -94,7 +97,11 @@ fn unaccepted_bytes<T: Completes, S: Completes, W: Completes>(
 }
 
 // The byte of this number, which the port has on its way.
-fn outstanding_byte<T: Completes, S: Completes, W: Completes>(board: &Board<T, S, W>, port: u8, number: u64) -> u8
+fn outstanding_byte<T: Completes, S: Completes, W: Completes>(
+    board: &Board<T, S, W>,
+    port: u8,
+    number: u64,
+) -> u8
     requires port { port < PORTS }
     requires sent { is_on_its_way (slice_index board.now.guest.issued port)
         (port_of board.now.guest.devices port).unaccepted number ≡ true }
@@ -127,7 +134,10 @@ fn outstanding_writes<T: Completes, S: Completes, W: Completes>(
 }
 
 // The write that goes to this place.
-fn outstanding_write<T: Completes, S: Completes, W: Completes>(board: &Board<T, S, W>, place: &Place) -> SectorWrite
+fn outstanding_write<T: Completes, S: Completes, W: Completes>(
+    board: &Board<T, S, W>,
+    place: &Place,
+) -> SectorWrite
     requires { IsHeld board.now.guest.operations place.now }
     ensures held { operation_at board.now.guest.operations (id.Write place.now.number)
         ≡ Some (operation.Write result) }

@@ -15,9 +15,18 @@ returns-clause-ok c =
     ++ (c.processor_bytes.result ++ (c.port_numbers.result ++ (c.port_numbers-2.result ++ (spell_each port (zip c.args.parts.now.devices.ports c.args.parts.now.unaccepted)
     ++ (c.controller_bytes.result ++ (c.drives_bytes.result ++ (c.current_bytes.result
     ++ ((length c.deref-writes.result.now ∷ []) ++ spell_each write c.deref-writes.result.now)))))))) =
-    rw (c.setting.ensures, c.processor_bytes.ensures, c.port_numbers.ensures, c.port_numbers-2.ensures,
-    c.controller_bytes.ensures, c.drives_bytes.ensures, c.current_bytes.ensures,
-    c.attached.ensures, c.current.ensures, c.deref-writes.ensures.value) (first_spelled f) in
+    rw (
+      c.setting.ensures,
+      c.processor_bytes.ensures,
+      c.port_numbers.ensures,
+      c.port_numbers-2.ensures,
+      c.controller_bytes.ensures,
+      c.drives_bytes.ensures,
+      c.current_bytes.ensures,
+      c.attached.ensures,
+      c.current.ensures,
+      c.deref-writes.ensures.value,
+    ) (first_spelled f) in
     let whole : c.extend_from_slice-8.new.self.items ++ spell_each write c.deref-writes.result.now
     ≡ c.args.out.now.items ++ first.spell f =
     appended c.args.out.now.items _ _ _ _ _ _ _ _ _ _ _ _ _ _ _ _ _ _ _ (first.spell f)

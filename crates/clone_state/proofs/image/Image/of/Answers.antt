@@ -11,5 +11,5 @@ invariant_of-result g c =
     let board = c.args.board.now in
     record {
       whole = subst (λ (x : Guest). IsCopyOf x p) (sym c.can_be_rebuilt.ensures.guest)
-    (copy_is board.guest p board.versions c.stands.ensures.board c.in_ok-copied.ensures.shown c.in_ok-copied.ensures.windows);
+          (copy_is board.guest p board.versions c.stands.ensures.board c.in_ok-copied.ensures.shown c.in_ok-copied.ensures.windows);
     }
