@@ -5,7 +5,7 @@ use Rattle.std.proofs.lemmas.Bool.{ltb-true, and_parts}
 use Rattle.std.proofs.lemmas.Option.{cond_some}
 use Rattle.serial_2sio.specs.Port as serial
 use Rattle.disk_dcdd.specs.declared.address.SectorAddress.{SectorAddress}
-use Rattle.disk_dcdd.specs.declared.controller.TheConstants.{GREATEST_NUMBER}
+use Rattle.i8080_words.specs.declared.limits.TheConstants.{GREATEST_NUMBER}
 use Rattle.event_callbacks.specs.Completions.{port_of, is_due, done_of}
 use Rattle.event_callbacks.specs.Operations.{operation_at, without_operation, id_of}
 use Rattle.event_callbacks.specs.declared.devices.Done.TheVariants as done

@@ -8,7 +8,7 @@ use Rattle.i8080_words.specs.Effects as effects
 use Rattle.i8080_words.specs.Effects.{Access, after_accesses}
 use Rattle.serial_2sio.specs.Port as serial
 use Rattle.disk_dcdd.specs.declared.address.SectorAddress.{SectorAddress}
-use Rattle.disk_dcdd.specs.declared.controller.TheConstants.{GREATEST_NUMBER}
+use Rattle.i8080_words.specs.declared.limits.TheConstants.{GREATEST_NUMBER}
 use Rattle.event_callbacks.specs.Completions.{port_of}
 use Rattle.event_callbacks.specs.declared.operations.Operation.{Operation}
 use Rattle.guest_board.specs.Guest.{Guest, altair, wired, wired_after, step_of, step_from, take_from, after_rx, after_sent, after_sector, after_written}

@@ -13,6 +13,7 @@ use Rattle.disk_dcdd.specs.Controller.{Follows, IsDrives, IsIssued, IsUnderHead}
 use Rattle.disk_dcdd.specs.Drive.{Drives}
 use Rattle.disk_dcdd.specs.Sector.{is_at}
 use Rattle.disk_dcdd.specs.declared.controller.TheConstants.{DRIVES, OUTSTANDING}
+use Rattle.i8080_words.specs.declared.limits.TheConstants.{GREATEST_NUMBER}
 use Rattle.disk_dcdd.specs.declared.drive.Drive.{Drive}
 use Rattle.disk_dcdd.specs.declared.drive.TheConstants.{TRACKS}
 use Rattle.disk_dcdd.specs.declared.sector.CurrentSector.{CurrentSector}

@@ -8,6 +8,10 @@ pub mod PartLaws
 pub mod Controllers
 pub mod Guests
 pub mod Copyable
+pub mod Windows
+pub mod Copied
+pub mod Payloads
+pub mod PartBytes
 pub mod Rebuilding
 pub mod Messages
 pub mod Sizes

@@ -6,3 +6,4 @@ pub mod Parts
 pub mod Assembly
 pub mod Laws
 pub mod Gathering
+pub mod Image

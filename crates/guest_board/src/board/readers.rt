@@ -7,7 +7,8 @@ ghost use Rattle.i8080_words.specs.declared.limits.TheConstants.{GREATEST_NUMBER
 ghost use Rattle.event_callbacks.specs.Operations.{operation_at, id_of};
 ghost use Rattle.event_callbacks.specs.declared.devices.TheConstants.{PORTS};
 ghost use Rattle.guest_memory.specs.Pages as pages;
-ghost use Rattle.guest_memory.specs.declared.memory.TheConstants.{PAGE_BYTES};
+ghost use Rattle.guest_memory.specs.declared.memory.TheConstants.{BYTES, PAGE_BYTES};
+ghost use Rattle.guest_board.specs.Board.{IsBoard};
 ghost use Rattle.guest_board.specs.Guest as table;
 ghost use Rattle.guest_board.specs.Inputs as inputs;
 
@@ -93,6 +94,13 @@ impl<T: Completes, S: Completes, W: Completes> Board<T, S, W> {
         last_completed(&self.completed, address)
     }
 
+    /// The number of the last completed write of each sector, by `SectorAddress::index`; 0 if there is none.
+    pub fn completed(&self) -> &[u64]
+        ensures { result.now ≡ self.now.guest.completed }
+    {
+        &self.completed
+    }
+
     /// The byte at an address of memory.
     pub fn byte(&self, address: u16) -> u8
         ensures { result ≡ slice_index self.now.guest.memory address }
@@ -150,6 +158,14 @@ impl<T: Completes, S: Completes, W: Completes> Board<T, S, W> {
         ensures { result ≡ self.now.guest.sense }
     {
         self.wiring.sense
+    }
+
+    /// Whatever a board has been through, what holds of boards holds of it, and its memory has a byte at every address.
+    pub fn stands(&self)
+        ensures board { IsBoard self.now.guest self.now.versions }
+        ensures memory { length self.now.guest.memory ≡ BYTES }
+    {
+        self.wiring.memory.always_whole();
     }
 }
 
