@@ -25,6 +25,7 @@ use Rattle.pair_rule.specs.Knowledge.{Stands}
 use Rattle.pair_rule.specs.Steps.{IsStep}
 use Rattle.pair_rule.proofs.SilentSteps.{silent_shows}
 use Rattle.pair_rule.proofs.TableSteps.{table_steps}
+use Rattle.pair_rule.proofs.AcceptedMarks.{accepted_marked}
 use Rattle.pair_rule.proofs.Told.{nothing_told, silent_told, thread_told}
 
 module _ {S : Type 0} (M : Machine S) (C : Copying S) (typed0 typed1 : List ℕ) (k : Knowledge) (w : World S) (z : Shows M typed0 typed1 k w) (f : Faithful M w) where
@@ -50,7 +51,7 @@ module _ {S : Type 0} (M : Machine S) (C : Copying S) (typed0 typed1 : List ℕ)
   }
 
 pub shown : {S : Type 0} (M : Machine S) (C : Copying S) (typed0 typed1 : List ℕ) (k : Knowledge) (w : World S) → Stands k → PrimaryIsTold typed0 typed1 k.primary → Shows M typed0 typed1 k w → Reached M C w → Faithful M w → IsShown M C typed0 typed1 k
-shown M C typed0 typed1 k w st told z reached f = record { stands = st; told = told; world = w; shows = z; reached = reached; faithful = f; promises = promises M C typed0 typed1 k w z f }
+shown M C typed0 typed1 k w st told z reached f = record { stands = st; told = told; world = w; shows = z; marked = accepted_marked M typed0 typed1 k w st told z; reached = reached; faithful = f; promises = promises M C typed0 typed1 k w z f }
 
 -- a step of the table leads from what is shown to what is shown
 next_shown : {S : Type 0} → RowIsChanges S → ChangesReach S → ReachedIsFaithful S → ReachedGrows S → (M : Machine S) (C : Copying S) → Runnable M → IsCopying M C → (typed0 typed1 : List ℕ) (k new : Knowledge) → IsShown M C typed0 typed1 k → IsStep M typed0 typed1 k new → IsShown M C typed0 typed1 new

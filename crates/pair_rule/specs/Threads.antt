@@ -1,6 +1,7 @@
 -- What the threads of a generation promise, whatever steps they make.
 use Rattle.std.specs.Prelude.{◌≡◌, ℕ, zero, suc, ◌<◌, ◌≤◌, List, map}
 use Rattle.disk_dcdd.specs.declared.address.SectorAddress.{SectorAddress}
+use Rattle.event_callbacks.specs.declared.operations.Operation.TheVariants.{Byte}
 use Rattle.guest_board.specs.Guest.{altair}
 use Rattle.guest_board.specs.Machine.{Machine, Move}
 use Rattle.guest_board.specs.declared.setup.Setup.{Setup}
@@ -23,7 +24,7 @@ use Rattle.pair_rule.specs.declared.view.PrimaryView.{PrimaryView}
 use Rattle.pair_rule.specs.Knowledge.{Stands}
 use Rattle.pair_rule.specs.Law.{Runnable, typed_at}
 use Rattle.pair_rule.specs.Rules.{first_known}
-use Rattle.pair_rule.specs.Shown.{Shows, arrival_of}
+use Rattle.pair_rule.specs.Shown.{IsAcknowledged, Shows, arrival_of}
 use Rattle.pair_rule.specs.Steps.{TableStep}
 
 -- what is known after steps of the threads, one after another, in a generation at whose terminals these bytes were typed
@@ -72,12 +73,20 @@ pub record ListIsTold (typed0 typed1 : List ℕ) (list : List Entry) (answers : 
 abbrev pub PrimaryIsTold : List ℕ → List ℕ → PrimaryView → Type 0
 PrimaryIsTold typed0 typed1 p = ListIsTold typed0 typed1 p.list p.answers p.counted0 p.counted1
 
+-- the byte of this number was given by a step, and the mark of that step is among the entries seen
+pub record ByteIsAcknowledged (moves : List Move) (seen port number : ℕ) : Type 0 where
+  pub byte : ℕ
+  pub marked : IsAcknowledged moves seen (Byte port number byte)
+
 -- a world that actions reach shows what is known; it is faithful, so the threads keep their promises
 pub record IsShown {S : Type 0} (M : Machine S) (C : Copying S) (typed0 typed1 : List ℕ) (k : Knowledge) : Type 0 where
   pub stands : Stands k
   pub told : PrimaryIsTold typed0 typed1 k.primary
   pub world : World S
   pub shows : Shows M typed0 typed1 k world
+  -- each byte that the primary's list says is accepted has its mark below what the primary has seen
+  pub marked : (port number : ℕ) → port < 2 → 0 < number → number ≤ acceptances port (inputs_of k.primary.list) →
+      ByteIsAcknowledged shows.moves k.primary.seen port number
   pub reached : Reached M C world
   pub faithful : Faithful M world
   pub promises : Promises M typed0 typed1 k
