@@ -89,10 +89,10 @@ module _ {S : Type 0} (M : Machine S) where
   goes_past s v w n _ lt q Begin = absurd (omega arith)
   goes_past s v w n _ lt q (More {n = j} {t = x} r allowed made) = elim (leb_tells j n) [
     | inl p ↦ (
-        w,
-        subst (λ y. M.step y ≡ Some (w, None))
-            (same_end s x v j n (let le = p.1 in omega (arith, lt, le)) r q) made,
-      )
+      w,
+      subst (λ y. M.step y ≡ Some (w, None))
+          (same_end s x v j n (let le = p.1 in omega (arith, lt, le)) r q) made,
+    )
     | inr p ↦ goes_past s v x n j p.1 q r
   ]
 
@@ -154,7 +154,7 @@ module _ {S : Type 0} (M : Machine S) where
         no_longer lt = let x = goes_past s v r.last n r.steps lt q r.quietly in gives_one t x.0 o (M.step v) made x.1
 
         short : r.steps ≤ n
-        short = elim (leb_tells r.steps n) [ | inl p ↦ p.1 | inr p ↦ absurd (no_longer p.1) ]
+        short = elim (leb_tells r.steps n) [ inl p ↦ p.1 | inr p ↦ absurd (no_longer p.1) ]
 
         go : Does r.last e u → ⊥
         go (Operates o' is) =
