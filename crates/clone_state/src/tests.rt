@@ -136,8 +136,56 @@ fn part(alloc: Global, image: &Image, index: u16) -> R<Vec<u8>> {
     }
 }
 
-// The parts have their lengths and their heads; the first part says what is outstanding, the table of track 0 says which
-// write was the last of sector 1.
+// Each part has its length.
+fn check_lengths(rt: &(impl Abort + AllocGlobal), image: &Image) -> R<()> {
+    assert_eq!(rt; image.parts(), 334);
+    for index in 1..image.parts() {
+        let part = part(rt.alloc(), image, index)?;
+        assert_eq!(rt; part.len(), 263, "part {index}");
+    }
+    assert_eq!(rt; image.part(rt.alloc(), 334).err(), Some(Fault::Unknown));
+    Ok(())
+}
+
+// The first part begins with its head, version and number of drives, and says what is outstanding.
+fn check_first_part(rt: &impl Abort, first: &[u8]) {
+    assert_eq!(rt; first.len(), 564);
+    assert_eq!(rt;
+        first.get(..9),
+        Some([0x50, 0, 0, 0, 2, 0, 0, 2, 1].as_slice())
+    );
+    check_window(rt, first);
+    check_first_write(rt, first);
+}
+
+// Port 0 has one byte in its window.
+fn check_window(rt: &impl Abort, first: &[u8]) {
+    let port = Some([0x15, 0x00, 0x00, 0x01, 0x48].as_slice());
+    assert_eq!(rt; first.get(67..72), port);
+}
+
+// Two writes are outstanding, and the first is number 4, of drive 0, track 0, sector 6.
+fn check_first_write(rt: &impl Abort, first: &[u8]) {
+    let writes = Some([2, 0, 0, 0, 0, 0, 0, 0, 4, 0, 0, 6].as_slice());
+    assert_eq!(rt; first.get(267..279), writes);
+}
+
+// The first page begins with its head and the program.
+fn check_page(rt: &impl Abort, page: &[u8]) {
+    let head = Some([0x50, 0, 0, 0, 2, 0, 1].as_slice());
+    assert_eq!(rt; page.get(..7), head);
+    assert_eq!(rt; page.get(7..13), Some(PROGRAM.as_slice()));
+}
+
+// The table of track 0 says that write 3 was the last of sector 1.
+fn check_table(rt: &impl Abort, table: &[u8]) {
+    let head = Some([0x50, 0, 0, 0, 2, 1, 1].as_slice());
+    assert_eq!(rt; table.get(..7), head);
+    let numbers = Some([0, 0, 0, 0, 0, 0, 0, 0, 0, 0, 0, 0, 0, 0, 0, 3].as_slice());
+    assert_eq!(rt; table.get(7..23), numbers);
+}
+
+// The image of the board has all its parts, and they say what the board has.
 fn spell<T: Completes + Drop, S: Completes + Drop, W: Completes + Drop>(
     rt: &(impl Abort + AllocGlobal),
     sent: T,
@@ -150,38 +198,10 @@ fn spell<T: Completes + Drop, S: Completes + Drop, W: Completes + Drop>(
 {
     let board = board(rt.alloc(), Callbacks::of(sent, sector, written))?;
     let image = image(rt.alloc(), &board)?;
-    assert_eq!(rt; image.parts(), 334);
-    let first = part(rt.alloc(), &image, 0)?;
-    assert_eq!(rt; first.len(), 564);
-    assert_eq!(rt;
-        first.get(..9),
-        Some([0x50, 0, 0, 0, 2, 0, 0, 2, 1].as_slice())
-    );
-    assert_eq!(rt;
-        first.get(67..72),
-        Some([0x15, 0x00, 0x00, 0x01, 0x48].as_slice())
-    );
-    assert_eq!(rt;
-        first.get(267..279),
-        Some([2, 0, 0, 0, 0, 0, 0, 0, 4, 0, 0, 6].as_slice())
-    );
-    for index in 1..image.parts() {
-        assert_eq!(rt; part(rt.alloc(), &image, index)?.len(), 263, "part {index}");
-    }
-    let page = part(rt.alloc(), &image, 1)?;
-    assert_eq!(rt;
-        page.get(..13),
-        Some([0x50, 0, 0, 0, 2, 0, 1, 0x3e, 0x48, 0x32, 0x00, 0x20, 0x76].as_slice())
-    );
-    let table = part(rt.alloc(), &image, 257)?;
-    assert_eq!(rt;
-        table.get(..23),
-        Some([
-            0x50, 0, 0, 0, 2, 1, 1, 0, 0, 0, 0, 0, 0, 0, 0, 0, 0, 0, 0, 0, 0, 0, 3
-        ]
-        .as_slice())
-    );
-    assert_eq!(rt; image.part(rt.alloc(), 334).err(), Some(Fault::Unknown));
+    check_lengths(rt, &image)?;
+    check_first_part(rt, &part(rt.alloc(), &image, 0)?);
+    check_page(rt, &part(rt.alloc(), &image, 1)?);
+    check_table(rt, &part(rt.alloc(), &image, 257)?);
     Ok(())
 }
 
