@@ -1,5 +1,5 @@
 //! The parts of an image in bytes: a head, and what the part says.
-ghost use Rattle.std.specs.Prelude.{◌≡◌, ◌+◌, ◌*◌, ◌<◌, ◌≤◌, ◌++◌, ◌∷◌, [], length, take, drop, OnOk, IsOkUnless, slice_index_or};
+ghost use Rattle.std.specs.Prelude.{◌≡◌, ◌+◌, ◌*◌, ◌<◌, ◌≤◌, ◌==◌, ◌++◌, ◌∷◌, [], length, take, drop, if◌then◌else◌, OnOk, IsOkUnless, slice_index_or};
 ghost use Rattle.std.specs.List.{zip};
 ghost use Rattle.i8080_words.specs.declared.refusal.Fault.TheVariants.{OutOfMemory};
 ghost use Rattle.disk_dcdd.specs.declared.address.TheConstants.{DRIVE_SECTORS};
@@ -24,7 +24,7 @@ use serial_2sio::{Acia, WINDOW};
 /// The byte that a part begins with, the letter `P`.
 const PART_TAG: u8 = 0x50;
 
-// How many bytes a part's head has, the first part with no writes, and a write.
+// How many bytes a part's head has, and the first part if no write is outstanding.
 const HEAD: usize = 7;
 
 const FIRST: usize = 261;
@@ -42,9 +42,10 @@ pub(crate) fn head(generation: u32, index: u16) -> [u8; HEAD]
     bytes
 }
 
-/// How many bytes a part has.
+/// How many bytes a part has with its head.
 pub(crate) fn part_length(parts: &BoardParts, index: u16) -> usize
     requires { length parts.now.writes.items ≤ OUTSTANDING }
+    ensures { result ≡ (if index == 0 then 268 + 148 * length parts.now.writes.items else 263) }
 {
     if index == 0 {
         let writes: &[SectorWrite] = &parts.writes;

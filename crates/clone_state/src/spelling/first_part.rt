@@ -19,7 +19,7 @@ const NONE: u8 = 0xff;
 /// How many bytes an outstanding write has.
 pub(super) const WRITE: usize = 148;
 
-//// The version, the drives, the levels, the sense switches and the count.
+/// The version, the drives, the levels, the sense switches and the count.
 #[tactic(auto, unfolding(crate::specs::Codec::number))]
 pub(super) fn setting(attached: u8, levels: [u8; 3], sense: u8, count: u64) -> [u8; 14]
     ensures { result ≡ 2 ∷ attached ∷ (levels ++ (sense ∷ number.spell count)) }
@@ -72,7 +72,7 @@ fn interrupts_code(interrupts: Interrupts) -> u8
     }
 }
 
-//// A number of each port.
+/// A number of each port.
 #[tactic(auto, unfolding(crate::specs::Codec::number))]
 pub(super) fn port_numbers(numbers: [u64; PORTS]) -> [u8; 16]
     ensures { result ≡ spell_each number numbers }
@@ -84,7 +84,7 @@ pub(super) fn port_numbers(numbers: [u64; PORTS]) -> [u8; 16]
     bytes
 }
 
-//// A port and the places of its window.
+/// A port and the places of its window.
 #[tactic(auto, unfolding(crate::specs::Codec::both, crate::specs::Codec::by, crate::specs::Codec::only, crate::specs::Codec::one, crate::specs::Codec::bytes, crate::specs::FirstPart::port, crate::specs::FirstPart::receiver))]
 pub(super) fn port_bytes(port: &Acia, window: &[u8; WINDOW as usize]) -> [u8; 20]
     ensures { result ≡ grammar.port.spell (port.now, window.now) }
