@@ -18,7 +18,7 @@ use Rattle.guest_board.specs.Machine.{Move, Do, Take, Runs}
 use Rattle.guest_board.specs.declared.input.Input.{Input}
 use Rattle.guest_board.specs.declared.input.Input.TheVariants.{Rx, Sent, Sector, Written}
 use Rattle.guest_board.specs.declared.setup.Setup.{Setup}
-use Rattle.plain_single.specs.Reach.{Own, Owns, bytes_after, image_from}
+use Rattle.guest_trace.specs.Reach.{Own, Owns, bytes_after, image_from}
 use Rattle.altair_laws.specs.Stands.{AltairStands, AreWhole, AreWholeWrites, IsWhole}
 use Rattle.pair_protocol.specs.Lawful.{Among, Reaches}
 use Rattle.altair_laws.specs.OnDisk.{StaysOnDisk}

@@ -24,8 +24,8 @@ use Rattle.guest_board.specs.Guest.{Guest, altair, after_rx, after_sent, after_s
 use Rattle.guest_board.specs.Machine.{Move, Take}
 use Rattle.guest_board.specs.declared.input.Input.{Input}
 use Rattle.guest_board.specs.declared.input.Input.TheVariants.{Rx, Sent, Sector, Written}
-use Rattle.plain_single.specs.Reach.{operations, image_from}
-use Rattle.plain_single.specs.declared.timed.Bare.TheVariants as bare
+use Rattle.guest_trace.specs.Reach.{operations, image_from}
+use Rattle.guest_trace.specs.declared.timed.Bare.TheVariants as bare
 use Rattle.pair_protocol.specs.Lawful.{Among, Reaches}
 use Rattle.altair_laws.proofs.Moves.{Tells, from_boot, operations-left}
 use Rattle.altair_laws.proofs.Operations.{AreGiven, given-take, given-gone, without-cases}

@@ -13,7 +13,7 @@ use Rattle.guest_board.specs.Machine.{Move, Do, Take}
 use Rattle.guest_board.specs.declared.input.Input.{Input}
 use Rattle.guest_board.specs.declared.input.Input.TheVariants.{Rx, Sent, Sector, Written}
 use Rattle.guest_board.specs.declared.setup.Setup.{Setup}
-use Rattle.plain_single.specs.Reach.{inputs, steps, keys}
+use Rattle.guest_trace.specs.Reach.{inputs, steps, keys}
 use Rattle.pair_protocol.specs.Lawful.{Reaches}
 use Rattle.pair_protocol.proofs.Traces.Moves.{steps-append}
 use Rattle.altair_laws.proofs.Moves.{Tells, from_boot, length-keys}

@@ -18,9 +18,9 @@ use Rattle.event_callbacks.proofs.OperationMap.{operation_at-with_other, operati
 use Rattle.guest_board.specs.Guest.{Guest, guest_at_boot}
 use Rattle.guest_board.specs.Machine.{Move, Do, Take}
 use Rattle.guest_board.specs.declared.input.Input.{Input}
-use Rattle.plain_single.specs.Reach.{inputs, operations, image_from}
-use Rattle.plain_single.specs.declared.timed.Bare.{Bare}
-use Rattle.plain_single.specs.declared.timed.Bare.TheVariants as bare
+use Rattle.guest_trace.specs.Reach.{inputs, operations, image_from}
+use Rattle.guest_trace.specs.declared.timed.Bare.{Bare}
+use Rattle.guest_trace.specs.declared.timed.Bare.TheVariants as bare
 use Rattle.pair_protocol.specs.Lawful.{Among}
 use Rattle.pair_protocol.proofs.Traces.Moves.{operations-append}
 use Rattle.pair_protocol.proofs.Traces.Lists.{among-split}

@@ -26,8 +26,8 @@ use Rattle.pair_protocol.specs.Node.{Node, note_of, notes_after, primary_steps}
 use Rattle.pair_protocol.specs.Waiting.{waits_for}
 use Rattle.pair_protocol.proofs.Keeps.PrimaryLog.{same_name-refl}
 use Rattle.pair_protocol.proofs.Waiting.{waits_for_none}
-use Rattle.plain_single.specs.declared.timed.Timed.{Timed}
-use Rattle.plain_single.specs.Reach as reach
+use Rattle.guest_trace.specs.declared.timed.Timed.{Timed}
+use Rattle.guest_trace.specs.Reach as reach
 use Rattle.guest_board.specs.Outstanding.{ComesAndGoes, AreFew}
 use Rattle.ft_node.specs.Roles.{AreOfOutstanding, Covers, index_in}
 

@@ -4,7 +4,7 @@
 use Rattle.std.proofs.Common.{◌≡◌, [], ◌∷◌, ◌∙◌, List, None, Option, Some, ap, inl, refl, subst, sym, ℕ}
 use Rattle.std.specs.Prelude.{map, slice_get}
 use Rattle.guest_board.specs.Machine.{Machine}
-use Rattle.plain_single.specs.declared.timed.Timed.{Timed}
+use Rattle.guest_trace.specs.declared.timed.Timed.{Timed}
 use Rattle.pair_protocol.specs.Change.{Changes, Reached, Stays}
 use Rattle.pair_protocol.specs.Copying.{Copying, no_copies}
 use Rattle.pair_protocol.specs.Event as protocol

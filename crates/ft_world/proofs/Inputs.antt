@@ -5,7 +5,7 @@ use Rattle.disk_dcdd.specs.Completion.{answered}
 use Rattle.guest_board.specs.Machine.{Machine}
 use Rattle.guest_board.specs.declared.input.Input.{Input}
 use Rattle.i8080_words.specs.declared.refusal.Fault.{Fault}
-use Rattle.plain_single.specs.Reach.{timed}
+use Rattle.guest_trace.specs.Reach.{timed}
 use Rattle.guest_board.specs.Recorded.{Counts}
 use Rattle.pair_protocol.specs.Change.{Serving}
 use Rattle.pair_protocol.specs.Effects.{Took, took}

@@ -11,9 +11,9 @@ ghost use Rattle.ft_world.specs.declared.host.Host.TheVariants as host;
 use crate::host::Host;
 use crate::station::Station;
 use guest_board::Lockstep;
+use guest_trace::Timed;
 use i8080_words::{Fault, R};
 use pair_events::Role;
-use plain_single::Timed;
 
 /// What a node shows of itself.
 #[derive(Clone, Copy, Debug, PartialEq, Eq)]

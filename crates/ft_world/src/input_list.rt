@@ -3,9 +3,9 @@ ghost use Rattle.std.specs.Prelude.{◌≡◌, [], ◌∷◌, ◌++◌, length, 
 ghost use Rattle.i8080_words.specs.declared.refusal.Fault.TheVariants.{OutOfMemory};
 ghost use Rattle.log_entry.specs.Entries.{timed_in, timed_of};
 
+use guest_trace::Timed;
 use i8080_words::R;
 use log_entry::Entry;
-use plain_single::Timed;
 use std::alloc::Global;
 use std::marker::Model;
 
@@ -17,7 +17,7 @@ pub struct Inputs {
 
 impl Model for Inputs {
     ghost use Rattle.std.specs.Prelude.{List};
-    ghost use Rattle.plain_single.specs.declared.timed.Timed.{Timed};
+    ghost use Rattle.guest_trace.specs.declared.timed.Timed.{Timed};
 
     ghost Value = { List Timed };
 

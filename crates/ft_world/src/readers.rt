@@ -16,8 +16,8 @@ use crate::pair::Pair;
 use crate::{devices, hosts};
 use disk_dcdd::SectorAddress;
 use guest_board::Lockstep;
+use guest_trace::Timed;
 use i8080_words::R;
-use plain_single::Timed;
 use shared_disk::{SectorRead, SectorStore};
 
 impl<B: Lockstep + Drop, D: SectorStore, H: Drop> Pair<B, D, H> {

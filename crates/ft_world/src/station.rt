@@ -18,8 +18,8 @@ use arbiter_core::{Arbiter, Won};
 use disk_dcdd::{SECTOR_BYTES, SectorAddress};
 use ft_node::{Drained, Node, Ran};
 use guest_board::Lockstep;
+use guest_trace::{Bare, Timed};
 use i8080_words::R;
-use plain_single::{Bare, Timed};
 use replayer::Replayed;
 use std::alloc::Global;
 

@@ -4,8 +4,8 @@ use Rattle.std.proofs.Common.{◌≡◌, ℕ, suc, ◌+◌, ◌≤◌, List, [],
 use Rattle.guest_board.specs.Machine.{Move, Do, Take}
 use Rattle.guest_board.specs.declared.input.Input.{Input}
 use Rattle.guest_board.specs.declared.input.Input.TheVariants.{Rx, Sent, Sector, Written}
-use Rattle.plain_single.specs.Reach.{timed, steps}
-use Rattle.plain_single.specs.declared.timed.Timed.{Timed}
+use Rattle.guest_trace.specs.Reach.{timed, steps}
+use Rattle.guest_trace.specs.declared.timed.Timed.{Timed}
 use Rattle.log_entry.specs.declared.entry.Entry.{Entry}
 use Rattle.log_entry.specs.Entries.{count_of, entry_of, timed_of, entries, last_count}
 use Rattle.log_entry.specs.Laws.{KeepsInputs, NeverFalls, StandInOrder}

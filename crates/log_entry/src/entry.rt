@@ -4,7 +4,7 @@ ghost use Rattle.std.specs.Prelude.{◌≡◌, ◌<◌, ◌^◌};
 
 use disk_dcdd::SECTOR_BYTES;
 use guest_board::Input;
-use plain_single::{Bare, Timed};
+use guest_trace::{Bare, Timed};
 
 /// What one input or one operation appends to the log, with its count (VMware FT, section 2.1, "log entries").
 #[derive(Clone, Copy, Debug, PartialEq, Eq)]

@@ -2,8 +2,8 @@
 
 use crate::{Entry, size};
 use guest_board::Input;
+use guest_trace::{Bare, Timed};
 use i8080_words::{Fault, R};
-use plain_single::{Bare, Timed};
 use std::alloc::Global;
 use std::process::Abort;
 use std::test::Fail;

@@ -19,8 +19,9 @@ use crate::verdict::Verdict;
 use disk_dcdd::{SECTORS, SectorAddress, SectorWrite, TRACKS};
 use ft_world::World;
 use guest_board::{Lockstep, Setup};
+use guest_trace::Timed;
 use i8080_words::{Fault, R};
-use plain_single::{Single, Timed};
+use plain_single::Single;
 use std::alloc::Global;
 
 /// Runs the single machine of this setup from what is settled in a pair. `Same` if each terminal has accepted the

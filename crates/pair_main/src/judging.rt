@@ -5,7 +5,8 @@ ghost use Rattle.plain_single.specs.Image.{sector_at};
 ghost use Rattle.plain_single.specs.Reaching.{NeverFall};
 
 use disk_dcdd::{SECTOR_BYTES, SectorAddress, SectorWrite};
-use plain_single::{Bare, Single, Timed};
+use guest_trace::{Bare, Timed};
+use plain_single::Single;
 
 // How many bytes of a port its terminal may not have accepted yet.
 const WINDOW: usize = 16;

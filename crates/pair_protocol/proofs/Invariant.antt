@@ -15,9 +15,9 @@ use Rattle.guest_board.specs.Machine.{Do, Machine, Move, Runs}
 use Rattle.guest_board.specs.Recorded.{Recorded}
 use Rattle.log_entry.specs.Entries.{entries}
 use Rattle.log_entry.specs.declared.entry.Entry.{Entry}
-use Rattle.plain_single.specs.Reach.{Owns, acceptances, inputs, keys, operations, steps}
-use Rattle.plain_single.specs.declared.timed.Bare.TheVariants.{Written}
-use Rattle.plain_single.specs.declared.timed.Timed.{Timed}
+use Rattle.guest_trace.specs.Reach.{Owns, acceptances, inputs, keys, operations, steps}
+use Rattle.guest_trace.specs.declared.timed.Bare.TheVariants.{Written}
+use Rattle.guest_trace.specs.declared.timed.Timed.{Timed}
 use Rattle.pair_protocol.specs.Change.{Replaying}
 use Rattle.pair_protocol.specs.Copying.{Copying}
 use Rattle.pair_protocol.specs.Faithful.{IsPrefix}

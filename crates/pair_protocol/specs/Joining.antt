@@ -1,7 +1,7 @@
 -- What a joining node was given: the parts of one machine, which is reached from boot.
 use Rattle.std.specs.Prelude.{◌≡◌, ℕ, Some, List, [], slice_get}
 use Rattle.guest_board.specs.Machine.{Machine, Move}
-use Rattle.plain_single.specs.Reach.{Owns}
+use Rattle.guest_trace.specs.Reach.{Owns}
 use Rattle.pair_protocol.specs.Copying.{Copying, IsCopying, Makes}
 use Rattle.pair_protocol.specs.Lawful.{Among, Lawful, Reaches}
 use Rattle.pair_protocol.specs.Node.{Node, Joining, gathered}

@@ -8,8 +8,8 @@ use Rattle.guest_board.specs.Machine.{Machine}
 use Rattle.guest_board.specs.declared.input.Input.{Input}
 use Rattle.log_entry.specs.Entries.{marks, entry_of, inputs_of}
 use Rattle.log_entry.specs.declared.entry.Entry.{Entry}
-use Rattle.plain_single.specs.Reach.{timed, keys}
-use Rattle.plain_single.specs.declared.timed.Timed.{Timed}
+use Rattle.guest_trace.specs.Reach.{timed, keys}
+use Rattle.guest_trace.specs.declared.timed.Timed.{Timed}
 use Rattle.pair_protocol.specs.Copying.{Copying}
 use Rattle.pair_protocol.specs.Waiting.{waits_for}
 

@@ -4,7 +4,7 @@ use Rattle.std.specs.Prelude.{◌≡◌, ℕ, ◌≤◌, ◌⊎◌, true, Some, 
 use Rattle.guest_board.specs.Machine.{Machine, Move}
 use Rattle.log_entry.specs.Entries.{inputs_of}
 use Rattle.log_entry.specs.declared.entry.Entry.TheVariants.{Sector}
-use Rattle.plain_single.specs.Reach.{Reach}
+use Rattle.guest_trace.specs.Reach.{Reach}
 use Rattle.pair_protocol.specs.Change.{Reached}
 use Rattle.pair_protocol.specs.Copying.{Copying, IsCopying}
 use Rattle.pair_protocol.specs.Lawful.{Lawful}

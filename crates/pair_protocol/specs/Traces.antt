@@ -2,8 +2,8 @@
 use Rattle.std.specs.Prelude.{◌≡◌, ℕ, zero, suc, ◌≤◌, Some, None, List, [], ◌∷◌, length, take, replicate}
 use Rattle.guest_board.specs.Machine.{Machine, Move, Do, Take, Runs}
 use Rattle.log_entry.specs.Entries.{entries, inputs_of, last_count}
-use Rattle.plain_single.specs.Reach.{steps, Reach}
-use Rattle.plain_single.specs.declared.timed.Timed.{Timed}
+use Rattle.guest_trace.specs.Reach.{steps, Reach}
+use Rattle.guest_trace.specs.declared.timed.Timed.{Timed}
 
 -- the moves up to the entry with a number
 abbrev pub cut : ℕ → List Move → List Move

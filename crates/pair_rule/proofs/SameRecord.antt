@@ -11,9 +11,9 @@ use Rattle.guest_board.specs.Machine.{Machine, Move, Runs, refusal_of, sector_re
 use Rattle.guest_board.specs.Running.{Quiet}
 use Rattle.guest_board.specs.declared.input.Input.TheVariants as input
 use Rattle.i8080_words.specs.declared.refusal.Fault.TheVariants.{NotDue, SectorBusy, StaleRead, Unknown}
-use Rattle.plain_single.specs.Reach.{inputs, operations, steps}
-use Rattle.plain_single.specs.declared.timed.Timed.{Timed}
-use Rattle.plain_single.specs.declared.timed.Bare.TheVariants.{Written}
+use Rattle.guest_trace.specs.Reach.{inputs, operations, steps}
+use Rattle.guest_trace.specs.declared.timed.Timed.{Timed}
+use Rattle.guest_trace.specs.declared.timed.Bare.TheVariants.{Written}
 use Rattle.shared_disk.specs.declared.disk.SectorRead.{SectorRead}
 use Rattle.pair_protocol.specs.Lawful.{Among, IsDone, IsUnwritten, IsWritten, Lawful}
 use Rattle.pair_protocol.specs.Refusals.{no_such, fault_if}

@@ -11,7 +11,7 @@ use Rattle.guest_board.specs.Recorded.{Counts, Recorded}
 use Rattle.log_entry.specs.Entries.{entries, count_of, inputs_of}
 use Rattle.log_entry.specs.declared.entry.Entry.{Entry}
 use Rattle.log_entry.specs.declared.entry.Entry.TheVariants.{Mark, Rx, Sent, Sector, Written}
-use Rattle.plain_single.specs.Reach.{keys, acceptances}
+use Rattle.guest_trace.specs.Reach.{keys, acceptances}
 use Rattle.shared_disk.specs.declared.disk.SectorRead.{SectorRead}
 use Rattle.pair_protocol.specs.Change.{Reached}
 use Rattle.pair_protocol.specs.Copying.{Copying, IsCopying}

@@ -6,7 +6,7 @@ use Rattle.guest_board.specs.Machine.{Machine, Move, Do, Take}
 use Rattle.guest_board.specs.Recorded.{Recorded}
 use Rattle.log_entry.specs.Entries.{entries, entry_of, inputs_of, last_count, marks}
 use Rattle.log_entry.specs.declared.entry.Entry.{Entry}
-use Rattle.plain_single.specs.Reach.{operations}
+use Rattle.guest_trace.specs.Reach.{operations}
 use Rattle.shared_disk.specs.declared.disk.SectorRead as disk
 use Rattle.pair_protocol.specs.Lawful.{Among, IsDone}
 use Rattle.pair_protocol.specs.Copying.{Copying}

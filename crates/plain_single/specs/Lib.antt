@@ -5,7 +5,6 @@ pub mod Drives
 pub mod Executor
 pub mod Image
 pub mod Passing
-pub mod Reach
 pub mod Reaching
 pub mod Serial
 pub mod Tracks

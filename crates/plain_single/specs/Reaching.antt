@@ -9,10 +9,10 @@ use Rattle.guest_board.specs.Machine.{Machine, Move}
 use Rattle.guest_board.specs.declared.input.Input.{Input}
 use Rattle.plain_single.specs.Alone.{Alone, StandsFor}
 use Rattle.plain_single.specs.Image.{IsSector, sector_at}
-use Rattle.plain_single.specs.Reach.{Reach, bare, output, writes, image}
-use Rattle.plain_single.specs.declared.timed.Bare.{Bare}
-use Rattle.plain_single.specs.declared.timed.Bare.TheVariants as input
-use Rattle.plain_single.specs.declared.timed.Timed.{Timed}
+use Rattle.guest_trace.specs.Reach.{Reach, bare, output, writes, image}
+use Rattle.guest_trace.specs.declared.timed.Bare.{Bare}
+use Rattle.guest_trace.specs.declared.timed.Bare.TheVariants as input
+use Rattle.guest_trace.specs.declared.timed.Timed.{Timed}
 
 -- the counts of a list of inputs never fall, from this count on
 abbrev pub NeverFall : ℕ → List Timed → Type 0

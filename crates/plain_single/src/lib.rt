@@ -12,8 +12,6 @@ mod single;
 mod step;
 #[cfg(test)]
 mod tests;
-mod timed;
 mod wires;
 
 pub use single::Single;
-pub use timed::{Bare, Timed};

@@ -9,7 +9,7 @@ use Rattle.log_buffer.specs.Log.{Log, pushed}
 use Rattle.log_entry.specs.Entries.{entries}
 use Rattle.log_entry.specs.declared.entry.Entry.{Entry}
 use Rattle.log_entry.specs.declared.entry.Entry.TheVariants.{Mark}
-use Rattle.plain_single.specs.Reach.{inputs, steps}
+use Rattle.guest_trace.specs.Reach.{inputs, steps}
 use Rattle.recorder.specs.Laws.{RecordsSteps}
 use Rattle.guest_board.proofs.QuietSteps.{quiet_count}
 use Rattle.guest_board.specs.Running.{Quiet, Begin, More}

@@ -5,7 +5,7 @@ use Rattle.guest_board.specs.Recorded.{Counts, Recorded}
 use Rattle.guest_board.specs.declared.input.Input.{Input}
 use Rattle.log_buffer.specs.Log.{Log}
 use Rattle.log_entry.specs.Entries.{entries}
-use Rattle.plain_single.specs.Reach.{inputs, steps}
+use Rattle.guest_trace.specs.Reach.{inputs, steps}
 use Rattle.recorder.specs.Recording.{Advances, Offers}
 use Rattle.recorder.specs.declared.advanced.Advanced.{Advanced}
 

@@ -6,9 +6,9 @@ use crate::tests::lines::{
 };
 use crate::tests::rows::{End, Sent, check, node, sector, write};
 use event_callbacks::OpId;
+use guest_trace::{Bare, Timed};
 use i8080_words::{Fault, R};
 use pair_events::{Reply, Role, Why};
-use plain_single::{Bare, Timed};
 
 const FIRST: OpId = OpId::Write(1);
 

@@ -6,9 +6,9 @@ use crate::tests::lines::{
 };
 use crate::tests::outputs::{FIRST, FIRST_BYTE, after_first_byte};
 use crate::tests::rows::{End, Sent, check, node, sector};
+use guest_trace::{Bare, Timed};
 use i8080_words::{Fault, R};
 use pair_events::{Reply, Role, Why};
-use plain_single::{Bare, Timed};
 
 // The primary stops after its mark is held, and the backup has won.
 fn primary_stops() -> [Line; 8] {

@@ -9,7 +9,7 @@ use Rattle.event_callbacks.specs.declared.operations.Operation.{Operation}
 use Rattle.event_callbacks.specs.declared.operations.Operation.TheVariants.{Byte, Write}
 use Rattle.guest_board.specs.Machine.{Machine, Move}
 use Rattle.log_entry.specs.declared.entry.Entry.{Entry}
-use Rattle.plain_single.specs.Reach.{Owns, inputs, keys, operations}
+use Rattle.guest_trace.specs.Reach.{Owns, inputs, keys, operations}
 use Rattle.pair_protocol.specs.Copying.{Copying}
 use Rattle.pair_protocol.specs.Faithful.{IsPrefix}
 use Rattle.pair_protocol.specs.Lawful.{Among}

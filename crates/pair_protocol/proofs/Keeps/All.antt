@@ -7,7 +7,7 @@ use Rattle.guest_board.specs.Machine.{Machine, refusal_of}
 use Rattle.guest_board.specs.Recorded.{Recorded}
 use Rattle.guest_board.specs.declared.input.Input.{Input}
 use Rattle.log_entry.specs.Entries.{entries}
-use Rattle.plain_single.specs.Reach.{operations, steps}
+use Rattle.guest_trace.specs.Reach.{operations, steps}
 use Rattle.pair_protocol.specs.Change.{Acknowledges, Acts, AloneReleases, AloneSteps, AloneTakes, Arrives, Begins, Change, GetsPart, GoesLive, Hears, Holds, HostComes, Joins, MayTake, PrimaryReleases, PrimarySteps, PrimaryTakes, Puts, Reads, Replaying, ReplaysInput, ReplaysMark, ReplaysStep, Sends, SendsPart, Stops, Tells, Types, Wins}
 use Rattle.pair_protocol.specs.Copying.{Copying, IsCopying}
 use Rattle.pair_protocol.specs.Faithful.{IsPrefix}

@@ -1,7 +1,7 @@
 -- An alone node: whether it began as primary or as backup, its moves are the settled ones.
 use Rattle.std.proofs.Common.{◌++◌, ◌+◌, ◌∙◌, ◌≡◌, ◌⊎◌, ap, inl, inr, length, subst, sym, ℕ}
 use Rattle.guest_board.specs.Machine.{Machine, Runs}
-use Rattle.plain_single.specs.Reach.{inputs, steps}
+use Rattle.guest_trace.specs.Reach.{inputs, steps}
 use Rattle.pair_protocol.specs.Change.{Acts}
 use Rattle.pair_protocol.specs.Copying.{Copying}
 use Rattle.pair_protocol.specs.Node.{Alone, Node, Primary}

@@ -4,7 +4,7 @@ use Rattle.std.proofs.Common.{[], ◌++◌, ◌+◌, ◌∙◌, ◌∷◌, ◌�
 use Rattle.std.specs.Prelude.{slice_get, slice_set}
 use Rattle.guest_board.specs.Machine.{Machine, Move, Runs}
 use Rattle.log_entry.specs.Entries.{entries}
-use Rattle.plain_single.specs.Reach.{Owns, inputs, steps}
+use Rattle.guest_trace.specs.Reach.{Owns, inputs, steps}
 use Rattle.pair_protocol.specs.Change.{Replaying}
 use Rattle.pair_protocol.specs.Copying.{Copying, IsCopying}
 use Rattle.pair_protocol.specs.Faithful.{IsPrefix}

@@ -6,8 +6,8 @@ use Rattle.disk_dcdd.specs.declared.address.SectorAddress.{SectorAddress}
 use Rattle.disk_dcdd.specs.declared.sector.SectorWrite.{SectorWrite}
 use Rattle.event_callbacks.specs.declared.operations.Operation.TheVariants.{Write}
 use Rattle.guest_board.specs.Machine.{Machine}
-use Rattle.plain_single.specs.Reach.{inputs, operations}
-use Rattle.plain_single.specs.declared.timed.Timed.{Timed}
+use Rattle.guest_trace.specs.Reach.{inputs, operations}
+use Rattle.guest_trace.specs.declared.timed.Timed.{Timed}
 use Rattle.pair_protocol.specs.Copying.{Copying}
 use Rattle.pair_protocol.specs.Lawful.{Among}
 use Rattle.pair_protocol.specs.World.{Released, SectorRead, SectorRecord, Terminal, World, WriteDone, latest, record_after, sector_record, with_message, with_put}

@@ -7,7 +7,7 @@ use Rattle.event_callbacks.specs.declared.operations.Operation.TheVariants.{Writ
 use Rattle.guest_board.specs.Machine.{Machine, Move}
 use Rattle.log_entry.specs.Entries.{entries}
 use Rattle.log_entry.specs.declared.entry.Entry.{Entry}
-use Rattle.plain_single.specs.Reach.{inputs, keys, operations, steps}
+use Rattle.guest_trace.specs.Reach.{inputs, keys, operations, steps}
 use Rattle.pair_protocol.specs.Copying.{Copying}
 use Rattle.pair_protocol.specs.Faithful.{IsPrefix}
 use Rattle.pair_protocol.specs.Lawful.{Among}

@@ -7,7 +7,7 @@ use Rattle.event_callbacks.specs.declared.operations.Operation.{Operation}
 use Rattle.event_callbacks.specs.declared.operations.Operation.TheVariants.{Write}
 use Rattle.guest_board.specs.Machine.{Machine, Move}
 use Rattle.log_entry.specs.Entries.{entries}
-use Rattle.plain_single.specs.Reach.{operations, steps}
+use Rattle.guest_trace.specs.Reach.{operations, steps}
 use Rattle.pair_protocol.specs.Change.{Replaying}
 use Rattle.pair_protocol.specs.Copying.{Copying}
 use Rattle.pair_protocol.specs.Lawful.{Among}

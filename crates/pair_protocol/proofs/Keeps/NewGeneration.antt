@@ -3,7 +3,7 @@ use Rattle.std.proofs.Common.{[], ◌++◌, ◌+◌, ◌<◌, ◌∙◌, ◌≡�
 use Rattle.std.proofs.lemmas.List.{length-replicate}
 use Rattle.std.specs.Prelude.{replicate, slice_get, slice_set}
 use Rattle.guest_board.specs.Machine.{Machine}
-use Rattle.plain_single.specs.Reach.{Owns, inputs, steps}
+use Rattle.guest_trace.specs.Reach.{Owns, inputs, steps}
 use Rattle.pair_protocol.specs.Change.{Acts}
 use Rattle.pair_protocol.specs.Copying.{Copying, IsCopying}
 use Rattle.pair_protocol.specs.Faithful.{IsPrefix}

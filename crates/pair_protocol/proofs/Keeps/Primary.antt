@@ -7,7 +7,7 @@ use Rattle.guest_board.specs.Machine.{Do, Machine, Move, Runs, Take, refusal_of}
 use Rattle.guest_board.specs.Recorded.{Accepts, Recorded}
 use Rattle.guest_board.specs.declared.input.Input.{Input}
 use Rattle.log_entry.specs.Entries.{entries}
-use Rattle.plain_single.specs.Reach.{Owns, acceptances, inputs, keys, operations, steps, timed}
+use Rattle.guest_trace.specs.Reach.{Owns, acceptances, inputs, keys, operations, steps, timed}
 use Rattle.pair_protocol.specs.Change.{MayTake}
 use Rattle.pair_protocol.specs.Copying.{Copying}
 use Rattle.pair_protocol.specs.Faithful.{IsPrefix}

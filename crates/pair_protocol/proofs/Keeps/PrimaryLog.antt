@@ -12,7 +12,7 @@ use Rattle.guest_board.specs.declared.input.Input.{Input}
 use Rattle.log_entry.specs.Entries.{entries, marks}
 use Rattle.log_entry.specs.declared.entry.Entry.{Entry}
 use Rattle.log_entry.specs.declared.entry.Entry.TheVariants.{Mark}
-use Rattle.plain_single.specs.Reach.{inputs, operations, steps, timed}
+use Rattle.guest_trace.specs.Reach.{inputs, operations, steps, timed}
 use Rattle.pair_protocol.specs.Faithful.{IsPrefix}
 use Rattle.pair_protocol.specs.Lawful.{Among}
 use Rattle.pair_protocol.specs.Node.{Note, note_of, notes_after, same_name}

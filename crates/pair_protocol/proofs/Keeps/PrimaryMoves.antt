@@ -10,9 +10,9 @@ use Rattle.guest_board.specs.declared.input.Input.{Input}
 use Rattle.guest_board.specs.declared.input.Input.TheVariants as input
 use Rattle.i8080_words.specs.declared.refusal.Fault.TheVariants.{NotDue, SectorBusy, StaleRead}
 use Rattle.log_entry.specs.Entries.{entries, entry_of}
-use Rattle.plain_single.specs.Reach.{Own, acceptances, bare, image, keys, operations, steps, timed}
-use Rattle.plain_single.specs.declared.timed.Bare.TheVariants.{Rx, Sector, Sent, Written}
-use Rattle.plain_single.specs.declared.timed.Timed.{Timed}
+use Rattle.guest_trace.specs.Reach.{Own, acceptances, bare, image, keys, operations, steps, timed}
+use Rattle.guest_trace.specs.declared.timed.Bare.TheVariants.{Rx, Sector, Sent, Written}
+use Rattle.guest_trace.specs.declared.timed.Timed.{Timed}
 use Rattle.pair_protocol.specs.Change.{MayTake}
 use Rattle.pair_protocol.specs.Faithful.{IsPrefix}
 use Rattle.pair_protocol.specs.Lawful.{Among, IsUnwritten, IsWritten, Lawful}

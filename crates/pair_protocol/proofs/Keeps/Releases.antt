@@ -10,7 +10,7 @@ use Rattle.event_callbacks.specs.declared.operations.Operation.{Operation}
 use Rattle.event_callbacks.specs.declared.operations.Operation.TheVariants.{Write}
 use Rattle.guest_board.specs.Machine.{Machine, Runs}
 use Rattle.log_entry.specs.Entries.{entries, inputs_of}
-use Rattle.plain_single.specs.Reach.{inputs, keys, operations, steps}
+use Rattle.guest_trace.specs.Reach.{inputs, keys, operations, steps}
 use Rattle.pair_protocol.specs.Change.{Acts, Replaying, Serving}
 use Rattle.pair_protocol.specs.Copying.{Copying}
 use Rattle.pair_protocol.specs.Faithful.{IsPrefix}

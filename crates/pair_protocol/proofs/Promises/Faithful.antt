@@ -6,8 +6,8 @@ use Rattle.disk_dcdd.specs.declared.address.SectorAddress.{SectorAddress}
 use Rattle.disk_dcdd.specs.declared.sector.SectorWrite.{SectorWrite}
 use Rattle.event_callbacks.specs.declared.operations.Operation.TheVariants.{Write}
 use Rattle.guest_board.specs.Machine.{Do, Machine, Move, Runs, Take}
-use Rattle.plain_single.specs.Reach.{image, inputs, operations, steps}
-use Rattle.plain_single.specs.declared.timed.Timed.{Timed}
+use Rattle.guest_trace.specs.Reach.{image, inputs, operations, steps}
+use Rattle.guest_trace.specs.declared.timed.Timed.{Timed}
 use Rattle.pair_protocol.specs.Change.{After, AtBoot, Reached}
 use Rattle.pair_protocol.specs.Copying.{Copying, IsCopying}
 use Rattle.pair_protocol.specs.Faithful.{Faithful, IsImage, IsOutstanding, IsPrefix, MayHave}

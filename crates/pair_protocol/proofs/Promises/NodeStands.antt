@@ -9,7 +9,7 @@ use Rattle.log_entry.specs.Entries.{entries}
 use Rattle.log_entry.specs.Standing.{IsOnTrace}
 use Rattle.log_entry.specs.declared.entry.Entry.{Entry}
 use Rattle.log_entry.specs.declared.entry.Entry.TheVariants.{Mark}
-use Rattle.plain_single.specs.Reach.{inputs, keys, steps}
+use Rattle.guest_trace.specs.Reach.{inputs, keys, steps}
 use Rattle.pair_protocol.specs.Change.{Reached, Replaying, Serving}
 use Rattle.pair_protocol.specs.Copying.{Copying, IsCopying}
 use Rattle.pair_protocol.specs.Faithful.{IsPrefix}

@@ -5,7 +5,7 @@ use Rattle.std.specs.Prelude.{◌==◌, slice_get}
 use Rattle.event_callbacks.specs.declared.operations.Operation.{Operation}
 use Rattle.event_callbacks.specs.declared.operations.Operation.TheVariants.{Byte}
 use Rattle.guest_board.specs.Machine.{Do, Machine, Move, Runs, Take}
-use Rattle.plain_single.specs.Reach.{operations, output}
+use Rattle.guest_trace.specs.Reach.{operations, output}
 use Rattle.pair_protocol.specs.Copying.{Copying}
 use Rattle.pair_protocol.specs.Faithful.{IsAllBut, IsPrefix}
 use Rattle.pair_protocol.specs.Lawful.{Among, Lawful}

@@ -17,7 +17,7 @@ use Rattle.i8080_words.specs.declared.refusal.Fault.TheVariants.{NotDue, SectorB
 use Rattle.log_entry.specs.Entries.{count_of, entries, entry_of, input_of, inputs_of}
 use Rattle.log_entry.specs.declared.entry.Entry.TheVariants.{Mark}
 use Rattle.log_entry.specs.declared.entry.Entry.TheVariants as entry
-use Rattle.plain_single.specs.Reach.{Reach, inputs, operations, steps}
+use Rattle.guest_trace.specs.Reach.{Reach, inputs, operations, steps}
 use Rattle.pair_protocol.specs.Change.{Replaying}
 use Rattle.pair_protocol.specs.Copying.{Copying}
 use Rattle.pair_protocol.specs.Faithful.{IsPrefix}

@@ -3,7 +3,7 @@ use Rattle.std.proofs.Common.{[], ◌++◌, ◌∙◌, ◌∷◌, ◌≡◌, ◌
 use Rattle.std.specs.Prelude.{slice_get}
 use Rattle.guest_board.specs.Machine.{Machine, Move}
 use Rattle.log_entry.specs.Entries.{entries, inputs_of, last_count}
-use Rattle.plain_single.specs.Reach.{inputs, steps}
+use Rattle.guest_trace.specs.Reach.{inputs, steps}
 use Rattle.pair_protocol.specs.Copying.{Copying}
 use Rattle.pair_protocol.specs.Node.{Alone, Node, Primary, Role, Spare}
 use Rattle.pair_protocol.specs.Settled.{Settled, Settles, count_in, highest, is_backup, list_of}

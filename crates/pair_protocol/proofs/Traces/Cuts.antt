@@ -5,7 +5,7 @@ use Rattle.guest_board.specs.Machine.{Do, Move, Take}
 use Rattle.log_entry.specs.Entries.{entries, entry_of, last_count}
 use Rattle.log_entry.specs.declared.entry.Entry.{Entry}
 use Rattle.log_entry.specs.declared.entry.Entry.TheVariants.{Mark}
-use Rattle.plain_single.specs.Reach.{operations, steps}
+use Rattle.guest_trace.specs.Reach.{operations, steps}
 use Rattle.pair_protocol.specs.Faithful.{IsPrefix}
 use Rattle.pair_protocol.specs.Lawful.{Among}
 use Rattle.pair_protocol.specs.Traces.{cut}

@@ -9,9 +9,9 @@ use Rattle.log_entry.specs.Entries.{count_of, entries, entry_of, input_of, input
 use Rattle.log_entry.specs.declared.entry.Entry.{Entry}
 use Rattle.log_entry.specs.declared.entry.Entry.TheVariants.{Mark}
 use Rattle.log_entry.specs.declared.entry.Entry.TheVariants as entry
-use Rattle.plain_single.specs.Reach.{Owns, acceptances, accepted_at, bare, byte_to, inputs, key_at, keys, operations, output, steps, timed}
-use Rattle.plain_single.specs.declared.timed.Bare.TheVariants.{Written}
-use Rattle.plain_single.specs.declared.timed.Timed.{Timed}
+use Rattle.guest_trace.specs.Reach.{Owns, acceptances, accepted_at, bare, byte_to, inputs, key_at, keys, operations, output, steps, timed}
+use Rattle.guest_trace.specs.declared.timed.Bare.TheVariants.{Written}
+use Rattle.guest_trace.specs.declared.timed.Timed.{Timed}
 use Rattle.pair_protocol.specs.Faithful.{IsPrefix}
 use Rattle.pair_protocol.specs.Lawful.{Lawful}
 use Rattle.pair_protocol.proofs.Invariant.{ArePut}

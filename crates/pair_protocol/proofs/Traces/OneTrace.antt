@@ -6,8 +6,8 @@ use Rattle.guest_board.specs.Machine.{Do, Machine, Move, Runs, Take}
 use Rattle.guest_board.specs.declared.input.Input.{Input}
 use Rattle.guest_board.specs.declared.input.Input.TheVariants as input
 use Rattle.log_entry.specs.Entries.{entries, inputs_of, last_count}
-use Rattle.plain_single.specs.Reach.{Own, Owns, Reach, bare, image, inputs, steps, timed}
-use Rattle.plain_single.specs.declared.timed.Timed.{Timed}
+use Rattle.guest_trace.specs.Reach.{Own, Owns, Reach, bare, image, inputs, steps, timed}
+use Rattle.guest_trace.specs.declared.timed.Timed.{Timed}
 use Rattle.pair_protocol.specs.Traces.{cut, quiet}
 use Rattle.pair_protocol.proofs.Traces.Cuts.{cut-prefix, entries-cut, last-cut}
 use Rattle.pair_protocol.proofs.Traces.Lists.{same_some}

@@ -8,9 +8,9 @@ use Rattle.event_callbacks.specs.declared.operations.Operation.TheVariants.{Byte
 use Rattle.guest_board.specs.Machine.{Machine, Move, Do, Take, Runs}
 use Rattle.guest_board.specs.declared.input.Input.{Input}
 use Rattle.guest_board.specs.declared.input.Input.TheVariants as input
-use Rattle.plain_single.specs.declared.timed.Bare.{Bare}
-use Rattle.plain_single.specs.declared.timed.Bare.TheVariants.{Rx, Sent, Sector, Written}
-use Rattle.plain_single.specs.declared.timed.Timed.{Timed}
+use Rattle.guest_trace.specs.declared.timed.Bare.{Bare}
+use Rattle.guest_trace.specs.declared.timed.Bare.TheVariants.{Rx, Sent, Sector, Written}
+use Rattle.guest_trace.specs.declared.timed.Timed.{Timed}
 
 -- ---- what a list of moves is
 
