@@ -14,7 +14,7 @@ use Rattle.pair_main.specs.declared.failure.Failure.{Failure}
 use Rattle.pair_main.specs.declared.failure.Failure.TheVariants as failure
 use Rattle.pair_main.specs.declared.options.Order.{Order}
 use Rattle.pair_main.specs.declared.options.Order.TheVariants.{Script, Check}
-use Rattle.pair_main.specs.declared.verdict.Verdict.{Verdict}
+use Rattle.pair_check.specs.declared.verdict.Verdict.{Verdict}
 
 -- bytes appended one list after the other
 pub appends_on : (a b c : Option (List ℕ)) (xs ys : List ℕ) → Appends a b xs → Appends b c ys → Appends a c (xs ++ ys)

@@ -1,5 +1,2 @@
-pub mod Comparisons
-pub mod Disks
-pub mod Fronts
 pub mod Handing
 pub mod Runs

@@ -2,13 +2,13 @@
 use Rattle.std.specs.Prelude.{ℕ, ◌≤◌, Option, Some, List, Result, MatchResult}
 use Rattle.std.specs.Io.KnownBytes.{Keeps}
 use Rattle.pair_main.specs.Reports.{AddsLine, AddsAnswers}
-use Rattle.pair_main.specs.Verdicts.{words_of}
+use Rattle.pair_check.specs.Verdicts.{words_of}
 use Rattle.pair_main.specs.declared.failure.Failure.{Failure}
 use Rattle.pair_main.specs.declared.failure.Failure.TheVariants.{OutOfMemory, InputOrOutput, Differs}
 use Rattle.pair_main.specs.declared.options.Order.{Order}
 use Rattle.pair_main.specs.declared.options.Order.TheVariants.{Script, Check}
-use Rattle.pair_main.specs.declared.verdict.Verdict.{Verdict}
-use Rattle.pair_main.specs.declared.verdict.Verdict.TheVariants as verdict
+use Rattle.pair_check.specs.declared.verdict.Verdict.{Verdict}
+use Rattle.pair_check.specs.declared.verdict.Verdict.TheVariants as verdict
 
 -- a verdict is printed; if it is that the pair differs, the run ends with that too
 abbrev pub PrintsBut : (Verdict → Type 0) → Failure → Option (List ℕ) → Option (List ℕ) → Type 0

@@ -1,15 +1,11 @@
 //! The program `pair`: what happens to a fault-tolerant pair of Altairs, as a script says.
 #![tactic(auto)]
 
-mod checking;
-mod disk;
 mod failure;
-mod judging;
 mod options;
 mod program;
 mod report;
 mod session;
-mod verdict;
 
 use crate::program::run_program;
 use std::env;

@@ -2,7 +2,7 @@
 use super::{Ending, WELL, expect, run_on};
 use crate::failure::Failure;
 use crate::report::Report;
-use crate::verdict::Verdict;
+use pair_check::Verdict;
 use std::io::{self, ErrorKind, Read, Write};
 use std::test::Fail;
 

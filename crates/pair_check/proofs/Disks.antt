@@ -1,0 +1,98 @@
+-- A device that fails once is asked once more, and then answers. What a world over it shows, one over its records shows.
+use Rattle.std.proofs.Common.{◌≡◌, ◌+◌, Bool, true, false, List, Option, Some, None, refl, arith, ap, sym, subst, ◌∙◌}
+use Rattle.std.specs.Prelude.{if◌then◌else◌, is_some, IsSome, IfOk, Result, Ok, Err}
+use Rattle.disk_dcdd.specs.declared.address.SectorAddress.{SectorAddress}
+use Rattle.guest_board.specs.Machine.{Machine}
+use Rattle.i8080_words.specs.declared.refusal.Fault.{Fault}
+use Rattle.i8080_words.specs.declared.refusal.Fault.TheVariants.{DeviceFault, Unknown}
+use Rattle.shared_disk.specs.Failing.{failures_in}
+use Rattle.shared_disk.specs.Records.{IsThere, record_at, refusal_at}
+use Rattle.shared_disk.specs.declared.disk.SectorRead.{SectorRead}
+use Rattle.shared_disk.specs.declared.store.Record.{Record}
+use Rattle.ft_world.specs.Applies.{IsSectorOf, Shows}
+use Rattle.ft_world.specs.Running.{Running}
+use Rattle.ft_world.specs.Standing.{Course, machine_of}
+use Rattle.pair_check.specs.Disks.{Disk, records_in, over_records}
+
+-- a world over the disk shows what the world over its records shows
+pub shows_records : {B H S : Type 0} (state : B → S) (M : Machine S) (v : Running B H Disk) (c : Course S)
+    → Shows state M records_in v c → Shows state M (λ records. records) (over_records v) c
+unfolding over_records
+shows_records state M v c shows = record {
+  drives = shows.drives;
+  machine = shows.machine;
+  reached = shows.reached;
+  parts = record {
+    hosts = shows.parts.hosts;
+    messages = shows.parts.messages;
+    terminals = shows.parts.terminals;
+    winners = shows.parts.winners;
+    disk = shows.parts.disk;
+    generation = shows.parts.generation;
+    backup = shows.parts.backup;
+  };
+}
+
+records_show : {B H S : Type 0} (state : B → S) (M : Machine S) (v : Running B H Disk) (c : Course S)
+    → Shows state M (λ records. records) (over_records v) c → Shows state M records_in v c
+unfolding over_records
+records_show state M v c shows = record {
+  drives = shows.drives;
+  machine = shows.machine;
+  reached = shows.reached;
+  parts = record {
+    hosts = shows.parts.hosts;
+    messages = shows.parts.messages;
+    terminals = shows.parts.terminals;
+    winners = shows.parts.winners;
+    disk = shows.parts.disk;
+    generation = shows.parts.generation;
+    backup = shows.parts.backup;
+  };
+}
+
+-- if nothing but the disk changes, and its records stay, the world over them stays
+pub only_counts : {B H : Type 0} (old new : Running B H Disk) → new ≡ record old { disk = new.disk }
+    → new.disk.store ≡ old.disk.store → over_records new ≡ over_records old
+unfolding over_records
+only_counts old new others same =
+    ap over_records others ∙ ap (λ records. record (over_records old) { disk = records }) same
+
+-- what a sector has is told of the world over the records, also if the device has failed in between
+pub told_of : {B H S : Type 0} (state : B → S) (M : Machine S) (old mid : Running B H Disk) (address : SectorAddress)
+    (answer : Result SectorRead Fault) → over_records mid ≡ over_records old
+    → IfOk answer (λ read. (c : Course S) → Shows state M records_in mid c → IsSectorOf (machine_of M c) c.world address read)
+    → IfOk answer (λ read. (c : Course S) → Shows state M (λ records. records) (over_records old) c
+    → IsSectorOf (machine_of M c) c.world address read)
+told_of state M old mid address (Ok read) same told = λ c shows.
+    told c (records_show state M mid c (subst (λ v. Shows state M (λ records. records) v c) (sym same) shows))
+told_of state M old mid address (Err fault) same told = tt
+
+-- the disk of the world over the records
+pub disk_over : {B H : Type 0} (v : Running B H Disk) → (over_records v).disk ≡ v.disk.store
+unfolding over_records
+disk_over v = refl
+
+not_there-at : (found : Option Record) (fault : Fault) → fault ≡ (if is_some found then DeviceFault else Unknown)
+    → (fault ≡ DeviceFault → ⊥) → IsSome found → ⊥
+not_there-at None fault is other there = absurd (cc)
+not_there-at (Some r) fault is other there = other is
+
+-- a sector that is refused for another reason than a failure is not there
+pub not_there : (records : List Record) (address : SectorAddress) (fault : Fault) → fault ≡ refusal_at records address
+    → (fault ≡ DeviceFault → ⊥) → IsThere records address → ⊥
+not_there records address fault is other there = not_there-at (record_at records address) fault is other there
+
+once : (first second third : Bool) → 0 + (if second then 1 else 0) ≡ 0 + (if first then 1 else 0) + 1
+    → 0 + (if third then 1 else 0) ≡ 0 + (if second then 1 else 0) + 1 → ⊥
+once true true third a b = absurd (omega arith)
+once false true true a b = absurd (omega arith)
+once false true false a b = absurd (omega arith)
+once true false third a b = absurd (omega arith)
+once false false third a b = absurd (omega arith)
+
+-- the device does not fail twice
+pub not_twice : (first second third : Disk)
+    → failures_in (λ (records : List Record). 0) second ≡ failures_in (λ (records : List Record). 0) first + 1
+    → failures_in (λ (records : List Record). 0) third ≡ failures_in (λ (records : List Record). 0) second + 1 → ⊥
+not_twice first second third a b = once first.failed second.failed third.failed a b

@@ -1,0 +1,3 @@
+pub mod Comparisons
+pub mod Disks
+pub mod Fronts

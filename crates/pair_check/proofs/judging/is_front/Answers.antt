@@ -1,0 +1,17 @@
+-- If the accepted bytes are the first ones, what is left after them is the only rest.
+use Rattle.std.proofs.Common.{Some, None, true≢false, sym}
+use Rattle.std.proofs.lemmas.Bool.Decides.{Decides-eqb}
+use Rattle.std.proofs.lemmas.Slice.Eq.{strip_prefix_is}
+use Rattle.pair_check.proofs.Fronts.{front_is, is_front}
+use Rattle.pair_check.proofs.judging.is_front.Goals as goal
+
+pub returns-in-Some : goal.returns-in-Some
+returns-in-Some c =
+    let all = strip_prefix_is Decides-eqb c.args.output.now c.args.accepted.now (Some c.in-Some.missing)
+    c.in-Some.ensures.cases in
+    (front_is _ _ _ all, is_front _ _ _ all)
+
+pub returns-in-None : goal.returns-in-None
+returns-in-None c =
+    let none = strip_prefix_is Decides-eqb c.args.output.now c.args.accepted.now None c.in-None.ensures.cases in
+    ((λ no. absurd (true≢false (sym no))), λ front. absurd (none front.missing front.all))

@@ -1,0 +1,4 @@
+pub mod Comparing
+pub mod Disks
+pub mod Sectors
+pub mod Verdicts

@@ -1,0 +1,34 @@
+//! The disk of the program: in memory, on a device that may fail once.
+ghost use Rattle.std.specs.Prelude.{◌≡◌, IfOk, OnErr};
+ghost use Rattle.ft_world.specs.Applies.{IsSectorOf, Shows};
+ghost use Rattle.ft_world.specs.Standing.{Course, machine_of};
+ghost use Rattle.shared_disk.specs.Records.{IsThere};
+ghost use Rattle.pair_check.specs.Disks.{over_records};
+
+use disk_dcdd::SectorAddress;
+use ft_world::World;
+use guest_board::Lockstep;
+use i8080_words::{Fault, R};
+use shared_disk::{FailOnce, MemoryStore, SectorRead};
+
+/// Records in memory, of which one read or write fails if the script says so.
+pub type Disk = FailOnce<MemoryStore>;
+
+/// What a sector of a pair's disk has. A device that fails is asked once more: it fails only once. `Unknown` if the disk
+/// has no such sector.
+#[tactic(auto, using(crate::proofs::Disks::only_counts, crate::proofs::Disks::disk_over, crate::proofs::Disks::not_there, crate::proofs::Disks::not_twice))]
+pub fn sector_of<B: Lockstep + Drop, H: Drop>(
+    world: &mut World<B, Disk, H>,
+    address: SectorAddress,
+) -> R<SectorRead>
+    ensures ok { IfOk result (λ read. (c : Course B.State)
+        → Shows B.state B.machine (λ records. records) (over_records world.old) c
+        → IsSectorOf (machine_of B.machine c) c.world address read) }
+    ensures missing { OnErr result (IsThere (over_records world.old).disk address → ⊥) }
+    ensures unchanged { over_records world.new ≡ over_records world.old }
+{
+    match world.sector(address) {
+        Err(Fault::DeviceFault) => world.sector(address),
+        answer => answer,
+    }
+}
