@@ -14,7 +14,8 @@ use Rattle.pair_rule.specs.Knowledge.{winner_of, primary_asked, backup_asked}
 use Rattle.pair_rule.specs.Shown.{winners_of, Shows, Leads}
 use Rattle.pair_rule.proofs.ShownNodes.{serving, waiting, first_node, second_node}
 
-module _ {S : Type 0} (M : Machine S) (C : Copying S) (typed0 typed1 : List ℕ) (k : Knowledge) (w : World S) (z : Shows M typed0 typed1 k w) where
+module _ {S : Type 0} (M : Machine S) (C : Copying S) (typed0 typed1 : List ℕ) (k : Knowledge) (w : World S)
+    (z : Shows M typed0 typed1 k w) where
   abbrev primary : Node S
   primary = serving M C typed0 typed1 k w z
 
@@ -28,10 +29,14 @@ module _ {S : Type 0} (M : Machine S) (C : Copying S) (typed0 typed1 : List ℕ)
   at_backup none = second_node M C typed0 typed1 k w z none
 
   -- a primary asks: it has won, or it is halted
-  pub primary_wins : k.primary.winner ≡ 0 → k.backup.winner ≡ 0 → Leads M C typed0 typed1 (primary_asked 0 k) w (λ events. events ≡ Suspect 0 ∷ [])
+  pub primary_wins : k.primary.winner ≡ 0 → k.backup.winner ≡ 0
+      → Leads M C typed0 typed1 (primary_asked 0 k) w (λ events. events ≡ Suspect 0 ∷ [])
   primary_wins none nobody = let undecided : w.winners ≡ [] = z.winners ∙ (λ i. winners_of (winner_of (none i) (nobody i))) in
-      let row : Row M C w (Suspect 0) (Won) (with_winner w 0 primary) = Accepts (ap (λ o. at_node o (ask_refusal w 0)) (at_primary none) ∙ ap (λ (l : List Winner). first_of (fault_if (is_other (winner_in l 1) 0) Lost ∷ [])) undecided)
-      record { x = primary; there = at_primary none; reply = refl; after = inl (ap (λ l. winner_in l 1) undecided, refl) } in record {
+      let row : Row M C w (Suspect 0) (Won) (with_winner w 0 primary) =
+          Accepts (ap (λ o. at_node o (ask_refusal w 0)) (at_primary none) ∙ ap
+          (λ (l : List Winner). first_of (fault_if (is_other (winner_in l 1) 0) Lost ∷ [])) undecided)
+      record { x = primary; there = at_primary none; reply = refl;
+          after = inl (ap (λ l. winner_in l 1) undecided, refl) } in record {
         events = Suspect 0 ∷ [];
         formed = refl;
         replies = Won ∷ [];
@@ -57,9 +62,13 @@ module _ {S : Type 0} (M : Machine S) (C : Copying S) (typed0 typed1 : List ℕ)
         };
       }
 
-  pub primary_loses : k.primary.winner ≡ 0 → k.backup.winner ≡ 2 → Leads M C typed0 typed1 (primary_asked 2 k) w (λ events. events ≡ Suspect 0 ∷ [])
-  primary_loses none other = let decided : w.winners ≡ record { generation = 1; node = 1 } ∷ [] = z.winners ∙ (λ i. winners_of (winner_of (none i) (other i))) in
-      let row : Row M C w (Suspect 0) (Refused Lost) (with_node w 0 (halts primary)) = Refuses (ap (λ o. at_node o (ask_refusal w 0)) (at_primary none) ∙ ap (λ (l : List Winner). first_of (fault_if (is_other (winner_in l 1) 0) Lost ∷ [])) decided)
+  pub primary_loses : k.primary.winner ≡ 0 → k.backup.winner ≡ 2
+      → Leads M C typed0 typed1 (primary_asked 2 k) w (λ events. events ≡ Suspect 0 ∷ [])
+  primary_loses none other = let decided : w.winners ≡ record { generation = 1; node = 1 } ∷ [] =
+      z.winners ∙ (λ i. winners_of (winner_of (none i) (other i))) in
+      let row : Row M C w (Suspect 0) (Refused Lost) (with_node w 0 (halts primary)) =
+          Refuses (ap (λ o. at_node o (ask_refusal w 0)) (at_primary none) ∙ ap
+          (λ (l : List Winner). first_of (fault_if (is_other (winner_in l 1) 0) Lost ∷ [])) decided)
       record { x = primary; there = at_primary none; y = halts primary; done = refl; after = refl } in record {
         events = Suspect 0 ∷ [];
         formed = refl;
@@ -86,10 +95,14 @@ module _ {S : Type 0} (M : Machine S) (C : Copying S) (typed0 typed1 : List ℕ)
         };
       }
 
-  pub backup_wins : k.primary.winner ≡ 0 → k.backup.winner ≡ 0 → Leads M C typed0 typed1 (backup_asked 0 k) w (λ events. events ≡ Suspect 1 ∷ [])
+  pub backup_wins : k.primary.winner ≡ 0 → k.backup.winner ≡ 0
+      → Leads M C typed0 typed1 (backup_asked 0 k) w (λ events. events ≡ Suspect 1 ∷ [])
   backup_wins none nobody = let undecided : w.winners ≡ [] = z.winners ∙ (λ i. winners_of (winner_of (none i) (nobody i))) in
-      let row : Row M C w (Suspect 1) (Won) (with_winner w 1 backup) = Accepts (ap (λ o. at_node o (ask_refusal w 1)) (at_backup nobody) ∙ ap (λ (l : List Winner). first_of (fault_if (is_other (winner_in l 1) 1) Lost ∷ [])) undecided)
-      record { x = backup; there = at_backup nobody; reply = refl; after = inl (ap (λ l. winner_in l 1) undecided, refl) } in record {
+      let row : Row M C w (Suspect 1) (Won) (with_winner w 1 backup) =
+          Accepts (ap (λ o. at_node o (ask_refusal w 1)) (at_backup nobody) ∙ ap
+          (λ (l : List Winner). first_of (fault_if (is_other (winner_in l 1) 1) Lost ∷ [])) undecided)
+      record { x = backup; there = at_backup nobody; reply = refl;
+          after = inl (ap (λ l. winner_in l 1) undecided, refl) } in record {
         events = Suspect 1 ∷ [];
         formed = refl;
         replies = Won ∷ [];
@@ -105,7 +118,8 @@ module _ {S : Type 0} (M : Machine S) (C : Copying S) (typed0 typed1 : List ℕ)
           nodes = ap (λ l. slice_set l 1 (wins backup)) z.nodes;
           sent = record { logs = z.sent.logs; acks = z.sent.acks; operations = z.sent.operations; writes = z.sent.writes };
           terminals = z.terminals;
-          winners = ap (λ l. l ++ record { generation = 1; node = 1 } ∷ []) undecided ∙ (λ i. winners_of (winner_of (sym none i) 2));
+          winners = ap (λ l. l ++ record { generation = 1; node = 1 } ∷ []) undecided ∙
+              (λ i. winners_of (winner_of (sym none i) 2));
           puts = z.puts;
           issued = z.issued;
           done = z.done;
@@ -115,9 +129,13 @@ module _ {S : Type 0} (M : Machine S) (C : Copying S) (typed0 typed1 : List ℕ)
         };
       }
 
-  pub backup_loses : k.primary.winner ≡ 1 → k.backup.winner ≡ 0 → Leads M C typed0 typed1 (backup_asked 1 k) w (λ events. events ≡ Suspect 1 ∷ [])
-  backup_loses other nobody = let decided : w.winners ≡ record { generation = 1; node = 0 } ∷ [] = z.winners ∙ (λ i. winners_of (winner_of (other i) (nobody i))) in
-      let row : Row M C w (Suspect 1) (Refused Lost) (with_node w 1 (halts backup)) = Refuses (ap (λ o. at_node o (ask_refusal w 1)) (at_backup nobody) ∙ ap (λ (l : List Winner). first_of (fault_if (is_other (winner_in l 1) 1) Lost ∷ [])) decided)
+  pub backup_loses : k.primary.winner ≡ 1 → k.backup.winner ≡ 0
+      → Leads M C typed0 typed1 (backup_asked 1 k) w (λ events. events ≡ Suspect 1 ∷ [])
+  backup_loses other nobody = let decided : w.winners ≡ record { generation = 1; node = 0 } ∷ [] =
+      z.winners ∙ (λ i. winners_of (winner_of (other i) (nobody i))) in
+      let row : Row M C w (Suspect 1) (Refused Lost) (with_node w 1 (halts backup)) =
+          Refuses (ap (λ o. at_node o (ask_refusal w 1)) (at_backup nobody) ∙ ap
+          (λ (l : List Winner). first_of (fault_if (is_other (winner_in l 1) 1) Lost ∷ [])) decided)
       record { x = backup; there = at_backup nobody; y = halts backup; done = refl; after = refl } in record {
         events = Suspect 1 ∷ [];
         formed = refl;

@@ -21,7 +21,8 @@ first_stands g = record {
   rising = le_refl 0;
   behind = le_refl 0;
   once = inl refl;
-  decided = record { few = omega arith; same = λ x y. absurd (x refl); primary_lost = λ e. absurd (omega arith); backup_lost = λ e. absurd (omega arith) };
+  decided = record { few = omega arith; same = λ x y. absurd (x refl); primary_lost = λ e. absurd (omega arith);
+      backup_lost = λ e. absurd (omega arith) };
   counted0 = le_refl 0;
   counted1 = le_refl 0;
   hand0 = tt;
@@ -36,7 +37,8 @@ first_stands g = record {
 
 module _ {S : Type 0} (M : Machine S) (C : Copying S) where
   abbrev typed_world : List ℕ → List ℕ → World S
-  typed_world a b = record (opening M) { terminals = record { arrivals = []; typed = a; told = 0 } ∷ record { arrivals = []; typed = b; told = 0 } ∷ [] }
+  typed_world a b = record (opening M) { terminals = record { arrivals = []; typed = a; told = 0 } ∷ record { arrivals = [];
+      typed = b; told = 0 } ∷ [] }
 
   -- events and replies from one world to another
   abbrev Comes : World S → World S → Type 0
@@ -60,11 +62,14 @@ module _ {S : Type 0} (M : Machine S) (C : Copying S) where
         (subst (λ l. Happens M C (typed_world a (b ++ x ∷ [])) r.0 r.1 (typed_world a l)) (append_assoc b (x ∷ []) xs) r.2),
   )
 
-  then_on : (a b c : World S) (es fs : List Event) (rs qs : List Reply) → Happens M C a es rs b → Happens M C b fs qs c → Happens M C a (es ++ fs) (rs ++ qs) c
+  then_on : (a b c : World S) (es fs : List Event) (rs qs : List Reply) → Happens M C a es rs b → Happens M C b fs qs c
+      → Happens M C a (es ++ fs) (rs ++ qs) c
   then_on a b c es fs rs qs Nothing more = more
-  then_on a b c es fs rs qs (First {mid = v} {events = es'} {replies = rs'} row rest) more = First row (then_on v b c es' fs rs' qs rest more)
+  then_on a b c es fs rs qs (First {mid = v} {events = es'} {replies = rs'} row rest) more =
+      First row (then_on v b c es' fs rs' qs rest more)
 
-  shows_first : Lawful M → (typed0 typed1 : List ℕ) (generation : ℕ) → Shows M typed0 typed1 (first_known generation) (typed_world typed0 typed1)
+  shows_first : Lawful M → (typed0 typed1 : List ℕ) (generation : ℕ)
+      → Shows M typed0 typed1 (first_known generation) (typed_world typed0 typed1)
   shows_first laws typed0 typed1 generation = record {
     moves = [];
     s = M.boot;
@@ -72,7 +77,8 @@ module _ {S : Type 0} (M : Machine S) (C : Copying S) where
     entries_are = refl;
     count = laws.counts [] M.boot refl;
     nodes = refl;
-    sent = record { logs = λ i e at. absurd (cc); acks = λ h at. absurd at; operations = λ o at. absurd at; writes = λ n at. absurd at };
+    sent = record { logs = λ i e at. absurd (cc); acks = λ h at. absurd at; operations = λ o at. absurd at;
+        writes = λ n at. absurd at };
     terminals = refl;
     winners = refl;
     puts = refl;
@@ -86,7 +92,8 @@ module _ {S : Type 0} (M : Machine S) (C : Copying S) where
 pub starts_shown : {S : Type 0} → RowIsChanges S → ChangesReach S → StartsShown S
 starts_shown rows changes M C laws typed0 typed1 generation =
     let a = type0 M C [] [] typed0 in let b = type1 M C typed0 [] typed1 in
-    let run = then_on M C (opening M) (typed_world M C typed0 []) (typed_world M C typed0 typed1) a.0 b.0 a.1 b.1 a.2 b.2 in record {
+    let run = then_on M C (opening M) (typed_world M C typed0 [])
+        (typed_world M C typed0 typed1) a.0 b.0 a.1 b.1 a.2 b.2 in record {
       events = a.0 ++ b.0;
       replies = a.1 ++ b.1;
       world = typed_world M C typed0 typed1;

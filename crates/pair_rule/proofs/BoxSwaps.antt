@@ -31,7 +31,8 @@ Goes g ws hs vs i id me f told =
     × told (get_or ws i 0) (w, carried_after me.1 a)
 
 -- the words of the boxes stand behind those that what is known gives
-pub word_at : (b : Mailbox) (k : Knowledge) (boxes : List ℕ) → get_or (words_of k ++ boxes) (5 + box_index b) 0 ≡ get_or boxes (box_index b) 0
+pub word_at : (b : Mailbox) (k : Knowledge) (boxes : List ℕ)
+    → get_or (words_of k ++ boxes) (5 + box_index b) 0 ≡ get_or boxes (box_index b) 0
 word_at Outbox k boxes = refl
 word_at Inbox k boxes = refl
 word_at Bytes0 k boxes = refl
@@ -39,7 +40,8 @@ word_at Bytes1 k boxes = refl
 word_at Requests k boxes = refl
 word_at Answers k boxes = refl
 
-pub word_set : (b : Mailbox) (k : Knowledge) (boxes : List ℕ) (x : ℕ) → set (words_of k ++ boxes) (5 + box_index b) x ≡ words_of k ++ set boxes (box_index b) x
+pub word_set : (b : Mailbox) (k : Knowledge) (boxes : List ℕ) (x : ℕ)
+    → set (words_of k ++ boxes) (5 + box_index b) x ≡ words_of k ++ set boxes (box_index b) x
 word_set Outbox k boxes x = refl
 word_set Inbox k boxes x = refl
 word_set Bytes0 k boxes x = refl
@@ -56,7 +58,8 @@ pub record Keeps (turn : Knowledge → Knowledge) (k : Knowledge) : Type 0 where
 pub keeps_all : (k : Knowledge) → Stands k → Keeps (λ k. k) k
 keeps_all k s = record { stands = s; words = refl; fits = λ b x f. f }
 
-pub last_fits : (last : Option Payload) (P Q : Payload → Type 0) → ((x : Payload) → P x → Q x) → WhereSome last P → WhereSome last Q
+pub last_fits : (last : Option Payload) (P Q : Payload → Type 0) → ((x : Payload) → P x → Q x) → WhereSome last P
+    → WhereSome last Q
 last_fits None P Q f i = i
 last_fits (Some x) P Q f i = f x i
 
@@ -64,16 +67,20 @@ last_fits (Some x) P Q f i = f x i
 module _ (s : Who) (hand : ℕ) (turn : Knowledge → Knowledge) (l : Local s turn) where
   -- the side is one that the seat fills, or one that it empties
   abbrev pub by_fill : Mailbox → (Core → Side) → Core → Core
-  by_fill b new c = record c { hands = set c.hands (seat_index s) hand; fills = set c.fills (box_index b) (new c); known = turn c.known }
+  by_fill b new c = record c { hands = set c.hands (seat_index s) hand; fills = set c.fills (box_index b) (new c);
+      known = turn c.known }
 
   abbrev pub by_empty : Mailbox → (Core → Side) → Core → Core
-  by_empty b new c = record c { hands = set c.hands (seat_index s) hand; empties = set c.empties (box_index b) (new c); known = turn c.known }
+  by_empty b new c = record c { hands = set c.hands (seat_index s) hand; empties = set c.empties (box_index b) (new c);
+      known = turn c.known }
 
   fill_sized : (b : Mailbox) (x : Side) (c : Core) → Sized c → Sized (by_fill b (λ _. x) c)
-  fill_sized b x c z = record { hands = length-set c.hands (seat_index s) hand ∙ z.hands; has_slot = z.has_slot; fills = length-set c.fills (box_index b) x ∙ z.fills; empties = z.empties }
+  fill_sized b x c z = record { hands = length-set c.hands (seat_index s) hand ∙ z.hands; has_slot = z.has_slot;
+      fills = length-set c.fills (box_index b) x ∙ z.fills; empties = z.empties }
 
   empty_sized : (b : Mailbox) (x : Side) (c : Core) → Sized c → Sized (by_empty b (λ _. x) c)
-  empty_sized b x c z = record { hands = length-set c.hands (seat_index s) hand ∙ z.hands; has_slot = z.has_slot; fills = z.fills; empties = length-set c.empties (box_index b) x ∙ z.empties }
+  empty_sized b x c z = record { hands = length-set c.hands (seat_index s) hand ∙ z.hands; has_slot = z.has_slot; fills = z.fills;
+      empties = length-set c.empties (box_index b) x ∙ z.empties }
 
   module _ (c d : Core) (sized : Sized d) (own : Same s c d) where
     pub fill_both : (b : Mailbox) (x : Side) (n : Who) → Same n c d → Same n (by_fill b (λ _. x) c) (by_fill b (λ _. x) d)
@@ -94,29 +101,34 @@ module _ (s : Who) (hand : ℕ) (turn : Knowledge → Knowledge) (l : Local s tu
       hand = set_both c.hands d.hands (seat_index s) (seat_index n) hand (e.sized.hands ∙ sym sized.hands) e.hand;
       has_slot = e.has_slot;
       fills = e.fills;
-      empties = λ k is. set_both c.empties d.empties (box_index b) (box_index k) x (e.sized.empties ∙ sym sized.empties) (e.empties k is);
+      empties = λ k is. set_both c.empties d.empties (box_index b) (box_index k) x (e.sized.empties ∙ sym sized.empties)
+          (e.empties k is);
       known = l.both n c.known d.known own.known e.known;
     }
 
-  pub fill_rest : (b : Mailbox) (x : Side) (n : Who) (c d : Core) → filler b ≡ s → (n ≡ s → ⊥) → Same n c d → Same n c (by_fill b (λ _. x) d)
+  pub fill_rest : (b : Mailbox) (x : Side) (n : Who) (c d : Core) → filler b ≡ s → (n ≡ s → ⊥) → Same n c d
+      → Same n c (by_fill b (λ _. x) d)
   fill_rest b x n c d is ne e = record {
     sized = e.sized;
     generation = e.generation ∙ sym (l.generation d.known);
     hand = e.hand ∙ sym (set_else d.hands (seat_index s) (seat_index n) hand (λ q. ne (one_seat n s q)));
     has_slot = e.has_slot;
-    fills = λ k at. e.fills k at ∙ sym (set_else d.fills (box_index b) (box_index k) x (λ q. ne (sym at ∙ ap filler (one_box k b q) ∙ is)));
+    fills = λ k at. e.fills k at ∙ sym (set_else d.fills (box_index b) (box_index k) x
+        (λ q. ne (sym at ∙ ap filler (one_box k b q) ∙ is)));
     empties = e.empties;
     known = l.rest n c.known d.known ne e.known;
   }
 
-  pub empty_rest : (b : Mailbox) (x : Side) (n : Who) (c d : Core) → emptier b ≡ s → (n ≡ s → ⊥) → Same n c d → Same n c (by_empty b (λ _. x) d)
+  pub empty_rest : (b : Mailbox) (x : Side) (n : Who) (c d : Core) → emptier b ≡ s → (n ≡ s → ⊥) → Same n c d
+      → Same n c (by_empty b (λ _. x) d)
   empty_rest b x n c d is ne e = record {
     sized = e.sized;
     generation = e.generation ∙ sym (l.generation d.known);
     hand = e.hand ∙ sym (set_else d.hands (seat_index s) (seat_index n) hand (λ q. ne (one_seat n s q)));
     has_slot = e.has_slot;
     fills = e.fills;
-    empties = λ k at. e.empties k at ∙ sym (set_else d.empties (box_index b) (box_index k) x (λ q. ne (sym at ∙ ap emptier (one_box k b q) ∙ is)));
+    empties = λ k at. e.empties k at ∙ sym
+        (set_else d.empties (box_index b) (box_index k) x (λ q. ne (sym at ∙ ap emptier (one_box k b q) ∙ is)));
     known = l.rest n c.known d.known ne e.known;
   }
 
@@ -137,90 +149,128 @@ module _ (g : ℕ) (boxes : List ℕ) (homes : Homes) (c : Core) (f : Facts g bo
   box = f.boxed b here (side_at c.fills (box_index b)) (side_at c.empties (box_index b)) at_here at_fill at_empty
 
   pub small : (s : Who) → get_elem? c.hands (seat_index s) ≡ some hand → hand < 11
-  small s at = let o = (f.laid.seats (seat_index s) hand at).1 in let d = f.laid.deep in let six = f.six in let five = f.sized.hands in omega arith
+  small s at = let o = (f.laid.seats (seat_index s) hand at).1 in let d = f.laid.deep in let six = f.six in let five =
+      f.sized.hands in omega arith
 
   -- the two boxes are one, or another box stands as it was
-  module _ (s : Who) (x : Option Payload) (at : get_elem? c.hands (seat_index s) ≡ some hand) (new : ℕ) (is : slot_of new ≡ hand) where
+  module _ (s : Who) (x : Option Payload) (at : get_elem? c.hands (seat_index s) ≡ some hand) (new : ℕ)
+      (is : slot_of new ≡ hand) where
     abbrev homes' : Homes
     homes' = swapped homes hand x (slot_of here)
 
     abbrev in_box : get_elem? homes' hand ≡ some (some x)
-    in_box = given homes hand x (slot_of here) (apart boxes c.hands c.has_slot homes f.laid (box_index b) here (seat_index s) hand x at_here at) (inside boxes c.hands c.has_slot homes f.laid (box_index b) here (seat_index s) hand x at_here at)
+    in_box = given homes hand x (slot_of here)
+        (apart boxes c.hands c.has_slot homes f.laid (box_index b) here (seat_index s) hand x at_here at)
+        (inside boxes c.hands c.has_slot homes f.laid (box_index b) here (seat_index s) hand x at_here at)
 
-    fill_boxes : (y : Side) → Boxed new homes' y (side_at c.empties (box_index b)) (is_full new) → Boxes (set boxes (box_index b) new) homes' (set c.fills (box_index b) y) c.empties
+    fill_boxes : (y : Side) → Boxed new homes' y (side_at c.empties (box_index b)) (is_full new)
+        → Boxes (set boxes (box_index b) new) homes' (set c.fills (box_index b) y) c.empties
     fill_boxes y own k w fs es aw af ae = ⊎_elim
         (λ (t : (box_index k ≡ box_index b) × (new ≡ w)). let e = t.0 in
-        let fe : y ≡ fs = some-injective y fs (sym (set_here c.fills (box_index b) y (let near = few_boxes b in let six = f.sized.fills in omega arith)) ∙ ap (get_elem? (set c.fills (box_index b) y)) (sym e) ∙ af) in
-        let ee : side_at c.empties (box_index b) ≡ es = some-injective (side_at c.empties (box_index b)) es (sym at_empty ∙ ap (get_elem? c.empties) (sym e) ∙ ae) in
+        let fe : y ≡ fs = some-injective y fs
+            (sym (set_here c.fills (box_index b) y (let near = few_boxes b in let six = f.sized.fills in omega arith)) ∙ ap
+            (get_elem? (set c.fills (box_index b) y)) (sym e) ∙ af) in
+        let ee : side_at c.empties (box_index b) ≡ es =
+            some-injective (side_at c.empties (box_index b)) es (sym at_empty ∙ ap (get_elem? c.empties) (sym e) ∙ ae) in
         subst (λ (z : ℕ × Side × Side). Boxed z.0 homes' z.1 z.2 (is_full z.0)) (λ i. (t.1 i, fe i, ee i)) own)
         (λ (t : (box_index k ≢ box_index b) × (get_elem? boxes (box_index k) ≡ some w)).
-        box_stays w homes homes' fs es (box_else boxes c.hands c.has_slot homes f.laid (box_index b) here (seat_index s) hand x at_here at (box_index k) w t.1 t.0) (is_full w)
+        box_stays w homes homes' fs es (box_else boxes c.hands c.has_slot homes f.laid (box_index b) here
+            (seat_index s) hand x at_here at (box_index k) w t.1 t.0) (is_full w)
         (f.boxed k w fs es t.1 (sym (set_else c.fills (box_index b) (box_index k) y t.0) ∙ af) ae))
         (at_set boxes (box_index b) (box_index k) new w aw)
 
-    empty_boxes : (y : Side) → Boxed new homes' (side_at c.fills (box_index b)) y (is_full new) → Boxes (set boxes (box_index b) new) homes' c.fills (set c.empties (box_index b) y)
+    empty_boxes : (y : Side) → Boxed new homes' (side_at c.fills (box_index b)) y (is_full new)
+        → Boxes (set boxes (box_index b) new) homes' c.fills (set c.empties (box_index b) y)
     empty_boxes y own k w fs es aw af ae = ⊎_elim
         (λ (t : (box_index k ≡ box_index b) × (new ≡ w)). let e = t.0 in
-        let ee : y ≡ es = some-injective y es (sym (set_here c.empties (box_index b) y (let near = few_boxes b in let six = f.sized.empties in omega arith)) ∙ ap (get_elem? (set c.empties (box_index b) y)) (sym e) ∙ ae) in
-        let fe : side_at c.fills (box_index b) ≡ fs = some-injective (side_at c.fills (box_index b)) fs (sym at_fill ∙ ap (get_elem? c.fills) (sym e) ∙ af) in
+        let ee : y ≡ es = some-injective y es
+            (sym (set_here c.empties (box_index b) y (let near = few_boxes b in let six = f.sized.empties in omega arith)) ∙ ap
+            (get_elem? (set c.empties (box_index b) y)) (sym e) ∙ ae) in
+        let fe : side_at c.fills (box_index b) ≡ fs =
+            some-injective (side_at c.fills (box_index b)) fs (sym at_fill ∙ ap (get_elem? c.fills) (sym e) ∙ af) in
         subst (λ (z : ℕ × Side × Side). Boxed z.0 homes' z.1 z.2 (is_full z.0)) (λ i. (t.1 i, fe i, ee i)) own)
         (λ (t : (box_index k ≢ box_index b) × (get_elem? boxes (box_index k) ≡ some w)).
-        box_stays w homes homes' fs es (box_else boxes c.hands c.has_slot homes f.laid (box_index b) here (seat_index s) hand x at_here at (box_index k) w t.1 t.0) (is_full w)
+        box_stays w homes homes' fs es (box_else boxes c.hands c.has_slot homes f.laid (box_index b) here
+            (seat_index s) hand x at_here at (box_index k) w t.1 t.0) (is_full w)
         (f.boxed k w fs es t.1 af (sym (set_else c.empties (box_index b) (box_index k) y t.0) ∙ ae)))
         (at_set boxes (box_index b) (box_index k) new w aw)
 
-    laid_after : get_elem? c.has_slot (seat_index s) ≡ some true → Laid (set boxes (box_index b) new) (set c.hands (seat_index s) (slot_of here)) c.has_slot homes'
-    laid_after has_slot = laid_swap boxes c.hands c.has_slot homes f.laid (box_index b) here (seat_index s) hand x at_here at new is has_slot
+    laid_after : get_elem? c.has_slot (seat_index s) ≡ some true
+        → Laid (set boxes (box_index b) new) (set c.hands (seat_index s) (slot_of here)) c.has_slot homes'
+    laid_after has_slot = laid_swap boxes c.hands c.has_slot homes f.laid (box_index b) here
+        (seat_index s) hand x at_here at new is has_slot
 
   -- what a fill leaves
-  pub fill_facts : (q : Payload) → get_elem? c.hands (seat_index (filler b)) ≡ some hand → get_elem? c.has_slot (seat_index (filler b)) ≡ some true
+  pub fill_facts : (q : Payload) → get_elem? c.hands (seat_index (filler b)) ≡ some hand
+      → get_elem? c.has_slot (seat_index (filler b)) ≡ some true
       → Local (filler b) (after_fill b q) → Keeps (after_fill b q) c.known → Fits b (after_fill b q c.known) q
-      → Facts g (set boxes (box_index b) (full_word ((side_at c.fills (box_index b)).number + 1) hand)) (swapped homes hand (Some q) (slot_of here)) (filled b q here c)
+      → Facts g (set boxes (box_index b) (full_word ((side_at c.fills (box_index b)).number + 1) hand))
+          (swapped homes hand (Some q) (slot_of here)) (filled b q here c)
   fill_facts q at has_slot l k fit = let n : ℕ = (side_at c.fills (box_index b)).number + 1 in let new : ℕ = full_word n hand in
-      let near : hand < 16 = (let z = small (filler b) at in omega arith) in let is : slot_of new ≡ hand = slot_full n hand near in
+      let near : hand < 16 = (let z = small (filler b) at in omega arith) in let is : slot_of new ≡ hand =
+          slot_full n hand near in
       let y : Side = side n (filler_met (is_full here) here (side_at c.fills (box_index b)).met) (Some q) in record {
         generation = l.generation c.known ∙ f.generation;
         sized = fill_sized (filler b) (slot_of here) (after_fill b q) l b y c f.sized;
         six = length-set boxes (box_index b) new ∙ f.six;
         laid = laid_after (filler b) (Some q) at new is has_slot;
-        boxed = fill_boxes (filler b) (Some q) at new is y (slots.fills here homes (swapped homes hand (Some q) (slot_of here)) (side_at c.fills (box_index b)) (side_at c.empties (box_index b)) (is_full here) hand q near (in_box (filler b) (Some q) at new is) box);
+        boxed = fill_boxes (filler b) (Some q) at new is y
+            (slots.fills here homes (swapped homes hand (Some q) (slot_of here)) (side_at c.fills (box_index b))
+            (side_at c.empties (box_index b)) (is_full here) hand q near (in_box (filler b) (Some q) at new is) box);
         fitting = λ j z e. ⊎_elim
-            (λ (t : (box_index j ≡ box_index b) × (y ≡ z)). subst (λ (p : Mailbox × Side). WhereSome p.1.last (Fits p.0 (after_fill b q c.known))) (λ i. (sym (one_box j b t.0) i, t.1 i)) fit)
-            (λ (t : (box_index j ≢ box_index b) × (get_elem? c.fills (box_index j) ≡ some z)). last_fits z.last (Fits j c.known) (Fits j (after_fill b q c.known)) (k.fits j) (f.fitting j z t.1))
+            (λ (t : (box_index j ≡ box_index b) × (y ≡ z)). subst
+                (λ (p : Mailbox × Side). WhereSome p.1.last (Fits p.0 (after_fill b q c.known)))
+                (λ i. (sym (one_box j b t.0) i, t.1 i)) fit)
+            (λ (t : (box_index j ≢ box_index b) × (get_elem? c.fills (box_index j) ≡ some z)). last_fits z.last (Fits j c.known)
+                (Fits j (after_fill b q c.known)) (k.fits j) (f.fitting j z t.1))
             (at_set c.fills (box_index b) (box_index j) y z e);
         stands = k.stands;
       }
 
-  fits_on : (turn : Knowledge → Knowledge) → Keeps turn c.known → (j : Mailbox) (z : Side) → get_elem? c.fills (box_index j) ≡ some z → WhereSome z.last (Fits j (turn c.known))
+  fits_on : (turn : Knowledge → Knowledge) → Keeps turn c.known → (j : Mailbox) (z : Side)
+      → get_elem? c.fills (box_index j) ≡ some z → WhereSome z.last (Fits j (turn c.known))
   fits_on turn k j z e = last_fits z.last (Fits j c.known) (Fits j (turn c.known)) (k.fits j) (f.fitting j z e)
 
   -- what an emptying leaves: of a full box, and of an empty one
-  pub empty_facts : (q : Payload) (x : Option Payload) → get_elem? c.hands (seat_index (emptier b)) ≡ some hand → get_elem? c.has_slot (seat_index (emptier b)) ≡ some true
-      → Local (emptier b) (after_empty b q) → Keeps (after_empty b q) c.known → Boxed here homes (side_at c.fills (box_index b)) (side_at c.empties (box_index b)) true
-      → Facts g (set boxes (box_index b) (empty_word ((side_at c.empties (box_index b)).number + 1) hand)) (swapped homes hand x (slot_of here)) (emptied b q here c)
-  empty_facts q x at has_slot l k full = let n : ℕ = (side_at c.empties (box_index b)).number + 1 in let new : ℕ = empty_word n hand in
-      let near : hand < 16 = (let z = small (emptier b) at in omega arith) in let is : slot_of new ≡ hand = slot_empty n hand near in
+  pub empty_facts : (q : Payload) (x : Option Payload) → get_elem? c.hands (seat_index (emptier b)) ≡ some hand
+      → get_elem? c.has_slot (seat_index (emptier b)) ≡ some true
+      → Local (emptier b) (after_empty b q) → Keeps (after_empty b q) c.known
+          → Boxed here homes (side_at c.fills (box_index b)) (side_at c.empties (box_index b)) true
+      → Facts g (set boxes (box_index b) (empty_word ((side_at c.empties (box_index b)).number + 1) hand))
+          (swapped homes hand x (slot_of here)) (emptied b q here c)
+  empty_facts q x at has_slot l k full = let n : ℕ = (side_at c.empties (box_index b)).number + 1 in let new : ℕ =
+      empty_word n hand in
+      let near : hand < 16 = (let z = small (emptier b) at in omega arith) in let is : slot_of new ≡ hand =
+          slot_empty n hand near in
       let y : Side = side n (number_of here) (Some q) in record {
         generation = l.generation c.known ∙ f.generation;
         sized = empty_sized (emptier b) (slot_of here) (after_empty b q) l b y c f.sized;
         six = length-set boxes (box_index b) new ∙ f.six;
         laid = laid_after (emptier b) x at new is has_slot;
-        boxed = empty_boxes (emptier b) x at new is y (slots.empties here homes (swapped homes hand x (slot_of here)) (side_at c.fills (box_index b)) (side_at c.empties (box_index b)) hand x (Some q) near (in_box (emptier b) x at new is) full);
+        boxed = empty_boxes (emptier b) x at new is y
+            (slots.empties here homes (swapped homes hand x (slot_of here)) (side_at c.fills (box_index b))
+            (side_at c.empties (box_index b)) hand x (Some q) near (in_box (emptier b) x at new is) full);
         fitting = fits_on (after_empty b q) k;
         stands = k.stands;
       }
 
-  pub found_facts : (x : Option Payload) → get_elem? c.hands (seat_index (emptier b)) ≡ some hand → get_elem? c.has_slot (seat_index (emptier b)) ≡ some true
+  pub found_facts : (x : Option Payload) → get_elem? c.hands (seat_index (emptier b)) ≡ some hand
+      → get_elem? c.has_slot (seat_index (emptier b)) ≡ some true
       → Boxed here homes (side_at c.fills (box_index b)) (side_at c.empties (box_index b)) false
-      → Facts g (set boxes (box_index b) (empty_word ((side_at c.empties (box_index b)).number + 1) hand)) (swapped homes hand x (slot_of here)) (found_empty b here c)
+      → Facts g (set boxes (box_index b) (empty_word ((side_at c.empties (box_index b)).number + 1) hand))
+          (swapped homes hand x (slot_of here)) (found_empty b here c)
   found_facts x at has_slot none = let n : ℕ = (side_at c.empties (box_index b)).number + 1 in let new : ℕ = empty_word n hand in
-      let near : hand < 16 = (let z = small (emptier b) at in omega arith) in let is : slot_of new ≡ hand = slot_empty n hand near in
+      let near : hand < 16 = (let z = small (emptier b) at in omega arith) in let is : slot_of new ≡ hand =
+          slot_empty n hand near in
       let y : Side = side n (side_at c.empties (box_index b)).met (side_at c.empties (box_index b)).last in record {
         generation = f.generation;
         sized = empty_sized (emptier b) (slot_of here) (λ k. k) (nothing (emptier b)) b y c f.sized;
         six = length-set boxes (box_index b) new ∙ f.six;
         laid = laid_after (emptier b) x at new is has_slot;
-        boxed = empty_boxes (emptier b) x at new is y (slots.finds_empty here homes (swapped homes hand x (slot_of here)) (side_at c.fills (box_index b)) (side_at c.empties (box_index b)) hand x (side_at c.empties (box_index b)).last near (in_box (emptier b) x at new is) none);
+        boxed = empty_boxes (emptier b) x at new is y
+            (slots.finds_empty here homes (swapped homes hand x (slot_of here)) (side_at c.fills (box_index b))
+            (side_at c.empties (box_index b)) hand x (side_at c.empties (box_index b)).last near
+            (in_box (emptier b) x at new is) none);
         fitting = f.fitting;
         stands = f.stands;
       }

@@ -26,12 +26,15 @@ module _ (k : Knowledge) (s : Stands k) where
 
   link_has : (p : Packet) → IsEntryOf k.generation k.primary.list p → Keeps (λ k. record k { link = Some p }) k
   link_has p i = record {
-    stands = record { prefix = s.prefix; in_link = i; rising = s.rising; behind = s.behind; once = s.once; decided = s.decided; counted0 = s.counted0; counted1 = s.counted1; hand0 = s.hand0; hand1 = s.hand1; arrived0 = s.arrived0; arrived1 = s.arrived1; taken = s.taken; puts = s.puts; answers = s.answers; replies = s.replies };
+    stands = record { prefix = s.prefix; in_link = i; rising = s.rising; behind = s.behind; once = s.once; decided = s.decided;
+        counted0 = s.counted0; counted1 = s.counted1; hand0 = s.hand0; hand1 = s.hand1; arrived0 = s.arrived0;
+        arrived1 = s.arrived1; taken = s.taken; puts = s.puts; answers = s.answers; replies = s.replies };
     words = refl;
     fits = link_fits p;
   }
 
-  backup_fits : (q : Packet) (b : Mailbox) (x : Payload) → Fits b k x → Fits b (record k { backup = record k.backup { list = grown k.backup.list q } }) x
+  backup_fits : (q : Packet) (b : Mailbox) (x : Payload) → Fits b k x
+      → Fits b (record k { backup = record k.backup { list = grown k.backup.list q } }) x
   backup_fits q Outbox x f = f
   backup_fits q Inbox x f = f
   backup_fits q Bytes0 x f = f
@@ -39,14 +42,20 @@ module _ (k : Knowledge) (s : Stands k) where
   backup_fits q Requests x f = f
   backup_fits q Answers x f = f
 
-  backup_has : (p : Packet) → IsEntryOf k.generation k.primary.list p → Keeps (λ k. record k { backup = record k.backup { list = grown k.backup.list p } }) k
+  backup_has : (p : Packet) → IsEntryOf k.generation k.primary.list p
+      → Keeps (λ k. record k { backup = record k.backup { list = grown k.backup.list p } }) k
   backup_has p i = record {
-    stands = record { prefix = grown_prefix k.primary.list k.backup.list p _ refl s.prefix i.1; in_link = s.in_link; rising = rising_higher 0 (length k.backup.list) _ k.backup.held_values (grown_length k.backup.list p _) s.rising; behind = s.behind; once = s.once; decided = s.decided; counted0 = s.counted0; counted1 = s.counted1; hand0 = s.hand0; hand1 = s.hand1; arrived0 = s.arrived0; arrived1 = s.arrived1; taken = s.taken; puts = s.puts; answers = s.answers; replies = s.replies };
+    stands = record { prefix = grown_prefix k.primary.list k.backup.list p _ refl s.prefix i.1; in_link = s.in_link;
+        rising = rising_higher 0 (length k.backup.list) _ k.backup.held_values (grown_length k.backup.list p _) s.rising;
+        behind = s.behind; once = s.once; decided = s.decided; counted0 = s.counted0; counted1 = s.counted1; hand0 = s.hand0;
+        hand1 = s.hand1; arrived0 = s.arrived0; arrived1 = s.arrived1; taken = s.taken; puts = s.puts; answers = s.answers;
+        replies = s.replies };
     words = refl;
     fits = backup_fits p;
   }
 
-  hand0_fits : (o : Operation) (b : Mailbox) (x : Payload) → Fits b k x → Fits b (record k { terminal = record k.terminal { hand0 = Some o } }) x
+  hand0_fits : (o : Operation) (b : Mailbox) (x : Payload) → Fits b k x
+      → Fits b (record k { terminal = record k.terminal { hand0 = Some o } }) x
   hand0_fits o Outbox x f = f
   hand0_fits o Inbox x f = f
   hand0_fits o Bytes0 x f = f
@@ -54,14 +63,18 @@ module _ (k : Knowledge) (s : Stands k) where
   hand0_fits o Requests x f = f
   hand0_fits o Answers x f = f
 
-  hand0_has : (o : Operation) → IsByteOf 0 k.primary.released o → Keeps (λ k. record k { terminal = record k.terminal { hand0 = Some o } }) k
+  hand0_has : (o : Operation) → IsByteOf 0 k.primary.released o
+      → Keeps (λ k. record k { terminal = record k.terminal { hand0 = Some o } }) k
   hand0_has o i = record {
-    stands = record { prefix = s.prefix; in_link = s.in_link; rising = s.rising; behind = s.behind; once = s.once; decided = s.decided; counted0 = s.counted0; counted1 = s.counted1; hand0 = i; hand1 = s.hand1; arrived0 = s.arrived0; arrived1 = s.arrived1; taken = s.taken; puts = s.puts; answers = s.answers; replies = s.replies };
+    stands = record { prefix = s.prefix; in_link = s.in_link; rising = s.rising; behind = s.behind; once = s.once;
+        decided = s.decided; counted0 = s.counted0; counted1 = s.counted1; hand0 = i; hand1 = s.hand1; arrived0 = s.arrived0;
+        arrived1 = s.arrived1; taken = s.taken; puts = s.puts; answers = s.answers; replies = s.replies };
     words = refl;
     fits = hand0_fits o;
   }
 
-  hand1_fits : (o : Operation) (b : Mailbox) (x : Payload) → Fits b k x → Fits b (record k { terminal = record k.terminal { hand1 = Some o } }) x
+  hand1_fits : (o : Operation) (b : Mailbox) (x : Payload) → Fits b k x
+      → Fits b (record k { terminal = record k.terminal { hand1 = Some o } }) x
   hand1_fits o Outbox x f = f
   hand1_fits o Inbox x f = f
   hand1_fits o Bytes0 x f = f
@@ -69,14 +82,18 @@ module _ (k : Knowledge) (s : Stands k) where
   hand1_fits o Requests x f = f
   hand1_fits o Answers x f = f
 
-  hand1_has : (o : Operation) → IsByteOf 1 k.primary.released o → Keeps (λ k. record k { terminal = record k.terminal { hand1 = Some o } }) k
+  hand1_has : (o : Operation) → IsByteOf 1 k.primary.released o
+      → Keeps (λ k. record k { terminal = record k.terminal { hand1 = Some o } }) k
   hand1_has o i = record {
-    stands = record { prefix = s.prefix; in_link = s.in_link; rising = s.rising; behind = s.behind; once = s.once; decided = s.decided; counted0 = s.counted0; counted1 = s.counted1; hand0 = s.hand0; hand1 = i; arrived0 = s.arrived0; arrived1 = s.arrived1; taken = s.taken; puts = s.puts; answers = s.answers; replies = s.replies };
+    stands = record { prefix = s.prefix; in_link = s.in_link; rising = s.rising; behind = s.behind; once = s.once;
+        decided = s.decided; counted0 = s.counted0; counted1 = s.counted1; hand0 = s.hand0; hand1 = i; arrived0 = s.arrived0;
+        arrived1 = s.arrived1; taken = s.taken; puts = s.puts; answers = s.answers; replies = s.replies };
     words = refl;
     fits = hand1_fits o;
   }
 
-  taken_fits : (r : DiskRequest) (b : Mailbox) (x : Payload) → Fits b k x → Fits b (record k { disk = record k.disk { taken = Some r } }) x
+  taken_fits : (r : DiskRequest) (b : Mailbox) (x : Payload) → Fits b k x
+      → Fits b (record k { disk = record k.disk { taken = Some r } }) x
   taken_fits r Outbox x f = f
   taken_fits r Inbox x f = f
   taken_fits r Bytes0 x f = f
@@ -84,14 +101,18 @@ module _ (k : Knowledge) (s : Stands k) where
   taken_fits r Requests x f = f
   taken_fits r Answers x f = f
 
-  taken_has : (r : DiskRequest) → IsAsked k.primary.released r → Keeps (λ k. record k { disk = record k.disk { taken = Some r } }) k
+  taken_has : (r : DiskRequest) → IsAsked k.primary.released r
+      → Keeps (λ k. record k { disk = record k.disk { taken = Some r } }) k
   taken_has r i = record {
-    stands = record { prefix = s.prefix; in_link = s.in_link; rising = s.rising; behind = s.behind; once = s.once; decided = s.decided; counted0 = s.counted0; counted1 = s.counted1; hand0 = s.hand0; hand1 = s.hand1; arrived0 = s.arrived0; arrived1 = s.arrived1; taken = i; puts = s.puts; answers = s.answers; replies = s.replies };
+    stands = record { prefix = s.prefix; in_link = s.in_link; rising = s.rising; behind = s.behind; once = s.once;
+        decided = s.decided; counted0 = s.counted0; counted1 = s.counted1; hand0 = s.hand0; hand1 = s.hand1;
+        arrived0 = s.arrived0; arrived1 = s.arrived1; taken = i; puts = s.puts; answers = s.answers; replies = s.replies };
     words = refl;
     fits = taken_fits r;
   }
 
-  answer_fits : (a : DiskAnswer) (b : Mailbox) (x : Payload) → Fits b k x → Fits b (record k { primary = record k.primary { answers = k.primary.answers ++ a ∷ [] } }) x
+  answer_fits : (a : DiskAnswer) (b : Mailbox) (x : Payload) → Fits b k x
+      → Fits b (record k { primary = record k.primary { answers = k.primary.answers ++ a ∷ [] } }) x
   answer_fits a Outbox x f = f
   answer_fits a Inbox x f = f
   answer_fits a Bytes0 x f = f
@@ -99,9 +120,13 @@ module _ (k : Knowledge) (s : Stands k) where
   answer_fits a Requests x f = f
   answer_fits a Answers x f = f
 
-  answer_has : (a : DiskAnswer) → Among a k.disk.given → Keeps (λ k. record k { primary = record k.primary { answers = k.primary.answers ++ a ∷ [] } }) k
+  answer_has : (a : DiskAnswer) → Among a k.disk.given
+      → Keeps (λ k. record k { primary = record k.primary { answers = k.primary.answers ++ a ∷ [] } }) k
   answer_has a i = record {
-    stands = record { prefix = s.prefix; in_link = s.in_link; rising = s.rising; behind = s.behind; once = s.once; decided = s.decided; counted0 = s.counted0; counted1 = s.counted1; hand0 = s.hand0; hand1 = s.hand1; arrived0 = s.arrived0; arrived1 = s.arrived1; taken = s.taken; puts = s.puts; answers = all_more k.primary.answers a (λ a. Among a k.disk.given) s.answers i; replies = s.replies };
+    stands = record { prefix = s.prefix; in_link = s.in_link; rising = s.rising; behind = s.behind; once = s.once;
+        decided = s.decided; counted0 = s.counted0; counted1 = s.counted1; hand0 = s.hand0; hand1 = s.hand1;
+        arrived0 = s.arrived0; arrived1 = s.arrived1; taken = s.taken; puts = s.puts;
+        answers = all_more k.primary.answers a (λ a. Among a k.disk.given) s.answers i; replies = s.replies };
     words = refl;
     fits = answer_fits a;
   }

@@ -65,7 +65,8 @@ put_more None puts w i = i
 put_more (Some (ask.Write v)) puts w i = among_more w puts (v ∷ []) i
 put_more (Some (ask.Read a)) puts w i = i
 
-replied_more : (t : Option DiskRequest) (puts : List SectorWrite) (a : DiskAnswer) → IsReplied puts a → IsReplied (put_by t puts) a
+replied_more : (t : Option DiskRequest) (puts : List SectorWrite) (a : DiskAnswer) → IsReplied puts a
+    → IsReplied (put_by t puts) a
 replied_more t puts (answer.Written n) i = (i.0, put_more t puts i.0 i.1, i.2)
 replied_more t puts (answer.Read r) (inl e) = inl e
 replied_more t puts (answer.Read r) (inr i) = inr (i.0, put_more t puts i.0 i.1, i.2, i.3, i.4)
@@ -142,7 +143,8 @@ module _ (k : Knowledge) (s : Stands k) where
     replies = s.replies;
   }
 
-  released_fits : (more : List Operation) (b : Mailbox) (x : Payload) → Fits b k x → Fits b (record k { primary = record k.primary { released = k.primary.released ++ more } }) x
+  released_fits : (more : List Operation) (b : Mailbox) (x : Payload) → Fits b k x
+      → Fits b (record k { primary = record k.primary { released = k.primary.released ++ more } }) x
   released_fits more Outbox (Log p) f = f
   released_fits more Outbox (Out o) f = f
   released_fits more Outbox (Request r) f = f
@@ -168,14 +170,16 @@ module _ (k : Knowledge) (s : Stands k) where
   released_fits more Answers (Out o) f = f
   released_fits more Answers (Request r) f = f
 
-  release_keeps : (more : List Operation) → Keeps (λ k. record k { primary = record k.primary { released = k.primary.released ++ more } }) k
+  release_keeps : (more : List Operation)
+      → Keeps (λ k. record k { primary = record k.primary { released = k.primary.released ++ more } }) k
   release_keeps more = record { stands = released more; words = refl; fits = released_fits more }
 
   -- the disk answered
   abbrev answered : DiskAnswer → Knowledge
   answered a = record k { disk = record k.disk { puts = put_by k.disk.taken k.disk.puts; given = k.disk.given ++ a ∷ [] } }
 
-  puts_more : (t : Option DiskRequest) → WhereSome t (IsAsked k.primary.released) → AllAre (put_by t k.disk.puts) (λ w. Among (Write w) k.primary.released)
+  puts_more : (t : Option DiskRequest) → WhereSome t (IsAsked k.primary.released)
+      → AllAre (put_by t k.disk.puts) (λ w. Among (Write w) k.primary.released)
   puts_more None i = s.puts
   puts_more (Some (ask.Write w)) i = all_more k.disk.puts w (λ w. Among (Write w) k.primary.released) s.puts i
   puts_more (Some (ask.Read a)) i = s.puts
@@ -197,7 +201,8 @@ module _ (k : Knowledge) (s : Stands k) where
     taken = s.taken;
     puts = puts_more k.disk.taken s.taken;
     answers = all_map k.primary.answers _ _ (λ x i. among_more x k.disk.given (a ∷ []) i) s.answers;
-    replies = all_more k.disk.given a (IsReplied (put_by k.disk.taken k.disk.puts)) (all_map k.disk.given _ _ (λ x i. replied_more k.disk.taken k.disk.puts x i) s.replies) can;
+    replies = all_more k.disk.given a (IsReplied (put_by k.disk.taken k.disk.puts))
+        (all_map k.disk.given _ _ (λ x i. replied_more k.disk.taken k.disk.puts x i) s.replies) can;
   }
 
   answered_fits : (a : DiskAnswer) (b : Mailbox) (x : Payload) → Fits b k x → Fits b (answered a) x
@@ -238,12 +243,14 @@ module _ (k : Knowledge) (s : Stands k) where
   fill_keeps Inbox (Out o) can = absurd can
   fill_keeps Inbox (Request r) can = absurd can
   fill_keeps Inbox (Answer a) can = absurd can
-  fill_keeps Bytes0 (Out (Byte to number byte)) can = (release_keeps (Byte to number byte ∷ []), (can, among_last (Byte to number byte) k.primary.released))
+  fill_keeps Bytes0 (Out (Byte to number byte)) can =
+      (release_keeps (Byte to number byte ∷ []), (can, among_last (Byte to number byte) k.primary.released))
   fill_keeps Bytes0 (Out (Write w)) can = absurd can
   fill_keeps Bytes0 (Log p) can = absurd can
   fill_keeps Bytes0 (Request r) can = absurd can
   fill_keeps Bytes0 (Answer a) can = absurd can
-  fill_keeps Bytes1 (Out (Byte to number byte)) can = (release_keeps (Byte to number byte ∷ []), (can, among_last (Byte to number byte) k.primary.released))
+  fill_keeps Bytes1 (Out (Byte to number byte)) can =
+      (release_keeps (Byte to number byte ∷ []), (can, among_last (Byte to number byte) k.primary.released))
   fill_keeps Bytes1 (Out (Write w)) can = absurd can
   fill_keeps Bytes1 (Log p) can = absurd can
   fill_keeps Bytes1 (Request r) can = absurd can
@@ -253,13 +260,15 @@ module _ (k : Knowledge) (s : Stands k) where
   fill_keeps Requests (Log p) can = absurd can
   fill_keeps Requests (Out o) can = absurd can
   fill_keeps Requests (Answer a) can = absurd can
-  fill_keeps Answers (Answer a) can = (record { stands = answered_stands a can; words = refl; fits = answered_fits a }, among_last a k.disk.given)
+  fill_keeps Answers (Answer a) can = (record { stands = answered_stands a can; words = refl;
+      fits = answered_fits a }, among_last a k.disk.given)
   fill_keeps Answers (Log p) can = absurd can
   fill_keeps Answers (Out o) can = absurd can
   fill_keeps Answers (Request r) can = absurd can
 
 -- whether it may be filled is known to the seat that fills it
-pub can_same : (b : Mailbox) (q : Payload) (k l : Knowledge) → k.generation ≡ l.generation → SamePart (filler b) k l → CanFill b k q → CanFill b l q
+pub can_same : (b : Mailbox) (q : Payload) (k l : Knowledge) → k.generation ≡ l.generation → SamePart (filler b) k l
+    → CanFill b k q → CanFill b l q
 can_same Outbox (Log p) k l g e can = (can.0 ∙ g, ap (λ (z : PrimaryView). get_elem? z.list p.index) (sym e) ∙ can.1)
 can_same Outbox (Out o) k l g e can = can
 can_same Outbox (Request r) k l g e can = can

@@ -13,32 +13,46 @@ use Rattle.pair_rule.specs.Knowledge.{Fits, WhereSome}
 use Rattle.pair_rule.specs.Rules.{SamePart, Sized, Same, has, Rule, first_known, first_core, first_view, new_side}
 
 abbrev homes0 : Homes
-homes0 = some None ∷ some None ∷ some None ∷ some None ∷ some None ∷ some None ∷ some None ∷ some None ∷ some None ∷ some None ∷ some None ∷ []
+homes0 = some None ∷ some None ∷ some None ∷ some None ∷ some None ∷ some None ∷ some None ∷ some None ∷ some None ∷ some None
+    ∷ some None ∷ []
 
 abbrev boxes0 : List ℕ
 boxes0 = 0 ∷ 1 ∷ 2 ∷ 3 ∷ 4 ∷ 5 ∷ []
 
 slot0 : (j w : ℕ) → get_elem? boxes0 j ≡ some w → (slot_of w ≡ j) × (get_elem? homes0 (slot_of w) ≡ some (some None))
-slot0 zero w e = subst (λ w. (slot_of w ≡ 0) × (get_elem? homes0 (slot_of w) ≡ some (some None))) (some-injective 0 w e) (refl, refl)
-slot0 (suc zero) w e = subst (λ w. (slot_of w ≡ 1) × (get_elem? homes0 (slot_of w) ≡ some (some None))) (some-injective 1 w e) (refl, refl)
-slot0 (suc (suc zero)) w e = subst (λ w. (slot_of w ≡ 2) × (get_elem? homes0 (slot_of w) ≡ some (some None))) (some-injective 2 w e) (refl, refl)
-slot0 (suc (suc (suc zero))) w e = subst (λ w. (slot_of w ≡ 3) × (get_elem? homes0 (slot_of w) ≡ some (some None))) (some-injective 3 w e) (refl, refl)
-slot0 (suc (suc (suc (suc zero)))) w e = subst (λ w. (slot_of w ≡ 4) × (get_elem? homes0 (slot_of w) ≡ some (some None))) (some-injective 4 w e) (refl, refl)
-slot0 (suc (suc (suc (suc (suc zero))))) w e = subst (λ w. (slot_of w ≡ 5) × (get_elem? homes0 (slot_of w) ≡ some (some None))) (some-injective 5 w e) (refl, refl)
+slot0 zero w e = subst (λ w. (slot_of w ≡ 0) × (get_elem? homes0 (slot_of w) ≡ some (some None))) (some-injective 0 w e)
+    (refl, refl)
+slot0 (suc zero) w e = subst (λ w. (slot_of w ≡ 1) × (get_elem? homes0 (slot_of w) ≡ some (some None))) (some-injective 1 w e)
+    (refl, refl)
+slot0 (suc (suc zero)) w e = subst (λ w. (slot_of w ≡ 2) × (get_elem? homes0 (slot_of w) ≡ some (some None)))
+    (some-injective 2 w e) (refl, refl)
+slot0 (suc (suc (suc zero))) w e = subst (λ w. (slot_of w ≡ 3) × (get_elem? homes0 (slot_of w) ≡ some (some None)))
+    (some-injective 3 w e) (refl, refl)
+slot0 (suc (suc (suc (suc zero)))) w e = subst (λ w. (slot_of w ≡ 4) × (get_elem? homes0 (slot_of w) ≡ some (some None)))
+    (some-injective 4 w e) (refl, refl)
+slot0 (suc (suc (suc (suc (suc zero))))) w e = subst (λ w. (slot_of w ≡ 5) × (get_elem? homes0 (slot_of w) ≡ some (some None)))
+    (some-injective 5 w e) (refl, refl)
 slot0 (suc (suc (suc (suc (suc (suc j)))))) w e = absurd (some-ne-none w (sym e))
 
 abbrev hands0 : List ℕ
 hands0 = 6 ∷ 7 ∷ 8 ∷ 9 ∷ 10 ∷ []
 
 hand0 : (s h : ℕ) → get_elem? hands0 s ≡ some h → (h ≡ 6 + s) × (h < 11) × (get_elem? homes0 h ≡ some (some None))
-hand0 zero h e = subst (λ h. (h ≡ 6) × (h < 11) × (get_elem? homes0 h ≡ some (some None))) (some-injective 6 h e) (refl, omega arith, refl)
-hand0 (suc zero) h e = subst (λ h. (h ≡ 7) × (h < 11) × (get_elem? homes0 h ≡ some (some None))) (some-injective 7 h e) (refl, omega arith, refl)
-hand0 (suc (suc zero)) h e = subst (λ h. (h ≡ 8) × (h < 11) × (get_elem? homes0 h ≡ some (some None))) (some-injective 8 h e) (refl, omega arith, refl)
-hand0 (suc (suc (suc zero))) h e = subst (λ h. (h ≡ 9) × (h < 11) × (get_elem? homes0 h ≡ some (some None))) (some-injective 9 h e) (refl, omega arith, refl)
-hand0 (suc (suc (suc (suc zero)))) h e = subst (λ h. (h ≡ 10) × (h < 11) × (get_elem? homes0 h ≡ some (some None))) (some-injective 10 h e) (refl, omega arith, refl)
+hand0 zero h e = subst (λ h. (h ≡ 6) × (h < 11) × (get_elem? homes0 h ≡ some (some None))) (some-injective 6 h e)
+    (refl, omega arith, refl)
+hand0 (suc zero) h e = subst (λ h. (h ≡ 7) × (h < 11) × (get_elem? homes0 h ≡ some (some None))) (some-injective 7 h e)
+    (refl, omega arith, refl)
+hand0 (suc (suc zero)) h e = subst (λ h. (h ≡ 8) × (h < 11) × (get_elem? homes0 h ≡ some (some None))) (some-injective 8 h e)
+    (refl, omega arith, refl)
+hand0 (suc (suc (suc zero))) h e = subst (λ h. (h ≡ 9) × (h < 11) × (get_elem? homes0 h ≡ some (some None)))
+    (some-injective 9 h e) (refl, omega arith, refl)
+hand0 (suc (suc (suc (suc zero)))) h e =
+    subst (λ h. (h ≡ 10) × (h < 11) × (get_elem? homes0 h ≡ some (some None))) (some-injective 10 h e) (refl, omega arith, refl)
 hand0 (suc (suc (suc (suc (suc s))))) h e = absurd (some-ne-none h (sym e))
 
-box0 : (b : Mailbox) → (get_elem? boxes0 (box_index b) ≡ some (box_index b)) × (get_elem? (first_core 0).fills (box_index b) ≡ some new_side) × Boxed (box_index b) homes0 new_side new_side (is_full (box_index b))
+box0 : (b : Mailbox) → (get_elem? boxes0 (box_index b) ≡ some (box_index b)) ×
+    (get_elem? (first_core 0).fills (box_index b) ≡ some new_side) × Boxed (box_index b) homes0 new_side new_side
+    (is_full (box_index b))
 box0 Outbox = (refl, refl, (refl, refl, (None, refl)))
 box0 Inbox = (refl, refl, (refl, refl, (None, refl)))
 box0 Bytes0 = (refl, refl, (refl, refl, (None, refl)))
@@ -75,7 +89,9 @@ opens g = let v : SeatView = first_view g in record {
   at = λ n. 0;
   seats = λ n. record {
     here = (v, refl, first_has g n);
-    only = λ j w e hw. let a = alone v w j e in (a.0, subst (λ (z : SeatView). Same n z.core (first_core g)) a.1 record { sized = first_sized g; generation = refl; hand = refl; has_slot = refl; fills = λ b e. refl; empties = λ b e. refl; known = same_all n (first_known g) });
+    only = λ j w e hw. let a = alone v w j e in
+        (a.0, subst (λ (z : SeatView). Same n z.core (first_core g)) a.1 record { sized = first_sized g; generation = refl;
+        hand = refl; has_slot = refl; fills = λ b e. refl; empties = λ b e. refl; known = same_all n (first_known g) });
   };
   facts = record {
     generation = refl;
@@ -92,15 +108,18 @@ opens g = let v : SeatView = first_view g in record {
     };
     boxed = λ b w f e aw af ae. let z = box0 b in
         subst (λ (x : ℕ × Side × Side). Boxed x.0 homes0 x.1 x.2 (is_full x.0))
-        (λ i. (some-injective (box_index b) w (sym z.0 ∙ aw) i, some-injective new_side f (sym z.1 ∙ af) i, some-injective new_side e (sym z.1 ∙ ae) i)) z.2;
-    fitting = λ b f e. let z = box0 b in subst (λ (x : Side). WhereSome x.last (Fits b (first_known g))) (some-injective new_side f (sym z.1 ∙ e)) tt;
+        (λ i. (some-injective (box_index b) w (sym z.0 ∙ aw) i, some-injective new_side f (sym z.1 ∙ af) i,
+            some-injective new_side e (sym z.1 ∙ ae) i)) z.2;
+    fitting = λ b f e. let z = box0 b in subst (λ (x : Side). WhereSome x.last (Fits b (first_known g)))
+        (some-injective new_side f (sym z.1 ∙ e)) tt;
     stands = record {
       prefix = ([], refl);
       in_link = tt;
       rising = le_refl 0;
       behind = le_refl 0;
       once = inl refl;
-      decided = record { few = omega arith; same = λ x y. absurd (x refl); primary_lost = λ e. absurd (omega arith); backup_lost = λ e. absurd (omega arith) };
+      decided = record { few = omega arith; same = λ x y. absurd (x refl); primary_lost = λ e. absurd (omega arith);
+          backup_lost = λ e. absurd (omega arith) };
       counted0 = le_refl 0;
       counted1 = le_refl 0;
       hand0 = tt;

@@ -23,7 +23,9 @@ use Rattle.pair_rule.proofs.BoxSwaps.{Table}
 use Rattle.pair_rule.proofs.BoxSteps.{own}
 use Rattle.pair_rule.proofs.SplitSeats.{no_true, nobody_has}
 
-at_mixed : (who : Mailbox → Who) (s : Who) (own rest : List Side) (b : Mailbox) → get_elem? (mixed who s own rest) (box_index b) ≡ some (which (eqb (seat_index (who b)) (seat_index s)) (side_at own (box_index b)) (side_at rest (box_index b)))
+at_mixed : (who : Mailbox → Who) (s : Who) (own rest : List Side) (b : Mailbox)
+    → get_elem? (mixed who s own rest) (box_index b) ≡ some
+    (which (eqb (seat_index (who b)) (seat_index s)) (side_at own (box_index b)) (side_at rest (box_index b)))
 at_mixed who s own rest Outbox = refl
 at_mixed who s own rest Inbox = refl
 at_mixed who s own rest Bytes0 = refl
@@ -31,11 +33,19 @@ at_mixed who s own rest Bytes1 = refl
 at_mixed who s own rest Requests = refl
 at_mixed who s own rest Answers = refl
 
-mixed_own : (who : Mailbox → Who) (s : Who) (own rest : List Side) (b : Mailbox) → length own ≡ 6 → who b ≡ s → get_elem? (mixed who s own rest) (box_index b) ≡ get_elem? own (box_index b)
-mixed_own who s own rest b six is = at_mixed who s own rest b ∙ ap (λ (z : Bool). some (which z (side_at own (box_index b)) (side_at rest (box_index b)))) (eq-eqb (seat_index (who b)) (seat_index s) (ap seat_index is)) ∙ sym (at_or own (box_index b) new_side (let few = few_boxes b in omega arith))
+mixed_own : (who : Mailbox → Who) (s : Who) (own rest : List Side) (b : Mailbox) → length own ≡ 6 → who b ≡ s
+    → get_elem? (mixed who s own rest) (box_index b) ≡ get_elem? own (box_index b)
+mixed_own who s own rest b six is = at_mixed who s own rest b ∙ ap
+    (λ (z : Bool). some (which z (side_at own (box_index b)) (side_at rest (box_index b))))
+    (eq-eqb (seat_index (who b)) (seat_index s) (ap seat_index is)) ∙ sym
+    (at_or own (box_index b) new_side (let few = few_boxes b in omega arith))
 
-mixed_rest : (who : Mailbox → Who) (s : Who) (own rest : List Side) (b : Mailbox) → length rest ≡ 6 → seat_index (who b) ≢ seat_index s → get_elem? (mixed who s own rest) (box_index b) ≡ get_elem? rest (box_index b)
-mixed_rest who s own rest b six ne = at_mixed who s own rest b ∙ ap (λ (z : Bool). some (which z (side_at own (box_index b)) (side_at rest (box_index b)))) (ne_eqb (seat_index (who b)) (seat_index s) ne) ∙ sym (at_or rest (box_index b) new_side (let few = few_boxes b in omega arith))
+mixed_rest : (who : Mailbox → Who) (s : Who) (own rest : List Side) (b : Mailbox) → length rest ≡ 6
+    → seat_index (who b) ≢ seat_index s → get_elem? (mixed who s own rest) (box_index b) ≡ get_elem? rest (box_index b)
+mixed_rest who s own rest b six ne = at_mixed who s own rest b ∙ ap
+    (λ (z : Bool). some (which z (side_at own (box_index b)) (side_at rest (box_index b))))
+    (ne_eqb (seat_index (who b)) (seat_index s) ne) ∙ sym
+    (at_or rest (box_index b) new_side (let few = few_boxes b in omega arith))
 
 know_gen : (s : Who) (own rest : Knowledge) → (know_of s own rest).generation ≡ rest.generation
 know_gen Primary own rest = refl
@@ -51,7 +61,8 @@ know_own Backup own rest core e = e
 know_own Terminal own rest core e = e
 know_own Disk own rest core e = e
 
-know_rest : (s n : Who) (own rest core : Knowledge) → (seat_index n ≢ seat_index s) → SamePart n rest core → SamePart n (know_of s own rest) core
+know_rest : (s n : Who) (own rest core : Knowledge) → (seat_index n ≢ seat_index s) → SamePart n rest core
+    → SamePart n (know_of s own rest) core
 know_rest Primary Primary own rest core ne e = absurd (ne refl)
 know_rest Primary Link own rest core ne e = e
 know_rest Primary Backup own rest core ne e = e
@@ -80,14 +91,17 @@ know_rest Disk Disk own rest core ne e = absurd (ne refl)
 
 module _ (s : Who) (own rest core : Core) (z : Sized rest) (same : rest.known.generation ≡ core.known.generation) where
   part_sized : Sized (part_of s own rest)
-  part_sized = record { hands = length-set rest.hands (seat_index s) _ ∙ z.hands; has_slot = length-set rest.has_slot (seat_index s) _ ∙ z.has_slot; fills = refl; empties = refl }
+  part_sized = record { hands = length-set rest.hands (seat_index s) _ ∙ z.hands;
+      has_slot = length-set rest.has_slot (seat_index s) _ ∙ z.has_slot; fills = refl; empties = refl }
 
   part_own : Same s own core → Same s (part_of s own rest) core
   part_own e = let few = few_seats s in record {
     sized = part_sized;
     generation = know_gen s own.known rest.known ∙ same;
-    hand = set_here rest.hands (seat_index s) _ (let a = z.hands in omega arith) ∙ sym (at_or own.hands (seat_index s) 0 (let a = e.sized.hands in omega arith)) ∙ e.hand;
-    has_slot = set_here rest.has_slot (seat_index s) _ (let a = z.has_slot in omega arith) ∙ sym (at_or own.has_slot (seat_index s) false (let a = e.sized.has_slot in omega arith)) ∙ e.has_slot;
+    hand = set_here rest.hands (seat_index s) _ (let a = z.hands in omega arith) ∙ sym
+        (at_or own.hands (seat_index s) 0 (let a = e.sized.hands in omega arith)) ∙ e.hand;
+    has_slot = set_here rest.has_slot (seat_index s) _ (let a = z.has_slot in omega arith) ∙ sym
+        (at_or own.has_slot (seat_index s) false (let a = e.sized.has_slot in omega arith)) ∙ e.has_slot;
     fills = λ b is. mixed_own filler s own.fills rest.fills b e.sized.fills is ∙ e.fills b is;
     empties = λ b is. mixed_own emptier s own.empties rest.empties b e.sized.empties is ∙ e.empties b is;
     known = know_own s own.known rest.known core.known e.known;
@@ -100,12 +114,15 @@ module _ (s : Who) (own rest core : Core) (z : Sized rest) (same : rest.known.ge
     hand = set_else rest.hands (seat_index s) (seat_index n) _ ne ∙ e.hand;
     has_slot = set_else rest.has_slot (seat_index s) (seat_index n) _ ne ∙ e.has_slot;
     fills = λ b is. mixed_rest filler s own.fills rest.fills b z.fills (λ q. ne (ap seat_index (sym is) ∙ q)) ∙ e.fills b is;
-    empties = λ b is. mixed_rest emptier s own.empties rest.empties b z.empties (λ q. ne (ap seat_index (sym is) ∙ q)) ∙ e.empties b is;
+    empties = λ b is. mixed_rest emptier s own.empties rest.empties b z.empties (λ q. ne (ap seat_index (sym is) ∙ q))
+        ∙ e.empties b is;
     known = know_rest s n own.known rest.known core.known ne e.known;
   }
 
-module _ (views : List SeatView) (core : Core) (at : Who → ℕ) (seats : (n : Who) → Has views core n (at n)) (id i : ℕ) (v w : SeatView) (s : Who)
-    (here : get_elem? views id ≡ some v) (apart : i ≢ id) (there : get_elem? views i ≡ some w) (leads : has v Primary) (lacks : get_elem? v.mine (seat_index s) ≡ some false) (mine : has w s)
+module _ (views : List SeatView) (core : Core) (at : Who → ℕ) (seats : (n : Who)
+    → Has views core n (at n)) (id i : ℕ) (v w : SeatView) (s : Who)
+    (here : get_elem? views id ≡ some v) (apart : i ≢ id) (there : get_elem? views i ≡ some w) (leads : has v Primary)
+        (lacks : get_elem? v.mine (seat_index s) ≡ some false) (mine : has w s)
     (single : (n : Who) → (seat_index n ≢ seat_index s) → get_elem? w.mine (seat_index n) ≡ some false) where
   abbrev joined : SeatView
   joined = with_part s v w
@@ -118,39 +135,54 @@ module _ (views : List SeatView) (core : Core) (at : Who → ℕ) (seats : (n : 
 
   join_own : Has after core s id
   join_own = let e = (seats s).only i w there mine in record {
-    here = (joined, set_else (set views id joined) i id spent_view (λ q. apart (sym q)) ∙ set_there views id v joined here, set_there v.mine (seat_index s) false true lacks);
+    here = (joined, set_else (set views id joined) i id spent_view (λ q. apart (sym q)) ∙ set_there views id v joined here,
+        set_there v.mine (seat_index s) false true lacks);
     only = λ j x ex hx. ⊎_elim
         (λ (t : (j ≡ i) × (spent_view ≡ x)). no_true (nobody_has s) (subst (λ (z : SeatView). has z s) (sym t.1) hx))
         (λ (t : (j ≢ i) × (get_elem? (set views id joined) j ≡ some x)). ⊎_elim
-        (λ (u : (j ≡ id) × (joined ≡ x)). (u.0, subst (λ (z : SeatView). Same s z.core core) u.1 (part_own s w.core v.core core lead.sized lead.generation e.1)))
+        (λ (u : (j ≡ id) × (joined ≡ x)).
+            (u.0, subst (λ (z : SeatView). Same s z.core core) u.1
+            (part_own s w.core v.core core lead.sized lead.generation e.1)))
         (λ (u : (j ≢ id) × (get_elem? views j ≡ some x)). absurd (t.0 (((seats s).only j x u.1 hx).0 ∙ sym e.0)))
         (at_set views id j joined x t.1))
         (at_set (set views id joined) i j spent_view x ex);
   }
 
   join_other : (n : Who) → (seat_index n ≢ seat_index s) → Has after core n (at n)
-  join_other n ne = let h = seats n in let keeps : get_elem? joined.mine (seat_index n) ≡ get_elem? v.mine (seat_index n) = set_else v.mine (seat_index s) (seat_index n) true ne in
-      let not_i : at n ≢ i = λ q. let z = h.here in no_true (single n ne) (subst (λ (x : SeatView). has x n) (some-injective z.0 w (sym z.1 ∙ ap (get_elem? views) q ∙ there)) z.2) in record {
+  join_other n ne = let h = seats n in let keeps : get_elem? joined.mine (seat_index n) ≡ get_elem? v.mine (seat_index n) =
+      set_else v.mine (seat_index s) (seat_index n) true ne in
+      let not_i : at n ≢ i = λ q. let z =
+          h.here in no_true (single n ne)
+          (subst (λ (x : SeatView). has x n) (some-injective z.0 w (sym z.1 ∙ ap (get_elem? views) q ∙ there)) z.2) in record {
         here = dite (ℕ_discrete (at n) id)
             (λ e. (
               joined,
-              set_else (set views id joined) i (at n) spent_view not_i ∙ ap (get_elem? (set views id joined)) e ∙ set_there views id v joined here,
-              keeps ∙ (let q = h.here in subst (λ (x : SeatView). has x n) (some-injective q.0 v (sym q.1 ∙ ap (get_elem? views) e ∙ here)) q.2),
+              set_else (set views id joined) i (at n) spent_view not_i ∙ ap (get_elem? (set views id joined)) e
+                  ∙ set_there views id v joined here,
+              keeps ∙ (let q = h.here in subst (λ (x : SeatView). has x n)
+                  (some-injective q.0 v (sym q.1 ∙ ap (get_elem? views) e ∙ here)) q.2),
             ))
-            (λ ne'. (h.here.0, set_else (set views id joined) i (at n) spent_view not_i ∙ set_else views id (at n) joined ne' ∙ h.here.1, h.here.2));
+            (λ ne'. (h.here.0, set_else (set views id joined) i (at n) spent_view not_i ∙ set_else views id (at n) joined ne'
+                ∙ h.here.1, h.here.2));
         only = λ j x ex hx. ⊎_elim
             (λ (t : (j ≡ i) × (spent_view ≡ x)). no_true (nobody_has n) (subst (λ (z : SeatView). has z n) (sym t.1) hx))
             (λ (t : (j ≢ i) × (get_elem? (set views id joined) j ≡ some x)). ⊎_elim
-            (λ (u : (j ≡ id) × (joined ≡ x)). let o = h.only id v here (sym keeps ∙ subst (λ (z : SeatView). has z n) (sym u.1) hx) in (u.0 ∙ o.0, subst (λ (z : SeatView). Same n z.core core) u.1 (part_rest s w.core v.core core lead.sized lead.generation n ne o.1)))
+            (λ (u : (j ≡ id) × (joined ≡ x)). let o =
+                h.only id v here (sym keeps ∙ subst (λ (z : SeatView). has z n) (sym u.1) hx) in
+                (u.0 ∙ o.0, subst (λ (z : SeatView). Same n z.core core) u.1
+                (part_rest s w.core v.core core lead.sized lead.generation n ne o.1)))
             (λ (u : (j ≢ id) × (get_elem? views j ≡ some x)). h.only j x u.1 hx)
             (at_set views id j joined x t.1))
             (at_set (set views id joined) i j spent_view x ex);
       }
 
   join_seat : (n : Who) → (k : ℕ) × Has after core n k
-  join_seat n = dite (ℕ_discrete (seat_index n) (seat_index s)) (λ e. (id, subst (λ t. Has after core t id) (sym (one_seat n s e)) join_own)) (λ ne. (at n, join_other n ne))
+  join_seat n = dite (ℕ_discrete (seat_index n) (seat_index s))
+      (λ e. (id, subst (λ t. Has after core t id) (sym (one_seat n s e)) join_own)) (λ ne. (at n, join_other n ne))
 
-pub joins : (g id : ℕ) (v : SeatView) (i : ℕ) (w : SeatView) (s : Who) → has v Primary → get_elem? v.mine (seat_index s) ≡ some false → has w s → ((n : Who) → (seat_index n ≢ seat_index s) → get_elem? w.mine (seat_index n) ≡ some false)
+pub joins : (g id : ℕ) (v : SeatView) (i : ℕ) (w : SeatView) (s : Who) → has v Primary
+    → get_elem? v.mine (seat_index s) ≡ some false → has w s
+    → ((n : Who) → (seat_index n ≢ seat_index s) → get_elem? w.mine (seat_index n) ≡ some false)
     → Joins (Rule g) id v i w (with_part s v w) spent_view
 joins g id v i w s leads lacks mine single st r here apart there =
     let there' : get_elem? st.views i ≡ some w = sym (set_else st.views id i (with_part s v w) apart) ∙ there in record {
@@ -163,8 +195,10 @@ joins g id v i w s leads lacks mine single st r here apart there =
     }
 
 -- the last words, and what a seat that has every part knows, are those of one moment: the words are those that it gives
-pub settles : (g id : ℕ) (v : SeatView) (ws : List ℕ) (xs : List (Option Payload)) → has v Primary → has v Backup → has v Terminal → has v Disk → Final (Seen (Rule g) id v) ws xs
-    → (k : Knowledge) × Stands k × (k.primary ≡ v.core.known.primary) × (k.backup ≡ v.core.known.backup) × (k.terminal ≡ v.core.known.terminal) × (k.disk ≡ v.core.known.disk) × ((boxes : List ℕ) × (ws ≡ words_of k ++ boxes))
+pub settles : (g id : ℕ) (v : SeatView) (ws : List ℕ) (xs : List (Option Payload)) → has v Primary → has v Backup → has v Terminal
+    → has v Disk → Final (Seen (Rule g) id v) ws xs
+    → (k : Knowledge) × Stands k × (k.primary ≡ v.core.known.primary) × (k.backup ≡ v.core.known.backup) ×
+        (k.terminal ≡ v.core.known.terminal) × (k.disk ≡ v.core.known.disk) × ((boxes : List ℕ) × (ws ≡ words_of k ++ boxes))
 settles g id v ws xs p b t d f = let st : Table = f.0 in let r : Rule g st = f.1.0 in let at = f.1.1 in (
   r.core.known,
   r.facts.stands,

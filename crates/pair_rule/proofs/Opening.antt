@@ -33,11 +33,17 @@ bare Backup g = refl
 bare Terminal g = refl
 bare Disk g = refl
 
-pub takes_slot_first : (g n id : ℕ) (me : Mine) (v : SeatView) (s : Who) (h gen : ℕ) → me ≡ (v, []) → has v s → v.core ≡ first_core gen → get_elem? (first_core gen).hands (seat_index s) ≡ some h → Allows (Rule g) n id me 0 (λ x. x) (takes_first_slot s me)
-takes_slot_first g n id me v s h gen is mine core hand = subst (λ (m : Mine). Allows (Rule g) n id m 0 (λ x. x) (takes_first_slot s m)) (sym is)
-    (first_slot_allowed g n id (v, []) s h mine (subst (λ c. get_elem? c.hands (seat_index s) ≡ some h) (sym core) hand) (subst (λ c. get_elem? c.has_slot (seat_index s) ≡ some false) (sym core) (bare s gen)))
+pub takes_slot_first : (g n id : ℕ) (me : Mine) (v : SeatView) (s : Who) (h gen : ℕ) → me ≡ (v, []) → has v s
+    → v.core ≡ first_core gen → get_elem? (first_core gen).hands (seat_index s) ≡ some h
+    → Allows (Rule g) n id me 0 (λ x. x) (takes_first_slot s me)
+takes_slot_first g n id me v s h gen is mine core hand =
+    subst (λ (m : Mine). Allows (Rule g) n id m 0 (λ x. x) (takes_first_slot s m)) (sym is)
+    (first_slot_allowed g n id (v, []) s h mine (subst (λ c. get_elem? c.hands (seat_index s) ≡ some h) (sym core) hand)
+        (subst (λ c. get_elem? c.has_slot (seat_index s) ≡ some false) (sym core) (bare s gen)))
 
-pub opened : (s : Who) (gen : ℕ) (table id : TableId) (me me' : Mine) (r h : ℕ) (v : SeatView) → id ≡ table → me ≡ (v, []) → takes_first_slot s me r me' → has v s → v.core ≡ first_core gen → v.mine ≡ set nobody (seat_index s) true → get_elem? (first_core gen).hands (seat_index s) ≡ some h → h < 11 → Opened s gen table id me' h zeros zeros
+pub opened : (s : Who) (gen : ℕ) (table id : TableId) (me me' : Mine) (r h : ℕ) (v : SeatView) → id ≡ table → me ≡ (v, [])
+    → takes_first_slot s me r me' → has v s → v.core ≡ first_core gen → v.mine ≡ set nobody (seat_index s) true
+    → get_elem? (first_core gen).hands (seat_index s) ≡ some h → h < 11 → Opened s gen table id me' h zeros zeros
 opened s gen table id me me' r h v same is told mine core single hand small =
     let t = subst (λ (m : Mine). takes_first_slot s m r me') is told in
     let hand' = subst (λ c. get_elem? c.hands (seat_index s) ≡ some h) (sym core) hand in
@@ -47,8 +53,12 @@ opened s gen table id me me' r h v same is told mine core single hand small =
         fills_are = ap (λ (z : SeatView). numbers z.core.fills) (sym whole);
         empties_are = ap (λ (z : SeatView). numbers z.core.empties) (sym whole);
         single = ap (λ (z : SeatView). z.mine) f ∙ single;
-        holds = subst (λ (m : Mine). Holds s m h) (λ i. (sym f i, sym e i)) (subst (λ c. Holds s (with_core v (with_slot s true c), (h, None) ∷ []) h) (sym core)
-            record { mine = mine; hand = hand; has_slot = set_there (first_core gen).has_slot (seat_index s) false true (bare s gen); one = (None, refl); small = small; sized = record { hands = refl; has_slot = length-set (first_core gen).has_slot (seat_index s) true; fills = refl; empties = refl } });
+        holds = subst (λ (m : Mine). Holds s m h) (λ i. (sym f i, sym e i))
+            (subst (λ c. Holds s (with_core v (with_slot s true c), (h, None) ∷ []) h) (sym core)
+            record { mine = mine; hand = hand;
+                has_slot = set_there (first_core gen).has_slot (seat_index s) false true (bare s gen); one = (None, refl);
+                small = small; sized = record { hands = refl; has_slot = length-set (first_core gen).has_slot (seat_index s) true;
+                fills = refl; empties = refl } });
       };
       core = ap (λ (z : SeatView). z.core) f ∙ ap (with_slot s true) core;
     }

@@ -35,7 +35,8 @@ among_either x y [] a = ⊎_elim (λ e. inr e) (λ i. absurd i) a
 among_either x y (z ∷ xs) a = ⊎_elim (λ e. inl (inl e)) (λ i. ⊎_elim (λ j. inl (inr j)) (λ e. inr e) (among_either x y xs i)) a
 
 -- of the answers with one of a write more, those of reads are as before
-pub no_read : (r : SectorRead) (n : ℕ) (given : List DiskAnswer) → Among (answer.Read r) (given ++ answer.Written n ∷ []) → Among (answer.Read r) given
+pub no_read : (r : SectorRead) (n : ℕ) (given : List DiskAnswer) → Among (answer.Read r) (given ++ answer.Written n ∷ [])
+    → Among (answer.Read r) given
 no_read r n [] (inl e) = absurd (let c : answer.Read r ≡ answer.Written n = e in cc)
 no_read r n [] (inr a) = a
 no_read r n (x ∷ given) (inl e) = inl e
@@ -55,16 +56,20 @@ map_more f [] x = refl
 map_more f (y ∷ xs) x = ap (λ l. f y ∷ l) (map_more f xs x)
 
 -- one message more that the list or the values of held have; and a list or values that grow
-pub only_more : (list : List Entry) (helds : List ℕ) (x : Message) (messages : List Message) → IsSentBy list helds x → ((m : Message) → Among m messages → IsSentBy list helds m)
+pub only_more : (list : List Entry) (helds : List ℕ) (x : Message) (messages : List Message) → IsSentBy list helds x
+    → ((m : Message) → Among m messages → IsSentBy list helds m)
     → (m : Message) → Among m (messages ++ x ∷ []) → IsSentBy list helds m
-only_more list helds x messages is all m at = ⊎_elim (λ (old : Among m messages). all m old) (λ (e : m ≡ x). subst (IsSentBy list helds) (sym e) is) (among_either m x messages at)
+only_more list helds x messages is all m at =
+    ⊎_elim (λ (old : Among m messages). all m old) (λ (e : m ≡ x). subst (IsSentBy list helds) (sym e) is)
+    (among_either m x messages at)
 
 get_still : {A : Type 0} (xs ys : List A) (i : ℕ) (x : A) → slice_get xs i ≡ Some x → slice_get (xs ++ ys) i ≡ Some x
 get_still [] ys i x e = absurd (let c : None ≡ Some x = e in cc)
 get_still (y ∷ xs) ys zero x e = e
 get_still (y ∷ xs) ys (suc i) x e = get_still xs ys i x e
 
-pub only_longer : (list : List Entry) (helds : List ℕ) (e : Entry) (m : Message) → IsSentBy list helds m → IsSentBy (list ++ e ∷ []) helds m
+pub only_longer : (list : List Entry) (helds : List ℕ) (e : Entry) (m : Message) → IsSentBy list helds m
+    → IsSentBy (list ++ e ∷ []) helds m
 only_longer list helds e (LogEntry generation i x) is = (is.0, get_still list (e ∷ []) i x is.1)
 only_longer list helds e (Acknowledgement generation held replayed) is = is
 only_longer list helds e (ImagePart generation i part) is = tt
@@ -72,7 +77,8 @@ only_longer list helds e (Released o) is = tt
 only_longer list helds e (WriteDone n) is = tt
 only_longer list helds e (world.SectorRead address n bytes) is = tt
 
-pub only_held : (list : List Entry) (helds : List ℕ) (n : ℕ) (m : Message) → IsSentBy list helds m → IsSentBy list (helds ++ n ∷ []) m
+pub only_held : (list : List Entry) (helds : List ℕ) (n : ℕ) (m : Message) → IsSentBy list helds m
+    → IsSentBy list (helds ++ n ∷ []) m
 only_held list helds n (LogEntry generation i x) is = is
 only_held list helds n (Acknowledgement generation held replayed) is = (is.0, is.1, among_more held helds (n ∷ []) is.2)
 only_held list helds n (ImagePart generation i part) is = tt
@@ -81,13 +87,18 @@ only_held list helds n (WriteDone m) is = tt
 only_held list helds n (world.SectorRead address m bytes) is = tt
 
 -- what is acknowledged stays so, where more is seen and more moves are made
-pub later_covered : (moves : List Move) (seen more : ℕ) (o : Operation) → seen ≤ more → IsAcknowledged moves seen o → IsAcknowledged moves more o
-later_covered moves seen more o le a = record { front = a.front; rest = a.rest; given = a.given; marked = (let m = a.marked in omega (arith, m, le)) }
+pub later_covered : (moves : List Move) (seen more : ℕ) (o : Operation) → seen ≤ more → IsAcknowledged moves seen o
+    → IsAcknowledged moves more o
+later_covered moves seen more o le a = record { front = a.front; rest = a.rest; given = a.given;
+    marked = (let m = a.marked in omega (arith, m, le)) }
 
-pub longer_covered : (moves more : List Move) (seen : ℕ) (o : Operation) → IsAcknowledged moves seen o → IsAcknowledged (moves ++ more) seen o
-longer_covered moves more seen o a = record { front = a.front; rest = a.rest ++ more; given = ap (λ l. l ++ more) a.given ∙ append_assoc a.front (Do (Some o) ∷ a.rest) more; marked = a.marked }
+pub longer_covered : (moves more : List Move) (seen : ℕ) (o : Operation) → IsAcknowledged moves seen o
+    → IsAcknowledged (moves ++ more) seen o
+longer_covered moves more seen o a = record { front = a.front; rest = a.rest ++ more;
+    given = ap (λ l. l ++ more) a.given ∙ append_assoc a.front (Do (Some o) ∷ a.rest) more; marked = a.marked }
 
-module _ {S : Type 0} (M : Machine S) (C : Copying S) (typed0 typed1 : List ℕ) (k : Knowledge) (w : World S) (z : Shows M typed0 typed1 k w) where
+module _ {S : Type 0} (M : Machine S) (C : Copying S) (typed0 typed1 : List ℕ) (k : Knowledge) (w : World S)
+    (z : Shows M typed0 typed1 k w) where
   -- the nodes, while nobody has asked
   abbrev pub serving : Node S
   serving = record (primary_node k z.moves z.s) { role = Primary; running = true }
@@ -96,7 +107,9 @@ module _ {S : Type 0} (M : Machine S) (C : Copying S) (typed0 typed1 : List ℕ)
   waiting = record (backup_node M k) { role = Backup; running = true }
 
   pub first_node : k.primary.winner ≡ 0 → slice_get w.nodes 0 ≡ Some serving
-  first_node none = ap (λ l. slice_get l 0) z.nodes ∙ (λ i. Some (record serving { role = primary_role (none i); running = primary_runs (none i) }))
+  first_node none = ap (λ l. slice_get l 0) z.nodes ∙
+      (λ i. Some (record serving { role = primary_role (none i); running = primary_runs (none i) }))
 
   pub second_node : k.backup.winner ≡ 0 → slice_get w.nodes 1 ≡ Some waiting
-  second_node none = ap (λ l. slice_get l 1) z.nodes ∙ (λ i. Some (record waiting { role = backup_role (none i); running = backup_runs (none i) }))
+  second_node none = ap (λ l. slice_get l 1) z.nodes ∙
+      (λ i. Some (record waiting { role = backup_role (none i); running = backup_runs (none i) }))

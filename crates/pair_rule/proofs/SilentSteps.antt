@@ -10,21 +10,54 @@ use Rattle.pair_rule.specs.Law.{Keeps, CountsNone, Carries, SeesCount, TakesByte
 use Rattle.pair_rule.specs.Shown.{Shows}
 
 -- of the answers with one of a read more, those of writes are as before
-no_write : (n : ℕ) (r : SectorRead) (given : List DiskAnswer) → Among (answer.Written n) (given ++ answer.Read r ∷ []) → Among (answer.Written n) given
+no_write : (n : ℕ) (r : SectorRead) (given : List DiskAnswer) → Among (answer.Written n) (given ++ answer.Read r ∷ [])
+    → Among (answer.Written n) given
 no_write n r [] (inl e) = absurd (let c : answer.Written n ≡ answer.Read r = e in cc)
 no_write n r [] (inr a) = a
 no_write n r (x ∷ given) (inl e) = inl e
 no_write n r (x ∷ given) (inr a) = inr (no_write n r given a)
 
 pub silent_shows : {S : Type 0} → SilentStepsShow S
-silent_shows M typed0 typed1 k new w z (Carries p) = record { moves = z.moves; s = z.s; recorded = z.recorded; entries_are = z.entries_are; count = z.count; nodes = z.nodes; sent = record { logs = z.sent.logs; acks = z.sent.acks; operations = z.sent.operations; writes = z.sent.writes }; terminals = z.terminals; winners = z.winners; puts = z.puts; issued = z.issued; done = z.done; first_reads = z.first_reads; covered = z.covered; only = z.only }
-silent_shows M typed0 typed1 k new w z (SeesCount zero n more) = record { moves = z.moves; s = z.s; recorded = z.recorded; entries_are = z.entries_are; count = z.count; nodes = z.nodes; sent = record { logs = z.sent.logs; acks = z.sent.acks; operations = z.sent.operations; writes = z.sent.writes }; terminals = z.terminals; winners = z.winners; puts = z.puts; issued = z.issued; done = z.done; first_reads = z.first_reads; covered = z.covered; only = z.only }
-silent_shows M typed0 typed1 k new w z (SeesCount (suc port) n more) = record { moves = z.moves; s = z.s; recorded = z.recorded; entries_are = z.entries_are; count = z.count; nodes = z.nodes; sent = record { logs = z.sent.logs; acks = z.sent.acks; operations = z.sent.operations; writes = z.sent.writes }; terminals = z.terminals; winners = z.winners; puts = z.puts; issued = z.issued; done = z.done; first_reads = z.first_reads; covered = z.covered; only = z.only }
-silent_shows M typed0 typed1 k new w z (TakesByte0 o) = record { moves = z.moves; s = z.s; recorded = z.recorded; entries_are = z.entries_are; count = z.count; nodes = z.nodes; sent = record { logs = z.sent.logs; acks = z.sent.acks; operations = z.sent.operations; writes = z.sent.writes }; terminals = z.terminals; winners = z.winners; puts = z.puts; issued = z.issued; done = z.done; first_reads = z.first_reads; covered = z.covered; only = z.only }
-silent_shows M typed0 typed1 k new w z (TakesByte1 o) = record { moves = z.moves; s = z.s; recorded = z.recorded; entries_are = z.entries_are; count = z.count; nodes = z.nodes; sent = record { logs = z.sent.logs; acks = z.sent.acks; operations = z.sent.operations; writes = z.sent.writes }; terminals = z.terminals; winners = z.winners; puts = z.puts; issued = z.issued; done = z.done; first_reads = z.first_reads; covered = z.covered; only = z.only }
-silent_shows M typed0 typed1 k new w z (TakesRequest r) = record { moves = z.moves; s = z.s; recorded = z.recorded; entries_are = z.entries_are; count = z.count; nodes = z.nodes; sent = record { logs = z.sent.logs; acks = z.sent.acks; operations = z.sent.operations; writes = z.sent.writes }; terminals = z.terminals; winners = z.winners; puts = z.puts; issued = z.issued; done = z.done; first_reads = z.first_reads; covered = z.covered; only = z.only }
-silent_shows M typed0 typed1 k new w z (HasAnswer a) = record { moves = z.moves; s = z.s; recorded = z.recorded; entries_are = z.entries_are; count = z.count; nodes = z.nodes; sent = record { logs = z.sent.logs; acks = z.sent.acks; operations = z.sent.operations; writes = z.sent.writes }; terminals = z.terminals; winners = z.winners; puts = z.puts; issued = z.issued; done = z.done; first_reads = z.first_reads; covered = z.covered; only = z.only }
-silent_shows M typed0 typed1 k new w z (AsksRead a) = record { moves = z.moves; s = z.s; recorded = z.recorded; entries_are = z.entries_are; count = z.count; nodes = z.nodes; sent = record { logs = z.sent.logs; acks = z.sent.acks; operations = z.sent.operations; writes = z.sent.writes }; terminals = z.terminals; winners = z.winners; puts = z.puts; issued = z.issued; done = z.done; first_reads = z.first_reads; covered = z.covered; only = z.only }
+silent_shows M typed0 typed1 k new w z (Carries p) = record { moves = z.moves; s = z.s; recorded = z.recorded;
+    entries_are = z.entries_are; count = z.count; nodes = z.nodes;
+    sent = record { logs = z.sent.logs; acks = z.sent.acks; operations = z.sent.operations; writes = z.sent.writes };
+    terminals = z.terminals; winners = z.winners; puts = z.puts; issued = z.issued; done = z.done; first_reads = z.first_reads;
+    covered = z.covered; only = z.only }
+silent_shows M typed0 typed1 k new w z (SeesCount zero n more) = record { moves = z.moves; s = z.s; recorded = z.recorded;
+    entries_are = z.entries_are; count = z.count; nodes = z.nodes;
+    sent = record { logs = z.sent.logs; acks = z.sent.acks; operations = z.sent.operations; writes = z.sent.writes };
+    terminals = z.terminals; winners = z.winners; puts = z.puts; issued = z.issued; done = z.done; first_reads = z.first_reads;
+    covered = z.covered; only = z.only }
+silent_shows M typed0 typed1 k new w z (SeesCount (suc port) n more) = record { moves = z.moves; s = z.s; recorded = z.recorded;
+    entries_are = z.entries_are; count = z.count; nodes = z.nodes;
+    sent = record { logs = z.sent.logs; acks = z.sent.acks; operations = z.sent.operations; writes = z.sent.writes };
+    terminals = z.terminals; winners = z.winners; puts = z.puts; issued = z.issued; done = z.done; first_reads = z.first_reads;
+    covered = z.covered; only = z.only }
+silent_shows M typed0 typed1 k new w z (TakesByte0 o) = record { moves = z.moves; s = z.s; recorded = z.recorded;
+    entries_are = z.entries_are; count = z.count; nodes = z.nodes;
+    sent = record { logs = z.sent.logs; acks = z.sent.acks; operations = z.sent.operations; writes = z.sent.writes };
+    terminals = z.terminals; winners = z.winners; puts = z.puts; issued = z.issued; done = z.done; first_reads = z.first_reads;
+    covered = z.covered; only = z.only }
+silent_shows M typed0 typed1 k new w z (TakesByte1 o) = record { moves = z.moves; s = z.s; recorded = z.recorded;
+    entries_are = z.entries_are; count = z.count; nodes = z.nodes;
+    sent = record { logs = z.sent.logs; acks = z.sent.acks; operations = z.sent.operations; writes = z.sent.writes };
+    terminals = z.terminals; winners = z.winners; puts = z.puts; issued = z.issued; done = z.done; first_reads = z.first_reads;
+    covered = z.covered; only = z.only }
+silent_shows M typed0 typed1 k new w z (TakesRequest r) = record { moves = z.moves; s = z.s; recorded = z.recorded;
+    entries_are = z.entries_are; count = z.count; nodes = z.nodes;
+    sent = record { logs = z.sent.logs; acks = z.sent.acks; operations = z.sent.operations; writes = z.sent.writes };
+    terminals = z.terminals; winners = z.winners; puts = z.puts; issued = z.issued; done = z.done; first_reads = z.first_reads;
+    covered = z.covered; only = z.only }
+silent_shows M typed0 typed1 k new w z (HasAnswer a) = record { moves = z.moves; s = z.s; recorded = z.recorded;
+    entries_are = z.entries_are; count = z.count; nodes = z.nodes;
+    sent = record { logs = z.sent.logs; acks = z.sent.acks; operations = z.sent.operations; writes = z.sent.writes };
+    terminals = z.terminals; winners = z.winners; puts = z.puts; issued = z.issued; done = z.done; first_reads = z.first_reads;
+    covered = z.covered; only = z.only }
+silent_shows M typed0 typed1 k new w z (AsksRead a) = record { moves = z.moves; s = z.s; recorded = z.recorded;
+    entries_are = z.entries_are; count = z.count; nodes = z.nodes;
+    sent = record { logs = z.sent.logs; acks = z.sent.acks; operations = z.sent.operations; writes = z.sent.writes };
+    terminals = z.terminals; winners = z.winners; puts = z.puts; issued = z.issued; done = z.done; first_reads = z.first_reads;
+    covered = z.covered; only = z.only }
 silent_shows M typed0 typed1 k new w z (AnswersRead a r is first) = record {
   moves = z.moves;
   s = z.s;
@@ -32,7 +65,8 @@ silent_shows M typed0 typed1 k new w z (AnswersRead a r is first) = record {
   entries_are = z.entries_are;
   count = z.count;
   nodes = z.nodes;
-  sent = record { logs = z.sent.logs; acks = z.sent.acks; operations = z.sent.operations; writes = λ n at. z.sent.writes n (no_write n r k.disk.given at) };
+  sent = record { logs = z.sent.logs; acks = z.sent.acks; operations = z.sent.operations;
+      writes = λ n at. z.sent.writes n (no_write n r k.disk.given at) };
   terminals = z.terminals;
   winners = z.winners;
   puts = z.puts ∙ ap (λ t. put_by t k.disk.puts) (sym is);
@@ -47,10 +81,16 @@ silent_shows M typed0 typed1 k new w z (AnswersRead a r is first) = record {
     read_in d (answer.Read r) = r
     read_in d (answer.Written n) = d
 
-    more_reads : (x : SectorRead) → Among (answer.Read x) k.disk.given ⊎ (answer.Read x ≡ answer.Read r) → x.number ≡ 0 → x.bytes ≡ M.boot_sector (read_at x)
+    more_reads : (x : SectorRead) → Among (answer.Read x) k.disk.given ⊎ (answer.Read x ≡ answer.Read r) → x.number ≡ 0
+        → x.bytes ≡ M.boot_sector (read_at x)
     more_reads x (inl at) none = z.first_reads x at none
     more_reads x (inr e) none = let same : x ≡ r = ap (read_in r) e in
-        ap (λ (y : SectorRead). y.bytes) same ∙ first (ap (λ (y : SectorRead). y.number) (sym same) ∙ none) ∙ ap (λ (y : SectorRead). M.boot_sector (read_at y)) (sym same)
+        ap (λ (y : SectorRead). y.bytes) same ∙ first (ap (λ (y : SectorRead). y.number) (sym same) ∙ none) ∙ ap
+            (λ (y : SectorRead). M.boot_sector (read_at y)) (sym same)
 silent_shows M typed0 typed1 k new w z Keeps = z
-silent_shows M typed0 typed1 k new w z (CountsNone zero none) = subst (λ h. Shows M typed0 typed1 (record k { terminal = record k.terminal { arrivals0 = arrives h k.terminal.arrivals0 } }) w) (sym none) z
-silent_shows M typed0 typed1 k new w z (CountsNone (suc port) none) = subst (λ h. Shows M typed0 typed1 (record k { terminal = record k.terminal { arrivals1 = arrives h k.terminal.arrivals1 } }) w) (sym none) z
+silent_shows M typed0 typed1 k new w z (CountsNone zero none) =
+    subst (λ h. Shows M typed0 typed1 (record k { terminal = record k.terminal { arrivals0 = arrives h k.terminal.arrivals0 } })
+    w) (sym none) z
+silent_shows M typed0 typed1 k new w z (CountsNone (suc port) none) =
+    subst (λ h. Shows M typed0 typed1 (record k { terminal = record k.terminal { arrivals1 = arrives h k.terminal.arrivals1 } })
+    w) (sym none) z

@@ -41,7 +41,8 @@ module _ (homes : Homes) (h : ℕ) (x : Option Payload) (k : ℕ) (apart : k ≢
   pub as_deep : length (swapped homes h x k) ≡ length homes
   as_deep = length-set (set homes h (some x)) k none ∙ length-set homes h (some x)
 
-pub box_stays : (word : ℕ) (homes homes' : Homes) (f e : Side) → get_elem? homes' (slot_of word) ≡ get_elem? homes (slot_of word) → (b : Bool) → Boxed word homes f e b → Boxed word homes' f e b
+pub box_stays : (word : ℕ) (homes homes' : Homes) (f e : Side) → get_elem? homes' (slot_of word) ≡ get_elem? homes (slot_of word)
+    → (b : Bool) → Boxed word homes f e b → Boxed word homes' f e b
 box_stays word homes homes' f e same true box = (box.0, box.1, box.2, (box.3.0, box.3.1, same ∙ box.3.2))
 box_stays word homes homes' f e same false box = (box.0, box.1, (box.2.0, same ∙ box.2.1))
 
@@ -50,27 +51,42 @@ within [] j x e = absurd (some-ne-none x (sym e))
 within (y ∷ ys) zero x e = omega arith
 within (y ∷ ys) (suc j) x e = let r = within ys j x e in omega arith
 
-pub fills : (word : ℕ) (homes homes' : Homes) (f e : Side) (b : Bool) (h : ℕ) (q : Payload) → h < 16 → get_elem? homes' h ≡ some (some (Some q)) → Boxed word homes f e b
-    → Boxed (full_word (f.number + 1) h) homes' (side (f.number + 1) (filler_met b word f.met) (Some q)) e (is_full (full_word (f.number + 1) h))
-fills word homes homes' f e true h q small at box = subst (Boxed (full_word (f.number + 1) h) homes' (side (f.number + 1) f.met (Some q)) e) (sym (full_is (f.number + 1) h small))
-    (number_full (f.number + 1) h small, (let l = box.1 in omega arith), box.2, (q, refl, ap (get_elem? homes') (slot_full (f.number + 1) h small) ∙ at))
-fills word homes homes' f e false h q small at box = subst (Boxed (full_word (f.number + 1) h) homes' (side (f.number + 1) (number_of word) (Some q)) e) (sym (full_is (f.number + 1) h small))
-    (number_full (f.number + 1) h small, (let l = box.1 in omega arith), box.0, (q, refl, ap (get_elem? homes') (slot_full (f.number + 1) h small) ∙ at))
+pub fills : (word : ℕ) (homes homes' : Homes) (f e : Side) (b : Bool) (h : ℕ) (q : Payload) → h < 16
+    → get_elem? homes' h ≡ some (some (Some q)) → Boxed word homes f e b
+    → Boxed (full_word (f.number + 1) h) homes' (side (f.number + 1) (filler_met b word f.met) (Some q)) e
+        (is_full (full_word (f.number + 1) h))
+fills word homes homes' f e true h q small at box =
+    subst (Boxed (full_word (f.number + 1) h) homes' (side (f.number + 1) f.met (Some q)) e)
+    (sym (full_is (f.number + 1) h small))
+    (number_full (f.number + 1) h small, (let l = box.1 in omega arith), box.2,
+        (q, refl, ap (get_elem? homes') (slot_full (f.number + 1) h small) ∙ at))
+fills word homes homes' f e false h q small at box =
+    subst (Boxed (full_word (f.number + 1) h) homes' (side (f.number + 1) (number_of word) (Some q)) e)
+    (sym (full_is (f.number + 1) h small))
+    (number_full (f.number + 1) h small, (let l = box.1 in omega arith), box.0,
+        (q, refl, ap (get_elem? homes') (slot_full (f.number + 1) h small) ∙ at))
 
 -- a full box is emptied, and an empty one is found so
-pub empties : (word : ℕ) (homes homes' : Homes) (f e : Side) (h : ℕ) (x last : Option Payload) → h < 16 → get_elem? homes' h ≡ some (some x) → Boxed word homes f e true
-    → Boxed (empty_word (e.number + 1) h) homes' f (side (e.number + 1) (number_of word) last) (is_full (empty_word (e.number + 1) h))
-empties word homes homes' f e h x last small at box = subst (Boxed (empty_word (e.number + 1) h) homes' f (side (e.number + 1) (number_of word) last)) (sym (empty_is (e.number + 1) h small))
+pub empties : (word : ℕ) (homes homes' : Homes) (f e : Side) (h : ℕ) (x last : Option Payload) → h < 16
+    → get_elem? homes' h ≡ some (some x) → Boxed word homes f e true
+    → Boxed (empty_word (e.number + 1) h) homes' f (side (e.number + 1) (number_of word) last)
+        (is_full (empty_word (e.number + 1) h))
+empties word homes homes' f e h x last small at box =
+    subst (Boxed (empty_word (e.number + 1) h) homes' f (side (e.number + 1) (number_of word) last))
+    (sym (empty_is (e.number + 1) h small))
     (number_empty (e.number + 1) h small, box.0, (x, ap (get_elem? homes') (slot_empty (e.number + 1) h small) ∙ at))
 
-pub finds_empty : (word : ℕ) (homes homes' : Homes) (f e : Side) (h : ℕ) (x last : Option Payload) → h < 16 → get_elem? homes' h ≡ some (some x) → Boxed word homes f e false
+pub finds_empty : (word : ℕ) (homes homes' : Homes) (f e : Side) (h : ℕ) (x last : Option Payload) → h < 16
+    → get_elem? homes' h ≡ some (some x) → Boxed word homes f e false
     → Boxed (empty_word (e.number + 1) h) homes' f (side (e.number + 1) e.met last) (is_full (empty_word (e.number + 1) h))
-finds_empty word homes homes' f e h x last small at box = subst (Boxed (empty_word (e.number + 1) h) homes' f (side (e.number + 1) e.met last)) (sym (empty_is (e.number + 1) h small))
+finds_empty word homes homes' f e h x last small at box =
+    subst (Boxed (empty_word (e.number + 1) h) homes' f (side (e.number + 1) e.met last)) (sym (empty_is (e.number + 1) h small))
     (number_empty (e.number + 1) h small, box.1, (x, ap (get_elem? homes') (slot_empty (e.number + 1) h small) ∙ at))
 
 module _ {A : Type 0} where
   -- two lists are changed alike
-  pub set_both : (l m : List A) (i k : ℕ) (x : A) → length l ≡ length m → get_elem? l k ≡ get_elem? m k → get_elem? (set l i x) k ≡ get_elem? (set m i x) k
+  pub set_both : (l m : List A) (i k : ℕ) (x : A) → length l ≡ length m → get_elem? l k ≡ get_elem? m k
+      → get_elem? (set l i x) k ≡ get_elem? (set m i x) k
   set_both [] [] i k x long same = same
   set_both [] (b ∷ m) i k x long same = absurd (omega arith)
   set_both (a ∷ l) [] i k x long same = absurd (omega arith)

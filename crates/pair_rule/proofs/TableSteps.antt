@@ -34,12 +34,14 @@ module _ {S : Type 0} (M : Machine S) (typed0 typed1 : List ℕ) (k : Knowledge)
   fills Inbox (Out o) asks can kept = absurd can
   fills Inbox (Request r) asks can kept = absurd can
   fills Inbox (Answer a) asks can kept = absurd can
-  fills Bytes0 (Out (Byte to number byte)) asks can kept = inl (law.Releases (Byte to number byte) kept.0 (omega (arith, can)) asks kept.1)
+  fills Bytes0 (Out (Byte to number byte)) asks can kept =
+      inl (law.Releases (Byte to number byte) kept.0 (omega (arith, can)) asks kept.1)
   fills Bytes0 (Out (Write w)) asks can kept = absurd can
   fills Bytes0 (Log p) asks can kept = absurd can
   fills Bytes0 (Request r) asks can kept = absurd can
   fills Bytes0 (Answer a) asks can kept = absurd can
-  fills Bytes1 (Out (Byte to number byte)) asks can kept = inl (law.Releases (Byte to number byte) kept.0 (omega (arith, can)) asks kept.1)
+  fills Bytes1 (Out (Byte to number byte)) asks can kept =
+      inl (law.Releases (Byte to number byte) kept.0 (omega (arith, can)) asks kept.1)
   fills Bytes1 (Out (Write w)) asks can kept = absurd can
   fills Bytes1 (Log p) asks can kept = absurd can
   fills Bytes1 (Request r) asks can kept = absurd can
@@ -49,7 +51,8 @@ module _ {S : Type 0} (M : Machine S) (typed0 typed1 : List ℕ) (k : Knowledge)
   fills Requests (Log p) asks can kept = absurd can
   fills Requests (Out o) asks can kept = absurd can
   fills Requests (Answer a) asks can kept = absurd can
-  fills Answers (Answer (answer.Written n)) asks can ((w, taken, is), boots) = subst (λ m. Step (after_fill Answers (Answer (answer.Written m)) k)) (sym is) (inl (law.Puts w taken))
+  fills Answers (Answer (answer.Written n)) asks can ((w, taken, is), boots) =
+      subst (λ m. Step (after_fill Answers (Answer (answer.Written m)) k)) (sym is) (inl (law.Puts w taken))
   fills Answers (Answer (answer.Read r)) asks can ((a, taken, at, last), boots) = inr (AnswersRead a r taken boots)
   fills Answers (Log p) asks can kept = absurd can
   fills Answers (Out o) asks can kept = absurd can
@@ -83,27 +86,36 @@ module _ {S : Type 0} (M : Machine S) (typed0 typed1 : List ℕ) (k : Knowledge)
 
   -- a primary that asks finds no winner, or the backup; a backup finds none, or the primary
   primary_step : k.primary.winner ≡ 0 → Step (primary_asked (winner_of k.primary.winner k.backup.winner) k)
-  primary_step none = subst (λ n. Step (primary_asked n k)) (ap (λ p. winner_of p k.backup.winner) (sym none)) (go k.backup.winner refl)
+  primary_step none = subst (λ n. Step (primary_asked n k)) (ap (λ p. winner_of p k.backup.winner) (sym none))
+      (go k.backup.winner refl)
     where
       go : (n : ℕ) → k.backup.winner ≡ n → Step (primary_asked k.backup.winner k)
       go zero is = subst (λ n. Step (primary_asked n k)) (sym is) (inl (law.PrimaryWins none is))
       go (suc zero) is = let d = st.decided.backup_lost is in absurd (omega (arith, d, none))
       go (suc (suc zero)) is = subst (λ n. Step (primary_asked n k)) (sym is) (inl (law.PrimaryLoses none is))
-      go (suc (suc (suc n))) is = let f = st.decided.few in let e : winner_of k.primary.winner k.backup.winner ≡ suc (suc (suc n)) = ap (λ p. winner_of p k.backup.winner) none ∙ is in absurd (omega (arith, f, e))
+      go (suc (suc (suc n))) is = let f =
+          st.decided.few in let e : winner_of k.primary.winner k.backup.winner ≡ suc (suc (suc n)) =
+          ap (λ p. winner_of p k.backup.winner) none ∙ is in absurd (omega (arith, f, e))
 
   backup_step : k.backup.winner ≡ 0 → Step (backup_asked (winner_of k.primary.winner k.backup.winner) k)
   backup_step none = go k.primary.winner refl
     where
       go : (n : ℕ) → k.primary.winner ≡ n → Step (backup_asked (winner_of k.primary.winner k.backup.winner) k)
-      go zero is = subst (λ n. Step (backup_asked n k)) (sym (ap (λ p. winner_of p k.backup.winner) is ∙ none)) (inl (law.BackupWins is none))
-      go (suc zero) is = subst (λ n. Step (backup_asked n k)) (ap (λ p. winner_of p k.backup.winner) (sym is)) (inl (law.BackupLoses is none))
+      go zero is = subst (λ n. Step (backup_asked n k)) (sym (ap (λ p. winner_of p k.backup.winner) is ∙ none))
+          (inl (law.BackupWins is none))
+      go (suc zero) is = subst (λ n. Step (backup_asked n k)) (ap (λ p. winner_of p k.backup.winner) (sym is))
+          (inl (law.BackupLoses is none))
       go (suc (suc zero)) is = let d = st.decided.primary_lost is in absurd (omega (arith, d, none))
-      go (suc (suc (suc n))) is = let f = st.decided.few in let e : winner_of k.primary.winner k.backup.winner ≡ suc (suc (suc n)) = ap (λ p. winner_of p k.backup.winner) is in absurd (omega (arith, f, e))
+      go (suc (suc (suc n))) is = let f =
+          st.decided.few in let e : winner_of k.primary.winner k.backup.winner ≡ suc (suc (suc n)) =
+          ap (λ p. winner_of p k.backup.winner) is in absurd (omega (arith, f, e))
 
   -- a terminal counts the byte in its hand, or none
-  counts : (port : ℕ) → port < 2 → (hand : Option Operation) → hand_of port k ≡ hand → WhereSome hand (IsByteOf port k.primary.released) → Step (byte_arrived port k)
+  counts : (port : ℕ) → port < 2 → (hand : Option Operation) → hand_of port k ≡ hand
+      → WhereSome hand (IsByteOf port k.primary.released) → Step (byte_arrived port k)
   counts port two None is there = inr (CountsNone port is)
-  counts port two (Some (Byte to number byte)) is there = inl (law.Arrives port number byte two (is ∙ ap (λ p. Some (Byte p number byte)) there.0))
+  counts port two (Some (Byte to number byte)) is there =
+      inl (law.Arrives port number byte two (is ∙ ap (λ p. Some (Byte p number byte)) there.0))
   counts port two (Some (Write w)) is there = absurd there
 
   hand_there : (port : ℕ) → port < 2 → WhereSome (hand_of port k) (IsByteOf port k.primary.released)
@@ -118,12 +130,19 @@ counted_before k st (suc port) = st.counted1
 
 pub table_steps : {S : Type 0} → TableStepsAreSteps S
 table_steps M typed0 typed1 k new st Stays = record { stands = st; step = inr Keeps }
-table_steps M typed0 typed1 k new st (Fills b q asks can kept) = record { stands = (fill_keeps k st b q can).0.stands; step = fills M typed0 typed1 k st b q asks can kept }
-table_steps M typed0 typed1 k new st (Empties b q asks fit) = record { stands = (empty_keeps k st b q fit).stands; step = empties M typed0 typed1 k st b q asks fit }
-table_steps M typed0 typed1 k new st (Appends e run may told) = record { stands = (append_stays k st e).0; step = inl (law.Appends e run may told) }
+table_steps M typed0 typed1 k new st (Fills b q asks can kept) = record { stands = (fill_keeps k st b q can).0.stands;
+    step = fills M typed0 typed1 k st b q asks can kept }
+table_steps M typed0 typed1 k new st (Empties b q asks fit) = record { stands = (empty_keeps k st b q fit).stands;
+    step = empties M typed0 typed1 k st b q asks fit }
+table_steps M typed0 typed1 k new st (Appends e run may told) = record { stands = (append_stays k st e).0;
+    step = inl (law.Appends e run may told) }
 table_steps M typed0 typed1 k new st (Sees asks) = record { stands = (see_stays k st).0; step = inl (law.Sees asks) }
 table_steps M typed0 typed1 k new st (Holds asks) = record { stands = (hold_stays k st).0; step = inl (law.Holds asks) }
-table_steps M typed0 typed1 k new st (PrimaryAsks asks) = record { stands = (primary_asks k st).0.0; step = primary_step M typed0 typed1 k st asks }
-table_steps M typed0 typed1 k new st (BackupAsks asks) = record { stands = (backup_asks k st).0.0; step = backup_step M typed0 typed1 k st asks }
-table_steps M typed0 typed1 k new st (Counts port two) = record { stands = (came_stays k st port).0; step = counts M typed0 typed1 k st port two (hand_of port k) refl (hand_there M typed0 typed1 k st port two) }
-table_steps M typed0 typed1 k new st (SeesCount port two asks) = record { stands = (count_stays k st port).0; step = inr (law.SeesCount port _ (counted_before k st port)) }
+table_steps M typed0 typed1 k new st (PrimaryAsks asks) = record { stands = (primary_asks k st).0.0;
+    step = primary_step M typed0 typed1 k st asks }
+table_steps M typed0 typed1 k new st (BackupAsks asks) = record { stands = (backup_asks k st).0.0;
+    step = backup_step M typed0 typed1 k st asks }
+table_steps M typed0 typed1 k new st (Counts port two) = record { stands = (came_stays k st port).0;
+    step = counts M typed0 typed1 k st port two (hand_of port k) refl (hand_there M typed0 typed1 k st port two) }
+table_steps M typed0 typed1 k new st (SeesCount port two asks) = record { stands = (count_stays k st port).0;
+    step = inr (law.SeesCount port _ (counted_before k st port)) }

@@ -28,7 +28,8 @@ use Rattle.pair_rule.proofs.TableSteps.{table_steps}
 use Rattle.pair_rule.proofs.AcceptedMarks.{accepted_marked}
 use Rattle.pair_rule.proofs.Told.{nothing_told, silent_told, thread_told}
 
-module _ {S : Type 0} (M : Machine S) (C : Copying S) (typed0 typed1 : List ℕ) (k : Knowledge) (w : World S) (z : Shows M typed0 typed1 k w) (f : Faithful M w) where
+module _ {S : Type 0} (M : Machine S) (C : Copying S) (typed0 typed1 : List ℕ) (k : Knowledge) (w : World S)
+    (z : Shows M typed0 typed1 k w) (f : Faithful M w) where
   outputs : (port : ℕ) → port < 2 → IsAllBut M.window_size (bytes_accepted port k) (output port f.trace)
   outputs zero two = subst (λ l. IsAllBut M.window_size (accepted_in l 0) (output 0 f.trace)) z.terminals (f.output 0)
   outputs (suc zero) two = subst (λ l. IsAllBut M.window_size (accepted_in l 1) (output 1 f.trace)) z.terminals (f.output 1)
@@ -46,24 +47,35 @@ module _ {S : Type 0} (M : Machine S) (C : Copying S) (typed0 typed1 : List ℕ)
     trace = f.trace;
     reach = f.reach;
     outputs = outputs;
-    disk = λ address. subst (λ l. MayHave M f.trace f.reach.last address (sector_record M l address).bytes) z.puts (f.disk address);
+    disk = λ address. subst (λ l. MayHave M f.trace f.reach.last address (sector_record M l address).bytes) z.puts
+        (f.disk address);
     keys_kept = keys_kept;
   }
 
-pub shown : {S : Type 0} (M : Machine S) (C : Copying S) (typed0 typed1 : List ℕ) (k : Knowledge) (w : World S) → Stands k → PrimaryIsTold typed0 typed1 k.primary → Shows M typed0 typed1 k w → Reached M C w → Faithful M w → IsShown M C typed0 typed1 k
-shown M C typed0 typed1 k w st told z reached f = record { stands = st; told = told; world = w; shows = z; marked = accepted_marked M typed0 typed1 k w st told z; reached = reached; faithful = f; promises = promises M C typed0 typed1 k w z f }
+pub shown : {S : Type 0} (M : Machine S) (C : Copying S) (typed0 typed1 : List ℕ) (k : Knowledge) (w : World S) → Stands k
+    → PrimaryIsTold typed0 typed1 k.primary → Shows M typed0 typed1 k w → Reached M C w → Faithful M w
+    → IsShown M C typed0 typed1 k
+shown M C typed0 typed1 k w st told z reached f = record { stands = st; told = told; world = w; shows = z;
+    marked = accepted_marked M typed0 typed1 k w st told z; reached = reached; faithful = f;
+    promises = promises M C typed0 typed1 k w z f }
 
 -- a step of the table leads from what is shown to what is shown
-next_shown : {S : Type 0} → RowIsChanges S → ChangesReach S → ReachedIsFaithful S → ReachedGrows S → (M : Machine S) (C : Copying S) → Runnable M → IsCopying M C → (typed0 typed1 : List ℕ) (k new : Knowledge) → IsShown M C typed0 typed1 k → IsStep M typed0 typed1 k new → IsShown M C typed0 typed1 new
+next_shown : {S : Type 0} → RowIsChanges S → ChangesReach S → ReachedIsFaithful S → ReachedGrows S
+    → (M : Machine S) (C : Copying S) → Runnable M → IsCopying M C → (typed0 typed1 : List ℕ) (k new : Knowledge)
+    → IsShown M C typed0 typed1 k → IsStep M typed0 typed1 k new → IsShown M C typed0 typed1 new
 next_shown rows changes faithful grow M C may copies typed0 typed1 k new s is = elim is.step [
-  | inl t ↦ (let l = steps_stay_faithful rows changes faithful grow M C may copies typed0 typed1 k new s.world s.shows s.stands s.reached t in
-      shown M C typed0 typed1 new l.leads.new is.stands (thread_told M typed0 typed1 k s.told new t) l.leads.shows l.reached l.faithful)
-  | inr q ↦ shown M C typed0 typed1 new s.world is.stands (silent_told M typed0 typed1 k s.told new q) (silent_shows M typed0 typed1 k new s.world s.shows q) s.reached s.faithful
+  | inl t ↦ (let l = steps_stay_faithful rows changes faithful grow M C may copies typed0 typed1 k new s.world s.shows s.stands
+      s.reached t in
+      shown M C typed0 typed1 new l.leads.new is.stands
+          (thread_told M typed0 typed1 k s.told new t) l.leads.shows l.reached l.faithful)
+  | inr q ↦ shown M C typed0 typed1 new s.world is.stands (silent_told M typed0 typed1 k s.told new q)
+      (silent_shows M typed0 typed1 k new s.world s.shows q) s.reached s.faithful
 ]
 
 pub runs_shown : {S : Type 0} → RowIsChanges S → ChangesReach S → ReachedIsFaithful S → ReachedGrows S → ThreadsAreFaithful S
 runs_shown rows changes faithful grow M C may copies typed0 typed1 k (Opens generation) =
-    let b = starts_shown rows changes M C may.lawful typed0 typed1 generation in shown M C typed0 typed1 k b.world b.stands (nothing_told typed0 typed1) b.shows b.reached (faithful M C may.lawful copies b.world b.reached)
+    let b = starts_shown rows changes M C may.lawful typed0 typed1 generation in shown M C typed0 typed1 k b.world b.stands
+        (nothing_told typed0 typed1) b.shows b.reached (faithful M C may.lawful copies b.world b.reached)
 runs_shown rows changes faithful grow M C may copies typed0 typed1 new (Goes {k = k} run step) =
     let s = runs_shown rows changes faithful grow M C may copies typed0 typed1 k run in
     next_shown rows changes faithful grow M C may copies typed0 typed1 k new s (table_steps M typed0 typed1 k new s.stands step)
@@ -82,7 +94,8 @@ altair_selects : (setup : Setup) (sectors : SectorAddress → List ℕ) → Read
 altair_selects setup sectors g drive sector ready = is_that g.devices.disk.selected drive (and_first _ _ ready)
 
 -- where it boots and what its sectors hold does not matter to how it counts, and how operations come and go
-pub altair_runnable : (setup : Setup) (sectors : SectorAddress → List ℕ) → Lawful (altair setup sectors) → Counts some_altair → ComesAndGoes some_altair → Runnable (altair setup sectors)
+pub altair_runnable : (setup : Setup) (sectors : SectorAddress → List ℕ) → Lawful (altair setup sectors) → Counts some_altair
+    → ComesAndGoes some_altair → Runnable (altair setup sectors)
 altair_runnable setup sectors laws counts operations = record {
   lawful = laws;
   counts = record { by_step = counts.by_step; by_input = counts.by_input; spent = counts.spent };
@@ -91,4 +104,5 @@ altair_runnable setup sectors laws counts operations = record {
 }
 
 pub without_copies : {S : Type 0} (M : Machine S) → IsCopying M no_copies
-without_copies M = record { counted = λ moves s runs. refl; again = λ moves s t runs owns made. absurd (let e : None ≡ Some t = made in cc) }
+without_copies M = record { counted = λ moves s runs. refl;
+    again = λ moves s t runs owns made. absurd (let e : None ≡ Some t = made in cc) }

@@ -19,29 +19,38 @@ use Rattle.pair_rule.proofs.Filled.{among_more}
 use Rattle.pair_rule.proofs.ShownNodes.{among_either}
 
 -- an answer that came stays one when more come
-still_answered : (answers : List DiskAnswer) (a : DiskAnswer) (e : Entry) → IsAnswered answers e → IsAnswered (answers ++ a ∷ []) e
+still_answered : (answers : List DiskAnswer) (a : DiskAnswer) (e : Entry) → IsAnswered answers e
+    → IsAnswered (answers ++ a ∷ []) e
 still_answered answers a (Mark count) is = tt
 still_answered answers a (Rx count port byte) is = tt
 still_answered answers a (Sent count port) is = tt
 still_answered answers a (Written count number) is = among_more (answer.Written number) answers (a ∷ []) is
-still_answered answers a (Sector count drive sector number bytes) (r, at, same, alike) = (r, among_more (answer.Read r) answers (a ∷ []) at, same, alike)
+still_answered answers a (Sector count drive sector number bytes) (r, at, same, alike) =
+    (r, among_more (answer.Read r) answers (a ∷ []) at, same, alike)
 
 module _ (list : List Entry) where
   keys_more : (q : ℕ) (e : Entry) → keys q (inputs_of (list ++ e ∷ [])) ≡ keys q (inputs_of list) ++ keys q (inputs_of (e ∷ []))
   keys_more q e = ap (keys q) (inputs_of-append list (e ∷ [])) ∙ keys-append q (inputs_of list) (inputs_of (e ∷ []))
 
-  accepted_more : (q : ℕ) (e : Entry) → acceptances q (inputs_of (list ++ e ∷ [])) ≡ acceptances q (inputs_of list) + acceptances q (inputs_of (e ∷ []))
-  accepted_more q e = ap (acceptances q) (inputs_of-append list (e ∷ [])) ∙ acceptances-append q (inputs_of list) (inputs_of (e ∷ []))
+  accepted_more : (q : ℕ) (e : Entry) → acceptances q (inputs_of (list ++ e ∷ [])) ≡ acceptances q
+      (inputs_of list) + acceptances q (inputs_of (e ∷ []))
+  accepted_more q e = ap (acceptances q) (inputs_of-append list (e ∷ [])) ∙ acceptances-append q (inputs_of list)
+      (inputs_of (e ∷ []))
 
   -- an entry without a key of the port leaves its keys as they are, and one without an acceptance its acceptances
-  same_keys : (q : ℕ) (e : Entry) (typed : List ℕ) → keys q (inputs_of (e ∷ [])) ≡ [] → IsPrefix (keys q (inputs_of list)) typed → IsPrefix (keys q (inputs_of (list ++ e ∷ []))) typed
-  same_keys q e typed none is = subst (λ l. IsPrefix l typed) (sym (keys_more q e ∙ ap (λ l. keys q (inputs_of list) ++ l) none ∙ append-nil (keys q (inputs_of list)))) is
+  same_keys : (q : ℕ) (e : Entry) (typed : List ℕ) → keys q (inputs_of (e ∷ [])) ≡ [] → IsPrefix (keys q (inputs_of list)) typed
+      → IsPrefix (keys q (inputs_of (list ++ e ∷ []))) typed
+  same_keys q e typed none is = subst (λ l. IsPrefix l typed)
+      (sym (keys_more q e ∙ ap (λ l. keys q (inputs_of list) ++ l) none ∙ append-nil (keys q (inputs_of list)))) is
 
-  same_accepted : (q : ℕ) (e : Entry) (n : ℕ) → acceptances q (inputs_of (e ∷ [])) ≡ 0 → acceptances q (inputs_of list) ≤ n → acceptances q (inputs_of (list ++ e ∷ [])) ≤ n
+  same_accepted : (q : ℕ) (e : Entry) (n : ℕ) → acceptances q (inputs_of (e ∷ [])) ≡ 0 → acceptances q (inputs_of list) ≤ n
+      → acceptances q (inputs_of (list ++ e ∷ [])) ≤ n
   same_accepted q e n none is = let m = accepted_more q e in omega (arith, m, none, is)
 
   -- a key at its own port is told by the append, and leaves the other port alone
-  next_keys : (q : ℕ) (count port byte : ℕ) (typed : List ℕ) → (q ≡ port → IsPrefix (keys q (inputs_of (list ++ Rx count port byte ∷ []))) typed) → IsPrefix (keys q (inputs_of list)) typed
+  next_keys : (q : ℕ) (count port byte : ℕ) (typed : List ℕ)
+      → (q ≡ port → IsPrefix (keys q (inputs_of (list ++ Rx count port byte ∷ []))) typed)
+      → IsPrefix (keys q (inputs_of list)) typed
       → IsPrefix (keys q (inputs_of (list ++ Rx count port byte ∷ []))) typed
   next_keys q count port byte typed told is = go (q == port) refl
     where
@@ -49,7 +58,8 @@ module _ (list : List Entry) where
       go true same = told (let e : q ≡ port = grind arith in e)
       go false other = same_keys q (Rx count port byte) typed (ap (λ b. (if b then byte ∷ [] else []) ++ []) other) is
 
-  next_accepted : (q : ℕ) (count port n : ℕ) → (q ≡ port → acceptances q (inputs_of (list ++ Sent count port ∷ [])) ≤ n) → acceptances q (inputs_of list) ≤ n
+  next_accepted : (q : ℕ) (count port n : ℕ) → (q ≡ port → acceptances q (inputs_of (list ++ Sent count port ∷ [])) ≤ n)
+      → acceptances q (inputs_of list) ≤ n
       → acceptances q (inputs_of (list ++ Sent count port ∷ [])) ≤ n
   next_accepted q count port n told is = go (q == port) refl
     where
@@ -66,7 +76,8 @@ module _ {S : Type 0} (M : Machine S) (typed0 typed1 : List ℕ) (k : Knowledge)
 
   -- of the longer list: each entry is answered
   all_answered : (e x : Entry) → IsAnswered k.primary.answers e → Among x (list ++ e ∷ []) → IsAnswered k.primary.answers x
-  all_answered e x is at = ⊎_elim (λ (old : Among x list). t.answered x old) (λ (same : x ≡ e). subst (IsAnswered k.primary.answers) (sym same) is) (among_either x e list at)
+  all_answered e x is at = ⊎_elim (λ (old : Among x list). t.answered x old)
+      (λ (same : x ≡ e). subst (IsAnswered k.primary.answers) (sym same) is) (among_either x e list at)
 
   told_more : (s : S) (e : Entry) → IsTold M typed0 typed1 k s e → Longer e
   told_more s (Mark count) told = record {
@@ -77,8 +88,12 @@ module _ {S : Type 0} (M : Machine S) (typed0 typed1 : List ℕ) (k : Knowledge)
     answered = λ x at. all_answered (Mark count) x tt at;
   }
   told_more s (Rx count port byte) told = let e : Entry = Rx count port byte in record {
-    keys0 = next_keys list 0 count port byte typed0 (λ same. subst (λ p. IsPrefix (keys p (inputs_of (list ++ Rx count port byte ∷ []))) (typed_at p typed0 typed1)) (sym same) told) t.keys0;
-    keys1 = next_keys list 1 count port byte typed1 (λ same. subst (λ p. IsPrefix (keys p (inputs_of (list ++ Rx count port byte ∷ []))) (typed_at p typed0 typed1)) (sym same) told) t.keys1;
+    keys0 = next_keys list 0 count port byte typed0
+        (λ same. subst (λ p. IsPrefix (keys p (inputs_of (list ++ Rx count port byte ∷ []))) (typed_at p typed0 typed1))
+        (sym same) told) t.keys0;
+    keys1 = next_keys list 1 count port byte typed1
+        (λ same. subst (λ p. IsPrefix (keys p (inputs_of (list ++ Rx count port byte ∷ []))) (typed_at p typed0 typed1))
+        (sym same) told) t.keys1;
     accepted0 = same_accepted list 0 e k.primary.counted0 refl t.accepted0;
     accepted1 = same_accepted list 1 e k.primary.counted1 refl t.accepted1;
     answered = λ x at. all_answered e x tt at;
@@ -86,8 +101,12 @@ module _ {S : Type 0} (M : Machine S) (typed0 typed1 : List ℕ) (k : Knowledge)
   told_more s (Sent count port) told = let e : Entry = Sent count port in record {
     keys0 = same_keys list 0 e typed0 refl t.keys0;
     keys1 = same_keys list 1 e typed1 refl t.keys1;
-    accepted0 = next_accepted list 0 count port k.primary.counted0 (λ same. subst (λ p. acceptances p (inputs_of (list ++ Sent count port ∷ [])) ≤ counted_at p k) (sym same) told) t.accepted0;
-    accepted1 = next_accepted list 1 count port k.primary.counted1 (λ same. subst (λ p. acceptances p (inputs_of (list ++ Sent count port ∷ [])) ≤ counted_at p k) (sym same) told) t.accepted1;
+    accepted0 = next_accepted list 0 count port k.primary.counted0
+        (λ same. subst (λ p. acceptances p (inputs_of (list ++ Sent count port ∷ [])) ≤ counted_at p k) (sym same) told)
+        t.accepted0;
+    accepted1 = next_accepted list 1 count port k.primary.counted1
+        (λ same. subst (λ p. acceptances p (inputs_of (list ++ Sent count port ∷ [])) ≤ counted_at p k) (sym same) told)
+        t.accepted1;
     answered = λ x at. all_answered e x tt at;
   }
   told_more s (Written count number) told = let e : Entry = Written count number in record {
@@ -97,7 +116,8 @@ module _ {S : Type 0} (M : Machine S) (typed0 typed1 : List ℕ) (k : Knowledge)
     accepted1 = same_accepted list 1 e k.primary.counted1 refl t.accepted1;
     answered = λ x at. all_answered e x told at;
   }
-  told_more s (Sector count drive sector number bytes) (r, came, place, same, alike) = let e : Entry = Sector count drive sector number bytes in record {
+  told_more s (Sector count drive sector number bytes) (r, came, place, same, alike) = let e : Entry =
+      Sector count drive sector number bytes in record {
     keys0 = same_keys list 0 e typed0 refl t.keys0;
     keys1 = same_keys list 1 e typed1 refl t.keys1;
     accepted0 = same_accepted list 0 e k.primary.counted0 refl t.accepted0;
@@ -125,15 +145,19 @@ module _ {S : Type 0} (M : Machine S) (typed0 typed1 : List ℕ) (k : Knowledge)
   silent_told new (CountsNone zero none) = t
   silent_told new (CountsNone (suc port) none) = t
   silent_told new (Carries p) = t
-  silent_told new (SeesCount zero n more) = record { keys0 = t.keys0; keys1 = t.keys1; accepted0 = (let a = t.accepted0 in omega (arith, a, more)); accepted1 = t.accepted1; answered = t.answered }
-  silent_told new (SeesCount (suc port) n more) = record { keys0 = t.keys0; keys1 = t.keys1; accepted0 = t.accepted0; accepted1 = (let a = t.accepted1 in omega (arith, a, more)); answered = t.answered }
+  silent_told new (SeesCount zero n more) = record { keys0 = t.keys0; keys1 = t.keys1;
+      accepted0 = (let a = t.accepted0 in omega (arith, a, more)); accepted1 = t.accepted1; answered = t.answered }
+  silent_told new (SeesCount (suc port) n more) = record { keys0 = t.keys0; keys1 = t.keys1; accepted0 = t.accepted0;
+      accepted1 = (let a = t.accepted1 in omega (arith, a, more)); answered = t.answered }
   silent_told new (TakesByte0 o) = t
   silent_told new (TakesByte1 o) = t
   silent_told new (TakesRequest r) = t
-  silent_told new (HasAnswer a) = record { keys0 = t.keys0; keys1 = t.keys1; accepted0 = t.accepted0; accepted1 = t.accepted1; answered = λ e at. still_answered k.primary.answers a e (t.answered e at) }
+  silent_told new (HasAnswer a) = record { keys0 = t.keys0; keys1 = t.keys1; accepted0 = t.accepted0; accepted1 = t.accepted1;
+      answered = λ e at. still_answered k.primary.answers a e (t.answered e at) }
   silent_told new (AsksRead a) = t
   silent_told new (AnswersRead a r taken first) = t
 
 -- an empty list was told nothing
 pub nothing_told : (typed0 typed1 : List ℕ) → ListIsTold typed0 typed1 [] [] 0 0
-nothing_told typed0 typed1 = record { keys0 = (typed0, refl); keys1 = (typed1, refl); accepted0 = le_refl 0; accepted1 = le_refl 0; answered = λ e at. absurd at }
+nothing_told typed0 typed1 = record { keys0 = (typed0, refl); keys1 = (typed1, refl); accepted0 = le_refl 0;
+    accepted1 = le_refl 0; answered = λ e at. absurd at }

@@ -114,7 +114,8 @@ HasWrite puts n = (w : SectorWrite) × Among w puts × (w.number ≡ n)
 -- an answer is of a write that was put, or of a read
 abbrev pub IsReplied : List SectorWrite → DiskAnswer → Type 0
 IsReplied puts (answer.Written n) = HasWrite puts n
-IsReplied puts (answer.Read r) = (r.number ≡ 0) ⊎ ((w : SectorWrite) × Among w puts × (address_of w ≡ read_at r) × (w.number ≡ r.number) × (w.bytes ≡ r.bytes))
+IsReplied puts (answer.Read r) = (r.number ≡ 0) ⊎
+    ((w : SectorWrite) × Among w puts × (address_of w ≡ read_at r) × (w.number ≡ r.number) × (w.bytes ≡ r.bytes))
 
 -- what stands of all that the seats know
 pub record Stands (k : Knowledge) : Type 0 where
@@ -160,7 +161,8 @@ abbrev pub after_fill : Mailbox → Payload → Knowledge → Knowledge
 after_fill Bytes0 (Out o) k = record k { primary = record k.primary { released = k.primary.released ++ o ∷ [] } }
 after_fill Bytes1 (Out o) k = record k { primary = record k.primary { released = k.primary.released ++ o ∷ [] } }
 after_fill Requests (Request r) k = record k { primary = record k.primary { released = released_by k.primary.released r } }
-after_fill Answers (Answer a) k = record k { disk = record k.disk { puts = put_by k.disk.taken k.disk.puts; given = k.disk.given ++ a ∷ [] } }
+after_fill Answers (Answer a) k = record k { disk = record k.disk { puts = put_by k.disk.taken k.disk.puts;
+    given = k.disk.given ++ a ∷ [] } }
 after_fill _ _ k = k
 
 -- what the seat that empties a box knows then
@@ -202,7 +204,8 @@ arrives (Some (Write w)) arrivals = arrivals
 -- a byte in hand arrives, and what is counted is seen
 abbrev pub byte_arrived : ℕ → Knowledge → Knowledge
 byte_arrived zero k = record k { terminal = record k.terminal { arrivals0 = arrives k.terminal.hand0 k.terminal.arrivals0 } }
-byte_arrived (suc port) k = record k { terminal = record k.terminal { arrivals1 = arrives k.terminal.hand1 k.terminal.arrivals1 } }
+byte_arrived (suc port) k = record k { terminal =
+    record k.terminal { arrivals1 = arrives k.terminal.hand1 k.terminal.arrivals1 } }
 
 abbrev pub saw_count : ℕ → ℕ → Knowledge → Knowledge
 saw_count zero n k = record k { primary = record k.primary { counted0 = n } }

@@ -63,7 +63,8 @@ IsAnswered answers (Sent count port) = Unit {0}
 
 -- of a primary's list: its keys are the first of those typed, no more bytes are accepted in it than were seen counted, and
 -- the disk answered what it has of the disk
-pub record ListIsTold (typed0 typed1 : List ℕ) (list : List Entry) (answers : List DiskAnswer) (counted0 counted1 : ℕ) : Type 0 where
+pub record ListIsTold (typed0 typed1 : List ℕ) (list : List Entry) (answers : List DiskAnswer)
+    (counted0 counted1 : ℕ) : Type 0 where
   pub keys0 : IsPrefix (keys 0 (inputs_of list)) typed0
   pub keys1 : IsPrefix (keys 1 (inputs_of list)) typed1
   pub accepted0 : acceptances 0 (inputs_of list) ≤ counted0

@@ -8,9 +8,15 @@ use Rattle.pair_rule.proofs.Threads.{altair_runnable, runs_shown, without_copies
 use Rattle.pair_rule.proofs.laws.altair_threads_are_faithful.Goals as goal
 
 pub returns-clause-runnable : goal.returns-clause-runnable
-returns-clause-runnable c setup sectors = altair_runnable setup sectors (c.altairs_are_lawful.ensures setup sectors) c.boards_count.ensures c.boards_issue_and_complete.ensures
+returns-clause-runnable c setup sectors =
+    altair_runnable setup sectors (c.altairs_are_lawful.ensures setup sectors) c.boards_count.ensures
+    c.boards_issue_and_complete.ensures
 
 pub returns-clause-faithful : goal.returns-clause-faithful
 returns-clause-faithful c setup sectors typed0 typed1 k run =
-    runs_shown (λ M C w new e r row. row_changes M C w new e r row) (λ M C w new reached changes. changes_reach M C w new reached changes) always_faithful (λ M C laws copies w new e r reached row. row_grows M C laws copies w new e r reached row) (altair setup sectors) no_copies
-    (altair_runnable setup sectors (c.altairs_are_lawful.ensures setup sectors) c.boards_count.ensures c.boards_issue_and_complete.ensures) (without_copies (altair setup sectors)) typed0 typed1 k run
+    runs_shown (λ M C w new e r row. row_changes M C w new e r row)
+        (λ M C w new reached changes. changes_reach M C w new reached changes) always_faithful
+        (λ M C laws copies w new e r reached row. row_grows M C laws copies w new e r reached row)
+        (altair setup sectors) no_copies
+    (altair_runnable setup sectors (c.altairs_are_lawful.ensures setup sectors) c.boards_count.ensures
+        c.boards_issue_and_complete.ensures) (without_copies (altair setup sectors)) typed0 typed1 k run

@@ -5,4 +5,5 @@ use Rattle.log_entry.specs.declared.entry.Entry.TheVariants.{Mark}
 use Rattle.pair_rule.proofs.tests.steps.post.Given as goal
 
 abbrev pub invariant-loop : goal.invariant-loop
-invariant-loop l = (l.seat.table ≡ l.fn.fabric) × (l.seat.core.known.primary.winner ≡ 0) × (get_elem? l.seat.core.known.primary.list l.fn.index ≡ some (Mark 6))
+invariant-loop l = (l.seat.table ≡ l.fn.fabric) × (l.seat.core.known.primary.winner ≡ 0) ×
+    (get_elem? l.seat.core.known.primary.list l.fn.index ≡ some (Mark 6))
