@@ -10,8 +10,6 @@ mod parts;
 mod ports;
 mod running;
 mod setup;
-#[cfg(test)]
-mod tests;
 mod wiring;
 
 pub use board::{Board, BoardMemory};

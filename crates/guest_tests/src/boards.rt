@@ -9,9 +9,9 @@ ghost use Rattle.guest_memory.specs.declared.memory.TheConstants.{BYTES};
 mod devices;
 mod rebuilt;
 
-use crate::{Board, Executed, Input, Setup};
 use disk_dcdd::{SECTOR_BYTES, SectorAddress};
 use event_callbacks::{Callbacks, Completes, Devices, Done, OpId, Operation, plain_completions};
+use guest_board::{Board, Executed, Input, Setup};
 use guest_memory::BYTES;
 use i8080_words::{Fault, R};
 use std::alloc::Global;

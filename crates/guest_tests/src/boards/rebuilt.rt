@@ -4,9 +4,9 @@ ghost use Rattle.event_callbacks.specs.declared.devices.TheConstants.{SENT, SECT
 ghost use Rattle.event_callbacks.specs.Keeping.{Keeps};
 
 use super::{accept_a_byte, memory, old_bytes, step, wait_for_a_key};
-use crate::{Board, BoardParts, Input};
 use disk_dcdd::{Controller, ControllerImage, DRIVE_SECTORS, DRIVES, Drive, Place, SectorWrite};
 use event_callbacks::{Callbacks, Completes, Devices, OpId, Operation, PORTS, plain_completions};
+use guest_board::{Board, BoardParts, Input};
 use i8080_core::Cpu;
 use i8080_words::{AddressRegister, Fault, GREATEST_NUMBER, R};
 use serial_2sio::{Acia, Receiver, WINDOW};

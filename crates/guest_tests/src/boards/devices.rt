@@ -5,9 +5,9 @@ ghost use Rattle.event_callbacks.specs.Keeping.{Keeps};
 
 use super::rebuilt::{parts, rebuild};
 use super::{old_bytes, step};
-use crate::{Board, BoardParts, Executed};
 use disk_dcdd::Controller;
 use event_callbacks::{Callbacks, Completes, Operation, plain_completions};
+use guest_board::{Board, BoardParts, Executed};
 use i8080_words::{Interrupts, R};
 use serial_2sio::{Acia, Receiver};
 use std::alloc::Global;
