@@ -7,7 +7,7 @@ use Rattle.guest_board.specs.declared.input.Input.{Input}
 use Rattle.log_entry.specs.Entries.{inputs_of, last_count}
 use Rattle.log_entry.specs.declared.entry.Entry.{Entry}
 use Rattle.pair_protocol.specs.Change.{Serving}
-use Rattle.pair_protocol.specs.Event.{Why}
+use Rattle.guest_board.specs.declared.running.StopReason.{StopReason}
 use Rattle.pair_protocol.specs.Node.{Node, Role, Primary, Backup, Joining, Draining, Alone, Spare, plainly_steps, passes_mark, passes_input}
 use Rattle.pair_protocol.specs.Refusals.{serves, role_refusal}
 use Rattle.pair_protocol.specs.Effects.{Advances, Replays, NoneLeft, Ends, Waits, Short, Gives, Goes, NoTurns, AtEnd, NoMemory, OneStep, OneMark, OneInput, Took, Held, Heard, Drained, Halted, after_drain, stepped, took}
@@ -48,7 +48,7 @@ stepped_keeps M x Joining s o = kept_here x
 stepped_keeps M x Draining s o = kept_here x
 stepped_keeps M x Spare s o = kept_here x
 
-pub advances_keep : {S : Type 0} (M : Machine S) {x y : Node S} {k made : ℕ} {why : Why} → Advances M x k y made why
+pub advances_keep : {S : Type 0} (M : Machine S) {x y : Node S} {k made : ℕ} {why : StopReason} → Advances M x k y made why
     → Kept x y
 advances_keep M (NoneLeft {x = x}) = kept_here x
 advances_keep M (Ends {x = x} q) = kept_here x

@@ -3,14 +3,15 @@ use Rattle.std.specs.Prelude.{ℕ, ◌/◌, ◌%◌, Bool, true, false, List, []
 use Rattle.std.specs.List.{flat_map}
 use Rattle.std.specs.Fmt.{decimal, digit_glyph}
 use Rattle.event_callbacks.specs.declared.operations.OpId.TheVariants as id
+use Rattle.guest_board.specs.declared.running.StopReason.{StopReason}
+use Rattle.guest_board.specs.declared.running.StopReason.TheVariants as stopped
 use Rattle.i8080_words.specs.declared.refusal.Fault.{Fault}
+use Rattle.i8080_words.specs.declared.refusal.Fault.TheVariants.{Idle, Spent}
 use Rattle.i8080_words.specs.Refusals.{number_of}
 use Rattle.pair_events.specs.declared.reply.Reply.{Reply}
 use Rattle.pair_events.specs.declared.reply.Reply.TheVariants as reply
 use Rattle.pair_events.specs.declared.reply.Role.{Role}
 use Rattle.pair_events.specs.declared.reply.Role.TheVariants as role
-use Rattle.pair_events.specs.declared.reply.Why.{Why}
-use Rattle.pair_events.specs.declared.reply.Why.TheVariants as why
 use Rattle.pair_events.specs.declared.answer.Answer.{Answer}
 use Rattle.pair_events.specs.declared.answer.Answer.TheVariants as answer
 
@@ -20,13 +21,13 @@ abbrev pub ◌␣◌ : List ℕ → List ℕ → List ℕ
 first ␣ second = first ++ (32 ∷ second)
 
 -- W: why no more steps were executed
-abbrev pub why_text : Why → List ℕ
-why_text why.Turns = codes "turns"
-why_text why.Idle = codes "idle"
-why_text why.Spent = codes "spent"
-why_text why.Memory = codes "memory"
-why_text (why.Operation (id.Byte port x)) = codes "byte" ␣ decimal port ␣ decimal x
-why_text (why.Operation (id.Write x)) = codes "write" ␣ decimal x
+abbrev pub why_text : StopReason → List ℕ
+why_text stopped.Turns = codes "turns"
+why_text (stopped.Operation (id.Byte port x)) = codes "byte" ␣ decimal port ␣ decimal x
+why_text (stopped.Operation (id.Write x)) = codes "write" ␣ decimal x
+why_text (stopped.Refused Idle) = codes "idle"
+why_text (stopped.Refused Spent) = codes "spent"
+why_text (stopped.Refused _) = codes "memory"
 
 -- moves that were made, and whether that was the end
 abbrev pub moved_text : ℕ → Bool → List ℕ

@@ -9,4 +9,4 @@ mod tests;
 
 pub use answer::Answer;
 pub use event::Event;
-pub use reply::{Reply, Role, Why};
+pub use reply::{Reply, Role};

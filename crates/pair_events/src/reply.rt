@@ -4,6 +4,8 @@ ghost use Rattle.std.specs.Prelude.{Some};
 ghost use Rattle.pair_events.specs.Printed.{reply_text, role_text, why_text};
 
 use event_callbacks::OpId;
+use guest_board::StopReason;
+use i8080_words::Fault;
 use std::fmt;
 
 /// What a node is to its pair.
@@ -21,48 +23,50 @@ pub enum Role {
     Halted,
 }
 
-/// Why a machine's steps ended.
-#[derive(Clone, Copy, Debug, PartialEq, Eq)]
-pub enum Why {
-    /// All steps that were asked for were executed.
-    Turns,
-    /// The machine waits for an interrupt.
-    Idle,
-    /// A number of the machine or of its log has reached its limit.
-    Spent,
-    /// No memory was left.
-    Memory,
-    /// The last step gave this operation.
-    Operation(OpId),
-}
-
 /// The answer to an event that was not refused.
 #[derive(Clone, Copy, Debug, PartialEq, Eq)]
 pub enum Reply {
     /// The steps executed, the instruction count after them, and why no more were executed.
-    Ran { steps: u64, count: u64, why: Why },
+    Ran {
+        steps: u64,
+        count: u64,
+        why: StopReason,
+    },
     /// The byte was typed, as the key of this index.
-    Typed { index: u64 },
+    Typed {
+        index: u64,
+    },
     /// The node has taken the input.
     Taken,
     /// A message was sent, under this number.
-    Message { message: u64 },
+    Message {
+        message: u64,
+    },
     /// The backup holds the entry from now on.
     New,
     /// The backup held the entry before, or an entry before it is missing: nothing changed.
     Old,
     /// The greatest number of entries that the backup has acknowledged.
-    Held { held: u64 },
+    Held {
+        held: u64,
+    },
     /// The moves made, and whether no entry is left.
-    Moved { moves: u64, at_end: bool },
+    Moved {
+        moves: u64,
+        at_end: bool,
+    },
     /// The moves made, after which no entry is left and the node is alone.
-    MovedAlone { moves: u64 },
+    MovedAlone {
+        moves: u64,
+    },
     /// The terminal has accepted the byte.
     Accepted,
     /// The byte is not the next one of its port: the terminal has dropped it.
     Dropped,
     /// How many keys the terminal was told are covered.
-    Told { keys: u64 },
+    Told {
+        keys: u64,
+    },
     /// The node has won its generation.
     Won,
     /// The node is halted.
@@ -83,17 +87,21 @@ impl fmt::Display for Role {
     }
 }
 
+// A reason that prints in those words.
+#[derive(Clone, Copy)]
+struct Why(StopReason);
+
 impl fmt::Display for Why {
-    ghost output = { λ why. Some (why_text why) };
+    ghost output = { λ why. Some (why_text why.0) };
 
     fn fmt<W: fmt::Write>(&self, f: &mut fmt::Formatter<W>) -> fmt::Result {
-        match self {
-            Why::Turns => write!(f, "turns"),
-            Why::Idle => write!(f, "idle"),
-            Why::Spent => write!(f, "spent"),
-            Why::Memory => write!(f, "memory"),
-            Why::Operation(OpId::Byte(port, number)) => write!(f, "byte {port} {number}"),
-            Why::Operation(OpId::Write(number)) => write!(f, "write {number}"),
+        match self.0 {
+            StopReason::Turns => write!(f, "turns"),
+            StopReason::Operation(OpId::Byte(port, number)) => write!(f, "byte {port} {number}"),
+            StopReason::Operation(OpId::Write(number)) => write!(f, "write {number}"),
+            StopReason::Refused(Fault::Idle) => write!(f, "idle"),
+            StopReason::Refused(Fault::Spent) => write!(f, "spent"),
+            StopReason::Refused(_) => write!(f, "memory"),
         }
     }
 }
@@ -103,7 +111,9 @@ impl fmt::Display for Reply {
 
     fn fmt<W: fmt::Write>(&self, f: &mut fmt::Formatter<W>) -> fmt::Result {
         match self {
-            Reply::Ran { steps, count, why } => write!(f, "ran {steps} count {count} {why}"),
+            Reply::Ran { steps, count, why } => {
+                write!(f, "ran {steps} count {count} {}", Why(*why))
+            }
             Reply::Typed { index } => write!(f, "typed {index}"),
             Reply::Taken => write!(f, "taken"),
             Reply::Message { message } => write!(f, "message {message}"),

@@ -1,6 +1,7 @@
 //! The words of a script's output.
-use crate::{Answer, Event, Reply, Role, Why};
+use crate::{Answer, Event, Reply, Role};
 use event_callbacks::OpId;
+use guest_board::StopReason;
 use i8080_words::Fault;
 use std::test::Fail;
 
@@ -13,16 +14,28 @@ fn replies_show_as_words(rt: HostRuntime) -> Result<(), Fail> {
     };
     let moved = |at_end| Reply::Moved { moves: 7, at_end };
     let texts = [
-        (ran(Why::Turns), "ran 6 count 18446744073709551615 turns"),
-        (ran(Why::Idle), "ran 6 count 18446744073709551615 idle"),
-        (ran(Why::Spent), "ran 6 count 18446744073709551615 spent"),
-        (ran(Why::Memory), "ran 6 count 18446744073709551615 memory"),
         (
-            ran(Why::Operation(OpId::Byte(1, 2))),
+            ran(StopReason::Turns),
+            "ran 6 count 18446744073709551615 turns",
+        ),
+        (
+            ran(StopReason::Refused(Fault::Idle)),
+            "ran 6 count 18446744073709551615 idle",
+        ),
+        (
+            ran(StopReason::Refused(Fault::Spent)),
+            "ran 6 count 18446744073709551615 spent",
+        ),
+        (
+            ran(StopReason::Refused(Fault::OutOfMemory)),
+            "ran 6 count 18446744073709551615 memory",
+        ),
+        (
+            ran(StopReason::Operation(OpId::Byte(1, 2))),
             "ran 6 count 18446744073709551615 byte 1 2",
         ),
         (
-            ran(Why::Operation(OpId::Write(3))),
+            ran(StopReason::Operation(OpId::Write(3))),
             "ran 6 count 18446744073709551615 write 3",
         ),
         (Reply::Typed { index: 0 }, "typed 0"),

@@ -8,7 +8,7 @@ use Rattle.guest_board.specs.Machine.{Machine, Move, booted_from}
 use Rattle.guest_board.specs.declared.input.Input.{Input}
 use Rattle.log_entry.specs.Standing.{Stands, IsOnTrace}
 use Rattle.log_entry.specs.declared.entry.Entry.{Entry}
-use Rattle.pair_protocol.specs.Event.{Why}
+use Rattle.guest_board.specs.declared.running.StopReason.{StopReason}
 use Rattle.pair_protocol.specs.Node.{Node, Role, keys_covered}
 use Rattle.pair_protocol.specs.Refusals.{step_refusal, take_key_refusal, tell_sent_refusal, put_reply_refusal, get_reply_refusal, release_refusal, get_refusal}
 use Rattle.pair_protocol.specs.Effects.{Advances, Drained, Replayed, Stepped, Took, NoneLeft, Ends, Waits, Short, Gives, Goes, IsBehind, Replays, NoTurns, AtEnd, NoMemory, OneStep, OneMark, OneInput}
@@ -33,7 +33,7 @@ module _ {S : Type 0} (M : Machine S) (start : S) (sectors : SectorAddress → L
   pub IsBehind-booted : (x : Node S) → IsBehind M x → IsBehind (booted_from M start sectors) x
   IsBehind-booted x behind = record { next = behind.next; held = behind.held; later = behind.later }
 
-  pub Advances-booted : {x y : Node S} {turns made : ℕ} {why : Why} → Advances M x turns y made why
+  pub Advances-booted : {x y : Node S} {turns made : ℕ} {why : StopReason} → Advances M x turns y made why
       → Advances (booted_from M start sectors) x turns y made why
   Advances-booted NoneLeft = NoneLeft
   Advances-booted (Ends spent) = Ends spent
@@ -51,7 +51,7 @@ module _ {S : Type 0} (M : Machine S) (start : S) (sectors : SectorAddress → L
   Replays-booted (OneMark e next at mark rest) = OneMark e next at mark (Replays-booted rest)
   Replays-booted (OneInput e i s next at input taken rest) = OneInput e i s next at input taken (Replays-booted rest)
 
-  pub Stepped-booted : {turns made count : ℕ} {why : Why} {x y : Node S} → Stepped M turns made count why x y
+  pub Stepped-booted : {turns made count : ℕ} {why : StopReason} {x y : Node S} → Stepped M turns made count why x y
       → Stepped (booted_from M start sectors) turns made count why x y
   Stepped-booted h = record { advances = Advances-booted h.advances; some = h.some; counted = h.counted }
 
@@ -110,7 +110,7 @@ module _ {S : Type 0} (M : Machine S) (start : S) (sectors : SectorAddress → L
       → IsOnTrace M s held
   IsOnTrace-back = IsOnTrace-booted (booted_from M start sectors) M.boot M.boot_sector
 
-  pub Advances-back : {x y : Node S} {turns made : ℕ} {why : Why}
+  pub Advances-back : {x y : Node S} {turns made : ℕ} {why : StopReason}
       → Advances (booted_from M start sectors) x turns y made why → Advances M x turns y made why
   Advances-back = Advances-booted (booted_from M start sectors) M.boot M.boot_sector
 

@@ -5,7 +5,7 @@ use Rattle.event_callbacks.specs.declared.operations.Operation.{Operation}
 use Rattle.guest_board.specs.Machine.{Machine}
 use Rattle.pair_protocol.specs.Change.{Acts, AloneSteps, Change, Changes, PrimarySteps, Replaying, ReplaysInput, ReplaysMark, ReplaysStep, Serving, Stays, Then}
 use Rattle.pair_protocol.specs.Copying.{Copying}
-use Rattle.pair_protocol.specs.Event.{Why}
+use Rattle.guest_board.specs.declared.running.StopReason.{StopReason}
 use Rattle.pair_protocol.specs.Node.{Alone, Backup, Draining, Joining, Node, Primary, Role, Spare, passes_input, passes_mark, plainly_steps}
 use Rattle.pair_protocol.specs.Effects.{Advances, AtEnd, Ends, Gives, Goes, NoMemory, NoTurns, NoneLeft, OneInput, OneMark, OneStep, Replays, Short, Waits, stepped}
 use Rattle.pair_protocol.specs.World.{World, with_node}
@@ -77,7 +77,7 @@ stepped_up M x Draining s o = (refl, refl)
 stepped_up M x Spare s o = (refl, refl)
 
 pub advance_changes : {S : Type 0} (M : Machine S) (C : Copying S) (w : World S) (n : ℕ) (x0 : Node S) (r : Role) →
-    slice_get w.nodes n ≡ Some x0 → Serving r → {x y : Node S} {k made : ℕ} {why : Why} → Advances M x k y made why →
+    slice_get w.nodes n ≡ Some x0 → Serving r → {x y : Node S} {k made : ℕ} {why : StopReason} → Advances M x k y made why →
     x.running ≡ true → x.role ≡ r → Changes M C (with_node w n x) (with_node w n y)
 advance_changes M C w n x0 r h which NoneLeft u e = Stays
 advance_changes M C w n x0 r h which (Waits p q) u e = Stays

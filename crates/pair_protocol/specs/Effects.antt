@@ -7,10 +7,13 @@ use Rattle.event_callbacks.specs.declared.operations.OpId.{OpId}
 use Rattle.event_callbacks.specs.declared.operations.Operation.{Operation}
 use Rattle.guest_board.specs.Machine.{Machine}
 use Rattle.guest_board.specs.declared.input.Input.{Input}
+use Rattle.guest_board.specs.declared.running.StopReason.{StopReason}
+use Rattle.guest_board.specs.declared.running.StopReason.TheVariants as reason
+use Rattle.i8080_words.specs.declared.refusal.Fault.TheVariants.{Spent, Idle, OutOfMemory}
 use Rattle.log_entry.specs.Entries.{count_of, input_of}
 use Rattle.log_entry.specs.declared.entry.Entry.{Entry}
 use Rattle.pair_protocol.specs.Copying.{Copying}
-use Rattle.pair_protocol.specs.Event.{Reply, New, Old, Whole, Why, Turns, Idles, IsSpent, Memory, Gave}
+use Rattle.pair_protocol.specs.Event.{Reply, New, Old, Whole}
 use Rattle.pair_protocol.specs.Node.{Node, Role, Primary, Backup, Joining, Draining, Alone, Spare, primary_steps, plainly_steps, primary_takes, alone_takes, holds, passes_mark, passes_input, replay_told, hears, halts, goes_live, gets_part, joins, gathered, keys_covered}
 
 -- ---- moves of a machine
@@ -33,17 +36,17 @@ took M x Draining s i = x
 took M x Spare s i = x
 
 -- x makes at most this many steps, up to the first that gives an operation, and is then y
-pub data Advances {S : Type 0} (M : Machine S) : Node S → ℕ → Node S → ℕ → Why → Type 0 where
-  NoneLeft : {x : Node S} → Advances M x 0 x 0 Turns
-  Ends : {x : Node S} {turns : ℕ} → M.is_spent x.machine ≡ true → Advances M x (suc turns) x 0 IsSpent
+pub data Advances {S : Type 0} (M : Machine S) : Node S → ℕ → Node S → ℕ → StopReason → Type 0 where
+  NoneLeft : {x : Node S} → Advances M x 0 x 0 reason.Turns
+  Ends : {x : Node S} {turns : ℕ} → M.is_spent x.machine ≡ true → Advances M x (suc turns) x 0 (reason.Refused Spent)
   Waits : {x : Node S} {turns : ℕ} → M.is_spent x.machine ≡ false → M.step x.machine ≡ None →
-      Advances M x (suc turns) x 0 Idles
+      Advances M x (suc turns) x 0 (reason.Refused Idle)
   -- a step that nothing else refuses is out of memory
   Short : {x : Node S} {turns : ℕ} → M.is_spent x.machine ≡ false → is_none (M.step x.machine) ≡ false →
-      Advances M x (suc turns) x 0 Memory
+      Advances M x (suc turns) x 0 (reason.Refused OutOfMemory)
   Gives : {x : Node S} {turns : ℕ} (s : S) (o : Operation) → M.step x.machine ≡ Some (s, Some o) →
-      Advances M x (suc turns) (stepped M x x.role s (Some o)) 1 (Gave (id_of o))
-  Goes : {x y : Node S} {turns made : ℕ} {why : Why} (s : S) → M.step x.machine ≡ Some (s, None) →
+      Advances M x (suc turns) (stepped M x x.role s (Some o)) 1 (reason.Operation (id_of o))
+  Goes : {x y : Node S} {turns made : ℕ} {why : StopReason} (s : S) → M.step x.machine ≡ Some (s, None) →
       Advances M (stepped M x x.role s None) turns y made why → Advances M x (suc turns) y (suc made) why
 
 -- its next move is a step: the next entry is at a later count
@@ -85,7 +88,7 @@ after_drain y true = goes_live y
 -- ---- what an event does at a node
 
 -- the machine makes steps
-pub record Stepped {S : Type 0} (M : Machine S) (turns made count : ℕ) (why : Why) (x y : Node S) : Type 0 where
+pub record Stepped {S : Type 0} (M : Machine S) (turns made count : ℕ) (why : StopReason) (x y : Node S) : Type 0 where
   pub advances : Advances M x turns y made why
   pub some : (turns ≡ 0) ⊎ (1 ≤ made)
   pub counted : count ≡ M.count y.machine

@@ -1,6 +1,7 @@
 -- The events of a world, one for each row of a script, and their replies.
 use Rattle.std.specs.Prelude.{ℕ, Bool, true, false}
 use Rattle.event_callbacks.specs.declared.operations.OpId.{OpId}
+use Rattle.guest_board.specs.declared.running.StopReason.{StopReason}
 use Rattle.i8080_words.specs.declared.refusal.Fault.{Fault}
 
 -- n is a node, m a message
@@ -37,14 +38,8 @@ pub data Event : Type 0 where
   SendPart : (n index : ℕ) → Event
   PartComes : (m n : ℕ) → Event
 
--- why steps ended: all that were asked for are made, an operation was given, the machine idles, a number has reached
--- its limit, or no memory was left
-pub data Why : Type 0 where
-  Turns Idles IsSpent Memory : Why
-  Gave : (name : OpId) → Why
-
 pub data Reply : Type 0 where
-  Ran : (made count : ℕ) (why : Why) → Reply
+  Ran : (made count : ℕ) (why : StopReason) → Reply
   TypedAt : (index : ℕ) → Reply
   Taken New Old Whole Accepted Dropped Won Stopped : Reply
   MessageIs : (m : ℕ) → Reply

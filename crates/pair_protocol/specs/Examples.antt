@@ -11,11 +11,12 @@ use Rattle.event_callbacks.specs.declared.operations.Operation.TheVariants.{Byte
 use Rattle.guest_board.specs.Machine.{Machine}
 use Rattle.guest_board.specs.declared.input.Input.{Input}
 use Rattle.guest_board.specs.declared.input.Input.TheVariants as input
+use Rattle.guest_board.specs.declared.running.StopReason.TheVariants as reason
 use Rattle.i8080_words.specs.declared.refusal.Fault.TheVariants.{WrongRole}
 use Rattle.log_entry.specs.declared.entry.Entry.TheVariants.{Mark, Sector}
 use Rattle.pair_protocol.specs.Copying.{Copying}
 use Rattle.pair_protocol.specs.World.{World, Message, LogEntry, Acknowledgement, Released, WriteDone, SectorRead, opening, accepted}
-use Rattle.pair_protocol.specs.Event.{Event, Step, TypeByte, TakeKey, Send, DeliverLog, Acknowledge, DeliverAcknowledgement, Release, Arrive, Stop, Suspect, Drain, Put, PutReply, Get, GetReply, Reply, Ran, Turns, Gave, TypedAt, Taken, New, Accepted, Dropped, Won, Stopped, MessageIs, HeldIs, MovedAlone, Refused}
+use Rattle.pair_protocol.specs.Event.{Event, Step, TypeByte, TakeKey, Send, DeliverLog, Acknowledge, DeliverAcknowledgement, Release, Arrive, Stop, Suspect, Drain, Put, PutReply, Get, GetReply, Reply, Ran, TypedAt, Taken, New, Accepted, Dropped, Won, Stopped, MessageIs, HeldIs, MovedAlone, Refused}
 use Rattle.pair_protocol.specs.Row.{Run}
 
 -- ---- a machine that sends a byte
@@ -81,7 +82,7 @@ failover =
 
 abbrev pub failover_replies : List Reply
 failover_replies =
-    Ran 6 6 (Gave (id.Byte 0 1)) ∷ MessageIs 0 ∷ New ∷ MessageIs 1 ∷ Stopped ∷ Won ∷ TypedAt 0 ∷ Refused WrongRole
+    Ran 6 6 (reason.Operation (id.Byte 0 1)) ∷ MessageIs 0 ∷ New ∷ MessageIs 1 ∷ Stopped ∷ Won ∷ TypedAt 0 ∷ Refused WrongRole
     ∷ MovedAlone 7 ∷ MessageIs 2 ∷ Accepted ∷ Dropped ∷ []
 
 abbrev pub TakesOver : Type 0
@@ -154,7 +155,7 @@ disk_write =
 
 abbrev pub disk_write_replies : List Reply
 disk_write_replies =
-    Ran 2 2 Turns ∷ MessageIs 0 ∷ Taken ∷ Ran 1 3 (Gave (id.Write 1)) ∷ MessageIs 1 ∷ MessageIs 2 ∷ New ∷ New
+    Ran 2 2 reason.Turns ∷ MessageIs 0 ∷ Taken ∷ Ran 1 3 (reason.Operation (id.Write 1)) ∷ MessageIs 1 ∷ MessageIs 2 ∷ New ∷ New
     ∷ MessageIs 3 ∷ HeldIs 2 ∷ MessageIs 4 ∷ MessageIs 5 ∷ Taken ∷ MessageIs 6 ∷ []
 
 -- messages 0 to 6: the sector is first read with its bytes at boot under number 0, and last with those of write 1;

@@ -8,12 +8,13 @@ use Rattle.event_callbacks.specs.declared.operations.Operation.TheVariants.{Byte
 use Rattle.guest_board.specs.Machine.{Machine}
 use Rattle.guest_board.specs.declared.input.Input.{Input}
 use Rattle.guest_board.specs.declared.input.Input.TheVariants as input
+use Rattle.guest_board.specs.declared.running.StopReason.{StopReason}
 use Rattle.log_entry.specs.declared.entry.Entry.{Entry}
 use Rattle.pair_protocol.specs.Copying.{Copying}
 use Rattle.pair_protocol.specs.Effects.{Stepped, Took, Held, Heard, Replayed, Drained, Halted, GotPart, HasEntry, HasHeld, HasOutstanding, HasCovered, IsUnder, HasPart}
 use Rattle.pair_protocol.specs.Node.{Node}
 use Rattle.pair_protocol.specs.World.{World, Message, LogEntry, Acknowledgement, ImagePart, Released, WriteDone, SectorRead, terminal, accepted, winner_in, with_node, with_message, with_key, with_arrival, with_told, with_winner, with_put, with_read, with_pair}
-use Rattle.pair_protocol.specs.Event.{Event, Step, TypeByte, TakeKey, Send, DeliverLog, Acknowledge, DeliverAcknowledgement, Replay, Release, Arrive, TellSent, Told, Stop, Suspect, Drain, Put, PutReply, Get, GetReply, BeginPair, SendPart, PartComes, Reply, Ran, TypedAt, Taken, New, Old, Accepted, Dropped, Won, Stopped, MessageIs, HeldIs, Moved, MovedAlone, ToldIs, GenerationIs, Why}
+use Rattle.pair_protocol.specs.Event.{Event, Step, TypeByte, TakeKey, Send, DeliverLog, Acknowledge, DeliverAcknowledgement, Replay, Release, Arrive, TellSent, Told, Stop, Suspect, Drain, Put, PutReply, Get, GetReply, BeginPair, SendPart, PartComes, Reply, Ran, TypedAt, Taken, New, Old, Accepted, Dropped, Won, Stopped, MessageIs, HeldIs, Moved, MovedAlone, ToldIs, GenerationIs}
 
 -- the node of a number becomes another one
 pub record AtNode {S : Type 0} (w : World S) (n : ℕ) (does : Node S → Node S → Type 0) (new : World S) : Type 0 where
@@ -34,7 +35,7 @@ pub record OfNode {S : Type 0} (w : World S) (n : ℕ) (says : Node S → Type 0
 pub record Steps {S : Type 0} (M : Machine S) (w : World S) (n turns : ℕ) (r : Reply) (new : World S) : Type 0 where
   pub made : ℕ
   pub count : ℕ
-  pub why : Why
+  pub why : StopReason
   pub at : AtNode w n (Stepped M turns made count why) new
   pub reply : r ≡ Ran made count why
 

@@ -23,7 +23,9 @@ use Rattle.pair_protocol.specs.Lawful.{Among, IsDone, top, Lawful}
 use Rattle.pair_protocol.specs.Copying.{Copying}
 use Rattle.pair_protocol.specs.Node.{Node, Primary, primary_takes, notes_after}
 use Rattle.pair_protocol.specs.World.{World, Message, LogEntry, WriteDone, with_node, with_message, SectorRead, terminal, accepted, sector_record, with_read}
-use Rattle.pair_protocol.specs.Event.{Event, Step, Send, TakeKey, TellSent, PutReply, Get, GetReply, Taken, Reply, Ran, MessageIs, Why, Turns, Gave}
+use Rattle.pair_protocol.specs.Event.{Event, Step, Send, TakeKey, TellSent, PutReply, Get, GetReply, Taken, Reply, Ran, MessageIs}
+use Rattle.guest_board.specs.declared.running.StopReason.{StopReason}
+use Rattle.guest_board.specs.declared.running.StopReason.TheVariants as reason
 use Rattle.pair_protocol.specs.Row.{Accepts}
 use Rattle.pair_rule.specs.Law.{AppendEvents}
 use Rattle.pair_rule.specs.Shown.{IsAcknowledged, IsSentBy, Happens, First, Nothing}
@@ -105,12 +107,12 @@ module _ {S : Type 0} (M : Machine S) (C : Copying S) (counts : Counts M) (laws 
   abbrev at : S → Node S
   at t = record here { machine = t }
 
-  advance_one : (t u : S) (m : ℕ) (y : Node S) (made : ℕ) (why : Why) → M.step t ≡ Some (u, None) → Advances M (at u) m y made why
-      → Advances M (at t) (suc m) y (suc made) why
+  advance_one : (t u : S) (m : ℕ) (y : Node S) (made : ℕ) (why : StopReason) → M.step t ≡ Some (u, None)
+      → Advances M (at u) m y made why → Advances M (at t) (suc m) y (suc made) why
   advance_one t u m y made why step rest =
       Goes u step (subst (λ l. Advances M (record (at u) { log = l }) m y made why) (sym (append-nil list)) rest)
 
-  advance_quiet : (s : S) (n : ℕ) (t : S) → Quiet M s n t → (m : ℕ) (y : Node S) (made : ℕ) (why : Why)
+  advance_quiet : (s : S) (n : ℕ) (t : S) → Quiet M s n t → (m : ℕ) (y : Node S) (made : ℕ) (why : StopReason)
       → Advances M (at t) m y made why → Advances M (at s) (n + m) y (n + made) why
   advance_quiet s n t Begin m y made why rest =
       subst (λ (p : ℕ × ℕ). Advances M (at s) p.0 y p.1 why)
@@ -253,25 +255,26 @@ module _ {S : Type 0} (M : Machine S) (C : Copying S) (counts : Counts M) (laws 
       let counted = quiet_count M counts z.s n t q in let last = counts.by_step t u (Some o) step in
       let x = quiet_first M z.s n t (u, Some o) q step in
       let same : M.count u ≡ suc (M.count z.s + n) = omega arith in
-      finish e moves u (with_node w 0 y) (Step 0 (suc n) ∷ []) (Ran (suc n) (M.count u) (Gave (id_of o)) ∷ [])
+      finish e moves u (with_node w 0 y) (Step 0 (suc n) ∷ []) (Ran (suc n) (M.count u) (reason.Operation (id_of o)) ∷ [])
       (recorded-append M M.boot z.s u z.moves (r.moves ++ Do (Some o) ∷ []) z.recorded
           (recorded-append M z.s t u r.moves (Do (Some o) ∷ []) r.recorded (u, step, refl)))
       (longer_entries n t r (Do (Some o)) ∙ ap (λ c. list ++ Mark c ∷ []) (sym same)) refl
       (First (Accepts (step_allowed n x.0 x.1) record {
         made = suc n;
         count = M.count u;
-        why = Gave (id_of o);
+        why = reason.Operation (id_of o);
         at = record {
           x = here;
           there = first_node M C typed0 typed1 k w z none;
           y = y;
           done = record {
-            advances = subst (λ (p : ℕ × Node S). Advances M here p.0 p.1 p.0 (Gave (id_of o)))
+            advances = subst (λ (p : ℕ × Node S). Advances M here p.0 p.1 p.0 (reason.Operation (id_of o)))
                 (λ i. (let e : n + 1 ≡ suc n =
                     omega arith in e i, record y { list = sym (inputs_of-append list (e ∷ []) ∙ append-nil (inputs_of list)) i;
                     notes = sym (longer_notes n t r (Do (Some o))) i }))
                 (advance_quiet z.s n t q 1 (record (at u) { log = list ++ e ∷ [];
-                    notes = notes_after (notes_from 0 [] [] z.moves) list (Some o) }) 1 (Gave (id_of o)) (Gives u o step));
+                    notes = notes_after (notes_from 0 [] [] z.moves) list (Some o) }) 1 (reason.Operation (id_of o))
+                    (Gives u o step));
             some = inr (omega arith);
             counted = refl;
           };
@@ -293,26 +296,26 @@ module _ {S : Type 0} (M : Machine S) (C : Copying S) (counts : Counts M) (laws 
   -- the steps up to an input's count
   quiet_event : (n : ℕ) (t : S) → Quiet M z.s n t → (r : Reply) × Happens M C w (Step 0 n ∷ []) (r ∷ []) (with_node w 0 (at t))
   quiet_event n t Begin = (
-    Ran 0 (M.count z.s) Turns,
+    Ran 0 (M.count z.s) reason.Turns,
     First (Accepts (ap (λ o. at_node o (step_refusal M 0)) (first_node M C typed0 typed1 k w z none))
-        record { made = 0; count = M.count z.s; why = Turns;
+        record { made = 0; count = M.count z.s; why = reason.Turns;
             at = record { x = here; there = first_node M C typed0 typed1 k w z none; y = here;
             done = record { advances = NoneLeft; some = inl refl; counted = refl }; after = refl }; reply = refl }) Nothing,
   )
   quiet_event m u (More {n = n} {t = t} q free step) = let x = quiet_first M z.s n t (u, None) q step in (
-    Ran (suc n) (M.count u) Turns,
+    Ran (suc n) (M.count u) reason.Turns,
     First (Accepts (step_allowed n x.0 x.1)
         record {
           made = suc n;
           count = M.count u;
-          why = Turns;
+          why = reason.Turns;
           at = record {
             x = here;
             there = first_node M C typed0 typed1 k w z none;
             y = at u;
             done = record {
-              advances = subst (λ p. Advances M here p (at u) p Turns) (let e : n + 1 ≡ suc n = omega arith in e)
-                  (advance_quiet z.s n t q 1 (at u) 1 Turns (advance_one t u 0 (at u) 0 Turns step NoneLeft));
+              advances = subst (λ p. Advances M here p (at u) p reason.Turns) (let e : n + 1 ≡ suc n = omega arith in e)
+                  (advance_quiet z.s n t q 1 (at u) 1 reason.Turns (advance_one t u 0 (at u) 0 reason.Turns step NoneLeft));
               some = inr (omega arith);
               counted = refl;
             };

@@ -1,6 +1,6 @@
 -- What an advance records. Steps that give nothing push nothing, so one by one they record as many steps and no entry;
 -- the step that gives an operation is recorded after them, with its mark.
-use Rattle.std.proofs.Common.{◌≡◌, ℕ, zero, suc, ◌+◌, List, [], ◌∷◌, ◌++◌, Some, None, refl, sym, ap, ◌∙◌, arith}
+use Rattle.std.proofs.Common.{◌≡◌, ℕ, zero, suc, ◌+◌, List, [], ◌∷◌, ◌++◌, Some, None, refl, sym, ap, subst, ◌∙◌, arith}
 use Rattle.std.proofs.lemmas.List.{append-nil}
 use Rattle.event_callbacks.specs.declared.operations.Operation.{Operation}
 use Rattle.guest_board.specs.Machine.{Machine, Move, Do}
@@ -12,9 +12,9 @@ use Rattle.log_entry.specs.declared.entry.Entry.TheVariants.{Mark}
 use Rattle.guest_trace.specs.Reach.{inputs, steps}
 use Rattle.recorder.specs.Laws.{RecordsSteps}
 use Rattle.guest_board.proofs.QuietSteps.{quiet_count}
-use Rattle.guest_board.specs.Running.{Quiet, Begin, More}
-use Rattle.recorder.specs.Recording.{Advances, AllTurns, Gives, Idles, IsSpent, WantsMemory}
-use Rattle.recorder.specs.declared.advanced.Advanced.{Advanced}
+use Rattle.guest_board.specs.Running.{Quiet, Begin, More, RunsOn, AllTurns, Gives, IsRefused}
+use Rattle.guest_board.specs.declared.running.Stopped.{Stopped}
+use Rattle.recorder.specs.Recording.{Advances, logged}
 
 -- steps that give nothing, followed by other moves
 abbrev pub quiet_moves : ℕ → List Move → List Move
@@ -46,7 +46,7 @@ inputs-quiet_moves (suc n) count moves =
     let e : suc (n + count) ≡ suc n + count = omega arith in
     inputs-quiet_moves n count (Do None ∷ moves) ∙ ap (λ count. inputs count moves) e
 
-quietly : {S : Type 0} (M : Machine S) (s t : S) (log : Log) (n : ℕ) (a : Advanced) → a.steps ≡ n → Quiet M s n t
+quietly : {S : Type 0} (M : Machine S) (s t : S) (log : Log) (n : ℕ) (a : Stopped) → a.steps ≡ n → Quiet M s n t
     → RecordsSteps M s log a t log
 quietly M s t log n a made q = record {
   moves = quiet_moves n [];
@@ -61,7 +61,7 @@ quietly M s t log n a made q = record {
   no_input = inputs-quiet_moves n (M.count s) [];
 }
 
-with_mark : {S : Type 0} (M : Machine S) (s t u : S) (log : Log) (n : ℕ) (a : Advanced) (given : Operation)
+with_mark : {S : Type 0} (M : Machine S) (s t u : S) (log : Log) (n : ℕ) (a : Stopped) (given : Operation)
     → Counts M → a.steps ≡ suc n → Quiet M s n t → M.step t ≡ Some (u, Some given)
     → RecordsSteps M s log a u (pushed log (Mark (M.count u)))
 with_mark M s t u log n a given counts made q st =
@@ -81,11 +81,11 @@ with_mark M s t u log n a given counts made q st =
       no_input = inputs-quiet_moves n (M.count s) last;
     }
 
-pub records_steps : {S : Type 0} (M : Machine S) (s t : S) (log new : Log) (turns : ℕ) (a : Advanced) → Counts M
+pub records_steps : {S : Type 0} (M : Machine S) (s t : S) (log new : Log) (turns : ℕ) (a : Stopped) → Counts M
     → Advances M s log turns a t new → RecordsSteps M s log a t new
-records_steps M s t log new turns a counts (AllTurns q) = quietly M s t log turns _ refl q
-records_steps M s t log new turns a counts (Idles {n = n} lt q r) = quietly M s t log n _ refl q
-records_steps M s t log new turns a counts (IsSpent {n = n} lt q r) = quietly M s t log n _ refl q
-records_steps M s t log new turns a counts (WantsMemory {n = n} lt q r) = quietly M s t log n _ refl q
-records_steps M s t log new turns a counts (Gives {n = n} {t = v} {given = given} lt q r st) =
-    with_mark M s v t log n _ given counts refl q st
+records_steps {S} M s t log new turns a counts v = subst (λ l. RecordsSteps M s log a t l) (sym v.log_is) (by a t v.runs)
+  where
+    by : (a : Stopped) (t : S) → RunsOn M s turns a t → RecordsSteps M s log a t (logged log (M.count t) a.reason)
+    by _ t (AllTurns q) = quietly M s t log turns _ refl q
+    by _ t (IsRefused {n = n} lt q) = quietly M s t log n _ refl q
+    by _ t (Gives {n = n} {t = v} {given = given} lt q r st) = with_mark M s v t log n _ given counts refl q st

@@ -3,11 +3,11 @@ use Rattle.std.specs.Prelude.{◌≡◌, ℕ, ◌+◌, Ok, List, [], ◌∷◌, 
 use Rattle.guest_board.specs.Machine.{Machine, Move, Take, Runs}
 use Rattle.guest_board.specs.Recorded.{Counts, Recorded}
 use Rattle.guest_board.specs.declared.input.Input.{Input}
+use Rattle.guest_board.specs.declared.running.Stopped.{Stopped}
 use Rattle.log_buffer.specs.Log.{Log}
 use Rattle.log_entry.specs.Entries.{entries}
 use Rattle.guest_trace.specs.Reach.{inputs, steps}
 use Rattle.recorder.specs.Recording.{Advances, Offers}
-use Rattle.recorder.specs.declared.advanced.Advanced.{Advanced}
 
 -- a recorded run, and a log to which its entries were pushed in their order, and nothing else
 pub record Records {S : Type 0} (M : Machine S) (s : S) (log : Log) (moves : List Move) (t : S) (new : Log)
@@ -17,7 +17,7 @@ pub record Records {S : Type 0} (M : Machine S) (s : S) (log : Log) (moves : Lis
   pub pushes : new.entries ≡ log.entries ++ entries (M.count s) moves
 
 -- an advance records its steps, and no input
-pub record RecordsSteps {S : Type 0} (M : Machine S) (s : S) (log : Log) (a : Advanced) (t : S) (new : Log)
+pub record RecordsSteps {S : Type 0} (M : Machine S) (s : S) (log : Log) (a : Stopped) (t : S) (new : Log)
     : Type 0 where
   pub moves : List Move
   pub records : Records M s log moves t new
@@ -25,7 +25,7 @@ pub record RecordsSteps {S : Type 0} (M : Machine S) (s : S) (log : Log) (a : Ad
   pub no_input : inputs (M.count s) moves ≡ []
 
 abbrev pub AdvancesRecord : Type 0 → Type 0
-AdvancesRecord S = (M : Machine S) (s t : S) (log new : Log) (turns : ℕ) (a : Advanced) → Counts M
+AdvancesRecord S = (M : Machine S) (s t : S) (log new : Log) (turns : ℕ) (a : Stopped) → Counts M
     → Advances M s log turns a t new → RecordsSteps M s log a t new
 
 -- an offer that is not refused records its input

@@ -1,46 +1,32 @@
 -- What a recorder does: how far it advances, why it stops, what it takes, and what it pushes.
 use Rattle.std.specs.Prelude.{◌≡◌, ℕ, zero, suc, ◌<◌, ◌⊎◌, Option, Some, None, Result, Ok, Err}
-use Rattle.event_callbacks.specs.Operations.{id_of}
-use Rattle.event_callbacks.specs.declared.operations.Operation.{Operation}
-use Rattle.guest_board.specs.Lockstep.{step_refusal}
-use Rattle.guest_board.specs.Machine.{Machine}
+use Rattle.guest_board.specs.Lockstep.{HasRoom, IsInput, IsNumbered, step_refusal}
+use Rattle.guest_board.specs.Machine.{Machine, refusal_of}
 use Rattle.guest_board.specs.Recorded.{Accepts}
-use Rattle.guest_board.specs.Running.{Quiet}
+use Rattle.guest_board.specs.Running.{RunsOn}
 use Rattle.guest_board.specs.declared.input.Input.{Input}
+use Rattle.guest_board.specs.declared.running.StopReason.{StopReason}
+use Rattle.guest_board.specs.declared.running.StopReason.TheVariants as reason
+use Rattle.guest_board.specs.declared.running.Stopped.{Stopped}
 use Rattle.i8080_words.specs.declared.refusal.Fault.{Fault}
-use Rattle.i8080_words.specs.declared.refusal.Fault.TheVariants.{OutOfMemory, Spent, Idle}
-use Rattle.log_buffer.specs.Log.{Log, next_of, pushed, push_answer, room_answer}
+use Rattle.i8080_words.specs.declared.refusal.Fault.TheVariants.{OutOfMemory}
+use Rattle.log_buffer.specs.Log.{Log, pushed, push_answer, room_answer}
 use Rattle.log_entry.specs.Entries.{entry_of}
 use Rattle.log_entry.specs.declared.entry.Entry.TheVariants.{Mark}
-use Rattle.recorder.specs.declared.advanced.Advanced.{Advanced}
-use Rattle.recorder.specs.declared.advanced.Why.{Why}
-use Rattle.recorder.specs.declared.advanced.Why.TheVariants as why
 
 -- ---- advance
 
-abbrev pub advanced : ℕ → Why → Advanced
-advanced steps reason = record { steps = steps; why = reason }
+-- the log after a run to this count: the mark of the operation that it gave is pushed, right after its step
+abbrev pub logged : Log → ℕ → StopReason → Log
+logged log count reason.Turns = log
+logged log count (reason.Operation name) = pushed log (Mark count)
+logged log count (reason.Refused fault) = log
 
--- how an advance of at most this many turns ends; the mark of the operation that it gives is pushed right after its
--- step
-pub data Advances {S : Type 0} (M : Machine S) (s : S) (log : Log) (turns : ℕ) : Advanced → S → Log → Type 0 where
-  AllTurns : {t : S} → Quiet M s turns t → Advances M s log turns (advanced turns why.Turns) t log
-  Gives : {n : ℕ} {t u : S} {given : Operation} → n < turns → Quiet M s n t → step_refusal M t ≡ None
-      → M.step t ≡ Some (u, Some given)
-      → Advances M s log turns (advanced (suc n) (why.Operation (id_of given) (next_of log))) u
-      (pushed log (Mark (M.count u)))
-  Idles : {n : ℕ} {t : S} → n < turns → Quiet M s n t → step_refusal M t ≡ Some Idle
-      → Advances M s log turns (advanced n why.Idle) t log
-  IsSpent : {n : ℕ} {t : S} → n < turns → Quiet M s n t → step_refusal M t ≡ Some Spent
-      → Advances M s log turns (advanced n why.Spent) t log
-  WantsMemory : {n : ℕ} {t : S} → n < turns → Quiet M s n t → step_refusal M t ≡ None
-      → Advances M s log turns (advanced n why.Memory) t log
-
--- why a guest that is refused a step stops
-abbrev pub why_of : Fault → Why
-why_of Idle = why.Idle
-why_of Spent = why.Spent
-why_of _ = why.Memory
+-- an advance is a run of the guest, which leaves that log
+pub record Advances {S : Type 0} (M : Machine S) (s : S) (log : Log) (turns : ℕ) (a : Stopped) (t : S) (new : Log)
+    : Type 0 where
+  pub runs : RunsOn M s turns a t
+  pub log_is : new ≡ logged log (M.count t) a.reason
 
 -- the log's refusal comes before the guest's
 abbrev pub refusal_behind : Result (Unit {0}) Fault → Option Fault → Option Fault
@@ -53,19 +39,32 @@ advance_refusal M s log zero = None
 advance_refusal M s log (suc turns) = refusal_behind (room_answer log) (step_refusal M s)
 
 -- an advance that nothing refuses executes a step or runs out of memory, unless it has no turns
-abbrev pub AdvancesSome : {S : Type 0} → Machine S → S → Log → ℕ → Result Advanced Fault → S → Log → Type 0
+abbrev pub AdvancesSome : {S : Type 0} → Machine S → S → Log → ℕ → Result Stopped Fault → S → Log → Type 0
 AdvancesSome M s log turns (Ok a) t new = Advances M s log turns a t new × ((turns ≡ 0) ⊎ (0 < a.steps))
 AdvancesSome M s log turns (Err fault) t new = (fault ≡ OutOfMemory) × (0 < turns) × (t ≡ s) × (new ≡ log)
 
 -- what an advance returns and leaves; a refusal changes nothing
-abbrev pub AdvancesUnless : {S : Type 0} → Machine S → S → Log → ℕ → Option Fault → Result Advanced Fault → S → Log
+abbrev pub AdvancesUnless : {S : Type 0} → Machine S → S → Log → ℕ → Option Fault → Result Stopped Fault → S → Log
     → Type 0
 AdvancesUnless M s log turns (Some fault) answer t new = (answer ≡ Err fault) × (t ≡ s) × (new ≡ log)
 AdvancesUnless M s log turns None answer t new = AdvancesSome M s log turns answer t new
 
 -- ---- offer
 
--- the guest's refusal comes before the log's; otherwise the answer is the entry's index
+-- nothing refuses an input: it is one for the guest, which has a number left for a key, and the log has room
+pub record MayTake {S : Type 0} (M : Machine S) (s : S) (log : Log) (input : Input) : Type 0 where
+  pub is_input : IsInput input
+  pub numbered : IsNumbered input
+  pub guest : refusal_of M s input ≡ None
+  pub number_left : HasRoom M s input
+  pub room : room_answer log ≡ Ok tt
+
+-- the guest's refusal comes before the log's
+abbrev pub check_answer : Option Fault → Log → Result (Unit {0}) Fault
+check_answer (Some fault) log = Err fault
+check_answer None log = room_answer log
+
+-- the same of an offer, whose answer is the entry's index
 abbrev pub offer_answer : Option Fault → Log → Result ℕ Fault
 offer_answer (Some fault) log = Err fault
 offer_answer None log = push_answer log

@@ -1,13 +1,11 @@
 //! A guest that runs, with the log of its inputs and of its operations.
 #![tactic(auto)]
 
-mod advanced;
 mod laws;
 mod recorder;
 mod run;
 #[cfg(test)]
 mod tests;
 
-pub use advanced::{Advanced, Why};
 pub use laws::{moves_are_recorded, recorded_runs_are_runs};
 pub use recorder::Recorder;

@@ -1,17 +1,17 @@
 //! A guest with the log of its moves.
-ghost use Rattle.std.specs.Prelude.{◌≡◌, OnErr, OnOk};
+ghost use Rattle.std.specs.Prelude.{◌≡◌, Ok, OnErr, OnOk};
 ghost use Rattle.guest_board.specs.Lockstep.{HasRoom, IsInput};
 ghost use Rattle.guest_board.specs.Machine.{refusal_of};
 ghost use Rattle.log_buffer.specs.contracts.buffer.LogBuffer as buffer;
+ghost use Rattle.log_buffer.specs.Log.{next_of};
 ghost use Rattle.log_entry.specs.Entries.{entry_of};
 ghost use Rattle.log_entry.specs.Spelling.{IsEntry};
 ghost use Rattle.recorder.specs.Recording as table;
 ghost use Rattle.recorder.specs.contracts.recorder.Recorder.{the_row};
 ghost use Rattle.std.specs.Borrow.{Lends, sem};
 
-use crate::advanced::{Advanced, Why};
 use crate::run::run;
-use guest_board::{Input, Lockstep};
+use guest_board::{Input, Lockstep, StopReason, Stopped};
 use i8080_words::R;
 use log_buffer::LogBuffer;
 use log_entry::Entry;
@@ -66,24 +66,52 @@ impl<B: Lockstep> Recorder<B> {
     /// Executes at most `turns` steps, and stops after the first that gives an operation, whose mark is logged. Refused
     /// only if no step is executed: `LogFull` and `Spent` by the log, `Spent` and `Idle` by the guest, and
     /// `OutOfMemory`.
-    pub fn advance(&mut self, turns: u64) -> R<Advanced>
+    pub fn advance(&mut self, turns: u64) -> R<Stopped>
         ensures answer { table.AdvancesUnless B.machine (B.state self.old.board) self.old.log turns
             (table.advance_refusal B.machine (B.state self.old.board) self.old.log turns) result
             (B.state self.new.board) self.new.log }
         ensures unchanged { OnErr result (self.new ≡ self.old) }
     {
         if turns == 0 {
-            return Ok(Advanced {
+            return Ok(Stopped {
                 steps: 0,
-                why: Why::Turns,
+                reason: StopReason::Turns,
             });
         }
         self.log.room()?;
         run(&mut self.board, &mut self.log, turns)
     }
 
-    /// Takes an input, and logs it at the guest's count, as an entry that can be spelled. Returns the index of the
-    /// entry. Allocates no memory, and is refused as the guest refuses the input, and then as the log refuses an entry.
+    /// Whether `offer` would take an input: returns its refusal, and changes nothing.
+    pub fn check(&self, input: &Input) -> R<()>
+        requires input { IsInput input.now }
+        requires room { HasRoom B.machine (B.state self.now.board) input.now }
+        ensures answer { result
+            ≡ table.check_answer (refusal_of B.machine (B.state self.now.board) input.now) self.now.log }
+        ensures may { OnOk result (table.MayTake B.machine (B.state self.now.board) self.now.log input.now) }
+    {
+        self.board.check(input)?;
+        self.log.room()
+    }
+
+    /// Takes an input that nothing refuses, and logs it at the guest's count, as an entry that can be spelled. Returns
+    /// the index of the entry. Allocates no memory.
+    pub fn accept(&mut self, input: Input) -> u64
+        requires { table.MayTake B.machine (B.state self.old.board) self.old.log input }
+        ensures index { result ≡ next_of self.old.log }
+        ensures after { table.Offers B.machine (B.state self.old.board) self.old.log input (Ok result)
+            (B.state self.new.board) self.new.log }
+        ensures entry { IsEntry (entry_of (B.machine.count (B.state self.old.board)) input) }
+    {
+        let entry = Entry::of_input(self.board.count(), input);
+        match (self.log.push(entry), self.board.take(input)) {
+            (Ok(index), Ok(())) => index,
+            _ => unreachable!(),
+        }
+    }
+
+    /// Takes an input as `accept` does, unless it is refused: as the guest refuses the input, and then as the log
+    /// refuses an entry.
     pub fn offer(&mut self, input: Input) -> R<u64>
         requires input { IsInput input }
         requires room { HasRoom B.machine (B.state self.old.board) input }
@@ -95,12 +123,7 @@ impl<B: Lockstep> Recorder<B> {
         ensures entry { OnOk result
             (IsEntry (entry_of (B.machine.count (B.state self.old.board)) input)) }
     {
-        self.board.check(&input)?;
-        let entry = Entry::of_input(self.board.count(), input);
-        let index = self.log.push(entry)?;
-        match self.board.take(input) {
-            Ok(()) => Ok(index),
-            Err(_) => unreachable!(),
-        }
+        self.check(&input)?;
+        Ok(self.accept(input))
     }
 }

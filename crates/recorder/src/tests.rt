@@ -1,10 +1,10 @@
 //! A recorder at the limits of its log and of its guest.
 ghost use Rattle.guest_board.specs.Lockstep.{IsInput};
 
-use crate::{Advanced, Recorder, Why};
+use crate::Recorder;
 use echo_guest::Echo;
 use event_callbacks::OpId;
-use guest_board::{Input, Lockstep};
+use guest_board::{Input, Lockstep, StopReason, Stopped};
 use i8080_words::{Fault, R};
 use log_buffer::LogBuffer;
 use log_entry::Entry;
@@ -20,8 +20,8 @@ fn offer(rt: &impl Abort, recorder: &mut Recorder<Echo>, input: Input) -> R<u64>
     recorder.offer(input)
 }
 
-fn came(steps: u64, why: Why) -> R<Advanced> {
-    Ok(Advanced { steps, why })
+fn came(steps: u64, reason: StopReason) -> R<Stopped> {
+    Ok(Stopped { steps, reason })
 }
 
 #[test]
@@ -42,11 +42,11 @@ fn a_full_log_takes_nothing_until_an_entry_is_dropped(rt: HostRuntime) -> R<()> 
         Err(Fault::LogFull)
     );
     assert_eq!(rt; recorder.advance(1), Err(Fault::LogFull));
-    assert_eq!(rt; recorder.advance(0), came(0, Why::Turns));
+    assert_eq!(rt; recorder.advance(0), came(0, StopReason::Turns));
     let log = recorder.log_mut();
     assert!(rt; log.next() == 256);
     log.drop_to(1);
-    assert_eq!(rt; recorder.advance(1), came(1, Why::Turns));
+    assert_eq!(rt; recorder.advance(1), came(1, StopReason::Turns));
     assert_eq!(rt; recorder.into_board().count(), 1);
     Ok(())
 }
@@ -54,24 +54,24 @@ fn a_full_log_takes_nothing_until_an_entry_is_dropped(rt: HostRuntime) -> R<()> 
 #[test]
 fn an_advance_stops_after_an_operation_and_logs_its_mark(rt: HostRuntime) -> R<()> {
     let mut recorder = Recorder::new(Echo::new(2), LogBuffer::new(rt.alloc(), 7)?);
-    assert_eq!(rt; recorder.advance(3), came(3, Why::Turns));
+    assert_eq!(rt; recorder.advance(3), came(3, StopReason::Turns));
     assert_eq!(rt;
         offer(&rt, &mut recorder, Input::Sent(0)),
         Err(Fault::NotDue)
     );
     assert_eq!(rt; offer(&rt, &mut recorder, Input::Rx(0, 0x48)), Ok(7));
-    let given = Why::Operation(OpId::Byte(0, 1), 8);
+    let given = StopReason::Operation(OpId::Byte(0, 1));
     assert_eq!(rt; recorder.advance(9), came(2, given));
     assert_eq!(rt; recorder.log().get(8), Some(&Entry::Mark { count: 5 }));
     assert_eq!(rt; recorder.advance(9), Err(Fault::Idle));
     assert_eq!(rt; offer(&rt, &mut recorder, Input::Rx(1, 0x49)), Ok(9));
-    assert_eq!(rt; recorder.advance(9), came(1, Why::Idle));
+    assert_eq!(rt; recorder.advance(9), came(1, StopReason::Refused(Fault::Idle)));
     assert_eq!(rt; offer(&rt, &mut recorder, Input::Sent(0)), Ok(10));
     assert_eq!(rt;
         recorder.log().get(10),
         Some(&Entry::Sent { count: 6, port: 0 })
     );
-    let given = Why::Operation(OpId::Byte(0, 2), 11);
+    let given = StopReason::Operation(OpId::Byte(0, 2));
     assert_eq!(rt; recorder.advance(1), came(1, given));
     assert_eq!(rt; recorder.log().next(), 12);
     Ok(())
@@ -81,7 +81,7 @@ fn an_advance_stops_after_an_operation_and_logs_its_mark(rt: HostRuntime) -> R<(
 fn want_of_memory_is_refused_where_no_step_is_made(rt: HostRuntime) -> R<()> {
     let mut recorder = Recorder::new(Echo::new(0), LogBuffer::new(rt.alloc(), 0)?);
     assert_eq!(rt; offer(&rt, &mut recorder, Input::Rx(0, 0x48)), Ok(0));
-    assert_eq!(rt; recorder.advance(9), came(1, Why::Memory));
+    assert_eq!(rt; recorder.advance(9), came(1, StopReason::Refused(Fault::OutOfMemory)));
     assert_eq!(rt; recorder.advance(9), Err(Fault::OutOfMemory));
     assert_eq!(rt; (recorder.board().count(), recorder.log().next()), (1, 1));
     Ok(())

@@ -3,10 +3,11 @@ use Rattle.std.proofs.Common.{[], ◌++◌, ◌<◌, ◌∷◌, ◌≡◌, List,
 use Rattle.event_callbacks.specs.declared.operations.OpId.TheVariants as id
 use Rattle.event_callbacks.specs.declared.operations.Operation.TheVariants.{Write}
 use Rattle.guest_board.specs.Machine.{Machine}
+use Rattle.guest_board.specs.declared.running.StopReason.TheVariants as reason
 use Rattle.i8080_words.specs.declared.refusal.Fault.TheVariants.{WrongRole}
 use Rattle.log_entry.specs.declared.entry.Entry.TheVariants.{Mark}
 use Rattle.pair_protocol.specs.Copying.{Copying}
-use Rattle.pair_protocol.specs.Event.{Accepted, Acknowledge, Arrive, DeliverLog, Drain, Dropped, Event, Gave, MessageIs, MovedAlone, New, Ran, Refused, Release, Reply, Send, Step, Stop, Stopped, Suspect, TakeKey, TypeByte, TypedAt, Won}
+use Rattle.pair_protocol.specs.Event.{Accepted, Acknowledge, Arrive, DeliverLog, Drain, Dropped, Event, MessageIs, MovedAlone, New, Ran, Refused, Release, Reply, Send, Step, Stop, Stopped, Suspect, TakeKey, TypeByte, TypedAt, Won}
 use Rattle.pair_protocol.specs.Examples.{TakesOver, WritesDisk, letter, sector_write, small, small_copying}
 use Rattle.pair_protocol.specs.Lawful.{top}
 use Rattle.pair_protocol.specs.Node.{Alone, Node, Primary}
@@ -78,7 +79,7 @@ first_events = Step 0 10 ∷ Send 0 0 ∷ DeliverLog 0 1 ∷ Acknowledge 1 ∷ S
     Drain 1 10 ∷ []
 
 abbrev first_replies : List Reply
-first_replies = Ran 6 6 (Gave (id.Byte 0 1)) ∷ MessageIs 0 ∷ New ∷ MessageIs 1 ∷ Stopped ∷ Won ∷ TypedAt 0 ∷ Refused
+first_replies = Ran 6 6 (reason.Operation (id.Byte 0 1)) ∷ MessageIs 0 ∷ New ∷ MessageIs 1 ∷ Stopped ∷ Won ∷ TypedAt 0 ∷ Refused
     WrongRole ∷ MovedAlone 7 ∷ []
 
 until_drained : Run small small_copying (opening small) first_events first_replies drained

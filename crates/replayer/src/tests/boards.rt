@@ -22,7 +22,7 @@ use i8080_words::{Fault, R};
 use log_buffer::LogBuffer;
 use log_channel::{Packet, Receiver, Sender};
 use log_entry::Entry;
-use recorder::{Advanced, Recorder, Why};
+use recorder::Recorder;
 use std::alloc::Global;
 use std::process::Abort;
 
@@ -74,7 +74,7 @@ fn advance<B: Lockstep>(
     recorder: &mut Recorder<B>,
     turns: u64,
     steps: u64,
-    why: Why,
+    reason: StopReason,
 )
     ensures { (moves : List Move) × Records B.machine (B.state recorder.old.board) recorder.old.log moves
         (B.state recorder.new.board) recorder.new.log }
@@ -114,13 +114,13 @@ fn echo_keys<B: Lockstep>(rt: &impl Abort, recorder: &mut Recorder<B>)
     ensures { (moves : List Move) × Records B.machine (B.state recorder.old.board) recorder.old.log moves
         (B.state recorder.new.board) recorder.new.log }
 {
-    advance(rt, recorder, 7, 7, Why::Turns);
+    advance(rt, recorder, 7, 7, StopReason::Turns);
     offer(rt, recorder, Input::Rx(0, 0x48), 0);
-    advance(rt, recorder, 99, 5, Why::Operation(OpId::Byte(0, 1), 1));
-    advance(rt, recorder, 3, 3, Why::Turns);
+    advance(rt, recorder, 99, 5, StopReason::Operation(OpId::Byte(0, 1)));
+    advance(rt, recorder, 3, 3, StopReason::Turns);
     offer(rt, recorder, Input::Sent(0), 2);
     offer(rt, recorder, Input::Rx(0, 0x49), 3);
-    advance(rt, recorder, 99, 7, Why::Operation(OpId::Byte(0, 2), 4));
+    advance(rt, recorder, 99, 7, StopReason::Operation(OpId::Byte(0, 2)));
 }
 
 // A sector comes under the head, and is written.
@@ -128,10 +128,10 @@ fn write_sector<B: Lockstep>(rt: &impl Abort, recorder: &mut Recorder<B>)
     ensures { (moves : List Move) × Records B.machine (B.state recorder.old.board) recorder.old.log moves
         (B.state recorder.new.board) recorder.new.log }
 {
-    advance(rt, recorder, 10, 10, Why::Turns);
+    advance(rt, recorder, 10, 10, StopReason::Turns);
     offer(rt, recorder, FIRST_READ, 5);
-    advance(rt, recorder, 9999, 962, Why::Operation(OpId::Write(1), 6));
-    advance(rt, recorder, 1, 1, Why::Turns);
+    advance(rt, recorder, 9999, 962, StopReason::Operation(OpId::Write(1)));
+    advance(rt, recorder, 1, 1, StopReason::Turns);
     offer(rt, recorder, Input::Written(1), 7);
 }
 
