@@ -2,8 +2,9 @@
 
 use circular_buffer::HeapCircularBuffer;
 use event_callbacks::OpId;
+use guest_board::StopReason;
 use i8080_words::R;
-use pair_events::{Event, Reply, Why};
+use pair_events::{Event, Reply};
 use std::alloc::Global;
 
 // How many of the latest messages of a kind, and of the latest operations, are remembered.
@@ -47,7 +48,7 @@ impl Seen {
         match reply {
             Reply::Message { message } => self.note_message(event, message),
             Reply::Ran {
-                why: Why::Operation(id),
+                why: StopReason::Operation(id),
                 ..
             } => {
                 let _ = self.operations.push_back(id);
