@@ -236,12 +236,8 @@ bytes-take moves g u (Sent port) b h =
     let d = and_parts (nat_lt port 2) (serial.is_sent_due (port_of g.devices port)) t.0 in
     subst (Bytes (moves ++ Take (Sent port) ∷ [])) t.1
     (bytes-accepted moves g port b (ltb-true port 2 d.0) (ltb-true 0 (port_of g.devices port).unaccepted d.1))
-bytes-take moves g u (Sector drive sector number bytes) b h =
-    subst (Bytes (moves ++ Take (Sector drive sector number bytes) ∷ [])) (cond_some _ _ u h).1
-    (bytes-still moves (Take (Sector drive sector number bytes)) g _ b (λ p. refl) (λ p. refl) refl refl (λ p. refl))
-bytes-take moves g u (Written number) b h =
-    subst (Bytes (moves ++ Take (Written number) ∷ [])) (cond_some _ _ u h).1
-    (bytes-still moves (Take (Written number)) g _ b (λ p. refl) (λ p. refl) refl refl (λ p. refl))
+bytes-take moves g u i b h = subst (Bytes (moves ++ Take i ∷ [])) (cond_some _ _ u h).1
+    (bytes-still moves (Take i) g _ b (λ p. refl) (λ p. refl) refl refl (λ p. refl))
 
 pub bytes_after : (setup : Setup) (sectors : SectorAddress → List ℕ) (moves : List Move) (g : Guest)
     → Reaches (altair setup sectors) moves g → Bytes moves g

@@ -17,6 +17,7 @@ use Rattle.disk_dcdd.specs.declared.drive.Drive.{Drive}
 use Rattle.disk_dcdd.specs.declared.drive.TheConstants.{TRACKS}
 use Rattle.disk_dcdd.specs.declared.sector.CurrentSector.{CurrentSector}
 use Rattle.disk_dcdd.specs.declared.sector.TheConstants.{SECTOR_BYTES}
+use Rattle.pair_protocol.proofs.Passed.{or-false}
 use Rattle.altair_laws.proofs.Drives.{LAST_BYTE, IsOver, Stands, Calm, calm-refl, Continues, Same, same-over, keeps}
 
 -- the bits of OUT 09h
@@ -41,16 +42,12 @@ where_not_set : (command bit : ℕ) (change : Drive → Drive) (drive : Drive) �
     → where_set command bit change drive ≡ drive
 where_not_set command bit change drive e = ap (λ b. cond b (change drive) drive) e
 
-no_or : (a b : Bool) → (a || b) ≡ false → (a ≡ false) × (b ≡ false)
-no_or true b e = (cc)
-no_or false b e = (refl, e)
-
 -- if the head does not move, the drive is at most loaded
 unmoved : (command : ℕ) (drive : Drive) → moves_head command ≡ false
     → commanded_drive command drive ≡ where_set command HEAD_LOAD loaded drive
 unmoved command drive e =
-    let all = no_or (has_bit command STEP_IN || has_bit command STEP_OUT) (has_bit command HEAD_UNLOAD) e in
-    let steps = no_or (has_bit command STEP_IN) (has_bit command STEP_OUT) all.0 in
+    let all = or-false (has_bit command STEP_IN || has_bit command STEP_OUT) (has_bit command HEAD_UNLOAD) e in
+    let steps = or-false (has_bit command STEP_IN) (has_bit command STEP_OUT) all.0 in
     where_not_set command HEAD_UNLOAD unloaded _ all.1
     ∙ ap (where_set command HEAD_LOAD loaded)
     (where_not_set command STEP_OUT stepped_out _ steps.1 ∙ where_not_set command STEP_IN stepped_in drive steps.0)
@@ -118,7 +115,7 @@ commanded-over d command drive h a e (Some s) over = at (is_written s || moves_h
         (IsOver (commanded d command drive))
     at true q = tt
     at false q =
-        let m = (no_or (is_written s) (moves_head command) q).1 in
+        let m = (or-false (is_written s) (moves_head command) q).1 in
         let is : drive_of (commanded d command drive) drive ≡ where_set command HEAD_LOAD loaded (drive_of d drive) =
         drive_is ∙ unmoved command (drive_of d drive) m in
         let track : (drive_of (commanded d command drive) drive).track ≡ (drive_of d drive).track =

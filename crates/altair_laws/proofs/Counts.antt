@@ -92,15 +92,8 @@ counts-take moves g u (Rx port byte) c h =
     let t = cond_some (nat_lt port 2 && nat_lt (slice_index g.keys port) GREATEST_NUMBER) (after_rx g port byte) u h in
     subst (Counts (moves ++ Take (Rx port byte) ∷ [])) t.1
     (counts-rx moves g port byte c (ltb-true port 2 (and_parts (nat_lt port 2) _ t.0).0))
-counts-take moves g u (Sent port) c h =
-    subst (Counts (moves ++ Take (Sent port) ∷ [])) (cond_some _ _ u h).1
-    (counts-still moves (Take (Sent port)) g _ c (omega arith) refl (λ p. refl))
-counts-take moves g u (Sector drive sector number bytes) c h =
-    subst (Counts (moves ++ Take (Sector drive sector number bytes) ∷ [])) (cond_some _ _ u h).1
-    (counts-still moves (Take (Sector drive sector number bytes)) g _ c (omega arith) refl (λ p. refl))
-counts-take moves g u (Written number) c h =
-    subst (Counts (moves ++ Take (Written number) ∷ [])) (cond_some _ _ u h).1
-    (counts-still moves (Take (Written number)) g _ c (omega arith) refl (λ p. refl))
+counts-take moves g u i c h = subst (Counts (moves ++ Take i ∷ [])) (cond_some _ _ u h).1
+    (counts-still moves (Take i) g _ c (omega arith) refl (λ p. refl))
 
 pub counts_after : (setup : Setup) (sectors : SectorAddress → List ℕ) (moves : List Move) (g : Guest)
     → Reaches (altair setup sectors) moves g → Counts moves g

@@ -205,40 +205,29 @@ writes-to issued (Take i ∷ moves) v h = writes-to issued moves v h
 pub image-do :
     (issued : List SectorWrite) (q : SectorAddress) (bytes : List ℕ) (moves : List Move) (gives : Option Operation)
     → image_from issued q bytes (moves ++ Do gives ∷ []) ≡ image_from issued q bytes moves
-image-do issued q bytes [] None = refl
-image-do issued q bytes [] (Some (Byte port number byte)) = refl
 image-do issued q bytes [] (Some (Write v)) = refl
-image-do issued q bytes (Do None ∷ moves) gives = image-do issued q bytes moves gives
-image-do issued q bytes (Do (Some (Byte port number byte)) ∷ moves) gives = image-do issued q bytes moves gives
+image-do issued q bytes [] gives = refl
 image-do issued q bytes (Do (Some (Write v)) ∷ moves) gives = image-do (v ∷ issued) q bytes moves gives
-image-do issued q bytes (Take (Rx port byte) ∷ moves) gives = image-do issued q bytes moves gives
-image-do issued q bytes (Take (Sent port) ∷ moves) gives = image-do issued q bytes moves gives
-image-do issued q bytes (Take (Sector drive sector number others) ∷ moves) gives = image-do issued q bytes moves gives
+image-do issued q bytes (Do o ∷ moves) gives = image-do issued q bytes moves gives
 image-do issued q bytes (Take (Written number) ∷ moves) gives =
     image-do issued q (bytes_after issued number q bytes) moves gives
+image-do issued q bytes (Take i ∷ moves) gives = image-do issued q bytes moves gives
 
 -- what a sector has after an input
 abbrev pub image_after : List SectorWrite → Input → SectorAddress → List ℕ → List ℕ
-image_after issued (Rx port byte) q bytes = bytes
-image_after issued (Sent port) q bytes = bytes
-image_after issued (Sector drive sector number others) q bytes = bytes
 image_after issued (Written number) q bytes = bytes_after issued number q bytes
+image_after issued i q bytes = bytes
 
 pub image-take : (issued : List SectorWrite) (q : SectorAddress) (bytes : List ℕ) (moves : List Move) (i : Input)
     → image_from issued q bytes (moves ++ Take i ∷ [])
     ≡ image_after (writes_in issued moves) i q (image_from issued q bytes moves)
-image-take issued q bytes [] (Rx port byte) = refl
-image-take issued q bytes [] (Sent port) = refl
-image-take issued q bytes [] (Sector drive sector number others) = refl
 image-take issued q bytes [] (Written number) = refl
-image-take issued q bytes (Do None ∷ moves) i = image-take issued q bytes moves i
-image-take issued q bytes (Do (Some (Byte port number byte)) ∷ moves) i = image-take issued q bytes moves i
+image-take issued q bytes [] i = refl
 image-take issued q bytes (Do (Some (Write v)) ∷ moves) i = image-take (v ∷ issued) q bytes moves i
-image-take issued q bytes (Take (Rx port byte) ∷ moves) i = image-take issued q bytes moves i
-image-take issued q bytes (Take (Sent port) ∷ moves) i = image-take issued q bytes moves i
-image-take issued q bytes (Take (Sector drive sector number others) ∷ moves) i = image-take issued q bytes moves i
+image-take issued q bytes (Do o ∷ moves) i = image-take issued q bytes moves i
 image-take issued q bytes (Take (Written number) ∷ moves) i =
     image-take issued q (bytes_after issued number q bytes) moves i
+image-take issued q bytes (Take j ∷ moves) i = image-take issued q bytes moves i
 
 -- the one write with a number
 pub bytes-are : (vs : List SectorWrite) (number : ℕ) (q : SectorAddress) (bytes : List ℕ) (w : SectorWrite) → Among w vs

@@ -17,6 +17,7 @@ use Rattle.guest_board.specs.declared.setup.Setup.{Setup}
 use Rattle.i8080_words.specs.declared.registers.Processor.{Processor}
 use Rattle.altair_laws.specs.Stands.{IsWithin}
 use Rattle.pair_protocol.specs.Lawful.{top, Reaches}
+use Rattle.pair_protocol.proofs.Passed.{or-false}
 use Rattle.altair_laws.proofs.Moves.{from_boot}
 use Rattle.altair_laws.proofs.Steps.{Gave, GaveNothing, GaveByte, GaveWrite, steps_from, after_step}
 use Rattle.altair_laws.proofs.Sectors.{issues, after_data-issue}
@@ -45,19 +46,15 @@ set-within xs i x most h l k = go (set-cases xs i x 0 k)
     go (inl e) = omega arith
     go (inr e) = let m = h k in omega arith
 
-no_or : (a b : Bool) → (a || b) ≡ false → (a ≡ false) × (b ≡ false)
-no_or true b e = (cc)
-no_or false b e = (refl, e)
-
 -- a guest that is not spent has made fewer steps than it may
 unspent : (g : Guest) → is_spent g ≡ false → g.count < GREATEST_NUMBER
 unspent g e =
     let count = nat_le GREATEST_NUMBER g.count in
     let first = nat_le GREATEST_NUMBER (slice_index g.issued 0) in
     let second = nat_le GREATEST_NUMBER (slice_index g.issued 1) in
-    let a = no_or (count || first || second) (nat_le GREATEST_NUMBER g.devices.disk.issued) e in
-    let b = no_or (count || first) second a.0 in
-    leb-false GREATEST_NUMBER g.count (no_or count first b.0).0
+    let a = or-false (count || first || second) (nat_le GREATEST_NUMBER g.devices.disk.issued) e in
+    let b = or-false (count || first) second a.0 in
+    leb-false GREATEST_NUMBER g.count (or-false count first b.0).0
 
 within-boot : (setup : Setup) → IsWithin (guest_at_boot setup)
 within-boot setup = record {
@@ -102,30 +99,8 @@ within-take g u (Rx port byte) h e =
       writes = h.writes;
       keys = set-within g.keys port (slice_index g.keys port + 1) top h.keys (let t = top_is in omega arith);
     })
-within-take g u (Sent port) h e =
-    subst IsWithin (cond_some _ _ u e).1 (record {
-      count = h.count;
-      issued = h.issued;
-      writes = h.writes;
-      keys =
-          h.keys;
-    })
-within-take g u (Sector drive sector number bytes) h e =
-    subst IsWithin (cond_some _ _ u e).1 (record {
-      count = h.count;
-      issued = h.issued;
-      writes = h.writes;
-      keys =
-          h.keys;
-    })
-within-take g u (Written number) h e =
-    subst IsWithin (cond_some _ _ u e).1 (record {
-      count = h.count;
-      issued = h.issued;
-      writes = h.writes;
-      keys =
-          h.keys;
-    })
+within-take g u i h e =
+    subst IsWithin (cond_some _ _ u e).1 (record { count = h.count; issued = h.issued; writes = h.writes; keys = h.keys })
 
 pub within_after : (setup : Setup) (sectors : SectorAddress → List ℕ) (moves : List Move) (g : Guest)
     → Reaches (altair setup sectors) moves g → IsWithin g

@@ -144,14 +144,10 @@ standing-step drives start moves g u gives d k = record {
 whole-take : (drives : ℕ) (start : SectorAddress → List ℕ) (moves : List Move) (g u : Guest) (i : Input)
     → Standing drives start moves g
     → take_from g i ≡ Some u → AreWhole (moves ++ Take i ∷ []) → IsWholeSector u.devices.disk
-whole-take drives start moves g u (Rx port byte) d h a =
-    subst (λ (x : Guest). IsWholeSector x.devices.disk) (cond_some _ _ u h).1 (d.whole (whole-before moves _ a))
-whole-take drives start moves g u (Sent port) d h a =
-    subst (λ (x : Guest). IsWholeSector x.devices.disk) (cond_some _ _ u h).1 (d.whole (whole-before moves _ a))
 whole-take drives start moves g u (Sector drive sector number bytes) d h a =
     subst (λ (x : Guest). IsWholeSector x.devices.disk) (cond_some _ (after_sector g sector bytes) u h).1
     (whole-last moves (Sector drive sector number bytes) a)
-whole-take drives start moves g u (Written number) d h a =
+whole-take drives start moves g u i d h a =
     subst (λ (x : Guest). IsWholeSector x.devices.disk) (cond_some _ _ u h).1 (d.whole (whole-before moves _ a))
 
 few-set : (drives : ℕ) (start : SectorAddress → List ℕ) (moves : List Move) (g : Guest) (w : SectorWrite)
@@ -172,15 +168,6 @@ few-take : (drives : ℕ) (start : SectorAddress → List ℕ) (moves : List Mov
     → Standing drives start moves g
     → take_from g i ≡ Some u
     → (index : ℕ) → slice_index u.completed index ≤ u.devices.disk.issued
-few-take drives start moves g u (Rx port byte) d h =
-    subst (λ (x : Guest). (index : ℕ)
-    → slice_index x.completed index ≤ x.devices.disk.issued) (cond_some _ _ u h).1 d.few
-few-take drives start moves g u (Sent port) d h =
-    subst (λ (x : Guest). (index : ℕ)
-    → slice_index x.completed index ≤ x.devices.disk.issued) (cond_some _ _ u h).1 d.few
-few-take drives start moves g u (Sector drive sector number bytes) d h =
-    subst (λ (x : Guest). (index : ℕ)
-    → slice_index x.completed index ≤ x.devices.disk.issued) (cond_some _ _ u h).1 d.few
 few-take drives start moves g u (Written number) d h =
     let t = cond_some (is_outstanding g.devices.disk number) (after_written g number) u h in
     let f = any-find (λ (p : Place). p.number == number) g.devices.disk.outstanding t.0 in
@@ -190,13 +177,13 @@ few-take drives start moves g u (Written number) d h =
     (subst (λ o. (index : ℕ) → slice_index (with_completed g.completed o) index ≤ g.devices.disk.issued)
     (sym (subst (λ m. operation_at g.operations (id.Write m) ≡ Some (Write r.0)) n r.1))
     (few-set drives start moves g r.0 d r.1))
+few-take drives start moves g u i d h =
+    subst (λ (x : Guest). (index : ℕ)
+    → slice_index x.completed index ≤ x.devices.disk.issued) (cond_some _ _ u h).1 d.few
 
 attached-take : (g u : Guest) (i : Input) → take_from g i ≡ Some u → u.devices.disk.attached ≡ g.devices.disk.attached
 attached-take g u (Rx port byte) h = ap (λ (x : Guest). x.devices.disk.attached) (sym (cond_some _ _ u h).1)
-attached-take g u (Sent port) h = ap (λ (x : Guest). x.devices.disk.attached) (sym (cond_some _ _ u h).1)
-attached-take g u (Sector drive sector number bytes) h =
-    ap (λ (x : Guest). x.devices.disk.attached) (sym (cond_some _ _ u h).1)
-attached-take g u (Written number) h = ap (λ (x : Guest). x.devices.disk.attached) (sym (cond_some _ _ u h).1)
+attached-take g u i h = ap (λ (x : Guest). x.devices.disk.attached) (sym (cond_some _ _ u h).1)
 
 standing-take : Apart → (drives : ℕ) (start : SectorAddress → List ℕ) (moves : List Move) (g u : Guest) (i : Input)
     → Standing drives start moves g → take_from g i ≡ Some u → Standing drives start (moves ++ Take i ∷ []) u

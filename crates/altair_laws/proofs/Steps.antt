@@ -22,6 +22,7 @@ use Rattle.guest_board.specs.Machine.{Move, Do}
 use Rattle.guest_board.specs.Ports.{Wired, device_at, with_disk, with_port, devices_after_in, after_byte, after_serial_data, after_disk_data, write_given, after_out, after_access}
 use Rattle.altair_laws.proofs.Accesses.{Kind, Memory, Read, Sent, AreWrites, kind_of_step}
 use Rattle.altair_laws.proofs.Drives.{Calm, calm-refl, calm-position, calm-read, calm-select}
+use Rattle.pair_protocol.proofs.Passed.{or-false}
 use Rattle.altair_laws.proofs.Commands.{calm-command, calm-data}
 
 -- nothing is sent, and the controller is calm
@@ -215,10 +216,6 @@ pub record Steps (g u : Guest) (gives : Option Operation) : Type 0 where
   pub gives_is : behind.given ≡ gives
   pub unspent : is_spent g ≡ false
 
-no_or : (a b : Bool) → (a || b) ≡ false → (a ≡ false) × (b ≡ false)
-no_or true b e = (cc)
-no_or false b e = (refl, e)
-
 none_or : {A : Type 0} (b : Bool) (x y : A) → cond b None (Some x) ≡ Some y → (b ≡ false) × (x ≡ y)
 none_or true x y e = absurd (none-some y e)
 none_or false x y e = (refl, same_Some x y e)
@@ -232,7 +229,7 @@ steps_from g u gives h =
       gave = gave g;
       after = ap (λ (x : Guest × Option Operation). x.0) k.1;
       gives_is = ap (λ (x : Guest × Option Operation). x.1) k.1;
-      unspent = (no_or (is_spent g) (is_idle g) k.0).0;
+      unspent = (or-false (is_spent g) (is_idle g) k.0).0;
     }
 
 -- a claim holds after a step, by what holds of the guest that the step leaves

@@ -14,7 +14,7 @@ use Rattle.pair_protocol.specs.Change.{Reached}
 use Rattle.pair_protocol.specs.Copying.{IsCopying, no_copies}
 use Rattle.pair_protocol.specs.Lawful.{Among, Reaches}
 use Rattle.pair_protocol.specs.World.{Released, World}
-use Rattle.pair_protocol.proofs.InputRows.{same_get}
+use Rattle.pair_protocol.proofs.Traces.Lists.{among-get}
 use Rattle.pair_protocol.proofs.Traces.Moves.{runs-append}
 use Rattle.pair_protocol.proofs.Promises.Outputs.{trace_runs}
 use Rattle.pair_protocol.proofs.Promises.Faithful.{reached}
@@ -54,7 +54,7 @@ released_was_outstanding M drives m w o machine copies h there =
     let i = reached M no_copies machine.lawful copies w h in
     let r = trace_runs M no_copies w i in
     issued M machine.operations [] i.trace M.boot r.0 o refl r.1
-    (i.global.sends o (same_get w.messages m (Released o) there))
+    (i.global.sends o (among-get w.messages m (Released o) there))
 
 pub writes_on_disk : {S : Type 0} (M : Machine S) (drives m : ℕ) (w : World S) (write : SectorWrite) →
     IsMachine M drives → IsCopying M no_copies → Reached M no_copies w →

@@ -1,27 +1,16 @@
 -- The rows by which a primary or alone node takes an input: what passes the refusals is what an input may be.
-use Rattle.std.proofs.Common.{◌≡◌, ◌≤◌, [], ◌∷◌, ◌∙◌, List, None, Option, Some, ap, eqb-true, inl, inr, length, ltb-false, not, refl, subst, suc, sym, true, zero, ℕ}
-use Rattle.std.specs.Prelude.{slice_get, ◌==◌}
-use Rattle.disk_dcdd.specs.Address.{same_address}
-use Rattle.guest_board.specs.Machine.{Machine, refusal_of}
-use Rattle.guest_board.specs.declared.input.Input.{Input}
+use Rattle.std.proofs.Common.{◌∙◌, ◌≡◌, ◌≤◌, None, Option, Some, ap, eqb-true, inl, inr, length, ltb-false, not, refl, subst, sym, true, ℕ}
+use Rattle.std.specs.Prelude.{◌==◌, slice_get}
+use Rattle.pair_protocol.proofs.Words.{Acts, AloneTakes, Among, Change, Changes, Copying, Input, Machine, MayTake, Node, PrimaryTakes, Role, SectorRead, Serving, World, WriteDone, accepted, refusal_of, same_address, terminal, with_node}
 use Rattle.i8080_words.specs.declared.refusal.Fault.TheVariants.{NotDue, Unknown, WrongNumber}
-use Rattle.pair_protocol.specs.Change.{Acts, AloneTakes, Change, Changes, MayTake, PrimaryTakes, Serving}
-use Rattle.pair_protocol.specs.Copying.{Copying}
 use Rattle.pair_protocol.specs.Event.{GetReply, PutReply, Reply, TakeKey, TellSent}
-use Rattle.pair_protocol.specs.Lawful.{Among}
-use Rattle.pair_protocol.specs.Node.{Node, Role}
-use Rattle.pair_protocol.specs.Refusals.{at_write_done, at_sector_read, put_reply_refusal, fault_if, is_number, take_key_refusal, not_accepted, not_typed, refusal, tell_sent_refusal, serves, get_reply_refusal}
+use Rattle.pair_protocol.specs.Refusals.{at_sector_read, at_write_done, fault_if, get_reply_refusal, is_number, not_accepted, not_typed, put_reply_refusal, refusal, serves, take_key_refusal, tell_sent_refusal}
 use Rattle.pair_protocol.specs.Effects.{took}
-use Rattle.pair_protocol.specs.Rows.{Takes, TakesPutReply, TakesKey, TakesGetReply}
-use Rattle.pair_protocol.specs.World.{SectorRead, World, WriteDone, accepted, terminal, with_node}
-use Rattle.guest_board.specs.declared.input.Input.TheVariants as input
+use Rattle.pair_protocol.specs.Rows.{Takes, TakesGetReply, TakesKey, TakesPutReply}
 use Rattle.pair_protocol.proofs.Keeps.Disk.{same_address-is}
 use Rattle.pair_protocol.proofs.Passed.{changed, first-passed, node-passed, not-stands, only-passed, or-false, passes-if, serving}
-
-pub same_get : {A : Type 0} (xs : List A) (k : ℕ) (x : A) → slice_get xs k ≡ Some x → Among x xs
-same_get [] k x h = (cc)
-same_get (y ∷ xs) zero x h = inl (cc)
-same_get (y ∷ xs) (suc k) x h = inr (same_get xs k x h)
+use Rattle.pair_protocol.proofs.Traces.Lists.{among-get}
+use Rattle.guest_board.specs.declared.input.Input.TheVariants as input
 
 pub takes_once : {S : Type 0} (M : Machine S) (C : Copying S) (w : World S) (n : ℕ) (x : Node S) (r : Role) (s : S)
     (i : Input) → Serving r → Acts w n x r → MayTake M w x i → refusal_of M x.machine i ≡ None →
@@ -81,7 +70,7 @@ does_put_reply M C w m n r new p d =
     let q = (node-passed (slice_get w.nodes n) d.input.at.x (put_reply_refusal M d.number) d.input.at.there k).1 in
     let f = first-passed (serves d.input.at.x) _ q in
     takes M C w n (input.Written d.number) r new d.input f.0
-    (same_get w.messages m (WriteDone d.number) d.message)
+    (among-get w.messages m (WriteDone d.number) d.message)
     (first-passed (refusal_of M d.input.at.x.machine (input.Written d.number)) _ f.1).0
 
 pub does_get_reply : {S : Type 0} (M : Machine S) (C : Copying S) (w : World S) (m n : ℕ) (r : Reply) (new : World S) →
@@ -98,4 +87,4 @@ does_get_reply M C w m n r new p d =
     let h = (first-passed (refusal_of M x.machine (input.Sector a.drive a.sector d.number d.bytes)) _ g.1).0 in
     takes M C w n (input.Sector a.drive a.sector d.number d.bytes) r new d.input f.0
     (subst (λ z. Among (SectorRead z d.number d.bytes) w.messages) (sym e)
-    (same_get w.messages m (SectorRead a d.number d.bytes) d.message)) h
+    (among-get w.messages m (SectorRead a d.number d.bytes) d.message)) h

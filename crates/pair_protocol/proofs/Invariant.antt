@@ -1,31 +1,15 @@
 -- The inductive invariant of the protocol (`Inv`): what holds of every world that actions reach, strong enough that each
 -- action keeps it. Each generation has a line of moves, and all lines lead to the settled moves, which only get longer.
+pub mod Progress
 pub mod Settled
 pub mod Frames
 pub mod Acting
-use Rattle.std.proofs.Common.{[], ◌++◌, ◌+◌, ◌<◌, ◌∷◌, ◌≡◌, ◌≤◌, ◌⊎◌, List, None, Option, Some, length, map, suc, take, true, ℕ}
+use Rattle.std.proofs.Common.{[], ◌++◌, ◌+◌, ◌<◌, ◌≡◌, ◌≤◌, ◌⊎◌, List, None, Option, Some, length, map, true, ℕ}
 use Rattle.std.specs.Prelude.{slice_get}
-use Rattle.disk_dcdd.specs.Address.{address_of}
-use Rattle.disk_dcdd.specs.declared.address.SectorAddress.{SectorAddress}
-use Rattle.disk_dcdd.specs.declared.sector.SectorWrite.{SectorWrite}
-use Rattle.event_callbacks.specs.Operations.{id_of}
-use Rattle.event_callbacks.specs.declared.operations.Operation.{Operation}
-use Rattle.event_callbacks.specs.declared.operations.Operation.TheVariants.{Byte, Write}
-use Rattle.guest_board.specs.Machine.{Do, Machine, Move, Runs}
-use Rattle.guest_board.specs.Recorded.{Recorded}
-use Rattle.log_entry.specs.Entries.{entries}
-use Rattle.log_entry.specs.declared.entry.Entry.{Entry}
-use Rattle.guest_trace.specs.Reach.{Owns, acceptances, inputs, keys, operations, steps}
+use Rattle.pair_protocol.proofs.Words.{Acknowledgement, Alone, Among, Arrival, Backup, Byte, Copying, Draining, Entry, ImagePart, IsPrefix, Joining, LogEntry, Machine, Message, Move, Node, Operation, Owns, Primary, Recorded, Released, Replaying, Runs, SectorAddress, SectorRead, SectorWrite, Spare, Terminal, Timed, Winner, World, Write, WriteDone, acceptances, accepted_in, address_of, cut, entries, inputs, keys, operations, steps, terminal_in, winner_in}
 use Rattle.guest_trace.specs.declared.timed.Bare.TheVariants.{Written}
-use Rattle.guest_trace.specs.declared.timed.Timed.{Timed}
-use Rattle.pair_protocol.specs.Change.{Replaying}
-use Rattle.pair_protocol.specs.Copying.{Copying}
-use Rattle.pair_protocol.specs.Faithful.{IsPrefix}
-use Rattle.pair_protocol.specs.Lawful.{Among}
-use Rattle.pair_protocol.specs.Node.{Alone, Backup, Draining, Joining, Node, Note, Primary, Spare, note_of}
-use Rattle.pair_protocol.specs.Traces.{cut}
 use Rattle.pair_protocol.specs.Waiting.{is_read}
-use Rattle.pair_protocol.specs.World.{Acknowledgement, Arrival, ImagePart, LogEntry, Message, Released, SectorRead, Terminal, Winner, World, WriteDone, accepted_in, terminal_in, winner_in}
+pub use Rattle.pair_protocol.proofs.Invariant.Progress.{AreNoted, AtPlace, HasGathered, HasLogged, HasMade, HoldsLog, IsNoted, ReplayedMoves}
 
 -- Whether nobody has won a generation, or its primary, or its backup: the node that began it in that role.
 pub data Stage : Type 0 where
@@ -66,81 +50,44 @@ winner_at Undecided primary backup = None
 winner_at PrimaryWon primary backup = Some primary
 winner_at BackupWon primary backup = Some backup
 
--- The note of an operation.
-pub record IsNoted (c : ℕ) (own : List Move) (notes : List Note) (o : Operation) : Type 0 where
-  pub note : Note
-  pub found : note_of notes (id_of o) ≡ Some note
-  -- the operation was given at the noted entry, or before
-  pub given : Among o (operations (cut (suc note.index) own))
-  -- which is in the log
-  pub inside : note.index < length (entries c own)
-  -- a write waits for each read up to there
-  pub reads : (write : SectorWrite) → o ≡ Write write → (k : ℕ) (e : Entry) → k ≤ note.index →
-      slice_get (entries c own) k ≡ Some e → is_read e ≡ true → k < note.after
-
-abbrev pub AreNoted : ℕ → List Note → List Move → Type 0
-AreNoted c notes own = (o : Operation) → Among o (operations own) → IsNoted c own notes o
-
 -- The primary of a generation.
 pub record IsPrimary {S : Type 0} (M : Machine S) (l : Line S) (a : Node S) : Type 0 where
   -- it is a primary still, or alone because it has won
   pub role : (a.role ≡ Primary) ⊎ ((a.role ≡ Alone) × (l.stage ≡ PrimaryWon))
   -- its machine has made its own moves
-  pub runs : Runs M l.mid l.own a.machine
-  pub count : M.count a.machine ≡ steps l.base + steps l.own
-  -- its list has all its inputs, its copy those of the base
-  pub list : a.list ≡ inputs 0 (l.base ++ l.own)
+  pub made : HasMade M l.mid l.base l.own a.machine a.list
+  pub open made use *
+  -- its copy has the inputs of the base
   pub copy : a.copy ≡ inputs 0 l.base
-  -- its log has the entries of its own moves
-  pub log : a.role ≡ Primary → a.log ≡ entries (steps l.base) l.own
   -- what it knows to be acknowledged is held
   pub covered : a.covered ≤ length l.held
   -- its image, if any, is the machine at the end of the base
   pub image : (s : S) → a.image ≡ Some s → s ≡ l.mid
-  -- each operation of its own moves is noted
-  pub notes : a.role ≡ Primary → AreNoted (steps l.base) a.notes l.own
+  -- its log has the entries of its own moves, each operation of which is noted
+  pub logged : a.role ≡ Primary → HasLogged (steps l.base) l.own a.log a.notes
 
--- the moves have the replayed entries, or one mark more
-abbrev pub AtPlace : ℕ → List Move → List Entry → ℕ → Type 0
-AtPlace c ms held k =
-    (entries c ms ≡ take k held)
-    ⊎ ((short : List Move) × (o : Operation) × (ms ≡ short ++ Do (Some o) ∷ []) × (entries c short ≡ take k held)
-    × (k < length held))
+-- A node that replays has made some of the primary's moves.
+abbrev pub HasReplayed : {S : Type 0} → Machine S → Line S → Node S → Type 0
+HasReplayed M l b = ReplayedMoves M l.mid (steps l.base) l.own b.machine b.held b.replayed
 
--- A node that replays what it holds: ms are the moves that it has made.
-pub record HasReplayed {S : Type 0} (M : Machine S) (l : Line S) (b : Node S) : Type 0 where
-  pub ms : List Move
-  pub runs : Runs M l.mid ms b.machine
-  pub count : M.count b.machine ≡ steps l.base + steps ms
-  -- they are the primary's, and go no further than what it holds
-  pub within : IsPrefix ms (cut (length b.held) l.own)
-  pub few : b.replayed ≤ length b.held
-  pub place : AtPlace (steps l.base) ms b.held b.replayed
-
--- A joining node: the parts that it has are those of the machine at the end of the base.
-pub record HasGathered {S : Type 0} (M : Machine S) (C : Copying S) (l : Line S) (b : Node S) : Type 0 where
-  pub empty : b.held ≡ []
-  pub none : b.replayed ≡ 0
-  pub long : length b.parts ≡ length (C.parts l.mid)
-  pub each : (i : ℕ) (p : List ℕ) → slice_get b.parts i ≡ Some (Some p) → slice_get (C.parts l.mid) i ≡ Some p
+-- All moves since the base of a backup that is alone.
+abbrev pub alone_moves : {S : Type 0} → Line S → List Entry → List Move
+alone_moves l held = cut (length held) l.own ++ l.more
 
 -- What the backup of a generation has done, by its role.
 pub data BackupState {S : Type 0} (M : Machine S) (C : Copying S) (l : Line S) (b : Node S) : Type 0 where
-  AsJoining : b.role ≡ Joining → (l.stage ≡ BackupWon → ⊥) → HasGathered M C l b → BackupState M C l b
+  AsJoining : b.role ≡ Joining → (l.stage ≡ BackupWon → ⊥) → HasGathered (C.parts l.mid) b.held b.replayed b.parts →
+      BackupState M C l b
   AsBackup : b.role ≡ Backup → (l.stage ≡ BackupWon → ⊥) → HasReplayed M l b → BackupState M C l b
   AsDraining : b.role ≡ Draining → l.stage ≡ BackupWon → l.more ≡ [] → HasReplayed M l b → BackupState M C l b
-  AsAlone : b.role ≡ Alone → l.stage ≡ BackupWon → Runs M l.mid (cut (length b.held) l.own ++ l.more) b.machine →
-      M.count b.machine ≡ steps l.base + steps (cut (length b.held) l.own ++ l.more) →
-      b.list ≡ inputs 0 (l.base ++ (cut (length b.held) l.own ++ l.more)) → BackupState M C l b
+  AsAlone : b.role ≡ Alone → l.stage ≡ BackupWon → HasMade M l.mid l.base (alone_moves l b.held) b.machine b.list →
+      BackupState M C l b
 
 -- The backup of a generation.
 pub record IsBackup {S : Type 0} (M : Machine S) (C : Copying S) (l : Line S) (b : Node S) : Type 0 where
   pub state : BackupState M C l b
-  -- its copy has the inputs of the base, and its entries start at the count of the base
-  pub copy : b.copy ≡ inputs 0 l.base
-  pub start : b.start ≡ steps l.base
-  -- what it holds is a prefix of the primary's log
-  pub held : IsPrefix b.held (entries (steps l.base) l.own)
+  pub log : HoldsLog l.base l.own b.copy b.start b.held
+  pub open log use *
 
 -- the primary is still of the generation
 pub record PrimaryHere {S : Type 0} (M : Machine S) (nodes : List (Node S)) (g : ℕ) (l : Line S) : Type 0 where

@@ -1,3 +1,4 @@
+pub mod Words
 pub mod Traces
 pub mod Waiting
 pub mod Invariant

@@ -1,14 +1,9 @@
 -- Steps and replayed entries of one node, one action after another.
-use Rattle.std.proofs.Common.{◌≡◌, [], ◌∷◌, ◌∙◌, List, None, Option, Some, ap, inl, inr, refl, set-set, subst, suc, sym, true, zero, ℕ}
+use Rattle.std.proofs.Common.{[], ◌∙◌, ◌∷◌, ◌≡◌, List, None, Option, Some, ap, inl, inr, refl, set-set, subst, suc, sym, true, zero, ℕ}
 use Rattle.std.specs.Prelude.{slice_get, slice_set}
-use Rattle.event_callbacks.specs.declared.operations.Operation.{Operation}
-use Rattle.guest_board.specs.Machine.{Machine}
-use Rattle.pair_protocol.specs.Change.{Acts, AloneSteps, Change, Changes, PrimarySteps, Replaying, ReplaysInput, ReplaysMark, ReplaysStep, Serving, Stays, Then}
-use Rattle.pair_protocol.specs.Copying.{Copying}
+use Rattle.pair_protocol.proofs.Words.{Acts, Alone, AloneSteps, Backup, Change, Changes, Copying, Draining, Joining, Machine, Node, Operation, Primary, PrimarySteps, Replaying, ReplaysInput, ReplaysMark, ReplaysStep, Role, Serving, Spare, Stays, Then, World, passes_input, passes_mark, plainly_steps, with_node}
 use Rattle.guest_board.specs.declared.running.StopReason.{StopReason}
-use Rattle.pair_protocol.specs.Node.{Alone, Backup, Draining, Joining, Node, Primary, Role, Spare, passes_input, passes_mark, plainly_steps}
 use Rattle.pair_protocol.specs.Effects.{Advances, AtEnd, Ends, Gives, Goes, NoMemory, NoTurns, NoneLeft, OneInput, OneMark, OneStep, Replays, Short, Waits, stepped}
-use Rattle.pair_protocol.specs.World.{World, with_node}
 use Rattle.pair_protocol.proofs.Traces.Lists.{get_set}
 
 -- ---- one node's moves

@@ -1,25 +1,17 @@
 -- What is known of a node and of a message if no refusal applies.
-use Rattle.std.proofs.Common.{◌≡◌, [], ◌∷◌, ◌⊎◌, ◌∙◌, Bool, List, None, Option, Some, ap, cond, false, inl, inr, not, refl, subst, sym, true, ℕ}
-use Rattle.std.specs.Prelude.{slice_get, ◌&&◌, ◌||◌}
-use Rattle.guest_board.specs.Machine.{Machine}
+use Rattle.std.proofs.Common.{[], ◌∙◌, ◌∷◌, ◌≡◌, ◌⊎◌, Bool, List, None, Option, Some, ap, cond, false, inl, inr, not, refl, subst, sym, true, ℕ}
+use Rattle.std.specs.Prelude.{◌&&◌, ◌||◌, slice_get}
+use Rattle.pair_protocol.proofs.Words.{Acts, Alone, Among, Backup, Change, Changes, Copying, Draining, Joining, Machine, Node, Primary, Role, Serving, Spare, Stays, Then, World, acts_as, is_role}
 use Rattle.i8080_words.specs.declared.refusal.Fault.{Fault}
 use Rattle.i8080_words.specs.declared.refusal.Fault.TheVariants.{Lost, Unknown, WrongRole}
-use Rattle.pair_protocol.specs.Change.{Acts, Change, Changes, Serving, Stays, Then}
-use Rattle.pair_protocol.specs.Copying.{Copying}
-use Rattle.pair_protocol.specs.Lawful.{Among}
-use Rattle.pair_protocol.specs.Node.{Alone, Backup, Draining, Joining, Node, Primary, Role, Spare, acts_as, is_role}
 use Rattle.pair_protocol.specs.Refusals.{at_node, fault_if, first_of, role_refusal, serves}
-use Rattle.pair_protocol.specs.World.{World}
-
-pub one : {S : Type 0} (M : Machine S) (C : Copying S) (w new : World S) → Change M C w new → Changes M C w new
-one M C w new c = Then c Stays
 
 pub unchanged : {S : Type 0} (M : Machine S) (C : Copying S) (w new : World S) → new ≡ w → Changes M C w new
 unchanged M C w new e = subst (λ v. Changes M C w v) (sym e) Stays
 
 pub changed : {S : Type 0} (M : Machine S) (C : Copying S) (w new v : World S) → new ≡ v → Change M C w v →
     Changes M C w new
-changed M C w new v e c = subst (λ u. Changes M C w u) (sym e) (one M C w v c)
+changed M C w new v e c = subst (λ u. Changes M C w u) (sym e) (Then c Stays)
 
 pub changes-append : {S : Type 0} (M : Machine S) (C : Copying S) (w v new : World S) → Changes M C w v →
     Changes M C v new → Changes M C w new
@@ -57,49 +49,12 @@ and-false false b e h = (cc)
 
 pub role_of : (a b : Role) → is_role a b ≡ true → a ≡ b
 role_of Primary Primary h = refl
-role_of Primary Backup h = (cc)
-role_of Primary Joining h = (cc)
-role_of Primary Draining h = (cc)
-role_of Primary Alone h = (cc)
-role_of Primary Spare h = (cc)
-role_of Backup Primary h = (cc)
 role_of Backup Backup h = refl
-role_of Backup Joining h = (cc)
-role_of Backup Draining h = (cc)
-role_of Backup Alone h = (cc)
-role_of Backup Spare h = (cc)
-role_of Joining Primary h = (cc)
-role_of Joining Backup h = (cc)
 role_of Joining Joining h = refl
-role_of Joining Draining h = (cc)
-role_of Joining Alone h = (cc)
-role_of Joining Spare h = (cc)
-role_of Draining Primary h = (cc)
-role_of Draining Backup h = (cc)
-role_of Draining Joining h = (cc)
 role_of Draining Draining h = refl
-role_of Draining Alone h = (cc)
-role_of Draining Spare h = (cc)
-role_of Alone Primary h = (cc)
-role_of Alone Backup h = (cc)
-role_of Alone Joining h = (cc)
-role_of Alone Draining h = (cc)
 role_of Alone Alone h = refl
-role_of Alone Spare h = (cc)
-role_of Spare Primary h = (cc)
-role_of Spare Backup h = (cc)
-role_of Spare Joining h = (cc)
-role_of Spare Draining h = (cc)
-role_of Spare Alone h = (cc)
 role_of Spare Spare h = refl
-
-pub is_role-refl : (a : Role) → is_role a a ≡ true
-is_role-refl Primary = refl
-is_role-refl Backup = refl
-is_role-refl Joining = refl
-is_role-refl Draining = refl
-is_role-refl Alone = refl
-is_role-refl Spare = refl
+role_of a b h = (cc)
 
 -- the role in which it acts
 pub acts-role : {S : Type 0} (w : World S) (n : ℕ) (x : Node S) (rs : List Role) → slice_get w.nodes n ≡ Some x →

@@ -1,14 +1,11 @@
 -- Nothing refuses a whole node of an undecided generation that asks the arbiter, so its row says that it has won.
-use Rattle.std.proofs.Common.{◌≡◌, ◌⊎◌, [], ◌∷◌, ◌∙◌, ℕ, Bool, None, Some, ap, cond, false, inl, inr, not, refl, sym, true}
-use Rattle.guest_board.specs.Machine.{Machine}
+use Rattle.std.proofs.Common.{[], ◌∙◌, ◌∷◌, ◌≡◌, ◌⊎◌, Bool, None, Some, ap, cond, false, inl, inr, not, refl, sym, true, ℕ}
+use Rattle.pair_protocol.proofs.Words.{Copying, Joining, Machine, Node, Spare, World, is_role, winner_in}
 use Rattle.i8080_words.specs.declared.refusal.Fault.TheVariants.{Lost, NotWhole, OutOfMemory, Unknown, WrongRole}
-use Rattle.pair_protocol.specs.Copying.{Copying}
 use Rattle.pair_protocol.specs.Event.{Refused, Reply, Suspect, Won}
-use Rattle.pair_protocol.specs.Node.{Joining, Node, Spare, is_role}
 use Rattle.pair_protocol.specs.Refusals.{ask_refusal, at_node, fault_if, first_of, is_other, refusal}
 use Rattle.pair_protocol.specs.Row.{Accepts, DeviceFails, Refuses, Row, WantsMemory}
 use Rattle.pair_protocol.specs.Survival.{MayWin}
-use Rattle.pair_protocol.specs.World.{World, winner_in}
 use Rattle.pair_protocol.proofs.Passed.{role_of}
 
 is_false : (b : Bool) → (b ≡ true → ⊥) → b ≡ false

@@ -1,8 +1,6 @@
 -- As long as no entry counts as a read, no operation waits for a read.
-use Rattle.std.proofs.Common.{◌≡◌, List, [], ◌∷◌, refl, ap}
-use Rattle.event_callbacks.specs.declared.operations.Operation.{Operation}
-use Rattle.event_callbacks.specs.declared.operations.Operation.TheVariants.{Byte, Write}
-use Rattle.log_entry.specs.declared.entry.Entry.{Entry}
+use Rattle.std.proofs.Common.{[], ◌∷◌, ◌≡◌, List, ap, refl}
+use Rattle.pair_protocol.proofs.Words.{Byte, Entry, Operation, Write}
 use Rattle.pair_protocol.specs.Waiting.{is_read, reads_in, up_to_read, waits_for}
 
 no_reads : (log : List Entry) → reads_in log ≡ 0

@@ -1,20 +1,15 @@
 -- Out of memory is answered only if no refusal applies and the event may need memory.
-use Rattle.std.proofs.Common.{◌≡◌, ◌≢◌, [], ◌∷◌, ◌⊎◌, ◌∙◌, Bool, List, None, Option, Some, ap, cond, false, inl, inr, not, refl, subst, suc, sym, true, ℕ, arith}
-use Rattle.std.specs.Prelude.{if◌then◌else◌, length, slice_get, ◌<◌, ◌==◌}
-use Rattle.guest_board.specs.Machine.{Machine}
+use Rattle.std.proofs.Common.{[], ◌∙◌, ◌∷◌, ◌≡◌, ◌≢◌, ◌⊎◌, Bool, List, None, Option, Some, ap, arith, cond, false, inl, inr, not, refl, subst, suc, sym, true, ℕ}
+use Rattle.std.specs.Prelude.{◌<◌, ◌==◌, if◌then◌else◌, length, slice_get}
+use Rattle.pair_protocol.proofs.Words.{Alone, Backup, Copying, Draining, Entry, Joining, LogEntry, Machine, Message, Node, Primary, Spare, World, acts_as, count_of, is_role, winner_in}
 use Rattle.i8080_words.specs.declared.refusal.Fault.{Fault}
 use Rattle.i8080_words.specs.declared.refusal.Fault.TheVariants.{Lost, NotWhole, OutOfMemory, Unknown, WrongGeneration, WrongRole}
-use Rattle.log_entry.specs.Entries.{count_of}
-use Rattle.log_entry.specs.declared.entry.Entry.{Entry}
-use Rattle.pair_protocol.specs.Copying.{Copying}
-use Rattle.pair_protocol.specs.Event.{DeliverLog, Drain, Event, New, Old, Replay, Reply, Refused, Step, Suspect}
-use Rattle.pair_protocol.specs.Node.{Alone, Backup, Draining, Joining, Node, Primary, Spare, acts_as, is_role}
-use Rattle.pair_protocol.specs.Refusals.{ask_refusal, at_log_entry, at_node, fault_if, first_of, is_other, deliver_log_refusal, refusal, role_refusal, step_refusal, suspect_refusal}
+use Rattle.pair_protocol.specs.Event.{DeliverLog, Drain, Event, New, Old, Refused, Replay, Reply, Step, Suspect}
+use Rattle.pair_protocol.specs.Refusals.{ask_refusal, at_log_entry, at_node, deliver_log_refusal, fault_if, first_of, is_other, refusal, role_refusal, step_refusal, suspect_refusal}
 use Rattle.pair_protocol.specs.Effects.{AtEnd, IsBehind, NoMemory, NoTurns, OneInput, OneMark, OneStep, Replays, WantsMoves}
 use Rattle.pair_protocol.specs.Row.{Accepts, DeviceFails, MayWantMemory, Refuses, WantsMemory}
 use Rattle.pair_protocol.specs.Rows.{Does, OfNode, drain_reply}
 use Rattle.pair_protocol.specs.Wanting.{WantsNone}
-use Rattle.pair_protocol.specs.World.{LogEntry, Message, World, winner_in}
 use Rattle.pair_protocol.proofs.Traces.Lists.{same_some}
 
 -- ---- no refusal is out of memory

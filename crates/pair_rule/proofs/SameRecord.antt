@@ -22,7 +22,7 @@ use Rattle.pair_protocol.proofs.Traces.Lists.{among-left}
 use Rattle.pair_protocol.proofs.Traces.Moves.{operations-append, runs-append, inputs-append}
 use Rattle.pair_protocol.proofs.Traces.Recorded.{recorded-runs}
 use Rattle.pair_protocol.proofs.Keeps.Disk.{AsBefore, OfPut, latest_all, latest_is, LatestIs}
-use Rattle.pair_protocol.proofs.Keeps.PrimaryMoves.{sector-done}
+use Rattle.pair_protocol.proofs.Keeps.PrimaryMoves.{sector-passed}
 use Rattle.pair_rule.specs.declared.payload.DiskAnswer.TheVariants as answer
 use Rattle.pair_rule.specs.declared.view.Knowledge.{Knowledge}
 use Rattle.pair_rule.specs.Knowledge.{Stands, HasWrite, IsReplied}
@@ -79,7 +79,7 @@ module _ {S : Type 0} (M : Machine S) (laws : Lawful M) (typed0 typed1 : List â„
 
     last : M.done t q â‰¡ r.number
     unfolding q
-    last = sector-done M t q r.number free
+    last = (sector-passed M t q r.number free).1
 
     start : SectorRecord
     start = record { number = 0; bytes = M.boot_sector q }

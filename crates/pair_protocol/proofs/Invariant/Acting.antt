@@ -1,11 +1,7 @@
 -- The node that acts, and its part in its generation: it is the primary there, or the backup.
 use Rattle.std.proofs.Common.{◌<◌, ◌∙◌, ◌≡◌, ◌⊎◌, List, Some, ap, inl, inr, refl, subst, sym, ℕ}
 use Rattle.std.specs.Prelude.{slice_get}
-use Rattle.guest_board.specs.Machine.{Machine, Move}
-use Rattle.pair_protocol.specs.Change.{Acts}
-use Rattle.pair_protocol.specs.Copying.{Copying}
-use Rattle.pair_protocol.specs.Node.{Alone, Backup, Draining, Joining, Node, Primary, Role, Spare}
-use Rattle.pair_protocol.specs.World.{World}
+use Rattle.pair_protocol.proofs.Words.{Acts, Alone, Backup, Copying, Draining, Joining, Machine, Move, Node, Primary, Role, Spare, World}
 use Rattle.pair_protocol.proofs.Invariant.{AsAlone, AsBackup, AsDraining, AsJoining, AtTop, BackupHere, BackupLeft, BackupState, BackupWon, Gone, Inv, IsBackup, IsPrimary, Line, LineOf, Presence, PrimaryHere, PrimaryLeft, PrimaryWon, Unused, settled}
 use Rattle.pair_protocol.proofs.Traces.Lists.{same_some}
 
@@ -108,7 +104,7 @@ backup-no_primary : {S : Type 0} (M : Machine S) (C : Copying S) (l : Line S) (b
 backup-no_primary M C l b (AsJoining r s f) h = (cc)
 backup-no_primary M C l b (AsBackup r s f) h = (cc)
 backup-no_primary M C l b (AsDraining r s m f) h = (cc)
-backup-no_primary M C l b (AsAlone r s u c k) h = (cc)
+backup-no_primary M C l b (AsAlone r s made) h = (cc)
 
 module _ {S : Type 0} (M : Machine S) (C : Copying S) (w : World S) (i : Inv M C w) (n : ℕ) (x : Node S) where
   pub acting_primary : Acts w n x Primary → ActingPrimary M C w i n x

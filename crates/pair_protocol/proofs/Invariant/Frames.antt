@@ -1,21 +1,10 @@
 -- Frames: if a node of one generation acts, the lines of all other generations stay; and what holds of the settled moves
 -- holds of more of them.
-use Rattle.std.proofs.Common.{[], ◌<◌, ◌∙◌, ◌≡◌, ◌≤◌, ◌⊎◌, List, Some, ap, arith, inl, inr, refl, subst, sym, ℕ}
+use Rattle.std.proofs.Common.{[], ◌++◌, ◌<◌, ◌∙◌, ◌≡◌, ◌≤◌, ◌⊎◌, List, Some, ap, arith, inl, inr, refl, subst, sym, ℕ}
 use Rattle.std.proofs.Math.Path.{path_j, subst_refl}
 use Rattle.std.specs.Prelude.{slice_get, slice_set}
-use Rattle.disk_dcdd.specs.declared.address.SectorAddress.{SectorAddress}
-use Rattle.disk_dcdd.specs.declared.sector.SectorWrite.{SectorWrite}
-use Rattle.event_callbacks.specs.declared.operations.Operation.{Operation}
-use Rattle.event_callbacks.specs.declared.operations.Operation.TheVariants.{Byte, Write}
-use Rattle.guest_board.specs.Machine.{Machine, Move}
-use Rattle.log_entry.specs.declared.entry.Entry.{Entry}
-use Rattle.guest_trace.specs.Reach.{Owns, inputs, keys, operations}
-use Rattle.pair_protocol.specs.Copying.{Copying}
-use Rattle.pair_protocol.specs.Faithful.{IsPrefix}
-use Rattle.pair_protocol.specs.Lawful.{Among}
-use Rattle.pair_protocol.specs.Node.{Node, Spare, wins}
-use Rattle.pair_protocol.specs.World.{Message, Terminal, Winner, World, winner_in}
-use Rattle.pair_protocol.proofs.Invariant.{AsAlone, AsBackup, AsDraining, AsJoining, AtStart, AtTop, BackupHere, BackupLeft, BackupState, CameIn, Global, Gone, Inv, IsPrimary, IsRecord, Line, LineOf, Next, OfWrite, Presence, PrimaryHere, PrimaryLeft, Stage, Unused, settled}
+use Rattle.pair_protocol.proofs.Words.{Among, Byte, Copying, Entry, IsPrefix, Machine, Message, Move, Node, Operation, Owns, SectorAddress, SectorWrite, Spare, Terminal, Timed, Winner, World, Write, inputs, is_backup, keys, operations, winner_in, wins}
+use Rattle.pair_protocol.proofs.Invariant.{AsAlone, AsBackup, AsDraining, AsJoining, AtStart, AtTop, BackupHere, BackupLeft, BackupState, CameIn, Global, Gone, Inv, IsBackup, IsPrimary, IsRecord, Line, LineOf, Next, OfWrite, Presence, PrimaryHere, PrimaryLeft, Stage, Unused, settled}
 use Rattle.pair_protocol.proofs.Traces.Lists.{among-prefix, get_set_cases, get_set_other, prefix-length, prefix-trans, same_or_not, same_some}
 use Rattle.pair_protocol.proofs.Traces.Moves.{keys-prefix, operations-prefix}
 
@@ -70,110 +59,112 @@ pub backup-no_spare : {S : Type 0} (M : Machine S) (C : Copying S) (l : Line S) 
 backup-no_spare M C l b (AsJoining r s f) h = (cc)
 backup-no_spare M C l b (AsBackup r s f) h = (cc)
 backup-no_spare M C l b (AsDraining r s m f) h = (cc)
-backup-no_spare M C l b (AsAlone r s u c k) h = (cc)
+backup-no_spare M C l b (AsAlone r s made) h = (cc)
 
-here-other : {S : Type 0} (nodes : List (Node S)) (n m k : ℕ) (x y a : Node S) → slice_get nodes n ≡ Some x →
-    (x.generation ≡ k → x.role ≡ Spare) → slice_get nodes m ≡ Some a → (a.role ≡ Spare → ⊥) → a.generation ≡ k →
-    slice_get (slice_set nodes n y) m ≡ Some a
-here-other {S} nodes n m k x y a h no_k t na e = elim (same_or_not m n) [
-  | inl s ↦ (let q : x ≡ a = same_some x a (slice_get nodes n) h (subst (λ j. slice_get nodes j ≡ Some a) s t) in
-      absurd (na (ap (λ (z : Node S). z.role) (sym q) ∙ no_k (ap (λ (z : Node S). z.generation) q ∙ e))))
-  | inr d ↦ get_set_other nodes n m y d ∙ t
-]
+-- the same nodes are of a generation
+pub record SameNodes {S : Type 0} (old new : List (Node S)) (g : ℕ) : Type 0 where
+  pub stays : (n : ℕ) (x : Node S) → slice_get old n ≡ Some x → (x.role ≡ Spare → ⊥) → x.generation ≡ g →
+      slice_get new n ≡ Some x
+  pub was : (n : ℕ) (x : Node S) → slice_get new n ≡ Some x → (x.role ≡ Spare → ⊥) → x.generation ≡ g →
+      slice_get old n ≡ Some x
 
-gone-other : {S : Type 0} (nodes : List (Node S)) (n m k : ℕ) (y : Node S) → (y.generation ≡ k → ⊥) → Gone nodes k m →
-    Gone (slice_set nodes n y) k m
-gone-other nodes n m k y no_k gone z t s e =
-    elim (get_set_cases nodes n m y z t) [
-      | inl q ↦ no_k (ap (λ v. v.generation) (sym q.1) ∙ e)
-      | inr q ↦ gone z q s e
-    ]
-
--- the frame of a node's change: for another generation everything stays
-pub line-other : {S : Type 0} (M : Machine S) (C : Copying S) (w : World S) (top k n : ℕ) (T new : List Move)
-    (x y : Node S) (ws : List Winner) → slice_get w.nodes n ≡ Some x → (x.generation ≡ k → x.role ≡ Spare) →
-    (y.generation ≡ k → ⊥) → winner_in ws k ≡ winner_in w.winners k → IsPrefix T new → (k ≡ top → new ≡ T) →
-    LineOf M C w top T k → LineOf M C (with_change w n y ws) top new k
-line-other {S} M C w top k n T new x y ws h no_x no_y same_win grows at_top o = record {
-  line = o.line;
-  sound = o.sound;
-  presence = presence o.presence;
-  members = λ m z t s e. o.members m z (old m z t e) s e;
-  tied = same_win ∙ o.tied;
-  says = o.says;
-  came = o.came;
-  owns = o.owns;
-  below = prefix-trans (settled o.line) T new o.below grows;
-  reads = record {
-    heard = λ a b t u ga gb role ns.
-        o.reads.heard a b (old o.line.primary a t ga) (old o.line.backup b u gb) ga gb role ns;
-    told = λ j r b m u gb ns. o.reads.told j r b m (old o.line.backup b u gb) gb ns;
-    waits = λ t s b u gb role v m. o.reads.waits t s b (old o.line.backup b u gb) gb role v m;
-  };
+-- a node that is not of the generation, before and after its change
+pub same_nodes-set : {S : Type 0} (nodes : List (Node S)) (n k : ℕ) (x y : Node S) → slice_get nodes n ≡ Some x →
+    (x.generation ≡ k → x.role ≡ Spare) → (y.generation ≡ k → ⊥) → SameNodes nodes (slice_set nodes n y) k
+same_nodes-set {S} nodes n k x y h no_x no_y = record {
+  stays = λ m z t nz e. elim (same_or_not m n) [
+    | inl s ↦ (let q : x ≡ z = same_some x z (slice_get nodes n) h (subst (λ j. slice_get nodes j ≡ Some z) s t) in
+        absurd (nz (ap (λ (v : Node S). v.role) (sym q) ∙ no_x (ap (λ (v : Node S). v.generation) q ∙ e))))
+    | inr d ↦ get_set_other nodes n m y d ∙ t
+  ];
+  was = λ m z t nz e. elim (get_set_cases nodes n m y z t) [
+    | inl q ↦ absurd (no_y (ap (λ (v : Node S). v.generation) (sym q.1) ∙ e))
+    | inr q ↦ q
+  ];
 }
+
+pub same_nodes-refl : {S : Type 0} (nodes : List (Node S)) (g : ℕ) → SameNodes nodes nodes g
+same_nodes-refl nodes g = record { stays = λ n x t nx e. t; was = λ n x t nx e. t }
+
+pub same_nodes-trans : {S : Type 0} (old mid new : List (Node S)) (g : ℕ) → SameNodes old mid g → SameNodes mid new g →
+    SameNodes old new g
+same_nodes-trans old mid new g a b = record {
+  stays = λ n x t nx e. b.stays n x (a.stays n x t nx e) nx e;
+  was = λ n x t nx e. a.was n x (b.was n x t nx e) nx e;
+}
+
+-- the nodes of a line, in another list
+module _ {S : Type 0} (M : Machine S) (C : Copying S) (nodes others : List (Node S)) (g : ℕ) (l new : Line S) where
+  pub primary-there : (h : PrimaryHere M nodes g l) → slice_get others new.primary ≡ Some h.a → IsPrimary M new h.a →
+      PrimaryHere M others g new
+  primary-there h there p = record { a = h.a; there = there; generation = h.generation; is_primary = p }
+
+  pub backup-there : (h : BackupHere M C nodes g l) → slice_get others new.backup ≡ Some h.b → h.b.held ≡ new.held →
+      IsBackup M C new h.b → BackupHere M C others g new
+  backup-there h there held p =
+      record { b = h.b; there = there; generation = h.generation; held = held; is_backup = p }
+
+-- The frame: a generation whose nodes, messages and winner are the same keeps its line.
+unfoldable pub line-framed : {S : Type 0} (M : Machine S) (C : Copying S) (w : World S) (top higher k : ℕ) (T new : List Move)
+    (nodes : List (Node S)) (terminals : List Terminal) (winners : List Winner) (puts : List SectorWrite) →
+    SameNodes w.nodes nodes k → ((ts : List Timed) → CameIn w.terminals w.puts ts → CameIn terminals puts ts) →
+    winner_in winners k ≡ winner_in w.winners k → IsPrefix T new → top ≤ higher →
+    (k ≡ top → (k ≡ higher) × (new ≡ T)) → (k ≡ higher → k ≡ top) → LineOf M C w top T k →
+    LineOf M C (record w { nodes = nodes; terminals = terminals; winners = winners; puts = puts }) higher new k
+line-framed {S} M C w top higher k T new nodes terminals winners puts same came same_win grows up at_top back o =
+    record {
+      line = o.line;
+      sound = o.sound;
+      presence = presence o.presence;
+      members = λ m z t s e. o.members m z (same.was m z t s e) s e;
+      tied = same_win ∙ o.tied;
+      says = o.says;
+      came = came (inputs 0 (o.line.base ++ o.line.own)) o.came;
+      owns = o.owns;
+      below = prefix-trans (settled o.line) T new o.below grows;
+      reads = record {
+        heard = λ a b t u ga gb role nb. o.reads.heard a b (same.was o.line.primary a t (λ z. (cc)) ga)
+            (same.was o.line.backup b u nb gb) ga gb role nb;
+        told = λ j r b m u gb nb. o.reads.told j r b m (same.was o.line.backup b u nb gb) gb nb;
+        waits = λ t s b u gb role v m. o.reads.waits (back t) s b
+            (same.was o.line.backup b u (λ z. elim role [ inl q ↦ (cc) | inr q ↦ (cc) ]) gb) gb role v m;
+      };
+    }
   where
-    old : (j : ℕ) (z : Node S) → slice_get (slice_set w.nodes n y) j ≡ Some z → z.generation ≡ k →
-        slice_get w.nodes j ≡ Some z
-    old j z t gz = elim (get_set_cases w.nodes n j y z t) [
-      | inl q ↦ absurd (no_y (ap (λ (v : Node S). v.generation) (sym q.1) ∙ gz))
-      | inr q ↦ q
-    ]
+    primary : PrimaryHere M w.nodes k o.line → PrimaryHere M nodes k o.line
+    primary h = primary-there M C w.nodes nodes k o.line o.line h
+        (same.stays o.line.primary h.a h.there (primary-no_spare M o.line h.a h.is_primary) h.generation) h.is_primary
 
-    primary_here : PrimaryHere M w.nodes k o.line → PrimaryHere M (slice_set w.nodes n y) k o.line
-    primary_here l = record {
-      a = l.a;
-      there = here-other w.nodes n o.line.primary k x y l.a h no_x l.there
-          (primary-no_spare M o.line l.a l.is_primary) l.generation;
-      generation = l.generation;
-      is_primary = l.is_primary;
-    }
+    backup : BackupHere M C w.nodes k o.line → BackupHere M C nodes k o.line
+    backup h = backup-there M C w.nodes nodes k o.line o.line h
+        (same.stays o.line.backup h.b h.there (backup-no_spare M C o.line h.b h.is_backup.state) h.generation)
+        h.held h.is_backup
 
-    backup_here : BackupHere M C w.nodes k o.line → BackupHere M C (slice_set w.nodes n y) k o.line
-    backup_here l = record {
-      b = l.b;
-      there = here-other w.nodes n o.line.backup k x y l.b h no_x l.there
-          (backup-no_spare M C o.line l.b l.is_backup.state) l.generation;
-      generation = l.generation;
-      held = l.held;
-      is_backup = l.is_backup;
-    }
+    gone : (n : ℕ) → Gone w.nodes k n → Gone nodes k n
+    gone n h x t s e = h x (same.was n x t s e) s e
 
     presence : Presence M C w.nodes w.messages w.winners top T k o.line →
-        Presence M C (slice_set w.nodes n y) w.messages ws top new k o.line
-    presence (AtTop g s l b) = AtTop g (s ∙ sym (at_top g)) (primary_here l) (backup_here b)
-    presence (PrimaryLeft g s l b) =
-        PrimaryLeft g s (gone-other w.nodes n o.line.primary k y no_y l) (backup_here b)
-    presence (BackupLeft g s b l) = BackupLeft g s (gone-other w.nodes n o.line.backup k y no_y b) (primary_here l)
-    presence (Unused g u) = Unused g (record {
-      nobody = λ m. gone-other w.nodes n m k y no_y (u.nobody m);
+        Presence M C nodes w.messages winners higher new k o.line
+    presence (AtTop g s a b) = AtTop (at_top g).0 (s ∙ sym (at_top g).1) (primary a) (backup b)
+    presence (PrimaryLeft g s a b) = PrimaryLeft (omega (arith, g, up)) s (gone o.line.primary a) (backup b)
+    presence (BackupLeft g s b a) = BackupLeft (omega (arith, g, up)) s (gone o.line.backup b) (primary a)
+    presence (Unused g u) = Unused (λ e. g (back e)) (record {
+      nobody = λ m. gone m (u.nobody m);
       no_log = u.no_log;
       no_ack = u.no_ack;
       no_part = u.no_part;
       no_winner = same_win ∙ u.no_winner;
     })
 
--- a higher top
-pub line-retop : {S : Type 0} (M : Machine S) (C : Copying S) (w : World S) (top higher k : ℕ) (T : List Move) →
-    (k ≡ top → ⊥) → top ≤ higher → (k ≡ higher → ⊥) → LineOf M C w top T k → LineOf M C w higher T k
-line-retop {S} M C w top higher k T not_top le not_higher o = record {
-  line = o.line;
-  sound = o.sound;
-  presence = presence o.presence;
-  members = o.members;
-  tied = o.tied;
-  says = o.says;
-  came = o.came;
-  owns = o.owns;
-  below = o.below;
-  reads = record { heard = o.reads.heard; told = o.reads.told; waits = λ t. absurd (not_higher t) };
-}
-  where
-    presence : Presence M C w.nodes w.messages w.winners top T k o.line →
-        Presence M C w.nodes w.messages w.winners higher T k o.line
-    presence (AtTop g s l b) = absurd (not_top g)
-    presence (PrimaryLeft g s l b) = PrimaryLeft (omega arith) s l b
-    presence (BackupLeft g s b l) = BackupLeft (omega arith) s b l
-    presence (Unused g u) = Unused not_higher u
+-- the frame of a node's change: for another generation everything stays
+pub line-other : {S : Type 0} (M : Machine S) (C : Copying S) (w : World S) (top k n : ℕ) (T new : List Move)
+    (x y : Node S) (ws : List Winner) → slice_get w.nodes n ≡ Some x → (x.generation ≡ k → x.role ≡ Spare) →
+    (y.generation ≡ k → ⊥) → winner_in ws k ≡ winner_in w.winners k → IsPrefix T new → (k ≡ top → new ≡ T) →
+    LineOf M C w top T k → LineOf M C (with_change w n y ws) top new k
+line-other M C w top k n T new x y ws h no_x no_y same_win grows at_top o =
+    line-framed M C w top top k T new (slice_set w.nodes n y) w.terminals ws w.puts
+    (same_nodes-set w.nodes n k x y h no_x no_y) (λ ts came. came) same_win grows (omega arith) (λ e. (e, at_top e))
+    (λ e. e) o
 
 -- One generation has a new line, the others stay as they were.
 pub relined : {S : Type 0} (M : Machine S) (C : Copying S) (w : World S) (i : Inv M C w) (n : ℕ) (x y : Node S)
@@ -185,7 +176,7 @@ pub relined : {S : Type 0} (M : Machine S) (C : Copying S) (w : World S) (i : In
     (x.generation < i.top → settled line.line ≡ settled (i.each x.generation).line) →
     line.line.base ≡ (i.each x.generation).line.base →
     Global M w.messages w.terminals w.puts new → Next M C i.trace (with_change w n y ws)
-unfolding line-other
+unfolding line-other line-framed
 relined {S} M C w i n x y ws new h ny gy wins grows which line kept based global = record {
   inv = record {
     top = i.top;
@@ -196,7 +187,8 @@ relined {S} M C w i n x y ws new h ny gy wins grows which line kept based global
       | inl q ↦ absurd (ny (ap (λ v. v.role) (sym q.1) ∙ s))
       | inr q ↦ i.spares m z q s
     ];
-    earlier = λ k lt. by k lt (is k (same_or_not k g)) (is i.top (same_or_not i.top g));
+    earlier = λ k lt. subst (λ zs. IsPrefix zs (each i.top).line.base) (sym (pick-settled k lt (same_or_not k g)))
+        (subst (IsPrefix (settled (i.each k).line)) (sym (pick-base i.top (same_or_not i.top g))) (i.earlier k lt));
   };
   grows = grows;
 }
@@ -216,26 +208,14 @@ relined {S} M C w i n x y ws new h ny gy wins grows which line kept based global
     each : (k : ℕ) → Then k
     each k = pick k (same_or_not k g)
 
-    Is : (k : ℕ) → Line S → Type 0
-    Is k l = ((k ≡ g) × (l ≡ line.line)) ⊎ ((k ≡ g → ⊥) × (l ≡ (i.each k).line))
+    pick-base : (k : ℕ) (s : (k ≡ g) ⊎ (k ≡ g → ⊥)) → (pick k s).line.base ≡ (i.each k).line.base
+    pick-base k (inl e) =
+        ap (λ (z : Line S). z.base) (line-over M C (with_change w n y ws) i.top new g k (sym e) line)
+        ∙ based ∙ ap (λ j. (i.each j).line.base) (sym e)
+    pick-base k (inr d) = refl
 
-    is : (k : ℕ) (s : (k ≡ g) ⊎ (k ≡ g → ⊥)) → Is k (pick k s).line
-    is k (inl e) = inl (e, line-over M C (with_change w n y ws) i.top new g k (sym e) line)
-    is k (inr d) = inr (d, refl)
-
-    by : (k : ℕ) → k < i.top → Is k (each k).line → Is i.top (each i.top).line →
-        IsPrefix (settled (each k).line) (each i.top).line.base
-    by k lt (inl a) (inl b) = absurd (let e : k ≡ g = a.0 in let f : i.top ≡ g = b.0 in omega (arith, lt, e, f))
-    by k lt (inl a) (inr b) =
-        subst (λ z. IsPrefix (settled z) (each i.top).line.base) (sym a.1)
-        (subst (λ z. IsPrefix (settled line.line) z.base) (sym b.1)
-        (subst (λ z. IsPrefix z (i.each i.top).line.base) (sym (kept (subst (λ z. z < i.top) a.0 lt)))
-        (i.earlier g (subst (λ z. z < i.top) a.0 lt))))
-    by k lt (inr a) (inl b) =
-        subst (λ z. IsPrefix (settled z) (each i.top).line.base) (sym a.1)
-        (subst (λ z. IsPrefix (settled (i.each k).line) z.base) (sym b.1)
-        (subst (λ z. IsPrefix (settled (i.each k).line) z) (sym based)
-        (subst (λ z. IsPrefix (settled (i.each k).line) (i.each z).line.base) b.0 (i.earlier k lt))))
-    by k lt (inr a) (inr b) =
-        subst (λ z. IsPrefix (settled z) (each i.top).line.base) (sym a.1)
-        (subst (λ z. IsPrefix (settled (i.each k).line) z.base) (sym b.1) (i.earlier k lt))
+    pick-settled : (k : ℕ) → k < i.top → (s : (k ≡ g) ⊎ (k ≡ g → ⊥)) →
+        settled (pick k s).line ≡ settled (i.each k).line
+    pick-settled k lt (inl e) = ap settled (line-over M C (with_change w n y ws) i.top new g k (sym e) line)
+        ∙ kept (subst (λ j. j < i.top) e lt) ∙ ap (λ j. settled (i.each j).line) (sym e)
+    pick-settled k lt (inr d) = refl

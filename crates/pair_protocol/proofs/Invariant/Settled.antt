@@ -1,8 +1,6 @@
 -- The settled moves of a generation, when its moves get longer, or more of them are held.
 use Rattle.std.proofs.Common.{◌++◌, ◌∙◌, ◌≡◌, ◌≤◌, ◌⊎◌, List, ap, inl, inr, refl, sym, ℕ}
-use Rattle.guest_board.specs.Machine.{Move}
-use Rattle.pair_protocol.specs.Faithful.{IsPrefix}
-use Rattle.pair_protocol.specs.Traces.{cut}
+use Rattle.pair_protocol.proofs.Words.{IsPrefix, Move, cut}
 use Rattle.pair_protocol.proofs.Invariant.{BackupWon, PrimaryWon, Stage, Undecided, settled_moves}
 use Rattle.pair_protocol.proofs.Traces.Cuts.{cut-more, cut-prefix}
 use Rattle.pair_protocol.proofs.Traces.Lists.{prefix-append, prefix-refl, prefix-same, prefix-trans, prefix-under}

@@ -1,31 +1,14 @@
 -- The backup of a generation: either it changes and its moves stay, or it is alone and makes a move.
 use Rattle.std.proofs.Common.{[], ◌++◌, ◌+◌, ◌∙◌, ◌∷◌, ◌≡◌, ◌≤◌, ◌⊎◌, List, None, Option, Some, ap, append_assoc, arith, inl, inr, length, refl, subst, suc, sym, take, ℕ}
 use Rattle.std.specs.Prelude.{slice_get, slice_set}
-use Rattle.disk_dcdd.specs.declared.sector.SectorWrite.{SectorWrite}
-use Rattle.event_callbacks.specs.declared.operations.Operation.{Operation}
-use Rattle.event_callbacks.specs.declared.operations.Operation.TheVariants.{Write}
-use Rattle.guest_board.specs.Machine.{Do, Machine, Move, Runs, Take, refusal_of}
-use Rattle.guest_board.specs.declared.input.Input.{Input}
-use Rattle.log_entry.specs.Entries.{entries}
-use Rattle.log_entry.specs.declared.entry.Entry.{Entry}
-use Rattle.guest_trace.specs.Reach.{Owns, acceptances, inputs, keys, steps, timed}
-use Rattle.guest_trace.specs.declared.timed.Timed.{Timed}
-use Rattle.pair_protocol.specs.Change.{MayTake, Replaying}
-use Rattle.pair_protocol.specs.Copying.{Copying}
-use Rattle.pair_protocol.specs.Faithful.{IsPrefix}
-use Rattle.pair_protocol.specs.Lawful.{Among, Lawful}
-use Rattle.pair_protocol.specs.Node.{Alone, Node, Primary, Spare, alone_takes, plainly_steps}
-use Rattle.pair_protocol.specs.Settled.{is_backup}
-use Rattle.pair_protocol.specs.Traces.{cut}
-use Rattle.pair_protocol.specs.World.{Acknowledgement, Message, Released, Winner, World, winner_in, with_node}
-use Rattle.pair_protocol.proofs.Invariant.{AsAlone, AtTop, BackupHere, BackupWon, CameIn, Gone, Inv, IsBackup, IsPrimary, Line, LineOf, Next, Presence, PrimaryLeft, PrimaryWon, Stage, WaitsAt, settled, settled_moves, winner_at}
-use Rattle.pair_protocol.proofs.Invariant.Acting.{ActingBackup, BackupAtTop, BackupEarlier, BackupPlace, line_at}
-use Rattle.pair_protocol.proofs.Invariant.Frames.{global-grows, relined, with_backup, with_change}
+use Rattle.pair_protocol.proofs.Words.{Acknowledgement, Alone, Among, Copying, Do, Entry, Input, IsPrefix, Lawful, Machine, MayTake, Message, Move, Node, Operation, Owns, Primary, Released, Replaying, Runs, SectorWrite, Spare, Take, Timed, Winner, World, Write, alone_takes, cut, entries, inputs, is_backup, plainly_steps, refusal_of, steps, timed, winner_in, with_node}
+use Rattle.pair_protocol.proofs.Invariant.{AsAlone, AtTop, BackupHere, BackupWon, CameIn, Gone, HasMade, Inv, IsBackup, IsPrimary, Line, LineOf, Next, Presence, PrimaryHere, PrimaryLeft, PrimaryWon, Stage, WaitsAt, alone_moves, settled, settled_moves, winner_at}
+use Rattle.pair_protocol.proofs.Invariant.Acting.{ActingBackup, BackupAtTop, BackupEarlier, BackupPlace}
+use Rattle.pair_protocol.proofs.Invariant.Frames.{global-grows, primary-there, relined, with_backup, with_change}
 use Rattle.pair_protocol.proofs.Invariant.Settled.{settled-more}
-use Rattle.pair_protocol.proofs.Keeps.Alone.{alone-trace, backup-alone}
+use Rattle.pair_protocol.proofs.Keeps.Alone.{BackupAlone, alone-trace, backup-alone}
 use Rattle.pair_protocol.proofs.Keeps.Primary.{acting_there}
-use Rattle.pair_protocol.proofs.Keeps.PrimaryLog.{steps-do, steps-take, whole-do, whole-take}
-use Rattle.pair_protocol.proofs.Keeps.PrimaryMoves.{came-take, own-take}
+use Rattle.pair_protocol.proofs.Keeps.PrimaryMoves.{came-take, made-do, made-take, own-take}
 use Rattle.pair_protocol.proofs.Traces.Lists.{get_set_cases, get_set_other, prefix-refl, prefix-same}
 use Rattle.pair_protocol.proofs.Traces.Moves.{owns-append, runs-append}
 
@@ -38,40 +21,42 @@ pub record BackupReads {S : Type 0} (nodes : List (Node S)) (messages : List Mes
   pub waits : g ≡ top → (stage ≡ PrimaryWon → ⊥) → Replaying y.role → (v : SectorWrite) →
       Among (Released (Write v)) messages → WaitsAt l y v
 
-abbrev pub moved : {S : Type 0} → Node S → S → List Timed → Node S
-moved b s l = record b { machine = s; list = l }
-
 -- its primary stays
 pub primary-held : {S : Type 0} (M : Machine S) (l : Line S) (more : List Move) (held : List Entry) (a : Node S) →
     length l.held ≤ length held → IsPrimary M l a → IsPrimary M (with_backup l more l.stage held) a
 primary-held M l more held a h p = let c = p.covered in
     record {
       role = p.role;
-      runs = p.runs;
-      count = p.count;
-      list = p.list;
+      made = p.made;
       copy = p.copy;
-      log = p.log;
       covered = omega (arith, c, h);
       image = p.image;
-      notes = p.notes;
+      logged = p.logged;
     }
 
 -- A backup acts: its line, and the invariant.
 
-module _ {S : Type 0} (M : Machine S) (C : Copying S) (w : World S) (i : Inv M C w) where
-  unfoldable pub backup-line : (n : ℕ) (new : List Move) (x y : Node S) → ActingBackup M C w i n x →
-      (more : List Move) (stage : Stage) (held : List Entry) (ws : List Winner) →
-      Presence M C (slice_set w.nodes n y) w.messages ws i.top new x.generation
-      (with_backup (line_at i x) more stage held) →
-      winner_in ws x.generation ≡ winner_at stage (line_at i x).primary (line_at i x).backup →
-      length (line_at i x).held ≤ length held → IsPrefix held (entries (steps (line_at i x).base) (line_at i x).own) →
-      ((stage ≡ BackupWon → ⊥) → (line_at i x).stage ≡ BackupWon → ⊥) →
-      IsPrefix (settled (with_backup (line_at i x) more stage held)) new →
-      BackupReads w.nodes w.messages i.top x.generation (line_at i x) stage y →
-      ((stage ≡ PrimaryWon → ⊥) → (line_at i x).stage ≡ PrimaryWon → ⊥) →
-      LineOf M C (with_change w n y ws) i.top new x.generation
-  backup-line n new x y q more stage held ws presence tied few prefix stays below ry same_stage = record {
+module _ {S : Type 0} (M : Machine S) (C : Copying S) (w : World S) (i : Inv M C w) (n : ℕ) (x : Node S)
+    (q : ActingBackup M C w i n x) where
+  -- the line of its generation
+  abbrev o : LineOf M C w i.top i.trace x.generation
+  o = i.each x.generation
+
+  abbrev l : Line S
+  l = o.line
+
+  there : slice_get w.nodes l.backup ≡ Some x
+  there = subst (λ j. slice_get w.nodes j ≡ Some x) q.spot q.there
+
+  unfoldable pub backup-line : (new : List Move) (y : Node S) (more : List Move) (stage : Stage) (held : List Entry)
+      (ws : List Winner) →
+      Presence M C (slice_set w.nodes n y) w.messages ws i.top new x.generation (with_backup l more stage held) →
+      winner_in ws x.generation ≡ winner_at stage l.primary l.backup → length l.held ≤ length held →
+      IsPrefix held (entries (steps l.base) l.own) → ((stage ≡ BackupWon → ⊥) → l.stage ≡ BackupWon → ⊥) →
+      IsPrefix (settled (with_backup l more stage held)) new →
+      BackupReads w.nodes w.messages i.top x.generation l stage y →
+      ((stage ≡ PrimaryWon → ⊥) → l.stage ≡ PrimaryWon → ⊥) → LineOf M C (with_change w n y ws) i.top new x.generation
+  backup-line new y more stage held ws presence tied few prefix stays below ry same_stage = record {
     line = with_backup l more stage held;
     sound = record { based = o.sound.based; recorded = o.sound.recorded; apart = o.sound.apart; held = prefix };
     presence = presence;
@@ -104,12 +89,6 @@ module _ {S : Type 0} (M : Machine S) (C : Copying S) (w : World S) (i : Inv M C
     };
   }
     where
-      o : LineOf M C w i.top i.trace x.generation
-      o = i.each x.generation
-
-      l : Line S
-      l = o.line
-
       old : (a : Node S) → slice_get (slice_set w.nodes n y) l.primary ≡ Some a → slice_get w.nodes l.primary ≡ Some a
       old a t = elim (get_set_cases w.nodes n l.primary y a t) [
         | inl k ↦ absurd (o.sound.apart (k.0 ∙ q.spot))
@@ -117,11 +96,11 @@ module _ {S : Type 0} (M : Machine S) (C : Copying S) (w : World S) (i : Inv M C
       ]
 
   -- a node that has replayed as many of the same entries, or more
-  pub backup-later : (n : ℕ) (x y : Node S) (stage : Stage) → ActingBackup M C w i n x → x.replayed ≤ y.replayed →
-      y.held ≡ x.held → (Replaying y.role → Replaying x.role) ⊎ (y.held ≡ []) →
-      ((stage ≡ PrimaryWon → ⊥) → (line_at i x).stage ≡ PrimaryWon → ⊥) →
-      BackupReads w.nodes w.messages i.top x.generation (line_at i x) stage y
-  backup-later n x y stage q later same roles stages = record {
+  pub backup-later : (y : Node S) (stage : Stage) → x.replayed ≤ y.replayed → y.held ≡ x.held →
+      (Replaying y.role → Replaying x.role) ⊎ (y.held ≡ []) →
+      ((stage ≡ PrimaryWon → ⊥) → l.stage ≡ PrimaryWon → ⊥) →
+      BackupReads w.nodes w.messages i.top x.generation l stage y
+  backup-later y stage later same roles stages = record {
     heard = λ a t ga role. (let k = o.reads.heard a x t there ga refl role q.real in omega (arith, k, later));
     told = λ j r m. (let k = o.reads.told j r x m there refl q.real in omega (arith, k, later));
     waits = λ t s role v m k en low got read. elim roles [
@@ -130,176 +109,132 @@ module _ {S : Type 0} (M : Machine S) (C : Copying S) (w : World S) (i : Inv M C
       | inr z ↦ absurd (let g : slice_get [] k ≡ Some en = subst (λ es. slice_get es k ≡ Some en) z got in (cc))
     ];
   }
-    where
-      o : LineOf M C w i.top i.trace x.generation
-      o = i.each x.generation
 
-      there : slice_get w.nodes o.line.backup ≡ Some x
-      there = subst (λ j. slice_get w.nodes j ≡ Some x) q.spot q.there
+  -- both nodes after it
+  pub backup_acts : (y : Node S) (new : Line S) → l.backup ≡ new.backup → y.generation ≡ x.generation →
+      y.held ≡ new.held → IsBackup M C new y → BackupHere M C (slice_set w.nodes n y) x.generation new
+  backup_acts y new same gy held is_backup = record {
+    b = y;
+    there = acting_there w n new.backup x y q.there (q.spot ∙ same);
+    generation = gy;
+    held = held;
+    is_backup = is_backup;
+  }
 
-  pub primary_there : (n : ℕ) (x y : Node S) → n ≡ (line_at i x).backup →
-      slice_get (slice_set w.nodes n y) (line_at i x).primary ≡ slice_get w.nodes (line_at i x).primary
-  primary_there n x y e =
-      get_set_other w.nodes n (line_at i x).primary y (λ k. (i.each x.generation).sound.apart (k ∙ e))
+  primary_same : (y : Node S) → slice_get (slice_set w.nodes n y) l.primary ≡ slice_get w.nodes l.primary
+  primary_same y = get_set_other w.nodes n l.primary y (λ k. o.sound.apart (k ∙ q.spot))
 
-  pub primary_gone : (n : ℕ) (x y : Node S) → n ≡ (line_at i x).backup →
-      Gone w.nodes x.generation (line_at i x).primary →
-      Gone (slice_set w.nodes n y) x.generation (line_at i x).primary
-  primary_gone n x y e gone z t s g = gone z (sym (primary_there n x y e) ∙ t) s g
+  pub primary_stays : (y : Node S) (more : List Move) (stage : Stage) (held : List Entry)
+      (h : PrimaryHere M w.nodes x.generation l) → IsPrimary M (with_backup l more stage held) h.a →
+      PrimaryHere M (slice_set w.nodes n y) x.generation (with_backup l more stage held)
+  primary_stays y more stage held h = primary-there M C w.nodes (slice_set w.nodes n y) x.generation l
+      (with_backup l more stage held) h (primary_same y ∙ h.there)
+
+  pub primary_gone : (y : Node S) → Gone w.nodes x.generation l.primary →
+      Gone (slice_set w.nodes n y) x.generation l.primary
+  primary_gone y gone z t s g = gone z (sym (primary_same y) ∙ t) s g
 
   -- The backup changes; what it holds and the stage stay.
-  pub backup-stays : (n : ℕ) (x y : Node S) → ActingBackup M C w i n x → (y.role ≡ Spare → ⊥) →
-      y.generation ≡ x.generation → y.held ≡ x.held → IsBackup M C (line_at i x) y →
-      BackupReads w.nodes w.messages i.top x.generation (line_at i x) (line_at i x).stage y →
+  pub backup-stays : (y : Node S) → (y.role ≡ Spare → ⊥) → y.generation ≡ x.generation → y.held ≡ x.held →
+      IsBackup M C l y → BackupReads w.nodes w.messages i.top x.generation l l.stage y →
       Next M C i.trace (with_node w n y)
   unfolding backup-line
-  backup-stays n x y q ny gy same is_backup ry =
+  backup-stays y ny gy same is_backup ry =
       relined M C w i n x y w.winners i.trace q.there ny gy (λ k d. refl) (prefix-refl i.trace) (inl refl)
-      (backup-line n i.trace x y q l.more l.stage l.held w.winners (presence q.place) o.tied
+      (backup-line i.trace y l.more l.stage l.held w.winners (presence q.place) o.tied
       (omega arith) o.sound.held (λ z. z) o.below ry (λ z. z))
       (λ lt. refl) refl i.global
     where
-      o : LineOf M C w i.top i.trace x.generation
-      o = i.each x.generation
-
-      l : Line S
-      l = o.line
-
-      backup_here : BackupHere M C (slice_set w.nodes n y) x.generation l
-      backup_here = record {
-        b = y;
-        there = acting_there w n l.backup x y q.there q.spot;
-        generation = gy;
-        held = same ∙ q.held;
-        is_backup = is_backup;
-      }
+      here : BackupHere M C (slice_set w.nodes n y) x.generation l
+      here = backup_acts y l refl gy (same ∙ q.held) is_backup
 
       presence : BackupPlace M w.nodes i.top i.trace x.generation l →
           Presence M C (slice_set w.nodes n y) w.messages w.winners i.top i.trace x.generation l
-      presence (BackupAtTop g s a) = AtTop g s
-          (record {
-            a = a.a;
-            there = primary_there n x y q.spot ∙ a.there;
-            generation = a.generation;
-            is_primary = a.is_primary;
-          }) backup_here
-      presence (BackupEarlier g s a) = PrimaryLeft g s (primary_gone n x y q.spot a) backup_here
+      presence (BackupAtTop g s a) = AtTop g s (primary_stays y l.more l.stage l.held a a.is_primary) here
+      presence (BackupEarlier g s a) = PrimaryLeft g s (primary_gone y a) here
 
   -- The backup is alone and makes a move.
-  backup-moves : (n : ℕ) (x : Node S) (m : Move) (s : S) (ts : List Timed) → ActingBackup M C w i n x →
-      x.role ≡ Alone → (line_at i x).stage ≡ BackupWon →
-      Runs M (line_at i x).mid (cut (length x.held) (line_at i x).own ++ ((line_at i x).more ++ m ∷ [])) s →
-      M.count s ≡ steps (line_at i x).base + steps
-      (cut (length x.held) (line_at i x).own ++ ((line_at i x).more ++ m ∷ [])) →
-      ts ≡ inputs 0 ((line_at i x).base ++ (cut (length x.held) (line_at i x).own ++ ((line_at i x).more ++ m ∷ []))) →
-      CameIn w.terminals w.puts ts → Owns M [] M.boot
-      ((line_at i x).base ++ (cut (length x.held) (line_at i x).own ++ ((line_at i x).more ++ m ∷ []))) →
-      Next M C i.trace (with_node w n (moved x s ts))
+
+  backup-moves : (k : BackupAlone M l x) (m : Move) (s : S) (ts : List Timed) → x.role ≡ Alone →
+      HasMade M l.mid l.base (alone_moves l x.held ++ m ∷ []) s ts → CameIn w.terminals w.puts ts →
+      Owns M [] M.boot ((l.base ++ alone_moves l x.held) ++ m ∷ []) →
+      Next M C i.trace (with_node w n (record x { machine = s; list = ts }))
   unfolding backup-line
-  backup-moves n x m s ts q role won runs count list came owns = go q.place
+  backup-moves k m s ts role made came owns = go q.place
     where
-      o : LineOf M C w i.top i.trace x.generation
-      o = i.each x.generation
-
-      l : Line S
-      l = o.line
-
       y : Node S
-      y = moved x s ts
+      y = record x { machine = s; list = ts }
+
+      more : List Move
+      more = l.more ++ m ∷ []
 
       new : List Move
-      new = settled_moves l.stage l.base l.own (l.more ++ m ∷ []) (length l.held)
+      new = settled_moves l.stage l.base l.own more (length l.held)
 
-      backup_here : BackupHere M C (slice_set w.nodes n y) x.generation
-          (with_backup l (l.more ++ m ∷ []) l.stage l.held)
-      backup_here = record {
-        b = y;
-        there = acting_there w n l.backup x y q.there q.spot;
-        generation = refl;
-        held = q.held;
-        is_backup = record {
-          state = AsAlone role won runs count list;
-          copy = q.is_backup.copy;
-          start = q.is_backup.start;
-          held = q.is_backup.held;
-        };
-      }
+      joined : alone_moves l x.held ++ m ∷ [] ≡ cut (length x.held) l.own ++ more
+      joined = append_assoc (cut (length x.held) l.own) l.more (m ∷ [])
 
-      moves_are : l.base ++ (cut (length x.held) l.own ++ (l.more ++ m ∷ [])) ≡ new
-      moves_are = ap (λ es. l.base ++ (cut (length es) l.own ++ (l.more ++ m ∷ []))) q.held
-          ∙ ap (λ z. settled_moves z l.base l.own (l.more ++ m ∷ []) (length l.held)) (sym won)
+      moves_are : l.base ++ (cut (length x.held) l.own ++ more) ≡ new
+      moves_are = ap (λ es. l.base ++ (cut (length es) l.own ++ more)) q.held
+          ∙ ap (λ z. settled_moves z l.base l.own more (length l.held)) (sym k.won)
+
+      whole : (l.base ++ alone_moves l x.held) ++ m ∷ [] ≡ new
+      whole = append_assoc l.base (alone_moves l x.held) (m ∷ []) ∙ ap (λ zs. l.base ++ zs) joined ∙ moves_are
 
       go : BackupPlace M w.nodes i.top i.trace x.generation l → Next M C i.trace (with_node w n y)
-      go (BackupEarlier g k a) = (cc)
-      go (BackupAtTop g k a) =
+      go (BackupEarlier g z a) = (let won = k.won in (cc))
+      go (BackupAtTop g z a) =
           let grows : IsPrefix i.trace new =
-          subst (λ z. IsPrefix z new) k (settled-more l.stage l.base l.own l.more (m ∷ []) (length l.held)) in
+          subst (λ z. IsPrefix z new) z (settled-more l.stage l.base l.own l.more (m ∷ []) (length l.held)) in
           relined M C w i n x y w.winners new q.there q.real refl (λ k d. refl) grows (inr g)
-          (backup-line n new x y q (l.more ++ m ∷ []) l.stage l.held w.winners
-          (AtTop g refl (record {
-            a = a.a;
-            there = primary_there n x y q.spot ∙ a.there;
-            generation = a.generation;
-            is_primary = primary-held M l (l.more ++ m ∷ []) l.held a.a (omega arith) a.is_primary;
-          }) backup_here) o.tied (omega arith) o.sound.held (λ z. z)
+          (backup-line new y more l.stage l.held w.winners
+          (AtTop g refl (primary_stays y more l.stage l.held a
+          (primary-held M l more l.held a.a (omega arith) a.is_primary))
+          (backup_acts y (with_backup l more l.stage l.held) refl refl q.held (record {
+            state = AsAlone role k.won (subst (λ zs. HasMade M l.mid l.base zs s ts) joined made);
+            log = q.is_backup.log;
+          }))) o.tied (omega arith) o.sound.held (λ z. z)
           (prefix-refl new)
-          (backup-later n x y l.stage q (omega arith) refl (inl (λ k. k)) (λ z. z)) (λ z. z))
+          (backup-later y l.stage (omega arith) refl (inl (λ k. k)) (λ z. z)) (λ z. z))
           (λ lt. absurd (omega (arith, lt, g))) refl
           (global-grows M w.messages w.terminals w.puts i.trace new grows
-          (subst (λ us. CameIn w.terminals w.puts us) (list ∙ ap (inputs 0) moves_are) came)
-          (subst (λ zs. Owns M [] M.boot zs) moves_are owns)
+          (subst (λ us. CameIn w.terminals w.puts us) (made.list ∙ ap (inputs 0)
+          (ap (λ zs. l.base ++ zs) joined ∙ moves_are)) came)
+          (subst (λ zs. Owns M [] M.boot zs) whole owns)
           i.global)
 
-  pub backup-does : (n : ℕ) (x : Node S) (s : S) (v : Option Operation) → ActingBackup M C w i n x → x.role ≡ Alone →
-      M.step x.machine ≡ Some (s, v) → M.count s ≡ suc (M.count x.machine) →
-      Next M C i.trace (with_node w n (plainly_steps x s))
-  backup-does n x s v q role step counted =
-      let l = line_at i x in
-      let k = backup-alone M C l x q.is_backup.state role in
-      let z = cut (length x.held) l.own ++ l.more in
-      let y : (z ++ Do v ∷ []) ≡ cut (length x.held) l.own ++ (l.more ++ Do v ∷ []) =
-      append_assoc (cut (length x.held) l.own) l.more (Do v ∷ []) in
-      let trace = alone-trace M C w i n x q k in
-      let t : x.list ≡ inputs 0 i.trace = k.list ∙ ap (inputs 0) (sym trace) in
-      backup-moves n x (Do v) s x.list q role k.won
-      (subst (λ zs. Runs M l.mid zs s) y (runs-append M l.mid x.machine s z (Do v ∷ []) k.runs (s, step, refl)))
-      (counted ∙ steps-do l.base z v (M.count x.machine) k.count ∙ ap (λ zs. steps l.base + steps zs) y)
-      (k.list ∙ sym (whole-do l.base z v) ∙ ap (λ zs. inputs 0 (l.base ++ zs)) y)
-      (subst (λ ts. CameIn w.terminals w.puts ts) (sym t) i.global.came)
-      (subst (λ zs. Owns M [] M.boot (l.base ++ zs)) y
-      (subst (λ zs. Owns M [] M.boot zs) (append_assoc l.base z (Do v ∷ []))
-      (owns-append M [] M.boot x.machine (l.base ++ z) (Do v ∷ [])
-      (runs-append M M.boot l.mid x.machine l.base z (i.each x.generation).sound.based k.runs)
-      (subst (λ zs. Owns M [] M.boot zs) trace i.global.owns) (λ u q. tt))))
+  -- what is known of it before
+  from_boot : BackupAlone M l x → Runs M M.boot (l.base ++ alone_moves l x.held) x.machine
+  from_boot k = runs-append M M.boot l.mid x.machine l.base (alone_moves l x.held) o.sound.based k.runs
 
-  pub backup-accepts : (laws : Lawful M) (n : ℕ) (x : Node S) (s : S) (inp : Input) → ActingBackup M C w i n x →
-      x.role ≡ Alone → MayTake M w x inp → refusal_of M x.machine inp ≡ None → M.take x.machine inp ≡ Some s →
-      M.count s ≡ M.count x.machine → Next M C i.trace (with_node w n (alone_takes M x s inp))
-  backup-accepts laws n x s inp q role may ok take counted =
-      let l = line_at i x in
+  trace_came : BackupAlone M l x → CameIn w.terminals w.puts x.list
+  trace_came k = subst (λ ts. CameIn w.terminals w.puts ts)
+      (sym (k.list ∙ ap (inputs 0) (sym (alone-trace M C w i n x q k)))) i.global.came
+
+  trace_owns : BackupAlone M l x → Owns M [] M.boot (l.base ++ alone_moves l x.held)
+  trace_owns k = subst (λ zs. Owns M [] M.boot zs) (alone-trace M C w i n x q k) i.global.owns
+
+  pub backup-does : (s : S) (v : Option Operation) → x.role ≡ Alone → M.step x.machine ≡ Some (s, v) →
+      M.count s ≡ suc (M.count x.machine) → Next M C i.trace (with_node w n (plainly_steps x s))
+  backup-does s v role step counted =
       let k = backup-alone M C l x q.is_backup.state role in
-      let z = cut (length x.held) l.own ++ l.more in
-      let y : (z ++ Take inp ∷ []) ≡ cut (length x.held) l.own ++ (l.more ++ Take inp ∷ []) =
-      append_assoc (cut (length x.held) l.own) l.more (Take inp ∷ []) in
-      let trace = alone-trace M C w i n x q k in
-      let t : x.list ≡ inputs 0 i.trace = k.list ∙ ap (inputs 0) (sym trace) in
-      let from_boot = runs-append M M.boot l.mid x.machine l.base z (i.each x.generation).sound.based k.runs in
-      let taken : (p : ℕ) → M.keys x.machine p ≡ length (keys p x.list) =
-      λ p. laws.takes_keys (l.base ++ z) x.machine p from_boot ∙ ap (λ ts. length (keys p ts)) (sym k.list) in
-      let due : (p j : ℕ) → M.due_byte x.machine p ≡ Some j → j ≡ acceptances p x.list + 1 =
-      λ p j d. laws.due (l.base ++ z) x.machine p j from_boot d ∙ ap (λ ts. acceptances p ts + 1) (sym k.list) in
-      backup-moves n x (Take inp) s (x.list ++ timed (M.count x.machine) inp ∷ []) q role k.won
-      (subst (λ zs. Runs M l.mid zs s) y (runs-append M l.mid x.machine s z (Take inp ∷ []) k.runs (s, take, refl)))
-      (counted ∙ steps-take l.base z inp (M.count x.machine) k.count ∙ ap (λ zs. steps l.base + steps zs) y)
-      (ap (λ ts. ts ++ timed (M.count x.machine) inp ∷ []) k.list
-      ∙ sym (whole-take l.base z inp (M.count x.machine) k.count) ∙ ap (λ zs. inputs 0 (l.base ++ zs)) y)
-      (came-take M w x inp (M.count x.machine) may due taken i.global.written
-      (subst (λ ts. CameIn w.terminals w.puts ts) (sym t) i.global.came))
-      (subst (λ zs. Owns M [] M.boot (l.base ++ zs)) y
-      (subst (λ zs. Owns M [] M.boot zs) (append_assoc l.base z (Take inp ∷ []))
-      (owns-append M [] M.boot x.machine (l.base ++ z) (Take inp ∷ []) from_boot
-      (subst (λ zs. Owns M [] M.boot zs) trace i.global.owns) (
-        own-take M laws w x inp (l.base ++ z) i.trace from_boot may ok (prefix-same i.trace (l.base ++ z) trace)
-            i.global.reads,
+      let z = alone_moves l x.held in
+      backup-moves k (Do v) s x.list role (made-do M l.mid l.base z x.machine s x.list k.made v step counted)
+      (trace_came k)
+      (owns-append M [] M.boot x.machine (l.base ++ z) (Do v ∷ []) (from_boot k) (trace_owns k) (λ u q. tt))
+
+  pub backup-accepts : (laws : Lawful M) (s : S) (inp : Input) → x.role ≡ Alone → MayTake M w x inp →
+      refusal_of M x.machine inp ≡ None → M.take x.machine inp ≡ Some s → M.count s ≡ M.count x.machine →
+      Next M C i.trace (with_node w n (alone_takes M x s inp))
+  backup-accepts laws s inp role may ok take counted =
+      let k = backup-alone M C l x q.is_backup.state role in
+      let z = alone_moves l x.held in
+      backup-moves k (Take inp) s (x.list ++ timed (M.count x.machine) inp ∷ []) role
+      (made-take M l.mid l.base z x.machine s x.list k.made inp take counted)
+      (came-take M laws w x inp (M.count x.machine) (l.base ++ z) (from_boot k) k.list may i.global.written
+      (trace_came k))
+      (owns-append M [] M.boot x.machine (l.base ++ z) (Take inp ∷ []) (from_boot k) (trace_owns k) (
+        own-take M laws w x inp (l.base ++ z) i.trace (from_boot k) may ok
+            (prefix-same i.trace (l.base ++ z) (alone-trace M C w i n x q k)) i.global.reads,
         λ u q. tt,
-      ))))
+      ))

@@ -1,13 +1,7 @@
 -- The invariant holds of a world at boot.
 use Rattle.std.proofs.Common.{[], ◌∙◌, ◌∷◌, ◌≡◌, ◌≤◌, ◌⊎◌, List, Some, ap, arith, inl, inr, refl, suc, sym, zero, ℕ}
 use Rattle.std.specs.Prelude.{slice_get}
-use Rattle.event_callbacks.specs.declared.operations.Operation.TheVariants.{Byte}
-use Rattle.guest_board.specs.Machine.{Machine, Move}
-use Rattle.pair_protocol.specs.Copying.{Copying}
-use Rattle.pair_protocol.specs.Faithful.{IsPrefix}
-use Rattle.pair_protocol.specs.Lawful.{Among, Lawful}
-use Rattle.pair_protocol.specs.Node.{Backup, Node, Primary, Spare, first_node}
-use Rattle.pair_protocol.specs.World.{Arrival, no_terminal, opening, terminal_in}
+use Rattle.pair_protocol.proofs.Words.{Among, Arrival, Backup, Byte, Copying, IsPrefix, Lawful, Machine, Move, Node, Primary, Spare, first_node, is_backup, no_terminal, opening, terminal_in}
 use Rattle.pair_protocol.proofs.Invariant.{AsBackup, AtTop, CameIn, Inv, Line, LineOf, Presence, Undecided, Unused, settled}
 use Rattle.pair_protocol.proofs.Traces.Lists.{same_or_not, same_some}
 
@@ -117,14 +111,11 @@ at_boot {S} M C laws = record {
             generation = sym e;
             is_primary = record {
               role = inl refl;
-              runs = refl;
-              count = laws.counts [] M.boot refl;
-              list = refl;
+              made = record { runs = refl; count = laws.counts [] M.boot refl; list = refl };
               copy = refl;
-              log = λ k. refl;
               covered = omega arith;
               image = λ s k. (cc);
-              notes = λ k o m. absurd m;
+              logged = λ k. record { log = refl; notes = λ o m. absurd m };
             };
           })
           (record {
@@ -142,9 +133,7 @@ at_boot {S} M C laws = record {
                     few = omega arith;
                     place = inl refl;
                   });
-              copy = refl;
-              start = refl;
-              held = ([], refl);
+              log = record { copy = refl; start = refl; held = ([], refl) };
             };
           }))
       | inr d ↦ made g (Unused d (record {

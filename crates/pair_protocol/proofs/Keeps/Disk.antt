@@ -1,25 +1,12 @@
 -- What the disk has for a sector is its record at boot, or the write of greatest number that arrived there.
 use Rattle.std.proofs.Common.{[], ◌++◌, ◌<◌, ◌∙◌, ◌∷◌, ◌≡◌, ◌≤◌, Bool, List, ap, arith, cond, eq-eqb, eqb-true, false, inl, inr, ltb-false, ltb-true, refl, subst, sym, true, ℕ}
 use Rattle.std.specs.Prelude.{◌&&◌, ◌==◌, nat_lt}
-use Rattle.disk_dcdd.specs.Address.{address_of, same_address}
-use Rattle.disk_dcdd.specs.declared.address.SectorAddress.{SectorAddress}
-use Rattle.disk_dcdd.specs.declared.sector.SectorWrite.{SectorWrite}
-use Rattle.event_callbacks.specs.declared.operations.Operation.TheVariants.{Write}
-use Rattle.guest_board.specs.Machine.{Machine}
-use Rattle.guest_trace.specs.Reach.{inputs, operations}
-use Rattle.guest_trace.specs.declared.timed.Timed.{Timed}
-use Rattle.pair_protocol.specs.Copying.{Copying}
-use Rattle.pair_protocol.specs.Lawful.{Among}
-use Rattle.pair_protocol.specs.World.{Released, SectorRead, SectorRecord, Terminal, World, WriteDone, latest, record_after, sector_record, with_message, with_put}
-use Rattle.pair_protocol.proofs.Invariant.{AtStart, CameIn, HasPut, Inv, IsRecord, Next, OfWrite}
-use Rattle.pair_protocol.proofs.Keeps.Link.{line-message, message-split}
-use Rattle.pair_protocol.proofs.Traces.Lists.{among-left, among-right, among-split, prefix-refl}
+use Rattle.pair_protocol.proofs.Words.{Among, Copying, Machine, Released, SectorAddress, SectorRead, SectorRecord, SectorWrite, World, Write, WriteDone, address_of, latest, operations, record_after, same_address, sector_record, with_message, with_put}
+use Rattle.pair_protocol.proofs.Invariant.{AtStart, HasPut, Inv, IsRecord, Next, OfWrite}
+use Rattle.pair_protocol.proofs.Keeps.Link.{message-true}
+use Rattle.pair_protocol.proofs.Traces.Lists.{among-left, among-right, among-split, and_parts}
 
 -- the record of a sector is its record at boot or a settled write's
-
-pub and_parts : (b c : Bool) → (b && c) ≡ true → (b ≡ true) × (c ≡ true)
-and_parts true c h = (refl, h)
-and_parts false c h = (cc)
 
 pub same_address-is : (a b : SectorAddress) → same_address a b ≡ true → a ≡ b
 same_address-is a b h =
@@ -111,101 +98,22 @@ record-is {S} M C w i q = go (latest_is (record { number = 0; bytes = M.boot_sec
 put-more : (ws : List SectorWrite) (v : SectorWrite) (n : ℕ) → HasPut ws n → HasPut (ws ++ v ∷ []) n
 put-more ws v n h = (h.0, among-left h.0 ws (v ∷ []) h.1, h.2)
 
-came-more : (ts : List Terminal) (ws : List SectorWrite) (v : SectorWrite) (list : List Timed) → CameIn ts ws list →
-    CameIn ts (ws ++ v ∷ []) list
-came-more ts ws v list h = record { done = h.done; typed = h.typed; put = λ n q. put-more ws v n (h.put n q) }
-
 module _ {S : Type 0} (M : Machine S) (C : Copying S) (w : World S) (i : Inv M C w) where
   pub keep-puts : (v : SectorWrite) → Among (Write v) (operations i.trace) → Among (Released (Write v)) w.messages →
       Next M C i.trace (with_put w v)
-  unfolding line-message
-  keep-puts v h sent = record {
-    inv = record {
-      top = i.top;
-      trace = i.trace;
-      each = λ k. (let o = line-message M C w i.top k i.trace (WriteDone v.number) (i.each k) tt (λ u. tt)
-          (λ t s b u gb role z e. absurd (cc)) in record {
-            line = o.line;
-            sound = o.sound;
-            presence = o.presence;
-            members = o.members;
-            tied = o.tied;
-            says = o.says;
-            came = came-more w.terminals w.puts v _ o.came;
-            owns = o.owns;
-            below = o.below;
-            reads = o.reads;
-          });
-      global = record {
-        sends = λ o k. elim (message-split (Released o) (WriteDone v.number) w.messages k) [
-          | inl q ↦ i.global.sends o q
-          | inr q ↦ absurd (cc)
-        ];
-        arrived = i.global.arrived;
-        puts_are = λ u k. elim (among-split u w.puts (v ∷ []) k) [
-          | inl q ↦ (
-            (i.global.puts_are u q).0,
-            among-left (Released (Write u)) w.messages (WriteDone v.number ∷ []) (i.global.puts_are u q).1,
-          )
-          | inr (inl e) ↦ (
-            subst (λ z. Among (Write z) (operations i.trace)) (sym e) h,
-            among-left (Released (Write u)) w.messages (WriteDone v.number ∷ [])
-                (subst (λ z. Among (Released (Write z)) w.messages) (sym e) sent),
-          )
-          | inr (inr e) ↦ absurd e
-        ];
-        reads = λ q j bytes k. elim (message-split (SectorRead q j bytes) (WriteDone v.number) w.messages k)
-            [ inl e ↦ i.global.reads q j bytes e | inr e ↦ absurd (cc) ];
-        written = λ j k. elim (message-split (WriteDone j) (WriteDone v.number) w.messages k) [
-          | inl e ↦ put-more w.puts v j (i.global.written j e)
-          | inr e ↦ (v, among-right v w.puts (v ∷ []) (inl refl), (let f : j ≡ v.number = (cc) in sym f))
-        ];
-        came = came-more w.terminals w.puts v (inputs 0 i.trace) i.global.came;
-        owns = i.global.owns;
-        told = i.global.told;
-      };
-      spares = i.spares;
-      earlier = i.earlier;
-    };
-    grows = prefix-refl i.trace;
-  }
+  keep-puts v h sent = message-true M C w i (WriteDone v.number) (w.puts ++ v ∷ [])
+      (λ ts came. record { done = came.done; typed = came.typed; put = λ n q. put-more w.puts v n (came.put n q) })
+      (put-more w.puts v) (λ u k. elim (among-split u w.puts (v ∷ []) k) [
+        | inl q ↦ inl q
+        | inr (inl e) ↦ inr (
+          subst (λ z. Among (Write z) (operations i.trace)) (sym e) h,
+          subst (λ z. Among (Released (Write z)) w.messages) (sym e) sent,
+        )
+        | inr (inr e) ↦ absurd e
+      ])
+      (λ k. tt) (λ k u. tt) (v, among-right v w.puts (v ∷ []) (inl refl), refl) (λ k. tt)
 
   pub keep-reads : (q : SectorAddress) (n : ℕ) (bytes : List ℕ) → IsRecord M q n bytes i.trace →
       Next M C i.trace (with_message w (SectorRead q n bytes))
-  unfolding line-message
-  keep-reads q n bytes h = record {
-    inv = record {
-      top = i.top;
-      trace = i.trace;
-      each = λ k. line-message M C w i.top k i.trace (SectorRead q n bytes) (i.each k) tt (λ u. tt)
-          (λ t s b u gb role z e. absurd (cc));
-      global = record {
-        sends = λ o k. elim (message-split (Released o) (SectorRead q n bytes) w.messages k)
-            [ inl e ↦ i.global.sends o e | inr e ↦ absurd (cc) ];
-        arrived = i.global.arrived;
-        puts_are = λ v k. (
-          (i.global.puts_are v k).0,
-          among-left (Released (Write v)) w.messages (SectorRead q n bytes ∷ []) (i.global.puts_are v k).1,
-        );
-        reads = λ r j bs k. elim (message-split (SectorRead r j bs) (SectorRead q n bytes) w.messages k)
-            [ inl e ↦ i.global.reads r j bs e | inr e ↦ same_read r j bs e ];
-        written = λ j k. elim (message-split (WriteDone j) (SectorRead q n bytes) w.messages k)
-            [ inl e ↦ i.global.written j e | inr e ↦ absurd (cc) ];
-        came = i.global.came;
-        owns = i.global.owns;
-        told = i.global.told;
-      };
-      spares = i.spares;
-      earlier = i.earlier;
-    };
-    grows = prefix-refl i.trace;
-  }
-    where
-      same_read : (r : SectorAddress) (j : ℕ) (bs : List ℕ) → SectorRead r j bs ≡ SectorRead q n bytes →
-          IsRecord M r j bs i.trace
-      same_read r j bs e =
-          let a : r ≡ q = (cc) in
-          let b : j ≡ n = (cc) in
-          let c : bs ≡ bytes = (cc) in
-          subst (λ z. IsRecord M z j bs i.trace) (sym a)
-          (subst (λ z. IsRecord M q z bs i.trace) (sym b) (subst (λ z. IsRecord M q n z i.trace) (sym c) h))
+  keep-reads q n bytes h = message-true M C w i (SectorRead q n bytes) w.puts (λ ts came. came) (λ j k. k)
+      (λ v k. inl k) (λ k. tt) (λ k u. tt) h (λ k. tt)

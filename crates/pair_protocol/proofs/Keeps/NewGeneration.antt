@@ -2,16 +2,10 @@
 use Rattle.std.proofs.Common.{[], ◌++◌, ◌+◌, ◌<◌, ◌∙◌, ◌≡◌, ◌⊎◌, List, None, Some, ap, append-nil, arith, inl, inr, refl, subst, suc, sym, zero, ℕ}
 use Rattle.std.proofs.lemmas.List.{length-replicate}
 use Rattle.std.specs.Prelude.{replicate, slice_get, slice_set}
-use Rattle.guest_board.specs.Machine.{Machine}
-use Rattle.guest_trace.specs.Reach.{Owns, inputs, steps}
-use Rattle.pair_protocol.specs.Change.{Acts}
-use Rattle.pair_protocol.specs.Copying.{Copying, IsCopying}
-use Rattle.pair_protocol.specs.Faithful.{IsPrefix}
-use Rattle.pair_protocol.specs.Node.{Alone, Joining, Node, Spare, begun, joiner}
-use Rattle.pair_protocol.specs.World.{World, with_node, with_pair}
+use Rattle.pair_protocol.proofs.Words.{Acts, Alone, Copying, IsCopying, IsPrefix, Joining, Machine, Node, Owns, Spare, World, begun, inputs, is_backup, joiner, steps, with_pair}
 use Rattle.pair_protocol.proofs.Invariant.{AsJoining, AtTop, BackupLeft, CameIn, Gone, Inv, Line, LineOf, Next, Presence, PrimaryLeft, Undecided, Unseen, Unused, settled}
 use Rattle.pair_protocol.proofs.Invariant.Acting.{Acting, BackupActs, BackupAtTop, BackupEarlier, PrimaryActs, PrimaryAtTop, PrimaryEarlier, acting}
-use Rattle.pair_protocol.proofs.Invariant.Frames.{backup-no_spare, line-other, line-over, line-retop, primary-no_spare}
+use Rattle.pair_protocol.proofs.Invariant.Frames.{backup-no_spare, backup-there, line-framed, line-over, primary-no_spare, primary-there, same_nodes-set, same_nodes-trans}
 use Rattle.pair_protocol.proofs.Keeps.Alone.{AloneAt, alone_at, backup-alone}
 use Rattle.pair_protocol.proofs.Traces.Lists.{get_set, get_set_cases, get_set_other, prefix-refl, prefix-same, same_or_not, same_some}
 
@@ -143,25 +137,15 @@ keep-begins {S} M C copies w i n h x y acts there spare_is = record {
         presence (PrimaryActs q (PrimaryAtTop g s b)) =
             PrimaryLeft below (elim q.is_primary.role [ inl r ↦ (let k = acts.role_is in absurd (cc)) | inr r ↦ r.1 ])
             (gone o.line.primary q.spot)
-            (record {
-              b = b.b;
-              there = stays o.line.backup b.b b.there (backup-no_spare M C o.line b.b b.is_backup.state)
-                  (λ k. o.sound.apart (sym q.spot ∙ sym k));
-              generation = b.generation;
-              held = b.held;
-              is_backup = b.is_backup;
-            })
+            (backup-there M C w.nodes nodes x.generation o.line o.line b (stays o.line.backup b.b b.there
+            (backup-no_spare M C o.line b.b b.is_backup.state) (λ k. o.sound.apart (sym q.spot ∙ sym k))) b.held
+            b.is_backup)
         presence (BackupActs q (BackupEarlier g s l)) =
             (let won = (backup-alone M C o.line x q.is_backup.state acts.role_is).won in absurd (cc))
         presence (BackupActs q (BackupAtTop g s l)) =
             BackupLeft below (backup-alone M C o.line x q.is_backup.state acts.role_is).won (gone o.line.backup q.spot)
-            (record {
-              a = l.a;
-              there = stays o.line.primary l.a l.there (primary-no_spare M o.line l.a l.is_primary)
-                  (λ k. o.sound.apart (k ∙ q.spot));
-              generation = l.generation;
-              is_primary = l.is_primary;
-            })
+            (primary-there M C w.nodes nodes x.generation o.line o.line l (stays o.line.primary l.a l.there
+            (primary-no_spare M o.line l.a l.is_primary) (λ k. o.sound.apart (k ∙ q.spot))) l.is_primary)
 
     -- the generation that begins
     unknown : Unseen w.nodes w.messages w.winners (suc x.generation)
@@ -169,10 +153,10 @@ keep-begins {S} M C copies w i n h x y acts there spare_is = record {
       where
         go : Presence M C w.nodes w.messages w.winners i.top i.trace (suc x.generation)
             (i.each (suc x.generation)).line → Unseen w.nodes w.messages w.winners (suc x.generation)
+        go (Unused g u) = u
         go (AtTop g s l b) = absurd (let k = a.at_top in omega arith)
         go (PrimaryLeft g s l b) = absurd (let k = a.at_top in omega arith)
         go (BackupLeft g s b l) = absurd (let k = a.at_top in omega arith)
-        go (Unused g u) = u
 
     same_trace : i.trace ++ [] ≡ i.trace
     same_trace = append-nil i.trace
@@ -196,15 +180,15 @@ keep-begins {S} M C copies w i n h x y acts there spare_is = record {
             generation = refl;
             is_primary = record {
               role = inl refl;
-              runs = refl;
-              count = a.count
-                  ∙ (let z : steps i.trace ≡ steps i.trace + 0 = omega arith in z);
-              list = a.list ∙ ap (inputs 0) (sym same_trace);
+              made = record {
+                runs = refl;
+                count = a.count ∙ (let z : steps i.trace ≡ steps i.trace + 0 = omega arith in z);
+                list = a.list ∙ ap (inputs 0) (sym same_trace);
+              };
               copy = a.list;
-              log = λ k. refl;
               covered = omega arith;
               image = λ s e. same_some s x.machine (Some x.machine) e refl;
-              notes = λ k v m. absurd m;
+              logged = λ k. record { log = refl; notes = λ v m. absurd m };
             };
           })
           (record {
@@ -221,9 +205,7 @@ keep-begins {S} M C copies w i n h x y acts there spare_is = record {
                         ∙ sym (copies.counted i.trace x.machine a.runs);
                     each = λ j p k. absurd (no_slot C.part_count j p k);
                   });
-              copy = a.list;
-              start = a.count;
-              held = ([], refl);
+              log = record { copy = a.list; start = a.count; held = ([], refl) };
             };
           });
       sound = record { based = a.runs; recorded = (x.machine, refl); apart = λ e. apart (sym e); held = ([], refl) };
@@ -256,22 +238,20 @@ keep-begins {S} M C copies w i n h x y acts there spare_is = record {
     other : (k : ℕ) → (k ≡ suc x.generation → ⊥) → (k ≡ x.generation → ⊥) →
         LineOf M C new (suc x.generation) i.trace k
     other k d c =
-        line-retop M C new i.top (suc x.generation) k i.trace (λ e. c (e ∙ sym a.at_top)) (let q =
-        a.at_top in omega arith) d
-        (line-other M C (with_node w n bx) i.top k h i.trace i.trace y jx w.winners there1 (λ e. spare_is)
-        (λ e. d (sym e)) refl (prefix-refl i.trace) (λ e. refl)
-        (line-other M C w i.top k n i.trace i.trace x bx w.winners acts.there (λ e. absurd (c (sym e)))
-        (λ e. d (sym e)) refl (prefix-refl i.trace) (λ e. refl) (i.each k)))
-
-    pick_old : (k : ℕ) → (k ≡ suc x.generation → ⊥) → (k ≡ x.generation) ⊎ (k ≡ x.generation → ⊥) →
-        LineOf M C new (suc x.generation) i.trace k
-    pick_old k d (inl e) = subst (λ j. LineOf M C new (suc x.generation) i.trace j) (sym e) old_line
-    pick_old k d (inr c) = other k d c
+        line-framed M C w i.top (suc x.generation) k i.trace i.trace nodes w.terminals w.winners w.puts
+        (same_nodes-trans w.nodes (slice_set w.nodes n bx) nodes k
+        (same_nodes-set w.nodes n k x bx acts.there (λ e. absurd (c (sym e))) (λ e. d (sym e)))
+        (same_nodes-set (slice_set w.nodes n bx) h k y jx there1 (λ e. spare_is) (λ e. d (sym e))))
+        (λ ts came. came) refl (prefix-refl i.trace) (let q = a.at_top in omega (arith, q))
+        (λ e. absurd (c (e ∙ sym a.at_top))) (λ e. absurd (d e)) (i.each k)
 
     pick : (k : ℕ) → (k ≡ suc x.generation) ⊎ (k ≡ suc x.generation → ⊥) →
         LineOf M C new (suc x.generation) i.trace k
     pick k (inl e) = subst (λ j. LineOf M C new (suc x.generation) i.trace j) (sym e) new_line
-    pick k (inr d) = pick_old k d (same_or_not k x.generation)
+    pick k (inr d) = elim (same_or_not k x.generation) [
+      | inl e ↦ subst (λ j. LineOf M C new (suc x.generation) i.trace j) (sym e) old_line
+      | inr c ↦ other k d c
+    ]
 
     each : (k : ℕ) → LineOf M C new (suc x.generation) i.trace k
     each k = pick k (same_or_not k (suc x.generation))

@@ -1,27 +1,13 @@
 -- The log and the notes of a primary after one more move.
 use Rattle.std.proofs.Common.{[], ◌++◌, ◌+◌, ◌<◌, ◌∙◌, ◌∷◌, ◌≡◌, ◌≤◌, ◌⊎◌, Bool, List, None, Option, Some, ap, append-nil, append_assoc, arith, cond, eq-eqb, false, inl, inr, length, length-append, refl, subst, suc, sym, true, zero, ℕ}
 use Rattle.std.specs.Prelude.{◌&&◌, ◌==◌, slice_get}
-use Rattle.disk_dcdd.specs.declared.sector.SectorWrite.{SectorWrite}
-use Rattle.event_callbacks.specs.Operations.{id_of}
-use Rattle.event_callbacks.specs.declared.operations.OpId.{OpId}
-use Rattle.event_callbacks.specs.declared.operations.OpId.TheVariants as id
-use Rattle.event_callbacks.specs.declared.operations.Operation.{Operation}
-use Rattle.event_callbacks.specs.declared.operations.Operation.TheVariants.{Byte, Write}
-use Rattle.guest_board.specs.Machine.{Do, Move, Take}
-use Rattle.guest_board.specs.declared.input.Input.{Input}
-use Rattle.log_entry.specs.Entries.{entries, marks}
-use Rattle.log_entry.specs.declared.entry.Entry.{Entry}
-use Rattle.log_entry.specs.declared.entry.Entry.TheVariants.{Mark}
-use Rattle.guest_trace.specs.Reach.{inputs, operations, steps, timed}
-use Rattle.pair_protocol.specs.Faithful.{IsPrefix}
-use Rattle.pair_protocol.specs.Lawful.{Among}
-use Rattle.pair_protocol.specs.Node.{Note, note_of, notes_after, same_name}
-use Rattle.pair_protocol.specs.Traces.{cut}
+use Rattle.pair_protocol.proofs.Words.{Among, Byte, Do, Entry, Input, IsPrefix, Mark, Move, Note, OpId, Operation, SectorWrite, Take, Write, cut, entries, id_of, inputs, marks, note_of, notes_after, operations, same_name, steps, timed}
 use Rattle.pair_protocol.specs.Waiting.{is_read, reads_in, up_to_read, waits_for}
 use Rattle.pair_protocol.proofs.Invariant.{AreNoted, IsNoted}
 use Rattle.pair_protocol.proofs.Traces.Cuts.{among-cut, cut-both}
 use Rattle.pair_protocol.proofs.Traces.Lists.{among-prefix, among-split, bool_cases, get-after, get-front, le-cases}
 use Rattle.pair_protocol.proofs.Traces.Moves.{entries-append, inputs-append, operations-append, operations-prefix, steps-append}
+use Rattle.event_callbacks.specs.declared.operations.OpId.TheVariants as id
 
 pub entries-longer : (c : ℕ) (xs ys : List Move) → IsPrefix (entries c xs) (entries c (xs ++ ys))
 entries-longer c xs ys = (entries (c + steps xs) ys, sym (entries-append c xs ys))

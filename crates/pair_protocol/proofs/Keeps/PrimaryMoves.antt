@@ -1,28 +1,15 @@
 -- What may be taken was accepted, typed or put; and what a primary is after each move.
 use Rattle.std.proofs.Common.{[], ◌++◌, ◌+◌, ◌∙◌, ◌∷◌, ◌≡◌, ◌≤◌, ◌⊎◌, Bool, List, None, Option, Some, ap, append-nil, arith, cond, eqb-true, false, inl, inr, length, map, not, refl, subst, suc, sym, true, ℕ}
 use Rattle.std.specs.Prelude.{◌==◌, slice_get}
-use Rattle.disk_dcdd.specs.declared.address.SectorAddress.{SectorAddress}
-use Rattle.disk_dcdd.specs.declared.sector.SectorWrite.{SectorWrite}
-use Rattle.event_callbacks.specs.declared.operations.Operation.{Operation}
-use Rattle.event_callbacks.specs.declared.operations.Operation.TheVariants.{Write}
-use Rattle.guest_board.specs.Machine.{Do, Machine, Move, Runs, Take, refusal_of, sector_refusal}
-use Rattle.guest_board.specs.declared.input.Input.{Input}
-use Rattle.guest_board.specs.declared.input.Input.TheVariants as input
+use Rattle.pair_protocol.proofs.Words.{Alone, Among, Do, Input, IsPrefix, IsUnwritten, IsWritten, Lawful, Machine, MayTake, Move, Node, Operation, Own, Primary, Runs, SectorAddress, SectorRead, SectorWrite, Take, Timed, World, Write, WriteDone, acceptances, accepted, bare, entries, entry_of, image, inputs, keys, operations, primary_steps, primary_takes, refusal_of, sector_refusal, steps, terminal, timed}
 use Rattle.i8080_words.specs.declared.refusal.Fault.TheVariants.{NotDue, SectorBusy, StaleRead}
-use Rattle.log_entry.specs.Entries.{entries, entry_of}
-use Rattle.guest_trace.specs.Reach.{Own, acceptances, bare, image, keys, operations, steps, timed}
-use Rattle.guest_trace.specs.declared.timed.Bare.TheVariants.{Rx, Sector, Sent, Written}
-use Rattle.guest_trace.specs.declared.timed.Timed.{Timed}
-use Rattle.pair_protocol.specs.Change.{MayTake}
-use Rattle.pair_protocol.specs.Faithful.{IsPrefix}
-use Rattle.pair_protocol.specs.Lawful.{Among, IsUnwritten, IsWritten, Lawful}
-use Rattle.pair_protocol.specs.Node.{Alone, Node, Primary, alone_takes, plainly_steps, primary_steps, primary_takes}
-use Rattle.pair_protocol.specs.World.{SectorRead, World, WriteDone, accepted, terminal}
-use Rattle.pair_protocol.proofs.Invariant.{ArePut, AtStart, CameIn, HasPut, IsPrimary, IsRecord, Line, OfWrite}
+use Rattle.guest_trace.specs.declared.timed.Bare.TheVariants.{Rx, Sent, Written}
+use Rattle.pair_protocol.proofs.Invariant.{ArePut, AtStart, CameIn, HasMade, HasPut, IsPrimary, IsRecord, Line, OfWrite}
 use Rattle.pair_protocol.proofs.Invariant.Frames.{with_own}
-use Rattle.pair_protocol.proofs.Keeps.PrimaryLog.{log-do, notes-do, notes-more, steps-do, steps-take, whole-do, whole-take}
+use Rattle.pair_protocol.proofs.Keeps.PrimaryLog.{log-do, notes-do, notes-more, whole-do, whole-take}
 use Rattle.pair_protocol.proofs.Traces.Lists.{among-prefix, among-split, bool_cases, map-append, prefix-next}
-use Rattle.pair_protocol.proofs.Traces.Moves.{acceptances-append, entries-append, keys-append, operations-append, operations-prefix, runs-append}
+use Rattle.pair_protocol.proofs.Traces.Moves.{acceptances-append, entries-append, keys-append, operations-append, operations-prefix, runs-append, steps-append}
+use Rattle.guest_board.specs.declared.input.Input.TheVariants as input
 
 module _ {S : Type 0} (M : Machine S) (w : World S) (x : Node S) where
   -- What may be taken.
@@ -30,8 +17,6 @@ module _ {S : Type 0} (M : Machine S) (w : World S) (x : Node S) where
   done-take : (i : Input) (c : ℕ) → MayTake M w x i → ((p k : ℕ) → M.due_byte x.machine p ≡ Some k →
       k ≡ acceptances p x.list + 1) → ((p : ℕ) → acceptances p x.list ≤ length (accepted w p)) → (p : ℕ) →
       acceptances p (x.list ++ timed c i ∷ []) ≤ length (accepted w p)
-  done-take (input.Rx q b) c h due done p = let e =
-      acceptances-append p x.list (record { count = c; input = Rx q b } ∷ []) in let d = done p in omega arith
   done-take (input.Sent q) c h due done p =
       let e = acceptances-append p x.list (record { count = c; input = Sent q } ∷ []) in
       let d = done p in
@@ -51,10 +36,7 @@ module _ {S : Type 0} (M : Machine S) (w : World S) (x : Node S) where
           let f : acceptances p (record { count = c; input = Sent q } ∷ []) ≡ 0 = ap (λ b. cond b 1 0 + 0) t in
           let d = done p in
           omega arith
-  done-take (input.Sector d k n bytes) c h due done p = let e =
-      acceptances-append p x.list (record { count = c; input = Sector d k } ∷ []) in let v = done p in omega arith
-  done-take (input.Written n) c h due done p = let e =
-      acceptances-append p x.list (record { count = c; input = Written n } ∷ []) in let v = done p in omega arith
+  done-take i c h due done p = let e = acceptances-append p x.list (timed c i ∷ []) in let d = done p in omega arith
 
   typed-take : (i : Input) (c : ℕ) → MayTake M w x i → ((p : ℕ) → M.keys x.machine p ≡ length (keys p x.list)) →
       ((p : ℕ) → IsPrefix (keys p x.list) (terminal w p).typed) → (p : ℕ) → IsPrefix (keys p (x.list ++ timed c i ∷ []))
@@ -76,16 +58,9 @@ module _ {S : Type 0} (M : Machine S) (w : World S) (x : Node S) where
           let e : [] ≡ cond (p == q) (b ∷ []) [] ++ [] = ap (λ v. cond v (b ∷ []) [] ++ []) (sym t) in
           subst (λ zs. IsPrefix (keys p x.list ++ zs) (terminal w p).typed) e
           (subst (λ zs. IsPrefix zs (terminal w p).typed) (sym (append-nil (keys p x.list))) (typed p))
-  typed-take (input.Sent q) c h taken typed p =
+  typed-take i c h taken typed p =
       subst (λ zs. IsPrefix zs (terminal w p).typed)
-      (sym (keys-append p x.list (record { count = c; input = Sent q } ∷ []) ∙ append-nil (keys p x.list))) (typed p)
-  typed-take (input.Sector d k n bytes) c h taken typed p =
-      subst (λ zs. IsPrefix zs (terminal w p).typed)
-      (sym (keys-append p x.list (record { count = c; input = Sector d k } ∷ []) ∙ append-nil (keys p x.list)))
-      (typed p)
-  typed-take (input.Written n) c h taken typed p =
-      subst (λ zs. IsPrefix zs (terminal w p).typed)
-      (sym (keys-append p x.list (record { count = c; input = Written n } ∷ []) ∙ append-nil (keys p x.list))) (typed p)
+      (sym (keys-append p x.list (timed c i ∷ []) ∙ append-nil (keys p x.list))) (typed p)
 
   -- completed writes have arrived
   put-take : (i : Input) (c : ℕ) → MayTake M w x i → ((n : ℕ) → Among (WriteDone n) w.messages → HasPut w.puts n) →
@@ -98,117 +73,107 @@ module _ {S : Type 0} (M : Machine S) (w : World S) (x : Node S) where
       ]
     where
       go : (i : Input) → MayTake M w x i → Among (Written n) (bare i ∷ []) → HasPut w.puts n
-      go (input.Rx p b) m (inl e) = (cc)
-      go (input.Rx p b) m (inr e) = absurd e
-      go (input.Sent p) m (inl e) = (cc)
-      go (input.Sent p) m (inr e) = absurd e
-      go (input.Sector d s j bs) m (inl e) = (cc)
-      go (input.Sector d s j bs) m (inr e) = absurd e
       go (input.Written j) m (inl e) = (let f : n ≡ j = (cc) in subst (λ z. HasPut w.puts z) (sym f) (told j m))
-      go (input.Written j) m (inr e) = absurd e
+      go i m (inl e) = (cc)
+      go i m (inr e) = absurd e
 
--- What is read from the shared disk is what the machine's own disk has.
-
-pub came-take : {S : Type 0} (M : Machine S) (w : World S) (x : Node S) (i : Input) (c : ℕ) → MayTake M w x i →
-    ((p k : ℕ) → M.due_byte x.machine p ≡ Some k → k ≡ acceptances p x.list + 1) →
-    ((p : ℕ) → M.keys x.machine p ≡ length (keys p x.list)) →
-    ((n : ℕ) → Among (WriteDone n) w.messages → HasPut w.puts n) →
-    CameIn w.terminals w.puts x.list → CameIn w.terminals w.puts (x.list ++ timed c i ∷ [])
-came-take M w x i c may due taken written h = record {
-  done = done-take M w x i c may due h.done;
-  typed = typed-take M w x i c may taken h.typed;
+-- all three, of a machine that has made these moves from boot
+pub came-take : {S : Type 0} (M : Machine S) (laws : Lawful M) (w : World S) (x : Node S) (i : Input) (c : ℕ)
+    (ms : List Move) → Runs M M.boot ms x.machine → x.list ≡ inputs 0 ms → MayTake M w x i →
+    ((n : ℕ) → Among (WriteDone n) w.messages → HasPut w.puts n) → CameIn w.terminals w.puts x.list →
+    CameIn w.terminals w.puts (x.list ++ timed c i ∷ [])
+came-take M laws w x i c ms runs list may written h = record {
+  done = done-take M w x i c may (λ p k d. laws.due ms x.machine p k runs d
+      ∙ ap (λ ts. acceptances p ts + 1) (sym list)) h.done;
+  typed = typed-take M w x i c may (λ p. laws.takes_keys ms x.machine p runs ∙ ap (λ ts. length (keys p ts)) (sym list))
+      h.typed;
   put = put-take M w x i c may written h.put;
 }
 
 -- What the primary is after each move.
 
-module _ {S : Type 0} (M : Machine S) (l : Line S) (a : Node S) (s : S) where
-  pub primary-after_step : (o : Option Operation) → a.role ≡ Primary → M.step a.machine ≡ Some (s, o) →
-      M.count s ≡ suc (M.count a.machine) → IsPrimary M l a →
-      IsPrimary M (with_own l (l.own ++ Do o ∷ []) l.stage) (primary_steps M a s o)
-  primary-after_step o r h e p = record {
-    role = inl r;
-    runs = runs-append M l.mid a.machine s l.own (Do o ∷ []) p.runs (s, h, refl);
-    count = e ∙ steps-do l.base l.own o (M.count a.machine) p.count;
-    list = p.list ∙ sym (whole-do l.base l.own o);
-    copy = p.copy;
-    log = λ k. log-do (steps l.base) (M.count s) l.own a.log o (p.log r) (e ∙ ap suc p.count);
-    covered = p.covered;
-    image = p.image;
-    notes = λ k. notes-do (steps l.base) l.own a.log a.notes o (p.log r) (p.notes r);
+module _ {S : Type 0} (M : Machine S) (mid : S) (base ms : List Move) (a s : S) (list : List Timed)
+    (made : HasMade M mid base ms a list) where
+  pub made-do : (o : Option Operation) → M.step a ≡ Some (s, o) → M.count s ≡ suc (M.count a) →
+      HasMade M mid base (ms ++ Do o ∷ []) s list
+  made-do o h e = record {
+    runs = runs-append M mid a s ms (Do o ∷ []) made.runs (s, h, refl);
+    count = (let k = made.count in let n = steps-append ms (Do o ∷ []) in omega arith);
+    list = made.list ∙ sym (whole-do base ms o);
   }
 
-  pub alone-after_step : (o : Option Operation) → a.role ≡ Alone → M.step a.machine ≡ Some (s, o) →
-      M.count s ≡ suc (M.count a.machine) → IsPrimary M l a →
-      IsPrimary M (with_own l (l.own ++ Do o ∷ []) l.stage) (plainly_steps a s)
-  alone-after_step o r h e p = record {
-    role = p.role;
-    runs = runs-append M l.mid a.machine s l.own (Do o ∷ []) p.runs (s, h, refl);
-    count = e ∙ steps-do l.base l.own o (M.count a.machine) p.count;
-    list = p.list ∙ sym (whole-do l.base l.own o);
-    copy = p.copy;
-    log = λ k. (cc);
-    covered = p.covered;
-    image = p.image;
-    notes = λ k. (cc);
+  pub made-take : (i : Input) → M.take a i ≡ Some s → M.count s ≡ M.count a →
+      HasMade M mid base (ms ++ Take i ∷ []) s (list ++ timed (M.count a) i ∷ [])
+  made-take i h e = record {
+    runs = runs-append M mid a s ms (Take i ∷ []) made.runs (s, h, refl);
+    count = (let k = made.count in let n = steps-append ms (Take i ∷ []) in omega arith);
+    list = ap (λ ts. ts ++ timed (M.count a) i ∷ []) made.list ∙ sym (whole-take base ms i (M.count a) made.count);
   }
+
+module _ {S : Type 0} (M : Machine S) (l : Line S) (a : Node S) (s : S) (p : IsPrimary M l a) where
+  pub primary-after_step : (o : Option Operation) → a.role ≡ Primary → M.step a.machine ≡ Some (s, o) →
+      M.count s ≡ suc (M.count a.machine) →
+      IsPrimary M (with_own l (l.own ++ Do o ∷ []) l.stage) (primary_steps M a s o)
+  primary-after_step o r h e = let g = p.logged r in
+      record {
+        role = inl r;
+        made = made-do M l.mid l.base l.own a.machine s a.list p.made o h e;
+        copy = p.copy;
+        covered = p.covered;
+        image = p.image;
+        logged = λ k. record {
+          log = log-do (steps l.base) (M.count s) l.own a.log o g.log (e ∙ ap suc p.count);
+          notes = notes-do (steps l.base) l.own a.log a.notes o g.log g.notes;
+        };
+      }
 
   pub primary-after_input : (i : Input) → a.role ≡ Primary → M.take a.machine i ≡ Some s →
-      M.count s ≡ M.count a.machine → IsPrimary M l a →
+      M.count s ≡ M.count a.machine →
       IsPrimary M (with_own l (l.own ++ Take i ∷ []) l.stage) (primary_takes M a s i)
-  primary-after_input i r h e p = record {
-    role = inl r;
-    runs = runs-append M l.mid a.machine s l.own (Take i ∷ []) p.runs (s, h, refl);
-    count = e ∙ steps-take l.base l.own i (M.count a.machine) p.count;
-    list = ap (λ ts. ts ++ timed (M.count a.machine) i ∷ []) p.list
-        ∙ sym (whole-take l.base l.own i (M.count a.machine) p.count);
-    copy = p.copy;
-    log = λ k. ap (λ es. es ++ entry_of (M.count a.machine) i ∷ []) (p.log r)
-        ∙ ap (λ c. entries (steps l.base) l.own ++ entry_of c i ∷ []) p.count
-        ∙ sym (entries-append (steps l.base) l.own (Take i ∷ []));
-    covered = p.covered;
-    image = p.image;
-    notes = λ k o m. notes-more (steps l.base) a.notes l.own (Take i ∷ []) o (p.notes r o
-        (subst (λ zs. Among o zs) (operations-append l.own (Take i ∷ []) ∙ append-nil (operations l.own)) m));
-  }
+  primary-after_input i r h e = let g = p.logged r in
+      record {
+        role = inl r;
+        made = made-take M l.mid l.base l.own a.machine s a.list p.made i h e;
+        copy = p.copy;
+        covered = p.covered;
+        image = p.image;
+        logged = λ k. record {
+          log = ap (λ es. es ++ entry_of (M.count a.machine) i ∷ []) g.log
+              ∙ ap (λ c. entries (steps l.base) l.own ++ entry_of c i ∷ []) p.count
+              ∙ sym (entries-append (steps l.base) l.own (Take i ∷ []));
+          notes = λ o m. notes-more (steps l.base) a.notes l.own (Take i ∷ []) o (g.notes o
+              (subst (λ zs. Among o zs) (operations-append l.own (Take i ∷ []) ∙ append-nil (operations l.own)) m));
+        };
+      }
 
-  pub alone-after_input : (i : Input) → a.role ≡ Alone → M.take a.machine i ≡ Some s →
-      M.count s ≡ M.count a.machine → IsPrimary M l a →
-      IsPrimary M (with_own l (l.own ++ Take i ∷ []) l.stage) (alone_takes M a s i)
-  alone-after_input i r h e p = record {
+  -- alone, it logs nothing
+  pub alone-after : (m : Move) (list : List Timed) → a.role ≡ Alone → HasMade M l.mid l.base (l.own ++ m ∷ []) s list →
+      IsPrimary M (with_own l (l.own ++ m ∷ []) l.stage) (record a { machine = s; list = list })
+  alone-after m list r made = record {
     role = p.role;
-    runs = runs-append M l.mid a.machine s l.own (Take i ∷ []) p.runs (s, h, refl);
-    count = e ∙ steps-take l.base l.own i (M.count a.machine) p.count;
-    list = ap (λ ts. ts ++ timed (M.count a.machine) i ∷ []) p.list
-        ∙ sym (whole-take l.base l.own i (M.count a.machine) p.count);
+    made = made;
     copy = p.copy;
-    log = λ k. (cc);
     covered = p.covered;
     image = p.image;
-    notes = λ k. (cc);
+    logged = λ k. (cc);
   }
 
--- a sector that is not refused has the number of the machine's own last completed write there
-pub sector-done : {S : Type 0} (M : Machine S) (s : S) (address : SectorAddress) (number : ℕ) →
-    sector_refusal M s address number ≡ None → M.done s address ≡ number
-sector-done M s address number h = go (not (M.ready s address)) (M.busy s address) (M.done s address == number) refl h
+-- a sector that is not refused is not busy, and has the number of the machine's own last completed write there
+pub sector-passed : {S : Type 0} (M : Machine S) (s : S) (address : SectorAddress) (number : ℕ) →
+    sector_refusal M s address number ≡ None → (M.busy s address ≡ false) × (M.done s address ≡ number)
+sector-passed M s address number h = go (not (M.ready s address)) (M.busy s address) (M.done s address == number) refl h
   where
     go : (a b c : Bool) → (M.done s address == number) ≡ c →
         cond a (Some NotDue) (cond b (Some SectorBusy) (cond (not c) (Some StaleRead) None)) ≡ None →
-        M.done s address ≡ number
-    go true b c e k = (cc)
-    go false true c e k = (cc)
-    go false false true e k = eqb-true (M.done s address) number e
-    go false false false e k = (cc)
+        (b ≡ false) × (M.done s address ≡ number)
+    go false false true e k = (refl, eqb-true (M.done s address) number e)
+    go a b c e k = (cc)
 
 pub own-take : {S : Type 0} (M : Machine S) (laws : Lawful M) (w : World S) (x : Node S) (inp : Input)
     (ms T : List Move) → Runs M M.boot ms x.machine → MayTake M w x inp → refusal_of M x.machine inp ≡ None →
     IsPrefix T ms →
     ((q : SectorAddress) (n : ℕ) (bytes : List ℕ) → Among (SectorRead q n bytes) w.messages →
     IsRecord M q n bytes T) → Own M ms x.machine inp
-own-take M laws w x (input.Rx p b) ms T runs may ok below reads = tt
-own-take M laws w x (input.Sent p) ms T runs may ok below reads = tt
-own-take M laws w x (input.Written n) ms T runs may ok below reads = tt
 own-take {S} M laws w x (input.Sector d k n bytes) ms T runs may ok below reads =
     go (reads q n bytes may) (laws.own_disk ms x.machine q runs)
   where
@@ -216,7 +181,7 @@ own-take {S} M laws w x (input.Sector d k n bytes) ms T runs may ok below reads 
     q = M.address x.machine d k
 
     last : M.done x.machine q ≡ n
-    last = sector-done M x.machine q n ok
+    last = (sector-passed M x.machine q n ok).1
 
     go : IsRecord M q n bytes T → IsUnwritten M ms x.machine q ⊎ IsWritten M ms x.machine q →
         (M.done x.machine q ≡ n) × (image M ms q ≡ bytes)
@@ -239,3 +204,4 @@ own-take {S} M laws w x (input.Sector d k n bytes) ms T runs may ok below reads 
         let u : o.write ≡ v = laws.write_once ms x.machine o.write v runs o.issued
         (among-prefix (Write v) (operations T) (operations ms) (operations-prefix T ms below) a) same in
         (last, sym o.bytes ∙ ap (λ (z : SectorWrite). z.bytes) u ∙ f)
+own-take M laws w x inp ms T runs may ok below reads = tt

@@ -1,30 +1,16 @@
 -- A write that is released waits for each read that the highest generation's backup holds and has not replayed. A write
 -- that a primary releases was outstanding when its generation began, or waits for the reads up to its note, which the
 -- backup has reported as replayed; and beside an alone node of the highest generation nobody replays.
-use Rattle.std.proofs.Common.{◌++◌, ◌+◌, ◌<◌, ◌∙◌, ◌≡◌, ◌≤◌, ◌⊎◌, Bool, Some, ap, append-nil, arith, false, inl, inr, length, ltb-true, refl, subst, suc, sym, take, true, ℕ}
-use Rattle.std.specs.Prelude.{◌&&◌, nat_le, nat_lt, slice_get}
-use Rattle.disk_dcdd.specs.declared.sector.SectorWrite.{SectorWrite}
-use Rattle.event_callbacks.specs.Operations.{id_of}
-use Rattle.event_callbacks.specs.declared.operations.OpId.{OpId}
-use Rattle.event_callbacks.specs.declared.operations.Operation.{Operation}
-use Rattle.event_callbacks.specs.declared.operations.Operation.TheVariants.{Write}
-use Rattle.guest_board.specs.Machine.{Machine, Runs}
-use Rattle.log_entry.specs.Entries.{entries, inputs_of}
-use Rattle.guest_trace.specs.Reach.{inputs, keys, operations, steps}
-use Rattle.pair_protocol.specs.Change.{Acts, Replaying, Serving}
-use Rattle.pair_protocol.specs.Copying.{Copying}
-use Rattle.pair_protocol.specs.Faithful.{IsPrefix}
-use Rattle.pair_protocol.specs.Lawful.{Among, Lawful}
-use Rattle.pair_protocol.specs.Node.{Alone, Node, Primary, Role, covers, keys_covered, note_of}
-use Rattle.pair_protocol.specs.Traces.{cut}
-use Rattle.pair_protocol.specs.World.{World}
+use Rattle.std.proofs.Common.{◌++◌, ◌+◌, ◌<◌, ◌∙◌, ◌≡◌, ◌≤◌, ◌⊎◌, Some, ap, append-nil, arith, inl, inr, length, ltb-true, refl, subst, suc, sym, take, true, ℕ}
+use Rattle.std.specs.Prelude.{nat_le, nat_lt, slice_get}
+use Rattle.pair_protocol.proofs.Words.{Acts, Alone, Among, Copying, IsPrefix, Lawful, Machine, Node, OpId, Operation, Primary, Replaying, Role, Runs, SectorWrite, Serving, World, Write, covers, cut, entries, id_of, inputs, inputs_of, keys, keys_covered, note_of, operations, steps}
 use Rattle.pair_protocol.proofs.Invariant.{BackupHere, Inv, IsPrimary, Line, PrimaryWon, WaitsAt, settled}
 use Rattle.pair_protocol.proofs.Invariant.Acting.{Acting, ActingPrimary, BackupActs, PrimaryActs, PrimaryAtTop, PrimaryEarlier, PrimaryPlace, acting, acting_primary, acts-no_spare, line_at}
 use Rattle.pair_protocol.proofs.Invariant.Settled.{covers-below}
 use Rattle.pair_protocol.proofs.Keeps.Alone.{alone}
 use Rattle.pair_protocol.proofs.Keeps.Primary.{primary-runs}
 use Rattle.pair_protocol.proofs.Traces.Cuts.{cut-more, entries-cut}
-use Rattle.pair_protocol.proofs.Traces.Lists.{among-left, among-prefix, among-right, among-split, get-prefix, le-not, le-true, prefix-length, prefix-trans, same_some}
+use Rattle.pair_protocol.proofs.Traces.Lists.{among-left, among-prefix, among-right, among-split, and_parts, get-prefix, le-not, le-true, prefix-length, prefix-trans, same_some}
 use Rattle.pair_protocol.proofs.Traces.Moves.{inputs-append, inputs_of-entries, keys-prefix, operations-append, operations-prefix}
 
 covered : {S : Type 0} (M : Machine S) (C : Copying S) (w : World S) (i : Inv M C w) (g k : ℕ) →
@@ -32,10 +18,6 @@ covered : {S : Type 0} (M : Machine S) (C : Copying S) (w : World S) (i : Inv M 
 covered M C w i g k h = let l = (i.each g).line in
     prefix-trans (l.base ++ cut k l.own) (settled l) i.trace
     (covers-below l.stage l.base l.own l.more k (length l.held) h) (i.each g).below
-
-and-first : (a b : Bool) → (a && b) ≡ true → a ≡ true
-and-first true b h = refl
-and-first false b h = (cc)
 
 module _ {S : Type 0} (M : Machine S) (C : Copying S) (laws : Lawful M) (w : World S) (i : Inv M C w) (n : ℕ)
     (x : Node S) where
@@ -62,12 +44,12 @@ module _ {S : Type 0} (M : Machine S) (C : Copying S) (laws : Lawful M) (w : Wor
           (subst (λ zs. IsPrefix zs (settled l)) (append-nil l.base)
           (covers-below l.stage l.base l.own l.more 0 (length l.held) (omega arith)))) h
       go (inr h) =
-          let r = p.notes acts.role_is o h in
+          let r = (p.logged acts.role_is).notes o h in
           let e : id_of o ≡ name = laws.named (l.base ++ l.own) x.machine name o runs pending in
           let c : r.note.index < x.covered = ltb-true r.note.index x.covered
-          (and-first (nat_lt r.note.index x.covered) (nat_le r.note.after x.reported)
+          (and_parts (nat_lt r.note.index x.covered) (nat_le r.note.after x.reported)
           (subst (λ z. covers x.covered x.reported z ≡ true) r.found
-          (subst (λ z. covers x.covered x.reported (note_of x.notes z) ≡ true) (sym e) cover))) in
+          (subst (λ z. covers x.covered x.reported (note_of x.notes z) ≡ true) (sym e) cover))).0 in
           let d = p.covered in
           let k : suc r.note.index ≤ length l.held = omega arith in
           among-prefix o (operations (l.base ++ cut (suc r.note.index) l.own)) (operations (settled l))
@@ -98,7 +80,7 @@ module _ {S : Type 0} (M : Machine S) (C : Copying S) (laws : Lawful M) (w : Wor
           let c = x.covered in
           let e : x.copy ++ inputs_of (take c x.log) ≡ inputs 0 (l.base ++ cut c l.own) =
           ap (λ ts. ts ++ inputs_of (take c x.log)) q.is_primary.copy
-          ∙ ap (λ es. inputs 0 l.base ++ inputs_of (take c es)) (q.is_primary.log a.role_is)
+          ∙ ap (λ es. inputs 0 l.base ++ inputs_of (take c es)) (q.is_primary.logged a.role_is).log
           ∙ ap (λ es. inputs 0 l.base ++ inputs_of es) (sym (entries-cut c (steps l.base) l.own))
           ∙ ap (λ ts. inputs 0 l.base ++ ts) (inputs_of-entries (steps l.base) (cut c l.own))
           ∙ ap (λ j. inputs 0 l.base ++ inputs j (cut c l.own)) (let z : steps l.base ≡ 0 + steps l.base =
@@ -113,10 +95,6 @@ module _ {S : Type 0} (M : Machine S) (C : Copying S) (laws : Lawful M) (w : Wor
           let q = alone M C w i n x a in
           let f = laws.takes_keys i.trace x.machine p q.runs in
           subst (λ z. keys_covered M x p z ≤ length (keys p (inputs 0 i.trace))) (sym a.role_is) (omega arith)
-
-and-second : (a b : Bool) → (a && b) ≡ true → b ≡ true
-and-second true b h = h
-and-second false b h = (cc)
 
 -- a primary's write that is covered waits for each read that is held and not replayed
 pub frees : {S : Type 0} (M : Machine S) (C : Copying S) (laws : Lawful M) (w : World S) (i : Inv M C w) (n : ℕ)
@@ -153,14 +131,14 @@ frees {S} M C laws w i n x name o acts pending cover k t s b u gb role v is = pl
             (subst (Among o) (sym (operations-append l.base (cut j l.own)))
             (among-left o (operations l.base) (operations (cut j l.own)) m))
         go (inr m) =
-            let r = q.is_primary.notes acts.role_is o m in
+            let r = (q.is_primary.logged acts.role_is).notes o m in
             let f : id_of o ≡ name = laws.named (l.base ++ l.own) x.machine name o runs pending in
             let c2 : covers x.covered x.reported (Some r.note) ≡ true =
             subst (λ z. covers x.covered x.reported z ≡ true) r.found
             (subst (λ z. covers x.covered x.reported (note_of x.notes z) ≡ true) (sym f) cover) in
             let after : r.note.after ≤ x.reported =
             le-true r.note.after x.reported
-            (and-second (nat_lt r.note.index x.covered) (nat_le r.note.after x.reported) c2) in
+            (and_parts (nat_lt r.note.index x.covered) (nat_le r.note.after x.reported) c2).1 in
             let told = (i.each x.generation).reads.heard x b
             (subst (λ m. slice_get w.nodes m ≡ Some x) q.spot acts.there)
             (subst (λ z. slice_get w.nodes (i.each z).line.backup ≡ Some b) (t ∙ sym at) u) refl (gb ∙ t ∙ sym at)

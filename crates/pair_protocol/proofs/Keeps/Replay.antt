@@ -3,18 +3,7 @@ use Rattle.std.proofs.Common.{[], ◌++◌, ◌+◌, ◌<◌, ◌∙◌, ◌∷�
 use Rattle.std.proofs.lemmas.List.{append_cancel_left, take-append-le, take_at}
 use Rattle.std.proofs.lemmas.Option.{slice_get_within}
 use Rattle.std.specs.Prelude.{slice_get}
-use Rattle.event_callbacks.specs.declared.operations.Operation.{Operation}
-use Rattle.guest_board.specs.Machine.{Do, Machine, Move, Take}
-use Rattle.guest_board.specs.Recorded.{Recorded}
-use Rattle.guest_board.specs.declared.input.Input.{Input}
-use Rattle.log_entry.specs.Entries.{count_of, entries, entry_of, input_of, inputs_of}
-use Rattle.log_entry.specs.declared.entry.Entry.{Entry}
-use Rattle.log_entry.specs.declared.entry.Entry.TheVariants.{Mark}
-use Rattle.guest_trace.specs.Reach.{inputs, steps}
-use Rattle.guest_trace.specs.declared.timed.Timed.{Timed}
-use Rattle.pair_protocol.specs.Faithful.{IsPrefix}
-use Rattle.pair_protocol.specs.Node.{Node, holds, passes_input, passes_mark, plainly_steps}
-use Rattle.pair_protocol.specs.Traces.{cut}
+use Rattle.pair_protocol.proofs.Words.{Do, Entry, Input, IsPrefix, Machine, Mark, Move, Node, Operation, Recorded, Take, Timed, count_of, cut, entries, entry_of, holds, input_of, inputs, inputs_of, passes_input, passes_mark, plainly_steps, steps}
 use Rattle.pair_protocol.proofs.Invariant.{AtPlace, HasReplayed, Line}
 use Rattle.pair_protocol.proofs.Invariant.Frames.{with_backup}
 use Rattle.pair_protocol.proofs.Keeps.PrimaryLog.{steps-do, steps-take}

@@ -1,21 +1,8 @@
 -- The invariant gives every promise of a faithful world, and the growth of what is settled.
 use Rattle.std.proofs.Common.{[], ◌++◌, ◌+◌, ◌∙◌, ◌∷◌, ◌≡◌, ◌≤◌, ◌⊎◌, List, Some, ap, arith, inl, inr, refl, subst, suc, sym, ℕ}
 use Rattle.std.specs.Prelude.{slice_get}
-use Rattle.disk_dcdd.specs.Address.{address_of}
-use Rattle.disk_dcdd.specs.declared.address.SectorAddress.{SectorAddress}
-use Rattle.disk_dcdd.specs.declared.sector.SectorWrite.{SectorWrite}
-use Rattle.event_callbacks.specs.declared.operations.Operation.TheVariants.{Write}
-use Rattle.guest_board.specs.Machine.{Do, Machine, Move, Runs, Take}
-use Rattle.guest_trace.specs.Reach.{image, inputs, operations, steps}
-use Rattle.guest_trace.specs.declared.timed.Timed.{Timed}
-use Rattle.pair_protocol.specs.Change.{After, AtBoot, Reached}
-use Rattle.pair_protocol.specs.Copying.{Copying, IsCopying}
-use Rattle.pair_protocol.specs.Faithful.{Faithful, IsImage, IsOutstanding, IsPrefix, MayHave}
+use Rattle.pair_protocol.proofs.Words.{After, Alone, Among, AtBoot, Copying, Do, Faithful, IsCopying, IsImage, IsOutstanding, IsPrefix, IsUnwritten, IsWritten, Lawful, Machine, MayHave, Move, Node, Reached, Runs, SectorAddress, SectorRecord, SectorWrite, Settled, Take, Timed, World, Write, address_of, image, inputs, operations, sector_record, steps}
 use Rattle.pair_protocol.specs.Grows.{AllFrom, Extends}
-use Rattle.pair_protocol.specs.Lawful.{Among, IsUnwritten, IsWritten, Lawful}
-use Rattle.pair_protocol.specs.Node.{Alone, Node}
-use Rattle.pair_protocol.specs.Settled.{Settled}
-use Rattle.pair_protocol.specs.World.{SectorRecord, World, sector_record}
 use Rattle.pair_protocol.proofs.Invariant.{BackupWon, Inv, PrimaryWon}
 use Rattle.pair_protocol.proofs.Invariant.Acting.{Acting, BackupActs, BackupAtTop, BackupEarlier, PrimaryActs, PrimaryAtTop, PrimaryEarlier, acting, line_at}
 use Rattle.pair_protocol.proofs.Keeps.All.{keep}

@@ -2,22 +2,15 @@
 -- makes a winner, it does so in the highest generation, and the winner settles from then on.
 use Rattle.std.proofs.Common.{[], ◌++◌, ◌∙◌, ◌∷◌, ◌≡◌, ◌⊎◌, Bool, List, None, Some, ap, append-nil, append_assoc, cond, eqb-true, false, inl, inr, max, refl, subst, suc, sym, true, zero, ℕ}
 use Rattle.std.specs.Prelude.{◌==◌, slice_get, slice_set}
-use Rattle.guest_board.specs.Machine.{Machine}
+use Rattle.pair_protocol.proofs.Words.{Change, Changes, Copying, IsCopying, IsPrefix, Lawful, Machine, Node, Reached, Role, Settled, Settles, Spare, Stays, Then, Timed, Winner, World, highest, list_of, winner_in, wins, with_winner, won_role}
 use Rattle.i8080_words.specs.declared.refusal.Fault.{Fault}
 use Rattle.i8080_words.specs.declared.refusal.Fault.TheVariants.{Lost}
-use Rattle.guest_trace.specs.declared.timed.Timed.{Timed}
-use Rattle.pair_protocol.specs.Change.{Change, Changes, Reached, Stays, Then, Wins}
-use Rattle.pair_protocol.specs.Copying.{Copying, IsCopying}
-use Rattle.pair_protocol.specs.Event.{Acknowledge, DeliverAcknowledgement, DeliverLog, Drain, Step, Replay, Stop, TellSent, Event, GetReply, PartComes, PutReply, Release, Reply, Send, SendPart, Suspect, TakeKey}
-use Rattle.pair_protocol.specs.Faithful.{IsPrefix}
+use Rattle.pair_protocol.specs.Change.{Wins}
+use Rattle.pair_protocol.specs.Event.{Acknowledge, DeliverAcknowledgement, DeliverLog, Drain, Event, GetReply, PartComes, PutReply, Release, Replay, Reply, Send, SendPart, Step, Stop, Suspect, TakeKey, TellSent}
 use Rattle.pair_protocol.specs.Grows.{Grows}
-use Rattle.pair_protocol.specs.Lawful.{Lawful}
-use Rattle.pair_protocol.specs.Node.{Node, Role, Spare, wins, won_role}
 use Rattle.pair_protocol.specs.Refusals.{refusal}
 use Rattle.pair_protocol.specs.Row.{Accepts, DeviceFails, Leaves, Refuses, Row, WantsMemory}
-use Rattle.pair_protocol.specs.Rows.{Suspects, Does}
-use Rattle.pair_protocol.specs.Settled.{Settled, Settles, highest, list_of}
-use Rattle.pair_protocol.specs.World.{Winner, World, winner_in, with_winner}
+use Rattle.pair_protocol.specs.Rows.{Does, Suspects}
 use Rattle.pair_protocol.proofs.Invariant.{BackupWon, Inv, LineOf, PrimaryWon, Stage, Undecided, settled, winner_at}
 use Rattle.pair_protocol.proofs.Invariant.Acting.{Acting, BackupActs, BackupAtTop, BackupEarlier, PrimaryActs, PrimaryAtTop, PrimaryEarlier, acting}
 use Rattle.pair_protocol.proofs.Keeps.All.{keep}

@@ -1,13 +1,8 @@
 -- A joining node is the backup of its generation, and the parts of that generation are those of its first machine.
 use Rattle.std.proofs.Common.{[], ◌∙◌, ◌≡◌, Some, ap, inl, inr, ℕ}
 use Rattle.std.specs.Prelude.{slice_get}
-use Rattle.guest_board.specs.Machine.{Machine}
-use Rattle.pair_protocol.specs.Change.{Reached}
-use Rattle.pair_protocol.specs.Copying.{Copying, IsCopying, Makes}
+use Rattle.pair_protocol.proofs.Words.{Copying, IsCopying, Joining, Lawful, Machine, Makes, Node, Reached, World}
 use Rattle.pair_protocol.specs.Joining.{IsGiven}
-use Rattle.pair_protocol.specs.Lawful.{Lawful}
-use Rattle.pair_protocol.specs.Node.{Joining, Node}
-use Rattle.pair_protocol.specs.World.{World}
 use Rattle.pair_protocol.proofs.Invariant.{AsAlone, AsBackup, AsDraining, AsJoining, BackupState, Inv, Line, LineOf}
 use Rattle.pair_protocol.proofs.Invariant.Acting.{Acting, BackupActs, PrimaryActs, acting}
 use Rattle.pair_protocol.proofs.Keeps.BackupChanges.{gathered_is}
@@ -27,7 +22,7 @@ given {S} M C makes w i n x there role = go (acting M C w i n x there (λ k. (cc
     from : BackupState M C l x → IsGiven M C w x
     from (AsBackup r s f) = (cc)
     from (AsDraining r s m f) = (cc)
-    from (AsAlone r s u c k) = (cc)
+    from (AsAlone r s made) = (cc)
     from (AsJoining r s g) =
         let owns = owns-front M [] M.boot l.base l.own (o.owns s) in
         record {

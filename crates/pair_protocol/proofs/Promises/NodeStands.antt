@@ -3,22 +3,9 @@
 -- entries that it has not replayed are those of the remaining moves, after the mark of a step that it has just made.
 use Rattle.std.proofs.Common.{[], ◌++◌, ◌+◌, ◌∙◌, ◌∷◌, ◌≡◌, ◌≤◌, ◌⊎◌, List, Some, ap, append-nil, arith, drop, false, inl, inr, length, subst, sym, take, true, ℕ}
 use Rattle.std.specs.Prelude.{slice_get}
-use Rattle.guest_board.specs.Machine.{Machine, Move, Runs}
-use Rattle.guest_board.specs.Recorded.{Recorded}
-use Rattle.log_entry.specs.Entries.{entries}
+use Rattle.pair_protocol.proofs.Words.{Copying, Entry, IsCopying, IsPrefix, Lawful, Machine, Mark, Move, Node, Primary, Reached, Recorded, Replaying, Role, Runs, Serving, Spare, World, cut, entries, inputs, keys, list_of, steps}
 use Rattle.log_entry.specs.Standing.{IsOnTrace}
-use Rattle.log_entry.specs.declared.entry.Entry.{Entry}
-use Rattle.log_entry.specs.declared.entry.Entry.TheVariants.{Mark}
-use Rattle.guest_trace.specs.Reach.{inputs, keys, steps}
-use Rattle.pair_protocol.specs.Change.{Reached, Replaying, Serving}
-use Rattle.pair_protocol.specs.Copying.{Copying, IsCopying}
-use Rattle.pair_protocol.specs.Faithful.{IsPrefix}
-use Rattle.pair_protocol.specs.Lawful.{Lawful}
-use Rattle.pair_protocol.specs.Node.{Node, Primary, Role, Spare}
 use Rattle.pair_protocol.specs.NodeStands.{NodeStands}
-use Rattle.pair_protocol.specs.Settled.{list_of}
-use Rattle.pair_protocol.specs.Traces.{cut}
-use Rattle.pair_protocol.specs.World.{World}
 use Rattle.pair_protocol.proofs.Invariant.{AsAlone, AsBackup, AsDraining, AsJoining, AtPlace, BackupState, HasReplayed, Inv, IsLine, IsPrimary, Line}
 use Rattle.pair_protocol.proofs.Invariant.Acting.{Acting, BackupActs, PrimaryActs, acting, line_at}
 use Rattle.pair_protocol.proofs.Keeps.Primary.{primary-runs}
@@ -61,7 +48,7 @@ primary_stands M C laws w i x is_primary =
     serving_stands M laws x (l.base ++ l.own) (elim is_primary.role [ inl r ↦ inl r | inr r ↦ inr r.0 ])
     (primary-runs M C w i x is_primary) is_primary.list
     (λ r. (let c = is_primary.covered in let h = prefix-length l.held (entries (steps l.base) l.own) o.sound.held in
-    let e = ap length (is_primary.log r) in omega arith))
+    let e = ap length (is_primary.logged r).log in omega arith))
 
 -- A node that replays.
 
@@ -133,9 +120,9 @@ backup_stands M C laws l x sound held (AsJoining r s g) =
     idle_stands M x (λ h. elim h [ inl k ↦ (cc) | inr k ↦ (cc) ]) (λ h. elim h [ inl k ↦ (cc) | inr k ↦ (cc) ])
 backup_stands M C laws l x sound held (AsBackup r s f) = replaying_stands M l x (inl r) sound held f
 backup_stands M C laws l x sound held (AsDraining r s m f) = replaying_stands M l x (inr r) sound held f
-backup_stands M C laws l x sound held (AsAlone r s u c k) =
+backup_stands M C laws l x sound held (AsAlone r s made) =
     let z = cut (length x.held) l.own ++ l.more in
-    serving_stands M laws x (l.base ++ z) (inr r) (runs-append M M.boot l.mid x.machine l.base z sound.based u) k
+    serving_stands M laws x (l.base ++ z) (inr r) (runs-append M M.boot l.mid x.machine l.base z sound.based made.runs) made.list
     (λ h. absurd (cc))
 
 node_stands : {S : Type 0} (M : Machine S) (C : Copying S) (laws : Lawful M) (w : World S) (i : Inv M C w) (n : ℕ)

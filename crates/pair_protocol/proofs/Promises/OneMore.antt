@@ -1,12 +1,8 @@
--- One more of what a world has. One more arrival is accepted exactly if its number is the next one, one more write
--- replaces the record of its sector if its number is greater, and one more winner is the winner of its own generation.
-use Rattle.std.proofs.Common.{[], ◌++◌, ◌+◌, ◌<◌, ◌∙◌, ◌∷◌, ◌≡◌, Bool, List, None, Some, ap, arith, cond, eq-eqb, eqb-true, false, inl, inr, length, length-append, ltb-false, ltb-true, refl, subst, suc, sym, true, zero, ℕ}
+-- One more of what a world has. One more arrival is accepted exactly if its number is the next one, and one more write
+-- replaces the record of its sector if its number is greater.
+use Rattle.std.proofs.Common.{[], ◌++◌, ◌+◌, ◌<◌, ◌∙◌, ◌∷◌, ◌≡◌, Bool, List, ap, arith, cond, false, inl, inr, length, length-append, ltb-false, ltb-true, refl, suc, true, zero, ℕ}
 use Rattle.std.specs.Prelude.{◌==◌, nat_lt, slice_set}
-use Rattle.disk_dcdd.specs.declared.address.SectorAddress.{SectorAddress}
-use Rattle.disk_dcdd.specs.declared.sector.SectorWrite.{SectorWrite}
-use Rattle.guest_board.specs.Machine.{Machine}
-use Rattle.pair_protocol.specs.World.{Arrival, SectorRecord, Terminal, Winner, World, accepted, accepted_after, latest, record_after, sector_record, terminal, terminal_in, winner_in, with_arrival}
-use Rattle.pair_protocol.proofs.Keeps.Arbiter.{winner-other, winner-push}
+use Rattle.pair_protocol.proofs.Words.{Arrival, Machine, SectorAddress, SectorRecord, SectorWrite, Terminal, accepted_after, latest, record_after, sector_record, terminal_in}
 use Rattle.pair_protocol.proofs.Traces.Lists.{bool_cases}
 
 -- An arrival.
@@ -53,13 +49,6 @@ terminal-other (x ∷ ts) zero (suc q) t h = refl
 terminal-other (x ∷ ts) (suc p) zero t h = refl
 terminal-other (x ∷ ts) (suc p) (suc q) t h = terminal-other ts p q t (λ e. h (ap suc e))
 
-pub accepted-arrives : {S : Type 0} (w : World S) (p : ℕ) (a : Arrival) → p < length w.terminals →
-    accepted (with_arrival w p a) p ≡ accepted w p ++ next_byte (length (accepted w p)) a
-accepted-arrives w p a h =
-    let t : Terminal = record (terminal w p) { arrivals = (terminal w p).arrivals ++ a ∷ [] } in
-    ap (λ (t : Terminal). accepted_after 0 t.arrivals) (terminal-set w.terminals p t h)
-    ∙ accepted-one (terminal w p).arrivals a
-
 -- a terminal has accepted more exactly if the number was the next one
 pub arrival-counts : (xs : List Arrival) (a : Arrival) →
     nat_lt (length (accepted_after 0 xs)) (length (accepted_after 0 (xs ++ a ∷ [])))
@@ -92,14 +81,3 @@ latest-one r (u ∷ ws) v q = latest-one (record_after r u q) ws v q
 pub sector_record-one : {S : Type 0} (M : Machine S) (ws : List SectorWrite) (v : SectorWrite) (q : SectorAddress) →
     sector_record M (ws ++ v ∷ []) q ≡ record_after (sector_record M ws q) v q
 sector_record-one M ws v q = latest-one (record { number = 0; bytes = M.boot_sector q }) ws v q
-
--- A winner of a generation that nobody had won.
-
-pub winner-one : (ws : List Winner) (g n k : ℕ) → winner_in ws g ≡ None →
-    winner_in (ws ++ record { generation = g; node = n } ∷ []) k ≡ cond (k == g) (Some n) (winner_in ws k)
-winner-one ws g n k h = elim (bool_cases (k == g)) [
-  | inl t ↦ subst (λ j. winner_in (ws ++ record { generation = g; node = n } ∷ []) j ≡ Some n)
-      (sym (eqb-true k g t)) (winner-push ws g n h) ∙ ap (λ b. cond b (Some n) (winner_in ws k)) (sym t)
-  | inr f ↦ winner-other ws g n k (λ e. (let t = eq-eqb k g e in (cc)))
-      ∙ ap (λ b. cond b (Some n) (winner_in ws k)) (sym f)
-]

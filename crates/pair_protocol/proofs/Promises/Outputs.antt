@@ -2,16 +2,7 @@
 -- numbered in order, and a terminal takes byte k only as its k-th.
 use Rattle.std.proofs.Common.{[], ◌++◌, ◌+◌, ◌∙◌, ◌∷◌, ◌≡◌, ◌⊎◌, List, None, Some, ap, append-nil, append_assoc, arith, cond, eq-eqb, eqb-true, false, inl, inr, length, length-append, refl, subst, sym, true, ℕ}
 use Rattle.std.specs.Prelude.{◌==◌, slice_get}
-use Rattle.event_callbacks.specs.declared.operations.Operation.{Operation}
-use Rattle.event_callbacks.specs.declared.operations.Operation.TheVariants.{Byte}
-use Rattle.guest_board.specs.Machine.{Do, Machine, Move, Runs, Take}
-use Rattle.guest_trace.specs.Reach.{operations, output}
-use Rattle.pair_protocol.specs.Copying.{Copying}
-use Rattle.pair_protocol.specs.Faithful.{IsAllBut, IsPrefix}
-use Rattle.pair_protocol.specs.Lawful.{Among, Lawful}
-use Rattle.pair_protocol.specs.Node.{Node}
-use Rattle.pair_protocol.specs.Traces.{cut}
-use Rattle.pair_protocol.specs.World.{Arrival, World, accepted, accepted_after, terminal}
+use Rattle.pair_protocol.proofs.Words.{Among, Arrival, Byte, Copying, Do, IsAllBut, IsPrefix, Lawful, Machine, Move, Node, Operation, Runs, Take, World, accepted, accepted_after, cut, operations, output, terminal}
 use Rattle.pair_protocol.proofs.Invariant.{AsAlone, AsBackup, AsDraining, AsJoining, AtTop, BackupHere, BackupLeft, BackupState, BackupWon, Inv, Line, LineOf, Presence, PrimaryHere, PrimaryLeft, PrimaryWon, Stage, Undecided, Unused, settled, settled_moves}
 use Rattle.pair_protocol.proofs.Invariant.Frames.{with_own}
 use Rattle.pair_protocol.proofs.Traces.Cuts.{cut-prefix}
@@ -138,10 +129,10 @@ trace_runs {S} M C w i = let r = by_state l.stage t.primary.is_primary.runs t.ba
           runs-append M M.boot l.mid front.0 l.base (cut (length l.held) l.own ++ l.more) o.sound.based
               (subst (λ zs. Runs M l.mid zs front.0) (sym e) front.1),
         )
-    by_state BackupWon r (AsAlone x y z c k) = (
+    by_state BackupWon r (AsAlone x y made) = (
       b.machine,
       runs-append M M.boot l.mid b.machine l.base (cut (length l.held) l.own ++ l.more) o.sound.based
-          (subst (λ zs. Runs M l.mid (zs ++ l.more) b.machine) (sym held_is) z),
+          (subst (λ zs. Runs M l.mid (zs ++ l.more) b.machine) (sym held_is) made.runs),
     )
 
 pub output_is : {S : Type 0} (M : Machine S) (C : Copying S) → Lawful M → (w : World S) (i : Inv M C w) (p : ℕ) →

@@ -1,54 +1,27 @@
 -- If no write after a read has arrived, the disk still has what was read. And none has arrived after a read that is
 -- held and not replayed, since each write was released, and waited for that read.
-use Rattle.std.proofs.Common.{[], ◌++◌, ◌+◌, ◌∙◌, ◌∷◌, ◌≡◌, ◌≤◌, ◌⊎◌, Bool, List, None, Some, ap, arith, cond, false, inl, inr, length, not, refl, subst, suc, sym, take, true, zero, ℕ}
+use Rattle.std.proofs.Common.{[], ◌++◌, ◌+◌, ◌∙◌, ◌∷◌, ◌≡◌, ◌≤◌, ◌⊎◌, List, None, Some, ap, arith, inl, inr, length, refl, subst, suc, sym, take, true, zero, ℕ}
 use Rattle.std.proofs.lemmas.List.{take-append-le}
 use Rattle.std.proofs.lemmas.Option.{slice_get_within}
-use Rattle.std.specs.Prelude.{◌==◌, slice_get}
-use Rattle.disk_dcdd.specs.Address.{address_of}
-use Rattle.disk_dcdd.specs.declared.address.SectorAddress.{SectorAddress}
-use Rattle.disk_dcdd.specs.declared.sector.SectorWrite.{SectorWrite}
-use Rattle.event_callbacks.specs.declared.operations.Operation.TheVariants.{Write}
-use Rattle.guest_board.specs.Machine.{Do, Machine, Move, Runs, Take, refusal_of, sector_refusal}
-use Rattle.guest_board.specs.Recorded.{Accepts, Recorded}
-use Rattle.guest_board.specs.declared.input.Input.{Input}
+use Rattle.std.specs.Prelude.{slice_get}
+use Rattle.pair_protocol.proofs.Words.{Among, Backup, Copying, Do, Draining, Input, IsPrefix, IsUnwritten, IsWritten, Lawful, Machine, Mark, Move, Node, Reach, Recorded, Replaying, Runs, SectorAddress, SectorRecord, SectorWrite, Take, World, Write, address_of, count_of, cut, entries, entry_of, input_of, inputs, inputs_of, operations, refusal_of, sector_record, steps, winner_in}
+use Rattle.guest_board.specs.Recorded.{Accepts}
 use Rattle.guest_board.specs.declared.input.Input.TheVariants.{Sector}
-use Rattle.guest_board.specs.declared.input.Input.TheVariants as input
-use Rattle.i8080_words.specs.declared.refusal.Fault.TheVariants.{NotDue, SectorBusy, StaleRead}
-use Rattle.log_entry.specs.Entries.{count_of, entries, entry_of, input_of, inputs_of}
-use Rattle.log_entry.specs.declared.entry.Entry.TheVariants.{Mark}
-use Rattle.log_entry.specs.declared.entry.Entry.TheVariants as entry
-use Rattle.guest_trace.specs.Reach.{Reach, inputs, operations, steps}
-use Rattle.pair_protocol.specs.Change.{Replaying}
-use Rattle.pair_protocol.specs.Copying.{Copying}
-use Rattle.pair_protocol.specs.Faithful.{IsPrefix}
-use Rattle.pair_protocol.specs.Lawful.{Among, IsUnwritten, IsWritten, Lawful}
-use Rattle.pair_protocol.specs.Node.{Backup, Draining, Node}
 use Rattle.pair_protocol.specs.ReadsKept.{ReachedKeepsReads, StillReplays}
-use Rattle.pair_protocol.specs.Traces.{cut}
 use Rattle.pair_protocol.specs.Waiting.{is_read}
-use Rattle.pair_protocol.specs.World.{SectorRecord, World, sector_record, winner_in}
 use Rattle.pair_protocol.proofs.Invariant.{ArePut, AsAlone, AsBackup, AsDraining, AsJoining, BackupState, Inv, Line, LineOf, PrimaryWon, settled, winner_at}
 use Rattle.pair_protocol.proofs.Invariant.Acting.{Acting, BackupActs, PrimaryActs, acting}
 use Rattle.pair_protocol.proofs.Invariant.Settled.{covers-below}
 use Rattle.pair_protocol.proofs.Keeps.Disk.{AsBefore, LatestIs, OfPut, latest_all, latest_is}
-use Rattle.pair_protocol.proofs.Keeps.PrimaryMoves.{sector-done}
+use Rattle.pair_protocol.proofs.Keeps.PrimaryMoves.{sector-passed}
 use Rattle.pair_protocol.proofs.Promises.Faithful.{reached}
 use Rattle.pair_protocol.proofs.Promises.Settling.{highest_is}
 use Rattle.pair_protocol.proofs.Traces.Lists.{get-prefix, prefix-cons, prefix-trans, prefix-under, same_some}
 use Rattle.pair_protocol.proofs.Traces.Moves.{inputs-append, inputs_of-entries, operations-append, owns-prefix, put-prefix, runs-append, steps-append}
 use Rattle.pair_protocol.proofs.Traces.OneTrace.{one_end, one_trace}
 use Rattle.pair_protocol.proofs.Traces.Recorded.{recorded-prefix, recorded-rest, recorded-runs}
-
--- a sector that is not refused is not busy
-not-busy : {S : Type 0} (M : Machine S) (s : S) (address : SectorAddress) (number : ℕ)
-    → sector_refusal M s address number ≡ None → M.busy s address ≡ false
-not-busy M s address number h = go (not (M.ready s address)) (M.busy s address) (M.done s address == number) h
-  where
-    go : (a b c : Bool) → cond a (Some NotDue) (cond b (Some SectorBusy) (cond (not c) (Some StaleRead) None)) ≡ None
-        → b ≡ false
-    go true b c k = (cc)
-    go false true c k = (cc)
-    go false false c k = refl
+use Rattle.guest_board.specs.declared.input.Input.TheVariants as input
+use Rattle.log_entry.specs.declared.entry.Entry.TheVariants as entry
 
 read_is_kept : {S : Type 0} (M : Machine S) → Lawful M → (base xs : List Move) (mid s : S)
     (puts : List SectorWrite) (drive sector number : ℕ) (bytes : List ℕ) → Runs M M.boot base mid →
@@ -66,7 +39,7 @@ read_is_kept {S} M laws base xs mid s puts drive sector number bytes based run o
     runs = runs-append M M.boot mid s base xs based (recorded-runs M mid s xs run)
 
     last : M.done s q ≡ number
-    last = sector-done M s q number ok
+    last = (sector-passed M s q number ok).1
 
     start : SectorRecord
     start = record { number = 0; bytes = M.boot_sector q }
@@ -79,7 +52,7 @@ read_is_kept {S} M laws base xs mid s puts drive sector number bytes based run o
     early v m e = elim (laws.write_is (base ++ xs) s v runs (before v m)) [
       | inl l ↦ subst (λ z. v.number ≤ M.done s z) e l
       | inr p ↦ (let b : M.busy s q ≡ true = laws.busy (base ++ xs) s v drive sector runs p e in
-          let c = not-busy M s q number ok in absurd (cc))
+          let c = (sector-passed M s q number ok).0 in absurd (cc))
     ]
 
     -- and the last completed one has arrived
@@ -250,7 +223,7 @@ reads_kept {S} M C laws w i n x still k count drive sector number bytes low got 
             won (inr h) (AsDraining q y m f) z = (cc)
             won (inr h) (AsJoining q y f) z = (cc)
             won (inr h) (AsBackup q y f) z = (cc)
-            won (inr h) (AsAlone q y m f c) z = (cc)
+            won (inr h) (AsAlone q y made) z = (cc)
 
         repeats : Replaying x.role
         repeats = by_role (λ q. inl q) (λ q. inr q) still.who

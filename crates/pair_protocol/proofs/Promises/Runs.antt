@@ -1,13 +1,9 @@
 -- What a world that actions reach promises, and how one event may change it.
 use Rattle.std.proofs.Common.{◌≡◌, List, ap, length, refl, suc}
-use Rattle.guest_board.specs.Machine.{Machine}
-use Rattle.pair_protocol.specs.Change.{After, AtBoot, Changes, HostComes, Reached, Stays, Then}
-use Rattle.pair_protocol.specs.Copying.{Copying, IsCopying}
+use Rattle.pair_protocol.proofs.Words.{After, AtBoot, Changes, Copying, Faithful, IsCopying, Lawful, Machine, Reached, Stays, Then, World, opening, with_host}
+use Rattle.pair_protocol.specs.Change.{HostComes}
 use Rattle.pair_protocol.specs.Event.{Event, Reply}
-use Rattle.pair_protocol.specs.Faithful.{Faithful}
-use Rattle.pair_protocol.specs.Lawful.{Lawful}
 use Rattle.pair_protocol.specs.Row.{First, Nothing, Run}
-use Rattle.pair_protocol.specs.World.{World, opening, with_host}
 use Rattle.pair_protocol.proofs.Invariant.{Inv, Next}
 use Rattle.pair_protocol.proofs.Keeps.All.{keep}
 use Rattle.pair_protocol.proofs.Promises.Faithful.{faithful, reached}

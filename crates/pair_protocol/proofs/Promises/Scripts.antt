@@ -1,69 +1,48 @@
 -- The scripts of the small machines, event by event.
 use Rattle.std.proofs.Common.{[], ◌++◌, ◌<◌, ◌∷◌, ◌≡◌, List, None, Some, arith, false, inl, inr, refl, true, ℕ}
-use Rattle.event_callbacks.specs.declared.operations.OpId.TheVariants as id
-use Rattle.event_callbacks.specs.declared.operations.Operation.TheVariants.{Write}
-use Rattle.guest_board.specs.Machine.{Machine}
+use Rattle.pair_protocol.proofs.Words.{Acknowledgement, Alone, Copying, LogEntry, Machine, Mark, Node, Primary, World, Write, accepted, first_node, opening, with_host, with_node}
 use Rattle.guest_board.specs.declared.running.StopReason.TheVariants as reason
 use Rattle.i8080_words.specs.declared.refusal.Fault.TheVariants.{WrongRole}
-use Rattle.log_entry.specs.declared.entry.Entry.TheVariants.{Mark}
-use Rattle.pair_protocol.specs.Copying.{Copying}
 use Rattle.pair_protocol.specs.Event.{Accepted, Acknowledge, Arrive, DeliverLog, Drain, Dropped, Event, MessageIs, MovedAlone, New, Ran, Refused, Release, Reply, Send, Step, Stop, Stopped, Suspect, TakeKey, TypeByte, TypedAt, Won}
 use Rattle.pair_protocol.specs.Examples.{TakesOver, WritesDisk, letter, sector_write, small, small_copying}
 use Rattle.pair_protocol.specs.Lawful.{top}
-use Rattle.pair_protocol.specs.Node.{Alone, Node, Primary}
 use Rattle.pair_protocol.specs.Row.{Accepts, First, Nothing, Refuses, Run}
 use Rattle.pair_protocol.specs.Effects.{AtEnd, Gives, Goes, NoneLeft, OneMark, OneStep}
 use Rattle.pair_protocol.specs.Waiting.{is_read}
-use Rattle.pair_protocol.specs.World.{Acknowledgement, LogEntry, World, accepted, opening, with_host}
+use Rattle.pair_protocol.specs.Rows.{AtNode, OfNode}
+use Rattle.std.specs.Prelude.{slice_get}
+use Rattle.event_callbacks.specs.declared.operations.OpId.TheVariants as id
+
+-- what a row says of one node
+abbrev at_node : {w new : World ℕ} {n : ℕ} {does : Node ℕ → Node ℕ → Type 0} {x : Node ℕ} (y : Node ℕ) →
+    slice_get w.nodes n ≡ Some x → does x y → new ≡ with_node w n y → AtNode w n does new
+at_node {x = x} y there done after = record { x = x; there = there; y = y; done = done; after = after }
+
+abbrev of_node : {w : World ℕ} {n : ℕ} {says : Node ℕ → Type 0} {x : Node ℕ} → slice_get w.nodes n ≡ Some x → says x →
+    OfNode w n says
+of_node {x = x} there said = record { x = x; there = there; said = said }
 
 -- a run may be made in two parts
 run-append : {S : Type 0} (M : Machine S) (C : Copying S) (old mid new : World S) (events later : List Event)
     (replies others : List Reply) → Run M C old events replies mid → Run M C mid later others new →
     Run M C old (events ++ later) (replies ++ others) new
 run-append M C old mid new events later replies others Nothing k = k
-run-append M C old mid new events later replies others (First {mid = v} {events = es} {replies = rs} row rest) k =
+run-append M C old mid new _ later _ others (First {mid = v} {events = es} {replies = rs} row rest) k =
     First row (run-append M C v mid new es later rs others rest k)
 run-append M C old mid new events later replies others (Run.HostComes rest) k =
     Run.HostComes (run-append M C (with_host M old) mid new events later replies others rest k)
 
 -- the world once the backup has drained
 abbrev stopped : Node ℕ
-stopped = record {
-  role = Primary;
+stopped = record (first_node small Primary) {
   running = false;
-  generation = 1;
   machine = 6;
-  list = [];
-  copy = [];
-  start = 0;
-  held = [];
-  replayed = 0;
   log = Mark 6 ∷ [];
-  covered = 0;
-  reported = 0;
   notes = record { name = id.Byte 0 1; index = 0; after = 0 } ∷ [];
-  image = None;
-  parts = [];
 }
 
 abbrev live : Node ℕ
-live = record {
-  role = Alone;
-  running = true;
-  generation = 1;
-  machine = 6;
-  list = [];
-  copy = [];
-  start = 0;
-  held = Mark 6 ∷ [];
-  replayed = 1;
-  log = [];
-  covered = 0;
-  reported = 0;
-  notes = [];
-  image = None;
-  parts = [];
-}
+live = record (first_node small Alone) { machine = 6; held = Mark 6 ∷ []; replayed = 1 }
 
 abbrev drained : World ℕ
 drained = record {
@@ -89,32 +68,13 @@ until_drained =
       made = _;
       count = _;
       why = _;
-      at = record {
-        x = _;
-        there = refl;
-        y = _;
-        done = record { advances = Goes 1 refl (Goes 2 refl (Goes 3 refl (Goes 4 refl (Goes 5 refl (Gives 6 letter refl))))); some = inr (omega arith); counted = refl };
-        after = refl;
-      };
+      at = at_node _ refl (record { advances = Goes 1 refl (Goes 2 refl (Goes 3 refl (Goes 4 refl (Goes 5 refl (Gives 6 letter refl))))); some = inr (omega arith); counted = refl }) refl;
       reply = refl;
     }))
-    (First (Accepts refl (record { e = _; node = record { x = _; there = refl; said = refl }; says = record { reply = refl; after = refl } }))
-    (First (Accepts refl (record {
-      generation = _;
-      index = _;
-      e = _;
-      message = refl;
-      next = true;
-      at = record { x = _; there = refl; y = _; done = (refl, refl); after = refl };
-      reply = refl;
-    }))
-    (First (Accepts refl (record {
-      held = _;
-      replayed = _;
-      node = record { x = _; there = refl; said = (refl, refl) };
-      says = record { reply = refl; after = refl };
-    }))
-    (First (Accepts refl (record { at = record { x = _; there = refl; y = _; done = refl; after = refl }; reply = refl }))
+    (First (Accepts refl (record { e = _; node = of_node refl refl; says = record { reply = refl; after = refl } }))
+    (First (Accepts refl (record { generation = _; index = _; e = _; message = refl; next = true; at = at_node _ refl (refl, refl) refl; reply = refl }))
+    (First (Accepts refl (record { held = _; replayed = _; node = of_node refl (refl, refl); says = record { reply = refl; after = refl } }))
+    (First (Accepts refl (record { at = at_node _ refl refl refl; reply = refl }))
     (First (Accepts refl (record { x = _; there = refl; reply = refl; after = inl (refl, refl) }))
     (First (Accepts refl (record { reply = refl; after = refl }))
     (First (Refuses refl refl)
@@ -155,7 +115,7 @@ after_drained : (w : World ℕ) × Run small small_copying drained last_events l
 unfolding top
 after_drained = (
   _,
-  First (Accepts refl (record { o = _; node = record { x = _; there = refl; said = refl }; says = record { reply = refl; after = refl } }))
+  First (Accepts refl (record { o = _; node = of_node refl refl; says = record { reply = refl; after = refl } }))
       (First (Accepts refl (record { port = _; number = _; byte = _; message = refl; reply = refl; after = refl }))
       (First (Accepts refl (record { port = _; number = _; byte = _; message = refl; reply = refl; after = refl }))
       Nothing)),
@@ -179,34 +139,17 @@ writes_disk = (
     made = _;
     count = _;
     why = _;
-    at = record {
-      x = _;
-      there = refl;
-      y = _;
-      done = record { advances = Goes 1 refl (Goes 2 refl NoneLeft); some = inr (omega arith); counted = refl };
-      after = refl;
-    };
+    at = at_node _ refl (record { advances = Goes 1 refl (Goes 2 refl NoneLeft); some = inr (omega arith); counted = refl }) refl;
     reply = refl;
   }))
-      (First (Accepts refl (record {
-        address = _;
-        node = record { x = _; there = refl; said = record { drive = _; selected = refl; address_is = refl } };
-        reply = refl;
-        after = refl;
-      }))
+      (First (Accepts refl (record { address = _; node = of_node refl (record { drive = _; selected = refl; address_is = refl }); reply = refl; after = refl }))
       (First (Accepts refl (record {
         address = _;
         number = _;
         bytes = _;
         message = refl;
         input = record {
-          at = record {
-            x = _;
-            there = refl;
-            y = _;
-            done = record { s = 3; takes = refl; after = refl };
-            after = refl;
-          };
+          at = at_node _ refl (record { s = 3; takes = refl; after = refl }) refl;
           reply = refl;
         };
       }))
@@ -214,72 +157,19 @@ writes_disk = (
         made = _;
         count = _;
         why = _;
-        at = record {
-          x = _;
-          there = refl;
-          y = _;
-          done = record { advances = Gives 4 (Write sector_write) refl; some = inr (omega arith); counted = refl };
-          after = refl;
-        };
+        at = at_node _ refl (record { advances = Gives 4 (Write sector_write) refl; some = inr (omega arith); counted = refl }) refl;
         reply = refl;
       }))
-      (First (Accepts refl (record { e = _; node = record { x = _; there = refl; said = refl }; says = record { reply = refl; after = refl } }))
-      (First (Accepts refl (record { e = _; node = record { x = _; there = refl; said = refl }; says = record { reply = refl; after = refl } }))
-      (First (Accepts refl (record {
-        generation = _;
-        index = _;
-        e = _;
-        message = refl;
-        next = true;
-        at = record { x = _; there = refl; y = _; done = (refl, refl); after = refl };
-        reply = refl;
-      }))
-      (First (Accepts refl (record {
-        generation = _;
-        index = _;
-        e = _;
-        message = refl;
-        next = true;
-        at = record { x = _; there = refl; y = _; done = (refl, refl); after = refl };
-        reply = refl;
-      }))
-      (First (Accepts refl (record {
-        held = _;
-        replayed = _;
-        node = record { x = _; there = refl; said = (refl, refl) };
-        says = record { reply = refl; after = refl };
-      }))
-      (First (Accepts refl (record {
-        generation = _;
-        held = _;
-        replayed = _;
-        message = refl;
-        covered = _;
-        at = record { x = _; there = refl; y = _; done = (refl, refl); after = refl };
-        reply = refl;
-      }))
-      (First (Accepts refl (record { o = _; node = record { x = _; there = refl; said = refl }; says = record { reply = refl; after = refl } }))
+      (First (Accepts refl (record { e = _; node = of_node refl refl; says = record { reply = refl; after = refl } }))
+      (First (Accepts refl (record { e = _; node = of_node refl refl; says = record { reply = refl; after = refl } }))
+      (First (Accepts refl (record { generation = _; index = _; e = _; message = refl; next = true; at = at_node _ refl (refl, refl) refl; reply = refl }))
+      (First (Accepts refl (record { generation = _; index = _; e = _; message = refl; next = true; at = at_node _ refl (refl, refl) refl; reply = refl }))
+      (First (Accepts refl (record { held = _; replayed = _; node = of_node refl (refl, refl); says = record { reply = refl; after = refl } }))
+      (First (Accepts refl (record { generation = _; held = _; replayed = _; message = refl; covered = _; at = at_node _ refl (refl, refl) refl; reply = refl }))
+      (First (Accepts refl (record { o = _; node = of_node refl refl; says = record { reply = refl; after = refl } }))
       (First (Accepts refl (record { write = _; message = refl; reply = refl; after = refl }))
-      (First (Accepts refl (record {
-        number = _;
-        message = refl;
-        input = record {
-          at = record {
-            x = _;
-            there = refl;
-            y = _;
-            done = record { s = 5; takes = refl; after = refl };
-            after = refl;
-          };
-          reply = refl;
-        };
-      }))
-      (First (Accepts refl (record {
-        address = _;
-        node = record { x = _; there = refl; said = record { drive = _; selected = refl; address_is = refl } };
-        reply = refl;
-        after = refl;
-      }))
+      (First (Accepts refl (record { number = _; message = refl; input = record { at = at_node _ refl (record { s = 5; takes = refl; after = refl }) refl; reply = refl } }))
+      (First (Accepts refl (record { address = _; node = of_node refl (record { drive = _; selected = refl; address_is = refl }); reply = refl; after = refl }))
       Nothing))))))))))))),
   refl,
 )

@@ -1,14 +1,7 @@
 -- The node that settles gives the list and the count of the settled trace, and there is such a node.
 use Rattle.std.proofs.Common.{[], ◌++◌, ◌∙◌, ◌∷◌, ◌≡◌, ◌≤◌, ◌⊎◌, List, None, Some, ap, append-nil, arith, inl, inr, length, refl, subst, suc, sym, true, zero, ℕ}
 use Rattle.std.specs.Prelude.{slice_get}
-use Rattle.guest_board.specs.Machine.{Machine, Move}
-use Rattle.log_entry.specs.Entries.{entries, inputs_of, last_count}
-use Rattle.guest_trace.specs.Reach.{inputs, steps}
-use Rattle.pair_protocol.specs.Copying.{Copying}
-use Rattle.pair_protocol.specs.Node.{Alone, Node, Primary, Role, Spare}
-use Rattle.pair_protocol.specs.Settled.{Settled, Settles, count_in, highest, is_backup, list_of}
-use Rattle.pair_protocol.specs.Traces.{cut}
-use Rattle.pair_protocol.specs.World.{World, winner_in}
+use Rattle.pair_protocol.proofs.Words.{Alone, Copying, Machine, Move, Node, Primary, Role, Settled, Settles, Spare, World, count_in, cut, entries, highest, inputs, inputs_of, is_backup, last_count, list_of, steps, winner_in}
 use Rattle.pair_protocol.proofs.Invariant.{AsAlone, AsBackup, AsDraining, AsJoining, BackupState, BackupWon, Inv, IsBackup, IsPrimary, Line, LineOf, PrimaryWon, Stage, Undecided, settled, settled_moves, winner_at}
 use Rattle.pair_protocol.proofs.Invariant.Acting.{Acting, BackupActs, BackupAtTop, BackupEarlier, PrimaryActs, PrimaryAtTop, PrimaryEarlier, acting}
 use Rattle.pair_protocol.proofs.Invariant.Frames.{backup-no_spare, primary-no_spare, with_own}
@@ -117,12 +110,12 @@ module _ {S : Type 0} (M : Machine S) (C : Copying S) (l : Line S) (x : Node S) 
           ∙ ap (λ es. l.base ++ cut (length es) l.own) (sym held) in
           let h = held-settles held b t in
           (ap (list_of x) r ∙ h.0, ap (count_in M x) r ∙ h.1)
-      go (AsAlone r s u c k) =
+      go (AsAlone r s made) =
           let t : settled l ≡ l.base ++ (cut (length x.held) l.own ++ l.more) =
           ap (λ z. settled_moves z l.base l.own l.more (length l.held)) s
           ∙ ap (λ es. l.base ++ (cut (length es) l.own ++ l.more)) (sym held) in (
-            ap (list_of x) r ∙ k ∙ ap (inputs 0) (sym t),
-            ap (count_in M x) r ∙ c
+            ap (list_of x) r ∙ made.list ∙ ap (inputs 0) (sym t),
+            ap (count_in M x) r ∙ made.count
                 ∙ sym (steps-append l.base (cut (length x.held) l.own ++ l.more)) ∙ ap steps (sym t),
           )
 
@@ -243,7 +236,7 @@ settles {S} M C w i = go l.stage o.tied t.backup.is_backup.state
     go Undecided e (AsJoining r s f) = (l.backup, b, waits e (ap is_backup r))
     go Undecided e (AsBackup r s f) = (l.backup, b, waits e (ap is_backup r))
     go Undecided e (AsDraining r s m f) = (cc)
-    go Undecided e (AsAlone r s u c k) = (cc)
+    go Undecided e (AsAlone r s made) = (cc)
 
 pub settled_is : {S : Type 0} (M : Machine S) (C : Copying S) (w : World S) (i : Inv M C w) →
     Settled M w (inputs 0 i.trace) (steps i.trace)

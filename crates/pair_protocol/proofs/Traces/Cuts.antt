@@ -1,14 +1,6 @@
 -- The moves of a trace up to its n-th entry.
 use Rattle.std.proofs.Common.{[], ◌++◌, ◌+◌, ◌∙◌, ◌∷◌, ◌≡◌, ◌≤◌, List, None, Some, ap, arith, inl, inr, length, length-take-le, refl, suc, take, zero, ℕ}
-use Rattle.event_callbacks.specs.declared.operations.Operation.{Operation}
-use Rattle.guest_board.specs.Machine.{Do, Move, Take}
-use Rattle.log_entry.specs.Entries.{entries, entry_of, last_count}
-use Rattle.log_entry.specs.declared.entry.Entry.{Entry}
-use Rattle.log_entry.specs.declared.entry.Entry.TheVariants.{Mark}
-use Rattle.guest_trace.specs.Reach.{operations, steps}
-use Rattle.pair_protocol.specs.Faithful.{IsPrefix}
-use Rattle.pair_protocol.specs.Lawful.{Among}
-use Rattle.pair_protocol.specs.Traces.{cut}
+use Rattle.pair_protocol.proofs.Words.{Among, Do, Entry, IsPrefix, Mark, Move, Operation, Take, cut, entries, entry_of, last_count, operations, steps}
 use Rattle.pair_protocol.proofs.Traces.Lists.{prefix-cons}
 use Rattle.pair_protocol.proofs.Traces.Moves.{count_entry}
 

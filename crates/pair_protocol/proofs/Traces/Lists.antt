@@ -1,9 +1,8 @@
 -- Lists: their elements and places, prefixes, and lists in which one place is set.
 use Rattle.std.proofs.Common.{[], ◌++◌, ◌<◌, ◌∙◌, ◌∷◌, ◌≡◌, ◌≤◌, ◌⊎◌, Bool, List, None, Option, Some, ap, append-nil, append_assoc, arith, drop, eq-eqb, eqb-true, false, inl, inr, length, length-append, map, refl, subst, suc, sym, take, true, zero, ℕ}
 use Rattle.std.proofs.lemmas.Bool.Decides.{nat_tests}
-use Rattle.std.specs.Prelude.{◌==◌, nat_le, slice_get, slice_set}
-use Rattle.pair_protocol.specs.Faithful.{IsPrefix}
-use Rattle.pair_protocol.specs.Lawful.{Among}
+use Rattle.std.specs.Prelude.{◌&&◌, ◌==◌, nat_le, slice_get, slice_set}
+use Rattle.pair_protocol.proofs.Words.{Among, IsPrefix}
 
 abbrev some_or : {A : Type 0} → A → Option A → A
 some_or d None = d
@@ -26,11 +25,7 @@ among-right x (y ∷ xs) ys h = inr (among-right x xs ys h)
 pub among-split : {A : Type 0} (x : A) (xs ys : List A) → Among x (xs ++ ys) → Among x xs ⊎ Among x ys
 among-split x [] ys h = inr h
 among-split x (y ∷ xs) ys (inl h) = inl (inl h)
-among-split x (y ∷ xs) ys (inr h) = go (among-split x xs ys h)
-  where
-    go : Among x xs ⊎ Among x ys → Among x (y ∷ xs) ⊎ Among x ys
-    go (inl k) = inl (inr k)
-    go (inr k) = inr k
+among-split x (y ∷ xs) ys (inr h) = elim (among-split x xs ys h) [ inl k ↦ inl (inr k) | inr k ↦ inr k ]
 
 pub prefix-refl : {A : Type 0} (xs : List A) → IsPrefix xs xs
 prefix-refl xs = ([], append-nil xs)
@@ -87,6 +82,10 @@ pub bool_cases : (b : Bool) → (b ≡ true) ⊎ (b ≡ false)
 bool_cases true = inl refl
 bool_cases false = inr refl
 
+pub and_parts : (b c : Bool) → (b && c) ≡ true → (b ≡ true) × (c ≡ true)
+and_parts true c h = (refl, h)
+and_parts false c h = (cc)
+
 -- an entry at an index below the length of a log is the same entry of the longer log
 pub get-front : {A : Type 0} (xs ys : List A) (k : ℕ) (e : A) → k < length xs → slice_get (xs ++ ys) k ≡ Some e →
     slice_get xs k ≡ Some e
@@ -115,11 +114,10 @@ get_set_cases [] n m y z h = inr h
 get_set_cases (v ∷ xs) zero zero y z h = inl (refl, (cc))
 get_set_cases (v ∷ xs) zero (suc m) y z h = inr h
 get_set_cases (v ∷ xs) (suc n) zero y z h = inr h
-get_set_cases {A} (v ∷ xs) (suc n) (suc m) y z h = go (get_set_cases xs n m y z h)
-  where
-    go : ((m ≡ n) × (z ≡ y)) ⊎ (slice_get xs m ≡ Some z) → ((suc m ≡ suc n) × (z ≡ y)) ⊎ (slice_get xs m ≡ Some z)
-    go (inl k) = inl (ap suc k.0, k.1)
-    go (inr k) = inr k
+get_set_cases (v ∷ xs) (suc n) (suc m) y z h = elim (get_set_cases xs n m y z h) [
+  | inl k ↦ inl (ap suc k.0, k.1)
+  | inr k ↦ inr k
+]
 
 pub get_set_other : {A : Type 0} (xs : List A) (n m : ℕ) (y : A) → (m ≡ n → ⊥) →
     slice_get (slice_set xs n y) m ≡ slice_get xs m

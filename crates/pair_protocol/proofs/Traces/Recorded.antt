@@ -1,11 +1,8 @@
 -- Recorded runs, each of whose inputs was accepted. Such a run is a run; a front of it is recorded too, and so is what
 -- follows a front; and one more move after it makes another recorded run, if an input there is also accepted.
 use Rattle.std.proofs.Common.{[], ◌++◌, ◌∷◌, ◌≡◌, List, Option, ap, refl, subst, sym}
-use Rattle.event_callbacks.specs.declared.operations.Operation.{Operation}
-use Rattle.guest_board.specs.Machine.{Do, Machine, Move, Runs, Take}
-use Rattle.guest_board.specs.Recorded.{Accepts, Recorded}
-use Rattle.guest_board.specs.declared.input.Input.{Input}
-use Rattle.pair_protocol.specs.Faithful.{IsPrefix}
+use Rattle.pair_protocol.proofs.Words.{Do, Input, IsPrefix, Machine, Move, Operation, Recorded, Runs, Take}
+use Rattle.guest_board.specs.Recorded.{Accepts}
 use Rattle.pair_protocol.proofs.Traces.Lists.{same_some}
 use Rattle.pair_protocol.proofs.Traces.Moves.{runs-rest}
 
