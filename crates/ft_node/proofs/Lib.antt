@@ -2,6 +2,7 @@ pub mod PrimaryRefusals
 pub mod PrimaryNotes
 pub mod PrimaryInputs
 pub mod PrimaryPlaces
+pub mod ServingSteps
 pub mod PrimarySteps
 pub mod PrimaryAcknowledged
 pub mod PrimaryReleases

@@ -1,7 +1,7 @@
 -- What a run leaves, besides the machine. Quiet steps change no operation, so whatever had a note is still outstanding
 -- after them; the new name is outstanding too, and since few operations are, there is room for its note. The log begins
 -- where it began and is no shorter.
-use Rattle.std.proofs.Common.{◌≡◌, ℕ, ◌≤◌, Option, Some, None, Ok, [], ◌∷◌, length-append, refl, ◌∙◌, arith}
+use Rattle.std.proofs.Common.{◌≡◌, ℕ, ◌≤◌, Option, Some, None, Ok, [], ◌∷◌, length-append, refl, sym, subst, ◌∙◌, arith}
 use Rattle.event_callbacks.specs.Operations.{id_of}
 use Rattle.event_callbacks.specs.declared.operations.OpId.{OpId}
 use Rattle.guest_board.specs.Machine.{Machine}
@@ -12,12 +12,11 @@ use Rattle.output_rule.specs.Covering.{Covering, IsCovering}
 use Rattle.recorder.proofs.Advances.{records_steps}
 use Rattle.recorder.proofs.Recorded.{is_run}
 use Rattle.guest_board.specs.Recorded.{Counts}
-use Rattle.recorder.specs.Recording as table
-use Rattle.guest_board.specs.Running.{Quiet, Begin, More}
-use Rattle.recorder.specs.Recording.{AdvancesUnless, AdvancesSome, advance_refusal}
-use Rattle.recorder.specs.declared.advanced.Advanced.{Advanced}
-use Rattle.recorder.specs.declared.advanced.Why as why
-use Rattle.recorder.specs.declared.advanced.Why.TheVariants as reasons
+use Rattle.guest_board.specs.Running.{Quiet, Begin, More, RunsOn, AllTurns, Gives, IsRefused}
+use Rattle.recorder.specs.Recording.{AdvancesUnless, AdvancesSome, advance_refusal, logged}
+use Rattle.guest_board.specs.declared.running.StopReason.{StopReason}
+use Rattle.guest_board.specs.declared.running.StopReason.TheVariants as reason
+use Rattle.guest_board.specs.declared.running.Stopped.{Stopped}
 use Rattle.ft_node.specs.Noting.{noted, HasPlace}
 use Rattle.guest_board.specs.Outstanding.{ComesAndGoes, AreFew, IsFrugal}
 use Rattle.ft_node.specs.Roles.{AreOfOutstanding}
@@ -25,7 +24,7 @@ use Rattle.ft_node.proofs.PrimaryNotes.{AreOfOutstanding-noted, room_for_note}
 
 -- ---- a run that was made
 
-pub made_some : {S : Type 0} (M : Machine S) (s t : S) (l new : Log) (turns : ℕ) (a : Advanced) (r : Option Fault)
+pub made_some : {S : Type 0} (M : Machine S) (s t : S) (l new : Log) (turns : ℕ) (a : Stopped) (r : Option Fault)
     → AdvancesUnless M s l turns r (Ok a) t new → (r ≡ None) × AdvancesSome M s l turns (Ok a) t new
 made_some M s t l new turns a None made = (refl, made)
 made_some M s t l new turns a (Some fault) made = let no = made.0 in absurd (cc)
@@ -33,31 +32,26 @@ made_some M s t l new turns a (Some fault) made = let no = made.0 in absurd (cc)
 -- ---- the log
 
 -- the log begins where it began, and is no shorter
-logged : {S : Type 0} (M : Machine S) (s t : S) (l new : Log) (turns : ℕ) (a : Advanced)
-    → table.Advances M s l turns a t new → (new.first ≡ l.first) × (next_of l ≤ next_of new)
-logged M s t l new turns a (table.AllTurns q) = (refl, omega arith)
-logged M s t l new turns a (table.Gives lt q allowed made) =
-    (refl, (let longer = length-append l.entries (Mark (M.count t) ∷ []) in omega arith))
-logged M s t l new turns a (table.Idles lt q is) = (refl, omega arith)
-logged M s t l new turns a (table.IsSpent lt q is) = (refl, omega arith)
-logged M s t l new turns a (table.WantsMemory lt q is) = (refl, omega arith)
+grows : (l : Log) (count : ℕ) (why : StopReason)
+    → ((logged l count why).first ≡ l.first) × (next_of l ≤ next_of (logged l count why))
+grows l count reason.Turns = (refl, omega arith)
+grows l count (reason.Operation name) =
+    (refl, (let longer = length-append l.entries (Mark count ∷ []) in omega arith))
+grows l count (reason.Refused fault) = (refl, omega arith)
 
 -- a note acknowledges nothing
-pub noted_acknowledged : (c : Covering) (reason : why.Why) → (noted c reason).acknowledged ≡ c.acknowledged
-noted_acknowledged c reasons.Turns = refl
-noted_acknowledged c (reasons.Operation name index) = refl
-noted_acknowledged c reasons.Idle = refl
-noted_acknowledged c reasons.Spent = refl
-noted_acknowledged c reasons.Memory = refl
+pub noted_acknowledged : (c : Covering) (why : StopReason) (mark : ℕ) → (noted c why mark).acknowledged ≡ c.acknowledged
+noted_acknowledged c reason.Turns mark = refl
+noted_acknowledged c (reason.Operation name) mark = refl
+noted_acknowledged c (reason.Refused fault) mark = refl
 
-pub log_grows : {S : Type 0} (M : Machine S) (s t : S) (l new : Log) (turns held : ℕ) (a : Advanced)
+pub log_grows : {S : Type 0} (M : Machine S) (s t : S) (l new : Log) (turns held : ℕ) (a : Stopped)
     → AdvancesUnless M s l turns (advance_refusal M s l turns) (Ok a) t new → held ≤ next_of l
     → (new.first ≡ l.first) × (held ≤ next_of new)
 log_grows M s t l new turns held a made within =
     let some = made_some M s t l new turns a (advance_refusal M s l turns) made in
-    let grown = logged M s t l new turns a some.1.0 in
-    let more = grown.1 in
-    (grown.0, omega arith)
+    subst (λ (new : Log). (new.first ≡ l.first) × (held ≤ next_of new)) (sym some.1.0.log_is)
+    (let grown = grows l (M.count t) a.reason in let more = grown.1 in (grown.0, omega arith))
 
 -- ---- there is room for the note
 
@@ -73,23 +67,19 @@ quiet_outstanding M s t n c laws q before = λ name index is.
     let there = before name index is in
     (there.0, quiet_found M s t n name laws q ∙ there.1)
 
-place_at : {S : Type 0} (M : Machine S) (s t : S) (l new : Log) (turns : ℕ) (a : Advanced) (c : Covering)
-    → ComesAndGoes M → AreFew M t → AreOfOutstanding M s c → IsCovering c → table.Advances M s l turns a t new
-    → HasPlace c a.why
-place_at M s t l new turns a c laws few outstanding stands (table.AllTurns q) = tt
-place_at M s t l new turns a c laws few outstanding stands
-    (table.Gives {n = n} {t = v} {given = given} lt q allowed made) =
-    room_for_note M t c (id_of given) (next_of l) stands few
-    (AreOfOutstanding-noted M v t c given (next_of l) laws made (quiet_outstanding M s v n c laws q outstanding))
-place_at M s t l new turns a c laws few outstanding stands (table.Idles lt q is) = tt
-place_at M s t l new turns a c laws few outstanding stands (table.IsSpent lt q is) = tt
-place_at M s t l new turns a c laws few outstanding stands (table.WantsMemory lt q is) = tt
+place_at : {S : Type 0} (M : Machine S) (s t : S) (turns : ℕ) (a : Stopped) (c : Covering) → ComesAndGoes M → AreFew M t
+    → AreOfOutstanding M s c → IsCovering c → RunsOn M s turns a t → HasPlace c a.reason
+place_at M s t turns _ c laws few outstanding stands (AllTurns q) = tt
+place_at M s t turns _ c laws few outstanding stands (Gives {n = n} {t = v} {given = given} lt q allowed made) =
+    room_for_note M t c (id_of given) 0 stands few
+    (AreOfOutstanding-noted M v t c given 0 laws made (quiet_outstanding M s v n c laws q outstanding))
+place_at M s t turns _ c laws few outstanding stands (IsRefused lt q) = tt
 
-pub place_for_note : {S : Type 0} (M : Machine S) (s t : S) (l new : Log) (turns : ℕ) (a : Advanced) (c : Covering)
+pub place_for_note : {S : Type 0} (M : Machine S) (s t : S) (l new : Log) (turns : ℕ) (a : Stopped) (c : Covering)
     → Counts M → ComesAndGoes M → IsFrugal M s → AreOfOutstanding M s c → IsCovering c
-    → AdvancesUnless M s l turns (advance_refusal M s l turns) (Ok a) t new → HasPlace c a.why
+    → AdvancesUnless M s l turns (advance_refusal M s l turns) (Ok a) t new → HasPlace c a.reason
 place_for_note M s t l new turns a c counts laws frugal outstanding stands made =
     let some = made_some M s t l new turns a (advance_refusal M s l turns) made in
     let run = records_steps M s t l new turns a counts some.1.0 in
-    place_at M s t l new turns a c laws (frugal run.moves t (is_run M s t run.moves run.records.runs)) outstanding
-    stands some.1.0
+    place_at M s t turns a c laws (frugal run.moves t (is_run M s t run.moves run.records.runs)) outstanding stands
+    some.1.0.runs

@@ -17,13 +17,10 @@ use Rattle.arbiter_core.specs.Winners.{winner_of, after_asking}
 use Rattle.arbiter_core.specs.declared.arbiter.Asking.{Asking}
 use Rattle.arbiter_core.specs.declared.arbiter.Won.{Won}
 use Rattle.pair_protocol.specs.Effects.{Stepped, Took, Held, Heard, Replayed, Drained, Halted, HasEntry, HasOutstanding, HasCovered, IsUnder, WantsMoves, WantsEntry}
-use Rattle.pair_protocol.specs.Event as event
 use Rattle.pair_protocol.specs.Node.{Node, Role, Primary, Backup, halts, wins}
 use Rattle.pair_protocol.specs.Refusals as refusals
 use Rattle.ft_node.specs.declared.ran.Ran.{Ran}
 use Rattle.ft_node.specs.declared.ran.Drained as ran
-use Rattle.pair_events.specs.declared.reply.Why.{Why}
-use Rattle.pair_events.specs.declared.reply.Why.TheVariants as why
 use Rattle.replayer.specs.declared.replayer.Replayed as replayer
 
 -- if something refuses a call, that is the result and the node stays; if not, this is what the call does
@@ -61,14 +58,6 @@ Never x = ⊥
 abbrev pub Ever : {S : Type 0} → Node S → Type 0
 Ever x = Unit {0}
 
--- why steps ended, in the protocol's words
-abbrev pub why_of : Why → event.Why
-why_of why.Turns = event.Turns
-why_of why.Idle = event.Idles
-why_of why.Spent = event.IsSpent
-why_of why.Memory = event.Memory
-why_of (why.Operation name) = event.Gave name
-
 -- ---- the calls; `Is` says which node of the protocol the node is after the call
 
 -- a node that begins: nothing of its generation is logged, held, acknowledged or noted, and no key is covered
@@ -86,7 +75,7 @@ pub record Begins {S : Type 0} (M : Machine S) (role : Role) (generation : ℕ) 
 
 -- steps of the machine
 abbrev pub SteppedBy : {S : Type 0} → Machine S → ℕ → Ran → Node S → Node S → Type 0
-SteppedBy M turns ran x y = Stepped M turns ran.steps ran.count (why_of ran.why) x y
+SteppedBy M turns ran x y = Stepped M turns ran.steps ran.count ran.why x y
 
 abbrev pub Steps : {S : Type 0} → Machine S → ℕ → Node S → Result Ran Fault → (Node S → Type 0) → Type 0
 Steps M turns x result Is =

@@ -1,6 +1,6 @@
 //! A node that is live.
-ghost use Rattle.std.specs.Prelude.{◌≡◌, ◌≢◌, ◌<◌, Ok, OnErr, ok_or};
-ghost use Rattle.i8080_words.specs.declared.refusal.Fault.TheVariants.{NotDue, Spent, Idle};
+ghost use Rattle.std.specs.Prelude.{◌≡◌, ◌<◌, Ok, OnErr, ok_or};
+ghost use Rattle.i8080_words.specs.declared.refusal.Fault.TheVariants.{NotDue};
 ghost use Rattle.disk_dcdd.specs.declared.controller.TheConstants.{DRIVES};
 ghost use Rattle.disk_dcdd.specs.declared.sector.TheConstants.{SECTORS};
 ghost use Rattle.disk_dcdd.specs.Completion.{answered};
@@ -10,14 +10,12 @@ ghost use Rattle.pair_protocol.specs.Node.{Node};
 ghost use Rattle.pair_protocol.specs.Refusals as refusals;
 ghost use Rattle.ft_node.specs.Calls as calls;
 ghost use Rattle.ft_node.specs.Roles.{IsAlone};
-ghost use Rattle.pair_events.specs.declared.reply.Why.TheVariants as why;
 
 use crate::ran::Ran;
 use disk_dcdd::{SECTOR_BYTES, SectorAddress};
 use event_callbacks::{OpId, Operation};
 use guest_board::{Input, Lockstep, StopReason, Stopped};
 use i8080_words::{Fault, GREATEST_NUMBER, R};
-use pair_events::Why;
 
 /// A guest that runs with no backup: it logs nothing, and releases whatever it gives (VMware FT, section 2.3, "go
 /// live").
@@ -37,22 +35,16 @@ impl<B: Lockstep> Alone<B> {
         ensures unchanged { OnErr result (self.new ≡ self.old) }
     {
         let Stopped { steps, reason } = guest_board::run(&mut self.board, turns);
-        match reason {
-            StopReason::Turns => Ok(self.ran(steps, Why::Turns)),
-            StopReason::Operation(name) => Ok(self.ran(steps, Why::Operation(name))),
-            StopReason::Refused(fault) if steps == 0 => Err(fault),
-            StopReason::Refused(fault) => Ok(self.ran(steps, why_of(fault))),
-        }
-    }
-
-    // The node's answer after this many steps.
-    fn ran(&self, steps: u64, why: Why) -> Ran
-        ensures { result ≡ record { steps = steps; count = B.machine.count (B.state self.now.board); why = why } }
-    {
-        Ran {
+        let ran = Ran {
             steps,
             count: self.board.count(),
-            why,
+            why: reason,
+        };
+        match reason {
+            StopReason::Turns => Ok(ran),
+            StopReason::Operation(_) => Ok(ran),
+            StopReason::Refused(fault) if steps == 0 => Err(fault),
+            StopReason::Refused(_) => Ok(ran),
         }
     }
 
@@ -210,18 +202,5 @@ impl<B: Lockstep> Alone<B> {
             → calls.Tells B.machine port x (Ok result) }
     {
         self.board.keys(port)
-    }
-}
-
-// Why a guest stops when a step is refused.
-fn why_of(fault: Fault) -> Why
-    ensures idle { fault ≡ Idle → result ≡ why.Idle }
-    ensures spent { fault ≡ Spent → result ≡ why.Spent }
-    ensures memory { fault ≢ Idle → fault ≢ Spent → result ≡ why.Memory }
-{
-    match fault {
-        Fault::Idle => Why::Idle,
-        Fault::Spent => Why::Spent,
-        _ => Why::Memory,
     }
 }

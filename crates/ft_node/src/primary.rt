@@ -19,12 +19,11 @@ ghost use Rattle.ft_node.specs.Roles.{AreOfOutstanding, IsPrimary};
 use crate::ran::Ran;
 use disk_dcdd::{SECTOR_BYTES, SectorAddress};
 use event_callbacks::{OpId, Operation};
-use guest_board::{Input, Lockstep};
+use guest_board::{Input, Lockstep, StopReason, Stopped};
 use i8080_words::{Fault, GREATEST_NUMBER, R};
 use log_buffer::LogBuffer;
 use log_channel::Sender;
 use output_rule::Coverage;
-use pair_events::Why;
 use recorder::Recorder;
 use std::alloc::Global;
 
@@ -57,12 +56,13 @@ impl<B: Lockstep> Primary<B> {
     {
         self.recorder.log().stands();
         self.coverage.stands();
-        let advanced = self.recorder.advance(turns)?;
-        let why = noted(&mut self.coverage, advanced.why);
+        let mark = self.recorder.log().next();
+        let Stopped { steps, reason } = self.recorder.advance(turns)?;
+        note(&mut self.coverage, reason, mark);
         Ok(Ran {
-            steps: advanced.steps,
+            steps,
             count: self.recorder.board().count(),
-            why,
+            why: reason,
         })
     }
 
@@ -287,21 +287,13 @@ impl<B: Lockstep> Primary<B> {
     }
 }
 
-// Why a guest stopped. An operation that it gave waits for its mark from now on.
-fn noted(coverage: &mut Coverage, why: recorder::Why) -> Why
-    requires place { noting.HasPlace coverage.old why }
-    ensures why { calls.why_of result ≡ noting.reason_of why }
-    ensures coverage { coverage.new ≡ noting.noted coverage.old why }
+// An operation that a guest gave waits for its mark from now on, which has this index.
+fn note(coverage: &mut Coverage, reason: StopReason, mark: u64)
+    requires place { noting.HasPlace coverage.old reason }
+    ensures { coverage.new ≡ noting.noted coverage.old reason mark }
 {
-    match why {
-        recorder::Why::Turns => Why::Turns,
-        recorder::Why::Idle => Why::Idle,
-        recorder::Why::Spent => Why::Spent,
-        recorder::Why::Memory => Why::Memory,
-        recorder::Why::Operation(id, index) => {
-            coverage.forget(id);
-            coverage.note(id, index);
-            Why::Operation(id)
-        }
+    if let StopReason::Operation(id) = reason {
+        coverage.forget(id);
+        coverage.note(id, mark);
     }
 }

@@ -1,13 +1,13 @@
 //! How far a node got, and whether it is alone.
 
-use pair_events::Why;
+use guest_board::StopReason;
 
 /// How many steps were made, how many the guest has made in all, and why no more were made.
 #[derive(Clone, Copy, Debug, PartialEq, Eq)]
 pub struct Ran {
     pub steps: u64,
     pub count: u64,
-    pub why: Why,
+    pub why: StopReason,
 }
 
 /// How many moves were made, and whether the node is alone now.

@@ -18,7 +18,7 @@ use Rattle.pair_protocol.specs.Refusals.{drain_refusal, replay_refusal, step_ref
 use Rattle.pair_protocol.specs.Rows.{OfNode, drain_reply}
 use Rattle.pair_protocol.proofs.Booted.{Drained-booted, IsBehind-booted, IsOnTrace-back, Replayed-booted, Stepped-booted}
 use Rattle.pair_protocol.proofs.Promises.NodeStands.{nodes_stand}
-use Rattle.ft_node.specs.Calls.{DrainedBy, Never, ReplayedBy, SteppedBy, why_of}
+use Rattle.ft_node.specs.Calls.{DrainedBy, Never, ReplayedBy, SteppedBy}
 use Rattle.ft_node.specs.Roles.{IsFollower}
 use Rattle.ft_node.specs.Seats.{IsNode, MayReplay}
 use Rattle.ft_node.specs.declared.node.Node as code
@@ -97,7 +97,7 @@ steps_applies state M records old c n turns ran hosts h a =
     (λ new at. record {
       made = ran.steps;
       count = ran.count;
-      why = why_of ran.why;
+      why = ran.why;
       at = elsewhere (λ x y s. Stepped-booted M c.boot c.sectors s) at;
       reply = refl;
     }) a

@@ -11,11 +11,10 @@ use Rattle.guest_board.specs.Guest.{Guest, altair, guest_at_boot}
 use Rattle.guest_board.specs.Inputs.{some_altair}
 use Rattle.guest_board.specs.Machine.{Machine}
 use Rattle.guest_board.specs.Outstanding.{ComesAndGoes, completed_by}
-use Rattle.guest_board.specs.Recorded.{Counts}
 use Rattle.guest_board.specs.declared.input.Input.{Input}
 use Rattle.guest_board.specs.declared.input.Input.TheVariants.{Rx, Sector, Sent, Written}
 use Rattle.guest_board.specs.declared.setup.Setup.{Setup}
-use Rattle.guest_board.specs.MoveLaws.{guests_count, guests_issue_and_complete}
+use Rattle.guest_board.specs.MoveLaws.{guests_issue_and_complete}
 use Rattle.shared_disk.specs.Records.{HasDrives, IsUnwritten, record_at}
 use Rattle.shared_disk.specs.declared.store.Record.{Record}
 use Rattle.terminals.specs.Screen.{Screen, blank}
@@ -184,19 +183,17 @@ completed_there M c s (Sent port) = refl
 completed_there M c s (Sector drive sector number bytes) = refl
 completed_there M c s (Written number) = refl
 
--- a machine that counts, and whose operations come and go, does so wherever it boots
-is_machine : {S : Type 0} (M : Machine S) (c : Course S) (drives : ℕ) → Lawful (machine_of M c) → Counts M →
-    ComesAndGoes M → drives ≤ DRIVES → StaysOnDisk (machine_of M c) drives → IsMachine (machine_of M c) drives
-is_machine M c drives lawful counts operations within on_disk = record {
+-- a machine whose operations come and go has operations that do so wherever it boots
+is_machine : {S : Type 0} (M : Machine S) (c : Course S) (drives : ℕ) → Lawful (machine_of M c) → ComesAndGoes M →
+    drives ≤ DRIVES → StaysOnDisk (machine_of M c) drives → IsMachine (machine_of M c) drives
+is_machine M c drives lawful operations within on_disk = record {
   lawful = lawful;
-  counts = record { by_step = counts.by_step; by_input = counts.by_input; spent = counts.spent };
   operations = record {
     comes = operations.comes;
     quiet = operations.quiet;
     goes = λ s t input name takes is. operations.goes s t input name takes (sym (completed_there M c s input) ∙ is);
     stays = λ s t input takes is. operations.stays s t input takes (sym (completed_there M c s input) ∙ is);
   };
-  few = lawful.few;
   drives_within = within;
   on_disk = on_disk;
 }
@@ -215,7 +212,7 @@ altairs_may_begin state records setup primary backup store lawful on_disk within
       machine = subst
           (λ s. IsMachine (machine_of some_altair (beginning some_altair s (records store))) setup.drives) (sym first)
           (is_machine some_altair (beginning some_altair (guest_at_boot setup) (records store)) setup.drives
-          (lawful setup sectors) guests_count guests_issue_and_complete within (on_disk setup sectors));
+          (lawful setup sectors) guests_issue_and_complete within (on_disk setup sectors));
       alike = second ∙ sym first;
       there = there;
       unwritten = unwritten;

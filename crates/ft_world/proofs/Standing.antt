@@ -40,7 +40,7 @@ runs_same M c s t (Take i ∷ moves) h = (h.0, h.1, runs_same M c h.0 t moves h.
 frugal : {S : Type 0} (M : Machine S) (c : Course S) (drives : ℕ) (front : List Move) (s : S) →
     IsMachine (machine_of M c) drives → Reaches (machine_of M c) front s → IsFrugal M s
 frugal M c drives front s machine from = λ moves t runs.
-    let few = machine.few (front ++ moves) t
+    let few = machine.lawful.few (front ++ moves) t
     (runs-append (machine_of M c) c.boot s t front moves from (runs_same M c s t moves runs)) in
     record { names = few.names; few = few.few; all = few.all }
 

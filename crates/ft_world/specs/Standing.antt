@@ -2,12 +2,11 @@
 use Rattle.std.specs.Prelude.{ℕ, ◌≤◌, List}
 use Rattle.disk_dcdd.specs.declared.address.SectorAddress.{SectorAddress}
 use Rattle.disk_dcdd.specs.declared.controller.TheConstants.{DRIVES}
-use Rattle.guest_board.specs.Machine.{Machine, Move}
-use Rattle.pair_protocol.specs.Lawful.{Lawful, Reaches}
+use Rattle.guest_board.specs.Machine.{Machine}
+use Rattle.pair_protocol.specs.Lawful.{Lawful}
 use Rattle.altair_laws.specs.OnDisk.{StaysOnDisk}
 use Rattle.pair_protocol.specs.World.{World}
-use Rattle.guest_board.specs.Recorded.{Counts}
-use Rattle.guest_board.specs.Outstanding.{ComesAndGoes, AreFew}
+use Rattle.guest_board.specs.Outstanding.{ComesAndGoes}
 
 -- a world of the protocol, and where its machines and its disk began
 pub record Course (S : Type 0) : Type 0 where
@@ -22,8 +21,6 @@ machine_of M c = record M { boot = c.boot; boot_sector = c.sectors }
 -- what a pair asks of the machine that it runs
 pub record IsMachine {S : Type 0} (M : Machine S) (drives : ℕ) : Type 0 where
   pub lawful : Lawful M
-  pub counts : Counts M
   pub operations : ComesAndGoes M
-  pub few : (moves : List Move) (s : S) → Reaches M moves s → AreFew M s
   pub drives_within : drives ≤ DRIVES
   pub on_disk : StaysOnDisk M drives

@@ -10,7 +10,6 @@ use Rattle.log_channel.specs.declared.packet.Packet.TheVariants as packet
 use Rattle.shared_disk.specs.declared.disk.SectorRead.{SectorRead}
 use Rattle.pair_protocol.specs.Event as protocol
 use Rattle.pair_protocol.specs.World as sent
-use Rattle.ft_node.specs.Calls.{why_of}
 use Rattle.pair_events.specs.declared.event.Event.{Event}
 use Rattle.pair_events.specs.declared.event.Event.TheVariants as event
 use Rattle.ft_world.specs.declared.message.Message.{Message}
@@ -42,7 +41,7 @@ event_of (event.Stop n) = protocol.Stop n
 
 -- the reply of the protocol that an answer stands for
 abbrev pub reply_of : Reply → protocol.Reply
-reply_of (reply.Ran steps count why) = protocol.Ran steps count (why_of why)
+reply_of (reply.Ran steps count why) = protocol.Ran steps count why
 reply_of (reply.Typed index) = protocol.TypedAt index
 reply_of reply.Taken = protocol.Taken
 reply_of (reply.Message m) = protocol.MessageIs m

@@ -1,9 +1,10 @@
 -- The two ends of a log's channel: what each knows, and what it returns.
-use Rattle.std.specs.Prelude.{◌≡◌, ◌≢◌, ℕ, ◌+◌, List, [], ◌∷◌, ◌++◌, max, Bool, true, false, not, Option, Some, None, Result, Ok, Err, MatchResult, nat_lt, ◌==◌, if◌then◌else◌}
+use Rattle.std.specs.Prelude.{◌≡◌, ◌≢◌, ℕ, ◌+◌, ◌-◌, ◌^◌, ◌<◌, List, [], ◌∷◌, ◌++◌, max, Bool, true, false, not, Option, Some, None, Result, Ok, Err, MatchResult, nat_lt, ◌==◌, if◌then◌else◌}
 use Rattle.std.specs.Global.{Vec}
 use Rattle.i8080_words.specs.declared.refusal.Fault.{Fault}
 use Rattle.i8080_words.specs.declared.refusal.Fault.TheVariants.{OutOfMemory, WrongGeneration, Malformed, Unknown, BadAck}
 use Rattle.log_entry.specs.declared.entry.Entry.{Entry}
+use Rattle.log_entry.specs.Spelling.{IsEntry}
 use Rattle.log_channel.specs.declared.packet.Packet.{Packet}
 use Rattle.log_channel.specs.declared.packet.Packet.TheVariants.{Log, Ack}
 use Rattle.log_channel.specs.Packet.{packet_bytes}
@@ -72,11 +73,24 @@ heard r (Some (Log generation index entry)) =
 abbrev pub holding : Receiving → Entry → Receiving
 holding r entry = record r { held = r.held + 1; entries = r.entries ++ entry ∷ [] }
 
--- only the next entry changes anything; it may run out of memory if others are held before it
+-- the next entry, if the packet brings it
+abbrev pub next_in : Heard → Result (Option Entry) Fault
+next_in (Refused fault) = Err fault
+next_in OutOfTurn = Ok None
+next_in (Next entry) = Ok (Some entry)
+
+-- an entry that can be spelled, for which an index is left
+abbrev pub MayHold : Receiving → Entry → Type 0
+MayHold r entry = IsEntry entry × (r.held < 2 ^ 62 - 1)
+
+-- an entry is held, or there is no memory, which is needed only if others are held before it
+abbrev pub Holds : Entry → Receiving → Result (Unit {0}) Fault → Receiving → Type 0
+Holds entry old (Ok done) new = new ≡ holding old entry
+Holds entry old (Err fault) new = (fault ≡ OutOfMemory) × (new ≡ old) × (old.entries ≢ [])
+
+-- only the next entry changes anything
 abbrev pub Answers : Heard → Receiving → Result Bool Fault → Receiving → Type 0
 Answers (Refused fault) old result new = (result ≡ Err fault) × (new ≡ old)
 Answers OutOfTurn old result new = (result ≡ Ok false) × (new ≡ old)
-Answers (Next entry) old result new =
-    MatchResult result
-    (λ answer. (answer ≡ true) × (new ≡ holding old entry))
-    (λ fault. (fault ≡ OutOfMemory) × (new ≡ old) × (old.entries ≢ []))
+Answers (Next entry) old (Ok answer) new = (answer ≡ true) × Holds entry old (Ok tt) new
+Answers (Next entry) old (Err fault) new = Holds entry old (Err fault) new

@@ -1,6 +1,6 @@
 //! The backup's end.
 
-ghost use Rattle.std.specs.Prelude.{◌≡◌, ◌<◌, ◌^◌, ◌↔◌, IsTrue, [], drop, slice_get, option_copied, IfSome, Some};
+ghost use Rattle.std.specs.Prelude.{◌≡◌, ◌<◌, ◌^◌, ◌↔◌, IsTrue, [], drop, slice_get, option_copied, IfOk, IfSome, Some};
 
 use crate::block::Block;
 use crate::held::{hold, unhold};
@@ -35,7 +35,7 @@ impl Receiver {
     ghost use Rattle.std.specs.List.{flat_map};
     ghost use Rattle.log_entry.specs.Spelling.{IsEntry, spelling};
     ghost use Rattle.log_channel.specs.Packet.{packet_at};
-    ghost use Rattle.log_channel.specs.Channel.{Answers, Receiving, Spells, ack_of, heard};
+    ghost use Rattle.log_channel.specs.Channel.{Answers, Holds, MayHold, Spells, ack_of, heard, next_in};
 
     /// The end of this generation, which holds nothing yet.
     pub fn new(alloc: Global, generation: u32) -> Receiver
@@ -58,11 +58,11 @@ impl Receiver {
         self.generation
     }
 
-    /// Takes a packet of the log. If its index is the number held, its entry is held and the result is true; for a
-    /// repeat or a packet past a gap the result is false and nothing changes. If nothing is held, no memory is needed.
+    /// The entry that a packet of the log brings, if it is the next one; `None` if the packet is a repeat or past a gap.
     /// `Malformed` if the bytes are no packet of the log, `WrongGeneration` if the packet is of another generation.
-    pub fn on_log(&mut self, bytes: &[u8]) -> R<bool>
-        ensures { Answers (heard self.old (packet_at bytes.now)) self.old result self.new }
+    pub fn next_entry(&self, bytes: &[u8]) -> R<Option<Entry>>
+        ensures answer { result ≡ next_in (heard self.now (packet_at bytes.now)) }
+        ensures may { IfOk result (λ next. IfSome next (MayHold self.now)) }
     {
         let Packet::Log {
             generation,
@@ -75,11 +75,28 @@ impl Receiver {
         if generation != self.generation {
             return Err(Fault::WrongGeneration);
         }
-        if index != self.held {
-            return Ok(false);
-        }
+        Ok((index == self.held).then_some(entry))
+    }
+
+    /// Holds the next entry. If nothing is held, no memory is needed.
+    pub fn hold(&mut self, entry: Entry) -> R<()>
+        requires { MayHold self.old entry }
+        ensures { Holds entry self.old result self.new }
+    {
         hold(&mut self.front, &mut self.block, entry)?;
         self.held += 1;
+        Ok(())
+    }
+
+    /// Takes a packet of the log: holds the entry that `next_entry` finds, and returns true; a repeat or a packet past a
+    /// gap is false, and changes nothing.
+    pub fn on_log(&mut self, bytes: &[u8]) -> R<bool>
+        ensures { Answers (heard self.old (packet_at bytes.now)) self.old result self.new }
+    {
+        let Some(entry) = self.next_entry(bytes)? else {
+            return Ok(false);
+        };
+        self.hold(entry)?;
         Ok(true)
     }
 

@@ -20,7 +20,7 @@ use Rattle.recorder.proofs.Advances.{records_steps}
 use Rattle.recorder.proofs.Recorded.{Records-append}
 use Rattle.recorder.specs.Laws.{Records, RecordsSteps}
 use Rattle.recorder.specs.Recording.{AdvancesUnless, Offers}
-use Rattle.recorder.specs.declared.advanced.Advanced.{Advanced}
+use Rattle.guest_board.specs.declared.running.Stopped.{Stopped}
 
 -- ---- what is logged
 
@@ -29,7 +29,7 @@ abbrev pub Logged : {S : Type 0} → Machine S → S → Log → S → Log → T
 Logged M s before t new = (moves : List Move) × Records M s before moves t new
 
 pub advance_logs : {S : Type 0} (M : Machine S) (s t : S) (before new : Log) (turns : ℕ) (refusal : Option Fault)
-    (result : Result Advanced Fault) (a : Advanced) → Counts M → result ≡ Ok a
+    (result : Result Stopped Fault) (a : Stopped) → Counts M → result ≡ Ok a
     → AdvancesUnless M s before turns refusal result t new → Logged M s before t new
 advance_logs M s t before new turns (Some fault) result a counts made answer =
     let no : Ok a ≡ Err fault = sym made ∙ answer.0 in absurd cc

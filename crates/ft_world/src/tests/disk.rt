@@ -6,9 +6,10 @@ use crate::tests::lines::{
 };
 use crate::tests::rows::{End, Sent, check, node, sector, write};
 use event_callbacks::OpId;
+use guest_board::StopReason;
 use guest_trace::{Bare, Timed};
 use i8080_words::{Fault, R};
-use pair_events::{Reply, Role, Why};
+use pair_events::{Reply, Role};
 
 const FIRST: OpId = OpId::Write(1);
 
@@ -24,7 +25,7 @@ const DISK_WRITE: [u8; 34] = [
 
 fn disk_write() -> [Line; 13] {
     [
-        (step(0, 10), ran(10, 10, Why::Turns)),
+        (step(0, 10), ran(10, 10, StopReason::Turns)),
         (get(0, 0), message(0)),
         (under(0, 0), Ok(Reply::Taken)),
         (step(0, 2000), gave(963, 973, FIRST)),
@@ -90,7 +91,7 @@ const SAME_SECTOR: [u8; 38] = [
 // one by its fifth: count 6 + 5 + 136 * 7 + 5 = 968.
 fn primary_releases_and_loses() -> [Line; 14] {
     [
-        (step(0, 6), ran(6, 6, Why::Turns)),
+        (step(0, 6), ran(6, 6, StopReason::Turns)),
         (get(0, 5), message(0)),
         (under(0, 0), Ok(Reply::Taken)),
         (step(0, 2000), gave(962, 968, FIRST)),
@@ -114,7 +115,7 @@ fn winner_writes_twice() -> [Line; 10] {
         (release(1, FIRST), message(5)),
         (put(5), message(6)),
         (done(6, 1), Ok(Reply::Taken)),
-        (step(1, 9), ran(9, 977, Why::Turns)),
+        (step(1, 9), ran(9, 977, StopReason::Turns)),
         (get(1, 5), message(7)),
         (under(7, 1), Ok(Reply::Taken)),
         (step(1, 2000), gave(962, 1939, SECOND)),

@@ -1,8 +1,9 @@
 //! The lines of a table: events and answers in the words of a script.
 
 use event_callbacks::OpId;
+use guest_board::StopReason;
 use i8080_words::R;
-use pair_events::{Event, Reply, Why};
+use pair_events::{Event, Reply};
 
 /// An event, and its answer.
 pub(crate) type Line = (Event, R<Reply>);
@@ -84,13 +85,13 @@ pub(crate) fn stop(node: u64) -> Event {
 }
 
 /// This many steps were made, up to this count, and then no more.
-pub(crate) fn ran(steps: u64, count: u64, why: Why) -> R<Reply> {
+pub(crate) fn ran(steps: u64, count: u64, why: StopReason) -> R<Reply> {
     Ok(Reply::Ran { steps, count, why })
 }
 
 /// This many steps were made, up to this count, and the last one gave this operation.
 pub(crate) fn gave(steps: u64, count: u64, id: OpId) -> R<Reply> {
-    ran(steps, count, Why::Operation(id))
+    ran(steps, count, StopReason::Operation(id))
 }
 
 /// A message was sent, under this number.

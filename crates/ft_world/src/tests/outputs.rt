@@ -8,8 +8,9 @@ use crate::tests::lines::{
 };
 use crate::tests::rows::{End, Sent, boot, check, node, sector, stands};
 use event_callbacks::{Completes, OpId, plain_completions};
+use guest_board::StopReason;
 use i8080_words::{Fault, R};
-use pair_events::{Reply, Role, Why};
+use pair_events::{Reply, Role};
 use std::alloc::Global;
 use std::process::Abort;
 
@@ -100,7 +101,7 @@ fn a_byte_is_accepted_once(rt: HostRuntime) -> R<()> {
     check(&rt, &FIRST_BYTE, &[&first, &again], &acknowledged)?;
     // The primary goes on to its HLT; no entry settles that.
     let on = [
-        (step(0, 10), ran(1, 7, Why::Idle)),
+        (step(0, 10), ran(1, 7, StopReason::Refused(Fault::Idle))),
         (step(0, 1), Err(Fault::Idle)),
     ];
     let halted = End {

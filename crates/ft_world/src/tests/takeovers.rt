@@ -6,9 +6,10 @@ use crate::tests::lines::{
 };
 use crate::tests::outputs::{FIRST, FIRST_BYTE, after_first_byte};
 use crate::tests::rows::{End, Sent, check, node, sector};
+use guest_board::StopReason;
 use guest_trace::{Bare, Timed};
 use i8080_words::{Fault, R};
-use pair_events::{Reply, Role, Why};
+use pair_events::{Reply, Role};
 
 // The primary stops after its mark is held, and the backup has won.
 fn primary_stops() -> [Line; 8] {
@@ -64,10 +65,10 @@ const INTERRUPT_KEY: [u8; 9] = [0x31, 0x00, 0x01, 0x3e, 0x95, 0xd3, 0x10, 0xfb, 
 // A key is taken at count 5. The sixth step accepts its interrupt, and pushes 0009.
 fn interrupt_key() -> [Line; 4] {
     [
-        (step(0, 10), ran(5, 5, Why::Idle)),
+        (step(0, 10), ran(5, 5, StopReason::Refused(Fault::Idle))),
         (type_byte(0, 0x41), Ok(Reply::Typed { index: 0 })),
         (key(0, 0, 0), Ok(Reply::Taken)),
-        (step(0, 1), ran(1, 6, Why::Turns)),
+        (step(0, 1), ran(1, 6, StopReason::Turns)),
     ]
 }
 
@@ -142,7 +143,7 @@ fn keys_stay(rt: HostRuntime) -> R<()> {
         (key(0, 0, 0), Err(Fault::WrongNumber)),
         (key(0, 0, 1), Ok(Reply::Taken)),
         (told(0, 0), Ok(Reply::Told { keys: 2 })),
-        (step(0, 1), ran(1, 7, Why::Turns)),
+        (step(0, 1), ran(1, 7, StopReason::Turns)),
     ];
     let primary_won = End {
         told: [2, 0],
@@ -158,7 +159,7 @@ fn keys_stay(rt: HostRuntime) -> R<()> {
         (stop(0), Ok(Reply::Stopped)),
         (suspect(1), Ok(Reply::Won)),
         (drain(1, 0), Ok(Reply::MovedAlone { moves: 0 })),
-        (step(1, 1), ran(1, 6, Why::Turns)),
+        (step(1, 1), ran(1, 6, StopReason::Turns)),
         (key(1, 0, 1), Ok(Reply::Taken)),
         (told(1, 0), Ok(Reply::Told { keys: 2 })),
     ];

@@ -16,7 +16,7 @@ use super::came;
 use crate::Replayer;
 use disk_dcdd::{SECTOR_BYTES, SectorAddress};
 use event_callbacks::{Callbacks, Completes, Devices, Done, OpId, Operation, plain_completions};
-use guest_board::{Board, Input, Lockstep, Setup};
+use guest_board::{Board, Input, Lockstep, Setup, StopReason, Stopped};
 use guest_memory::BYTES;
 use i8080_words::{Fault, R};
 use log_buffer::LogBuffer;
@@ -80,7 +80,7 @@ fn advance<B: Lockstep>(
         (B.state recorder.new.board) recorder.new.log }
 {
     match recorder.advance(turns) {
-        Ok(advanced) => assert_eq!(rt; advanced, Advanced { steps, why }),
+        Ok(advanced) => assert_eq!(rt; advanced, Stopped { steps, reason }),
         Err(_) => panic!(rt; "no step is made"),
     }
 }

@@ -1,6 +1,6 @@
 -- A name that was forgotten has no note.
 use Rattle.output_rule.proofs.NoteLists.{note_goes}
-use Rattle.ft_node.proofs.primary.noted.Goals as goal
+use Rattle.ft_node.proofs.primary.note.Goals as goal
 
 pub note-requires-clause-new : goal.note-requires-clause-new
 note-requires-clause-new c =
