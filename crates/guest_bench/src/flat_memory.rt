@@ -4,6 +4,9 @@ ghost use Rattle.guest_bench.specs.FlatMemory.{access, byte_at as byte_of, input
 
 use i8080_core::Bus;
 
+// What IN returns, since no device answers.
+const OPEN_BUS: u8 = 0xff;
+
 #[derive(Drop)]
 pub struct FlatMemory {
     pub bytes: Vec<u8>,
@@ -30,11 +33,11 @@ impl Bus for FlatMemory {
     }
 
     fn input(&mut self, _port: u8) -> u8 {
-        0xff
+        OPEN_BUS
     }
 
-    fn input_leaves_all(&self, _port: u8) -> bool {
-        true
+    fn look(&self, _port: u8) -> Option<u8> {
+        Some(OPEN_BUS)
     }
 
     fn output(&mut self, _port: u8, _byte: u8) {}

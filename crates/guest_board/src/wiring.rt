@@ -10,7 +10,7 @@ ghost use Rattle.guest_board.specs.Fields.{wired_of};
 use crate::ports::{Device, OPEN_BUS};
 use event_callbacks::{Devices, Operation, PORTS};
 use guest_memory::Memory;
-use i8080_core::Bus;
+use i8080_instructions::Bus;
 use i8080_words::GREATEST_NUMBER;
 
 /// Memory, the devices, how many bytes each port was sent, the sense switches, and the operation that this step has given.
@@ -122,13 +122,13 @@ impl Bus for Wiring {
         }
     }
 
-    fn input_leaves_all(&self, port: u8) -> bool {
+    fn look(&self, port: u8) -> Option<u8> {
         match Device::at(port) {
-            Device::SerialControl(_)
-            | Device::DiskSelect
-            | Device::SenseSwitches
-            | Device::Nothing => true,
-            Device::SerialData(_) | Device::DiskControl | Device::DiskData => false,
+            Device::SerialControl(port) => Some(port_status(&self.devices, port)),
+            Device::DiskSelect => Some(self.devices.disk.status()),
+            Device::SenseSwitches => Some(self.sense),
+            Device::Nothing => Some(OPEN_BUS),
+            Device::SerialData(_) | Device::DiskControl | Device::DiskData => None,
         }
     }
 

@@ -5,7 +5,7 @@ ghost use Rattle.i8080_core.specs.Examples.{Wires, byte_at as byte_of_wires, inp
 mod codes;
 
 use crate::{Bus, Cpu};
-use i8080_words::{AddressRegister, Processor, Regs, Stepped};
+use i8080_words::{AddressRegister, Interrupts, Processor, Regs, Stepped};
 use std::process::Abort;
 
 #[derive(Drop)]
@@ -37,8 +37,8 @@ impl Bus for Board {
         self.sent
     }
 
-    fn input_leaves_all(&self, _port: u8) -> bool {
-        true
+    fn look(&self, _port: u8) -> Option<u8> {
+        Some(self.sent)
     }
 
     fn output(&mut self, _port: u8, byte: u8) {
@@ -190,4 +190,27 @@ fn steps_made_in_place_are_as_many_steps(rt: HostRuntime) {
         (regs.a, regs.b, regs.d, regs.e, regs.pc.get()),
         (0x04, 0x02, 0x01, 0x11, 0x004c)
     );
+}
+
+#[test]
+fn steps_made_in_place_leave_interrupts_on(rt: HostRuntime) {
+    let (reset, mut board) = load(&EACH_KIND);
+    let mut cpu = Cpu::resume(Processor {
+        interrupts: Interrupts::On,
+        ..*reset.processor()
+    });
+    assert_eq!(rt; cpu.run_quietly(&mut board, 1000), 40);
+    assert_eq!(rt; cpu.processor().interrupts, Interrupts::On);
+    assert_eq!(rt; cpu.step(&mut board, Some(7)), Stepped::Accepted);
+    assert_eq!(rt; cpu.processor().regs.pc.get(), 0x0038);
+}
+
+// IN 10; RRC; HLT.
+#[test]
+fn a_read_that_changes_nothing_is_made_in_place(rt: HostRuntime) {
+    let (mut cpu, mut board) = load(&[0xdb, 0x10, 0x0f, 0x76]);
+    board.sent = 0x02;
+    assert_eq!(rt; cpu.run_quietly(&mut board, 1000), 2);
+    let regs = cpu.processor().regs;
+    assert_eq!(rt; (regs.a, regs.pc.get()), (0x01, 0x0003));
 }

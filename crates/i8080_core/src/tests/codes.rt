@@ -132,8 +132,8 @@ impl Bus for Machine {
         port ^ 0x5a
     }
 
-    fn input_leaves_all(&self, _port: u8) -> bool {
-        false
+    fn look(&self, _port: u8) -> Option<u8> {
+        None
     }
 
     fn output(&mut self, port: u8, byte: u8) {

@@ -1,5 +1,5 @@
 //! What the processor is wired to.
-ghost use Rattle.std.specs.Prelude.{◌≡◌, ℕ, IsTrue};
+ghost use Rattle.std.specs.Prelude.{◌≡◌, ℕ, IfSome};
 ghost use Rattle.i8080_words.specs.Effects.{Access};
 ghost use Rattle.i8080_words.specs.Effects.Access.{Write, Input, Output};
 
@@ -34,9 +34,10 @@ pub trait Bus {
         ensures byte { result ≡ input_byte (state self.old) port }
         ensures state { state self.new ≡ after (Input port) (state self.old) };
 
-    /// True only if a read from this port would leave the state unchanged.
-    fn input_leaves_all(&self, port: u8) -> bool
-        ensures { IsTrue result → after (Input port) (state self.now) ≡ state self.now };
+    /// The byte that a read from this port would give, only if that read would leave the state unchanged.
+    fn look(&self, port: u8) -> Option<u8>
+        ensures byte { IfSome result (λ byte. byte ≡ input_byte (state self.now) port) }
+        ensures leaves { IfSome result (λ _. after (Input port) (state self.now) ≡ state self.now) };
 
     /// Sends a byte to a port (OUT).
     fn output(&mut self, port: u8, byte: u8)
