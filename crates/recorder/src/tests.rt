@@ -65,7 +65,10 @@ fn an_advance_stops_after_an_operation_and_logs_its_mark(rt: HostRuntime) -> R<(
     assert_eq!(rt; recorder.log().get(8), Some(&Entry::Mark { count: 5 }));
     assert_eq!(rt; recorder.advance(9), Err(Fault::Idle));
     assert_eq!(rt; offer(&rt, &mut recorder, Input::Rx(1, 0x49)), Ok(9));
-    assert_eq!(rt; recorder.advance(9), came(1, StopReason::Refused(Fault::Idle)));
+    assert_eq!(rt;
+        recorder.advance(9),
+        came(1, StopReason::Refused(Fault::Idle))
+    );
     assert_eq!(rt; offer(&rt, &mut recorder, Input::Sent(0)), Ok(10));
     assert_eq!(rt;
         recorder.log().get(10),
@@ -81,7 +84,10 @@ fn an_advance_stops_after_an_operation_and_logs_its_mark(rt: HostRuntime) -> R<(
 fn want_of_memory_is_refused_where_no_step_is_made(rt: HostRuntime) -> R<()> {
     let mut recorder = Recorder::new(Echo::new(0), LogBuffer::new(rt.alloc(), 0)?);
     assert_eq!(rt; offer(&rt, &mut recorder, Input::Rx(0, 0x48)), Ok(0));
-    assert_eq!(rt; recorder.advance(9), came(1, StopReason::Refused(Fault::OutOfMemory)));
+    assert_eq!(rt;
+        recorder.advance(9),
+        came(1, StopReason::Refused(Fault::OutOfMemory))
+    );
     assert_eq!(rt; recorder.advance(9), Err(Fault::OutOfMemory));
     assert_eq!(rt; (recorder.board().count(), recorder.log().next()), (1, 1));
     Ok(())

@@ -130,7 +130,13 @@ fn write_sector<B: Lockstep>(rt: &impl Abort, recorder: &mut Recorder<B>)
 {
     advance(rt, recorder, 10, 10, StopReason::Turns);
     offer(rt, recorder, FIRST_READ, 5);
-    advance(rt, recorder, 9999, 962, StopReason::Operation(OpId::Write(1)));
+    advance(
+        rt,
+        recorder,
+        9999,
+        962,
+        StopReason::Operation(OpId::Write(1)),
+    );
     advance(rt, recorder, 1, 1, StopReason::Turns);
     offer(rt, recorder, Input::Written(1), 7);
 }
