@@ -40,6 +40,12 @@ pub one_again : (n : ℕ) → Again one n
 unfolding one
 one_again n = record { again = λ rest. refl }
 
+-- a value that one byte stands for
+pub code_again : {A : Type 0} (test : ℕ → Bool) (code : A → ℕ) (value : ℕ → A)
+    → ((x : A) → (test (code x) ≡ true) × (value (code x) ≡ x)) → (x : A) → Again (by (only one test) code value) x
+code_again test code value back x =
+    by_again (only one test) code value x (only_again one test (code x) (one_again (code x)) (back x).0) (back x).1
+
 -- the front of two lists joined, and what is after it
 pub take_front : {A : Type 0} (xs ys : List A) → take (length xs) (xs ++ ys) ≡ xs
 take_front [] ys = refl

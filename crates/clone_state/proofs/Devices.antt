@@ -12,7 +12,7 @@ use Rattle.disk_dcdd.specs.declared.sector.SectorWrite.{SectorWrite}
 use Rattle.clone_state.specs.Codec.{Codec, Again, both, only, one, bytes, number, times}
 use Rattle.clone_state.specs.Possible.{are_zeros, is_window}
 use Rattle.clone_state.specs.FirstPart.{truth, maybe, code_of_receiver, receiver_of, is_receiver, receiver, PortImage, has_window, port, PortImage01, has_byte, port_01, CurrentImage, no_bytes, shown_current, is_current, current_of, current, drive_with, drives, write}
-use Rattle.clone_state.proofs.Codecs.{both_again, by_again, only_again, one_again, bytes_again, numbers_again, times_again}
+use Rattle.clone_state.proofs.Codecs.{both_again, by_again, code_again, only_again, one_again, bytes_again, numbers_again, times_again}
 use Rattle.clone_state.proofs.Spellings.{Spells, one_spells, bytes_spells, number_spells, both_spells, by_spells, only_spells, times_spells}
 use Rattle.clone_state.proofs.Lists.{map_length, zip_length}
 use Rattle.clone_state.proofs.Values.{Anything, truth_again, truth_spells, maybe_again, maybe_spells}
@@ -22,8 +22,7 @@ use Rattle.clone_state.proofs.Values.{Anything, truth_again, truth_spells, maybe
 pub receiver_again : (r : Receiver) → Again receiver r
 unfolding receiver
 receiver_again r =
-    by_again (only one is_receiver) code_of_receiver receiver_of r
-    (only_again one is_receiver (code_of_receiver r) (one_again (code_of_receiver r)) (back r).0) (back r).1
+    code_again is_receiver code_of_receiver receiver_of back r
   where
     back : (r : Receiver) → (is_receiver (code_of_receiver r) ≡ true) × (receiver_of (code_of_receiver r) ≡ r)
     back Empty = (refl, refl)

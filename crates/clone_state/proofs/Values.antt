@@ -10,7 +10,7 @@ use Rattle.i8080_words.specs.declared.registers.Interrupts.TheVariants.{Off, Soo
 use Rattle.i8080_words.specs.declared.registers.Processor.{Processor}
 use Rattle.clone_state.specs.Codec.{Codec, Again, both, only, one}
 use Rattle.clone_state.specs.FirstPart.{is_bit, truth, word, or_none, some_below, maybe, is_flag_byte, flags, code_of_interrupts, interrupts_of, is_interrupts, interrupts, registers, processor}
-use Rattle.clone_state.proofs.Codecs.{both_again, by_again, only_again, one_again}
+use Rattle.clone_state.proofs.Codecs.{both_again, by_again, code_again, only_again, one_again}
 use Rattle.clone_state.proofs.Spellings.{Spells, one_spells, both_spells, by_spells, only_spells}
 
 -- nothing more is known
@@ -152,8 +152,7 @@ flags_spells =
 pub interrupts_again : (i : Interrupts) → Again interrupts i
 unfolding interrupts
 interrupts_again i =
-    by_again (only one is_interrupts) code_of_interrupts interrupts_of i
-    (only_again one is_interrupts (code_of_interrupts i) (one_again (code_of_interrupts i)) (back i).0) (back i).1
+    code_again is_interrupts code_of_interrupts interrupts_of back i
   where
     back : (i : Interrupts) → (is_interrupts (code_of_interrupts i) ≡ true) × (interrupts_of (code_of_interrupts i) ≡ i)
     back Off = (refl, refl)

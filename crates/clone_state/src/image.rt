@@ -28,13 +28,14 @@ pub struct Image {
 }
 
 impl Image {
-    /// The image of a board, as it is now. Takes memory for one copy of the guest's. `OutOfMemory` if the allocator
-    /// refuses it.
+    /// The image of a board, as it is now, for the generation that it begins. Takes memory for one copy of the guest's.
+    /// `OutOfMemory` if the allocator refuses it.
     pub fn of<T: Completes, S: Completes, W: Completes>(
         alloc: Global,
         board: &Board<T, S, W>,
         generation: u32,
     ) -> R<Image>
+        requires { 0 < generation }
         ensures copied { IfOk result (λ image. guest_of_parts image.copied ≡ board.now.guest) }
         ensures generation { IfOk result (λ image. image.generation ≡ generation) }
         ensures full { IsOkUnless result OutOfMemory }
