@@ -16,7 +16,7 @@ use Rattle.guest_board.specs.Guest.{Guest, guest_at_boot, wired, stepped, take_f
 use Rattle.guest_board.specs.Machine.{Move, Do, Take}
 use Rattle.guest_board.specs.Ports.{Wired, after_byte}
 use Rattle.guest_board.specs.declared.input.Input.{Input}
-use Rattle.guest_board.specs.declared.input.Input.TheVariants.{Rx, Sent, Sector, Written}
+use Rattle.guest_board.specs.declared.input.Input.TheVariants.{Rx, Sent}
 use Rattle.guest_board.specs.declared.setup.Setup.{Setup}
 use Rattle.i8080_words.specs.declared.registers.Processor.{Processor}
 use Rattle.guest_trace.specs.Reach.{inputs, output, acceptances}

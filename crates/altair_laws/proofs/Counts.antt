@@ -11,7 +11,7 @@ use Rattle.event_callbacks.specs.declared.operations.Operation.{Operation}
 use Rattle.guest_board.specs.Guest.{Guest, guest_at_boot, take_from, altair, after_rx}
 use Rattle.guest_board.specs.Machine.{Move, Do, Take}
 use Rattle.guest_board.specs.declared.input.Input.{Input}
-use Rattle.guest_board.specs.declared.input.Input.TheVariants.{Rx, Sent, Sector, Written}
+use Rattle.guest_board.specs.declared.input.Input.TheVariants.{Rx}
 use Rattle.guest_board.specs.declared.setup.Setup.{Setup}
 use Rattle.guest_trace.specs.Reach.{inputs, steps, keys}
 use Rattle.pair_protocol.specs.Lawful.{Reaches}

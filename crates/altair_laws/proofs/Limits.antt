@@ -1,7 +1,7 @@
 -- No number passes its limit. A step is made only if no number is at its limit, and raises the count by one and the
 -- number of bytes of one port or of writes by at most one; a key is taken only while the number of keys is below the
 -- limit.
-use Rattle.std.proofs.Common.{◌≡◌, ℕ, zero, suc, ◌+◌, ◌≤◌, ◌<◌, Bool, true, false, List, [], ◌∷◌, Some, ◌⊎◌, inl, inr, refl, sym, ap, subst, arith}
+use Rattle.std.proofs.Common.{◌≡◌, ℕ, zero, suc, ◌+◌, ◌≤◌, ◌<◌, false, List, [], ◌∷◌, Some, ◌⊎◌, inl, inr, refl, sym, ap, subst, arith}
 use Rattle.std.specs.Prelude.{slice_index, slice_index_or, slice_set, nat_lt, nat_le, ◌&&◌, ◌||◌}
 use Rattle.std.proofs.lemmas.Bool.{ltb-true, leb-false, and_parts}
 use Rattle.std.proofs.lemmas.Option.{cond_some}
@@ -12,7 +12,7 @@ use Rattle.guest_board.specs.Guest.{Guest, guest_at_boot, wired, stepped, take_f
 use Rattle.guest_board.specs.Machine.{Move}
 use Rattle.guest_board.specs.Ports.{Wired}
 use Rattle.guest_board.specs.declared.input.Input.{Input}
-use Rattle.guest_board.specs.declared.input.Input.TheVariants.{Rx, Sent, Sector, Written}
+use Rattle.guest_board.specs.declared.input.Input.TheVariants.{Rx}
 use Rattle.guest_board.specs.declared.setup.Setup.{Setup}
 use Rattle.i8080_words.specs.declared.registers.Processor.{Processor}
 use Rattle.altair_laws.specs.Stands.{IsWithin}

@@ -21,7 +21,7 @@ use Rattle.guest_board.specs.Guest.{Guest, guest_at_boot, wired, take_from, alta
 use Rattle.guest_board.specs.Machine.{Move, Do, Take}
 use Rattle.guest_board.specs.Ports.{Wired}
 use Rattle.guest_board.specs.declared.input.Input.{Input}
-use Rattle.guest_board.specs.declared.input.Input.TheVariants.{Rx, Sent, Sector, Written}
+use Rattle.guest_board.specs.declared.input.Input.TheVariants.{Rx, Sector, Written}
 use Rattle.guest_board.specs.declared.setup.Setup.{Setup}
 use Rattle.i8080_words.specs.declared.registers.Processor.{Processor}
 use Rattle.altair_laws.specs.Stands.{AreWholeWrites, IsWhole, AreWhole, AltairStands}

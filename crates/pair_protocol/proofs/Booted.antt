@@ -4,8 +4,8 @@ use Rattle.std.proofs.Common.{◌≡◌, Bool, List, refl, ℕ}
 use Rattle.pair_protocol.proofs.Words.{Entry, Input, Machine, Move, Node, Role, SectorAddress, booted_from, keys_covered}
 use Rattle.guest_board.proofs.Booted.{Recorded-booted}
 use Rattle.log_entry.specs.Standing.{IsOnTrace, Stands}
-use Rattle.guest_board.specs.declared.running.StopReason.{StopReason}
 use Rattle.pair_protocol.specs.Effects.{Advances, AtEnd, Drained, Ends, Gives, Goes, IsBehind, NoMemory, NoTurns, NoneLeft, OneInput, OneMark, OneStep, Replayed, Replays, Short, Stepped, Took, Waits}
+use Rattle.guest_board.specs.declared.running.StopReason.{StopReason}
 
 -- ---- to the machine that boots elsewhere
 

@@ -2,8 +2,8 @@
 use Rattle.std.proofs.Common.{[], ◌∙◌, ◌∷◌, ◌≡◌, List, None, Option, Some, ap, inl, inr, refl, set-set, subst, suc, sym, true, zero, ℕ}
 use Rattle.std.specs.Prelude.{slice_get, slice_set}
 use Rattle.pair_protocol.proofs.Words.{Acts, Alone, AloneSteps, Backup, Change, Changes, Copying, Draining, Joining, Machine, Node, Operation, Primary, PrimarySteps, Replaying, ReplaysInput, ReplaysMark, ReplaysStep, Role, Serving, Spare, Stays, Then, World, passes_input, passes_mark, plainly_steps, with_node}
-use Rattle.guest_board.specs.declared.running.StopReason.{StopReason}
 use Rattle.pair_protocol.specs.Effects.{Advances, AtEnd, Ends, Gives, Goes, NoMemory, NoTurns, NoneLeft, OneInput, OneMark, OneStep, Replays, Short, Waits, stepped}
+use Rattle.guest_board.specs.declared.running.StopReason.{StopReason}
 use Rattle.pair_protocol.proofs.Traces.Lists.{get_set}
 
 -- ---- one node's moves

@@ -2,8 +2,8 @@
 use Rattle.std.proofs.Common.{[], ◌∙◌, ◌∷◌, ◌≡◌, ◌⊎◌, Bool, List, None, Option, Some, ap, cond, false, inl, inr, not, refl, subst, sym, true, ℕ}
 use Rattle.std.specs.Prelude.{◌&&◌, ◌||◌, slice_get}
 use Rattle.pair_protocol.proofs.Words.{Acts, Alone, Among, Backup, Change, Changes, Copying, Draining, Joining, Machine, Node, Primary, Role, Serving, Spare, Stays, Then, World, acts_as, is_role}
-use Rattle.i8080_words.specs.declared.refusal.Fault.{Fault}
 use Rattle.i8080_words.specs.declared.refusal.Fault.TheVariants.{Lost, Unknown, WrongRole}
+use Rattle.i8080_words.specs.declared.refusal.Fault.{Fault}
 use Rattle.pair_protocol.specs.Refusals.{at_node, fault_if, first_of, role_refusal, serves}
 
 pub unchanged : {S : Type 0} (M : Machine S) (C : Copying S) (w new : World S) → new ≡ w → Changes M C w new

@@ -2,11 +2,11 @@
 use Rattle.std.proofs.Common.{[], ◌∙◌, ◌∷◌, ◌≡◌, ◌≢◌, ◌⊎◌, Bool, List, None, Option, Some, ap, arith, cond, false, inl, inr, not, refl, subst, suc, sym, true, ℕ}
 use Rattle.std.specs.Prelude.{◌<◌, ◌==◌, if◌then◌else◌, length, slice_get}
 use Rattle.pair_protocol.proofs.Words.{Alone, Backup, Copying, Draining, Entry, Joining, LogEntry, Machine, Message, Node, Primary, Spare, World, acts_as, count_of, is_role, winner_in}
-use Rattle.i8080_words.specs.declared.refusal.Fault.{Fault}
 use Rattle.i8080_words.specs.declared.refusal.Fault.TheVariants.{Lost, NotWhole, OutOfMemory, Unknown, WrongGeneration, WrongRole}
+use Rattle.i8080_words.specs.declared.refusal.Fault.{Fault}
+use Rattle.pair_protocol.specs.Effects.{AtEnd, IsBehind, NoMemory, NoTurns, OneInput, OneMark, OneStep, Replays, WantsMoves}
 use Rattle.pair_protocol.specs.Event.{DeliverLog, Drain, Event, New, Old, Refused, Replay, Reply, Step, Suspect}
 use Rattle.pair_protocol.specs.Refusals.{ask_refusal, at_log_entry, at_node, deliver_log_refusal, fault_if, first_of, is_other, refusal, role_refusal, step_refusal, suspect_refusal}
-use Rattle.pair_protocol.specs.Effects.{AtEnd, IsBehind, NoMemory, NoTurns, OneInput, OneMark, OneStep, Replays, WantsMoves}
 use Rattle.pair_protocol.specs.Row.{Accepts, DeviceFails, MayWantMemory, Refuses, WantsMemory}
 use Rattle.pair_protocol.specs.Rows.{Does, OfNode, drain_reply}
 use Rattle.pair_protocol.specs.Wanting.{WantsNone}

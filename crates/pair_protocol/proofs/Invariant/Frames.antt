@@ -3,7 +3,7 @@
 use Rattle.std.proofs.Common.{[], ◌++◌, ◌<◌, ◌∙◌, ◌≡◌, ◌≤◌, ◌⊎◌, List, Some, ap, arith, inl, inr, refl, subst, sym, ℕ}
 use Rattle.std.proofs.Math.Path.{path_j, subst_refl}
 use Rattle.std.specs.Prelude.{slice_get, slice_set}
-use Rattle.pair_protocol.proofs.Words.{Among, Byte, Copying, Entry, IsPrefix, Machine, Message, Move, Node, Operation, Owns, SectorAddress, SectorWrite, Spare, Terminal, Timed, Winner, World, Write, inputs, is_backup, keys, operations, winner_in, wins}
+use Rattle.pair_protocol.proofs.Words.{Among, Byte, Copying, Entry, IsPrefix, Machine, Message, Move, Node, Operation, Owns, SectorAddress, SectorWrite, Spare, Terminal, Timed, Winner, World, Write, inputs, keys, operations, winner_in, wins}
 use Rattle.pair_protocol.proofs.Invariant.{AsAlone, AsBackup, AsDraining, AsJoining, AtStart, AtTop, BackupHere, BackupLeft, BackupState, CameIn, Global, Gone, Inv, IsBackup, IsPrimary, IsRecord, Line, LineOf, Next, OfWrite, Presence, PrimaryHere, PrimaryLeft, Stage, Unused, settled}
 use Rattle.pair_protocol.proofs.Traces.Lists.{among-prefix, get_set_cases, get_set_other, prefix-length, prefix-trans, same_or_not, same_some}
 use Rattle.pair_protocol.proofs.Traces.Moves.{keys-prefix, operations-prefix}

@@ -3,8 +3,8 @@ use Rattle.std.proofs.Common.{[], ◌++◌, ◌∙◌, ◌∷◌, ◌≡◌, ◌
 use Rattle.std.specs.Prelude.{slice_get}
 use Rattle.pair_protocol.proofs.Words.{Acknowledgement, Acknowledges, Acts, Alone, AloneReleases, AloneSteps, AloneTakes, Among, Arrival, Arrives, Backup, Byte, Change, Copying, Do, Draining, GetsPart, GoesLive, ImagePart, Input, IsCopying, IsPrefix, Joining, Lawful, LogEntry, Machine, MayTake, Node, Operation, Primary, PrimaryReleases, PrimarySteps, PrimaryTakes, Recorded, Released, Replaying, ReplaysInput, ReplaysMark, ReplaysStep, Role, SendsPart, Spare, Take, Tells, Types, World, Write, alone_takes, entries, gets_part, goes_live, halts, hears, joins, keys_covered, operations, passes_input, passes_mark, plainly_steps, primary_steps, primary_takes, refusal_of, sector_record, steps, terminal, timed, winner_in, with_node, with_winner}
 use Rattle.pair_protocol.specs.Change.{Begins, Hears, Holds, HostComes, Joins, Puts, Reads, Sends, Stops, Wins}
-use Rattle.pair_protocol.proofs.Invariant.{BackupState, HasReplayed, Inv, IsPrimary, Next}
 use Rattle.pair_protocol.proofs.Invariant.Acting.{Acting, BackupActs, IsBackupRole, PrimaryActs, acting, acting_backup, acting_primary, acts-no_spare, line_at}
+use Rattle.pair_protocol.proofs.Invariant.{BackupState, HasReplayed, Inv, IsPrimary, Next}
 use Rattle.pair_protocol.proofs.Keeps.Alone.{alone}
 use Rattle.pair_protocol.proofs.Keeps.Arbiter.{backup-wins, primary-wins}
 use Rattle.pair_protocol.proofs.Keeps.Backup.{backup-accepts, backup-does, backup-later, backup-stays}

@@ -1,8 +1,8 @@
 -- An alone node: whether it began as primary or as backup, its moves are the settled ones.
-use Rattle.std.proofs.Common.{◌++◌, ◌+◌, ◌∙◌, ◌≡◌, ◌⊎◌, ap, inl, inr, length, subst, sym, ℕ}
+use Rattle.std.proofs.Common.{◌++◌, ◌∙◌, ◌≡◌, ◌⊎◌, ap, inl, inr, length, subst, sym, ℕ}
 use Rattle.pair_protocol.proofs.Words.{Acts, Alone, Copying, Machine, Node, Primary, Runs, World, inputs, steps}
-use Rattle.pair_protocol.proofs.Invariant.{AsAlone, AsBackup, AsDraining, AsJoining, BackupState, BackupWon, HasMade, Inv, Line, PrimaryWon, alone_moves, settled_moves}
 use Rattle.pair_protocol.proofs.Invariant.Acting.{Acting, ActingBackup, BackupActs, BackupAtTop, BackupEarlier, BackupPlace, PrimaryActs, PrimaryAtTop, PrimaryEarlier, PrimaryPlace, acting, acts-no_spare, line_at}
+use Rattle.pair_protocol.proofs.Invariant.{AsAlone, AsBackup, AsDraining, AsJoining, BackupState, BackupWon, HasMade, Inv, Line, PrimaryWon, alone_moves, settled_moves}
 use Rattle.pair_protocol.proofs.Keeps.Primary.{primary-runs}
 use Rattle.pair_protocol.proofs.Traces.Moves.{runs-append, steps-append}
 

@@ -1,14 +1,14 @@
 -- Test-and-set: the first node of a generation to ask has won, and what is settled goes on from what that node has.
-use Rattle.pair_protocol.proofs.Words.{Alone, Copying, IsPrefix, Joining, Machine, Move, Node, Owns, Primary, Winner, World, cut, winner_in, wins, with_winner, won_role}
 use Rattle.std.proofs.Common.{[], ◌++◌, ◌∙◌, ◌∷◌, ◌≡◌, ◌⊎◌, Bool, List, None, Option, Some, ap, append-nil, arith, cond, eq-eqb, eqb-true, false, inl, inr, length, refl, subst, sym, true, ℕ}
 use Rattle.std.specs.Prelude.{◌==◌}
-use Rattle.pair_protocol.proofs.Invariant.{AsAlone, AsBackup, AsDraining, AsJoining, AtTop, BackupState, BackupWon, Inv, IsPrimary, Line, LineOf, Next, PrimaryWon, Stage, Undecided, settled, settled_moves, winner_at}
+use Rattle.pair_protocol.proofs.Words.{Alone, Copying, IsPrefix, Joining, Machine, Move, Node, Owns, Primary, Winner, World, cut, winner_in, wins, with_winner, won_role}
 use Rattle.pair_protocol.proofs.Invariant.Acting.{ActingBackup, ActingPrimary, BackupAtTop, BackupEarlier, BackupPlace, PrimaryAtTop, PrimaryEarlier, PrimaryPlace}
-use Rattle.pair_protocol.proofs.Invariant.Frames.{global-grows, relined, with_backup, with_own}
+use Rattle.pair_protocol.proofs.Invariant.Frames.{global-grows, relined, with_backup, with_change, with_own}
+use Rattle.pair_protocol.proofs.Invariant.Settled.{settled-held}
+use Rattle.pair_protocol.proofs.Invariant.{AsAlone, AsBackup, AsDraining, AsJoining, AtTop, BackupHere, BackupState, BackupWon, Inv, IsPrimary, Line, LineOf, Next, PrimaryWon, Stage, Undecided, settled, settled_moves, winner_at}
 use Rattle.pair_protocol.proofs.Keeps.Backup.{backup-later, backup-line, backup_acts, primary_stays}
 use Rattle.pair_protocol.proofs.Keeps.Primary.{backup_stays, primary-line, primary_acts}
 use Rattle.pair_protocol.proofs.Traces.Lists.{prefix-refl, prefix-same}
-use Rattle.pair_protocol.proofs.Invariant.Settled.{settled-held}
 
 -- The contest.
 
@@ -94,31 +94,36 @@ module _ {S : Type 0} (M : Machine S) (C : Copying S) (w : World S) (i : Inv M C
       owns : Owns M [] M.boot new
       owns = o.owns (λ k. not_won (inl k))
 
-      by_role : (x.role ≡ Primary) ⊎ ((x.role ≡ Alone) × (l.stage ≡ PrimaryWon)) →
-          PrimaryPlace M C w.nodes i.top i.trace x.generation l → Next M C i.trace (with_winner w n x)
-      by_role (inr r) place = absurd (not_won (inr r.1))
-      by_role (inl r) (PrimaryEarlier g s b) = absurd (not_won (inl s))
-      by_role (inl r) (PrimaryAtTop g s b) =
-          let alone : won_role x.role ≡ Alone = ap won_role r in
-          relined M C w i n x y ws new q.there (λ k. (cc)) refl
-          (λ k d. winner-other w.winners x.generation n k d) (grows s) (inr g)
-          (primary-line M C w i n x q new y l.own PrimaryWon ws
+      alone : x.role ≡ Primary → won_role x.role ≡ Alone
+      alone r = ap won_role r
+
+      line : x.role ≡ Primary → x.generation ≡ i.top → BackupHere M C w.nodes x.generation l →
+          LineOf M C (with_change w n y ws) i.top new x.generation
+      line r g b = primary-line M C w i n x q new y l.own PrimaryWon ws
           (AtTop g refl
           (primary_acts M C w i n x q y (with_own l l.own PrimaryWon) refl refl (record {
-            role = inr (alone, refl);
+            role = inr (alone r, refl);
             made = q.is_primary.made;
             copy = q.is_primary.copy;
             covered = q.is_primary.covered;
             image = q.is_primary.image;
-            logged = λ k. (cc);
+            logged = λ k. (let z = sym (alone r) ∙ k in (cc));
           }))
           (backup_stays M C w i n x q y l.own PrimaryWon b
           (record { state = backup_state-lost b.b b.is_backup.state; log = b.is_backup.log })))
           (winner-push w.winners x.generation n none ∙ ap Some q.spot) o.sound.recorded (prefix-refl l.own) o.came
           (λ z. owns) (prefix-refl new)
-          (λ b u gb role ns. absurd (let k : won_role x.role ≡ Primary = role in let z = sym alone ∙ k in (cc)))
-          (λ z. absurd (z refl)))
-          (λ lt. absurd (omega (arith, lt, g))) (refl {a = l.base})
+          (λ b u gb role ns. absurd (let k : won_role x.role ≡ Primary = role in let z = sym (alone r) ∙ k in (cc)))
+          (λ z. absurd (z refl))
+
+      by_role : (x.role ≡ Primary) ⊎ ((x.role ≡ Alone) × (l.stage ≡ PrimaryWon)) →
+          PrimaryPlace M C w.nodes i.top i.trace x.generation l → Next M C i.trace (with_winner w n x)
+      by_role (inr r) place = absurd (not_won (inr r.1))
+      by_role (inl r) (PrimaryEarlier g s b) = absurd (not_won (inl s))
+      by_role (inl r) (PrimaryAtTop g s b) =
+          relined M C w i n x y ws new q.there (λ k. (let z = alone r in (cc))) refl
+          (λ k d. winner-other w.winners x.generation n k d) (grows s) (inr g) (line r g b)
+          (λ lt. absurd (omega (arith, lt, g))) refl
           (global-grows M w.messages w.terminals w.puts i.trace new (grows s) o.came owns i.global)
 
   primary-lost : (a : Node S) → IsPrimary M l a → IsPrimary M (with_backup l [] BackupWon l.held) a

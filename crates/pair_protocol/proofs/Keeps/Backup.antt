@@ -1,11 +1,11 @@
 -- The backup of a generation: either it changes and its moves stay, or it is alone and makes a move.
-use Rattle.std.proofs.Common.{[], ◌++◌, ◌+◌, ◌∙◌, ◌∷◌, ◌≡◌, ◌≤◌, ◌⊎◌, List, None, Option, Some, ap, append_assoc, arith, inl, inr, length, refl, subst, suc, sym, take, ℕ}
+use Rattle.std.proofs.Common.{[], ◌++◌, ◌∙◌, ◌∷◌, ◌≡◌, ◌≤◌, ◌⊎◌, List, None, Option, Some, ap, append_assoc, arith, inl, inr, length, refl, subst, suc, sym, take, ℕ}
 use Rattle.std.specs.Prelude.{slice_get, slice_set}
 use Rattle.pair_protocol.proofs.Words.{Acknowledgement, Alone, Among, Copying, Do, Entry, Input, IsPrefix, Lawful, Machine, MayTake, Message, Move, Node, Operation, Owns, Primary, Released, Replaying, Runs, SectorWrite, Spare, Take, Timed, Winner, World, Write, alone_takes, cut, entries, inputs, is_backup, plainly_steps, refusal_of, steps, timed, winner_in, with_node}
-use Rattle.pair_protocol.proofs.Invariant.{AsAlone, AtTop, BackupHere, BackupWon, CameIn, Gone, HasMade, Inv, IsBackup, IsPrimary, Line, LineOf, Next, Presence, PrimaryHere, PrimaryLeft, PrimaryWon, Stage, WaitsAt, alone_moves, settled, settled_moves, winner_at}
 use Rattle.pair_protocol.proofs.Invariant.Acting.{ActingBackup, BackupAtTop, BackupEarlier, BackupPlace}
 use Rattle.pair_protocol.proofs.Invariant.Frames.{global-grows, primary-there, relined, with_backup, with_change}
 use Rattle.pair_protocol.proofs.Invariant.Settled.{settled-more}
+use Rattle.pair_protocol.proofs.Invariant.{AsAlone, AtTop, BackupHere, BackupWon, CameIn, Gone, HasMade, Inv, IsBackup, IsPrimary, Line, LineOf, Next, Presence, PrimaryHere, PrimaryLeft, PrimaryWon, Stage, WaitsAt, alone_moves, settled, settled_moves, winner_at}
 use Rattle.pair_protocol.proofs.Keeps.Alone.{BackupAlone, alone-trace, backup-alone}
 use Rattle.pair_protocol.proofs.Keeps.Primary.{acting_there}
 use Rattle.pair_protocol.proofs.Keeps.PrimaryMoves.{came-take, made-do, made-take, own-take}

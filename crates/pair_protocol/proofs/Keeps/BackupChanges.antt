@@ -3,8 +3,8 @@
 use Rattle.std.proofs.Common.{[], ◌++◌, ◌+◌, ◌∙◌, ◌∷◌, ◌≡◌, ◌≤◌, ◌⊎◌, List, None, Option, Some, ap, append-nil, arith, inl, inr, length, length-set, refl, subst, suc, sym, take, ℕ}
 use Rattle.std.specs.Prelude.{slice_get, slice_set}
 use Rattle.pair_protocol.proofs.Words.{Copying, Draining, Entry, IsCopying, IsPrefix, Joining, Lawful, Machine, Move, Node, Owns, Replaying, Role, Runs, cut, entries, gathered, gets_part, goes_live, halts, hears, inputs, joins, steps, with_first}
-use Rattle.pair_protocol.proofs.Invariant.{AsAlone, AsBackup, AsDraining, AsJoining, BackupState, BackupWon, HasGathered, HasMade, HasReplayed, HoldsLog, IsBackup, IsPrimary, Line, alone_moves}
 use Rattle.pair_protocol.proofs.Invariant.Frames.{with_own}
+use Rattle.pair_protocol.proofs.Invariant.{AsAlone, AsBackup, AsDraining, AsJoining, BackupState, BackupWon, HasGathered, HasMade, HasReplayed, HoldsLog, IsBackup, IsPrimary, Line, alone_moves}
 use Rattle.pair_protocol.proofs.Keeps.PrimaryLog.{entries-longer}
 use Rattle.pair_protocol.proofs.Keeps.Replay.{held-list, replayed-ends}
 use Rattle.pair_protocol.proofs.Traces.Lists.{get_set_cases, prefix-trans, same_some}

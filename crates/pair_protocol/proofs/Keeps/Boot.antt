@@ -1,7 +1,7 @@
 -- The invariant holds of a world at boot.
 use Rattle.std.proofs.Common.{[], ◌∙◌, ◌∷◌, ◌≡◌, ◌≤◌, ◌⊎◌, List, Some, ap, arith, inl, inr, refl, suc, sym, zero, ℕ}
 use Rattle.std.specs.Prelude.{slice_get}
-use Rattle.pair_protocol.proofs.Words.{Among, Arrival, Backup, Byte, Copying, IsPrefix, Lawful, Machine, Move, Node, Primary, Spare, first_node, is_backup, no_terminal, opening, terminal_in}
+use Rattle.pair_protocol.proofs.Words.{Among, Arrival, Backup, Byte, Copying, IsPrefix, Lawful, Machine, Move, Node, Primary, Spare, first_node, no_terminal, opening, terminal_in}
 use Rattle.pair_protocol.proofs.Invariant.{AsBackup, AtTop, CameIn, Inv, Line, LineOf, Presence, Undecided, Unused, settled}
 use Rattle.pair_protocol.proofs.Traces.Lists.{same_or_not, same_some}
 

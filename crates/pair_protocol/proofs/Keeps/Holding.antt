@@ -3,10 +3,10 @@ use Rattle.std.proofs.Common.{[], ◌++◌, ◌∙◌, ◌∷◌, ◌≡◌, ◌
 use Rattle.std.proofs.lemmas.Option.{slice_get_within}
 use Rattle.std.specs.Prelude.{slice_get, slice_set}
 use Rattle.pair_protocol.proofs.Words.{Among, Backup, Copying, Entry, IsPrefix, Machine, Move, Node, SectorWrite, Terminal, World, Write, cut, entries, holds, inputs, keys, operations, steps, terminal_in, with_node}
-use Rattle.pair_protocol.proofs.Invariant.{AsAlone, AsBackup, AsDraining, AsJoining, AtTop, BackupHere, BackupState, BackupWon, CameIn, Inv, Line, LineOf, Next, PrimaryLeft, PrimaryWon, Stage, Undecided, settled, settled_moves}
 use Rattle.pair_protocol.proofs.Invariant.Acting.{ActingBackup, BackupAtTop, BackupEarlier, BackupPlace}
 use Rattle.pair_protocol.proofs.Invariant.Frames.{global-grows, relined, with_backup}
 use Rattle.pair_protocol.proofs.Invariant.Settled.{settled-held, settled-primary}
+use Rattle.pair_protocol.proofs.Invariant.{AsAlone, AsBackup, AsDraining, AsJoining, AtTop, BackupHere, BackupState, BackupWon, CameIn, Inv, Line, LineOf, Next, PrimaryLeft, PrimaryWon, Stage, Undecided, settled, settled_moves}
 use Rattle.pair_protocol.proofs.Keeps.Backup.{BackupReads, backup-line, backup_acts, primary-held, primary_gone, primary_stays}
 use Rattle.pair_protocol.proofs.Keeps.Replay.{replayed-holds}
 use Rattle.pair_protocol.proofs.Traces.Lists.{get-front, le-cases, prefix-next, prefix-refl, prefix-trans}

@@ -2,9 +2,9 @@
 use Rattle.std.proofs.Common.{[], ◌++◌, ◌∷◌, ◌≡◌, ◌≤◌, ◌⊎◌, List, Some, arith, inl, inr, length, refl, subst, sym, ℕ}
 use Rattle.std.specs.Prelude.{slice_get}
 use Rattle.pair_protocol.proofs.Words.{Acknowledgement, Among, Copying, ImagePart, LogEntry, Machine, Message, Move, Node, Released, Replaying, SectorRead, SectorWrite, Spare, Timed, World, Write, WriteDone, entries, inputs, operations, steps, with_message}
+use Rattle.pair_protocol.proofs.Invariant.Acting.{line_at}
 use Rattle.pair_protocol.proofs.Invariant.Frames.{line-framed, same_nodes-refl}
 use Rattle.pair_protocol.proofs.Invariant.{AtTop, BackupLeft, CameIn, HasPut, Inv, IsRecord, Line, LineOf, Next, Presence, PrimaryLeft, PrimaryWon, Unseen, Unused, WaitsAt}
-use Rattle.pair_protocol.proofs.Invariant.Acting.{line_at}
 use Rattle.pair_protocol.proofs.Traces.Lists.{among-left, among-split, prefix-refl, same_or_not}
 
 -- One more message.

@@ -2,10 +2,10 @@
 use Rattle.std.proofs.Common.{[], ◌++◌, ◌+◌, ◌<◌, ◌∙◌, ◌≡◌, ◌⊎◌, List, None, Some, ap, append-nil, arith, inl, inr, refl, subst, suc, sym, zero, ℕ}
 use Rattle.std.proofs.lemmas.List.{length-replicate}
 use Rattle.std.specs.Prelude.{replicate, slice_get, slice_set}
-use Rattle.pair_protocol.proofs.Words.{Acts, Alone, Copying, IsCopying, IsPrefix, Joining, Machine, Node, Owns, Spare, World, begun, inputs, is_backup, joiner, steps, with_pair}
-use Rattle.pair_protocol.proofs.Invariant.{AsJoining, AtTop, BackupLeft, CameIn, Gone, Inv, Line, LineOf, Next, Presence, PrimaryLeft, Undecided, Unseen, Unused, settled}
+use Rattle.pair_protocol.proofs.Words.{Acts, Alone, Copying, IsCopying, IsPrefix, Joining, Machine, Node, Owns, Spare, World, begun, inputs, joiner, steps, with_pair}
 use Rattle.pair_protocol.proofs.Invariant.Acting.{Acting, BackupActs, BackupAtTop, BackupEarlier, PrimaryActs, PrimaryAtTop, PrimaryEarlier, acting}
 use Rattle.pair_protocol.proofs.Invariant.Frames.{backup-no_spare, backup-there, line-framed, line-over, primary-no_spare, primary-there, same_nodes-set, same_nodes-trans}
+use Rattle.pair_protocol.proofs.Invariant.{AsJoining, AtTop, BackupLeft, CameIn, Gone, Inv, Line, LineOf, Next, Presence, PrimaryLeft, Undecided, Unseen, Unused, settled}
 use Rattle.pair_protocol.proofs.Keeps.Alone.{AloneAt, alone_at, backup-alone}
 use Rattle.pair_protocol.proofs.Traces.Lists.{get_set, get_set_cases, get_set_other, prefix-refl, prefix-same, same_or_not, same_some}
 

@@ -2,12 +2,12 @@
 use Rattle.std.proofs.Common.{[], ◌++◌, ◌+◌, ◌<◌, ◌∙◌, ◌∷◌, ◌≡◌, ◌≤◌, ◌⊎◌, Bool, List, None, Option, Some, ap, append-nil, append_assoc, arith, cond, eq-eqb, false, inl, inr, length, length-append, refl, subst, suc, sym, true, zero, ℕ}
 use Rattle.std.specs.Prelude.{◌&&◌, ◌==◌, slice_get}
 use Rattle.pair_protocol.proofs.Words.{Among, Byte, Do, Entry, Input, IsPrefix, Mark, Move, Note, OpId, Operation, SectorWrite, Take, Write, cut, entries, id_of, inputs, marks, note_of, notes_after, operations, same_name, steps, timed}
+use Rattle.event_callbacks.specs.declared.operations.OpId.TheVariants as id
 use Rattle.pair_protocol.specs.Waiting.{is_read, reads_in, up_to_read, waits_for}
 use Rattle.pair_protocol.proofs.Invariant.{AreNoted, IsNoted}
 use Rattle.pair_protocol.proofs.Traces.Cuts.{among-cut, cut-both}
 use Rattle.pair_protocol.proofs.Traces.Lists.{among-prefix, among-split, bool_cases, get-after, get-front, le-cases}
 use Rattle.pair_protocol.proofs.Traces.Moves.{entries-append, inputs-append, operations-append, operations-prefix, steps-append}
-use Rattle.event_callbacks.specs.declared.operations.OpId.TheVariants as id
 
 pub entries-longer : (c : ℕ) (xs ys : List Move) → IsPrefix (entries c xs) (entries c (xs ++ ys))
 entries-longer c xs ys = (entries (c + steps xs) ys, sym (entries-append c xs ys))

@@ -4,9 +4,9 @@
 use Rattle.std.proofs.Common.{◌++◌, ◌+◌, ◌<◌, ◌∙◌, ◌≡◌, ◌≤◌, ◌⊎◌, Some, ap, append-nil, arith, inl, inr, length, ltb-true, refl, subst, suc, sym, take, true, ℕ}
 use Rattle.std.specs.Prelude.{nat_le, nat_lt, slice_get}
 use Rattle.pair_protocol.proofs.Words.{Acts, Alone, Among, Copying, IsPrefix, Lawful, Machine, Node, OpId, Operation, Primary, Replaying, Role, Runs, SectorWrite, Serving, World, Write, covers, cut, entries, id_of, inputs, inputs_of, keys, keys_covered, note_of, operations, steps}
-use Rattle.pair_protocol.proofs.Invariant.{BackupHere, Inv, IsPrimary, Line, PrimaryWon, WaitsAt, settled}
 use Rattle.pair_protocol.proofs.Invariant.Acting.{Acting, ActingPrimary, BackupActs, PrimaryActs, PrimaryAtTop, PrimaryEarlier, PrimaryPlace, acting, acting_primary, acts-no_spare, line_at}
 use Rattle.pair_protocol.proofs.Invariant.Settled.{covers-below}
+use Rattle.pair_protocol.proofs.Invariant.{BackupHere, Inv, IsPrimary, Line, PrimaryWon, WaitsAt, settled}
 use Rattle.pair_protocol.proofs.Keeps.Alone.{alone}
 use Rattle.pair_protocol.proofs.Keeps.Primary.{primary-runs}
 use Rattle.pair_protocol.proofs.Traces.Cuts.{cut-more, entries-cut}

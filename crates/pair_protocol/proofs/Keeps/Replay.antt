@@ -4,8 +4,8 @@ use Rattle.std.proofs.lemmas.List.{append_cancel_left, take-append-le, take_at}
 use Rattle.std.proofs.lemmas.Option.{slice_get_within}
 use Rattle.std.specs.Prelude.{slice_get}
 use Rattle.pair_protocol.proofs.Words.{Do, Entry, Input, IsPrefix, Machine, Mark, Move, Node, Operation, Recorded, Take, Timed, count_of, cut, entries, entry_of, holds, input_of, inputs, inputs_of, passes_input, passes_mark, plainly_steps, steps}
-use Rattle.pair_protocol.proofs.Invariant.{AtPlace, HasReplayed, Line}
 use Rattle.pair_protocol.proofs.Invariant.Frames.{with_backup}
+use Rattle.pair_protocol.proofs.Invariant.{AtPlace, HasReplayed, Line}
 use Rattle.pair_protocol.proofs.Keeps.PrimaryLog.{steps-do, steps-take}
 use Rattle.pair_protocol.proofs.Traces.Cuts.{cut-ends, cut-more, cut-prefix, entries-cut}
 use Rattle.pair_protocol.proofs.Traces.Lists.{drop-at, prefix-trans, same_some, take-at}

@@ -2,8 +2,8 @@
 use Rattle.std.proofs.Common.{[], ◌++◌, ◌+◌, ◌∷◌, ◌≡◌, ◌≤◌, ◌⊎◌, Bool, List, ap, arith, cond, false, inl, inr, length, refl, subst, suc, sym, true, zero, ℕ}
 use Rattle.std.specs.Prelude.{◌==◌, slice_set}
 use Rattle.pair_protocol.proofs.Words.{Among, Arrival, Byte, Copying, IsPrefix, Machine, Node, Terminal, Timed, World, accepted_after, inputs, keys, operations, spare, terminal, terminal_in, with_host, with_terminal}
-use Rattle.pair_protocol.proofs.Invariant.{CameIn, Inv, Next}
 use Rattle.pair_protocol.proofs.Invariant.Frames.{SameNodes, line-framed, same_nodes-refl}
+use Rattle.pair_protocol.proofs.Invariant.{CameIn, Inv, Next}
 use Rattle.pair_protocol.proofs.Traces.Lists.{get-last, get-longer, prefix-refl, prefix-trans}
 
 -- A terminal changes.

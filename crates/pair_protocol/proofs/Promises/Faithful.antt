@@ -3,8 +3,8 @@ use Rattle.std.proofs.Common.{[], ◌++◌, ◌+◌, ◌∙◌, ◌∷◌, ◌�
 use Rattle.std.specs.Prelude.{slice_get}
 use Rattle.pair_protocol.proofs.Words.{After, Alone, Among, AtBoot, Copying, Do, Faithful, IsCopying, IsImage, IsOutstanding, IsPrefix, IsUnwritten, IsWritten, Lawful, Machine, MayHave, Move, Node, Reached, Runs, SectorAddress, SectorRecord, SectorWrite, Settled, Take, Timed, World, Write, address_of, image, inputs, operations, sector_record, steps}
 use Rattle.pair_protocol.specs.Grows.{AllFrom, Extends}
-use Rattle.pair_protocol.proofs.Invariant.{BackupWon, Inv, PrimaryWon}
 use Rattle.pair_protocol.proofs.Invariant.Acting.{Acting, BackupActs, BackupAtTop, BackupEarlier, PrimaryActs, PrimaryAtTop, PrimaryEarlier, acting, line_at}
+use Rattle.pair_protocol.proofs.Invariant.{BackupWon, Inv, PrimaryWon}
 use Rattle.pair_protocol.proofs.Keeps.All.{keep}
 use Rattle.pair_protocol.proofs.Keeps.Alone.{backup-alone}
 use Rattle.pair_protocol.proofs.Keeps.Boot.{at_boot}

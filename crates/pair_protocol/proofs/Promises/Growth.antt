@@ -3,16 +3,16 @@
 use Rattle.std.proofs.Common.{[], ◌++◌, ◌∙◌, ◌∷◌, ◌≡◌, ◌⊎◌, Bool, List, None, Some, ap, append-nil, append_assoc, cond, eqb-true, false, inl, inr, max, refl, subst, suc, sym, true, zero, ℕ}
 use Rattle.std.specs.Prelude.{◌==◌, slice_get, slice_set}
 use Rattle.pair_protocol.proofs.Words.{Change, Changes, Copying, IsCopying, IsPrefix, Lawful, Machine, Node, Reached, Role, Settled, Settles, Spare, Stays, Then, Timed, Winner, World, highest, list_of, winner_in, wins, with_winner, won_role}
-use Rattle.i8080_words.specs.declared.refusal.Fault.{Fault}
 use Rattle.i8080_words.specs.declared.refusal.Fault.TheVariants.{Lost}
+use Rattle.i8080_words.specs.declared.refusal.Fault.{Fault}
 use Rattle.pair_protocol.specs.Change.{Wins}
 use Rattle.pair_protocol.specs.Event.{Acknowledge, DeliverAcknowledgement, DeliverLog, Drain, Event, GetReply, PartComes, PutReply, Release, Replay, Reply, Send, SendPart, Step, Stop, Suspect, TakeKey, TellSent}
 use Rattle.pair_protocol.specs.Grows.{Grows}
 use Rattle.pair_protocol.specs.Refusals.{refusal}
 use Rattle.pair_protocol.specs.Row.{Accepts, DeviceFails, Leaves, Refuses, Row, WantsMemory}
 use Rattle.pair_protocol.specs.Rows.{Does, Suspects}
-use Rattle.pair_protocol.proofs.Invariant.{BackupWon, Inv, LineOf, PrimaryWon, Stage, Undecided, settled, winner_at}
 use Rattle.pair_protocol.proofs.Invariant.Acting.{Acting, BackupActs, BackupAtTop, BackupEarlier, PrimaryActs, PrimaryAtTop, PrimaryEarlier, acting}
+use Rattle.pair_protocol.proofs.Invariant.{BackupWon, Inv, LineOf, PrimaryWon, Stage, Undecided, settled, winner_at}
 use Rattle.pair_protocol.proofs.Keeps.All.{keep}
 use Rattle.pair_protocol.proofs.Keeps.Arbiter.{winner-longer}
 use Rattle.pair_protocol.proofs.Promises.Faithful.{extends, grows_by, reached}

@@ -3,8 +3,8 @@ use Rattle.std.proofs.Common.{[], ◌∙◌, ◌≡◌, Some, ap, inl, inr, ℕ}
 use Rattle.std.specs.Prelude.{slice_get}
 use Rattle.pair_protocol.proofs.Words.{Copying, IsCopying, Joining, Lawful, Machine, Makes, Node, Reached, World}
 use Rattle.pair_protocol.specs.Joining.{IsGiven}
-use Rattle.pair_protocol.proofs.Invariant.{AsAlone, AsBackup, AsDraining, AsJoining, BackupState, Inv, Line, LineOf}
 use Rattle.pair_protocol.proofs.Invariant.Acting.{Acting, BackupActs, PrimaryActs, acting}
+use Rattle.pair_protocol.proofs.Invariant.{AsAlone, AsBackup, AsDraining, AsJoining, BackupState, Inv, Line, LineOf}
 use Rattle.pair_protocol.proofs.Keeps.BackupChanges.{gathered_is}
 use Rattle.pair_protocol.proofs.Promises.Faithful.{reached}
 use Rattle.pair_protocol.proofs.Traces.Moves.{owns-front}

@@ -6,8 +6,8 @@ use Rattle.std.specs.Prelude.{slice_get}
 use Rattle.pair_protocol.proofs.Words.{Copying, Entry, IsCopying, IsPrefix, Lawful, Machine, Mark, Move, Node, Primary, Reached, Recorded, Replaying, Role, Runs, Serving, Spare, World, cut, entries, inputs, keys, list_of, steps}
 use Rattle.log_entry.specs.Standing.{IsOnTrace}
 use Rattle.pair_protocol.specs.NodeStands.{NodeStands}
-use Rattle.pair_protocol.proofs.Invariant.{AsAlone, AsBackup, AsDraining, AsJoining, AtPlace, BackupState, HasReplayed, Inv, IsLine, IsPrimary, Line}
 use Rattle.pair_protocol.proofs.Invariant.Acting.{Acting, BackupActs, PrimaryActs, acting, line_at}
+use Rattle.pair_protocol.proofs.Invariant.{AsAlone, AsBackup, AsDraining, AsJoining, AtPlace, BackupState, HasReplayed, Inv, IsLine, IsPrimary, Line}
 use Rattle.pair_protocol.proofs.Keeps.Primary.{primary-runs}
 use Rattle.pair_protocol.proofs.Keeps.Replay.{Ahead, ahead, lag-is, unreplayed}
 use Rattle.pair_protocol.proofs.Promises.Faithful.{reached}

@@ -3,8 +3,8 @@
 use Rattle.std.proofs.Common.{[], ◌++◌, ◌+◌, ◌∙◌, ◌∷◌, ◌≡◌, ◌⊎◌, List, None, Some, ap, append-nil, append_assoc, arith, cond, eq-eqb, eqb-true, false, inl, inr, length, length-append, refl, subst, sym, true, ℕ}
 use Rattle.std.specs.Prelude.{◌==◌, slice_get}
 use Rattle.pair_protocol.proofs.Words.{Among, Arrival, Byte, Copying, Do, IsAllBut, IsPrefix, Lawful, Machine, Move, Node, Operation, Runs, Take, World, accepted, accepted_after, cut, operations, output, terminal}
-use Rattle.pair_protocol.proofs.Invariant.{AsAlone, AsBackup, AsDraining, AsJoining, AtTop, BackupHere, BackupLeft, BackupState, BackupWon, Inv, Line, LineOf, Presence, PrimaryHere, PrimaryLeft, PrimaryWon, Stage, Undecided, Unused, settled, settled_moves}
 use Rattle.pair_protocol.proofs.Invariant.Frames.{with_own}
+use Rattle.pair_protocol.proofs.Invariant.{AsAlone, AsBackup, AsDraining, AsJoining, AtTop, BackupHere, BackupLeft, BackupState, BackupWon, Inv, Line, LineOf, Presence, PrimaryHere, PrimaryLeft, PrimaryWon, Stage, Undecided, Unused, settled, settled_moves}
 use Rattle.pair_protocol.proofs.Traces.Cuts.{cut-prefix}
 use Rattle.pair_protocol.proofs.Traces.Lists.{bool_cases, get-at, prefix-next}
 use Rattle.pair_protocol.proofs.Traces.Moves.{output-append, runs-append, runs-prefix, runs-split}

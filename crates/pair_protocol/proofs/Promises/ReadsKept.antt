@@ -6,12 +6,14 @@ use Rattle.std.proofs.lemmas.Option.{slice_get_within}
 use Rattle.std.specs.Prelude.{slice_get}
 use Rattle.pair_protocol.proofs.Words.{Among, Backup, Copying, Do, Draining, Input, IsPrefix, IsUnwritten, IsWritten, Lawful, Machine, Mark, Move, Node, Reach, Recorded, Replaying, Runs, SectorAddress, SectorRecord, SectorWrite, Take, World, Write, address_of, count_of, cut, entries, entry_of, input_of, inputs, inputs_of, operations, refusal_of, sector_record, steps, winner_in}
 use Rattle.guest_board.specs.Recorded.{Accepts}
+use Rattle.guest_board.specs.declared.input.Input.TheVariants as input
 use Rattle.guest_board.specs.declared.input.Input.TheVariants.{Sector}
+use Rattle.log_entry.specs.declared.entry.Entry.TheVariants as entry
 use Rattle.pair_protocol.specs.ReadsKept.{ReachedKeepsReads, StillReplays}
 use Rattle.pair_protocol.specs.Waiting.{is_read}
-use Rattle.pair_protocol.proofs.Invariant.{ArePut, AsAlone, AsBackup, AsDraining, AsJoining, BackupState, Inv, Line, LineOf, PrimaryWon, settled, winner_at}
 use Rattle.pair_protocol.proofs.Invariant.Acting.{Acting, BackupActs, PrimaryActs, acting}
 use Rattle.pair_protocol.proofs.Invariant.Settled.{covers-below}
+use Rattle.pair_protocol.proofs.Invariant.{ArePut, AsAlone, AsBackup, AsDraining, AsJoining, BackupState, Inv, Line, LineOf, PrimaryWon, settled, winner_at}
 use Rattle.pair_protocol.proofs.Keeps.Disk.{AsBefore, LatestIs, OfPut, latest_all, latest_is}
 use Rattle.pair_protocol.proofs.Keeps.PrimaryMoves.{sector-passed}
 use Rattle.pair_protocol.proofs.Promises.Faithful.{reached}
@@ -20,8 +22,6 @@ use Rattle.pair_protocol.proofs.Traces.Lists.{get-prefix, prefix-cons, prefix-tr
 use Rattle.pair_protocol.proofs.Traces.Moves.{inputs-append, inputs_of-entries, operations-append, owns-prefix, put-prefix, runs-append, steps-append}
 use Rattle.pair_protocol.proofs.Traces.OneTrace.{one_end, one_trace}
 use Rattle.pair_protocol.proofs.Traces.Recorded.{recorded-prefix, recorded-rest, recorded-runs}
-use Rattle.guest_board.specs.declared.input.Input.TheVariants as input
-use Rattle.log_entry.specs.declared.entry.Entry.TheVariants as entry
 
 read_is_kept : {S : Type 0} (M : Machine S) → Lawful M → (base xs : List Move) (mid s : S)
     (puts : List SectorWrite) (drive sector number : ℕ) (bytes : List ℕ) → Runs M M.boot base mid →

@@ -1,17 +1,17 @@
 -- The scripts of the small machines, event by event.
 use Rattle.std.proofs.Common.{[], ◌++◌, ◌<◌, ◌∷◌, ◌≡◌, List, None, Some, arith, false, inl, inr, refl, true, ℕ}
+use Rattle.std.specs.Prelude.{slice_get}
 use Rattle.pair_protocol.proofs.Words.{Acknowledgement, Alone, Copying, LogEntry, Machine, Mark, Node, Primary, World, Write, accepted, first_node, opening, with_host, with_node}
+use Rattle.event_callbacks.specs.declared.operations.OpId.TheVariants as id
 use Rattle.guest_board.specs.declared.running.StopReason.TheVariants as reason
 use Rattle.i8080_words.specs.declared.refusal.Fault.TheVariants.{WrongRole}
+use Rattle.pair_protocol.specs.Effects.{AtEnd, Gives, Goes, NoneLeft, OneMark, OneStep}
 use Rattle.pair_protocol.specs.Event.{Accepted, Acknowledge, Arrive, DeliverLog, Drain, Dropped, Event, MessageIs, MovedAlone, New, Ran, Refused, Release, Reply, Send, Step, Stop, Stopped, Suspect, TakeKey, TypeByte, TypedAt, Won}
 use Rattle.pair_protocol.specs.Examples.{TakesOver, WritesDisk, letter, sector_write, small, small_copying}
 use Rattle.pair_protocol.specs.Lawful.{top}
 use Rattle.pair_protocol.specs.Row.{Accepts, First, Nothing, Refuses, Run}
-use Rattle.pair_protocol.specs.Effects.{AtEnd, Gives, Goes, NoneLeft, OneMark, OneStep}
-use Rattle.pair_protocol.specs.Waiting.{is_read}
 use Rattle.pair_protocol.specs.Rows.{AtNode, OfNode}
-use Rattle.std.specs.Prelude.{slice_get}
-use Rattle.event_callbacks.specs.declared.operations.OpId.TheVariants as id
+use Rattle.pair_protocol.specs.Waiting.{is_read}
 
 -- what a row says of one node
 abbrev at_node : {w new : World ℕ} {n : ℕ} {does : Node ℕ → Node ℕ → Type 0} {x : Node ℕ} (y : Node ℕ) →

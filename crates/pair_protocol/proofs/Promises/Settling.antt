@@ -1,10 +1,10 @@
 -- The node that settles gives the list and the count of the settled trace, and there is such a node.
-use Rattle.std.proofs.Common.{[], ◌++◌, ◌∙◌, ◌∷◌, ◌≡◌, ◌≤◌, ◌⊎◌, List, None, Some, ap, append-nil, arith, inl, inr, length, refl, subst, suc, sym, true, zero, ℕ}
+use Rattle.std.proofs.Common.{Option, [], ◌++◌, ◌∙◌, ◌∷◌, ◌≡◌, ◌≤◌, ◌⊎◌, List, None, Some, ap, append-nil, arith, inl, inr, length, refl, subst, suc, sym, true, zero, ℕ}
 use Rattle.std.specs.Prelude.{slice_get}
 use Rattle.pair_protocol.proofs.Words.{Alone, Copying, Machine, Move, Node, Primary, Role, Settled, Settles, Spare, World, count_in, cut, entries, highest, inputs, inputs_of, is_backup, last_count, list_of, steps, winner_in}
-use Rattle.pair_protocol.proofs.Invariant.{AsAlone, AsBackup, AsDraining, AsJoining, BackupState, BackupWon, Inv, IsBackup, IsPrimary, Line, LineOf, PrimaryWon, Stage, Undecided, settled, settled_moves, winner_at}
 use Rattle.pair_protocol.proofs.Invariant.Acting.{Acting, BackupActs, BackupAtTop, BackupEarlier, PrimaryActs, PrimaryAtTop, PrimaryEarlier, acting}
 use Rattle.pair_protocol.proofs.Invariant.Frames.{backup-no_spare, primary-no_spare, with_own}
+use Rattle.pair_protocol.proofs.Invariant.{AsAlone, AsBackup, AsDraining, AsJoining, BackupState, BackupWon, Inv, IsBackup, IsPrimary, Line, LineOf, PrimaryWon, Stage, Undecided, settled, settled_moves, winner_at}
 use Rattle.pair_protocol.proofs.Keeps.Replay.{entries-held, held-list}
 use Rattle.pair_protocol.proofs.Promises.Outputs.{Top, top_of}
 use Rattle.pair_protocol.proofs.Traces.Cuts.{last-cut}
@@ -191,25 +191,21 @@ settles {S} M C w i = go l.stage o.tied t.backup.is_backup.state
     b : Node S
     b = t.backup.b
 
-    a_node : a.role ≡ Spare → ⊥
-    a_node = primary-no_spare M l a t.primary.is_primary
+    at : (k : ℕ) (o : Option ℕ) → k ≡ i.top → winner_in w.winners i.top ≡ o → winner_in w.winners k ≡ o
+    at k o e h = ap (winner_in w.winners) e ∙ h
 
-    b_node : b.role ≡ Spare → ⊥
-    b_node = backup-no_spare M C l b t.backup.is_backup.state
-
-    high_a : a.generation ≡ highest w.nodes
-    high_a = t.primary.generation ∙ sym high
-
-    high_b : b.generation ≡ highest w.nodes
-    high_b = t.backup.generation ∙ sym high
-
-    waits : winner_in w.winners i.top ≡ None → is_backup b.role ≡ true → Settles w l.backup b
-    waits h r = record {
-      there = t.backup.there;
-      highest_is = high_b;
-      a_node = b_node;
-      who = inr (ap (winner_in w.winners) t.backup.generation ∙ h, r);
-    }
+    by_backup : (winner_in w.winners b.generation ≡ Some l.backup)
+        ⊎ ((winner_in w.winners b.generation ≡ None) × (is_backup b.role ≡ true)) → (n : ℕ) × (x : Node S) × Settles w n x
+    by_backup who = (
+      l.backup,
+      b,
+      record {
+        there = t.backup.there;
+        highest_is = t.backup.generation ∙ sym high;
+        a_node = backup-no_spare M C l b t.backup.is_backup.state;
+        who = who;
+      },
+    )
 
     go : (stage : Stage) → winner_in w.winners i.top ≡ winner_at stage l.primary l.backup →
         BackupState M C (with_own l l.own stage) b → (n : ℕ) × (x : Node S) × Settles w n x
@@ -218,23 +214,14 @@ settles {S} M C w i = go l.stage o.tied t.backup.is_backup.state
       a,
       record {
         there = t.primary.there;
-        highest_is = high_a;
-        a_node = a_node;
-        who = inl (ap (winner_in w.winners) t.primary.generation ∙ e);
+        highest_is = t.primary.generation ∙ sym high;
+        a_node = primary-no_spare M l a t.primary.is_primary;
+        who = inl (at a.generation _ t.primary.generation e);
       },
     )
-    go BackupWon e s = (
-      l.backup,
-      b,
-      record {
-        there = t.backup.there;
-        highest_is = high_b;
-        a_node = b_node;
-        who = inl (ap (winner_in w.winners) t.backup.generation ∙ e);
-      },
-    )
-    go Undecided e (AsJoining r s f) = (l.backup, b, waits e (ap is_backup r))
-    go Undecided e (AsBackup r s f) = (l.backup, b, waits e (ap is_backup r))
+    go BackupWon e s = by_backup (inl (at b.generation _ t.backup.generation e))
+    go Undecided e (AsJoining r s f) = by_backup (inr (at b.generation _ t.backup.generation e, ap is_backup r))
+    go Undecided e (AsBackup r s f) = by_backup (inr (at b.generation _ t.backup.generation e, ap is_backup r))
     go Undecided e (AsDraining r s m f) = (cc)
     go Undecided e (AsAlone r s made) = (cc)
 

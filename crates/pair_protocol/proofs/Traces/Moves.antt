@@ -1,11 +1,11 @@
 -- Moves joined end to end: their counts, inputs, entries, operations and runs.
 use Rattle.std.proofs.Common.{[], ◌++◌, ◌+◌, ◌∙◌, ◌∷◌, ◌≡◌, ◌≤◌, List, None, Option, Some, ap, append-nil, append_assoc, arith, map, refl, subst, suc, sym, ℕ}
 use Rattle.pair_protocol.proofs.Words.{Do, Entry, Input, IsPrefix, Lawful, Machine, Mark, Move, Operation, Owns, Runs, SectorWrite, Take, Timed, acceptances, accepted_at, bare, byte_to, count_of, entries, entry_of, input_of, inputs, inputs_of, key_at, keys, operations, output, steps, timed, timed_in, timed_of}
+use Rattle.guest_board.specs.declared.input.Input.TheVariants as input
 use Rattle.guest_trace.specs.declared.timed.Bare.TheVariants.{Written}
+use Rattle.log_entry.specs.declared.entry.Entry.TheVariants as entry
 use Rattle.pair_protocol.proofs.Invariant.{ArePut}
 use Rattle.pair_protocol.proofs.Traces.Lists.{among-prefix, map-append, same_some}
-use Rattle.guest_board.specs.declared.input.Input.TheVariants as input
-use Rattle.log_entry.specs.declared.entry.Entry.TheVariants as entry
 
 pub steps-append : (xs ys : List Move) → steps (xs ++ ys) ≡ steps xs + steps ys
 steps-append [] ys = omega arith

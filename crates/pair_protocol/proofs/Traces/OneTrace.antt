@@ -2,10 +2,10 @@
 -- a sector are those of the machine's own disk. And what the first entries of a trace give.
 use Rattle.std.proofs.Common.{[], ◌++◌, ◌∙◌, ◌∷◌, ◌≡◌, ◌≤◌, List, None, Option, Some, ap, append-nil, arith, length, refl, subst, suc, sym, take, zero, ℕ}
 use Rattle.pair_protocol.proofs.Words.{Do, Input, Machine, Move, Operation, Own, Owns, Reach, Runs, Take, Timed, bare, cut, entries, image, inputs, inputs_of, last_count, quiet, steps, timed}
+use Rattle.guest_board.specs.declared.input.Input.TheVariants as input
 use Rattle.pair_protocol.proofs.Traces.Cuts.{cut-prefix, entries-cut, last-cut}
 use Rattle.pair_protocol.proofs.Traces.Lists.{same_some}
 use Rattle.pair_protocol.proofs.Traces.Moves.{inputs_of-entries, owns-prefix, runs-prefix, runs-rest}
-use Rattle.guest_board.specs.declared.input.Input.TheVariants as input
 
 pub one_end : {S : Type 0} (M : Machine S) (s t u : S) (xs : List Move) → Runs M s xs t → Runs M s xs u → t ≡ u
 one_end M s t u xs h k = runs-rest M s t u xs [] h (subst (λ zs. Runs M s zs u) (sym (append-nil xs)) k)
