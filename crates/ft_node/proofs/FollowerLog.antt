@@ -46,7 +46,7 @@ some_left x s r f some = elim (leb_tells (length x.held) x.replayed) [
 
 pub delivers : {S : Type 0} (x : Node S) (s : S) (r new : Receiving) (p : Option Packet) (result : Result Bool Fault)
     → IsFollower Backup s r x → channel.Answers (channel.heard r p) r result new
-    → calls.DeliversLog calls.WantsRoom p x result (IsFollower Backup s new)
+    → calls.DeliversLog calls.NeedsRoom p x result (IsFollower Backup s new)
 delivers {S} x s r new p result f a = go p a
   where
     still : new ≡ r → IsFollower Backup s new x
@@ -61,19 +61,19 @@ delivers {S} x s r new p result f a = go p a
 
     by : (index : ℕ) (e : Entry) (result : Result Bool Fault) (wrong other : Bool) → not (index == r.held) ≡ other
         → channel.Answers (if wrong then channel.Refused WrongGeneration else if other then channel.OutOfTurn else channel.Next e) r result new
-        → calls.Call (first_of (None ∷ fault_if wrong WrongGeneration ∷ [])) (calls.WantsRoom index) (Held index e) x
+        → calls.Call (first_of (None ∷ fault_if wrong WrongGeneration ∷ [])) (calls.NeedsRoom index) (Held index e) x
         result (IsFollower Backup s new)
     by index e result true other is a = (a.0, still a.1)
     by index e result false true is a =
         subst
-        (λ q. calls.Call None (calls.WantsRoom index) (Held index e) x q (IsFollower Backup s new)) (sym a.0) (record {
+        (λ q. calls.Call None (calls.NeedsRoom index) (Held index e) x q (IsFollower Backup s new)) (sym a.0) (record {
           y = x;
           done = ((λ k. let all = eq-eqb index r.held (k ∙ f.held) in (cc)), refl);
           after = still a.1;
         })
     by index e (Ok v) false false is a =
         subst
-        (λ q. calls.Call None (calls.WantsRoom index) (Held index e) x (Ok q) (IsFollower Backup s new)) (sym a.0)
+        (λ q. calls.Call None (calls.NeedsRoom index) (Held index e) x (Ok q) (IsFollower Backup s new)) (sym a.0)
         (record {
           y = holds x e;
           done = (eqb-true index r.held (not-false (index == r.held) is) ∙ sym f.held, refl);
@@ -88,14 +88,14 @@ delivers {S} x s r new p result f a = go p a
     )
 
     go : (p : Option Packet) → channel.Answers (channel.heard r p) r result new
-        → calls.DeliversLog calls.WantsRoom p x result (IsFollower Backup s new)
+        → calls.DeliversLog calls.NeedsRoom p x result (IsFollower Backup s new)
     go None a = malformed a
     go (Some (Ack generation held)) a = malformed a
     go (Some (Log generation index e)) a =
         subst
         (λ k. calls.Call (first_of (k ∷ fault_if (not (generation == x.generation)) WrongGeneration ∷ []))
-        (calls.WantsRoom index) (Held index e) x result (IsFollower Backup s new)) (sym (in_role Backup x s r f refl))
+        (calls.NeedsRoom index) (Held index e) x result (IsFollower Backup s new)) (sym (in_role Backup x s r f refl))
         (subst
         (λ g. calls.Call (first_of (None ∷ fault_if (not (generation == g)) WrongGeneration ∷ []))
-        (calls.WantsRoom index) (Held index e) x result (IsFollower Backup s new)) (sym f.generation)
+        (calls.NeedsRoom index) (Held index e) x result (IsFollower Backup s new)) (sym f.generation)
         (by index e result (not (generation == r.generation)) (not (index == r.held)) refl a))

@@ -11,7 +11,7 @@ use Rattle.log_channel.specs.Channel.{Receiving}
 use Rattle.log_entry.specs.declared.entry.Entry.{Entry}
 use Rattle.pair_protocol.specs.Node.{Node, Role, Backup, is_role}
 use Rattle.pair_protocol.specs.Refusals as refusals
-use Rattle.pair_protocol.specs.Effects.{WantsMoves, IsBehind, Replays, NoTurns, AtEnd, NoMemory, OneStep, OneMark, OneInput, MovesSome}
+use Rattle.pair_protocol.specs.Effects.{NeedsMoves, IsBehind, Replays, NoTurns, AtEnd, NoMemory, OneStep, OneMark, OneInput, MovesSome}
 use Rattle.replayer.specs.Replaying as replaying
 use Rattle.replayer.specs.declared.replayer.Replayed.{Replayed}
 use Rattle.ft_node.specs.Calls as calls
@@ -114,7 +114,7 @@ ended : {S : Type 0} (M : Machine S) (x : Node S) (t : S) (turns n now : ℕ) (l
 ended M x t turns n now left e within replaying.AllTurns = (0, omega arith, NoTurns)
 ended M x t turns n now left e within (replaying.AtEnd lt) =
     (suc (turns - suc n), omega arith, AtEnd (nothing_left x.held now within e))
-ended M x t turns n now left e within (replaying.WantsMemory some lt late) =
+ended M x t turns n now left e within (replaying.NeedsMemory some lt late) =
     (suc (turns - suc n), omega arith, NoMemory (behind M (at x t now) t left refl e late))
 
 none_made : {S : Type 0} (M : Machine S) (s : S) (held : List Entry) (n : ℕ) (t : S) (left : List Entry) → n ≡ 0
@@ -125,7 +125,7 @@ none_made M s held n t left e (replaying.Then before one) = absurd (omega arith)
 moves_some : {S : Type 0} (M : Machine S) (x : Node S) (t : S) (turns n : ℕ) (left : List Entry)
     → x.replayed ≤ length x.held → (n ≡ 0 → left ≡ drop x.replayed x.held) → replaying.Ends M turns n t left
     → MovesSome x turns n
-moves_some M x t turns n left within same (replaying.WantsMemory some lt behind) = inl some
+moves_some M x t turns n left within same (replaying.NeedsMemory some lt behind) = inl some
 moves_some M x t zero n left within same replaying.AllTurns = inr (inl refl)
 moves_some M x t (suc turns) n left within same replaying.AllTurns = inl (omega arith)
 moves_some M x t turns zero left within same (replaying.AtEnd lt) =
@@ -175,7 +175,7 @@ still role x s t r new f held same_state same_left = record {
 pub repeats : {S : Type 0} (M : Machine S) (role : Role) (x : Node S) (s t : S) (r new : Receiving) (turns : ℕ)
     (result : Result Replayed Fault) → IsFollower role s r x → new ≡ record r { entries = new.entries }
     → replaying.Answers M s r.entries turns result t new.entries
-    → calls.Gives result (WantsMoves M turns x × IsFollower role t new x)
+    → calls.Gives result (NeedsMoves M turns x × IsFollower role t new x)
     (λ q. calls.Makes x (calls.ReplayedBy M turns q) (IsFollower role t new))
 repeats M role x s t r new turns (Err fault) f held a =
     (a.0, ((a.1, behind M x s r.entries f.machine (sym f.left) a.2), still role x s t r new f held a.3 a.4))
@@ -209,6 +209,6 @@ pub backup_replays : {S : Type 0} (M : Machine S) (x : Node S) (s t : S) (r new 
     → calls.Replays M turns x result (IsFollower Backup t new)
 backup_replays M x s t r new turns result f held a =
     subst (λ refusal. calls.Unless {A = Replayed} refusal result (IsFollower Backup t new x)
-    (calls.Gives result (WantsMoves M turns x × IsFollower Backup t new x)
+    (calls.Gives result (NeedsMoves M turns x × IsFollower Backup t new x)
     (λ q. calls.Makes x (calls.ReplayedBy M turns q) (IsFollower Backup t new))))
     (sym (in_role Backup x s r f refl)) (repeats M Backup x s t r new turns result f held a)

@@ -5,7 +5,7 @@ use Rattle.guest_board.specs.Machine.{Machine}
 use Rattle.i8080_words.specs.declared.refusal.Fault.{Fault}
 use Rattle.log_channel.specs.Channel.{Receiving}
 use Rattle.pair_protocol.specs.Node.{Node, Draining, goes_live}
-use Rattle.pair_protocol.specs.Effects.{WantsMoves, after_drain, at_end}
+use Rattle.pair_protocol.specs.Effects.{NeedsMoves, after_drain, at_end}
 use Rattle.replayer.specs.Replaying as replaying
 use Rattle.replayer.specs.declared.replayer.Replayed.{Replayed}
 use Rattle.ft_node.specs.Calls as calls
@@ -31,7 +31,7 @@ pub not_drained : {S : Type 0} (M : Machine S) (x : Node S) (s t : S) (r new : R
 not_drained M x s t r new turns fault f held answers =
     subst
     (λ refusal. calls.Unless {A = Drained} refusal (Err fault) (IsFollower Draining t new x)
-    (calls.Gives (Err fault) (WantsMoves M turns x × IsFollower Draining t new x)
+    (calls.Gives (Err fault) (NeedsMoves M turns x × IsFollower Draining t new x)
     (λ d. calls.Makes x (calls.DrainedBy M turns d) (IsFollower Draining t new))))
     (sym (in_role Draining x s r f refl)) (repeats M Draining x s t r new turns (Err fault) f held answers)
 

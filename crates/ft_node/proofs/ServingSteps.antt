@@ -49,10 +49,9 @@ module _ {S : Type 0} (M : Machine S) (Is : S → Node S → Type 0) (After : St
     (at : (s : S) (x : Node S) → Is s x → x.machine ≡ s)
     (quiet : (s t : S) (x : Node S) → Is s x → M.step s ≡ Some (t, None) → Is t (stepped M x x.role t None))
     (gives : (s t : S) (x : Node S) (o : Operation) → Is s x → M.step s ≡ Some (t, Some o)
-      → After (reason.Operation (id_of o)) t (stepped M x x.role t (Some o)))
+    → After (reason.Operation (id_of o)) t (stepped M x x.role t (Some o)))
     (turned : (s : S) (x : Node S) → Is s x → After reason.Turns s x)
     (refused : (s : S) (x : Node S) (fault : Fault) → Is s x → After (reason.Refused fault) s x) where
-
   record RunsQuietly (t : S) (x : Node S) (n : ℕ) : Type 0 where
     pub y : Node S
     pub is : Is t y

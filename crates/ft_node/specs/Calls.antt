@@ -16,7 +16,7 @@ use Rattle.log_channel.specs.declared.packet.Packet.TheVariants.{Log, Ack}
 use Rattle.arbiter_core.specs.Winners.{winner_of, after_asking}
 use Rattle.arbiter_core.specs.declared.arbiter.Asking.{Asking}
 use Rattle.arbiter_core.specs.declared.arbiter.Won.{Won}
-use Rattle.pair_protocol.specs.Effects.{Stepped, Took, Held, Heard, Replayed, Drained, Halted, HasEntry, HasOutstanding, HasCovered, IsUnder, WantsMoves, WantsEntry}
+use Rattle.pair_protocol.specs.Effects.{Stepped, Took, Held, Heard, Replayed, Drained, Halted, HasEntry, HasOutstanding, HasCovered, IsUnder, NeedsMoves, NeedsEntry}
 use Rattle.pair_protocol.specs.Node.{Node, Role, Primary, Backup, halts, wins}
 use Rattle.pair_protocol.specs.Refusals as refusals
 use Rattle.ft_node.specs.declared.ran.Ran.{Ran}
@@ -30,8 +30,8 @@ Unless None result stays does = does
 
 -- what a call gives if there is memory; if not, it is out of memory, and this holds
 abbrev pub Gives : {A : Type 0} → Result A Fault → Type 0 → (A → Type 0) → Type 0
-Gives (Ok value) wants does = does value
-Gives (Err fault) wants does = (fault ≡ OutOfMemory) × wants
+Gives (Ok value) needs does = does value
+Gives (Err fault) needs does = (fault ≡ OutOfMemory) × needs
 
 -- a node becomes another one
 pub record Makes {S : Type 0} (x : Node S) (does : Node S → Node S → Type 0) (Is : Node S → Type 0) : Type 0 where
@@ -43,13 +43,13 @@ pub record Makes {S : Type 0} (x : Node S) (does : Node S → Node S → Type 0)
 -- value, and the node becomes another one
 abbrev pub Call : {A S : Type 0} → Option Fault → (Node S → Type 0) → (A → Node S → Node S → Type 0) → Node S
     → Result A Fault → (Node S → Type 0) → Type 0
-Call refusal wants does x result Is =
-    Unless refusal result (Is x) (Gives result (wants x × Is x) (λ value. Makes x (does value) Is))
+Call refusal needs does x result Is =
+    Unless refusal result (Is x) (Gives result (needs x × Is x) (λ value. Makes x (does value) Is))
 
 -- a call that only asks: it is refused, or is out of memory at a node of which this holds, or gives a value
 abbrev pub Ask : {A S : Type 0} → Option Fault → (Node S → Type 0) → (A → Node S → Type 0) → Node S → Result A Fault
     → Type 0
-Ask refusal wants says x result = Unless refusal result (Unit {0}) (Gives result (wants x) (λ value. says value x))
+Ask refusal needs says x result = Unless refusal result (Unit {0}) (Gives result (needs x) (λ value. says value x))
 
 -- no node at which a call is out of memory, and any node
 abbrev pub Never : {S : Type 0} → Node S → Type 0
@@ -103,14 +103,14 @@ Sends index x result =
 -- a packet of the log arrives; it is out of memory only if this holds of the index and the node
 abbrev pub DeliversLog : {S : Type 0} → (ℕ → Node S → Type 0) → Option Packet → Node S → Result Bool Fault
     → (Node S → Type 0) → Type 0
-DeliversLog wants (Some (Log generation index e)) x result Is =
-    Call (refusals.deliver_log_refusal generation x) (wants index) (Held index e) x result Is
-DeliversLog wants _ x result Is =
+DeliversLog needs (Some (Log generation index e)) x result Is =
+    Call (refusals.deliver_log_refusal generation x) (needs index) (Held index e) x result Is
+DeliversLog needs _ x result Is =
     Unless (refusals.first_of (refusals.role_refusal (Backup ∷ []) x ∷ Some Malformed ∷ [])) result (Is x) ⊥
 
 -- the next entry may need memory if another is held and not replayed
-abbrev pub WantsRoom : {S : Type 0} → ℕ → Node S → Type 0
-WantsRoom index x = WantsEntry index x × (x.replayed < length x.held)
+abbrev pub NeedsRoom : {S : Type 0} → ℕ → Node S → Type 0
+NeedsRoom index x = NeedsEntry index x × (x.replayed < length x.held)
 
 -- the entry of a packet that would be held
 abbrev pub Expects : {S : Type 0} → Option Packet → Node S → Result (Option Entry) Fault → Type 0
@@ -138,14 +138,14 @@ ReplayedBy M turns r x y = Replayed M turns r.moves r.at_end x y
 
 abbrev pub Replays : {S : Type 0} → Machine S → ℕ → Node S → Result replayer.Replayed Fault → (Node S → Type 0)
     → Type 0
-Replays M turns x result Is = Call (refusals.replay_refusal x) (WantsMoves M turns) (ReplayedBy M turns) x result Is
+Replays M turns x result Is = Call (refusals.replay_refusal x) (NeedsMoves M turns) (ReplayedBy M turns) x result Is
 
 -- moves of a draining node; with nothing left to replay it is alone
 abbrev pub DrainedBy : {S : Type 0} → Machine S → ℕ → ran.Drained → Node S → Node S → Type 0
 DrainedBy M turns d x y = Drained M turns d.moves d.alone x y
 
 abbrev pub Drains : {S : Type 0} → Machine S → ℕ → Node S → Result ran.Drained Fault → (Node S → Type 0) → Type 0
-Drains M turns x result Is = Call (refusals.drain_refusal x) (WantsMoves M turns) (DrainedBy M turns) x result Is
+Drains M turns x result Is = Call (refusals.drain_refusal x) (NeedsMoves M turns) (DrainedBy M turns) x result Is
 
 -- an outstanding operation is released
 abbrev pub Releases : {S : Type 0} → Machine S → OpId → Node S → Result Operation Fault → Type 0

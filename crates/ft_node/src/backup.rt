@@ -25,7 +25,7 @@ impl<B: Lockstep> Backup<B> {
     pub(crate) fn on_log(&mut self, bytes: &[u8]) -> R<bool>
         ensures answer { (x : protocol.Node B.State)
             → IsFollower protocol.Backup (B.state self.old.replayer.board) self.old.receiver x
-            → calls.DeliversLog calls.WantsRoom (packet_at bytes.now) x result
+            → calls.DeliversLog calls.NeedsRoom (packet_at bytes.now) x result
             (IsFollower protocol.Backup (B.state self.new.replayer.board) self.new.receiver) }
         ensures unchanged { OnErr result (self.new ≡ self.old) }
     {

@@ -251,7 +251,7 @@ impl<B: Lockstep + Drop> Node<B> {
     /// false and changes nothing. `Malformed` and `WrongGeneration` as the packet is.
     pub fn on_log(&mut self, bytes: &[u8]) -> R<bool>
         ensures answer { (x : protocol.Node B.State) → IsNode B.state B.machine self.old x
-            → calls.DeliversLog calls.WantsRoom (packet_at bytes.now) x result (IsNode B.state B.machine self.new) }
+            → calls.DeliversLog calls.NeedsRoom (packet_at bytes.now) x result (IsNode B.state B.machine self.new) }
         ensures unchanged { OnErr result (self.new ≡ self.old) }
     {
         match self {

@@ -10,42 +10,42 @@ use Rattle.pair_protocol.specs.Node.{Node, halts, wins}
 use Rattle.ft_node.specs.Calls.{SuspectsOf, Call, Unless}
 
 -- the other words for a call
-pub record Retells {A S : Type 0} (o : Option Fault) (wants also : Node S → Type 0) (does : A → Node S → Node S → Type 0)
+pub record Retells {A S : Type 0} (o : Option Fault) (needs also : Node S → Type 0) (does : A → Node S → Node S → Type 0)
     (x : Node S) (P Q : Node S → Type 0) : Type 0 where
   pub stays : P x → Q x
-  pub wanting : wants x → also x
+  pub needing : needs x → also x
   pub becomes : (v : A) (y : Node S) → o ≡ None → does v x y → P y → Q y
 
-pub retold : {A S : Type 0} {o : Option Fault} {wants also : Node S → Type 0} {does : A → Node S → Node S → Type 0}
-    {x : Node S} {P Q : Node S → Type 0} (r : Result A Fault) → Retells o wants also does x P Q
-    → Call o wants does x r P → Call o also does x r Q
-retold {A} {S} {o} {wants} {also} {does} {x} {P} {Q} r t d = go o r refl d
+pub retold : {A S : Type 0} {o : Option Fault} {needs also : Node S → Type 0} {does : A → Node S → Node S → Type 0}
+    {x : Node S} {P Q : Node S → Type 0} (r : Result A Fault) → Retells o needs also does x P Q
+    → Call o needs does x r P → Call o also does x r Q
+retold {A} {S} {o} {needs} {also} {does} {x} {P} {Q} r t d = go o r refl d
   where
-    go : (k : Option Fault) (r : Result A Fault) → o ≡ k → Call k wants does x r P → Call k also does x r Q
+    go : (k : Option Fault) (r : Result A Fault) → o ≡ k → Call k needs does x r P → Call k also does x r Q
     go None (Ok v) e m = record { y = m.y; done = m.done; after = t.becomes v m.y e m.done m.after }
-    go None (Err fault) e d = (d.0, (t.wanting d.1.0, t.stays d.1.1))
+    go None (Err fault) e d = (d.0, (t.needing d.1.0, t.stays d.1.1))
     go (Some fault) r e d = (d.0, t.stays d.1)
 
-module _ {A S : Type 0} (o : Option Fault) (wants also : Node S → Type 0) (does : A → Node S → Node S → Type 0)
+module _ {A S : Type 0} (o : Option Fault) (needs also : Node S → Type 0) (does : A → Node S → Node S → Type 0)
     (x : Node S) (P Q : Node S → Type 0) where
   -- a value is given
-  pub given : (v : A) → ((y : Node S) → o ≡ None → does v x y → P y → Q y) → Call o wants does x (Ok v) P
+  pub given : (v : A) → ((y : Node S) → o ≡ None → does v x y → P y → Q y) → Call o needs does x (Ok v) P
       → Call o also does x (Ok v) Q
   given v becomes d = go o refl d
     where
-      go : (k : Option Fault) → o ≡ k → Call k wants does x (Ok v) P → Call k also does x (Ok v) Q
+      go : (k : Option Fault) → o ≡ k → Call k needs does x (Ok v) P → Call k also does x (Ok v) Q
       go None e m = record { y = m.y; done = m.done; after = becomes m.y e m.done m.after }
       go (Some fault) e d = let no = d.0 in (cc)
 
   -- it is refused or out of memory, and that is handed on
   pub handed_on : (r : Result A Fault) (fault : Fault) → IsErrAnd r (λ k. k ≡ fault) → (P x → Q x)
-      → (wants x → also x) → Call o wants does x (Err fault) P → Call o also does x r Q
-  handed_on r fault is stays wanting d = go o r is d
+      → (needs x → also x) → Call o needs does x (Err fault) P → Call o also does x r Q
+  handed_on r fault is stays needing d = go o r is d
     where
-      go : (k : Option Fault) (r : Result A Fault) → IsErrAnd r (λ k. k ≡ fault) → Call k wants does x (Err fault) P
+      go : (k : Option Fault) (r : Result A Fault) → IsErrAnd r (λ k. k ≡ fault) → Call k needs does x (Err fault) P
           → Call k also does x r Q
       go k (Ok v) is d = absurd is
-      go None (Err k) is d = (is ∙ d.0, (wanting d.1.0, stays d.1.1))
+      go None (Err k) is d = (is ∙ d.0, (needing d.1.0, stays d.1.1))
       go (Some m) (Err k) is d = (ap Err is ∙ d.0, stays d.1)
 
 -- a refusal that was looked for and found

@@ -11,7 +11,7 @@ use Rattle.pair_protocol.specs.Change.{Reached}
 use Rattle.pair_protocol.specs.Copying.{IsCopying, no_copies}
 use Rattle.pair_protocol.specs.Event.{Refused, is_disk}
 use Rattle.pair_protocol.specs.Refusals.{fault_if, refusal}
-use Rattle.pair_protocol.specs.Row.{DeviceFails, Leaves, MayWantMemory, Refuses, Row, WantsMemory}
+use Rattle.pair_protocol.specs.Row.{DeviceFails, Leaves, MayNeedMemory, Refuses, Row, NeedsMemory}
 use Rattle.pair_protocol.specs.World.{World}
 use Rattle.pair_protocol.proofs.Promises.Growth.{row_grows}
 use Rattle.pair_protocol.proofs.RowActions.{row_changes}
@@ -78,13 +78,13 @@ pub refuses : {B H D S : Type 0} (state : B → S) (M : Machine S) (records : D 
 refuses state M records old new c e fault h same because leaves =
     same_world state M records old new c e fault h same (Refuses because leaves)
 
-pub wants_memory : {B H D S : Type 0} (state : B → S) (M : Machine S) (records : D → List Record)
+pub needs_memory : {B H D S : Type 0} (state : B → S) (M : Machine S) (records : D → List Record)
     (old new : Running B H D) (c : Course S) (e : Event) (fault : Fault) → Shows state M records old c → new ≡ old →
     refusal (machine_of M c) no_copies c.world (event_of e) ≡ None →
-    MayWantMemory (machine_of M c) c.world (event_of e) → fault ≡ OutOfMemory → Applies state M records c e (Err fault) new
-wants_memory state M records old new c e fault h same free takes wants =
-    subst (λ f. Applies state M records c e (Err f) new) (sym wants)
-    (same_world state M records old new c e OutOfMemory h same (WantsMemory free takes))
+    MayNeedMemory (machine_of M c) c.world (event_of e) → fault ≡ OutOfMemory → Applies state M records c e (Err fault) new
+needs_memory state M records old new c e fault h same free takes needs =
+    subst (λ f. Applies state M records c e (Err f) new) (sym needs)
+    (same_world state M records old new c e OutOfMemory h same (NeedsMemory free takes))
 
 pub device_fails : {B H D S : Type 0} (state : B → S) (M : Machine S) (records : D → List Record)
     (old new : Running B H D) (c : Course S) (e : Event) (fault : Fault) → Shows state M records old c → new ≡ old →

@@ -17,7 +17,7 @@ use Rattle.shared_disk.proofs.RecordsBySector.{is_other, is_same, record_at-with
 use Rattle.pair_protocol.specs.Copying.{no_copies}
 use Rattle.pair_protocol.specs.Event as protocol
 use Rattle.pair_protocol.specs.Refusals.{write_refusal}
-use Rattle.pair_protocol.specs.Row.{Accepts, DeviceFails, Row, WantsMemory}
+use Rattle.pair_protocol.specs.Row.{Accepts, DeviceFails, Row, NeedsMemory}
 use Rattle.pair_protocol.specs.World as world
 use Rattle.pair_protocol.specs.World.{SectorRecord, sector_record, with_put}
 use Rattle.pair_protocol.proofs.Traces.Lists.{same_some}
@@ -200,7 +200,7 @@ puts_applies state M records old c m write (Err fault) ms disk brings h (why, sa
     let free : write_refusal (slice_get c.world.messages m) ≡ None = ap write_refusal there in
     let refused = λ (f : Fault). Row N no_copies c.world (protocol.Put m) (protocol.Refused f) c.world in
     let row : refused fault = elim why [
-      | inl is ↦ subst refused (sym is) (WantsMemory free tt)
+      | inl is ↦ subst refused (sym is) (NeedsMemory free tt)
       | inr is ↦ subst refused (sym (not_put (records old.disk) (address_of write) met.0 fault met.1 is))
           (DeviceFails free refl)
     ] in

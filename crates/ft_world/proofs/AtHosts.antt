@@ -37,19 +37,19 @@ pub record Becomes {B H S : Type 0} (state : B → S) (M : Machine S) (nodes : L
 
 -- a call of the node of a number: what it returns, and what the hosts are then
 pub record AtHost {A B H S : Type 0} (state : B → S) (M : Machine S) (w : World S) (n : ℕ)
-    (part : Node S → Option Fault) (wants : Node S → Type 0) (does : A → Node S → Node S → Type 0)
+    (part : Node S → Option Fault) (needs : Node S → Type 0) (does : A → Node S → Node S → Type 0)
     (result : Result A Fault) (new : List (Host B H)) : Type 0 where
   pub answer :
       Unless (at_node (slice_get w.nodes n) part) result (AreHosts state M new w.nodes)
-      (Gives result (OfNode w n wants × AreHosts state M new w.nodes)
+      (Gives result (OfNode w n needs × AreHosts state M new w.nodes)
       (λ value. Becomes state M w.nodes n new (does value)))
 
 -- a node is asked, and stays as it is
-pub record AsksNode {A S : Type 0} (w : World S) (n : ℕ) (part : Node S → Option Fault) (wants : Node S → Type 0)
+pub record AsksNode {A S : Type 0} (w : World S) (n : ℕ) (part : Node S → Option Fault) (needs : Node S → Type 0)
     (says : A → Node S → Type 0) (result : Result A Fault) : Type 0 where
   pub answer :
       Unless (at_node (slice_get w.nodes n) part) result (Unit {0})
-      (Gives result (OfNode w n wants) (λ value. OfNode w n (says value)))
+      (Gives result (OfNode w n needs) (λ value. OfNode w n (says value)))
 
 -- the refusal of the node's part, or what asking the arbiter does there
 pub record Asked {B H S : Type 0} (state : B → S) (M : Machine S) (nodes : List (Node S)) (n : ℕ) (old : List Asking)
@@ -142,15 +142,15 @@ module _ {B H D S : Type 0} {state : B → S} {M : Machine S} {records : D → L
     {c : Course S} (h : Shows state M records old c) where
   module _ {n : ℕ} {here s : Station B} {new : List (Host B H)} (at : slice_get old.hosts n ≡ Some (host.Node here))
       (w : WithStation old.hosts n s new) where
-    pub at_host : {A : Type 0} {part : Node S → Option Fault} {wants : Node S → Type 0}
+    pub at_host : {A : Type 0} {part : Node S → Option Fault} {needs : Node S → Type 0}
         {does : A → Node S → Node S → Type 0} {result : Result A Fault}
-        → ((x : Node S) → IsStation state M here x → Call (part x) wants does x result (IsStation state M s))
-        → AtHost state M c.world n part wants does result new
-    at_host {A} {part} {wants} {does} {result} says = record {
+        → ((x : Node S) → IsStation state M here x → Call (part x) needs does x result (IsStation state M s))
+        → AtHost state M c.world n part needs does result new
+    at_host {A} {part} {needs} {does} {result} says = record {
       answer =
           at_station state M old.hosts c.world.nodes n h.parts.hosts here part result
           (AreHosts state M new c.world.nodes)
-          (Gives result (OfNode c.world n wants × AreHosts state M new c.world.nodes)
+          (Gives result (OfNode c.world n needs × AreHosts state M new c.world.nodes)
           (λ v. Becomes state M c.world.nodes n new (does v))) at
           (λ x there is. unless (part x) result (IsStation state M s x) (AreHosts state M new c.world.nodes) _ _
           (stay x there) (gives x there result) (says x is));
@@ -161,8 +161,8 @@ module _ {B H D S : Type 0} {state : B → S} {M : Machine S} {records : D → L
         stay x there = stayed state M old.hosts c.world.nodes n h.parts.hosts here s new at w x there
 
         gives : (x : Node S) → slice_get c.world.nodes n ≡ Some x → (r : Result A Fault)
-            → Gives r (wants x × IsStation state M s x) (λ v. Makes x (does v) (IsStation state M s))
-            → Gives r (OfNode c.world n wants × AreHosts state M new c.world.nodes)
+            → Gives r (needs x × IsStation state M s x) (λ v. Makes x (does v) (IsStation state M s))
+            → Gives r (OfNode c.world n needs × AreHosts state M new c.world.nodes)
             (λ v. Becomes state M c.world.nodes n new (does v))
         gives x there (Ok v) m = record {
           x = x;
@@ -200,21 +200,21 @@ module _ {B H D S : Type 0} {state : B → S} {M : Machine S} {records : D → L
         (says x is))
 
   -- a node is asked
-  pub asks_node : {A : Type 0} {n : ℕ} {here : Station B} {part : Node S → Option Fault} {wants : Node S → Type 0}
+  pub asks_node : {A : Type 0} {n : ℕ} {here : Station B} {part : Node S → Option Fault} {needs : Node S → Type 0}
       {says : A → Node S → Type 0} {result : Result A Fault} → slice_get old.hosts n ≡ Some (host.Node here)
-      → ((x : Node S) → IsNode state M here.node x → Ask (part x) wants says x result)
-      → AsksNode c.world n part wants says result
-  asks_node {A} {n} {here} {part} {wants} {says} {result} at answers = record {
+      → ((x : Node S) → IsNode state M here.node x → Ask (part x) needs says x result)
+      → AsksNode c.world n part needs says result
+  asks_node {A} {n} {here} {part} {needs} {says} {result} at answers = record {
     answer =
         at_station state M old.hosts c.world.nodes n h.parts.hosts here part result (Unit {0})
-        (Gives result (OfNode c.world n wants) (λ v. OfNode c.world n (says v))) at
+        (Gives result (OfNode c.world n needs) (λ v. OfNode c.world n (says v))) at
         (λ x there is. unless (part x) result (Unit {0}) (Unit {0}) _ _ (λ p. p) (gives x there result)
         (answers x is.node));
   }
     where
       gives : (x : Node S) → slice_get c.world.nodes n ≡ Some x → (r : Result A Fault)
-          → Gives r (wants x) (λ v. says v x)
-          → Gives r (OfNode c.world n wants) (λ v. OfNode c.world n (says v))
+          → Gives r (needs x) (λ v. says v x)
+          → Gives r (OfNode c.world n needs) (λ v. OfNode c.world n (says v))
       gives x there (Ok v) s = record { x = x; there = there; said = s }
       gives x there (Err fault) d = (d.0, record { x = x; there = there; said = d.1 })
 
@@ -228,13 +228,13 @@ module _ {B H D S : Type 0} {state : B → S} {M : Machine S} {records : D → L
   pub same_hosts : (hosts : List (Host B H)) → hosts ≡ old.hosts → AreHosts state M hosts c.world.nodes
   same_hosts hosts same = subst (λ hs. AreHosts state M hs c.world.nodes) (sym same) h.parts.hosts
 
-  pub no_call : {A : Type 0} {n : ℕ} {part : Node S → Option Fault} {wants : Node S → Type 0}
+  pub no_call : {A : Type 0} {n : ℕ} {part : Node S → Option Fault} {needs : Node S → Type 0}
       {does : A → Node S → Node S → Type 0} {fault : Fault} {hosts : List (Host B H)} → fault ≡ Unknown
-      → HasNoNode old.hosts n → hosts ≡ old.hosts → AtHost state M c.world n part wants does (Err fault) hosts
+      → HasNoNode old.hosts n → hosts ≡ old.hosts → AtHost state M c.world n part needs does (Err fault) hosts
   no_call {A} {n} {part} unknown none same =
       record { answer = no_host A n part _ _ unknown none (same_hosts _ same) }
 
-  pub asks_nobody : {A : Type 0} {n : ℕ} {part : Node S → Option Fault} {wants : Node S → Type 0}
+  pub asks_nobody : {A : Type 0} {n : ℕ} {part : Node S → Option Fault} {needs : Node S → Type 0}
       {says : A → Node S → Type 0} {fault : Fault} → fault ≡ Unknown → HasNoNode old.hosts n
-      → AsksNode c.world n part wants says (Err fault)
+      → AsksNode c.world n part needs says (Err fault)
   asks_nobody {A} {n} {part} unknown none = record { answer = no_host A n part _ _ unknown none tt }

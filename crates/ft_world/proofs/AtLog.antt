@@ -11,7 +11,7 @@ use Rattle.log_channel.specs.Packet.{packet_at}
 use Rattle.log_channel.specs.declared.packet.Packet.TheVariants as packet
 use Rattle.log_entry.specs.declared.entry.Entry.{Entry}
 use Rattle.shared_disk.specs.declared.store.Record.{Record}
-use Rattle.pair_protocol.specs.Effects.{Heard, Held, WantsEntry}
+use Rattle.pair_protocol.specs.Effects.{Heard, Held, NeedsEntry}
 use Rattle.pair_protocol.specs.Event as protocol
 use Rattle.pair_protocol.specs.Node.{Node}
 use Rattle.pair_protocol.specs.Refusals.{deliver_acknowledgement_refusal, at_acknowledgement, at_log_entry, deliver_log_refusal}
@@ -88,8 +88,8 @@ delivers_unknown state M records old c m n brings h =
 -- what a node does with the bytes is what it does with their packet
 pub spelled_log : {S : Type 0} {generation index : ℕ} {e : Entry} (bytes : List ℕ) (x : Node S)
     (r : Result Bool Fault) (Is : Node S → Type 0) → packet_at bytes ≡ Some (packet.Log generation index e) →
-    DeliversLog WantsEntry (packet_at bytes) x r Is → Call (deliver_log_refusal generation x) (WantsEntry index) (Held index e) x r Is
-spelled_log bytes x r Is spelled d = subst (λ p. DeliversLog WantsEntry p x r Is) spelled d
+    DeliversLog NeedsEntry (packet_at bytes) x r Is → Call (deliver_log_refusal generation x) (NeedsEntry index) (Held index e) x r Is
+spelled_log bytes x r Is spelled d = subst (λ p. DeliversLog NeedsEntry p x r Is) spelled d
 
 new_or_old : (new : Bool) → reply_of (cond new reply.New reply.Old) ≡ cond new protocol.New protocol.Old
 new_or_old true = refl
@@ -99,7 +99,7 @@ pub delivers_refused : {B H D S : Type 0} (state : B → S) (M : Machine S) (rec
     (old : Running B H D) (c : Course S) (m n : ℕ) (bytes : List ℕ) (fault : Fault) (hosts : List (Host B H)) →
     option_and_then log_of (slice_get old.messages m) ≡ Some bytes → Shows state M records old c →
     ((generation index : ℕ) (e : Entry) → packet_at bytes ≡ Some (packet.Log generation index e) →
-    AtHost state M c.world n (deliver_log_refusal generation) (WantsEntry index) (Held index e) (Err fault) hosts) →
+    AtHost state M c.world n (deliver_log_refusal generation) (NeedsEntry index) (Held index e) (Err fault) hosts) →
     Applies state M records c (event.DeliverLog m n) (Err fault) (record old { hosts = hosts })
 delivers_refused state M records old c m n bytes fault hosts brings h at =
     let b = brings_entry (slice_get old.messages m) (slice_get c.world.messages m) bytes
@@ -112,7 +112,7 @@ pub delivers_applies : {B H D S : Type 0} (state : B → S) (M : Machine S) (rec
     (old : Running B H D) (c : Course S) (m n : ℕ) (bytes : List ℕ) (new : Bool) (hosts : List (Host B H)) →
     option_and_then log_of (slice_get old.messages m) ≡ Some bytes → Shows state M records old c →
     ((generation index : ℕ) (e : Entry) → packet_at bytes ≡ Some (packet.Log generation index e) →
-    AtHost state M c.world n (deliver_log_refusal generation) (WantsEntry index) (Held index e) (Ok new) hosts) →
+    AtHost state M c.world n (deliver_log_refusal generation) (NeedsEntry index) (Held index e) (Ok new) hosts) →
     Applies state M records c (event.DeliverLog m n) (Ok (cond new reply.New reply.Old)) (record old { hosts = hosts })
 delivers_applies state M records old c m n bytes new hosts brings h at =
     let b = brings_entry (slice_get old.messages m) (slice_get c.world.messages m) bytes

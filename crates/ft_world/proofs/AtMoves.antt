@@ -12,7 +12,7 @@ use Rattle.replayer.specs.declared.replayer.Replayed.{Replayed}
 use Rattle.shared_disk.specs.declared.store.Record.{Record}
 use Rattle.pair_protocol.specs.Change.{Replaying}
 use Rattle.pair_protocol.specs.Copying.{no_copies}
-use Rattle.pair_protocol.specs.Effects.{Halted, WantsMoves}
+use Rattle.pair_protocol.specs.Effects.{Halted, NeedsMoves}
 use Rattle.pair_protocol.specs.Node.{Backup, Draining, Node, Role}
 use Rattle.pair_protocol.specs.Refusals.{drain_refusal, replay_refusal, step_refusal, stop_refusal}
 use Rattle.pair_protocol.specs.Rows.{OfNode, drain_reply}
@@ -105,15 +105,15 @@ steps_applies state M records old c n turns ran hosts h a =
 -- ---- a backup replays
 
 -- if the event is out of memory, the first move is a step
-steps_first : {S : Type 0} (M : Machine S) (c : Course S) (n turns : ℕ) → OfNode c.world n (WantsMoves M turns) →
-    OfNode c.world n (WantsMoves (machine_of M c) turns)
+steps_first : {S : Type 0} (M : Machine S) (c : Course S) (n turns : ℕ) → OfNode c.world n (NeedsMoves M turns) →
+    OfNode c.world n (NeedsMoves (machine_of M c) turns)
 steps_first M c n turns s =
     record { x = s.x; there = s.there; said = (s.said.0, IsBehind-booted M c.boot c.sectors s.x s.said.1) }
 
 pub replays_refused : {B H D S : Type 0} (state : B → S) (M : Machine S) (records : D → List Record)
     (old : Running B H D) (c : Course S) (n turns : ℕ) (fault : Fault) (hosts : List (Host B H)) →
     Shows state M records old c →
-    AtHost state M c.world n replay_refusal (WantsMoves M turns) (ReplayedBy M turns) (Err fault) hosts →
+    AtHost state M c.world n replay_refusal (NeedsMoves M turns) (ReplayedBy M turns) (Err fault) hosts →
     Applies state M records c (event.Replay n turns) (Err fault) (record old { hosts = hosts })
 replays_refused state M records old c n turns fault hosts h a =
     node_refused h (event.Replay n turns) fault hosts refl (steps_first M c n turns) refl a
@@ -121,7 +121,7 @@ replays_refused state M records old c n turns fault hosts h a =
 pub replays_applies : {B H D S : Type 0} (state : B → S) (M : Machine S) (records : D → List Record)
     (old : Running B H D) (c : Course S) (n turns : ℕ) (r : Replayed) (hosts : List (Host B H)) →
     Shows state M records old c →
-    AtHost state M c.world n replay_refusal (WantsMoves M turns) (ReplayedBy M turns) (Ok r) hosts →
+    AtHost state M c.world n replay_refusal (NeedsMoves M turns) (ReplayedBy M turns) (Ok r) hosts →
     Applies state M records c (event.Replay n turns) (Ok (reply.Moved r.moves r.at_end))
     (record old { hosts = hosts })
 replays_applies state M records old c n turns r hosts h a =
@@ -139,7 +139,7 @@ replays_applies state M records old c n turns r hosts h a =
 pub drains_refused : {B H D S : Type 0} (state : B → S) (M : Machine S) (records : D → List Record)
     (old : Running B H D) (c : Course S) (n turns : ℕ) (fault : Fault) (hosts : List (Host B H)) →
     Shows state M records old c →
-    AtHost state M c.world n drain_refusal (WantsMoves M turns) (DrainedBy M turns) (Err fault) hosts →
+    AtHost state M c.world n drain_refusal (NeedsMoves M turns) (DrainedBy M turns) (Err fault) hosts →
     Applies state M records c (event.Drain n turns) (Err fault) (record old { hosts = hosts })
 drains_refused state M records old c n turns fault hosts h a =
     node_refused h (event.Drain n turns) fault hosts refl (steps_first M c n turns) refl a
@@ -152,7 +152,7 @@ drained_reply moves false = refl
 pub drains_applies : {B H D S : Type 0} (state : B → S) (M : Machine S) (records : D → List Record)
     (old : Running B H D) (c : Course S) (n turns : ℕ) (d : Drained) (hosts : List (Host B H)) →
     Shows state M records old c →
-    AtHost state M c.world n drain_refusal (WantsMoves M turns) (DrainedBy M turns) (Ok d) hosts →
+    AtHost state M c.world n drain_refusal (NeedsMoves M turns) (DrainedBy M turns) (Ok d) hosts →
     Applies state M records c (event.Drain n turns)
     (Ok (cond d.alone (reply.MovedAlone d.moves) (reply.Moved d.moves false))) (record old { hosts = hosts })
 drains_applies state M records old c n turns d hosts h a =

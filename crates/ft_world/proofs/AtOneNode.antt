@@ -10,7 +10,7 @@ use Rattle.pair_protocol.specs.Copying.{no_copies}
 use Rattle.pair_protocol.specs.Event.{Refused}
 use Rattle.pair_protocol.specs.Node.{Node}
 use Rattle.pair_protocol.specs.Refusals.{at_node, first_of, refusal}
-use Rattle.pair_protocol.specs.Row.{Accepts, Leaves, MayWantMemory, Refuses, Row, WantsMemory}
+use Rattle.pair_protocol.specs.Row.{Accepts, Leaves, MayNeedMemory, Refuses, Row, NeedsMemory}
 use Rattle.pair_protocol.specs.Rows.{AtNode, Does, OfNode}
 use Rattle.pair_protocol.specs.World.{World, with_node}
 use Rattle.pair_protocol.proofs.Passed.{node-passed}
@@ -24,7 +24,7 @@ use Rattle.ft_world.specs.Words.{event_of, reply_of}
 use Rattle.pair_events.specs.declared.event.Event.{Event}
 use Rattle.pair_events.specs.declared.reply.Reply.{Reply}
 use Rattle.ft_world.specs.declared.host.Host.{Host}
-use Rattle.ft_world.proofs.Applying.{applies, refuses, unchanged, wants_memory}
+use Rattle.ft_world.proofs.Applying.{applies, refuses, unchanged, needs_memory}
 use Rattle.ft_world.proofs.AtNodes.{with_hosts, with_one_host}
 use Rattle.ft_world.proofs.Keeping.{Stays}
 
@@ -55,16 +55,16 @@ elsewhere_of also at = record { x = at.x; there = at.there; said = also at.x at.
 module _ {B H D S : Type 0} {state : B → S} {M : Machine S} {records : D → List Record} {old : Running B H D}
     {c : Course S} (h : Shows state M records old c) where
   pub node_applies : {A : Type 0} (e : Event) (r : Reply) {n : ℕ} {part : Node S → Option Fault}
-      {wants : Node S → Type 0} {does : A → Node S → Node S → Type 0} {value : A} (hosts : List (Host B H)) →
+      {needs : Node S → Type 0} {does : A → Node S → Node S → Type 0} {value : A} (hosts : List (Host B H)) →
       refusal (machine_of M c) no_copies c.world (event_of e) ≡ at_node (slice_get c.world.nodes n) part →
       ((x y : Node S) → part x ≡ None → does value x y → Stays x y) →
       ((new : World S) → AtNode c.world n (does value) new →
       Does (machine_of M c) no_copies c.world (event_of e) (reply_of r) new) →
-      AtHost state M c.world n part wants does (Ok value) hosts →
+      AtHost state M c.world n part needs does (Ok value) hosts →
       Applies state M records c e (Ok r) (record old { hosts = hosts })
-  node_applies e r {n} {part} {wants} {does} {value} hosts free stays row a =
+  node_applies e r {n} {part} {needs} {does} {value} hosts free stays row a =
       let k = call_done (at_node (slice_get c.world.nodes n) part) value (AreHosts state M hosts c.world.nodes)
-      (OfNode c.world n wants × AreHosts state M hosts c.world.nodes) (λ v. Becomes state M c.world.nodes n hosts (does v)) a.answer in
+      (OfNode c.world n needs × AreHosts state M hosts c.world.nodes) (λ v. Becomes state M c.world.nodes n hosts (does v)) a.answer in
       let x = k.1.x in
       let y = k.1.y in
       let same = stays x y (node-passed (slice_get c.world.nodes n) x part k.1.there k.0).1 k.1.done in
@@ -74,45 +74,45 @@ module _ {B H D S : Type 0} {state : B → S} {M : Machine S} {records : D → L
       (with_one_host state M records h.drives old c hosts n x y h.parts k.1.there same.generation same.backup k.1.after)
 
   -- it is refused as the node refuses it, or is out of memory
-  pub node_refused : {A : Type 0} (e : Event) {n : ℕ} {part : Node S → Option Fault} {wants : Node S → Type 0}
+  pub node_refused : {A : Type 0} (e : Event) {n : ℕ} {part : Node S → Option Fault} {needs : Node S → Type 0}
       {does : A → Node S → Node S → Type 0} (fault : Fault) (hosts : List (Host B H)) →
       refusal (machine_of M c) no_copies c.world (event_of e) ≡ at_node (slice_get c.world.nodes n) part →
-      (OfNode c.world n wants → MayWantMemory (machine_of M c) c.world (event_of e)) →
+      (OfNode c.world n needs → MayNeedMemory (machine_of M c) c.world (event_of e)) →
       Leaves c.world (event_of e) fault c.world →
-      AtHost state M c.world n part wants does (Err fault) hosts →
+      AtHost state M c.world n part needs does (Err fault) hosts →
       Applies state M records c e (Err fault) (record old { hosts = hosts })
-  node_refused {A} e {n} {part} {wants} {does} fault hosts free takes leaves a =
+  node_refused {A} e {n} {part} {needs} {does} fault hosts free takes leaves a =
       elim (call_refused A (at_node (slice_get c.world.nodes n) part) fault (AreHosts state M hosts c.world.nodes)
-      (OfNode c.world n wants × AreHosts state M hosts c.world.nodes)
+      (OfNode c.world n needs × AreHosts state M hosts c.world.nodes)
       (λ v. Becomes state M c.world.nodes n hosts (does v)) a.answer) [
         | inl k ↦ unchanged state M records old (record old { hosts = hosts }) c e fault h
             (with_hosts state M records h.drives old c hosts h.parts k.1) (Refuses (free ∙ k.0) leaves)
         | inr k ↦ unchanged state M records old (record old { hosts = hosts }) c e fault h
             (with_hosts state M records h.drives old c hosts h.parts k.2.1)
             (subst (λ f. Row (machine_of M c) no_copies c.world (event_of e) (Refused f) c.world)
-            (sym k.1) (WantsMemory (free ∙ k.0) (takes k.2.0)))
+            (sym k.1) (NeedsMemory (free ∙ k.0) (takes k.2.0)))
       ]
 
   -- ---- an event that asks a node
 
-  pub asks_refused : {A : Type 0} (e : Event) {n : ℕ} {part : Node S → Option Fault} {wants : Node S → Type 0}
+  pub asks_refused : {A : Type 0} (e : Event) {n : ℕ} {part : Node S → Option Fault} {needs : Node S → Type 0}
       {says : A → Node S → Type 0} (fault : Fault) →
       refusal (machine_of M c) no_copies c.world (event_of e) ≡ at_node (slice_get c.world.nodes n) part →
-      (OfNode c.world n wants → MayWantMemory (machine_of M c) c.world (event_of e)) →
-      Leaves c.world (event_of e) fault c.world → AsksNode c.world n part wants says (Err fault) →
+      (OfNode c.world n needs → MayNeedMemory (machine_of M c) c.world (event_of e)) →
+      Leaves c.world (event_of e) fault c.world → AsksNode c.world n part needs says (Err fault) →
       Applies state M records c e (Err fault) old
-  asks_refused {A} e {n} {part} {wants} {says} fault free takes leaves a =
-      elim (call_refused A (at_node (slice_get c.world.nodes n) part) fault (Unit {0}) (OfNode c.world n wants)
+  asks_refused {A} e {n} {part} {needs} {says} fault free takes leaves a =
+      elim (call_refused A (at_node (slice_get c.world.nodes n) part) fault (Unit {0}) (OfNode c.world n needs)
       (λ v. OfNode c.world n (says v)) a.answer) [
         | inl k ↦ refuses state M records old old c e fault h refl (free ∙ k.0) leaves
-        | inr k ↦ wants_memory state M records old old c e fault h refl (free ∙ k.0) (takes k.2) k.1
+        | inr k ↦ needs_memory state M records old old c e fault h refl (free ∙ k.0) (takes k.2) k.1
       ]
 
-pub node_asked : {A S : Type 0} (w : World S) (n : ℕ) (part : Node S → Option Fault) {wants : Node S → Type 0}
-    {says : A → Node S → Type 0} (value : A) → AsksNode w n part wants says (Ok value) →
+pub node_asked : {A S : Type 0} (w : World S) (n : ℕ) (part : Node S → Option Fault) {needs : Node S → Type 0}
+    {says : A → Node S → Type 0} (value : A) → AsksNode w n part needs says (Ok value) →
     (at_node (slice_get w.nodes n) part ≡ None) × OfNode w n (says value)
-node_asked w n part {wants} {says} value a =
-    call_done (at_node (slice_get w.nodes n) part) value (Unit {0}) (OfNode w n wants) (λ v. OfNode w n (says v))
+node_asked w n part {needs} {says} value a =
+    call_done (at_node (slice_get w.nodes n) part) value (Unit {0}) (OfNode w n needs) (λ v. OfNode w n (says v))
     a.answer
 
 -- it needs no memory, so it is refused as the node refuses it

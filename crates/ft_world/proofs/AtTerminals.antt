@@ -33,7 +33,7 @@ use Rattle.ft_world.specs.declared.message.Message.TheVariants as message
 use Rattle.pair_events.specs.declared.reply.Reply.{Reply}
 use Rattle.pair_events.specs.declared.reply.Reply.TheVariants as reply
 use Rattle.ft_world.proofs.Agreeing.{agree-both, agree-set}
-use Rattle.ft_world.proofs.Applying.{applies, refuses, stands, stands_not, wants_memory}
+use Rattle.ft_world.proofs.Applying.{applies, refuses, stands, stands_not, needs_memory}
 
 -- the screen of a port, and its terminal
 pub screen_is : (screens : List Screen) (ts : List world.Terminal) (port : ℕ) → AreTerminals screens ts → port < PORTS →
@@ -112,7 +112,7 @@ types_applies state M records old c port byte (Err fault) screens h (inl (is, hi
     (ap (λ l. record old { terminals = l }) same)
     (port_missing c.world port h.parts.terminals.count high) refl)
 types_applies state M records old c port byte (Err fault) screens h (inr (is, low), same) =
-    wants_memory state M records old (record old { terminals = screens }) c (event.TypeByte port byte) fault h
+    needs_memory state M records old (record old { terminals = screens }) c (event.TypeByte port byte) fault h
     (ap (λ l. record old { terminals = l }) same) (port_there c.world port h.parts.terminals.count low) tt is
 
 -- A byte arrives.
@@ -241,7 +241,7 @@ arrives_applies state M records old c m port number byte (Ok r) screens brings h
     (subst (λ us. AreTerminals screens us) (sym same)
     (subst (λ l. AreTerminals l ts) (sym after) h.parts.terminals)))
 arrives_applies state M records old c m port number byte (Err fault) screens brings h (is, same) =
-    wants_memory state M records old (record old { terminals = screens }) c (event.Arrive m) fault h
+    needs_memory state M records old (record old { terminals = screens }) c (event.Arrive m) fault h
     (ap (λ l. record old { terminals = l }) same)
     (ap byte_refusal
     (released (slice_get old.messages m) (slice_get c.world.messages m) port number byte

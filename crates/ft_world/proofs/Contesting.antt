@@ -14,7 +14,7 @@ use Rattle.pair_protocol.specs.Copying.{no_copies}
 use Rattle.pair_protocol.specs.Event as protocol
 use Rattle.pair_protocol.specs.Node.{Joining, Node, Spare, halts, is_role}
 use Rattle.pair_protocol.specs.Refusals.{ask_refusal, at_node, fault_if, first_of, is_other, refusal, suspect_refusal}
-use Rattle.pair_protocol.specs.Row.{Accepts, Leaves, Refuses, Row, WantsMemory}
+use Rattle.pair_protocol.specs.Row.{Accepts, Leaves, Refuses, Row, NeedsMemory}
 use Rattle.pair_protocol.specs.World.{World, winner_in, with_node, with_winner}
 use Rattle.pair_protocol.proofs.Traces.Lists.{same_some}
 use Rattle.pair_protocol.proofs.OneNode.{set_get}
@@ -156,11 +156,11 @@ loses_it : {B H D S : Type 0} (state : B → S) (M : Machine S) (records : D →
     refusal (machine_of M c) no_copies c.world (protocol.Suspect n) ≡ fault_if (is_other winner n) Lost →
     SuspectsOf winner old.askings n x (Err fault) askings (λ y. AreHosts state M hosts (slice_set c.world.nodes n y)) →
     Applies state M records c (event.Suspect n) (Err fault) (record old { hosts = hosts; askings = askings })
-loses_it state M records old c n fault hosts askings x None h there is free (wants, same, are) =
+loses_it state M records old c n fault hosts askings x None h there is free (needs, same, are) =
     stays state M records old c n fault hosts askings h
     (subst (AreHosts state M hosts) (set_get c.world.nodes n x there) are) same
-    (subst (λ f. Row (machine_of M c) no_copies c.world (protocol.Suspect n) (protocol.Refused f) c.world) (sym wants)
-    (WantsMemory free
+    (subst (λ f. Row (machine_of M c) no_copies c.world (protocol.Suspect n) (protocol.Refused f) c.world) (sym needs)
+    (NeedsMemory free
     (record { x = x; there = there; said = sym (h.parts.winners x.generation) ∙ is })))
 loses_it state M records old c n fault hosts askings x (Some winner) h there is free (other, lost, same, are) =
     subst

@@ -22,7 +22,7 @@ use Rattle.pair_protocol.specs.Copying.{no_copies}
 use Rattle.pair_protocol.specs.Event as protocol
 use Rattle.pair_protocol.specs.Node.{Alone, Node, Primary, Spare, acts_as, is_role}
 use Rattle.pair_protocol.specs.Refusals.{at_node, fault_if, first_of, no_sector, get_refusal, serves}
-use Rattle.pair_protocol.specs.Row.{Accepts, DeviceFails, Row, WantsMemory}
+use Rattle.pair_protocol.specs.Row.{Accepts, DeviceFails, Row, NeedsMemory}
 use Rattle.pair_protocol.specs.Effects.{IsUnder}
 use Rattle.pair_protocol.specs.Rows.{OfNode}
 use Rattle.pair_protocol.specs.World as sent
@@ -202,7 +202,7 @@ gets_applies state M records old c n sector address (Err fault) ms disk h low a 
     let met = h.parts.disk.there address s.there in
     let refused = λ (f : Fault). Row N no_copies c.world (protocol.Get n sector) (protocol.Refused f) c.world in
     let row : refused fault = elim why [
-      | inl is ↦ subst refused (sym is) (WantsMemory s.free tt)
+      | inl is ↦ subst refused (sym is) (NeedsMemory s.free tt)
       | inr is ↦ subst refused (sym (not_put (records old.disk) address met.0 fault met.1 is)) (DeviceFails s.free refl)
     ] in
     unchanged state M records old (record old { messages = ms; disk = disk }) c (event.Get n sector) fault h

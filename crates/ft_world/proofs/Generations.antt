@@ -10,7 +10,7 @@ use Rattle.pair_protocol.specs.Copying.{Copying, no_copies}
 use Rattle.pair_protocol.specs.Event as protocol
 use Rattle.pair_protocol.specs.Node.{Node, Spare, wins}
 use Rattle.pair_protocol.specs.Refusals.{refusal}
-use Rattle.pair_protocol.specs.Row.{Accepts, DeviceFails, Leaves, Refuses, Row, WantsMemory}
+use Rattle.pair_protocol.specs.Row.{Accepts, DeviceFails, Leaves, Refuses, Row, NeedsMemory}
 use Rattle.pair_protocol.specs.Rows.{Suspects, AtNode, Does, Takes}
 use Rattle.pair_protocol.specs.Settled.{highest}
 use Rattle.pair_protocol.specs.World.{World, winner_in, with_winner}
@@ -118,4 +118,4 @@ pub row_keeps : {S : Type 0} (M : Machine S) (w new : World S) (e : Event) (r : 
 row_keeps M w new e r i (Accepts free d) = does_keeps M w new e r i free d
 row_keeps M w new e r i (Refuses {fault = fault} because d) = leaves_keeps w new (event_of e) fault d
 row_keeps M w new e r i (DeviceFails free d) = nodes_stay w new refl refl
-row_keeps M w new e r i (WantsMemory free d) = nodes_stay w new refl refl
+row_keeps M w new e r i (NeedsMemory free d) = nodes_stay w new refl refl

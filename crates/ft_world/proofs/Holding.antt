@@ -10,7 +10,7 @@ use Rattle.log_channel.specs.declared.packet.Packet.{Packet}
 use Rattle.log_channel.specs.declared.packet.Packet.TheVariants.{Log, Ack}
 use Rattle.log_entry.specs.Entries.{count_of, inputs_of, last_count, timed_in, timed_of}
 use Rattle.log_entry.specs.declared.entry.Entry.{Entry}
-use Rattle.pair_protocol.specs.Effects.{Held, WantsEntry}
+use Rattle.pair_protocol.specs.Effects.{Held, NeedsEntry}
 use Rattle.pair_protocol.specs.Node.{Node, Backup, holds}
 use Rattle.pair_protocol.specs.Refusals as refusals
 use Rattle.pair_protocol.specs.Settled.{list_of, count_in}
@@ -38,14 +38,14 @@ not_refused (Some m) x next D d = let e = d.0 in (cc)
 
 pub passes_by : {B S : Type 0} (state : B → S) (M : Machine S) (p : Option Packet) (h : Station B)
     (node : code.Node B) (r : Result Bool Fault) (x : Node S) → calls.Expects p x (Ok None) → IsStation state M h x
-    → calls.DeliversLog calls.WantsRoom p x r (IsNode state M node)
-    → calls.DeliversLog WantsEntry p x r (IsStation state M (record h { node = node }))
+    → calls.DeliversLog calls.NeedsRoom p x r (IsNode state M node)
+    → calls.DeliversLog NeedsEntry p x r (IsStation state M (record h { node = node }))
 passes_by {B} {S} state M None h node r x e is d = absurd (not_refused _ x None ⊥ e).1
 passes_by {B} {S} state M (Some (Ack generation held)) h node r x e is d = absurd (not_refused _ x None ⊥ e).1
 passes_by {B} {S} state M (Some (Log generation index en)) h node r x e is d =
-    let t : Retells (refusals.deliver_log_refusal generation x) (calls.WantsRoom index) (WantsEntry index) (Held index en) x
+    let t : Retells (refusals.deliver_log_refusal generation x) (calls.NeedsRoom index) (NeedsEntry index) (Held index en) x
     (IsNode state M node) (IsStation state M (record h { node = node })) =
-    record { stays = unmoved state M h node x is; wanting = λ w. w.0; becomes = λ v y none s now. into v y s now } in
+    record { stays = unmoved state M h node x is; needing = λ w. w.0; becomes = λ v y none s now. into v y s now } in
     retold r t d
   where
     o : (refusals.deliver_log_refusal generation x ≡ None)
@@ -83,14 +83,14 @@ held_station state M h new e x role is now same c = record {
 pub holds_on : {B S : Type 0} (state : B → S) (M : Machine S) (p : Option Packet) (h : Station B)
     (node : code.Node B) (new : Station B) (next : Entry) (v : Bool) (x : Node S)
     → calls.Expects p x (Ok (Some next)) → IsStation state M h x
-    → calls.DeliversLog calls.WantsRoom p x (Ok v) (IsNode state M node) → new.node ≡ node
+    → calls.DeliversLog calls.NeedsRoom p x (Ok v) (IsNode state M node) → new.node ≡ node
     → new.inputs ≡ h.inputs ++ timed_in (timed_of next) → new.count ≡ count_of next
-    → calls.DeliversLog WantsEntry p x (Ok v) (IsStation state M new)
+    → calls.DeliversLog NeedsEntry p x (Ok v) (IsStation state M new)
 holds_on {B} {S} state M None h node new next v x e is d en same c = absurd (not_refused _ x (Some next) ⊥ e).1
 holds_on {B} {S} state M (Some (Ack generation held)) h node new next v x e is d en same c =
     absurd (not_refused _ x (Some next) ⊥ e).1
 holds_on {B} {S} state M (Some (Log generation index en)) h node new next v x e is d enode same c =
-    given (refusals.deliver_log_refusal generation x) (calls.WantsRoom index) (WantsEntry index) (Held index en) x
+    given (refusals.deliver_log_refusal generation x) (calls.NeedsRoom index) (NeedsEntry index) (Held index en) x
     (IsNode state M node) (IsStation state M new) v (λ y none s now. into v y s now) d
   where
     o : (refusals.deliver_log_refusal generation x ≡ None)
@@ -121,7 +121,7 @@ holds_on {B} {S} state M (Some (Log generation index en)) h node new next v x e 
 
 pub expects_not : {B S : Type 0} (state : B → S) (M : Machine S) (p : Option Packet) (h : Station B)
     (r : Result Bool Fault) (fault : Fault) (x : Node S) → IsErrAnd r (λ k. k ≡ fault) → calls.Expects p x (Err fault)
-    → IsStation state M h x → calls.DeliversLog WantsEntry p x r (IsStation state M h)
+    → IsStation state M h x → calls.DeliversLog NeedsEntry p x r (IsStation state M h)
 expects_not {B} {S} state M p h r fault x at d is = go p d
   where
     refuses : (o : Option Fault) (r : Result Bool Fault) (D E : Type 0) → IsErrAnd r (λ k. k ≡ fault) → (D → ⊥)
@@ -132,7 +132,7 @@ expects_not {B} {S} state M p h r fault x at d is = go p d
         let e = d.0 in
         let same : fault ≡ m = (cc) in (ap Err (at ∙ same), is)
 
-    go : (p : Option Packet) → calls.Expects p x (Err fault) → calls.DeliversLog WantsEntry p x r (IsStation state M h)
+    go : (p : Option Packet) → calls.Expects p x (Err fault) → calls.DeliversLog NeedsEntry p x r (IsStation state M h)
     go None d = refuses _ r ⊥ ⊥ at (λ no. no) d
     go (Some (Ack generation held)) d = refuses _ r ⊥ ⊥ at (λ no. no) d
     go (Some (Log generation index e)) d = refuses (refusals.deliver_log_refusal generation x) r _ _ at (λ no. no.1) d

@@ -13,7 +13,7 @@ use Rattle.pair_protocol.specs.Copying.{no_copies}
 use Rattle.pair_protocol.specs.Event as protocol
 use Rattle.pair_protocol.specs.Node.{Node}
 use Rattle.pair_protocol.specs.Refusals.{acknowledge_refusal, refusal, send_refusal}
-use Rattle.pair_protocol.specs.Row.{Accepts, MayWantMemory}
+use Rattle.pair_protocol.specs.Row.{Accepts, MayNeedMemory}
 use Rattle.pair_protocol.specs.Rows.{Does}
 use Rattle.pair_protocol.specs.World as sent
 use Rattle.pair_protocol.specs.World.{with_message}
@@ -32,7 +32,7 @@ use Rattle.ft_world.specs.declared.message.Message.{Message}
 use Rattle.ft_world.specs.declared.message.Message.TheVariants as message
 use Rattle.pair_events.specs.declared.reply.Reply.{Reply}
 use Rattle.ft_world.proofs.Agreeing.{agree-push}
-use Rattle.ft_world.proofs.Applying.{applies, wants_memory}
+use Rattle.ft_world.proofs.Applying.{applies, needs_memory}
 
 pub messages_push : (ms : List Message) (ss : List sent.Message) (m : Message) (s : sent.Message) → AreMessages ms ss →
     IsMessage m s → AreMessages (ms ++ m ∷ []) (ss ++ s ∷ [])
@@ -61,7 +61,7 @@ with_messages state M records drives old c ms ss p are = record {
 pub says_applies : {B H D S : Type 0} (state : B → S) (M : Machine S) (records : D → List Record) (old : Running B H D)
     (c : Course S) (e : Event) (m : Message) (s : sent.Message) (answer : Result Reply Fault) (ms : List Message) →
     Shows state M records old c → IsMessage m s → refusal (machine_of M c) no_copies c.world (event_of e) ≡ None →
-    MayWantMemory (machine_of M c) c.world (event_of e) →
+    MayNeedMemory (machine_of M c) c.world (event_of e) →
     Does (machine_of M c) no_copies c.world (event_of e) (protocol.MessageIs (length c.world.messages))
     (with_message c.world s) →
     Says old.messages m answer ms → Applies state M records c e answer (record old { messages = ms })
@@ -75,7 +75,7 @@ says_applies state M records old c e m s (Ok r) ms h i free takes does (said, af
     (subst (λ l. AreMessages l (c.world.messages ++ s ∷ [])) (sym after)
     (messages_push old.messages c.world.messages m s h.parts.messages i)))
 says_applies state M records old c e m s (Err fault) ms h i free takes does (is, same) =
-    wants_memory state M records old (record old { messages = ms }) c e fault h
+    needs_memory state M records old (record old { messages = ms }) c e fault h
     (ap (λ l. record old { messages = l }) same) free takes is
 
 -- A primary sends an entry of its log.

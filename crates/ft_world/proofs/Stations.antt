@@ -13,7 +13,7 @@ use Rattle.replayer.specs.declared.replayer.Replayed.{Replayed}
 use Rattle.pair_protocol.specs.Change.{Serving}
 use Rattle.pair_protocol.specs.Node.{Node, Role, Primary, Backup, Joining, Draining, Alone, Spare, halts, wins, won_role}
 use Rattle.pair_protocol.specs.Refusals as refusals
-use Rattle.pair_protocol.specs.Effects.{Halted, Heard, WantsMoves, after_drain}
+use Rattle.pair_protocol.specs.Effects.{Halted, Heard, NeedsMoves, after_drain}
 use Rattle.pair_protocol.specs.Settled.{list_of, count_in}
 use Rattle.pair_protocol.proofs.RowActions.{step-serves}
 use Rattle.ft_node.specs.Calls as calls
@@ -50,12 +50,12 @@ unmoved state M h node x i is = stays_on state M h node x x i (kept_here x) refl
 
 -- whatever the call does at the node, the station's node is another one of the same inputs and count
 pub retells : {A B S : Type 0} (state : B → S) (M : Machine S) (h : Station B) (node : code.Node B) (x : Node S)
-    (o : Option Fault) (wants : Node S → Type 0) (does : A → Node S → Node S → Type 0) → IsStation state M h x
+    (o : Option Fault) (needs : Node S → Type 0) (does : A → Node S → Node S → Type 0) → IsStation state M h x
     → ((v : A) (y : Node S) → o ≡ None → does v x y → Kept x y × (count_in M y x.role ≡ count_in M x x.role))
-    → Retells o wants wants does x (IsNode state M node) (IsStation state M (record h { node = node }))
-retells state M h node x o wants does i keeps = record {
+    → Retells o needs needs does x (IsNode state M node) (IsStation state M (record h { node = node }))
+retells state M h node x o needs does i keeps = record {
   stays = unmoved state M h node x i;
-  wanting = λ w. w;
+  needing = λ w. w;
   becomes = λ v y none does is. (let k = keeps v y none does in stays_on state M h node x y i k.0 k.1 is);
 }
 
@@ -88,7 +88,7 @@ pub replays_on : {B S : Type 0} (state : B → S) (M : Machine S) (turns : ℕ) 
     → calls.Replays M turns x r (IsNode state M node)
     → calls.Replays M turns x r (IsStation state M (record h { node = node }))
 replays_on state M turns h node r x i d =
-    retold r (retells state M h node x (refusals.replay_refusal x) (WantsMoves M turns) (calls.ReplayedBy M turns) i
+    retold r (retells state M h node x (refusals.replay_refusal x) (NeedsMoves M turns) (calls.ReplayedBy M turns) i
     (λ v y none s.
     (let k = replays_keep M s.moves in
     let role = acting_role x Backup none in
@@ -116,7 +116,7 @@ pub drains_on : {B S : Type 0} (state : B → S) (M : Machine S) (turns : ℕ) (
     → ((y : Node S) → IsNode state M node y → count ≡ (if d.alone then M.count y.machine else h.count))
     → calls.Drains M turns x (Ok d) (IsStation state M (record h { node = node; count = count }))
 drains_on {B} {S} state M turns h node d count x is r counted =
-    given (refusals.drain_refusal x) (WantsMoves M turns) (WantsMoves M turns) (calls.DrainedBy M turns) x
+    given (refusals.drain_refusal x) (NeedsMoves M turns) (NeedsMoves M turns) (calls.DrainedBy M turns) x
     (IsNode state M node) After d (λ y none s now. (let e = s.after in
     subst (λ z. After z) (sym e)
     (drained_station state M h node count x s.z d.alone is (acting_role x Draining none)

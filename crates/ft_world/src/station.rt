@@ -6,7 +6,7 @@ ghost use Rattle.event_callbacks.specs.declared.devices.TheConstants.{PORTS};
 ghost use Rattle.guest_board.specs.declared.input.Input.TheVariants as input;
 ghost use Rattle.i8080_words.specs.declared.refusal.Fault.TheVariants.{Lost};
 ghost use Rattle.log_channel.specs.Packet.{packet_at};
-ghost use Rattle.pair_protocol.specs.Effects.{Took, WantsEntry};
+ghost use Rattle.pair_protocol.specs.Effects.{Took, NeedsEntry};
 ghost use Rattle.pair_protocol.specs.Node as protocol;
 ghost use Rattle.pair_protocol.specs.Refusals as refusals;
 ghost use Rattle.ft_node.specs.Calls as calls;
@@ -170,7 +170,7 @@ impl<B: Lockstep + Drop> Station<B> {
     /// gap, is false.
     pub(crate) fn deliver_log(&mut self, bytes: &[u8]) -> R<bool>
         ensures answer { (x : protocol.Node B.State) → IsStation B.state B.machine self.old x
-            → calls.DeliversLog WantsEntry (packet_at bytes.now) x result (IsStation B.state B.machine self.new) }
+            → calls.DeliversLog NeedsEntry (packet_at bytes.now) x result (IsStation B.state B.machine self.new) }
         ensures unchanged { OnErr result (self.new ≡ self.old) }
     {
         let next = self.node.next_entry(bytes)?;

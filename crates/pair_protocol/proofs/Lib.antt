@@ -8,6 +8,6 @@ pub mod Survival
 pub mod OneNode
 pub mod InputRows
 pub mod RowActions
-pub mod Wanting
+pub mod Needing
 pub mod Promises
 pub mod Booted

@@ -8,7 +8,7 @@ use Rattle.pair_protocol.specs.Change.{Begins, Joins, Reads, Wins}
 use Rattle.pair_protocol.specs.Effects.{Again, Comes, Completes, GotPart, Halted, Held, after_drain, at_end}
 use Rattle.pair_protocol.specs.Event.{Acknowledge, Arrive, BeginPair, DeliverAcknowledgement, DeliverLog, Drain, Event, Get, GetReply, PartComes, Put, PutReply, Release, Replay, Reply, Send, SendPart, Step, Stop, Suspect, TakeKey, TellSent, Told, TypeByte}
 use Rattle.pair_protocol.specs.Refusals.{acknowledge_refusal, ask_refusal, at_acknowledgement, at_host, at_log_entry, at_part, deliver_acknowledgement_refusal, deliver_log_refusal, drain_refusal, fault_if, first_of, generation_refusal, no_port, no_such, pair_refusal, part_comes_refusal, refusal, release_refusal, replay_refusal, role_refusal, send_part_refusal, send_refusal, serves, step_refusal, stop_refusal, suspect_refusal, told_refusal}
-use Rattle.pair_protocol.specs.Row.{Accepts, DeviceFails, Leaves, Refuses, Row, WantsMemory}
+use Rattle.pair_protocol.specs.Row.{Accepts, DeviceFails, Leaves, Refuses, Row, NeedsMemory}
 use Rattle.pair_protocol.specs.Rows as row
 use Rattle.pair_protocol.specs.Rows.{AtNode, BeginsPair, DeliversLog, Does, Drains, Steps, Suspects}
 use Rattle.pair_protocol.proofs.InputRows.{does_get_reply, does_put_reply, does_take_key, does_tell_sent}
@@ -270,4 +270,4 @@ pub row_changes : {S : Type 0} (M : Machine S) (C : Copying S) (w new : World S)
 row_changes M C w new e r (Accepts p d) = does_changes M C w e r new p d
 row_changes M C w new e r (Refuses {fault = fault} p d) = leaves_changes M C w e fault new p d
 row_changes M C w new e r (DeviceFails p d) = Stays
-row_changes M C w new e r (WantsMemory p d) = Stays
+row_changes M C w new e r (NeedsMemory p d) = Stays

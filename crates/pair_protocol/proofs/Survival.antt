@@ -4,7 +4,7 @@ use Rattle.pair_protocol.proofs.Words.{Copying, Joining, Machine, Node, Spare, W
 use Rattle.i8080_words.specs.declared.refusal.Fault.TheVariants.{Lost, NotWhole, OutOfMemory, Unknown, WrongRole}
 use Rattle.pair_protocol.specs.Event.{Refused, Reply, Suspect, Won}
 use Rattle.pair_protocol.specs.Refusals.{ask_refusal, at_node, fault_if, first_of, is_other, refusal}
-use Rattle.pair_protocol.specs.Row.{Accepts, DeviceFails, Refuses, Row, WantsMemory}
+use Rattle.pair_protocol.specs.Row.{Accepts, DeviceFails, Refuses, Row, NeedsMemory}
 use Rattle.pair_protocol.specs.Survival.{MayWin}
 use Rattle.pair_protocol.proofs.Passed.{role_of}
 
@@ -30,4 +30,4 @@ pub wins : {S : Type 0} (M : Machine S) (C : Copying S) (w new : World S) (n : â
 wins M C w new n x r m (Accepts p d) = inl d.reply
 wins M C w new n x r m (Refuses {fault = fault} p d) = let e = sym (nothing_refuses M C w n x m) âˆ™ p in (cc)
 wins M C w new n x r m (DeviceFails p d) = (cc)
-wins M C w new n x r m (WantsMemory p d) = inr refl
+wins M C w new n x r m (NeedsMemory p d) = inr refl

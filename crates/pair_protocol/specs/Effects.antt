@@ -166,9 +166,9 @@ pub record HasPart {S : Type 0} (C : Copying S) (index : ℕ) (part : List ℕ) 
 -- ---- what holds of a node at which an event is out of memory
 
 -- it is to make moves, and the first one is a step
-abbrev pub WantsMoves : {S : Type 0} → Machine S → ℕ → Node S → Type 0
-WantsMoves M turns x = (0 < turns) × IsBehind M x
+abbrev pub NeedsMoves : {S : Type 0} → Machine S → ℕ → Node S → Type 0
+NeedsMoves M turns x = (0 < turns) × IsBehind M x
 
 -- it holds the entry next
-abbrev pub WantsEntry : {S : Type 0} → ℕ → Node S → Type 0
-WantsEntry index x = index ≡ length x.held
+abbrev pub NeedsEntry : {S : Type 0} → ℕ → Node S → Type 0
+NeedsEntry index x = index ≡ length x.held

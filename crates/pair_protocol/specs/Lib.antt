@@ -21,5 +21,5 @@ pub mod ReadsKept
 pub mod Joining
 pub mod Traces
 pub mod Laws
-pub mod Wanting
+pub mod Needing
 pub mod Examples

@@ -5,7 +5,7 @@ use Rattle.i8080_words.specs.declared.refusal.Fault.{Fault}
 use Rattle.i8080_words.specs.declared.refusal.Fault.TheVariants.{Lost, DeviceFault, OutOfMemory}
 use Rattle.log_entry.specs.declared.entry.Entry.{Entry}
 use Rattle.pair_protocol.specs.Copying.{Copying}
-use Rattle.pair_protocol.specs.Effects.{Halted, WantsEntry, WantsMoves}
+use Rattle.pair_protocol.specs.Effects.{Halted, NeedsEntry, NeedsMoves}
 use Rattle.pair_protocol.specs.World.{World, LogEntry, winner_in, with_host}
 use Rattle.pair_protocol.specs.Event.{Event, Step, DeliverLog, DeliverAcknowledgement, Replay, Told, Stop, Suspect, Drain, Reply, Refused, is_disk}
 use Rattle.pair_protocol.specs.Refusals.{refusal}
@@ -19,20 +19,20 @@ pub record BringsNext {S : Type 0} (w : World S) (m n : ℕ) : Type 0 where
   pub index : ℕ
   pub e : Entry
   pub message : slice_get w.messages m ≡ Some (LogEntry generation index e)
-  pub next : OfNode w n (WantsEntry index)
+  pub next : OfNode w n (NeedsEntry index)
 
 -- what holds if an event is answered with out of memory: never for no turns, for moves whose first is not a step, for a
 -- repeat or a packet past a gap, or for a winner that asks again
-abbrev pub MayWantMemory : {S : Type 0} → Machine S → World S → Event → Type 0
-MayWantMemory M w (Step n turns) = 0 < turns
-MayWantMemory M w (DeliverLog m n) = BringsNext w m n
-MayWantMemory M w (DeliverAcknowledgement m n) = ⊥
-MayWantMemory M w (Replay n turns) = OfNode w n (WantsMoves M turns)
-MayWantMemory M w (Told n port) = ⊥
-MayWantMemory M w (Stop n) = ⊥
-MayWantMemory M w (Suspect n) = OfNode w n (λ x. winner_in w.winners x.generation ≡ None)
-MayWantMemory M w (Drain n turns) = OfNode w n (WantsMoves M turns)
-MayWantMemory M w e = Unit {0}
+abbrev pub MayNeedMemory : {S : Type 0} → Machine S → World S → Event → Type 0
+MayNeedMemory M w (Step n turns) = 0 < turns
+MayNeedMemory M w (DeliverLog m n) = BringsNext w m n
+MayNeedMemory M w (DeliverAcknowledgement m n) = ⊥
+MayNeedMemory M w (Replay n turns) = OfNode w n (NeedsMoves M turns)
+MayNeedMemory M w (Told n port) = ⊥
+MayNeedMemory M w (Stop n) = ⊥
+MayNeedMemory M w (Suspect n) = OfNode w n (λ x. winner_in w.winners x.generation ≡ None)
+MayNeedMemory M w (Drain n turns) = OfNode w n (NeedsMoves M turns)
+MayNeedMemory M w e = Unit {0}
 
 -- ---- the row
 
@@ -48,7 +48,7 @@ pub data Row {S : Type 0} (M : Machine S) (C : Copying S) (w : World S) (e : Eve
   -- the disk failed
   DeviceFails : refusal M C w e ≡ None → IsTrue (is_disk e) → Row M C w e (Refused DeviceFault) w
   -- an allocation was refused
-  WantsMemory : refusal M C w e ≡ None → MayWantMemory M w e → Row M C w e (Refused OutOfMemory) w
+  NeedsMemory : refusal M C w e ≡ None → MayNeedMemory M w e → Row M C w e (Refused OutOfMemory) w
 
 -- a whole run: one reply for each event; hosts may come at any time
 pub data Run {S : Type 0} (M : Machine S) (C : Copying S) : World S → List Event → List Reply → World S → Type 0 where

@@ -3,7 +3,7 @@ ghost use Rattle.pair_protocol.specs.Examples.{TakesOver, WritesDisk};
 ghost use Rattle.pair_protocol.specs.Joining.{JoiningIsGiven};
 ghost use Rattle.pair_protocol.specs.ReadsKept.{ReachedKeepsReads};
 ghost use Rattle.pair_protocol.specs.Laws.{ReachedIsFaithful, NodesStand, NeedsNoCopies, ReachedGrows, RowIsChanges, ChangesReach, RunReaches, RunIsFaithful, RunGrows, RunReplies};
-ghost use Rattle.pair_protocol.specs.Wanting.{NoTurnsWantNone, OtherEntriesWantNone, OtherMovesWantNone, StopsAtSteps, WinnersWantNone};
+ghost use Rattle.pair_protocol.specs.Needing.{NoTurnsNeedNone, OtherEntriesNeedNone, OtherMovesNeedNone, StopsAtSteps, WinnersNeedNone};
 ghost use Rattle.pair_protocol.specs.Survival.{NothingRefuses, WholeNodesWin};
 ghost use Rattle.pair_protocol.specs.Traces.{OneTrace, OneEnd, FirstEntries, QuietMoves, QuietEntries};
 
@@ -72,11 +72,11 @@ pub fn every_event_is_answered<S>()
 /// A step, replay or drain of no turns, a replay or drain whose first move is not a step, a log entry that is a repeat
 /// or past a gap, and a winner that asks again are never answered with out of memory. A replay or drain that makes
 /// fewer moves than it was asked for has nothing left, or a step as its next move.
-pub fn some_events_want_no_memory<S>()
-    ensures no_turns { NoTurnsWantNone S }
-    ensures other_moves { OtherMovesWantNone S }
-    ensures other_entries { OtherEntriesWantNone S }
-    ensures winners { WinnersWantNone S }
+pub fn some_events_need_no_memory<S>()
+    ensures no_turns { NoTurnsNeedNone S }
+    ensures other_moves { OtherMovesNeedNone S }
+    ensures other_entries { OtherEntriesNeedNone S }
+    ensures winners { WinnersNeedNone S }
     ensures stops { StopsAtSteps S }
 {}
 

@@ -44,9 +44,12 @@ module _ {S : Type 0} (M : Machine S) (C : Copying S) (typed0 typed1 : List ℕ)
     formed = refl;
     replies = MessageIs (length w.messages) ∷ [];
     new = record w { messages = w.messages ++ Acknowledgement 1 (length k.backup.list) 0 ∷ [] };
-    run = First (Accepts (ap (λ o. at_node o acknowledge_refusal) (at_backup none)) record { held = length k.backup.list;
-        replayed = 0; node = record { x = backup; there = at_backup none; said = (refl, refl) };
-        says = record { reply = refl; after = refl } }) Nothing;
+    run = First (Accepts (ap (λ o. at_node o acknowledge_refusal) (at_backup none)) record {
+      held = length k.backup.list;
+      replayed = 0;
+      node = record { x = backup; there = at_backup none; said = (refl, refl) };
+      says = record { reply = refl; after = refl };
+    }) Nothing;
     once = inl refl;
     shows = record {
       moves = z.moves;
@@ -90,8 +93,12 @@ module _ {S : Type 0} (M : Machine S) (C : Copying S) (typed0 typed1 : List ℕ)
     entries_are = z.entries_are;
     count = z.count;
     nodes = nodes;
-    sent = subst (Sent (saw n k)) (sym messages) record { logs = z.sent.logs; acks = z.sent.acks; operations = z.sent.operations;
-        writes = z.sent.writes };
+    sent = subst (Sent (saw n k)) (sym messages) record {
+      logs = z.sent.logs;
+      acks = z.sent.acks;
+      operations = z.sent.operations;
+      writes = z.sent.writes;
+    };
     terminals = terminals ∙ z.terminals;
     winners = winners ∙ z.winners;
     puts = puts ∙ z.puts;
@@ -103,9 +110,16 @@ module _ {S : Type 0} (M : Machine S) (C : Copying S) (typed0 typed1 : List ℕ)
   }
 
   see_none : (n : ℕ) → n ≡ k.primary.seen → Leads M C typed0 typed1 (saw n k) w (λ events. events ≡ [])
-  see_none n e = record { events = []; formed = refl; replies = []; new = w; run = Nothing; once = inl refl;
-      shows = saw_shows n w (omega (arith, e))
-      (z.nodes ∙ (λ i. primary_node (saw (sym e i) k) z.moves z.s ∷ backup_node M k ∷ [])) refl refl refl refl }
+  see_none n e = record {
+    events = [];
+    formed = refl;
+    replies = [];
+    new = w;
+    run = Nothing;
+    once = inl refl;
+    shows = saw_shows n w (omega (arith, e))
+        (z.nodes ∙ (λ i. primary_node (saw (sym e i) k) z.moves z.s ∷ backup_node M k ∷ [])) refl refl refl refl;
+  }
 
   see_one : (n : ℕ) → k.primary.winner ≡ 0 → k.primary.seen ≤ n → n ≤ length k.primary.list → Among n k.backup.held_values
       → Leads M C typed0 typed1 (saw n k) w (λ events. (m : ℕ) × (events ≡ DeliverAcknowledgement m 0 ∷ []))
@@ -116,15 +130,23 @@ module _ {S : Type 0} (M : Machine S) (C : Copying S) (typed0 typed1 : List ℕ)
         replies = HeldIs (hears primary n 0).covered ∷ [];
         new = with_node w 0 (hears primary n 0);
         run = First (Accepts ((λ i. at_acknowledgement (at_primary none i) (m.1 i)) ∙ ap (λ b. first_of (fault_if b BadAck ∷ []))
-            (not_below (length k.primary.list) n short)) record { generation = 1; held = n; replayed = 0; message = m.1;
-            covered = (hears primary n 0).covered;
-            at = record { x = primary; there = at_primary none; y = hears primary n 0; done = (refl, refl); after = refl };
-            reply = refl }) Nothing;
+            (not_below (length k.primary.list) n short)) record {
+              generation = 1;
+              held = n;
+              replayed = 0;
+              message = m.1;
+              covered = (hears primary n 0).covered;
+              at = record { x = primary; there = at_primary none; y = hears primary n 0; done = (refl, refl); after = refl };
+              reply = refl;
+            }) Nothing;
         once = inl refl;
         shows = saw_shows n (with_node w 0 (hears primary n 0)) more
             (ap (λ l. slice_set l 0 (hears primary n 0)) z.nodes ∙
-                (λ i. record primary { role = primary_role (sym none i); running = primary_runs (sym none i);
-                covered = greater i } ∷ backup_node M k ∷ []))
+            (λ i. record primary {
+              role = primary_role (sym none i);
+              running = primary_runs (sym none i);
+              covered = greater i;
+            } ∷ backup_node M k ∷ []))
             refl refl refl refl;
       }
 
@@ -144,17 +166,31 @@ module _ {S : Type 0} (M : Machine S) (C : Copying S) (typed0 typed1 : List ℕ)
 
   take_one : (p : Packet) → k.backup.winner ≡ 0 → (m : ℕ) → slice_get w.messages m ≡ Some (LogEntry 1 p.index p.entry)
       → (b : Bool) → eqb p.index (length k.backup.list) ≡ b
-      → Leads M C typed0 typed1 (record k { backup =
-          record k.backup { list = cond b (k.backup.list ++ p.entry ∷ []) k.backup.list } }) w
-          (λ events. (m : ℕ) × (events ≡ DeliverLog m 1 ∷ []))
+      → Leads M C typed0 typed1 (record k {
+        backup =
+            record k.backup { list = cond b (k.backup.list ++ p.entry ∷ []) k.backup.list };
+      }) w
+      (λ events. (m : ℕ) × (events ≡ DeliverLog m 1 ∷ []))
   take_one p none m there true is = let next : p.index ≡ length k.backup.list = grind arith in record {
     events = DeliverLog m 1 ∷ [];
     formed = (m, refl);
     replies = New ∷ [];
     new = with_node w 1 (holds backup p.entry);
-    run = First (Accepts (λ i. at_log_entry (at_backup none i) (there i)) record { generation = 1; index = p.index; e = p.entry;
-        message = there; next = true; at = record { x = backup; there = at_backup none; y = holds backup p.entry;
-        done = (next, refl); after = refl }; reply = refl }) Nothing;
+    run = First (Accepts (λ i. at_log_entry (at_backup none i) (there i)) record {
+      generation = 1;
+      index = p.index;
+      e = p.entry;
+      message = there;
+      next = true;
+      at = record {
+        x = backup;
+        there = at_backup none;
+        y = holds backup p.entry;
+        done = (next, refl);
+        after = refl;
+      };
+      reply = refl;
+    }) Nothing;
     once = inl refl;
     shows = record {
       moves = z.moves;
@@ -163,8 +199,10 @@ module _ {S : Type 0} (M : Machine S) (C : Copying S) (typed0 typed1 : List ℕ)
       entries_are = z.entries_are;
       count = z.count;
       nodes = ap (λ l. slice_set l 1 (holds backup p.entry)) z.nodes ∙
-          (λ i. primary_node k z.moves z.s ∷ record (holds backup p.entry) { role = backup_role (sym none i);
-          running = backup_runs (sym none i) } ∷ []);
+          (λ i. primary_node k z.moves z.s ∷ record (holds backup p.entry) {
+            role = backup_role (sym none i);
+            running = backup_runs (sym none i);
+          } ∷ []);
       sent = record { logs = z.sent.logs; acks = z.sent.acks; operations = z.sent.operations; writes = z.sent.writes };
       terminals = z.terminals;
       winners = z.winners;
@@ -181,10 +219,21 @@ module _ {S : Type 0} (M : Machine S) (C : Copying S) (typed0 typed1 : List ℕ)
     formed = (m, refl);
     replies = Old ∷ [];
     new = w;
-    run = First (Accepts (λ i. at_log_entry (at_backup none i) (there i)) record { generation = 1; index = p.index; e = p.entry;
-        message = there; next = false; at = record { x = backup; there = at_backup none; y = backup;
+    run = First (Accepts (λ i. at_log_entry (at_backup none i) (there i)) record {
+      generation = 1;
+      index = p.index;
+      e = p.entry;
+      message = there;
+      next = false;
+      at = record {
+        x = backup;
+        there = at_backup none;
+        y = backup;
         done = ((λ e. let c : true ≡ false = sym (eq-eqb p.index (length k.backup.list) e) ∙ is in absurd (cc)), refl);
-        after = sym (with_same w 1 backup (at_backup none)) }; reply = refl }) Nothing;
+        after = sym (with_same w 1 backup (at_backup none));
+      };
+      reply = refl;
+    }) Nothing;
     once = inl refl;
     shows = record {
       moves = z.moves;

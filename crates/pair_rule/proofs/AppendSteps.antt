@@ -63,13 +63,13 @@ module _ {S : Type 0} (M : Machine S) (C : Copying S) (may : Runnable M) (typed0
     typed_next c port byte (rest, is) =
         let more : keys port (inputs_of (list ++ Rx c port byte ∷ [])) ≡ keys port (inputs_of list) ++ byte ∷ [] =
         ap (keys port) (inputs_of-append list (Rx c port byte ∷ [])) ∙ keys-append port (inputs_of list)
-            (inputs_of (Rx c port byte ∷ []))
+        (inputs_of (Rx c port byte ∷ []))
         ∙ ap (λ b. keys port (inputs_of list) ++ ((if b then byte ∷ [] else []) ++ [])) (eq-eqb port port refl) in
         let many : M.keys t port ≡ length (keys port (inputs_of list)) =
-            laws.takes_keys moves t port reaches ∙ ap (λ l. length (keys port l)) inputs_are in
+        laws.takes_keys moves t port reaches ∙ ap (λ l. length (keys port l)) inputs_are in
         ap (λ l. slice_get l (M.keys t port)) (sym is ∙ ap (λ l. l ++ rest) more) ∙ ap
-            (slice_get ((keys port (inputs_of list) ++ byte ∷ []) ++ rest)) many ∙ get_between
-            (keys port (inputs_of list)) byte rest
+        (slice_get ((keys port (inputs_of list) ++ byte ∷ []) ++ rest)) many ∙ get_between
+        (keys port (inputs_of list)) byte rest
 
     -- the byte whose acceptance the run takes next has been counted
     counted_next : (c port number : ℕ) → M.due_byte t port ≡ Some number
@@ -78,10 +78,10 @@ module _ {S : Type 0} (M : Machine S) (C : Copying S) (may : Runnable M) (typed0
     counted_next c port number due few =
         let more : acceptances port (inputs_of (list ++ Sent c port ∷ [])) ≡ acceptances port (inputs_of list) + 1 =
         ap (acceptances port) (inputs_of-append list (Sent c port ∷ [])) ∙ acceptances-append port (inputs_of list)
-            (inputs_of (Sent c port ∷ []))
+        (inputs_of (Sent c port ∷ []))
         ∙ ap (λ b. acceptances port (inputs_of list) + ((if b then 1 else 0) + 0)) (eq-eqb port port refl) in
         let is : number ≡ acceptances port (inputs_of list) + 1 =
-            laws.due moves t port number reaches due ∙ ap (λ l. acceptances port l + 1) inputs_are in
+        laws.due moves t port number reaches due ∙ ap (λ l. acceptances port l + 1) inputs_are in
         (omega (arith, is), omega (arith, is, more, few))
 
     hears : (n : ℕ) (u : S) (i : Input) → Quiet M z.s n t → Accepts M t i u → IsTold M typed0 typed1 k t (entry_of (M.count t) i)
@@ -92,23 +92,23 @@ module _ {S : Type 0} (M : Machine S) (C : Copying S) (may : Runnable M) (typed0
     hears n u (input.Sent port) q accepts told = let d = is_due M t port accepts.allowed in let c =
         counted_next (M.count t) port d.0 d.1 told in
         sent_leads M C may.counts laws typed0 typed1 k w z st free.asks_not free.few free.room n t u port d.0 q accepts d.1 c.0
-            (accepted_there M typed0 typed1 k w z st port d.0 accepts.is_input c.1)
+        (accepted_there M typed0 typed1 k w z st port d.0 accepts.is_input c.1)
     hears n u (input.Written number) q accepts told =
         done_leads M C may.counts laws typed0 typed1 k w z st free.asks_not free.few free.room n t u number q accepts
         (done_there M typed0 typed1 k w z st number told) (put_there M typed0 typed1 k w z st number told)
     hears n u (input.Sector drive sector number bytes) q accepts (r, given, at, same, alike) =
         let allowed : refusal_of M t (input.Sector drive sector r.number r.bytes) ≡ None =
-            ap (λ n. sector_refusal M t (M.address t drive sector) n) same ∙ accepts.allowed in
+        ap (λ n. sector_refusal M t (M.address t drive sector) n) same ∙ accepts.allowed in
         let first : r.number ≡ 0 → r.bytes ≡ M.boot_sector (M.address t drive sector) =
-            λ none. z.first_reads r (all_in (λ a. Among a k.disk.given) k.primary.answers (answer.Read r) st.answers given) none
-            ∙ ap M.boot_sector at in
+        λ none. z.first_reads r (all_in (λ a. Among a k.disk.given) k.primary.answers (answer.Read r) st.answers given) none
+        ∙ ap M.boot_sector at in
         sector_leads M C may.counts laws typed0 typed1 k w z st free.asks_not free.few free.room n t u drive sector number bytes q
-            accepts
+        accepts
         (may.selected t drive sector (is_ready M t (M.address t drive sector) number accepts.allowed))
-            (laws.placed t drive sector)
+        (laws.placed t drive sector)
         (ap (λ l. sector_record M l (M.address t drive sector)) z.puts
-            ∙ still M laws typed0 typed1 k w z st n t q drive sector r allowed given first ∙
-            (λ i. record { number = same i; bytes = alike i }))
+        ∙ still M laws typed0 typed1 k w z st n t q drive sector r allowed given first ∙
+        (λ i. record { number = same i; bytes = alike i }))
 
   pub append_leads : (e : Entry) (run : HasLonger M list e) → IsTold M typed0 typed1 k run.before e
       → Leads M C typed0 typed1 (appended e k) w (AppendEvents (length list) e)
@@ -116,7 +116,7 @@ module _ {S : Type 0} (M : Machine S) (C : Copying S) (may : Runnable M) (typed0
       let boot : M.count M.boot ≡ 0 = laws.counts [] M.boot refl in
       let m = last_move M may.counts boot laws.counts list e run in
       let g = run_goes_on M may.counts boot list z.moves z.s z.recorded z.entries_are z.count run.moves run.before run.recorded
-          m.0 in
+      m.0 in
       go e told m.1 g.further g.quietly m.0
     where
       go : (e : Entry) → IsTold M typed0 typed1 k run.before e → LastMove M run.before run.after list e → (n : ℕ)

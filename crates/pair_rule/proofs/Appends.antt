@@ -125,12 +125,12 @@ module _ {S : Type 0} (M : Machine S) (C : Copying S) (counts : Counts M) (laws 
   step_allowed : (m : ℕ) (x : S × Option Operation) → M.step z.s ≡ Some x → refusal M C w (Step 0 (suc m)) ≡ None
   step_allowed m x step = ap (λ o. at_node o (step_refusal M (suc m))) (first_node M C typed0 typed1 k w z none)
       ∙ (let a : nat_le log_size (length list - k.primary.seen) ≡ false =
-          too_low (length list - k.primary.seen) log_size (let b = held_short k st in omega arith) in
+      too_low (length list - k.primary.seen) log_size (let b = held_short k st in omega arith) in
       let b : nat_le top (length list) ≡ false = too_low (length list) top few in
       let c : M.is_spent z.s ≡ false = not_true (M.is_spent z.s) (λ e. let n = counts.spent z.s e in let d : None ≡ Some x =
-          sym n ∙ step in absurd (cc)) in
+      sym n ∙ step in absurd (cc)) in
       λ i. first_of (fault_if (a i) LogFull ∷ fault_if (b i) Spent ∷ fault_if (c i) Spent ∷ fault_if (is_none (step i)) Idle ∷
-          []))
+      []))
 
   -- the primary with the longer list, after these moves
   abbrev then_node : Entry → List Move → S → Node S
@@ -150,54 +150,57 @@ module _ {S : Type 0} (M : Machine S) (C : Copying S) (counts : Counts M) (laws 
   finish : (e : Entry) (moves : List Move) (u : S) (v : World S) (events : List Event) (replies : List Reply)
       → Recorded M M.boot moves u → entries 0 moves ≡ list ++ e ∷ [] → M.count u ≡ count_of e → Happens M C w events replies v
       → v.nodes ≡ then_node e moves u ∷ backup_node M k ∷ [] → Sent k v.messages → v.terminals ≡ w.terminals
-          → v.winners ≡ w.winners → v.puts ≡ w.puts → OnlySent v
+      → v.winners ≡ w.winners → v.puts ≡ w.puts → OnlySent v
       → IsPrefix z.moves moves → ((n : ℕ) → IsDone n moves → HasWrite k.disk.puts n)
-          → AppendEvents (length list) e (events ++ Send 0 (length list) ∷ [])
+      → AppendEvents (length list) e (events ++ Send 0 (length list) ∷ [])
       → Leads M C typed0 typed1 (appended e k) w (AppendEvents (length list) e)
   finish e moves u v events replies recorded entered count run nodes sent terminals winners puts only below done formed =
       let y : Node S = then_node e moves u in let message : Message = LogEntry 1 (length list) e in record {
-    events = events ++ Send 0 (length list) ∷ [];
-    formed = formed;
-    replies = replies ++ MessageIs (length v.messages) ∷ [];
-    new = with_message v message;
-    run = run_more w events replies v (with_message v message) (Send 0 (length list) ∷ [])
-        (MessageIs (length v.messages) ∷ []) run (First (Accepts
-        (ap (λ l. at_node (slice_get l 0) (send_refusal (length list))) nodes
-        ∙ (let a : nat_lt (length list) k.primary.seen ≡ false = (let b = held_short k st in let c = st.behind in grind arith) in
-        λ i. fault_if (false || (a i || is_none (get_last list e i))) Unknown))
-        record { e = e; node = record { x = y; there = ap (λ l. slice_get l 0) nodes; said = get_last list e };
-            says = record { reply = refl; after = refl } }) Nothing);
-    once = inl winners;
-    shows = record {
-      moves = moves;
-      s = u;
-      recorded = recorded;
-      entries_are = entered;
-      count = count ∙ sym (last_of 0 list e);
-      nodes = nodes ∙ (λ i. record y { role = primary_role (sym none i); running = primary_runs (sym none i) } ∷ backup_node M k ∷
-          []);
-      sent = let t = more_sent k v.messages (message ∷ []) sent in record {
-        logs = λ i x at. ⊎_elim (λ (old : slice_get list i ≡ Some x). t.logs i x old)
-            (λ (new : (i ≡ length list) × (e ≡ x)). subst
+        events = events ++ Send 0 (length list) ∷ [];
+        formed = formed;
+        replies = replies ++ MessageIs (length v.messages) ∷ [];
+        new = with_message v message;
+        run = run_more w events replies v (with_message v message) (Send 0 (length list) ∷ [])
+            (MessageIs (length v.messages) ∷ []) run (First (Accepts
+            (ap (λ l. at_node (slice_get l 0) (send_refusal (length list))) nodes
+            ∙ (let a : nat_lt (length list) k.primary.seen ≡ false = (let b = held_short k st in let c = st.behind in grind arith) in
+            λ i. fault_if (false || (a i || is_none (get_last list e i))) Unknown))
+            record {
+              e = e;
+              node = record { x = y; there = ap (λ l. slice_get l 0) nodes; said = get_last list e };
+              says = record { reply = refl; after = refl };
+            }) Nothing);
+        once = inl winners;
+        shows = record {
+          moves = moves;
+          s = u;
+          recorded = recorded;
+          entries_are = entered;
+          count = count ∙ sym (last_of 0 list e);
+          nodes = nodes ∙ (λ i. record y { role = primary_role (sym none i); running = primary_runs (sym none i) } ∷ backup_node M k ∷
+              []);
+          sent = let t = more_sent k v.messages (message ∷ []) sent in record {
+            logs = λ i x at. ⊎_elim (λ (old : slice_get list i ≡ Some x). t.logs i x old)
+                (λ (new : (i ≡ length list) × (e ≡ x)). subst
                 (λ (p : ℕ × Entry). Among (LogEntry 1 p.0 p.1) (v.messages ++ message ∷ [])) (λ j. (sym new.0 j, new.1 j))
                 (among_last message v.messages)) (get_end list e x i at);
-        acks = t.acks;
-        operations = t.operations;
-        writes = t.writes;
-      };
-      terminals = terminals ∙ z.terminals;
-      winners = winners ∙ z.winners;
-      puts = puts ∙ z.puts;
-      issued = λ o at. among-prefix o (operations z.moves) (operations moves) (operations-prefix z.moves moves below)
-          (z.issued o at);
-      done = done;
-      first_reads = z.first_reads;
-      covered = λ o at. subst (λ l. IsAcknowledged l k.primary.seen o) below.1
-          (longer_covered z.moves below.0 k.primary.seen o (z.covered o at));
-      only = only_more (list ++ e ∷ []) k.backup.held_values message v.messages (refl, get_last list e)
-          (λ m at. only_longer list k.backup.held_values e m (only m at));
-    };
-  }
+            acks = t.acks;
+            operations = t.operations;
+            writes = t.writes;
+          };
+          terminals = terminals ∙ z.terminals;
+          winners = winners ∙ z.winners;
+          puts = puts ∙ z.puts;
+          issued = λ o at. among-prefix o (operations z.moves) (operations moves) (operations-prefix z.moves moves below)
+              (z.issued o at);
+          done = done;
+          first_reads = z.first_reads;
+          covered = λ o at. subst (λ l. IsAcknowledged l k.primary.seen o) below.1
+              (longer_covered z.moves below.0 k.primary.seen o (z.covered o at));
+          only = only_more (list ++ e ∷ []) k.backup.held_values message v.messages (refl, get_last list e)
+              (λ m at. only_longer list k.backup.held_values e m (only m at));
+        };
+      }
 
   -- the entries of the moves up to here, and of one move behind quiet ones
   longer_entries : (n : ℕ) (t : S) (r : QuietMoves M z.s n t) (last : Move)
@@ -215,8 +218,8 @@ module _ {S : Type 0} (M : Machine S) (C : Copying S) (counts : Counts M) (laws 
       ∙ notes_more c list (notes_from 0 [] [] z.moves) r.moves (last ∷ [])
       ∙ (λ i. notes_from (c + steps r.moves) (list ++ r.silent c i) (r.notes c list (notes_from 0 [] [] z.moves) i) (last ∷ []))
       ∙ (λ i. notes_from (let e : c + steps r.moves ≡ M.count z.s + n =
-          (let a = laws.counts z.moves z.s runs in let b = r.count in omega arith) in e i) (append-nil list i)
-          (notes_from 0 [] [] z.moves) (last ∷ []))
+      (let a = laws.counts z.moves z.s runs in let b = r.count in omega arith) in e i) (append-nil list i)
+      (notes_from 0 [] [] z.moves) (last ∷ []))
 
   -- a write that is done after quiet steps and one move more
   longer_done : (n : ℕ) (t : S) (r : QuietMoves M z.s n t) (last : Move)
@@ -226,16 +229,16 @@ module _ {S : Type 0} (M : Machine S) (C : Copying S) (counts : Counts M) (laws 
   longer_done n t r last new number d =
       let c : ℕ = 0 + steps z.moves + steps r.moves in
       let e : inputs 0 (z.moves ++ (r.moves ++ last ∷ [])) ≡ inputs 0 z.moves ++ inputs c (last ∷ []) =
-          inputs-append 0 z.moves (r.moves ++ last ∷ [])
+      inputs-append 0 z.moves (r.moves ++ last ∷ [])
       ∙ ap (λ l. inputs 0 z.moves ++ l) (inputs-append (0 + steps z.moves) r.moves (last ∷ []) ∙ ap
-          (λ l. l ++ inputs c (last ∷ [])) (r.bare (0 + steps z.moves))) in
+      (λ l. l ++ inputs c (last ∷ [])) (r.bare (0 + steps z.moves))) in
       ⊎_elim (λ (i : IsDone number z.moves). z.done number i)
-          (λ (i : Among (Written number) (map (λ (x : Timed). x.input) (inputs c (last ∷ [])))). new c number i)
+      (λ (i : Among (Written number) (map (λ (x : Timed). x.input) (inputs c (last ∷ [])))). new c number i)
       (among-split (Written number) (map (λ (x : Timed). x.input) (inputs 0 z.moves))
-          (map (λ (x : Timed). x.input) (inputs c (last ∷ [])))
+      (map (λ (x : Timed). x.input) (inputs c (last ∷ [])))
       (subst (λ l. Among (Written number) l)
-          (ap (λ (l : List Timed). map (λ (x : Timed). x.input) l) e ∙ map-append (λ (x : Timed). x.input) (inputs 0 z.moves)
-          (inputs c (last ∷ []))) d))
+      (ap (λ (l : List Timed). map (λ (x : Timed). x.input) l) e ∙ map-append (λ (x : Timed). x.input) (inputs 0 z.moves)
+      (inputs c (last ∷ []))) d))
 
   -- an input tells of a write that was put, or of none
   abbrev Tells : Input → Type 0
@@ -250,14 +253,14 @@ module _ {S : Type 0} (M : Machine S) (C : Copying S) (counts : Counts M) (laws 
       → Leads M C typed0 typed1 (appended (Mark (M.count u)) k) w (AppendEvents (length list) (Mark (M.count u)))
   mark_leads n t u o q step =
       let r = quiet_moves M z.s n t q in let e : Entry = Mark (M.count u) in let moves : List Move =
-          z.moves ++ (r.moves ++ Do (Some o) ∷ []) in
+      z.moves ++ (r.moves ++ Do (Some o) ∷ []) in
       let y : Node S = then_node e moves u in
       let counted = quiet_count M counts z.s n t q in let last = counts.by_step t u (Some o) step in
       let x = quiet_first M z.s n t (u, Some o) q step in
       let same : M.count u ≡ suc (M.count z.s + n) = omega arith in
       finish e moves u (with_node w 0 y) (Step 0 (suc n) ∷ []) (Ran (suc n) (M.count u) (reason.Operation (id_of o)) ∷ [])
       (recorded-append M M.boot z.s u z.moves (r.moves ++ Do (Some o) ∷ []) z.recorded
-          (recorded-append M z.s t u r.moves (Do (Some o) ∷ []) r.recorded (u, step, refl)))
+      (recorded-append M z.s t u r.moves (Do (Some o) ∷ []) r.recorded (u, step, refl)))
       (longer_entries n t r (Do (Some o)) ∙ ap (λ c. list ++ Mark c ∷ []) (sym same)) refl
       (First (Accepts (step_allowed n x.0 x.1) record {
         made = suc n;
@@ -269,12 +272,19 @@ module _ {S : Type 0} (M : Machine S) (C : Copying S) (counts : Counts M) (laws 
           y = y;
           done = record {
             advances = subst (λ (p : ℕ × Node S). Advances M here p.0 p.1 p.0 (reason.Operation (id_of o)))
-                (λ i. (let e : n + 1 ≡ suc n =
-                    omega arith in e i, record y { list = sym (inputs_of-append list (e ∷ []) ∙ append-nil (inputs_of list)) i;
-                    notes = sym (longer_notes n t r (Do (Some o))) i }))
-                (advance_quiet z.s n t q 1 (record (at u) { log = list ++ e ∷ [];
-                    notes = notes_after (notes_from 0 [] [] z.moves) list (Some o) }) 1 (reason.Operation (id_of o))
-                    (Gives u o step));
+                (λ i. (
+                  let e : n + 1 ≡ suc n =
+                      omega arith in e i,
+                  record y {
+                    list = sym (inputs_of-append list (e ∷ []) ∙ append-nil (inputs_of list)) i;
+                    notes = sym (longer_notes n t r (Do (Some o))) i;
+                  },
+                ))
+                (advance_quiet z.s n t q 1 (record (at u) {
+                  log = list ++ e ∷ [];
+                  notes = notes_after (notes_from 0 [] [] z.moves) list (Some o);
+                }) 1 (reason.Operation (id_of o))
+                (Gives u o step));
             some = inr (omega arith);
             counted = refl;
           };
@@ -283,7 +293,7 @@ module _ {S : Type 0} (M : Machine S) (C : Copying S) (counts : Counts M) (laws 
         reply = refl;
       }) Nothing)
       (ap (λ l. slice_set l 0 y) z.nodes) z.sent refl refl refl z.only (r.moves ++ Do (Some o) ∷ [], refl)
-          (longer_done n t r (Do (Some o)) (λ c number a. absurd a)) (suc n, refl)
+      (longer_done n t r (Do (Some o)) (λ c number a. absurd a)) (suc n, refl)
 
   -- ---- inputs
 
@@ -298,9 +308,19 @@ module _ {S : Type 0} (M : Machine S) (C : Copying S) (counts : Counts M) (laws 
   quiet_event n t Begin = (
     Ran 0 (M.count z.s) reason.Turns,
     First (Accepts (ap (λ o. at_node o (step_refusal M 0)) (first_node M C typed0 typed1 k w z none))
-        record { made = 0; count = M.count z.s; why = reason.Turns;
-            at = record { x = here; there = first_node M C typed0 typed1 k w z none; y = here;
-            done = record { advances = NoneLeft; some = inl refl; counted = refl }; after = refl }; reply = refl }) Nothing,
+        record {
+          made = 0;
+          count = M.count z.s;
+          why = reason.Turns;
+          at = record {
+            x = here;
+            there = first_node M C typed0 typed1 k w z none;
+            y = here;
+            done = record { advances = NoneLeft; some = inl refl; counted = refl };
+            after = refl;
+          };
+          reply = refl;
+        }) Nothing,
   )
   quiet_event m u (More {n = n} {t = t} q free step) = let x = quiet_first M z.s n t (u, None) q step in (
     Ran (suc n) (M.count u) reason.Turns,
@@ -332,16 +352,16 @@ module _ {S : Type 0} (M : Machine S) (C : Copying S) (counts : Counts M) (laws 
   input_leads : (n : ℕ) (t u : S) (i : Input) → Quiet M z.s n t → IsAccepted M t i u
       → (events : List Event) (replies : List Reply) (v : World S)
       → Happens M C (with_node w 0 (at t)) events replies v → v.nodes ≡ taken t u i ∷ backup_node M k ∷ [] → Sent k v.messages
-          → v.terminals ≡ w.terminals → v.winners ≡ w.winners → v.puts ≡ w.puts → OnlySent v → Tells i
+      → v.terminals ≡ w.terminals → v.winners ≡ w.winners → v.puts ≡ w.puts → OnlySent v → Tells i
       → AppendEvents (length list) (entry_of (M.count t) i) ((Step 0 n ∷ events) ++ Send 0 (length list) ∷ [])
       → Leads M C typed0 typed1 (appended (entry_of (M.count t) i) k) w (AppendEvents (length list) (entry_of (M.count t) i))
   input_leads n t u i q accepts events replies v run nodes sent terminals winners puts only tells formed =
       let r = quiet_moves M z.s n t q in let e : Entry = entry_of (M.count t) i in let moves : List Move =
-          z.moves ++ (r.moves ++ Take i ∷ []) in
+      z.moves ++ (r.moves ++ Take i ∷ []) in
       let counted = quiet_count M counts z.s n t q in let first = quiet_event n t q in
       finish e moves u v (Step 0 n ∷ events) (first.0 ∷ replies)
       (recorded-append M M.boot z.s u z.moves (r.moves ++ Take i ∷ []) z.recorded
-          (recorded-append M z.s t u r.moves (Take i ∷ []) r.recorded (u, accepts, refl)))
+      (recorded-append M z.s t u r.moves (Take i ∷ []) r.recorded (u, accepts, refl)))
       (longer_entries n t r (Take i) ∙ ap (λ c. list ++ entry_of c i ∷ []) (sym counted))
       (counts.by_input t u i accepts.taken ∙ sym (count_entry (M.count t) i))
       (run_more w (Step 0 n ∷ []) (first.0 ∷ []) (with_node w 0 (at t)) v events replies first.1 run)
@@ -361,92 +381,141 @@ module _ {S : Type 0} (M : Machine S) (C : Copying S) (counts : Counts M) (laws 
   pub key_leads : (n : ℕ) (t u : S) (port byte : ℕ) → Quiet M z.s n t → IsAccepted M t (input.Rx port byte) u
       → slice_get (terminal w port).typed (M.keys t port) ≡ Some byte
       → Leads M C typed0 typed1 (appended (entry_of (M.count t) (input.Rx port byte)) k) w
-          (AppendEvents (length list) (entry_of (M.count t) (input.Rx port byte)))
+      (AppendEvents (length list) (entry_of (M.count t) (input.Rx port byte)))
   key_leads n t u port byte q accepts typed = let short : M.keys t port < top =
       key_room M (M.keys t port) accepts.room in let w1 : World S = with_node w 0 (at t) in
       input_leads n t u (input.Rx port byte) q accepts (TakeKey 0 port (M.keys t port) ∷ []) (Taken ∷ [])
-          (with_node w1 0 (taken t u (input.Rx port byte)))
+      (with_node w1 0 (taken t u (input.Rx port byte)))
       (First (Accepts ((λ i. first_of (fault_if (is_none (typed i)) Unknown ∷ at_node (there_at t i)
-          (take_key_refusal M port (M.keys t port)) ∷ []))
+      (take_key_refusal M port (M.keys t port)) ∷ []))
       ∙ (λ i. first_of (first_of (fault_if (not (eq-eqb (M.keys t port) (M.keys t port) refl i)) WrongNumber ∷ fault_if
-          (no_full i) LogFull ∷ fault_if (no_spent i) Spent ∷ fault_if (too_low (M.keys t port) top short i) Spent ∷ []) ∷ [])))
-      record { byte = byte; typed = typed;
-          input = record { at = record { x = at t; there = there_at t; y = taken t u (input.Rx port byte);
-          done = record { s = u; takes = accepts.taken; after = refl }; after = refl }; reply = refl } }) Nothing)
+      (no_full i) LogFull ∷ fault_if (no_spent i) Spent ∷ fault_if (too_low (M.keys t port) top short i) Spent ∷ []) ∷ [])))
+      record {
+        byte = byte;
+        typed = typed;
+        input = record {
+          at = record {
+            x = at t;
+            there = there_at t;
+            y = taken t u (input.Rx port byte);
+            done = record { s = u; takes = accepts.taken; after = refl };
+            after = refl;
+          };
+          reply = refl;
+        };
+      }) Nothing)
       (then_nodes t (taken t u (input.Rx port byte))) z.sent refl refl refl z.only
-          (λ m e. absurd (let c : Written m ≡ bare (input.Rx port byte) = e in cc)) (n, M.keys t port, refl)
+      (λ m e. absurd (let c : Written m ≡ bare (input.Rx port byte) = e in cc)) (n, M.keys t port, refl)
 
   -- the acceptance of a byte that its terminal has counted
   pub sent_leads : (n : ℕ) (t u : S) (port number : ℕ) → Quiet M z.s n t → IsAccepted M t (input.Sent port) u
       → M.due_byte t port ≡ Some number → 1 ≤ number → number ≤ length (accepted w port)
       → Leads M C typed0 typed1 (appended (entry_of (M.count t) (input.Sent port)) k) w
-          (AppendEvents (length list) (entry_of (M.count t) (input.Sent port)))
+      (AppendEvents (length list) (entry_of (M.count t) (input.Sent port)))
   sent_leads n t u port number q accepts due some came = let w1 : World S = with_node w 0 (at t) in
       input_leads n t u (input.Sent port) q accepts (TellSent 0 port number ∷ []) (Taken ∷ [])
-          (with_node w1 0 (taken t u (input.Sent port)))
+      (with_node w1 0 (taken t u (input.Sent port)))
       (First (Accepts (let a : (number == 0) ≡ false =
-          ne_eqb number 0 (λ e. omega arith) in let b : nat_lt (length (accepted w port)) number ≡ false = grind arith in
+      ne_eqb number 0 (λ e. omega arith) in let b : nat_lt (length (accepted w port)) number ≡ false = grind arith in
       (λ i. first_of (fault_if (a i || b i) Unknown ∷ at_node (there_at t i) (tell_sent_refusal M port number) ∷ []))
       ∙ (λ i. first_of (first_of (fault_if (is_none (due i)) NotDue ∷ fault_if (not (is_number (due i) number)) WrongNumber
-          ∷ fault_if (no_full i) LogFull ∷ fault_if (no_spent i) Spent ∷ []) ∷ []))
+      ∷ fault_if (no_full i) LogFull ∷ fault_if (no_spent i) Spent ∷ []) ∷ []))
       ∙ (λ i. first_of (first_of (None ∷ fault_if (not (eq-eqb number number refl i)) WrongNumber ∷ None ∷ None ∷ []) ∷ [])))
-      record { at = record { x = at t; there = there_at t; y = taken t u (input.Sent port);
-          done = record { s = u; takes = accepts.taken; after = refl }; after = refl }; reply = refl }) Nothing)
+      record {
+        at = record {
+          x = at t;
+          there = there_at t;
+          y = taken t u (input.Sent port);
+          done = record { s = u; takes = accepts.taken; after = refl };
+          after = refl;
+        };
+        reply = refl;
+      }) Nothing)
       (then_nodes t (taken t u (input.Sent port))) z.sent refl refl refl z.only
-          (λ m e. absurd (let c : Written m ≡ bare (input.Sent port) = e in cc)) (n, number, refl)
+      (λ m e. absurd (let c : Written m ≡ bare (input.Sent port) = e in cc)) (n, number, refl)
 
   -- a write that the disk has answered
   pub done_leads : (n : ℕ) (t u : S) (number : ℕ) → Quiet M z.s n t → IsAccepted M t (input.Written number) u
       → Among (WriteDone number) w.messages → HasWrite k.disk.puts number
       → Leads M C typed0 typed1 (appended (entry_of (M.count t) (input.Written number)) k) w
-          (AppendEvents (length list) (entry_of (M.count t) (input.Written number)))
+      (AppendEvents (length list) (entry_of (M.count t) (input.Written number)))
   done_leads n t u number q accepts at_disk put = let w1 : World S = with_node w 0 (at t) in let m =
       index_of (WriteDone number) w.messages at_disk in
       input_leads n t u (input.Written number) q accepts (PutReply m.0 0 ∷ []) (Taken ∷ [])
-          (with_node w1 0 (taken t u (input.Written number)))
+      (with_node w1 0 (taken t u (input.Written number)))
       (First (Accepts ((λ i. at_write_done M (there_at t i) (m.1 i))
       ∙ (λ i. first_of (accepts.allowed i ∷ fault_if (no_full i) LogFull ∷ fault_if (no_spent i) Spent ∷ [])))
-      record { number = number; message = m.1;
-          input = record { at = record { x = at t; there = there_at t; y = taken t u (input.Written number);
-          done = record { s = u; takes = accepts.taken; after = refl }; after = refl }; reply = refl } }) Nothing)
+      record {
+        number = number;
+        message = m.1;
+        input = record {
+          at = record {
+            x = at t;
+            there = there_at t;
+            y = taken t u (input.Written number);
+            done = record { s = u; takes = accepts.taken; after = refl };
+            after = refl;
+          };
+          reply = refl;
+        };
+      }) Nothing)
       (then_nodes t (taken t u (input.Written number))) z.sent refl refl refl z.only
-          (λ m e. subst (HasWrite k.disk.puts) (sym (same_number m number e)) put) (n, m.0, refl)
+      (λ m e. subst (HasWrite k.disk.puts) (sym (same_number m number e)) put) (n, m.0, refl)
 
   -- a sector that the disk read: its record is still the same
   pub sector_leads : (n : ℕ) (t u : S) (drive sector number : ℕ) (bytes : List ℕ) → Quiet M z.s n t
       → IsAccepted M t (input.Sector drive sector number bytes) u
-      → M.selected t ≡ Some drive → M.address t drive sector ≡ record (M.address t drive sector) { drive = drive;
-          sector = sector }
+      → M.selected t ≡ Some drive → M.address t drive sector ≡ record (M.address t drive sector) {
+        drive = drive;
+        sector = sector;
+      }
       → sector_record M w.puts (M.address t drive sector) ≡ record { number = number; bytes = bytes }
       → Leads M C typed0 typed1 (appended (entry_of (M.count t) (input.Sector drive sector number bytes)) k) w
-          (AppendEvents (length list) (entry_of (M.count t) (input.Sector drive sector number bytes)))
+      (AppendEvents (length list) (entry_of (M.count t) (input.Sector drive sector number bytes)))
   sector_leads n t u drive sector number bytes q accepts selected placed still =
       let w1 : World S = with_node w 0 (at t) in let i : Input =
-          input.Sector drive sector number bytes in let address : SectorAddress = M.address t drive sector in
+      input.Sector drive sector number bytes in let address : SectorAddress = M.address t drive sector in
       let w2 : World S = with_read M w1 address in
       let read : slice_get w2.messages (length w.messages) ≡ Some
-          (SectorRead (record address { drive = drive; sector = sector }) number bytes) =
-          get_last w.messages (SectorRead address (sector_record M w.puts address).number (sector_record M w.puts address).bytes)
+      (SectorRead (record address { drive = drive; sector = sector }) number bytes) =
+      get_last w.messages (SectorRead address (sector_record M w.puts address).number (sector_record M w.puts address).bytes)
       ∙ (λ j. Some (SectorRead (placed j) (still j).number (still j).bytes)) in
       let same : same_address (M.address t drive sector) (record address { drive = drive; sector = sector }) ≡ true =
-          ap (λ a. same_address (M.address t drive sector) a) (sym placed) ∙ same_self (M.address t drive sector) in
+      ap (λ a. same_address (M.address t drive sector) a) (sym placed) ∙ same_self (M.address t drive sector) in
       input_leads n t u i q accepts (Get 0 sector ∷ GetReply (length w.messages) 0 ∷ [])
-          (MessageIs (length w.messages) ∷ Taken ∷ []) (with_node w2 0 (taken t u i))
+      (MessageIs (length w.messages) ∷ Taken ∷ []) (with_node w2 0 (taken t u i))
       (First (Accepts (let a : nat_le 32 sector ≡ false = too_low sector 32 accepts.is_input.1 in
       (λ j. first_of (fault_if (a j) Unknown ∷ at_node (there_at t j) (get_refusal M) ∷ []))
       ∙ (λ j. first_of (first_of (fault_if (is_none (selected j)) NotDue ∷ []) ∷ [])))
-      record { address = address; node =
-          record { x = at t; there = there_at t; said = record { drive = drive; selected = selected; address_is = refl } };
-          reply = refl; after = refl })
+      record {
+        address = address;
+        node =
+            record { x = at t; there = there_at t; said = record { drive = drive; selected = selected; address_is = refl } };
+        reply = refl;
+        after = refl;
+      })
       (First (Accepts ((λ j. at_sector_read M (there_at t j) (read j))
       ∙ (λ j. first_of (fault_if (not (same j)) NotDue ∷ accepts.allowed j ∷ fault_if (no_full j) LogFull ∷ fault_if
-          (no_spent j) Spent ∷ [])))
-      record { address = record address { drive = drive; sector = sector }; number = number; bytes = bytes; message = read;
-          input = record { at = record { x = at t; there = there_at t; y = taken t u i;
-          done = record { s = u; takes = accepts.taken; after = refl }; after = refl }; reply = refl } }) Nothing))
+      (no_spent j) Spent ∷ [])))
+      record {
+        address = record address { drive = drive; sector = sector };
+        number = number;
+        bytes = bytes;
+        message = read;
+        input = record {
+          at = record {
+            x = at t;
+            there = there_at t;
+            y = taken t u i;
+            done = record { s = u; takes = accepts.taken; after = refl };
+            after = refl;
+          };
+          reply = refl;
+        };
+      }) Nothing))
       (then_nodes t (taken t u i)) (more_sent k w.messages
-          (SectorRead address (sector_record M w.puts address).number (sector_record M w.puts address).bytes ∷ []) z.sent) refl
-          refl refl (only_more list k.backup.held_values
-          (SectorRead address (sector_record M w.puts address).number (sector_record M w.puts address).bytes) w.messages tt
-          z.only) (λ m e. absurd (let c : Written m ≡ bare (input.Sector drive sector number bytes) = e in cc))
-          (n, length w.messages, refl)
+      (SectorRead address (sector_record M w.puts address).number (sector_record M w.puts address).bytes ∷ []) z.sent) refl
+      refl refl (only_more list k.backup.held_values
+      (SectorRead address (sector_record M w.puts address).number (sector_record M w.puts address).bytes) w.messages tt
+      z.only) (λ m e. absurd (let c : Written m ≡ bare (input.Sector drive sector number bytes) = e in cc))
+      (n, length w.messages, refl)

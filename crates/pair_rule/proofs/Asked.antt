@@ -33,10 +33,14 @@ module _ {S : Type 0} (M : Machine S) (C : Copying S) (typed0 typed1 : List ℕ)
       → Leads M C typed0 typed1 (primary_asked 0 k) w (λ events. events ≡ Suspect 0 ∷ [])
   primary_wins none nobody = let undecided : w.winners ≡ [] = z.winners ∙ (λ i. winners_of (winner_of (none i) (nobody i))) in
       let row : Row M C w (Suspect 0) (Won) (with_winner w 0 primary) =
-          Accepts (ap (λ o. at_node o (ask_refusal w 0)) (at_primary none) ∙ ap
-          (λ (l : List Winner). first_of (fault_if (is_other (winner_in l 1) 0) Lost ∷ [])) undecided)
-      record { x = primary; there = at_primary none; reply = refl;
-          after = inl (ap (λ l. winner_in l 1) undecided, refl) } in record {
+      Accepts (ap (λ o. at_node o (ask_refusal w 0)) (at_primary none) ∙ ap
+      (λ (l : List Winner). first_of (fault_if (is_other (winner_in l 1) 0) Lost ∷ [])) undecided)
+      record {
+        x = primary;
+        there = at_primary none;
+        reply = refl;
+        after = inl (ap (λ l. winner_in l 1) undecided, refl);
+      } in record {
         events = Suspect 0 ∷ [];
         formed = refl;
         replies = Won ∷ [];
@@ -67,8 +71,8 @@ module _ {S : Type 0} (M : Machine S) (C : Copying S) (typed0 typed1 : List ℕ)
   primary_loses none other = let decided : w.winners ≡ record { generation = 1; node = 1 } ∷ [] =
       z.winners ∙ (λ i. winners_of (winner_of (none i) (other i))) in
       let row : Row M C w (Suspect 0) (Refused Lost) (with_node w 0 (halts primary)) =
-          Refuses (ap (λ o. at_node o (ask_refusal w 0)) (at_primary none) ∙ ap
-          (λ (l : List Winner). first_of (fault_if (is_other (winner_in l 1) 0) Lost ∷ [])) decided)
+      Refuses (ap (λ o. at_node o (ask_refusal w 0)) (at_primary none) ∙ ap
+      (λ (l : List Winner). first_of (fault_if (is_other (winner_in l 1) 0) Lost ∷ [])) decided)
       record { x = primary; there = at_primary none; y = halts primary; done = refl; after = refl } in record {
         events = Suspect 0 ∷ [];
         formed = refl;
@@ -99,10 +103,14 @@ module _ {S : Type 0} (M : Machine S) (C : Copying S) (typed0 typed1 : List ℕ)
       → Leads M C typed0 typed1 (backup_asked 0 k) w (λ events. events ≡ Suspect 1 ∷ [])
   backup_wins none nobody = let undecided : w.winners ≡ [] = z.winners ∙ (λ i. winners_of (winner_of (none i) (nobody i))) in
       let row : Row M C w (Suspect 1) (Won) (with_winner w 1 backup) =
-          Accepts (ap (λ o. at_node o (ask_refusal w 1)) (at_backup nobody) ∙ ap
-          (λ (l : List Winner). first_of (fault_if (is_other (winner_in l 1) 1) Lost ∷ [])) undecided)
-      record { x = backup; there = at_backup nobody; reply = refl;
-          after = inl (ap (λ l. winner_in l 1) undecided, refl) } in record {
+      Accepts (ap (λ o. at_node o (ask_refusal w 1)) (at_backup nobody) ∙ ap
+      (λ (l : List Winner). first_of (fault_if (is_other (winner_in l 1) 1) Lost ∷ [])) undecided)
+      record {
+        x = backup;
+        there = at_backup nobody;
+        reply = refl;
+        after = inl (ap (λ l. winner_in l 1) undecided, refl);
+      } in record {
         events = Suspect 1 ∷ [];
         formed = refl;
         replies = Won ∷ [];
@@ -134,8 +142,8 @@ module _ {S : Type 0} (M : Machine S) (C : Copying S) (typed0 typed1 : List ℕ)
   backup_loses other nobody = let decided : w.winners ≡ record { generation = 1; node = 0 } ∷ [] =
       z.winners ∙ (λ i. winners_of (winner_of (other i) (nobody i))) in
       let row : Row M C w (Suspect 1) (Refused Lost) (with_node w 1 (halts backup)) =
-          Refuses (ap (λ o. at_node o (ask_refusal w 1)) (at_backup nobody) ∙ ap
-          (λ (l : List Winner). first_of (fault_if (is_other (winner_in l 1) 1) Lost ∷ [])) decided)
+      Refuses (ap (λ o. at_node o (ask_refusal w 1)) (at_backup nobody) ∙ ap
+      (λ (l : List Winner). first_of (fault_if (is_other (winner_in l 1) 1) Lost ∷ [])) decided)
       record { x = backup; there = at_backup nobody; y = halts backup; done = refl; after = refl } in record {
         events = Suspect 1 ∷ [];
         formed = refl;

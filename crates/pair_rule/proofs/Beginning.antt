@@ -21,8 +21,12 @@ first_stands g = record {
   rising = le_refl 0;
   behind = le_refl 0;
   once = inl refl;
-  decided = record { few = omega arith; same = λ x y. absurd (x refl); primary_lost = λ e. absurd (omega arith);
-      backup_lost = λ e. absurd (omega arith) };
+  decided = record {
+    few = omega arith;
+    same = λ x y. absurd (x refl);
+    primary_lost = λ e. absurd (omega arith);
+    backup_lost = λ e. absurd (omega arith);
+  };
   counted0 = le_refl 0;
   counted1 = le_refl 0;
   hand0 = tt;
@@ -37,8 +41,13 @@ first_stands g = record {
 
 module _ {S : Type 0} (M : Machine S) (C : Copying S) where
   abbrev typed_world : List ℕ → List ℕ → World S
-  typed_world a b = record (opening M) { terminals = record { arrivals = []; typed = a; told = 0 } ∷ record { arrivals = [];
-      typed = b; told = 0 } ∷ [] }
+  typed_world a b = record (opening M) {
+    terminals = record { arrivals = []; typed = a; told = 0 } ∷ record {
+      arrivals = [];
+      typed = b;
+      told = 0;
+    } ∷ [];
+  }
 
   -- events and replies from one world to another
   abbrev Comes : World S → World S → Type 0
@@ -77,8 +86,12 @@ module _ {S : Type 0} (M : Machine S) (C : Copying S) where
     entries_are = refl;
     count = laws.counts [] M.boot refl;
     nodes = refl;
-    sent = record { logs = λ i e at. absurd (cc); acks = λ h at. absurd at; operations = λ o at. absurd at;
-        writes = λ n at. absurd at };
+    sent = record {
+      logs = λ i e at. absurd (cc);
+      acks = λ h at. absurd at;
+      operations = λ o at. absurd at;
+      writes = λ n at. absurd at;
+    };
     terminals = refl;
     winners = refl;
     puts = refl;
@@ -93,7 +106,7 @@ pub starts_shown : {S : Type 0} → RowIsChanges S → ChangesReach S → Starts
 starts_shown rows changes M C laws typed0 typed1 generation =
     let a = type0 M C [] [] typed0 in let b = type1 M C typed0 [] typed1 in
     let run = then_on M C (opening M) (typed_world M C typed0 [])
-        (typed_world M C typed0 typed1) a.0 b.0 a.1 b.1 a.2 b.2 in record {
+    (typed_world M C typed0 typed1) a.0 b.0 a.1 b.1 a.2 b.2 in record {
       events = a.0 ++ b.0;
       replies = a.1 ++ b.1;
       world = typed_world M C typed0 typed1;

@@ -51,19 +51,22 @@ module _ (g : ℕ) (s : Table) (r : Rule g s) (id : ℕ) (v : SeatView) (at : ge
     swap_goes : (n : Who) (x : Option Payload) (c' core' : Core) (told : ℕ → Mine → Type 0) → has v n
         → get_elem? core.hands (seat_index n) ≡ some hand
         → words_of core'.known ≡ words_of core.known → ((t : Who) → Same t v.core core → Same t c' core')
-            → ((t : Who) (z : Core) → (t ≡ n → ⊥) → Same t z core → Same t z core')
+        → ((t : Who) (z : Core) → (t ≡ n → ⊥) → Same t z core → Same t z core')
         → Facts g (set r.boxes (box_index b) new) (swapped s.homes hand x (slot_of word)) core'
         → (y : Option Payload) → get_elem? s.homes (slot_of word) ≡ some (some y)
-            → (slot_of word < 11 → told word (with_core v c', (slot_of word, y) ∷ []))
+        → (slot_of word < 11 → told word (with_core v c', (slot_of word, y) ∷ []))
         → Goes g s.words s.homes s.views (5 + box_index b) id (v, (hand, x) ∷ []) (λ _. new) told
     swap_goes n x c' core' told mine held_here words both rest facts y lying tells =
         let f = r.facts in let a = at_here g r.boxes s.homes core f b hand in (
           with_core v c',
           chain gives (takes (slot_of word) y),
-          (tt, found s.homes hand x (slot_of word)
-              (apart r.boxes core.hands core.has_slot s.homes f.laid (box_index b) word (seat_index n) hand x a held_here)
-              (inside r.boxes core.hands core.has_slot s.homes f.laid (box_index b) word (seat_index n) hand x a held_here) y
-              lying),
+          (
+            tt,
+            found s.homes hand x (slot_of word)
+                (apart r.boxes core.hands core.has_slot s.homes f.laid (box_index b) word (seat_index n) hand x a held_here)
+                (inside r.boxes core.hands core.has_slot s.homes f.laid (box_index b) word (seat_index n) hand x a held_here) y
+                lying,
+          ),
           record {
             core = core';
             boxes = set r.boxes (box_index b) new;
@@ -75,68 +78,70 @@ module _ (g : ℕ) (s : Table) (r : Rule g s) (id : ℕ) (v : SeatView) (at : ge
           },
           subst (λ z. told z (with_core v c', (slot_of word, y) ∷ [])) (sym found_word)
               (tells (let near = within s.homes (slot_of word) (some y) lying in let deep = f.laid.deep in let six =
-                  f.six in let five = f.sized.hands in omega arith)),
+              f.six in let five = f.sized.hands in omega arith)),
         )
 
     fill_goes : (q : Payload) → has v (filler b) → get_elem? v.core.hands (seat_index (filler b)) ≡ some hand
         → get_elem? v.core.has_slot (seat_index (filler b)) ≡ some true
         → new ≡ full_word ((side_at v.core.fills (box_index b)).number + 1) hand → CanFill b v.core.known q
         → Goes g s.words s.homes s.views (5 + box_index b) id (v, (hand, Some q) ∷ []) (λ _. new)
-            (fills (5 + box_index b) (v, (hand, Some q) ∷ []))
+        (fills (5 + box_index b) (v, (hand, Some q) ∷ []))
     fill_goes q mine hands has_slot is can =
         let f = r.facts in let o = own (filler b) mine in let sides : side_at v.core.fills (box_index b) ≡ side_at core.fills
-            (box_index b) = or_both v.core.fills core.fills (box_index b) new_side (o.fills b refl) in
+        (box_index b) = or_both v.core.fills core.fills (box_index b) new_side (o.fills b refl) in
         let k = fill_keeps core.known f.stands b q (can_same b q v.core.known core.known o.generation o.known can) in
         let l = local_fill b q in
         let y : Side → Side = λ z. side (z.number + 1) (filler_met (is_full word) word z.met) (Some q) in
         let full = f.laid.full (box_index b) word (at_here g r.boxes s.homes core f b hand) in
         swap_goes (filler b) (Some q) (filled b q word v.core) (filled b q word core)
-            (fills (5 + box_index b) (v, (hand, Some q) ∷ [])) mine (sym o.hand ∙ hands) k.0.words
+        (fills (5 + box_index b) (v, (hand, Some q) ∷ [])) mine (sym o.hand ∙ hands) k.0.words
         (λ t e. subst (λ (z : Side). Same t (by_fill (filler b) (slot_of word) (after_fill b q) l b (λ _. y z) v.core)
-            (filled b q word core)) (sym sides)
+        (filled b q word core)) (sym sides)
         (fill_both (filler b) (slot_of word) (after_fill b q) l v.core core f.sized o b
-            (y (side_at core.fills (box_index b))) t e))
+        (y (side_at core.fills (box_index b))) t e))
         (λ t z ne e. fill_rest (filler b) (slot_of word) (after_fill b q) l b
-            (y (side_at core.fills (box_index b))) t z core refl ne e)
+        (y (side_at core.fills (box_index b))) t z core refl ne e)
         (subst (λ z. Facts g (set r.boxes (box_index b) z) (swapped s.homes hand (Some q) (slot_of word)) (filled b q word core))
-            (sym (is ∙ ap (λ (z : Side). full_word (z.number + 1) hand) sides))
+        (sym (is ∙ ap (λ (z : Side). full_word (z.number + 1) hand) sides))
         (fill_facts g r.boxes s.homes core f b hand q (sym o.hand ∙ hands) (sym o.has_slot ∙ has_slot) l k.0 k.1))
         full.0 full.1
         (λ small c e. let same = one_box b c (let z : 5 + box_index b ≡ 5 + box_index c = e in omega arith) in
         subst (λ (z : Mailbox). Filled z (v, (hand, Some q) ∷ []) word
-            (with_core v (filled b q word v.core), (slot_of word, full.0) ∷ [])) same
-        ((full.0, refl, small), λ h p has. ap (λ (z : Payload). with_core v (filled b z word v.core))
-            (same_load ((hand, Some q) ∷ []) hand h q p refl has)))
+        (with_core v (filled b q word v.core), (slot_of word, full.0) ∷ [])) same (
+          (full.0, refl, small),
+          λ h p has. ap (λ (z : Payload). with_core v (filled b z word v.core))
+              (same_load ((hand, Some q) ∷ []) hand h q p refl has),
+        ))
 
     empty_goes : (x : Option Payload) → has v (emptier b) → get_elem? v.core.hands (seat_index (emptier b)) ≡ some hand
         → get_elem? v.core.has_slot (seat_index (emptier b)) ≡ some true
         → new ≡ empty_word ((side_at v.core.empties (box_index b)).number + 1) hand
         → (full : Bool) → is_full word ≡ full
-            → Boxed word s.homes (side_at core.fills (box_index b)) (side_at core.empties (box_index b)) full
+        → Boxed word s.homes (side_at core.fills (box_index b)) (side_at core.empties (box_index b)) full
         → Goes g s.words s.homes s.views (5 + box_index b) id (v, (hand, x) ∷ []) (λ _. new)
-            (empties (5 + box_index b) (v, (hand, x) ∷ []))
+        (empties (5 + box_index b) (v, (hand, x) ∷ []))
     empty_goes x mine hands has_slot is true said box =
         let f = r.facts in let o = own (emptier b) mine in let sides : side_at v.core.empties (box_index b) ≡ side_at core.empties
-            (box_index b) = or_both v.core.empties core.empties (box_index b) new_side (o.empties b refl) in
+        (box_index b) = or_both v.core.empties core.empties (box_index b) new_side (o.empties b refl) in
         let q : Payload = box.3.0 in
         let fit : Fits b core.known q = subst (λ l. WhereSome l (Fits b core.known)) box.3.1
-            (f.fitting b (side_at core.fills (box_index b)) (at_fill g r.boxes s.homes core f b hand)) in
+        (f.fitting b (side_at core.fills (box_index b)) (at_fill g r.boxes s.homes core f b hand)) in
         let k = empty_keeps core.known f.stands b q fit in
         let l = local_empty b q in
         let y : Side → Side = λ z. side (z.number + 1) (number_of word) (Some q) in
         let met : (side_at v.core.empties (box_index b)).met < number_of word =
-            (let e : (side_at v.core.empties (box_index b)).met ≡ (side_at core.empties (box_index b)).met =
-            ap (λ (z : Side). z.met) sides in let c = box.1 in let d = box.0 in omega arith) in
+        (let e : (side_at v.core.empties (box_index b)).met ≡ (side_at core.empties (box_index b)).met =
+        ap (λ (z : Side). z.met) sides in let c = box.1 in let d = box.0 in omega arith) in
         swap_goes (emptier b) x (emptied b q word v.core) (emptied b q word core)
-            (empties (5 + box_index b) (v, (hand, x) ∷ [])) mine (sym o.hand ∙ hands) k.words
+        (empties (5 + box_index b) (v, (hand, x) ∷ [])) mine (sym o.hand ∙ hands) k.words
         (λ t e. subst (λ (z : Side). Same t (by_empty (emptier b) (slot_of word) (after_empty b q) l b (λ _. y z) v.core)
-            (emptied b q word core)) (sym sides)
+        (emptied b q word core)) (sym sides)
         (empty_both (emptier b) (slot_of word) (after_empty b q) l v.core core f.sized o b
-            (y (side_at core.empties (box_index b))) t e))
+        (y (side_at core.empties (box_index b))) t e))
         (λ t z ne e. empty_rest (emptier b) (slot_of word) (after_empty b q) l b
-            (y (side_at core.empties (box_index b))) t z core refl ne e)
+        (y (side_at core.empties (box_index b))) t z core refl ne e)
         (subst (λ z. Facts g (set r.boxes (box_index b) z) (swapped s.homes hand x (slot_of word)) (emptied b q word core))
-            (sym (is ∙ ap (λ (z : Side). empty_word (z.number + 1) hand) sides))
+        (sym (is ∙ ap (λ (z : Side). empty_word (z.number + 1) hand) sides))
         (empty_facts g r.boxes s.homes core f b hand q x (sym o.hand ∙ hands) (sym o.has_slot ∙ has_slot) l k box))
         (Some q) box.3.2
         (λ small c e. let same = one_box b c (let w : 5 + box_index b ≡ 5 + box_index c = e in omega arith) in (
@@ -144,23 +149,23 @@ module _ (g : ℕ) (s : Table) (r : Rule g s) (id : ℕ) (v : SeatView) (at : ge
           subst (λ (d : Mailbox). Emptied d (v, (hand, x) ∷ []) word
               (with_core v (emptied b q word v.core), (slot_of word, Some q) ∷ []) (is_full word)) same
               (subst (Emptied b (v, (hand, x) ∷ []) word (with_core v (emptied b q word v.core), (slot_of word, Some q) ∷ []))
-                  (sym said)
+              (sym said)
               (q, (core.known, record { stands = f.stands; generation = o.generation; same = o.known }, fit), refl, met, refl)),
         ))
     empty_goes x mine hands has_slot is false said box =
         let f = r.facts in let o = own (emptier b) mine in let sides : side_at v.core.empties (box_index b) ≡ side_at core.empties
-            (box_index b) = or_both v.core.empties core.empties (box_index b) new_side (o.empties b refl) in
+        (box_index b) = or_both v.core.empties core.empties (box_index b) new_side (o.empties b refl) in
         let l = nothing (emptier b) in
         let y : Side → Side = λ z. side (z.number + 1) z.met z.last in
         swap_goes (emptier b) x (found_empty b word v.core) (found_empty b word core)
-            (empties (5 + box_index b) (v, (hand, x) ∷ [])) mine (sym o.hand ∙ hands) refl
+        (empties (5 + box_index b) (v, (hand, x) ∷ [])) mine (sym o.hand ∙ hands) refl
         (λ t e. subst (λ (z : Side). Same t (by_empty (emptier b) (slot_of word) (λ k. k) l b (λ _. y z) v.core)
-            (found_empty b word core)) (sym sides)
+        (found_empty b word core)) (sym sides)
         (empty_both (emptier b) (slot_of word) (λ k. k) l v.core core f.sized o b (y (side_at core.empties (box_index b))) t e))
         (λ t z ne e. empty_rest (emptier b) (slot_of word) (λ k. k) l b
-            (y (side_at core.empties (box_index b))) t z core refl ne e)
+        (y (side_at core.empties (box_index b))) t z core refl ne e)
         (subst (λ z. Facts g (set r.boxes (box_index b) z) (swapped s.homes hand x (slot_of word)) (found_empty b word core))
-            (sym (is ∙ ap (λ (z : Side). empty_word (z.number + 1) hand) sides))
+        (sym (is ∙ ap (λ (z : Side). empty_word (z.number + 1) hand) sides))
         (found_facts g r.boxes s.homes core f b hand x (sym o.hand ∙ hands) (sym o.has_slot ∙ has_slot) box))
         box.2.0 box.2.1
         (λ small c e. let same = one_box b c (let w : 5 + box_index b ≡ 5 + box_index c = e in omega arith) in (
@@ -168,25 +173,25 @@ module _ (g : ℕ) (s : Table) (r : Rule g s) (id : ℕ) (v : SeatView) (at : ge
           subst (λ (d : Mailbox). Emptied d (v, (hand, x) ∷ []) word
               (with_core v (found_empty b word v.core), (slot_of word, box.2.0) ∷ []) (is_full word)) same
               (subst (Emptied b (v, (hand, x) ∷ []) word (with_core v (found_empty b word v.core), (slot_of word, box.2.0) ∷ []))
-                  (sym said) refl),
+              (sym said) refl),
         ))
 
 pub fill_allowed : (g n id : ℕ) (me : Mine) (b : Mailbox) (hand new : ℕ) (q : Payload) → has me.0 (filler b)
     → get_elem? me.0.core.hands (seat_index (filler b)) ≡ some hand
     → get_elem? me.0.core.has_slot (seat_index (filler b)) ≡ some true
     → me.1 ≡ (hand, Some q) ∷ [] → new ≡ full_word ((side_at me.0.core.fills (box_index b)).number + 1) hand
-        → CanFill b me.0.core.known q → Allows (Rule g) n id me (5 + box_index b) (λ _. new) (fills (5 + box_index b) me)
+    → CanFill b me.0.core.known q → Allows (Rule g) n id me (5 + box_index b) (λ _. new) (fills (5 + box_index b) me)
 fill_allowed g n id me b hand new q mine hands has_slot holds is can s r deep at _ =
     subst (λ c. Goes g s.words s.homes s.views (5 + box_index b) id (me.0, c) (λ _. new) (fills (5 + box_index b) (me.0, c)))
-        (sym holds) (fill_goes g s r id me.0 at b hand new q mine hands has_slot is can)
+    (sym holds) (fill_goes g s r id me.0 at b hand new q mine hands has_slot is can)
 
 pub empty_allowed : (g n id : ℕ) (me : Mine) (b : Mailbox) (hand new : ℕ) (x : Option Payload) → has me.0 (emptier b)
     → get_elem? me.0.core.hands (seat_index (emptier b)) ≡ some hand
     → get_elem? me.0.core.has_slot (seat_index (emptier b)) ≡ some true
     → me.1 ≡ (hand, x) ∷ [] → new ≡ empty_word ((side_at me.0.core.empties (box_index b)).number + 1) hand
-        → Allows (Rule g) n id me (5 + box_index b) (λ _. new) (empties (5 + box_index b) me)
+    → Allows (Rule g) n id me (5 + box_index b) (λ _. new) (empties (5 + box_index b) me)
 empty_allowed g n id me b hand new x mine hands has_slot holds is s r deep at _ =
     subst (λ c. Goes g s.words s.homes s.views (5 + box_index b) id (me.0, c) (λ _. new) (empties (5 + box_index b) (me.0, c)))
-        (sym holds)
+    (sym holds)
     (empty_goes g s r id me.0 at b hand new x mine hands has_slot is (is_full (get_or r.boxes (box_index b) 0)) refl
-        (box g r.boxes s.homes r.core r.facts b hand))
+    (box g r.boxes s.homes r.core r.facts b hand))

@@ -67,20 +67,34 @@ last_fits (Some x) P Q f i = f x i
 module _ (s : Who) (hand : ℕ) (turn : Knowledge → Knowledge) (l : Local s turn) where
   -- the side is one that the seat fills, or one that it empties
   abbrev pub by_fill : Mailbox → (Core → Side) → Core → Core
-  by_fill b new c = record c { hands = set c.hands (seat_index s) hand; fills = set c.fills (box_index b) (new c);
-      known = turn c.known }
+  by_fill b new c = record c {
+    hands = set c.hands (seat_index s) hand;
+    fills = set c.fills (box_index b) (new c);
+    known = turn c.known;
+  }
 
   abbrev pub by_empty : Mailbox → (Core → Side) → Core → Core
-  by_empty b new c = record c { hands = set c.hands (seat_index s) hand; empties = set c.empties (box_index b) (new c);
-      known = turn c.known }
+  by_empty b new c = record c {
+    hands = set c.hands (seat_index s) hand;
+    empties = set c.empties (box_index b) (new c);
+    known = turn c.known;
+  }
 
   fill_sized : (b : Mailbox) (x : Side) (c : Core) → Sized c → Sized (by_fill b (λ _. x) c)
-  fill_sized b x c z = record { hands = length-set c.hands (seat_index s) hand ∙ z.hands; has_slot = z.has_slot;
-      fills = length-set c.fills (box_index b) x ∙ z.fills; empties = z.empties }
+  fill_sized b x c z = record {
+    hands = length-set c.hands (seat_index s) hand ∙ z.hands;
+    has_slot = z.has_slot;
+    fills = length-set c.fills (box_index b) x ∙ z.fills;
+    empties = z.empties;
+  }
 
   empty_sized : (b : Mailbox) (x : Side) (c : Core) → Sized c → Sized (by_empty b (λ _. x) c)
-  empty_sized b x c z = record { hands = length-set c.hands (seat_index s) hand ∙ z.hands; has_slot = z.has_slot; fills = z.fills;
-      empties = length-set c.empties (box_index b) x ∙ z.empties }
+  empty_sized b x c z = record {
+    hands = length-set c.hands (seat_index s) hand ∙ z.hands;
+    has_slot = z.has_slot;
+    fills = z.fills;
+    empties = length-set c.empties (box_index b) x ∙ z.empties;
+  }
 
   module _ (c d : Core) (sized : Sized d) (own : Same s c d) where
     pub fill_both : (b : Mailbox) (x : Side) (n : Who) → Same n c d → Same n (by_fill b (λ _. x) c) (by_fill b (λ _. x) d)
@@ -168,14 +182,14 @@ module _ (g : ℕ) (boxes : List ℕ) (homes : Homes) (c : Core) (f : Facts g bo
     fill_boxes y own k w fs es aw af ae = ⊎_elim
         (λ (t : (box_index k ≡ box_index b) × (new ≡ w)). let e = t.0 in
         let fe : y ≡ fs = some-injective y fs
-            (sym (set_here c.fills (box_index b) y (let near = few_boxes b in let six = f.sized.fills in omega arith)) ∙ ap
-            (get_elem? (set c.fills (box_index b) y)) (sym e) ∙ af) in
+        (sym (set_here c.fills (box_index b) y (let near = few_boxes b in let six = f.sized.fills in omega arith)) ∙ ap
+        (get_elem? (set c.fills (box_index b) y)) (sym e) ∙ af) in
         let ee : side_at c.empties (box_index b) ≡ es =
-            some-injective (side_at c.empties (box_index b)) es (sym at_empty ∙ ap (get_elem? c.empties) (sym e) ∙ ae) in
+        some-injective (side_at c.empties (box_index b)) es (sym at_empty ∙ ap (get_elem? c.empties) (sym e) ∙ ae) in
         subst (λ (z : ℕ × Side × Side). Boxed z.0 homes' z.1 z.2 (is_full z.0)) (λ i. (t.1 i, fe i, ee i)) own)
         (λ (t : (box_index k ≢ box_index b) × (get_elem? boxes (box_index k) ≡ some w)).
         box_stays w homes homes' fs es (box_else boxes c.hands c.has_slot homes f.laid (box_index b) here
-            (seat_index s) hand x at_here at (box_index k) w t.1 t.0) (is_full w)
+        (seat_index s) hand x at_here at (box_index k) w t.1 t.0) (is_full w)
         (f.boxed k w fs es t.1 (sym (set_else c.fills (box_index b) (box_index k) y t.0) ∙ af) ae))
         (at_set boxes (box_index b) (box_index k) new w aw)
 
@@ -184,14 +198,14 @@ module _ (g : ℕ) (boxes : List ℕ) (homes : Homes) (c : Core) (f : Facts g bo
     empty_boxes y own k w fs es aw af ae = ⊎_elim
         (λ (t : (box_index k ≡ box_index b) × (new ≡ w)). let e = t.0 in
         let ee : y ≡ es = some-injective y es
-            (sym (set_here c.empties (box_index b) y (let near = few_boxes b in let six = f.sized.empties in omega arith)) ∙ ap
-            (get_elem? (set c.empties (box_index b) y)) (sym e) ∙ ae) in
+        (sym (set_here c.empties (box_index b) y (let near = few_boxes b in let six = f.sized.empties in omega arith)) ∙ ap
+        (get_elem? (set c.empties (box_index b) y)) (sym e) ∙ ae) in
         let fe : side_at c.fills (box_index b) ≡ fs =
-            some-injective (side_at c.fills (box_index b)) fs (sym at_fill ∙ ap (get_elem? c.fills) (sym e) ∙ af) in
+        some-injective (side_at c.fills (box_index b)) fs (sym at_fill ∙ ap (get_elem? c.fills) (sym e) ∙ af) in
         subst (λ (z : ℕ × Side × Side). Boxed z.0 homes' z.1 z.2 (is_full z.0)) (λ i. (t.1 i, fe i, ee i)) own)
         (λ (t : (box_index k ≢ box_index b) × (get_elem? boxes (box_index k) ≡ some w)).
         box_stays w homes homes' fs es (box_else boxes c.hands c.has_slot homes f.laid (box_index b) here
-            (seat_index s) hand x at_here at (box_index k) w t.1 t.0) (is_full w)
+        (seat_index s) hand x at_here at (box_index k) w t.1 t.0) (is_full w)
         (f.boxed k w fs es t.1 af (sym (set_else c.empties (box_index b) (box_index k) y t.0) ∙ ae)))
         (at_set boxes (box_index b) (box_index k) new w aw)
 
@@ -205,10 +219,10 @@ module _ (g : ℕ) (boxes : List ℕ) (homes : Homes) (c : Core) (f : Facts g bo
       → get_elem? c.has_slot (seat_index (filler b)) ≡ some true
       → Local (filler b) (after_fill b q) → Keeps (after_fill b q) c.known → Fits b (after_fill b q c.known) q
       → Facts g (set boxes (box_index b) (full_word ((side_at c.fills (box_index b)).number + 1) hand))
-          (swapped homes hand (Some q) (slot_of here)) (filled b q here c)
+      (swapped homes hand (Some q) (slot_of here)) (filled b q here c)
   fill_facts q at has_slot l k fit = let n : ℕ = (side_at c.fills (box_index b)).number + 1 in let new : ℕ = full_word n hand in
       let near : hand < 16 = (let z = small (filler b) at in omega arith) in let is : slot_of new ≡ hand =
-          slot_full n hand near in
+      slot_full n hand near in
       let y : Side = side n (filler_met (is_full here) here (side_at c.fills (box_index b)).met) (Some q) in record {
         generation = l.generation c.known ∙ f.generation;
         sized = fill_sized (filler b) (slot_of here) (after_fill b q) l b y c f.sized;
@@ -219,10 +233,10 @@ module _ (g : ℕ) (boxes : List ℕ) (homes : Homes) (c : Core) (f : Facts g bo
             (side_at c.empties (box_index b)) (is_full here) hand q near (in_box (filler b) (Some q) at new is) box);
         fitting = λ j z e. ⊎_elim
             (λ (t : (box_index j ≡ box_index b) × (y ≡ z)). subst
-                (λ (p : Mailbox × Side). WhereSome p.1.last (Fits p.0 (after_fill b q c.known)))
-                (λ i. (sym (one_box j b t.0) i, t.1 i)) fit)
+            (λ (p : Mailbox × Side). WhereSome p.1.last (Fits p.0 (after_fill b q c.known)))
+            (λ i. (sym (one_box j b t.0) i, t.1 i)) fit)
             (λ (t : (box_index j ≢ box_index b) × (get_elem? c.fills (box_index j) ≡ some z)). last_fits z.last (Fits j c.known)
-                (Fits j (after_fill b q c.known)) (k.fits j) (f.fitting j z t.1))
+            (Fits j (after_fill b q c.known)) (k.fits j) (f.fitting j z t.1))
             (at_set c.fills (box_index b) (box_index j) y z e);
         stands = k.stands;
       }
@@ -235,13 +249,13 @@ module _ (g : ℕ) (boxes : List ℕ) (homes : Homes) (c : Core) (f : Facts g bo
   pub empty_facts : (q : Payload) (x : Option Payload) → get_elem? c.hands (seat_index (emptier b)) ≡ some hand
       → get_elem? c.has_slot (seat_index (emptier b)) ≡ some true
       → Local (emptier b) (after_empty b q) → Keeps (after_empty b q) c.known
-          → Boxed here homes (side_at c.fills (box_index b)) (side_at c.empties (box_index b)) true
+      → Boxed here homes (side_at c.fills (box_index b)) (side_at c.empties (box_index b)) true
       → Facts g (set boxes (box_index b) (empty_word ((side_at c.empties (box_index b)).number + 1) hand))
-          (swapped homes hand x (slot_of here)) (emptied b q here c)
+      (swapped homes hand x (slot_of here)) (emptied b q here c)
   empty_facts q x at has_slot l k full = let n : ℕ = (side_at c.empties (box_index b)).number + 1 in let new : ℕ =
       empty_word n hand in
       let near : hand < 16 = (let z = small (emptier b) at in omega arith) in let is : slot_of new ≡ hand =
-          slot_empty n hand near in
+      slot_empty n hand near in
       let y : Side = side n (number_of here) (Some q) in record {
         generation = l.generation c.known ∙ f.generation;
         sized = empty_sized (emptier b) (slot_of here) (after_empty b q) l b y c f.sized;
@@ -258,10 +272,10 @@ module _ (g : ℕ) (boxes : List ℕ) (homes : Homes) (c : Core) (f : Facts g bo
       → get_elem? c.has_slot (seat_index (emptier b)) ≡ some true
       → Boxed here homes (side_at c.fills (box_index b)) (side_at c.empties (box_index b)) false
       → Facts g (set boxes (box_index b) (empty_word ((side_at c.empties (box_index b)).number + 1) hand))
-          (swapped homes hand x (slot_of here)) (found_empty b here c)
+      (swapped homes hand x (slot_of here)) (found_empty b here c)
   found_facts x at has_slot none = let n : ℕ = (side_at c.empties (box_index b)).number + 1 in let new : ℕ = empty_word n hand in
       let near : hand < 16 = (let z = small (emptier b) at in omega arith) in let is : slot_of new ≡ hand =
-          slot_empty n hand near in
+      slot_empty n hand near in
       let y : Side = side n (side_at c.empties (box_index b)).met (side_at c.empties (box_index b)).last in record {
         generation = f.generation;
         sized = empty_sized (emptier b) (slot_of here) (λ k. k) (nothing (emptier b)) b y c f.sized;

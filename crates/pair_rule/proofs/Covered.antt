@@ -56,9 +56,14 @@ pub record Noted (log : List Entry) (count : ℕ) (moves : List Move) (o : Opera
 noted_later : (log log' : List Entry) (c c' : ℕ) (m : Move) (ms : List Move) (o : Operation) (note : Option Note)
     → ((front : List Move) → log' ++ entries c' front ≡ log ++ entries c (m ∷ front)) → Noted log' c' ms o note
     → Noted log c (m ∷ ms) o note
-noted_later log log' c c' m ms o note same n = record { front = m ∷ n.front; rest = n.rest; given = ap (λ l. m ∷ l) n.given;
-    after = n.after; is = n.is ∙ ap (λ (l : List Entry). Some (record { name = id_of o; index = length l; after = n.after }))
-    (same n.front) }
+noted_later log log' c c' m ms o note same n = record {
+  front = m ∷ n.front;
+  rest = n.rest;
+  given = ap (λ l. m ∷ l) n.given;
+  after = n.after;
+  is = n.is ∙ ap (λ (l : List Entry). Some (record { name = id_of o; index = length l; after = n.after }))
+      (same n.front);
+}
 
 module _ {S : Type 0} (M : Machine S) (operations : ComesAndGoes M) (o : Operation) where
   -- the note of an operation that is given after a log
@@ -88,16 +93,19 @@ module _ {S : Type 0} (M : Machine S) (operations : ComesAndGoes M) (o : Operati
   by_step a b p log c ns ms step (inl h) = elim (two_names (id_of o) (id_of p)) [
     | inl e ↦ (let same : o ≡ p = same_some o p (M.find b (id_of p)) (ap (M.find b) (sym e) ∙ h.0)
         (operations.comes a b p step).0 in inr record {
-      front = [];
-      rest = ms;
-      given = λ i. Do (Some (sym same i)) ∷ ms;
-      after = waits_for p log;
-      is = h.1 ∙ ap (λ (t : Bool). if t then Some (noted p log) else note_of ns (id_of o))
-          (ap (λ n. same_name (id_of o) n) (sym e) ∙ same_self (id_of o)) ∙
-          (λ i. Some (record { name = sym e i; index = length (sym (append-nil log) i); after = waits_for p log }));
-    })
-    | inr d ↦ inl (sym ((operations.comes a b p step).1 (id_of o) d.0) ∙ h.0, h.1 ∙ ap
-        (λ (t : Bool). if t then Some (noted p log) else note_of ns (id_of o)) d.1)
+          front = [];
+          rest = ms;
+          given = λ i. Do (Some (sym same i)) ∷ ms;
+          after = waits_for p log;
+          is = h.1 ∙ ap (λ (t : Bool). if t then Some (noted p log) else note_of ns (id_of o))
+              (ap (λ n. same_name (id_of o) n) (sym e) ∙ same_self (id_of o)) ∙
+              (λ i. Some (record { name = sym e i; index = length (sym (append-nil log) i); after = waits_for p log }));
+        })
+    | inr d ↦ inl (
+      sym ((operations.comes a b p step).1 (id_of o) d.0) ∙ h.0,
+      h.1 ∙ ap
+          (λ (t : Bool). if t then Some (noted p log) else note_of ns (id_of o)) d.1,
+    )
   ]
 
   pub since : (a s : S) (log : List Entry) (c : ℕ) (ns : List Note) (ms : List Move) → Runs M a ms s → M.find s (id_of o) ≡ Some o
@@ -126,7 +134,11 @@ pub is_acknowledged : {S : Type 0} (M : Machine S) → ComesAndGoes M → Lawful
     → covers seen 0 (note_of (notes_from 0 [] [] moves) (id_of o)) ≡ true → IsAcknowledged moves seen o
 is_acknowledged M operations laws moves s seen o run found covered =
     elim (since M operations o M.boot s [] 0 [] moves run found) [
-  | inl h ↦ absurd (laws.given [] M.boot (id_of o) o refl h.0)
-  | inr n ↦ record { front = n.front; rest = n.rest; given = n.given;
-      marked = low_index seen (length (entries 0 n.front)) n.after (ap (covers seen 0) (sym n.is) ∙ covered) }
-]
+      | inl h ↦ absurd (laws.given [] M.boot (id_of o) o refl h.0)
+      | inr n ↦ record {
+        front = n.front;
+        rest = n.rest;
+        given = n.given;
+        marked = low_index seen (length (entries 0 n.front)) n.after (ap (covers seen 0) (sym n.is) ∙ covered);
+      }
+    ]

@@ -26,9 +26,24 @@ module _ (k : Knowledge) (s : Stands k) where
 
   link_has : (p : Packet) → IsEntryOf k.generation k.primary.list p → Keeps (λ k. record k { link = Some p }) k
   link_has p i = record {
-    stands = record { prefix = s.prefix; in_link = i; rising = s.rising; behind = s.behind; once = s.once; decided = s.decided;
-        counted0 = s.counted0; counted1 = s.counted1; hand0 = s.hand0; hand1 = s.hand1; arrived0 = s.arrived0;
-        arrived1 = s.arrived1; taken = s.taken; puts = s.puts; answers = s.answers; replies = s.replies };
+    stands = record {
+      prefix = s.prefix;
+      in_link = i;
+      rising = s.rising;
+      behind = s.behind;
+      once = s.once;
+      decided = s.decided;
+      counted0 = s.counted0;
+      counted1 = s.counted1;
+      hand0 = s.hand0;
+      hand1 = s.hand1;
+      arrived0 = s.arrived0;
+      arrived1 = s.arrived1;
+      taken = s.taken;
+      puts = s.puts;
+      answers = s.answers;
+      replies = s.replies;
+    };
     words = refl;
     fits = link_fits p;
   }
@@ -45,11 +60,24 @@ module _ (k : Knowledge) (s : Stands k) where
   backup_has : (p : Packet) → IsEntryOf k.generation k.primary.list p
       → Keeps (λ k. record k { backup = record k.backup { list = grown k.backup.list p } }) k
   backup_has p i = record {
-    stands = record { prefix = grown_prefix k.primary.list k.backup.list p _ refl s.prefix i.1; in_link = s.in_link;
-        rising = rising_higher 0 (length k.backup.list) _ k.backup.held_values (grown_length k.backup.list p _) s.rising;
-        behind = s.behind; once = s.once; decided = s.decided; counted0 = s.counted0; counted1 = s.counted1; hand0 = s.hand0;
-        hand1 = s.hand1; arrived0 = s.arrived0; arrived1 = s.arrived1; taken = s.taken; puts = s.puts; answers = s.answers;
-        replies = s.replies };
+    stands = record {
+      prefix = grown_prefix k.primary.list k.backup.list p _ refl s.prefix i.1;
+      in_link = s.in_link;
+      rising = rising_higher 0 (length k.backup.list) _ k.backup.held_values (grown_length k.backup.list p _) s.rising;
+      behind = s.behind;
+      once = s.once;
+      decided = s.decided;
+      counted0 = s.counted0;
+      counted1 = s.counted1;
+      hand0 = s.hand0;
+      hand1 = s.hand1;
+      arrived0 = s.arrived0;
+      arrived1 = s.arrived1;
+      taken = s.taken;
+      puts = s.puts;
+      answers = s.answers;
+      replies = s.replies;
+    };
     words = refl;
     fits = backup_fits p;
   }
@@ -66,9 +94,24 @@ module _ (k : Knowledge) (s : Stands k) where
   hand0_has : (o : Operation) → IsByteOf 0 k.primary.released o
       → Keeps (λ k. record k { terminal = record k.terminal { hand0 = Some o } }) k
   hand0_has o i = record {
-    stands = record { prefix = s.prefix; in_link = s.in_link; rising = s.rising; behind = s.behind; once = s.once;
-        decided = s.decided; counted0 = s.counted0; counted1 = s.counted1; hand0 = i; hand1 = s.hand1; arrived0 = s.arrived0;
-        arrived1 = s.arrived1; taken = s.taken; puts = s.puts; answers = s.answers; replies = s.replies };
+    stands = record {
+      prefix = s.prefix;
+      in_link = s.in_link;
+      rising = s.rising;
+      behind = s.behind;
+      once = s.once;
+      decided = s.decided;
+      counted0 = s.counted0;
+      counted1 = s.counted1;
+      hand0 = i;
+      hand1 = s.hand1;
+      arrived0 = s.arrived0;
+      arrived1 = s.arrived1;
+      taken = s.taken;
+      puts = s.puts;
+      answers = s.answers;
+      replies = s.replies;
+    };
     words = refl;
     fits = hand0_fits o;
   }
@@ -85,9 +128,24 @@ module _ (k : Knowledge) (s : Stands k) where
   hand1_has : (o : Operation) → IsByteOf 1 k.primary.released o
       → Keeps (λ k. record k { terminal = record k.terminal { hand1 = Some o } }) k
   hand1_has o i = record {
-    stands = record { prefix = s.prefix; in_link = s.in_link; rising = s.rising; behind = s.behind; once = s.once;
-        decided = s.decided; counted0 = s.counted0; counted1 = s.counted1; hand0 = s.hand0; hand1 = i; arrived0 = s.arrived0;
-        arrived1 = s.arrived1; taken = s.taken; puts = s.puts; answers = s.answers; replies = s.replies };
+    stands = record {
+      prefix = s.prefix;
+      in_link = s.in_link;
+      rising = s.rising;
+      behind = s.behind;
+      once = s.once;
+      decided = s.decided;
+      counted0 = s.counted0;
+      counted1 = s.counted1;
+      hand0 = s.hand0;
+      hand1 = i;
+      arrived0 = s.arrived0;
+      arrived1 = s.arrived1;
+      taken = s.taken;
+      puts = s.puts;
+      answers = s.answers;
+      replies = s.replies;
+    };
     words = refl;
     fits = hand1_fits o;
   }
@@ -104,9 +162,24 @@ module _ (k : Knowledge) (s : Stands k) where
   taken_has : (r : DiskRequest) → IsAsked k.primary.released r
       → Keeps (λ k. record k { disk = record k.disk { taken = Some r } }) k
   taken_has r i = record {
-    stands = record { prefix = s.prefix; in_link = s.in_link; rising = s.rising; behind = s.behind; once = s.once;
-        decided = s.decided; counted0 = s.counted0; counted1 = s.counted1; hand0 = s.hand0; hand1 = s.hand1;
-        arrived0 = s.arrived0; arrived1 = s.arrived1; taken = i; puts = s.puts; answers = s.answers; replies = s.replies };
+    stands = record {
+      prefix = s.prefix;
+      in_link = s.in_link;
+      rising = s.rising;
+      behind = s.behind;
+      once = s.once;
+      decided = s.decided;
+      counted0 = s.counted0;
+      counted1 = s.counted1;
+      hand0 = s.hand0;
+      hand1 = s.hand1;
+      arrived0 = s.arrived0;
+      arrived1 = s.arrived1;
+      taken = i;
+      puts = s.puts;
+      answers = s.answers;
+      replies = s.replies;
+    };
     words = refl;
     fits = taken_fits r;
   }
@@ -123,10 +196,24 @@ module _ (k : Knowledge) (s : Stands k) where
   answer_has : (a : DiskAnswer) → Among a k.disk.given
       → Keeps (λ k. record k { primary = record k.primary { answers = k.primary.answers ++ a ∷ [] } }) k
   answer_has a i = record {
-    stands = record { prefix = s.prefix; in_link = s.in_link; rising = s.rising; behind = s.behind; once = s.once;
-        decided = s.decided; counted0 = s.counted0; counted1 = s.counted1; hand0 = s.hand0; hand1 = s.hand1;
-        arrived0 = s.arrived0; arrived1 = s.arrived1; taken = s.taken; puts = s.puts;
-        answers = all_more k.primary.answers a (λ a. Among a k.disk.given) s.answers i; replies = s.replies };
+    stands = record {
+      prefix = s.prefix;
+      in_link = s.in_link;
+      rising = s.rising;
+      behind = s.behind;
+      once = s.once;
+      decided = s.decided;
+      counted0 = s.counted0;
+      counted1 = s.counted1;
+      hand0 = s.hand0;
+      hand1 = s.hand1;
+      arrived0 = s.arrived0;
+      arrived1 = s.arrived1;
+      taken = s.taken;
+      puts = s.puts;
+      answers = all_more k.primary.answers a (λ a. Among a k.disk.given) s.answers i;
+      replies = s.replies;
+    };
     words = refl;
     fits = answer_fits a;
   }

@@ -260,8 +260,14 @@ module _ (k : Knowledge) (s : Stands k) where
   fill_keeps Requests (Log p) can = absurd can
   fill_keeps Requests (Out o) can = absurd can
   fill_keeps Requests (Answer a) can = absurd can
-  fill_keeps Answers (Answer a) can = (record { stands = answered_stands a can; words = refl;
-      fits = answered_fits a }, among_last a k.disk.given)
+  fill_keeps Answers (Answer a) can = (
+    record {
+      stands = answered_stands a can;
+      words = refl;
+      fits = answered_fits a;
+    },
+    among_last a k.disk.given,
+  )
   fill_keeps Answers (Log p) can = absurd can
   fill_keeps Answers (Out o) can = absurd can
   fill_keeps Answers (Request r) can = absurd can

@@ -18,16 +18,32 @@ use Rattle.pair_rule.proofs.BoxSwaps.{Table, Goes}
 use Rattle.pair_rule.proofs.BoxSteps.{own}
 
 slot_both : (s t : Who) (b : Bool) (c d : Core) → Sized d → Same t c d → Same t (with_slot s b c) (with_slot s b d)
-slot_both s t b c d z e = record { sized =
-    record { hands = e.sized.hands; has_slot = length-set c.has_slot (seat_index s) b ∙ e.sized.has_slot; fills = e.sized.fills;
-    empties = e.sized.empties }; generation = e.generation; hand = e.hand;
-    has_slot = set_both c.has_slot d.has_slot (seat_index s) (seat_index t) b (e.sized.has_slot ∙ sym z.has_slot) e.has_slot;
-    fills = e.fills; empties = e.empties; known = e.known }
+slot_both s t b c d z e = record {
+  sized =
+      record {
+        hands = e.sized.hands;
+        has_slot = length-set c.has_slot (seat_index s) b ∙ e.sized.has_slot;
+        fills = e.sized.fills;
+        empties = e.sized.empties;
+      };
+  generation = e.generation;
+  hand = e.hand;
+  has_slot = set_both c.has_slot d.has_slot (seat_index s) (seat_index t) b (e.sized.has_slot ∙ sym z.has_slot) e.has_slot;
+  fills = e.fills;
+  empties = e.empties;
+  known = e.known;
+}
 
 slot_rest : (s t : Who) (b : Bool) (c d : Core) → (t ≡ s → ⊥) → Same t c d → Same t c (with_slot s b d)
-slot_rest s t b c d ne e = record { sized = e.sized; generation = e.generation; hand = e.hand;
-    has_slot = e.has_slot ∙ sym (set_else d.has_slot (seat_index s) (seat_index t) b (λ q. ne (one_seat t s q))); fills = e.fills;
-    empties = e.empties; known = e.known }
+slot_rest s t b c d ne e = record {
+  sized = e.sized;
+  generation = e.generation;
+  hand = e.hand;
+  has_slot = e.has_slot ∙ sym (set_else d.has_slot (seat_index s) (seat_index t) b (λ q. ne (one_seat t s q)));
+  fills = e.fills;
+  empties = e.empties;
+  known = e.known;
+}
 
 module _ (g : ℕ) (boxes : List ℕ) (homes : Homes) (c : Core) (f : Facts g boxes homes c) (s : Who) (h : ℕ)
     (at : get_elem? c.hands (seat_index s) ≡ some h) where
@@ -35,8 +51,12 @@ module _ (g : ℕ) (boxes : List ℕ) (homes : Homes) (c : Core) (f : Facts g bo
       → Laid boxes c.hands (set c.has_slot (seat_index s) b) (set homes h y) → Facts g boxes (set homes h y) (with_slot s b c)
   slot_facts b y laid = record {
     generation = f.generation;
-    sized = record { hands = f.sized.hands; has_slot = length-set c.has_slot (seat_index s) b ∙ f.sized.has_slot;
-        fills = f.sized.fills; empties = f.sized.empties };
+    sized = record {
+      hands = f.sized.hands;
+      has_slot = length-set c.has_slot (seat_index s) b ∙ f.sized.has_slot;
+      fills = f.sized.fills;
+      empties = f.sized.empties;
+    };
     six = f.six;
     laid = laid;
     boxed = λ j w p q aw ap' aq. box_stays w homes (set homes h y) p q
@@ -50,7 +70,7 @@ module _ (g : ℕ) (s : Table) (r : Rule g s) (id : ℕ) (v : SeatView) (at : ge
   slot_goes : (b : Bool) (told : ℕ → Mine → Type 0) (a : Act (Option Payload)) (homes : Homes) → Valid s.homes c a
       → Facts g r.boxes (homes_after s.homes c a) (with_slot n b r.core)
       → told (get_or s.words 0 0) (with_core v (with_slot n b v.core), carried_after c a)
-          → Goes g s.words s.homes s.views 0 id (v, c) (λ x. x) told
+      → Goes g s.words s.homes s.views 0 id (v, c) (λ x. x) told
   slot_goes b told a homes valid facts tells = (
     with_core v (with_slot n b v.core),
     a,
@@ -73,9 +93,9 @@ pub first_slot_allowed : (g n id : ℕ) (me : Mine) (s : Who) (h : ℕ) → has 
 first_slot_allowed g n id me s h mine hand bare st r deep at _ =
     let f = r.facts in let o = own g st r id me.0 at s mine in let there = sym o.hand ∙ hand in
     slot_goes g st r id me.0 at s mine me.1 h hand true (takes_first_slot s me) (takes h None) st.homes
-        (f.laid.bare (seat_index s) h there (sym o.has_slot ∙ bare))
+    (f.laid.bare (seat_index s) h there (sym o.has_slot ∙ bare))
     (slot_facts g r.boxes st.homes r.core f s h there true none
-        (laid_first r.boxes r.core.hands r.core.has_slot st.homes f.laid (seat_index s) h there))
+    (laid_first r.boxes r.core.hands r.core.has_slot st.homes f.laid (seat_index s) h there))
     ((λ k e. ap (λ (z : ℕ). (z, None) ∷ me.1) (some-injective h k (sym hand ∙ e))), refl)
 
 pub last_slot_allowed : (g n id : ℕ) (me : Mine) (s : Who) (h : ℕ) → has me.0 s
@@ -86,5 +106,5 @@ last_slot_allowed g n id me s h mine hand holds st r deep at _ =
     (let f = r.facts in let o = own g st r id me.0 at s mine in let there = sym o.hand ∙ hand in
     slot_goes g st r id me.0 at s mine ((h, None) ∷ []) h hand false (gives_last_slot s (me.0, (h, None) ∷ [])) gives st.homes tt
     (slot_facts g r.boxes st.homes r.core f s h there false (some None)
-        (laid_last r.boxes r.core.hands r.core.has_slot st.homes f.laid (seat_index s) h there))
+    (laid_last r.boxes r.core.hands r.core.has_slot st.homes f.laid (seat_index s) h there))
     (refl, refl))

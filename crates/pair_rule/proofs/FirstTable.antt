@@ -89,9 +89,18 @@ opens g = let v : SeatView = first_view g in record {
   at = λ n. 0;
   seats = λ n. record {
     here = (v, refl, first_has g n);
-    only = λ j w e hw. let a = alone v w j e in
-        (a.0, subst (λ (z : SeatView). Same n z.core (first_core g)) a.1 record { sized = first_sized g; generation = refl;
-        hand = refl; has_slot = refl; fills = λ b e. refl; empties = λ b e. refl; known = same_all n (first_known g) });
+    only = λ j w e hw. let a = alone v w j e in (
+      a.0,
+      subst (λ (z : SeatView). Same n z.core (first_core g)) a.1 record {
+        sized = first_sized g;
+        generation = refl;
+        hand = refl;
+        has_slot = refl;
+        fills = λ b e. refl;
+        empties = λ b e. refl;
+        known = same_all n (first_known g);
+      },
+    );
   };
   facts = record {
     generation = refl;
@@ -108,8 +117,11 @@ opens g = let v : SeatView = first_view g in record {
     };
     boxed = λ b w f e aw af ae. let z = box0 b in
         subst (λ (x : ℕ × Side × Side). Boxed x.0 homes0 x.1 x.2 (is_full x.0))
-        (λ i. (some-injective (box_index b) w (sym z.0 ∙ aw) i, some-injective new_side f (sym z.1 ∙ af) i,
-            some-injective new_side e (sym z.1 ∙ ae) i)) z.2;
+        (λ i. (
+          some-injective (box_index b) w (sym z.0 ∙ aw) i,
+          some-injective new_side f (sym z.1 ∙ af) i,
+          some-injective new_side e (sym z.1 ∙ ae) i,
+        )) z.2;
     fitting = λ b f e. let z = box0 b in subst (λ (x : Side). WhereSome x.last (Fits b (first_known g)))
         (some-injective new_side f (sym z.1 ∙ e)) tt;
     stands = record {
@@ -118,8 +130,12 @@ opens g = let v : SeatView = first_view g in record {
       rising = le_refl 0;
       behind = le_refl 0;
       once = inl refl;
-      decided = record { few = omega arith; same = λ x y. absurd (x refl); primary_lost = λ e. absurd (omega arith);
-          backup_lost = λ e. absurd (omega arith) };
+      decided = record {
+        few = omega arith;
+        same = λ x y. absurd (x refl);
+        primary_lost = λ e. absurd (omega arith);
+        backup_lost = λ e. absurd (omega arith);
+      };
       counted0 = le_refl 0;
       counted1 = le_refl 0;
       hand0 = tt;

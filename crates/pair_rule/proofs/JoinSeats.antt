@@ -91,8 +91,12 @@ know_rest Disk Disk own rest core ne e = absurd (ne refl)
 
 module _ (s : Who) (own rest core : Core) (z : Sized rest) (same : rest.known.generation ≡ core.known.generation) where
   part_sized : Sized (part_of s own rest)
-  part_sized = record { hands = length-set rest.hands (seat_index s) _ ∙ z.hands;
-      has_slot = length-set rest.has_slot (seat_index s) _ ∙ z.has_slot; fills = refl; empties = refl }
+  part_sized = record {
+    hands = length-set rest.hands (seat_index s) _ ∙ z.hands;
+    has_slot = length-set rest.has_slot (seat_index s) _ ∙ z.has_slot;
+    fills = refl;
+    empties = refl;
+  }
 
   part_own : Same s own core → Same s (part_of s own rest) core
   part_own e = let few = few_seats s in record {
@@ -122,7 +126,7 @@ module _ (s : Who) (own rest core : Core) (z : Sized rest) (same : rest.known.ge
 module _ (views : List SeatView) (core : Core) (at : Who → ℕ) (seats : (n : Who)
     → Has views core n (at n)) (id i : ℕ) (v w : SeatView) (s : Who)
     (here : get_elem? views id ≡ some v) (apart : i ≢ id) (there : get_elem? views i ≡ some w) (leads : has v Primary)
-        (lacks : get_elem? v.mine (seat_index s) ≡ some false) (mine : has w s)
+    (lacks : get_elem? v.mine (seat_index s) ≡ some false) (mine : has w s)
     (single : (n : Who) → (seat_index n ≢ seat_index s) → get_elem? w.mine (seat_index n) ≡ some false) where
   abbrev joined : SeatView
   joined = with_part s v w
@@ -135,14 +139,19 @@ module _ (views : List SeatView) (core : Core) (at : Who → ℕ) (seats : (n : 
 
   join_own : Has after core s id
   join_own = let e = (seats s).only i w there mine in record {
-    here = (joined, set_else (set views id joined) i id spent_view (λ q. apart (sym q)) ∙ set_there views id v joined here,
-        set_there v.mine (seat_index s) false true lacks);
+    here = (
+      joined,
+      set_else (set views id joined) i id spent_view (λ q. apart (sym q)) ∙ set_there views id v joined here,
+      set_there v.mine (seat_index s) false true lacks,
+    );
     only = λ j x ex hx. ⊎_elim
         (λ (t : (j ≡ i) × (spent_view ≡ x)). no_true (nobody_has s) (subst (λ (z : SeatView). has z s) (sym t.1) hx))
         (λ (t : (j ≢ i) × (get_elem? (set views id joined) j ≡ some x)). ⊎_elim
-        (λ (u : (j ≡ id) × (joined ≡ x)).
-            (u.0, subst (λ (z : SeatView). Same s z.core core) u.1
-            (part_own s w.core v.core core lead.sized lead.generation e.1)))
+        (λ (u : (j ≡ id) × (joined ≡ x)). (
+          u.0,
+          subst (λ (z : SeatView). Same s z.core core) u.1
+              (part_own s w.core v.core core lead.sized lead.generation e.1),
+        ))
         (λ (u : (j ≢ id) × (get_elem? views j ≡ some x)). absurd (t.0 (((seats s).only j x u.1 hx).0 ∙ sym e.0)))
         (at_set views id j joined x t.1))
         (at_set (set views id joined) i j spent_view x ex);
@@ -152,8 +161,8 @@ module _ (views : List SeatView) (core : Core) (at : Who → ℕ) (seats : (n : 
   join_other n ne = let h = seats n in let keeps : get_elem? joined.mine (seat_index n) ≡ get_elem? v.mine (seat_index n) =
       set_else v.mine (seat_index s) (seat_index n) true ne in
       let not_i : at n ≢ i = λ q. let z =
-          h.here in no_true (single n ne)
-          (subst (λ (x : SeatView). has x n) (some-injective z.0 w (sym z.1 ∙ ap (get_elem? views) q ∙ there)) z.2) in record {
+      h.here in no_true (single n ne)
+      (subst (λ (x : SeatView). has x n) (some-injective z.0 w (sym z.1 ∙ ap (get_elem? views) q ∙ there)) z.2) in record {
         here = dite (ℕ_discrete (at n) id)
             (λ e. (
               joined,
@@ -162,15 +171,21 @@ module _ (views : List SeatView) (core : Core) (at : Who → ℕ) (seats : (n : 
               keeps ∙ (let q = h.here in subst (λ (x : SeatView). has x n)
                   (some-injective q.0 v (sym q.1 ∙ ap (get_elem? views) e ∙ here)) q.2),
             ))
-            (λ ne'. (h.here.0, set_else (set views id joined) i (at n) spent_view not_i ∙ set_else views id (at n) joined ne'
-                ∙ h.here.1, h.here.2));
+            (λ ne'. (
+              h.here.0,
+              set_else (set views id joined) i (at n) spent_view not_i ∙ set_else views id (at n) joined ne'
+                  ∙ h.here.1,
+              h.here.2,
+            ));
         only = λ j x ex hx. ⊎_elim
             (λ (t : (j ≡ i) × (spent_view ≡ x)). no_true (nobody_has n) (subst (λ (z : SeatView). has z n) (sym t.1) hx))
             (λ (t : (j ≢ i) × (get_elem? (set views id joined) j ≡ some x)). ⊎_elim
             (λ (u : (j ≡ id) × (joined ≡ x)). let o =
-                h.only id v here (sym keeps ∙ subst (λ (z : SeatView). has z n) (sym u.1) hx) in
-                (u.0 ∙ o.0, subst (λ (z : SeatView). Same n z.core core) u.1
-                (part_rest s w.core v.core core lead.sized lead.generation n ne o.1)))
+            h.only id v here (sym keeps ∙ subst (λ (z : SeatView). has z n) (sym u.1) hx) in (
+              u.0 ∙ o.0,
+              subst (λ (z : SeatView). Same n z.core core) u.1
+                  (part_rest s w.core v.core core lead.sized lead.generation n ne o.1),
+            ))
             (λ (u : (j ≢ id) × (get_elem? views j ≡ some x)). h.only j x u.1 hx)
             (at_set views id j joined x t.1))
             (at_set (set views id joined) i j spent_view x ex);
@@ -198,7 +213,7 @@ joins g id v i w s leads lacks mine single st r here apart there =
 pub settles : (g id : ℕ) (v : SeatView) (ws : List ℕ) (xs : List (Option Payload)) → has v Primary → has v Backup → has v Terminal
     → has v Disk → Final (Seen (Rule g) id v) ws xs
     → (k : Knowledge) × Stands k × (k.primary ≡ v.core.known.primary) × (k.backup ≡ v.core.known.backup) ×
-        (k.terminal ≡ v.core.known.terminal) × (k.disk ≡ v.core.known.disk) × ((boxes : List ℕ) × (ws ≡ words_of k ++ boxes))
+    (k.terminal ≡ v.core.known.terminal) × (k.disk ≡ v.core.known.disk) × ((boxes : List ℕ) × (ws ≡ words_of k ++ boxes))
 settles g id v ws xs p b t d f = let st : Table = f.0 in let r : Rule g st = f.1.0 in let at = f.1.1 in (
   r.core.known,
   r.facts.stands,

@@ -32,22 +32,22 @@ use Rattle.pair_rule.proofs.Released.{release_leads, arrive_leads, put_leads}
 release : {S : Type 0} (M : Machine S) (C : Copying S) (may : Runnable M) (typed0 typed1 : List ℕ) (k : Knowledge) (w : World S)
     (z : Shows M typed0 typed1 k w) (st : Stands k) (o : Operation) (run : HasRun M k.primary.list)
     → HasPort o → k.primary.winner ≡ 0 → IsCovered M k run o
-        → Leads M C typed0 typed1 (with_released o k) w (λ events. events ≡ Release 0 (id_of o) ∷ [])
+    → Leads M C typed0 typed1 (with_released o k) w (λ events. events ≡ Release 0 (id_of o) ∷ [])
 release M C may typed0 typed1 k w z st o run there serves (found, covered) =
     let boot : M.count M.boot ≡ 0 = may.lawful.counts [] M.boot refl in
     let g = run_goes_on M may.counts boot k.primary.list z.moves z.s z.recorded z.entries_are z.count run.moves run.last
-        run.recorded run.entries_are in
+    run.recorded run.entries_are in
     let found_here : M.find z.s (id_of o) ≡ Some o =
-        sym (quiet_finds M may.operations z.s g.further run.last (id_of o) g.quietly) ∙ found in
+    sym (quiet_finds M may.operations z.s g.further run.last (id_of o) g.quietly) ∙ found in
     let notes : notes_from 0 [] [] run.moves ≡ notes_from 0 [] [] z.moves =
-        ap (notes_from 0 [] []) g.all ∙ notes_more 0 [] [] z.moves g.rest ∙ silent_notes (0 + steps z.moves) (0 + steps z.moves)
-        ([] ++ entries 0 z.moves) (notes_from 0 [] [] z.moves) g.rest g.none in
+    ap (notes_from 0 [] []) g.all ∙ notes_more 0 [] [] z.moves g.rest ∙ silent_notes (0 + steps z.moves) (0 + steps z.moves)
+    ([] ++ entries 0 z.moves) (notes_from 0 [] [] z.moves) g.rest g.none in
     release_leads M C typed0 typed1 k w z o
-        (may.lawful.given z.moves z.s (id_of o) o (recorded-runs M M.boot z.s z.moves z.recorded) found_here)
-        (is_acknowledged M may.operations may.lawful z.moves z.s k.primary.seen o
-        (recorded-runs M M.boot z.s z.moves z.recorded) found_here
-        (ap (λ ns. covers k.primary.seen 0 (note_of ns (id_of o))) (sym notes) ∙ covered))
-        (port_there M may.lawful typed0 typed1 k w z st o there) serves found_here
+    (may.lawful.given z.moves z.s (id_of o) o (recorded-runs M M.boot z.s z.moves z.recorded) found_here)
+    (is_acknowledged M may.operations may.lawful z.moves z.s k.primary.seen o
+    (recorded-runs M M.boot z.s z.moves z.recorded) found_here
+    (ap (λ ns. covers k.primary.seen 0 (note_of ns (id_of o))) (sym notes) ∙ covered))
+    (port_there M may.lawful typed0 typed1 k w z st o there) serves found_here
     (ap (λ ns. covers k.primary.seen 0 (note_of ns (id_of o))) (sym notes) ∙ covered)
 
 -- a byte in a hand was released
@@ -85,6 +85,10 @@ pub steps_stay_faithful : {S : Type 0} → RowIsChanges S → ChangesReach S →
     → StepsAreFaithful S
 steps_stay_faithful rows changes faithful grow M C may copies typed0 typed1 k new w z st h turn =
     let l = steps_lead M C may typed0 typed1 k new w z st turn in let r =
-        run_reaches rows changes M C w l.new l.events l.replies h l.run in
-    record { leads = l; reached = r; faithful = faithful M C may.lawful copies l.new r;
-        grows = step_grows rows changes faithful grow M C may.lawful copies w l.new l.events l.replies h l.run l.once }
+    run_reaches rows changes M C w l.new l.events l.replies h l.run in
+    record {
+      leads = l;
+      reached = r;
+      faithful = faithful M C may.lawful copies l.new r;
+      grows = step_grows rows changes faithful grow M C may.lawful copies w l.new l.events l.replies h l.run l.once;
+    }

@@ -63,8 +63,8 @@ pub accepts_one : (n : ℕ) (xs ys : List Arrived) (m : ℕ) (a : Arrived) (b : 
     (accepted_after (n + 1) xs))
     → (accepted_after n ys ≡ cond (eqb a.number (accepted_after n xs + 1)) (accepted_after n xs + 1) (accepted_after n xs))
     → cond b (accepted_after (n + 1) ys) (accepted_after n ys) ≡ cond
-        (eqb a.number (cond b (accepted_after (n + 1) xs) (accepted_after n xs) + 1))
-        (cond b (accepted_after (n + 1) xs) (accepted_after n xs) + 1) (cond b (accepted_after (n + 1) xs) (accepted_after n xs))
+    (eqb a.number (cond b (accepted_after (n + 1) xs) (accepted_after n xs) + 1))
+    (cond b (accepted_after (n + 1) xs) (accepted_after n xs) + 1) (cond b (accepted_after (n + 1) xs) (accepted_after n xs))
 accepts_one n xs ys m a true e d = e
 accepts_one n xs ys m a false e d = d
 
@@ -98,8 +98,15 @@ all_arrived port released (Some (Write w)) xs i all = all
 
 pub decide_primary : (a b : ℕ) (z : Bool) → eqb (winner_of a b) 0 ≡ z → Decided a b
     → Decided (cond z 1 (winner_of a b)) b × (winner_of (cond z 1 (winner_of a b)) b ≡ either z 1 (winner_of a b))
-decide_primary zero zero true is d = (record { few = omega arith; same = λ x y. absurd (y refl);
-    primary_lost = λ e. absurd (omega arith); backup_lost = λ e. absurd (omega arith) }, refl)
+decide_primary zero zero true is d = (
+  record {
+    few = omega arith;
+    same = λ x y. absurd (y refl);
+    primary_lost = λ e. absurd (omega arith);
+    backup_lost = λ e. absurd (omega arith);
+  },
+  refl,
+)
 decide_primary zero zero false is d = absurd (let e : true ≡ false = is in cc)
 decide_primary zero (suc b) true is d = let e : suc b ≡ 0 = grind arith in absurd (omega arith)
 decide_primary zero (suc b) false is d =
@@ -109,11 +116,25 @@ decide_primary (suc a) b false is d = (d, refl)
 
 pub decide_backup : (a b : ℕ) (z : Bool) → eqb (winner_of a b) 0 ≡ z → Decided a b
     → Decided a (cond z 2 (winner_of a b)) × (winner_of a (cond z 2 (winner_of a b)) ≡ either z 2 (winner_of a b))
-decide_backup zero zero true is d = (record { few = omega arith; same = λ x y. absurd (x refl);
-    primary_lost = λ e. absurd (omega arith); backup_lost = λ e. absurd (omega arith) }, refl)
+decide_backup zero zero true is d = (
+  record {
+    few = omega arith;
+    same = λ x y. absurd (x refl);
+    primary_lost = λ e. absurd (omega arith);
+    backup_lost = λ e. absurd (omega arith);
+  },
+  refl,
+)
 decide_backup zero zero false is d = absurd (let e : true ≡ false = is in cc)
 decide_backup zero (suc b) true is d = let e : suc b ≡ 0 = grind arith in absurd (omega arith)
 decide_backup zero (suc b) false is d = (d, refl)
 decide_backup (suc a) b true is d = let e : suc a ≡ 0 = grind arith in absurd (omega arith)
-decide_backup (suc a) b false is d = (record { few = d.few; same = λ x y. refl; primary_lost = λ e. e;
-    backup_lost = λ e. e }, refl)
+decide_backup (suc a) b false is d = (
+  record {
+    few = d.few;
+    same = λ x y. refl;
+    primary_lost = λ e. e;
+    backup_lost = λ e. e;
+  },
+  refl,
+)

@@ -96,7 +96,7 @@ too_early : {X : Type 0} (c n : ℕ) (xs : List Move) (i : Input) (rest more es 
 too_early c n xs i rest more [] is e end l = absurd (omega (arith, end, l))
 too_early c n xs i rest more (x ∷ es) is e end l = let f = first_later (suc c) xs x es is in
     let same : c ≡ count_of x = sym (count_entry c i) ∙ ap count_of (same_head (entry_of c i) x rest (es ++ more) e) in absurd
-        (omega (arith, f, same))
+    (omega (arith, f, same))
 
 mark_or_input : {X : Type 0} (c : ℕ) (i : Input) (xs ys : List Entry) → Mark (suc c) ∷ xs ≡ entry_of c i ∷ ys → X
 mark_or_input c i xs ys e = let same : suc c ≡ c =
@@ -124,8 +124,8 @@ module _ {S : Type 0} (M : Machine S) (counts : Counts M) where
   front a s u c (Do None ∷ xs) (Do None ∷ ys) more at h end k same = let b = counts.by_step a h.0 None h.1 in let g =
       count_grows M counts h.0 s xs h.2 in let e = same_gives a h.0 k.0 None None h.1 k.1 in
       let r = front h.0 s u (suc c) xs ys more (b ∙ ap suc at) h.2
-          (later_end c (M.count s) (entries (suc c) xs) end (omega (arith, b, g, at)))
-          (subst (λ v. Runs M v ys u) (sym e.0) k.2) same in
+      (later_end c (M.count s) (entries (suc c) xs) end (omega (arith, b, g, at)))
+      (subst (λ v. Runs M v ys u) (sym e.0) k.2) same in
       (r.0, ap (λ l. Do None ∷ l) r.1)
   front a s u c (Do None ∷ xs) (Do (Some o) ∷ ys) more at h end k same = let e =
       (same_gives a h.0 k.0 None (Some o) h.1 k.1).1 in absurd cc
@@ -138,7 +138,7 @@ module _ {S : Type 0} (M : Machine S) (counts : Counts M) where
   front a s u c (Do (Some o) ∷ xs) (Do (Some p) ∷ ys) more at h end k same = let e =
       same_gives a h.0 k.0 (Some o) (Some p) h.1 k.1 in
       let r = front h.0 s u (suc c) xs ys more (counts.by_step a h.0 (Some o) h.1 ∙ ap suc at) h.2 end
-          (subst (λ v. Runs M v ys u) (sym e.0) k.2)
+      (subst (λ v. Runs M v ys u) (sym e.0) k.2)
       (same_tail (Mark (suc c)) (Mark (suc c)) (entries (suc c) ys) (entries (suc c) xs ++ more) same) in
       (r.0, λ i. Do (sym e.1 i) ∷ r.1 i)
   front a s u c (Do (Some o) ∷ xs) (Take i ∷ ys) more at h end k same =
@@ -152,7 +152,7 @@ module _ {S : Type 0} (M : Machine S) (counts : Counts M) where
       same_input c i j (entries c xs ++ more) (entries c ys) same in
       let there : h.0 ≡ k.0 = same_some h.0 k.0 (M.take a j) (subst (λ x. M.take a x ≡ Some h.0) e h.1) k.1 in
       let r = front h.0 s u c xs ys more (counts.by_input a h.0 i h.1 ∙ at) h.2
-          (end ∙ ap (λ n. last_count n (entries c xs)) (count_entry c i)) (subst (λ v. Runs M v ys u) (sym there) k.2)
+      (end ∙ ap (λ n. last_count n (entries c xs)) (count_entry c i)) (subst (λ v. Runs M v ys u) (sym there) k.2)
       (same_tail (entry_of c j) (entry_of c i) (entries c ys) (entries c xs ++ more) same) in
       (r.0, λ n. Take (sym e n) ∷ r.1 n)
 
@@ -174,12 +174,12 @@ pub run_goes_on : {S : Type 0} (M : Machine S) → Counts M
 run_goes_on M counts boot list moves s run is end others t other same =
     let r = recorded-runs M M.boot s moves run in
     let f = front M counts M.boot s t 0 moves others [] boot r (end ∙ ap (last_count 0) (sym is))
-        (recorded-runs M M.boot t others other) (same ∙ sym is ∙ sym (append-nil (entries 0 moves))) in
+    (recorded-runs M M.boot t others other) (same ∙ sym is ∙ sym (append-nil (entries 0 moves))) in
     let zs : List Move = f.0 in
     let after : Recorded M s zs t = recorded-rest M M.boot s t moves zs r (subst (λ l. Recorded M M.boot l t) f.1 other) in
     let none : entries (0 + steps moves) zs ≡ [] =
-        after_front (entries 0 moves) (entries (0 + steps moves) zs) []
-        (sym (entries-append 0 moves zs) ∙ ap (entries 0) (sym f.1) ∙ same ∙ sym is ∙ sym (append-nil (entries 0 moves))) in
+    after_front (entries 0 moves) (entries (0 + steps moves) zs) []
+    (sym (entries-append 0 moves zs) ∙ ap (entries 0) (sym f.1) ∙ same ∙ sym is ∙ sym (append-nil (entries 0 moves))) in
     let q = are_quiet M counts s t (0 + steps moves) zs after none in
     record { rest = zs; all = f.1; none = none; further = q.0; quietly = q.1 }
 
@@ -208,20 +208,22 @@ last_move M counts boot counted list e run = go run.move run.makes run.entries_a
         → (entries 0 run.moves ≡ list) × LastMove M run.before run.after list e
     go (Do None) makes are =
         let all : entries 0 run.moves ≡ list ++ e ∷ [] =
-            sym (append-nil (entries 0 run.moves)) ∙ sym (entries-append 0 run.moves (Do None ∷ [])) ∙ are in
+        sym (append-nil (entries 0 run.moves)) ∙ sym (entries-append 0 run.moves (Do None ∷ [])) ∙ are in
         let b = counts.by_step run.before makes.0 None makes.1 in let m : M.count makes.0 ≡ M.count run.after =
-            ap M.count makes.2 in let l = low in
+        ap M.count makes.2 in let l = low in
         let is : last_count 0 (entries 0 run.moves) ≡ count_of e = ap (last_count 0) all ∙ last_of 0 list in let c = run.count in
         absurd (omega (arith, b, m, l, is, c))
     go (Do (Some o)) makes are =
         let both = same_front (entries 0 run.moves) list (Mark (suc (0 + steps run.moves))) e
-            (sym (entries-append 0 run.moves (Do (Some o) ∷ [])) ∙ are) in
+        (sym (entries-append 0 run.moves (Do (Some o) ∷ [])) ∙ are) in
         let step : M.step run.before ≡ Some (run.after, Some o) = makes.1 ∙ ap (λ v. Some (v, Some o)) makes.2 in
         let same : M.count run.after ≡ suc (0 + steps run.moves) =
-            counts.by_step run.before run.after (Some o) step ∙ ap suc at in
+        counts.by_step run.before run.after (Some o) step ∙ ap suc at in
         (both.0, subst (LastMove M run.before run.after list) (ap Mark same ∙ both.1) (Steps o step))
     go (Take i) makes are =
         let both = same_front (entries 0 run.moves) list (entry_of (0 + steps run.moves) i) e
-            (sym (entries-append 0 run.moves (Take i ∷ [])) ∙ are) in
-        (both.0, subst (LastMove M run.before run.after list) (ap (λ n. entry_of n i) at ∙ both.1)
-            (Hears i (subst (Accepts M run.before i) makes.2 makes.1)))
+        (sym (entries-append 0 run.moves (Take i ∷ [])) ∙ are) in (
+          both.0,
+          subst (LastMove M run.before run.after list) (ap (λ n. entry_of n i) at ∙ both.1)
+              (Hears i (subst (Accepts M run.before i) makes.2 makes.1)),
+        )

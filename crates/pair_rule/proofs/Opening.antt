@@ -39,7 +39,7 @@ pub takes_slot_first : (g n id : ℕ) (me : Mine) (v : SeatView) (s : Who) (h ge
 takes_slot_first g n id me v s h gen is mine core hand =
     subst (λ (m : Mine). Allows (Rule g) n id m 0 (λ x. x) (takes_first_slot s m)) (sym is)
     (first_slot_allowed g n id (v, []) s h mine (subst (λ c. get_elem? c.hands (seat_index s) ≡ some h) (sym core) hand)
-        (subst (λ c. get_elem? c.has_slot (seat_index s) ≡ some false) (sym core) (bare s gen)))
+    (subst (λ c. get_elem? c.has_slot (seat_index s) ≡ some false) (sym core) (bare s gen)))
 
 pub opened : (s : Who) (gen : ℕ) (table id : TableId) (me me' : Mine) (r h : ℕ) (v : SeatView) → id ≡ table → me ≡ (v, [])
     → takes_first_slot s me r me' → has v s → v.core ≡ first_core gen → v.mine ≡ set nobody (seat_index s) true
@@ -55,10 +55,19 @@ opened s gen table id me me' r h v same is told mine core single hand small =
         single = ap (λ (z : SeatView). z.mine) f ∙ single;
         holds = subst (λ (m : Mine). Holds s m h) (λ i. (sym f i, sym e i))
             (subst (λ c. Holds s (with_core v (with_slot s true c), (h, None) ∷ []) h) (sym core)
-            record { mine = mine; hand = hand;
-                has_slot = set_there (first_core gen).has_slot (seat_index s) false true (bare s gen); one = (None, refl);
-                small = small; sized = record { hands = refl; has_slot = length-set (first_core gen).has_slot (seat_index s) true;
-                fills = refl; empties = refl } });
+            record {
+              mine = mine;
+              hand = hand;
+              has_slot = set_there (first_core gen).has_slot (seat_index s) false true (bare s gen);
+              one = (None, refl);
+              small = small;
+              sized = record {
+                hands = refl;
+                has_slot = length-set (first_core gen).has_slot (seat_index s) true;
+                fills = refl;
+                empties = refl;
+              };
+            });
       };
       core = ap (λ (z : SeatView). z.core) f ∙ ap (with_slot s true) core;
     }

@@ -209,14 +209,17 @@ pub steps : (views : List SeatView) (core core' : Core) (s n : Who) (at : Who �
 steps views core core' s n at id v c' seats here mine both rest =
     let w : SeatView = record v { core = c' } in let h = seats n in let own = (seats s).only id v here mine in record {
       here = dite (ℕ_discrete (at n) id)
-          (λ e. (w, ap (get_elem? (set views id w)) e ∙ set_there views id v w here,
-              (let q = h.here in subst (λ (x : SeatView). has x n)
-              (mathlib.Core.Option.some-injective q.0 v (sym q.1 ∙ ap (get_elem? views) e ∙ here)) q.2)))
+          (λ e. (
+            w,
+            ap (get_elem? (set views id w)) e ∙ set_there views id v w here,
+            (let q = h.here in subst (λ (x : SeatView). has x n)
+                (mathlib.Core.Option.some-injective q.0 v (sym q.1 ∙ ap (get_elem? views) e ∙ here)) q.2),
+          ))
           (λ ne. (h.here.0, set_else views id (at n) w ne ∙ h.here.1, h.here.2));
       only = λ j x ex hx. ⊎_elim
           (λ (t : (j ≡ id) × (w ≡ x)). let o =
-              h.only id v here (subst (λ (y : SeatView). has y n) (sym t.1) hx) in
-              (t.0 ∙ o.0, subst (λ (y : SeatView). Same n y.core core') t.1 (both o.1)))
+          h.only id v here (subst (λ (y : SeatView). has y n) (sym t.1) hx) in
+          (t.0 ∙ o.0, subst (λ (y : SeatView). Same n y.core core') t.1 (both o.1)))
           (λ (t : (j ≢ id) × (get_elem? views j ≡ some x)). let o = h.only j x t.1 hx in
           (o.0, rest x.core (λ e. t.0 (o.0 ∙ ap at e ∙ sym own.0)) o.1))
           (at_set views id j w x ex);

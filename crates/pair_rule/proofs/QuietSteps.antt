@@ -22,11 +22,11 @@ pub notes_more : (c : ℕ) (log : List Entry) (ns : List Note) (xs ys : List Mov
 notes_more c log ns [] ys = λ i. notes_from (let e : c ≡ c + 0 = omega arith in e i) (sym (append-nil log) i) ns ys
 notes_more c log ns (Do o ∷ xs) ys = notes_more (suc c) (log ++ marks (suc c) o) (notes_after ns log o) xs ys
     ∙ (λ i. notes_from (let e : suc c + steps xs ≡ c + suc (steps xs) = omega arith in e i)
-        (append_assoc log (marks (suc c) o) (entries (suc c) xs) i)
-        (notes_from (suc c) (log ++ marks (suc c) o) (notes_after ns log o) xs) ys)
+    (append_assoc log (marks (suc c) o) (entries (suc c) xs) i)
+    (notes_from (suc c) (log ++ marks (suc c) o) (notes_after ns log o) xs) ys)
 notes_more c log ns (Take x ∷ xs) ys = notes_more c (log ++ entry_of c x ∷ []) ns xs ys
     ∙ (λ i. notes_from (c + steps xs) (append_assoc log (entry_of c x ∷ []) (entries c xs) i)
-        (notes_from c (log ++ entry_of c x ∷ []) ns xs) ys)
+    (notes_from c (log ++ entry_of c x ∷ []) ns xs) ys)
 
 -- ---- quiet steps
 
@@ -39,8 +39,14 @@ pub record QuietMoves {S : Type 0} (M : Machine S) (s : S) (n : ℕ) (t : S) : T
   pub bare : (c : ℕ) → inputs c moves ≡ []
 
 pub quiet_moves : {S : Type 0} (M : Machine S) (s : S) (n : ℕ) (t : S) → Quiet M s n t → QuietMoves M s n t
-quiet_moves M s n t Begin = record { moves = []; recorded = refl; silent = λ c. refl; count = refl; notes = λ c log ns. refl;
-    bare = λ c. refl }
+quiet_moves M s n t Begin = record {
+  moves = [];
+  recorded = refl;
+  silent = λ c. refl;
+  count = refl;
+  notes = λ c log ns. refl;
+  bare = λ c. refl;
+}
 quiet_moves M s m u (More {n = n} {t = t} q free step) = let r = quiet_moves M s n t q in record {
   moves = r.moves ++ Do None ∷ [];
   recorded = recorded-append M s t u r.moves (Do None ∷ []) r.recorded (u, step, refl);

@@ -53,14 +53,17 @@ module _ {S : Type 0} (M : Machine S) (C : Copying S) (typed0 typed1 : List ℕ)
   release_event o name there none found covered = First (Accepts
       ((λ i. first_of (there i ∷ at_node (at_primary none i) (release_refusal M name) ∷ []))
       ∙ (λ i. first_of (first_of (fault_if (is_none (found i)) NotDue ∷ fault_if (not (covered i)) NotCovered ∷ []) ∷ [])))
-      record { o = o; node = record { x = primary; there = at_primary none; said = found };
-          says = record { reply = refl; after = refl } }) Nothing
+      record {
+        o = o;
+        node = record { x = primary; there = at_primary none; said = found };
+        says = record { reply = refl; after = refl };
+      }) Nothing
 
   pub release_leads : (o : Operation) → Among o (operations z.moves) → IsAcknowledged z.moves k.primary.seen o
       → no_such w (id_of o) ≡ None → k.primary.winner ≡ 0 → M.find z.s (id_of o) ≡ Some o
       → covers k.primary.seen 0 (note_of (notes_from 0 [] [] z.moves) (id_of o)) ≡ true
       → Leads M C typed0 typed1 (record k { primary = record k.primary { released = k.primary.released ++ o ∷ [] } }) w
-          (λ events. events ≡ Release 0 (id_of o) ∷ [])
+      (λ events. events ≡ Release 0 (id_of o) ∷ [])
   release_leads o given marked there none found covered = record {
     events = Release 0 (id_of o) ∷ [];
     formed = refl;
@@ -68,81 +71,156 @@ module _ {S : Type 0} (M : Machine S) (C : Copying S) (typed0 typed1 : List ℕ)
     new = with_message w (Released o);
     run = release_event o (id_of o) there none found covered;
     once = inl refl;
-    shows = record { moves = z.moves; s = z.s; recorded = z.recorded; entries_are = z.entries_are; count = z.count;
-        nodes = z.nodes; sent = release_shows o; terminals = z.terminals; winners = z.winners; puts = z.puts;
-        issued = λ x at. ⊎_elim (λ (i : Among x k.primary.released). z.issued x i)
-        (λ (e : x ≡ o). subst (λ y. Among y (operations z.moves)) (sym e) given) (among_either x o k.primary.released at);
-        done = z.done; first_reads = z.first_reads;
-        covered = λ x at. ⊎_elim (λ (i : Among x k.primary.released). z.covered x i)
-        (λ (e : x ≡ o). subst (IsAcknowledged z.moves k.primary.seen) (sym e) marked) (among_either x o k.primary.released at);
-        only = only_more k.primary.list k.backup.held_values (Released o) w.messages tt z.only };
+    shows = record {
+      moves = z.moves;
+      s = z.s;
+      recorded = z.recorded;
+      entries_are = z.entries_are;
+      count = z.count;
+      nodes = z.nodes;
+      sent = release_shows o;
+      terminals = z.terminals;
+      winners = z.winners;
+      puts = z.puts;
+      issued = λ x at. ⊎_elim (λ (i : Among x k.primary.released). z.issued x i)
+          (λ (e : x ≡ o). subst (λ y. Among y (operations z.moves)) (sym e) given) (among_either x o k.primary.released at);
+      done = z.done;
+      first_reads = z.first_reads;
+      covered = λ x at. ⊎_elim (λ (i : Among x k.primary.released). z.covered x i)
+          (λ (e : x ≡ o). subst (IsAcknowledged z.moves k.primary.seen) (sym e) marked) (among_either x o k.primary.released at);
+      only = only_more k.primary.list k.backup.held_values (Released o) w.messages tt z.only;
+    };
   }
 
   -- a byte that a terminal has in hand arrives
   arrive_shows : (port : ℕ) (v : World S) → v.nodes ≡ w.nodes → v.messages ≡ w.messages
       → v.terminals ≡ terminals_of (byte_arrived port k) typed0 typed1 → v.winners ≡ w.winners → v.puts ≡ w.puts
       → Shows M typed0 typed1 (byte_arrived port k) v
-  arrive_shows zero v nodes messages terminals winners puts = record { moves = z.moves; s = z.s; recorded = z.recorded;
-      entries_are = z.entries_are; count = z.count; nodes = nodes ∙ z.nodes;
-      sent = subst (Sent (byte_arrived 0 k)) (sym messages) record { logs = z.sent.logs; acks = z.sent.acks;
-      operations = z.sent.operations; writes = z.sent.writes }; terminals = terminals; winners = winners ∙ z.winners;
-      puts = puts ∙ z.puts; issued = z.issued; done = z.done; first_reads = z.first_reads; covered = z.covered;
-      only = λ m at. z.only m (subst (λ l. Among m l) messages at) }
-  arrive_shows (suc p) v nodes messages terminals winners puts = record { moves = z.moves; s = z.s; recorded = z.recorded;
-      entries_are = z.entries_are; count = z.count; nodes = nodes ∙ z.nodes;
-      sent = subst (Sent (byte_arrived (suc p) k)) (sym messages) record { logs = z.sent.logs; acks = z.sent.acks;
-      operations = z.sent.operations; writes = z.sent.writes }; terminals = terminals; winners = winners ∙ z.winners;
-      puts = puts ∙ z.puts; issued = z.issued; done = z.done; first_reads = z.first_reads; covered = z.covered;
-      only = λ m at. z.only m (subst (λ l. Among m l) messages at) }
+  arrive_shows zero v nodes messages terminals winners puts = record {
+    moves = z.moves;
+    s = z.s;
+    recorded = z.recorded;
+    entries_are = z.entries_are;
+    count = z.count;
+    nodes = nodes ∙ z.nodes;
+    sent = subst (Sent (byte_arrived 0 k)) (sym messages) record {
+      logs = z.sent.logs;
+      acks = z.sent.acks;
+      operations = z.sent.operations;
+      writes = z.sent.writes;
+    };
+    terminals = terminals;
+    winners = winners ∙ z.winners;
+    puts = puts ∙ z.puts;
+    issued = z.issued;
+    done = z.done;
+    first_reads = z.first_reads;
+    covered = z.covered;
+    only = λ m at. z.only m (subst (λ l. Among m l) messages at);
+  }
+  arrive_shows (suc p) v nodes messages terminals winners puts = record {
+    moves = z.moves;
+    s = z.s;
+    recorded = z.recorded;
+    entries_are = z.entries_are;
+    count = z.count;
+    nodes = nodes ∙ z.nodes;
+    sent = subst (Sent (byte_arrived (suc p) k)) (sym messages) record {
+      logs = z.sent.logs;
+      acks = z.sent.acks;
+      operations = z.sent.operations;
+      writes = z.sent.writes;
+    };
+    terminals = terminals;
+    winners = winners ∙ z.winners;
+    puts = puts ∙ z.puts;
+    issued = z.issued;
+    done = z.done;
+    first_reads = z.first_reads;
+    covered = z.covered;
+    only = λ m at. z.only m (subst (λ l. Among m l) messages at);
+  }
 
   arrive_event : (port number byte m : ℕ) → slice_get w.messages m ≡ Some (Released (Byte port number byte))
       → Happens M C w (Arrive m ∷ []) ((if nat_lt (length (accepted w port))
       (length (accepted (with_arrival w port (record { number = number; byte = byte })) port)) then Accepted else Dropped) ∷ [])
       (with_arrival w port (record { number = number; byte = byte }))
   arrive_event port number byte m there =
-      First (Accepts (ap byte_refusal there) record { port = port; number = number; byte = byte; message = there; reply = refl;
-      after = refl }) Nothing
+      First (Accepts (ap byte_refusal there) record {
+        port = port;
+        number = number;
+        byte = byte;
+        message = there;
+        reply = refl;
+        after = refl;
+      }) Nothing
 
   pub arrive_leads : (port number byte : ℕ) → port < 2 → hand_of port k ≡ Some (Byte port number byte)
       → Among (Byte port number byte) k.primary.released
       → Leads M C typed0 typed1 (byte_arrived port k) w (λ events. (m : ℕ) × (events ≡ Arrive m ∷ []))
   arrive_leads zero number byte two hand at = let m =
       index_of (Released (Byte 0 number byte)) w.messages (z.sent.operations (Byte 0 number byte) at) in record {
-    events = Arrive m.0 ∷ [];
-    formed = (m.0, refl);
-    replies = _;
-    new = with_arrival w 0 (record { number = number; byte = byte });
-    run = arrive_event 0 number byte m.0 m.1;
-    once = inl refl;
-    shows = arrive_shows 0 (with_arrival w 0 (record { number = number; byte = byte })) refl refl
-        (ap (λ l. slice_set l 0 (record (terminal_in l 0) { arrivals = (terminal_in l 0).arrivals ++ record { number = number;
-            byte = byte } ∷ [] })) z.terminals
-        ∙ (λ i. record { arrivals = sym (map_more arrival_of k.terminal.arrivals0 record { number = number; byte = byte }) i;
-            typed = typed0; told = 0 } ∷ record { arrivals = map arrival_of k.terminal.arrivals1; typed = typed1; told = 0 } ∷ [])
-        ∙ (λ i. record { arrivals = map arrival_of (arrives (sym hand i) k.terminal.arrivals0); typed = typed0;
-            told = 0 } ∷ record { arrivals = map arrival_of k.terminal.arrivals1; typed = typed1; told = 0 } ∷ []))
-        refl refl;
-  }
+        events = Arrive m.0 ∷ [];
+        formed = (m.0, refl);
+        replies = _;
+        new = with_arrival w 0 (record { number = number; byte = byte });
+        run = arrive_event 0 number byte m.0 m.1;
+        once = inl refl;
+        shows = arrive_shows 0 (with_arrival w 0 (record { number = number; byte = byte })) refl refl
+            (ap (λ l. slice_set l 0 (record (terminal_in l 0) {
+              arrivals = (terminal_in l 0).arrivals ++ record {
+                number = number;
+                byte = byte;
+              } ∷ [];
+            })) z.terminals
+            ∙ (λ i. record {
+              arrivals = sym (map_more arrival_of k.terminal.arrivals0 record { number = number; byte = byte }) i;
+              typed = typed0;
+              told = 0;
+            } ∷ record { arrivals = map arrival_of k.terminal.arrivals1; typed = typed1; told = 0 } ∷ [])
+            ∙ (λ i. record {
+              arrivals = map arrival_of (arrives (sym hand i) k.terminal.arrivals0);
+              typed = typed0;
+              told = 0;
+            } ∷ record { arrivals = map arrival_of k.terminal.arrivals1; typed = typed1; told = 0 } ∷ []))
+            refl refl;
+      }
   arrive_leads (suc zero) number byte two hand at = let m =
       index_of (Released (Byte 1 number byte)) w.messages (z.sent.operations (Byte 1 number byte) at) in record {
-    events = Arrive m.0 ∷ [];
-    formed = (m.0, refl);
-    replies = _;
-    new = with_arrival w 1 (record { number = number; byte = byte });
-    run = arrive_event 1 number byte m.0 m.1;
-    once = inl refl;
-    shows = arrive_shows 1 (with_arrival w 1 (record { number = number; byte = byte })) refl refl
-        (ap (λ l. slice_set l 1 (record (terminal_in l 1) { arrivals = (terminal_in l 1).arrivals ++ record { number = number;
-            byte = byte } ∷ [] })) z.terminals
-        ∙ (λ i. record { arrivals = map arrival_of k.terminal.arrivals0; typed = typed0;
-            told = 0 } ∷ record { arrivals =
-            sym (map_more arrival_of k.terminal.arrivals1 record { number = number; byte = byte }) i; typed = typed1;
-            told = 0 } ∷ [])
-        ∙ (λ i. record { arrivals = map arrival_of k.terminal.arrivals0; typed = typed0;
-            told = 0 } ∷ record { arrivals = map arrival_of (arrives (sym hand i) k.terminal.arrivals1); typed = typed1;
-            told = 0 } ∷ []))
-        refl refl;
-  }
+        events = Arrive m.0 ∷ [];
+        formed = (m.0, refl);
+        replies = _;
+        new = with_arrival w 1 (record { number = number; byte = byte });
+        run = arrive_event 1 number byte m.0 m.1;
+        once = inl refl;
+        shows = arrive_shows 1 (with_arrival w 1 (record { number = number; byte = byte })) refl refl
+            (ap (λ l. slice_set l 1 (record (terminal_in l 1) {
+              arrivals = (terminal_in l 1).arrivals ++ record {
+                number = number;
+                byte = byte;
+              } ∷ [];
+            })) z.terminals
+            ∙ (λ i. record {
+              arrivals = map arrival_of k.terminal.arrivals0;
+              typed = typed0;
+              told = 0;
+            } ∷ record {
+              arrivals =
+                  sym (map_more arrival_of k.terminal.arrivals1 record { number = number; byte = byte }) i;
+              typed = typed1;
+              told = 0;
+            } ∷ [])
+            ∙ (λ i. record {
+              arrivals = map arrival_of k.terminal.arrivals0;
+              typed = typed0;
+              told = 0;
+            } ∷ record {
+              arrivals = map arrival_of (arrives (sym hand i) k.terminal.arrivals1);
+              typed = typed1;
+              told = 0;
+            } ∷ []))
+            refl refl;
+      }
   arrive_leads (suc (suc p)) number byte two hand at = absurd (omega arith)
 
   -- a write is put, and the disk answers
@@ -151,7 +229,7 @@ module _ {S : Type 0} (M : Machine S) (C : Copying S) (typed0 typed1 : List ℕ)
       (λ events. (m : ℕ) × (events ≡ Put m ∷ []))
   put_leads st write is =
       let m = index_of (Released (Write write)) w.messages
-          (z.sent.operations (Write write) (subst (λ t. WhereSome t (IsAsked k.primary.released)) is st.taken)) in record {
+      (z.sent.operations (Write write) (subst (λ t. WhereSome t (IsAsked k.primary.released)) is st.taken)) in record {
         events = Put m.0 ∷ [];
         formed = (m.0, refl);
         replies = MessageIs (length w.messages) ∷ [];
@@ -171,8 +249,8 @@ module _ {S : Type 0} (M : Machine S) (C : Copying S) (typed0 typed1 : List ℕ)
             operations = t.operations;
             writes = λ n at. ⊎_elim (λ (i : Among (answer.Written n) k.disk.given). t.writes n i)
                 (λ (e : answer.Written n ≡ answer.Written write.number). subst
-                    (λ (a : DiskAnswer). Among (done_by a) (w.messages ++ WriteDone write.number ∷ [])) (sym e)
-                    (among_last (WriteDone write.number) w.messages))
+                (λ (a : DiskAnswer). Among (done_by a) (w.messages ++ WriteDone write.number ∷ [])) (sym e)
+                (among_last (WriteDone write.number) w.messages))
                 (among_either (answer.Written n) (answer.Written write.number) k.disk.given at);
           };
           terminals = z.terminals;

@@ -19,5 +19,11 @@ can_reply d (answer.Read r) (a, taken, at, last) =
     go : LatestIs (record { number = 0; bytes = r.bytes }) d.puts a (latest (record { number = 0; bytes = r.bytes }) d.puts a)
         → IsReplied d.puts (answer.Read r)
     go (AsBefore e) = inl (ap (λ (z : SectorRecord). z.number) (sym last ∙ e))
-    go (OfPut v m there e) = inr (v, m, there ∙ at, ap (λ (z : SectorRecord). z.number) (sym e ∙ last), ap
-        (λ (z : SectorRecord). z.bytes) (sym e ∙ last))
+    go (OfPut v m there e) = inr (
+      v,
+      m,
+      there ∙ at,
+      ap (λ (z : SectorRecord). z.number) (sym e ∙ last),
+      ap
+          (λ (z : SectorRecord). z.bytes) (sym e ∙ last),
+    )

@@ -62,7 +62,7 @@ module _ {S : Type 0} (M : Machine S) (laws : Lawful M) (typed0 typed1 : List �
   module _ (n : ℕ) (t : S) (quiet : Quiet M z.s n t) (drive sector : ℕ) (r : SectorRead)
       (free : refusal_of M t (input.Sector drive sector r.number r.bytes) ≡ None)
       (given : Among (answer.Read r) k.primary.answers) (first : r.number ≡ 0
-          → r.bytes ≡ M.boot_sector (M.address t drive sector)) where
+      → r.bytes ≡ M.boot_sector (M.address t drive sector)) where
     q : SectorAddress
     q = M.address t drive sector
 
@@ -99,7 +99,7 @@ module _ {S : Type 0} (M : Machine S) (laws : Lawful M) (typed0 typed1 : List �
     unfolding moves
     put number d = z.done number (subst (λ (l : List Timed). Among (Written number) (map (λ (x : Timed). x.input) l))
         (inputs-append 0 z.moves more.moves ∙ ap (λ l. inputs 0 z.moves ++ l) (more.bare (0 + steps z.moves)) ∙ append-nil
-            (inputs 0 z.moves)) d)
+        (inputs 0 z.moves)) d)
 
     -- no write of the sector that arrived is past the last completed one
     early : (v : SectorWrite) → Among v k.disk.puts → address_of v ≡ q → v.number ≤ M.done t q
@@ -144,6 +144,8 @@ module _ {S : Type 0} (M : Machine S) (laws : Lawful M) (typed0 typed1 : List �
             let is : here.number ≡ v.number = ap (λ (x : SectorRecord). x.number) h in
             let f = early v m e in let l = late o in let d = last in
             let same : v.number ≡ r.number = omega (arith, is, f, l, d) in
-            h ∙ (λ i. record { number = same i;
-                bytes = bytes_of v m same (all_in (IsReplied k.disk.puts) k.disk.given (answer.Read r) st.replies
-                (all_in (λ a. Among a k.disk.given) k.primary.answers (answer.Read r) st.answers given)) i })
+            h ∙ (λ i. record {
+              number = same i;
+              bytes = bytes_of v m same (all_in (IsReplied k.disk.puts) k.disk.given (answer.Read r) st.replies
+                  (all_in (λ a. Among a k.disk.given) k.primary.answers (answer.Read r) st.answers given)) i;
+            })

@@ -27,8 +27,14 @@ put_in s me me' slot y h e = e ∙ ap (λ (c : List (ℕ × Option Payload)). (m
 
 pub still_holds : (s : Who) (me me' : Mine) (slot : ℕ) (y : Option Payload) → Holds s me slot
     → me' ≡ (me.0, (slot, y) ∷ rest me.1) → Holds s me' slot
-still_holds s me me' slot y h e = subst (λ (m : Mine). Holds s m slot) (sym (put_in s me me' slot y h e)) record { mine = h.mine;
-    hand = h.hand; has_slot = h.has_slot; one = (y, refl); small = h.small; sized = h.sized }
+still_holds s me me' slot y h e = subst (λ (m : Mine). Holds s m slot) (sym (put_in s me me' slot y h e)) record {
+  mine = h.mine;
+  hand = h.hand;
+  has_slot = h.has_slot;
+  one = (y, refl);
+  small = h.small;
+  sized = h.sized;
+}
 
 module _ (s : Who) (me me' : Mine) (slot r : ℕ) (h : Holds s me slot) (t : Swapped r me') where
   -- the seat has the slot that the box's word named
@@ -42,8 +48,12 @@ module _ (s : Who) (me me' : Mine) (slot r : ℕ) (h : Holds s me slot) (t : Swa
         has_slot = h.has_slot;
         one = (t.0, refl);
         small = t.2;
-        sized = record { hands = length-set me.0.core.hands (seat_index (filler b)) (slot_of r) ∙ z.hands; has_slot = z.has_slot;
-            fills = length-set me.0.core.fills (box_index b) _ ∙ z.fills; empties = z.empties };
+        sized = record {
+          hands = length-set me.0.core.hands (seat_index (filler b)) (slot_of r) ∙ z.hands;
+          has_slot = z.has_slot;
+          fills = length-set me.0.core.fills (box_index b) _ ∙ z.fills;
+          empties = z.empties;
+        };
       }
 
   pub after_empty_holds : (b : Mailbox) (q : Payload) → emptier b ≡ s → me'.0 ≡ with_core me.0 (emptied b q r me.0.core)
@@ -56,8 +66,12 @@ module _ (s : Who) (me me' : Mine) (slot r : ℕ) (h : Holds s me slot) (t : Swa
         has_slot = h.has_slot;
         one = (t.0, refl);
         small = t.2;
-        sized = record { hands = length-set me.0.core.hands (seat_index (emptier b)) (slot_of r) ∙ z.hands; has_slot = z.has_slot;
-            fills = z.fills; empties = length-set me.0.core.empties (box_index b) _ ∙ z.empties };
+        sized = record {
+          hands = length-set me.0.core.hands (seat_index (emptier b)) (slot_of r) ∙ z.hands;
+          has_slot = z.has_slot;
+          fills = z.fills;
+          empties = length-set me.0.core.empties (box_index b) _ ∙ z.empties;
+        };
       }
 
   pub found_empty_holds : (b : Mailbox) → emptier b ≡ s → me'.0 ≡ with_core me.0 (found_empty b r me.0.core)
@@ -70,16 +84,25 @@ module _ (s : Who) (me me' : Mine) (slot r : ℕ) (h : Holds s me slot) (t : Swa
         has_slot = h.has_slot;
         one = (t.0, refl);
         small = t.2;
-        sized = record { hands = length-set me.0.core.hands (seat_index (emptier b)) (slot_of r) ∙ z.hands; has_slot = z.has_slot;
-            fills = z.fills; empties = length-set me.0.core.empties (box_index b) _ ∙ z.empties };
+        sized = record {
+          hands = length-set me.0.core.hands (seat_index (emptier b)) (slot_of r) ∙ z.hands;
+          has_slot = z.has_slot;
+          fills = z.fills;
+          empties = length-set me.0.core.empties (box_index b) _ ∙ z.empties;
+        };
       }
 
 -- what a seat with_known changes, and it holds what it held
 pub after_know : (s : Who) (me me' : Mine) (slot : ℕ) (turn : Knowledge → Knowledge) → Holds s me slot → me'.1 ≡ me.1
     → me'.0 ≡ with_core me.0 (with_known turn me.0.core) → Holds s me' slot
-after_know s me me' slot turn h same e = subst (λ (m : Mine). Holds s m slot) (λ i. (sym e i, sym same i)) record { mine = h.mine;
-    hand = h.hand; has_slot = h.has_slot; one = h.one; small = h.small;
-    sized = record { hands = h.sized.hands; has_slot = h.sized.has_slot; fills = h.sized.fills; empties = h.sized.empties } }
+after_know s me me' slot turn h same e = subst (λ (m : Mine). Holds s m slot) (λ i. (sym e i, sym same i)) record {
+  mine = h.mine;
+  hand = h.hand;
+  has_slot = h.has_slot;
+  one = h.one;
+  small = h.small;
+  sized = record { hands = h.sized.hands; has_slot = h.sized.has_slot; fills = h.sized.fills; empties = h.sized.empties };
+}
 
 -- ---- with the numbers of its swaps
 
@@ -200,9 +223,10 @@ room_all sides each = (each Outbox, each Inbox, each Bytes0, each Bytes1, each R
 pub swaps_left : (s : Who) (me : Mine) (slot : ℕ) (fills empties : List ℕ) (left : Bool) → Keeps s me slot fills empties
     → left ≡ (all_below fills && all_below empties) → (left ≡ true) ↔ HasSwapsLeft me.0.core
 swaps_left s me slot fills empties left k is = (
-  λ e. let all = both_true (all_below fills) (all_below empties) (sym is ∙ e) in
-      (room_all me.0.core.fills (side_below me.0.core.fills fills k.holds.sized.fills k.fills_are all.0),
-          room_all me.0.core.empties (side_below me.0.core.empties empties k.holds.sized.empties k.empties_are all.1)),
+  λ e. let all = both_true (all_below fills) (all_below empties) (sym is ∙ e) in (
+    room_all me.0.core.fills (side_below me.0.core.fills fills k.holds.sized.fills k.fills_are all.0),
+    room_all me.0.core.empties (side_below me.0.core.empties empties k.holds.sized.empties k.empties_are all.1),
+  ),
   λ h. is ∙ true_both (all_below fills) (all_below empties)
       (below_side me.0.core.fills fills k.holds.sized.fills k.fills_are (room_at me.0.core.fills h.0))
       (below_side me.0.core.empties empties k.holds.sized.empties k.empties_are (room_at me.0.core.empties h.1)),
@@ -218,7 +242,7 @@ pub says_filled : (b : Mailbox) (q : Payload) (r : ℕ) (old new : Core) → len
     → Fills b q old new
 says_filled b q r old new six is =
     let s : side_at new.fills (box_index b) ≡ side_at (filled b q r old).fills (box_index b) =
-        ap (λ (c : Core). side_at c.fills (box_index b)) is in
+    ap (λ (c : Core). side_at c.fills (box_index b)) is in
     let e = s ∙ side_set old.fills b _ six in
     ((r, is), ap (λ (z : Side). z.number) e, ap (λ (z : Side). z.last) e)
 
@@ -226,15 +250,19 @@ pub says_emptied : (b : Mailbox) (q : Payload) (r : ℕ) (old new : Core) → le
     → (side_at old.empties (box_index b)).met < number_of r → WasIn b old.known q → Empties b (Some q) old new
 says_emptied b q r old new six is met was =
     let s : side_at new.empties (box_index b) ≡ side_at (emptied b q r old).empties (box_index b) =
-        ap (λ (c : Core). side_at c.empties (box_index b)) is in
-    let e = s ∙ side_set old.empties b _ six in
-    (was, (r, is), ap (λ (z : Side). z.number) e, subst (λ (z : Side). (side_at old.empties (box_index b)).met < z.met)
-        (sym e) met)
+    ap (λ (c : Core). side_at c.empties (box_index b)) is in
+    let e = s ∙ side_set old.empties b _ six in (
+      was,
+      (r, is),
+      ap (λ (z : Side). z.number) e,
+      subst (λ (z : Side). (side_at old.empties (box_index b)).met < z.met)
+          (sym e) met,
+    )
 
 pub says_found : (b : Mailbox) (r : ℕ) (old new : Core) → length old.empties ≡ 6 → new ≡ found_empty b r old
     → Empties b None old new
 says_found b r old new six is =
     let s : side_at new.empties (box_index b) ≡ side_at (found_empty b r old).empties (box_index b) =
-        ap (λ (c : Core). side_at c.empties (box_index b)) is in
+    ap (λ (c : Core). side_at c.empties (box_index b)) is in
     let e = s ∙ side_set old.empties b _ six in
     ((r, is), ap (λ (z : Side). z.number) e, ap (λ (z : Side). z.met) e)

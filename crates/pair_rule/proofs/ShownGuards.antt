@@ -24,7 +24,7 @@ as_many n (x ∷ xs) = go (eqb x.number (n + 1)) (as_many (n + 1) xs) (as_many n
     go : (b : Bool) → length (bytes_after (n + 1) (map arrival_of xs)) + (n + 1) ≡ accepted_after (n + 1) xs
         → length (bytes_after n (map arrival_of xs)) + n ≡ accepted_after n xs
         → length (cond b (x.byte ∷ bytes_after (n + 1) (map arrival_of xs)) (bytes_after n (map arrival_of xs))) + n ≡ cond b
-            (accepted_after (n + 1) xs) (accepted_after n xs)
+        (accepted_after (n + 1) xs) (accepted_after n xs)
     go true e d = omega (arith, e)
     go false e d = d
 

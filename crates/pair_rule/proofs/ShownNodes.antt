@@ -89,13 +89,21 @@ only_held list helds n (world.SectorRead address m bytes) is = tt
 -- what is acknowledged stays so, where more is seen and more moves are made
 pub later_covered : (moves : List Move) (seen more : ℕ) (o : Operation) → seen ≤ more → IsAcknowledged moves seen o
     → IsAcknowledged moves more o
-later_covered moves seen more o le a = record { front = a.front; rest = a.rest; given = a.given;
-    marked = (let m = a.marked in omega (arith, m, le)) }
+later_covered moves seen more o le a = record {
+  front = a.front;
+  rest = a.rest;
+  given = a.given;
+  marked = (let m = a.marked in omega (arith, m, le));
+}
 
 pub longer_covered : (moves more : List Move) (seen : ℕ) (o : Operation) → IsAcknowledged moves seen o
     → IsAcknowledged (moves ++ more) seen o
-longer_covered moves more seen o a = record { front = a.front; rest = a.rest ++ more;
-    given = ap (λ l. l ++ more) a.given ∙ append_assoc a.front (Do (Some o) ∷ a.rest) more; marked = a.marked }
+longer_covered moves more seen o a = record {
+  front = a.front;
+  rest = a.rest ++ more;
+  given = ap (λ l. l ++ more) a.given ∙ append_assoc a.front (Do (Some o) ∷ a.rest) more;
+  marked = a.marked;
+}
 
 module _ {S : Type 0} (M : Machine S) (C : Copying S) (typed0 typed1 : List ℕ) (k : Knowledge) (w : World S)
     (z : Shows M typed0 typed1 k w) where

@@ -18,46 +18,142 @@ no_write n r (x ∷ given) (inl e) = inl e
 no_write n r (x ∷ given) (inr a) = inr (no_write n r given a)
 
 pub silent_shows : {S : Type 0} → SilentStepsShow S
-silent_shows M typed0 typed1 k new w z (Carries p) = record { moves = z.moves; s = z.s; recorded = z.recorded;
-    entries_are = z.entries_are; count = z.count; nodes = z.nodes;
-    sent = record { logs = z.sent.logs; acks = z.sent.acks; operations = z.sent.operations; writes = z.sent.writes };
-    terminals = z.terminals; winners = z.winners; puts = z.puts; issued = z.issued; done = z.done; first_reads = z.first_reads;
-    covered = z.covered; only = z.only }
-silent_shows M typed0 typed1 k new w z (SeesCount zero n more) = record { moves = z.moves; s = z.s; recorded = z.recorded;
-    entries_are = z.entries_are; count = z.count; nodes = z.nodes;
-    sent = record { logs = z.sent.logs; acks = z.sent.acks; operations = z.sent.operations; writes = z.sent.writes };
-    terminals = z.terminals; winners = z.winners; puts = z.puts; issued = z.issued; done = z.done; first_reads = z.first_reads;
-    covered = z.covered; only = z.only }
-silent_shows M typed0 typed1 k new w z (SeesCount (suc port) n more) = record { moves = z.moves; s = z.s; recorded = z.recorded;
-    entries_are = z.entries_are; count = z.count; nodes = z.nodes;
-    sent = record { logs = z.sent.logs; acks = z.sent.acks; operations = z.sent.operations; writes = z.sent.writes };
-    terminals = z.terminals; winners = z.winners; puts = z.puts; issued = z.issued; done = z.done; first_reads = z.first_reads;
-    covered = z.covered; only = z.only }
-silent_shows M typed0 typed1 k new w z (TakesByte0 o) = record { moves = z.moves; s = z.s; recorded = z.recorded;
-    entries_are = z.entries_are; count = z.count; nodes = z.nodes;
-    sent = record { logs = z.sent.logs; acks = z.sent.acks; operations = z.sent.operations; writes = z.sent.writes };
-    terminals = z.terminals; winners = z.winners; puts = z.puts; issued = z.issued; done = z.done; first_reads = z.first_reads;
-    covered = z.covered; only = z.only }
-silent_shows M typed0 typed1 k new w z (TakesByte1 o) = record { moves = z.moves; s = z.s; recorded = z.recorded;
-    entries_are = z.entries_are; count = z.count; nodes = z.nodes;
-    sent = record { logs = z.sent.logs; acks = z.sent.acks; operations = z.sent.operations; writes = z.sent.writes };
-    terminals = z.terminals; winners = z.winners; puts = z.puts; issued = z.issued; done = z.done; first_reads = z.first_reads;
-    covered = z.covered; only = z.only }
-silent_shows M typed0 typed1 k new w z (TakesRequest r) = record { moves = z.moves; s = z.s; recorded = z.recorded;
-    entries_are = z.entries_are; count = z.count; nodes = z.nodes;
-    sent = record { logs = z.sent.logs; acks = z.sent.acks; operations = z.sent.operations; writes = z.sent.writes };
-    terminals = z.terminals; winners = z.winners; puts = z.puts; issued = z.issued; done = z.done; first_reads = z.first_reads;
-    covered = z.covered; only = z.only }
-silent_shows M typed0 typed1 k new w z (HasAnswer a) = record { moves = z.moves; s = z.s; recorded = z.recorded;
-    entries_are = z.entries_are; count = z.count; nodes = z.nodes;
-    sent = record { logs = z.sent.logs; acks = z.sent.acks; operations = z.sent.operations; writes = z.sent.writes };
-    terminals = z.terminals; winners = z.winners; puts = z.puts; issued = z.issued; done = z.done; first_reads = z.first_reads;
-    covered = z.covered; only = z.only }
-silent_shows M typed0 typed1 k new w z (AsksRead a) = record { moves = z.moves; s = z.s; recorded = z.recorded;
-    entries_are = z.entries_are; count = z.count; nodes = z.nodes;
-    sent = record { logs = z.sent.logs; acks = z.sent.acks; operations = z.sent.operations; writes = z.sent.writes };
-    terminals = z.terminals; winners = z.winners; puts = z.puts; issued = z.issued; done = z.done; first_reads = z.first_reads;
-    covered = z.covered; only = z.only }
+silent_shows M typed0 typed1 k new w z (Carries p) = record {
+  moves = z.moves;
+  s = z.s;
+  recorded = z.recorded;
+  entries_are = z.entries_are;
+  count = z.count;
+  nodes = z.nodes;
+  sent = record { logs = z.sent.logs; acks = z.sent.acks; operations = z.sent.operations; writes = z.sent.writes };
+  terminals = z.terminals;
+  winners = z.winners;
+  puts = z.puts;
+  issued = z.issued;
+  done = z.done;
+  first_reads = z.first_reads;
+  covered = z.covered;
+  only = z.only;
+}
+silent_shows M typed0 typed1 k new w z (SeesCount zero n more) = record {
+  moves = z.moves;
+  s = z.s;
+  recorded = z.recorded;
+  entries_are = z.entries_are;
+  count = z.count;
+  nodes = z.nodes;
+  sent = record { logs = z.sent.logs; acks = z.sent.acks; operations = z.sent.operations; writes = z.sent.writes };
+  terminals = z.terminals;
+  winners = z.winners;
+  puts = z.puts;
+  issued = z.issued;
+  done = z.done;
+  first_reads = z.first_reads;
+  covered = z.covered;
+  only = z.only;
+}
+silent_shows M typed0 typed1 k new w z (SeesCount (suc port) n more) = record {
+  moves = z.moves;
+  s = z.s;
+  recorded = z.recorded;
+  entries_are = z.entries_are;
+  count = z.count;
+  nodes = z.nodes;
+  sent = record { logs = z.sent.logs; acks = z.sent.acks; operations = z.sent.operations; writes = z.sent.writes };
+  terminals = z.terminals;
+  winners = z.winners;
+  puts = z.puts;
+  issued = z.issued;
+  done = z.done;
+  first_reads = z.first_reads;
+  covered = z.covered;
+  only = z.only;
+}
+silent_shows M typed0 typed1 k new w z (TakesByte0 o) = record {
+  moves = z.moves;
+  s = z.s;
+  recorded = z.recorded;
+  entries_are = z.entries_are;
+  count = z.count;
+  nodes = z.nodes;
+  sent = record { logs = z.sent.logs; acks = z.sent.acks; operations = z.sent.operations; writes = z.sent.writes };
+  terminals = z.terminals;
+  winners = z.winners;
+  puts = z.puts;
+  issued = z.issued;
+  done = z.done;
+  first_reads = z.first_reads;
+  covered = z.covered;
+  only = z.only;
+}
+silent_shows M typed0 typed1 k new w z (TakesByte1 o) = record {
+  moves = z.moves;
+  s = z.s;
+  recorded = z.recorded;
+  entries_are = z.entries_are;
+  count = z.count;
+  nodes = z.nodes;
+  sent = record { logs = z.sent.logs; acks = z.sent.acks; operations = z.sent.operations; writes = z.sent.writes };
+  terminals = z.terminals;
+  winners = z.winners;
+  puts = z.puts;
+  issued = z.issued;
+  done = z.done;
+  first_reads = z.first_reads;
+  covered = z.covered;
+  only = z.only;
+}
+silent_shows M typed0 typed1 k new w z (TakesRequest r) = record {
+  moves = z.moves;
+  s = z.s;
+  recorded = z.recorded;
+  entries_are = z.entries_are;
+  count = z.count;
+  nodes = z.nodes;
+  sent = record { logs = z.sent.logs; acks = z.sent.acks; operations = z.sent.operations; writes = z.sent.writes };
+  terminals = z.terminals;
+  winners = z.winners;
+  puts = z.puts;
+  issued = z.issued;
+  done = z.done;
+  first_reads = z.first_reads;
+  covered = z.covered;
+  only = z.only;
+}
+silent_shows M typed0 typed1 k new w z (HasAnswer a) = record {
+  moves = z.moves;
+  s = z.s;
+  recorded = z.recorded;
+  entries_are = z.entries_are;
+  count = z.count;
+  nodes = z.nodes;
+  sent = record { logs = z.sent.logs; acks = z.sent.acks; operations = z.sent.operations; writes = z.sent.writes };
+  terminals = z.terminals;
+  winners = z.winners;
+  puts = z.puts;
+  issued = z.issued;
+  done = z.done;
+  first_reads = z.first_reads;
+  covered = z.covered;
+  only = z.only;
+}
+silent_shows M typed0 typed1 k new w z (AsksRead a) = record {
+  moves = z.moves;
+  s = z.s;
+  recorded = z.recorded;
+  entries_are = z.entries_are;
+  count = z.count;
+  nodes = z.nodes;
+  sent = record { logs = z.sent.logs; acks = z.sent.acks; operations = z.sent.operations; writes = z.sent.writes };
+  terminals = z.terminals;
+  winners = z.winners;
+  puts = z.puts;
+  issued = z.issued;
+  done = z.done;
+  first_reads = z.first_reads;
+  covered = z.covered;
+  only = z.only;
+}
 silent_shows M typed0 typed1 k new w z (AnswersRead a r is first) = record {
   moves = z.moves;
   s = z.s;
@@ -65,8 +161,12 @@ silent_shows M typed0 typed1 k new w z (AnswersRead a r is first) = record {
   entries_are = z.entries_are;
   count = z.count;
   nodes = z.nodes;
-  sent = record { logs = z.sent.logs; acks = z.sent.acks; operations = z.sent.operations;
-      writes = λ n at. z.sent.writes n (no_write n r k.disk.given at) };
+  sent = record {
+    logs = z.sent.logs;
+    acks = z.sent.acks;
+    operations = z.sent.operations;
+    writes = λ n at. z.sent.writes n (no_write n r k.disk.given at);
+  };
   terminals = z.terminals;
   winners = z.winners;
   puts = z.puts ∙ ap (λ t. put_by t k.disk.puts) (sym is);
@@ -86,7 +186,7 @@ silent_shows M typed0 typed1 k new w z (AnswersRead a r is first) = record {
     more_reads x (inl at) none = z.first_reads x at none
     more_reads x (inr e) none = let same : x ≡ r = ap (read_in r) e in
         ap (λ (y : SectorRead). y.bytes) same ∙ first (ap (λ (y : SectorRead). y.number) (sym same) ∙ none) ∙ ap
-            (λ (y : SectorRead). M.boot_sector (read_at y)) (sym same)
+        (λ (y : SectorRead). M.boot_sector (read_at y)) (sym same)
 silent_shows M typed0 typed1 k new w z Keeps = z
 silent_shows M typed0 typed1 k new w z (CountsNone zero none) =
     subst (λ h. Shows M typed0 typed1 (record k { terminal = record k.terminal { arrivals0 = arrives h k.terminal.arrivals0 } })

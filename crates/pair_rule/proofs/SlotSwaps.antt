@@ -50,15 +50,15 @@ module _ (words hands : List ℕ) (has_slot : List Bool) (homes : Homes) (l : La
   pub box_else : (k v : ℕ) → get_elem? words k ≡ some v → k ≢ j → get_elem? after (slot_of v) ≡ get_elem? homes (slot_of v)
   box_else k v at ne = elsewhere homes h x (slot_of w) apart inside (slot_of v)
       (λ e. let near = within words k v at in let b = l.boxes k v at in let o =
-          (l.seats s h at_seat).0 in let same : l.owner (slot_of v) ≡ l.owner h = ap l.owner e in omega arith)
+      (l.seats s h at_seat).0 in let same : l.owner (slot_of v) ≡ l.owner h = ap l.owner e in omega arith)
       (λ e. ne (sym (l.boxes k v at) ∙ ap l.owner e ∙ l.boxes j w at_box))
 
   pub hand_else : (k v : ℕ) → get_elem? hands k ≡ some v → k ≢ s → get_elem? after v ≡ get_elem? homes v
   hand_else k v at ne = elsewhere homes h x (slot_of w) apart inside v
       (λ e. let a = (l.seats k v at).0 in let o = (l.seats s h at_seat).0 in let same : l.owner v ≡ l.owner h =
-          ap l.owner e in ne (omega arith))
+      ap l.owner e in ne (omega arith))
       (λ e. let near = within words j w at_box in let b = l.boxes j w at_box in let o =
-          (l.seats k v at).0 in let same : l.owner v ≡ l.owner (slot_of w) = ap l.owner e in omega arith)
+      (l.seats k v at).0 in let same : l.owner v ≡ l.owner (slot_of w) = ap l.owner e in omega arith)
 
   -- the box has the seat's slot, and the seat the box's
   pub laid_swap : (w' : ℕ) → slot_of w' ≡ h → get_elem? has_slot s ≡ some true
@@ -71,11 +71,11 @@ module _ (words hands : List ℕ) (has_slot : List Bool) (homes : Homes) (l : La
     boxes = λ k v at. ⊎_elim (λ (t : (k ≡ j) × (w' ≡ v)). put_here (put l.owner (slot_of w) (length words + s)) h j (slot_of v)
         (ap slot_of (sym t.1) ∙ is) ∙ sym t.0)
         (λ (t : (k ≢ j) × (get_elem? words k ≡ some v)). let near = within words k v t.1 in let b = l.boxes k v t.1 in let o =
-            (l.seats s h at_seat).0 in
+        (l.seats s h at_seat).0 in
         put_else (put l.owner (slot_of w) (length words + s)) h j (slot_of v) (λ e. let same : l.owner (slot_of v) ≡ l.owner h =
-            ap l.owner e in omega arith)
+        ap l.owner e in omega arith)
         ∙ put_else l.owner (slot_of w) (length words + s) (slot_of v) (λ e. t.0 (sym b ∙ ap l.owner e ∙ l.boxes j w at_box)) ∙ b)
-            (at_set words j k w' v at);
+        (at_set words j k w' v at);
     seats = λ k v at. let many = length-set words j w' in ⊎_elim
         (λ (t : (k ≡ s) × (slot_of w ≡ v)). (
           put_else (put l.owner (slot_of w) (length words + s)) h j v (λ e. apart (t.1 ∙ e)) ∙ put_here l.owner (slot_of w)
@@ -84,22 +84,22 @@ module _ (words hands : List ℕ) (has_slot : List Bool) (homes : Homes) (l : La
               as_deep homes h x (slot_of w) apart inside in let e = t.1 in omega arith,
         ))
         (λ (t : (k ≢ s) × (get_elem? hands k ≡ some v)). let o = l.seats k v t.1 in let p = (l.seats s h at_seat).0 in let near =
-            within words j w at_box in let b = l.boxes j w at_box in (
+        within words j w at_box in let b = l.boxes j w at_box in (
           put_else (put l.owner (slot_of w) (length words + s)) h j v (λ e. let same : l.owner v ≡ l.owner h =
               ap l.owner e in t.0 (let a = o.0 in omega arith))
               ∙ put_else l.owner (slot_of w) (length words + s) v (λ e. let same : l.owner v ≡ l.owner (slot_of w) =
-                  ap l.owner e in let a = o.0 in omega arith) ∙ o.0 ∙ (let a = many in omega arith),
+              ap l.owner e in let a = o.0 in omega arith) ∙ o.0 ∙ (let a = many in omega arith),
           let d = as_deep homes h x (slot_of w) apart inside in let a = o.1 in omega arith,
         ))
         (at_set hands s k (slot_of w) v at);
     full = λ k v at. ⊎_elim (λ (t : (k ≡ j) × (w' ≡ v)).
         (x, ap (get_elem? after) (ap slot_of (sym t.1) ∙ is) ∙ given homes h x (slot_of w) apart inside))
         (λ (t : (k ≢ j) × (get_elem? words k ≡ some v)). let f = l.full k v t.1 in (f.0, box_else k v t.1 t.0 ∙ f.1))
-            (at_set words j k w' v at);
+        (at_set words j k w' v at);
     bare = λ k v at lacks. ⊎_elim (λ (t : (k ≡ s) × (slot_of w ≡ v)). let e : true ≡ false =
         some-injective true false (sym ready ∙ ap (get_elem? has_slot) (sym t.0) ∙ lacks) in absurd (cc))
         (λ (t : (k ≢ s) × (get_elem? hands k ≡ some v)). hand_else k v t.1 t.0 ∙ l.bare k v t.1 lacks)
-            (at_set hands s k (slot_of w) v at);
+        (at_set hands s k (slot_of w) v at);
   }
 
 -- a seat takes its first slot out of its home, or puts its last one back
@@ -125,7 +125,7 @@ module _ (words hands : List ℕ) (has_slot : List Bool) (homes : Homes) (l : La
     full = λ j w at. let f = l.full j w at in (f.0, home_else none j w at ∙ f.1);
     bare = λ k v at lacks. ⊎_elim (λ (t : (k ≡ s) × (true ≡ false)). absurd (let e = t.1 in cc))
         (λ (t : (k ≢ s) × (get_elem? has_slot k ≡ some false)). seat_else none k v at t.0 ∙ l.bare k v at t.1)
-            (at_set has_slot s k true false lacks);
+        (at_set has_slot s k true false lacks);
   }
 
   pub laid_last : Laid words hands (set has_slot s false) (set homes h (some None))
@@ -138,8 +138,8 @@ module _ (words hands : List ℕ) (has_slot : List Bool) (homes : Homes) (l : La
     full = λ j w at. let f = l.full j w at in (f.0, home_else (some None) j w at ∙ f.1);
     bare = λ k v at lacks. ⊎_elim
         (λ (t : (k ≡ s) × (false ≡ false)). let same : v ≡ h =
-            some-injective v h (sym at ∙ ap (get_elem? hands) t.0 ∙ at_seat) in ap (get_elem? (set homes h (some None))) same
-            ∙ set_here homes h (some None) (l.seats s h at_seat).1)
+        some-injective v h (sym at ∙ ap (get_elem? hands) t.0 ∙ at_seat) in ap (get_elem? (set homes h (some None))) same
+        ∙ set_here homes h (some None) (l.seats s h at_seat).1)
         (λ (t : (k ≢ s) × (get_elem? has_slot k ≡ some false)). seat_else (some None) k v at t.0 ∙ l.bare k v at t.1)
-            (at_set has_slot s k false false lacks);
+        (at_set has_slot s k false false lacks);
   }

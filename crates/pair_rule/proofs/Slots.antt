@@ -54,23 +54,29 @@ within (y ∷ ys) (suc j) x e = let r = within ys j x e in omega arith
 pub fills : (word : ℕ) (homes homes' : Homes) (f e : Side) (b : Bool) (h : ℕ) (q : Payload) → h < 16
     → get_elem? homes' h ≡ some (some (Some q)) → Boxed word homes f e b
     → Boxed (full_word (f.number + 1) h) homes' (side (f.number + 1) (filler_met b word f.met) (Some q)) e
-        (is_full (full_word (f.number + 1) h))
+    (is_full (full_word (f.number + 1) h))
 fills word homes homes' f e true h q small at box =
     subst (Boxed (full_word (f.number + 1) h) homes' (side (f.number + 1) f.met (Some q)) e)
-    (sym (full_is (f.number + 1) h small))
-    (number_full (f.number + 1) h small, (let l = box.1 in omega arith), box.2,
-        (q, refl, ap (get_elem? homes') (slot_full (f.number + 1) h small) ∙ at))
+    (sym (full_is (f.number + 1) h small)) (
+      number_full (f.number + 1) h small,
+      (let l = box.1 in omega arith),
+      box.2,
+      (q, refl, ap (get_elem? homes') (slot_full (f.number + 1) h small) ∙ at),
+    )
 fills word homes homes' f e false h q small at box =
     subst (Boxed (full_word (f.number + 1) h) homes' (side (f.number + 1) (number_of word) (Some q)) e)
-    (sym (full_is (f.number + 1) h small))
-    (number_full (f.number + 1) h small, (let l = box.1 in omega arith), box.0,
-        (q, refl, ap (get_elem? homes') (slot_full (f.number + 1) h small) ∙ at))
+    (sym (full_is (f.number + 1) h small)) (
+      number_full (f.number + 1) h small,
+      (let l = box.1 in omega arith),
+      box.0,
+      (q, refl, ap (get_elem? homes') (slot_full (f.number + 1) h small) ∙ at),
+    )
 
 -- a full box is emptied, and an empty one is found so
 pub empties : (word : ℕ) (homes homes' : Homes) (f e : Side) (h : ℕ) (x last : Option Payload) → h < 16
     → get_elem? homes' h ≡ some (some x) → Boxed word homes f e true
     → Boxed (empty_word (e.number + 1) h) homes' f (side (e.number + 1) (number_of word) last)
-        (is_full (empty_word (e.number + 1) h))
+    (is_full (empty_word (e.number + 1) h))
 empties word homes homes' f e h x last small at box =
     subst (Boxed (empty_word (e.number + 1) h) homes' f (side (e.number + 1) (number_of word) last))
     (sym (empty_is (e.number + 1) h small))

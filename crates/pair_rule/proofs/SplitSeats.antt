@@ -41,44 +41,51 @@ module _ (views : List SeatView) (core : Core) (at : Who → ℕ) (seats : (n : 
 
   split_own : Has views' core s (length views)
   split_own = let e = (seats s).only id v here mine in record {
-    here = (only s v, at_last (set views id (without s v)) (only s v) (length views) (length-set views id (without s v)),
-        set_there nobody (seat_index s) false true (nobody_has s));
+    here = (
+      only s v,
+      at_last (set views id (without s v)) (only s v) (length views) (length-set views id (without s v)),
+      set_there nobody (seat_index s) false true (nobody_has s),
+    );
     only = λ j x ex hx. ⊎_elim
         (λ (t : get_elem? (set views id (without s v)) j ≡ some x). ⊎_elim
         (λ (u : (j ≡ id) × (without s v ≡ x)). no_true
-            (subst (λ (z : SeatView). get_elem? z.mine (seat_index s) ≡ some false) u.1 lacks) hx)
+        (subst (λ (z : SeatView). get_elem? z.mine (seat_index s) ≡ some false) u.1 lacks) hx)
         (λ (u : (j ≢ id) × (get_elem? views j ≡ some x)). absurd (u.0 (((seats s).only j x u.1 hx).0 ∙ sym e.0)))
         (at_set views id j (without s v) x t))
         (λ (t : (j ≡ length (set views id (without s v))) × (only s v ≡ x)).
-            (t.0 ∙ length-set views id (without s v), subst (λ (z : SeatView). Same s z.core core) t.1 e.1))
+        (t.0 ∙ length-set views id (without s v), subst (λ (z : SeatView). Same s z.core core) t.1 e.1))
         (at_end (set views id (without s v)) (only s v) x j ex);
   }
 
   split_other : (n : Who) → (seat_index n ≢ seat_index s) → Has views' core n (at n)
   split_other n ne = let h = seats n in let keeps : get_elem? (without s v).mine (seat_index n) ≡ get_elem? v.mine
       (seat_index n) = set_else v.mine (seat_index s) (seat_index n) false ne in record {
-    here = dite (ℕ_discrete (at n) id)
-        (λ e. (
-          without s v,
-          at_longer (set views id (without s v)) (only s v ∷ []) (at n) (without s v)
-              (ap (get_elem? (set views id (without s v))) e ∙ set_there views id v (without s v) here),
-          keeps ∙ (let q = h.here in subst (λ (x : SeatView). has x n)
-              (some-injective q.0 v (sym q.1 ∙ ap (get_elem? views) e ∙ here)) q.2),
-        ))
-        (λ ne'. (h.here.0, at_longer (set views id (without s v)) (only s v ∷ []) (at n) h.here.0
-            (set_else views id (at n) (without s v) ne' ∙ h.here.1), h.here.2));
-    only = λ j x ex hx. ⊎_elim
-        (λ (t : get_elem? (set views id (without s v)) j ≡ some x). ⊎_elim
-        (λ (u : (j ≡ id) × (without s v ≡ x)). let o =
+        here = dite (ℕ_discrete (at n) id)
+            (λ e. (
+              without s v,
+              at_longer (set views id (without s v)) (only s v ∷ []) (at n) (without s v)
+                  (ap (get_elem? (set views id (without s v))) e ∙ set_there views id v (without s v) here),
+              keeps ∙ (let q = h.here in subst (λ (x : SeatView). has x n)
+                  (some-injective q.0 v (sym q.1 ∙ ap (get_elem? views) e ∙ here)) q.2),
+            ))
+            (λ ne'. (
+              h.here.0,
+              at_longer (set views id (without s v)) (only s v ∷ []) (at n) h.here.0
+                  (set_else views id (at n) (without s v) ne' ∙ h.here.1),
+              h.here.2,
+            ));
+        only = λ j x ex hx. ⊎_elim
+            (λ (t : get_elem? (set views id (without s v)) j ≡ some x). ⊎_elim
+            (λ (u : (j ≡ id) × (without s v ≡ x)). let o =
             h.only id v here (sym keeps ∙ subst (λ (z : SeatView). has z n) (sym u.1) hx) in
             (u.0 ∙ o.0, subst (λ (z : SeatView). Same n z.core core) u.1 o.1))
-        (λ (u : (j ≢ id) × (get_elem? views j ≡ some x)). h.only j x u.1 hx)
-        (at_set views id j (without s v) x t))
-        (λ (t : (j ≡ length (set views id (without s v))) × (only s v ≡ x)). no_true
+            (λ (u : (j ≢ id) × (get_elem? views j ≡ some x)). h.only j x u.1 hx)
+            (at_set views id j (without s v) x t))
+            (λ (t : (j ≡ length (set views id (without s v))) × (only s v ≡ x)). no_true
             (set_else nobody (seat_index s) (seat_index n) true ne ∙ nobody_has n)
             (subst (λ (z : SeatView). has z n) (sym t.1) hx))
-        (at_end (set views id (without s v)) (only s v) x j ex);
-  }
+            (at_end (set views id (without s v)) (only s v) x j ex);
+      }
 
   split_seat : (n : Who) → (k : ℕ) × Has views' core n k
   split_seat n = dite (ℕ_discrete (seat_index n) (seat_index s))

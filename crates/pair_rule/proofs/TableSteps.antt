@@ -130,19 +130,33 @@ counted_before k st (suc port) = st.counted1
 
 pub table_steps : {S : Type 0} → TableStepsAreSteps S
 table_steps M typed0 typed1 k new st Stays = record { stands = st; step = inr Keeps }
-table_steps M typed0 typed1 k new st (Fills b q asks can kept) = record { stands = (fill_keeps k st b q can).0.stands;
-    step = fills M typed0 typed1 k st b q asks can kept }
-table_steps M typed0 typed1 k new st (Empties b q asks fit) = record { stands = (empty_keeps k st b q fit).stands;
-    step = empties M typed0 typed1 k st b q asks fit }
-table_steps M typed0 typed1 k new st (Appends e run may told) = record { stands = (append_stays k st e).0;
-    step = inl (law.Appends e run may told) }
+table_steps M typed0 typed1 k new st (Fills b q asks can kept) = record {
+  stands = (fill_keeps k st b q can).0.stands;
+  step = fills M typed0 typed1 k st b q asks can kept;
+}
+table_steps M typed0 typed1 k new st (Empties b q asks fit) = record {
+  stands = (empty_keeps k st b q fit).stands;
+  step = empties M typed0 typed1 k st b q asks fit;
+}
+table_steps M typed0 typed1 k new st (Appends e run may told) = record {
+  stands = (append_stays k st e).0;
+  step = inl (law.Appends e run may told);
+}
 table_steps M typed0 typed1 k new st (Sees asks) = record { stands = (see_stays k st).0; step = inl (law.Sees asks) }
 table_steps M typed0 typed1 k new st (Holds asks) = record { stands = (hold_stays k st).0; step = inl (law.Holds asks) }
-table_steps M typed0 typed1 k new st (PrimaryAsks asks) = record { stands = (primary_asks k st).0.0;
-    step = primary_step M typed0 typed1 k st asks }
-table_steps M typed0 typed1 k new st (BackupAsks asks) = record { stands = (backup_asks k st).0.0;
-    step = backup_step M typed0 typed1 k st asks }
-table_steps M typed0 typed1 k new st (Counts port two) = record { stands = (came_stays k st port).0;
-    step = counts M typed0 typed1 k st port two (hand_of port k) refl (hand_there M typed0 typed1 k st port two) }
-table_steps M typed0 typed1 k new st (SeesCount port two asks) = record { stands = (count_stays k st port).0;
-    step = inr (law.SeesCount port _ (counted_before k st port)) }
+table_steps M typed0 typed1 k new st (PrimaryAsks asks) = record {
+  stands = (primary_asks k st).0.0;
+  step = primary_step M typed0 typed1 k st asks;
+}
+table_steps M typed0 typed1 k new st (BackupAsks asks) = record {
+  stands = (backup_asks k st).0.0;
+  step = backup_step M typed0 typed1 k st asks;
+}
+table_steps M typed0 typed1 k new st (Counts port two) = record {
+  stands = (came_stays k st port).0;
+  step = counts M typed0 typed1 k st port two (hand_of port k) refl (hand_there M typed0 typed1 k st port two);
+}
+table_steps M typed0 typed1 k new st (SeesCount port two asks) = record {
+  stands = (count_stays k st port).0;
+  step = inr (law.SeesCount port _ (counted_before k st port));
+}

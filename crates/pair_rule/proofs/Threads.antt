@@ -55,9 +55,16 @@ module _ {S : Type 0} (M : Machine S) (C : Copying S) (typed0 typed1 : List ℕ)
 pub shown : {S : Type 0} (M : Machine S) (C : Copying S) (typed0 typed1 : List ℕ) (k : Knowledge) (w : World S) → Stands k
     → PrimaryIsTold typed0 typed1 k.primary → Shows M typed0 typed1 k w → Reached M C w → Faithful M w
     → IsShown M C typed0 typed1 k
-shown M C typed0 typed1 k w st told z reached f = record { stands = st; told = told; world = w; shows = z;
-    marked = accepted_marked M typed0 typed1 k w st told z; reached = reached; faithful = f;
-    promises = promises M C typed0 typed1 k w z f }
+shown M C typed0 typed1 k w st told z reached f = record {
+  stands = st;
+  told = told;
+  world = w;
+  shows = z;
+  marked = accepted_marked M typed0 typed1 k w st told z;
+  reached = reached;
+  faithful = f;
+  promises = promises M C typed0 typed1 k w z f;
+}
 
 -- a step of the table leads from what is shown to what is shown
 next_shown : {S : Type 0} → RowIsChanges S → ChangesReach S → ReachedIsFaithful S → ReachedGrows S
@@ -67,7 +74,7 @@ next_shown rows changes faithful grow M C may copies typed0 typed1 k new s is = 
   | inl t ↦ (let l = steps_stay_faithful rows changes faithful grow M C may copies typed0 typed1 k new s.world s.shows s.stands
       s.reached t in
       shown M C typed0 typed1 new l.leads.new is.stands
-          (thread_told M typed0 typed1 k s.told new t) l.leads.shows l.reached l.faithful)
+      (thread_told M typed0 typed1 k s.told new t) l.leads.shows l.reached l.faithful)
   | inr q ↦ shown M C typed0 typed1 new s.world is.stands (silent_told M typed0 typed1 k s.told new q)
       (silent_shows M typed0 typed1 k new s.world s.shows q) s.reached s.faithful
 ]
@@ -75,7 +82,7 @@ next_shown rows changes faithful grow M C may copies typed0 typed1 k new s is = 
 pub runs_shown : {S : Type 0} → RowIsChanges S → ChangesReach S → ReachedIsFaithful S → ReachedGrows S → ThreadsAreFaithful S
 runs_shown rows changes faithful grow M C may copies typed0 typed1 k (Opens generation) =
     let b = starts_shown rows changes M C may.lawful typed0 typed1 generation in shown M C typed0 typed1 k b.world b.stands
-        (nothing_told typed0 typed1) b.shows b.reached (faithful M C may.lawful copies b.world b.reached)
+    (nothing_told typed0 typed1) b.shows b.reached (faithful M C may.lawful copies b.world b.reached)
 runs_shown rows changes faithful grow M C may copies typed0 typed1 new (Goes {k = k} run step) =
     let s = runs_shown rows changes faithful grow M C may copies typed0 typed1 k run in
     next_shown rows changes faithful grow M C may copies typed0 typed1 k new s (table_steps M typed0 typed1 k new s.stands step)
@@ -104,5 +111,7 @@ altair_runnable setup sectors laws counts operations = record {
 }
 
 pub without_copies : {S : Type 0} (M : Machine S) → IsCopying M no_copies
-without_copies M = record { counted = λ moves s runs. refl;
-    again = λ moves s t runs owns made. absurd (let e : None ≡ Some t = made in cc) }
+without_copies M = record {
+  counted = λ moves s runs. refl;
+  again = λ moves s t runs owns made. absurd (let e : None ≡ Some t = made in cc);
+}

@@ -118,12 +118,12 @@ module _ {S : Type 0} (M : Machine S) (typed0 typed1 : List ℕ) (k : Knowledge)
   }
   told_more s (Sector count drive sector number bytes) (r, came, place, same, alike) = let e : Entry =
       Sector count drive sector number bytes in record {
-    keys0 = same_keys list 0 e typed0 refl t.keys0;
-    keys1 = same_keys list 1 e typed1 refl t.keys1;
-    accepted0 = same_accepted list 0 e k.primary.counted0 refl t.accepted0;
-    accepted1 = same_accepted list 1 e k.primary.counted1 refl t.accepted1;
-    answered = λ x at. all_answered e x (r, came, same, alike) at;
-  }
+        keys0 = same_keys list 0 e typed0 refl t.keys0;
+        keys1 = same_keys list 1 e typed1 refl t.keys1;
+        accepted0 = same_accepted list 0 e k.primary.counted0 refl t.accepted0;
+        accepted1 = same_accepted list 1 e k.primary.counted1 refl t.accepted1;
+        answered = λ x at. all_answered e x (r, came, same, alike) at;
+      }
 
   -- a step that is events, and one that is none
   pub thread_told : (new : Knowledge) → ThreadStep M typed0 typed1 k new → PrimaryIsTold typed0 typed1 new.primary
@@ -145,19 +145,39 @@ module _ {S : Type 0} (M : Machine S) (typed0 typed1 : List ℕ) (k : Knowledge)
   silent_told new (CountsNone zero none) = t
   silent_told new (CountsNone (suc port) none) = t
   silent_told new (Carries p) = t
-  silent_told new (SeesCount zero n more) = record { keys0 = t.keys0; keys1 = t.keys1;
-      accepted0 = (let a = t.accepted0 in omega (arith, a, more)); accepted1 = t.accepted1; answered = t.answered }
-  silent_told new (SeesCount (suc port) n more) = record { keys0 = t.keys0; keys1 = t.keys1; accepted0 = t.accepted0;
-      accepted1 = (let a = t.accepted1 in omega (arith, a, more)); answered = t.answered }
+  silent_told new (SeesCount zero n more) = record {
+    keys0 = t.keys0;
+    keys1 = t.keys1;
+    accepted0 = (let a = t.accepted0 in omega (arith, a, more));
+    accepted1 = t.accepted1;
+    answered = t.answered;
+  }
+  silent_told new (SeesCount (suc port) n more) = record {
+    keys0 = t.keys0;
+    keys1 = t.keys1;
+    accepted0 = t.accepted0;
+    accepted1 = (let a = t.accepted1 in omega (arith, a, more));
+    answered = t.answered;
+  }
   silent_told new (TakesByte0 o) = t
   silent_told new (TakesByte1 o) = t
   silent_told new (TakesRequest r) = t
-  silent_told new (HasAnswer a) = record { keys0 = t.keys0; keys1 = t.keys1; accepted0 = t.accepted0; accepted1 = t.accepted1;
-      answered = λ e at. still_answered k.primary.answers a e (t.answered e at) }
+  silent_told new (HasAnswer a) = record {
+    keys0 = t.keys0;
+    keys1 = t.keys1;
+    accepted0 = t.accepted0;
+    accepted1 = t.accepted1;
+    answered = λ e at. still_answered k.primary.answers a e (t.answered e at);
+  }
   silent_told new (AsksRead a) = t
   silent_told new (AnswersRead a r taken first) = t
 
 -- an empty list was told nothing
 pub nothing_told : (typed0 typed1 : List ℕ) → ListIsTold typed0 typed1 [] [] 0 0
-nothing_told typed0 typed1 = record { keys0 = (typed0, refl); keys1 = (typed1, refl); accepted0 = le_refl 0;
-    accepted1 = le_refl 0; answered = λ e at. absurd at }
+nothing_told typed0 typed1 = record {
+  keys0 = (typed0, refl);
+  keys1 = (typed1, refl);
+  accepted0 = le_refl 0;
+  accepted1 = le_refl 0;
+  answered = λ e at. absurd at;
+}

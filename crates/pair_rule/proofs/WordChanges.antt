@@ -33,10 +33,24 @@ module _ (k : Knowledge) (s : Stands k) where
 
   pub append_stays : (e : Entry) → Stays (appended e)
   append_stays e = (
-    record { prefix = longer_prefix k.primary.list k.backup.list e s.prefix;
-        in_link = if_map k.link _ _ (entry_more k.generation k.primary.list e) s.in_link; rising = s.rising; behind = s.behind;
-        once = s.once; decided = s.decided; counted0 = s.counted0; counted1 = s.counted1; hand0 = s.hand0; hand1 = s.hand1;
-        arrived0 = s.arrived0; arrived1 = s.arrived1; taken = s.taken; puts = s.puts; answers = s.answers; replies = s.replies },
+    record {
+      prefix = longer_prefix k.primary.list k.backup.list e s.prefix;
+      in_link = if_map k.link _ _ (entry_more k.generation k.primary.list e) s.in_link;
+      rising = s.rising;
+      behind = s.behind;
+      once = s.once;
+      decided = s.decided;
+      counted0 = s.counted0;
+      counted1 = s.counted1;
+      hand0 = s.hand0;
+      hand1 = s.hand1;
+      arrived0 = s.arrived0;
+      arrived1 = s.arrived1;
+      taken = s.taken;
+      puts = s.puts;
+      answers = s.answers;
+      replies = s.replies;
+    },
     appended_fits e,
   )
 
@@ -50,10 +64,24 @@ module _ (k : Knowledge) (s : Stands k) where
 
   pub see_stays : Stays (saw (last_or 0 k.backup.held_values))
   see_stays = (
-    record { prefix = s.prefix; in_link = s.in_link; rising = s.rising; behind = le_refl (last_or 0 k.backup.held_values);
-        once = last_among 0 k.backup.held_values; decided = s.decided; counted0 = s.counted0; counted1 = s.counted1;
-        hand0 = s.hand0; hand1 = s.hand1; arrived0 = s.arrived0; arrived1 = s.arrived1; taken = s.taken; puts = s.puts;
-        answers = s.answers; replies = s.replies },
+    record {
+      prefix = s.prefix;
+      in_link = s.in_link;
+      rising = s.rising;
+      behind = le_refl (last_or 0 k.backup.held_values);
+      once = last_among 0 k.backup.held_values;
+      decided = s.decided;
+      counted0 = s.counted0;
+      counted1 = s.counted1;
+      hand0 = s.hand0;
+      hand1 = s.hand1;
+      arrived0 = s.arrived0;
+      arrived1 = s.arrived1;
+      taken = s.taken;
+      puts = s.puts;
+      answers = s.answers;
+      replies = s.replies;
+    },
     saw_fits (last_or 0 k.backup.held_values),
   )
 
@@ -73,13 +101,26 @@ module _ (k : Knowledge) (s : Stands k) where
 
   pub hold_stays : Stays held
   hold_stays = (
-    record { prefix = s.prefix; in_link = s.in_link; rising = rising_more 0 (length k.backup.list) k.backup.held_values s.rising;
-        behind = (let low = held_low in let b = s.behind in let e =
-        last_more 0 (length k.backup.list) k.backup.held_values in omega arith);
-        once = ⊎_elim (λ e. inl e) (λ (i : Among k.primary.seen k.backup.held_values). inr
-        (among_more k.primary.seen k.backup.held_values (length k.backup.list ∷ []) i)) s.once; decided = s.decided;
-        counted0 = s.counted0; counted1 = s.counted1; hand0 = s.hand0; hand1 = s.hand1; arrived0 = s.arrived0;
-        arrived1 = s.arrived1; taken = s.taken; puts = s.puts; answers = s.answers; replies = s.replies },
+    record {
+      prefix = s.prefix;
+      in_link = s.in_link;
+      rising = rising_more 0 (length k.backup.list) k.backup.held_values s.rising;
+      behind = (let low = held_low in let b = s.behind in let e =
+          last_more 0 (length k.backup.list) k.backup.held_values in omega arith);
+      once = ⊎_elim (λ e. inl e) (λ (i : Among k.primary.seen k.backup.held_values). inr
+          (among_more k.primary.seen k.backup.held_values (length k.backup.list ∷ []) i)) s.once;
+      decided = s.decided;
+      counted0 = s.counted0;
+      counted1 = s.counted1;
+      hand0 = s.hand0;
+      hand1 = s.hand1;
+      arrived0 = s.arrived0;
+      arrived1 = s.arrived1;
+      taken = s.taken;
+      puts = s.puts;
+      answers = s.answers;
+      replies = s.replies;
+    },
     held_fits,
   )
 
@@ -101,9 +142,24 @@ module _ (k : Knowledge) (s : Stands k) where
   pub primary_asks : Stays (primary_asked won) × (winner_of (winner_after 1 won) k.backup.winner ≡ either (eqb won 0) 1 won)
   primary_asks = let d = decide_primary k.primary.winner k.backup.winner _ refl s.decided in (
     (
-      record { prefix = s.prefix; in_link = s.in_link; rising = s.rising; behind = s.behind; once = s.once; decided = d.0;
-          counted0 = s.counted0; counted1 = s.counted1; hand0 = s.hand0; hand1 = s.hand1; arrived0 = s.arrived0;
-          arrived1 = s.arrived1; taken = s.taken; puts = s.puts; answers = s.answers; replies = s.replies },
+      record {
+        prefix = s.prefix;
+        in_link = s.in_link;
+        rising = s.rising;
+        behind = s.behind;
+        once = s.once;
+        decided = d.0;
+        counted0 = s.counted0;
+        counted1 = s.counted1;
+        hand0 = s.hand0;
+        hand1 = s.hand1;
+        arrived0 = s.arrived0;
+        arrived1 = s.arrived1;
+        taken = s.taken;
+        puts = s.puts;
+        answers = s.answers;
+        replies = s.replies;
+      },
       primary_asked_fits won,
     ),
     d.1,
@@ -120,9 +176,24 @@ module _ (k : Knowledge) (s : Stands k) where
   pub backup_asks : Stays (backup_asked won) × (winner_of k.primary.winner (winner_after 2 won) ≡ either (eqb won 0) 2 won)
   backup_asks = let d = decide_backup k.primary.winner k.backup.winner _ refl s.decided in (
     (
-      record { prefix = s.prefix; in_link = s.in_link; rising = s.rising; behind = s.behind; once = s.once; decided = d.0;
-          counted0 = s.counted0; counted1 = s.counted1; hand0 = s.hand0; hand1 = s.hand1; arrived0 = s.arrived0;
-          arrived1 = s.arrived1; taken = s.taken; puts = s.puts; answers = s.answers; replies = s.replies },
+      record {
+        prefix = s.prefix;
+        in_link = s.in_link;
+        rising = s.rising;
+        behind = s.behind;
+        once = s.once;
+        decided = d.0;
+        counted0 = s.counted0;
+        counted1 = s.counted1;
+        hand0 = s.hand0;
+        hand1 = s.hand1;
+        arrived0 = s.arrived0;
+        arrived1 = s.arrived1;
+        taken = s.taken;
+        puts = s.puts;
+        answers = s.answers;
+        replies = s.replies;
+      },
       backup_asked_fits won,
     ),
     d.1,
@@ -145,20 +216,46 @@ module _ (k : Knowledge) (s : Stands k) where
 
   pub came_stays : (port : ℕ) → Stays (byte_arrived port)
   came_stays zero = (
-    record { prefix = s.prefix; in_link = s.in_link; rising = s.rising; behind = s.behind; once = s.once; decided = s.decided;
-        counted0 = (let c = s.counted0 in let more = fewer_arrived k.terminal.hand0 k.terminal.arrivals0 in omega arith);
-        counted1 = s.counted1; hand0 = s.hand0; hand1 = s.hand1;
-        arrived0 = all_arrived 0 k.primary.released k.terminal.hand0 k.terminal.arrivals0 s.hand0 s.arrived0;
-        arrived1 = s.arrived1; taken = s.taken; puts = s.puts; answers = s.answers; replies = s.replies },
+    record {
+      prefix = s.prefix;
+      in_link = s.in_link;
+      rising = s.rising;
+      behind = s.behind;
+      once = s.once;
+      decided = s.decided;
+      counted0 = (let c = s.counted0 in let more = fewer_arrived k.terminal.hand0 k.terminal.arrivals0 in omega arith);
+      counted1 = s.counted1;
+      hand0 = s.hand0;
+      hand1 = s.hand1;
+      arrived0 = all_arrived 0 k.primary.released k.terminal.hand0 k.terminal.arrivals0 s.hand0 s.arrived0;
+      arrived1 = s.arrived1;
+      taken = s.taken;
+      puts = s.puts;
+      answers = s.answers;
+      replies = s.replies;
+    },
     came_fits zero,
   )
   came_stays (suc p) = (
-    record { prefix = s.prefix; in_link = s.in_link; rising = s.rising; behind = s.behind; once = s.once; decided = s.decided;
-        counted0 = s.counted0; counted1 =
-        (let c = s.counted1 in let more = fewer_arrived k.terminal.hand1 k.terminal.arrivals1 in omega arith); hand0 = s.hand0;
-        hand1 = s.hand1; arrived0 = s.arrived0;
-        arrived1 = all_arrived 1 k.primary.released k.terminal.hand1 k.terminal.arrivals1 s.hand1 s.arrived1; taken = s.taken;
-        puts = s.puts; answers = s.answers; replies = s.replies },
+    record {
+      prefix = s.prefix;
+      in_link = s.in_link;
+      rising = s.rising;
+      behind = s.behind;
+      once = s.once;
+      decided = s.decided;
+      counted0 = s.counted0;
+      counted1 =
+          (let c = s.counted1 in let more = fewer_arrived k.terminal.hand1 k.terminal.arrivals1 in omega arith);
+      hand0 = s.hand0;
+      hand1 = s.hand1;
+      arrived0 = s.arrived0;
+      arrived1 = all_arrived 1 k.primary.released k.terminal.hand1 k.terminal.arrivals1 s.hand1 s.arrived1;
+      taken = s.taken;
+      puts = s.puts;
+      answers = s.answers;
+      replies = s.replies;
+    },
     came_fits (suc p),
   )
 
@@ -178,14 +275,44 @@ module _ (k : Knowledge) (s : Stands k) where
 
   pub count_stays : (port : ℕ) → Stays (saw_count port (accepted_at port k))
   count_stays zero = (
-    record { prefix = s.prefix; in_link = s.in_link; rising = s.rising; behind = s.behind; once = s.once; decided = s.decided;
-        counted0 = le_refl (accepted_at 0 k); counted1 = s.counted1; hand0 = s.hand0; hand1 = s.hand1; arrived0 = s.arrived0;
-        arrived1 = s.arrived1; taken = s.taken; puts = s.puts; answers = s.answers; replies = s.replies },
+    record {
+      prefix = s.prefix;
+      in_link = s.in_link;
+      rising = s.rising;
+      behind = s.behind;
+      once = s.once;
+      decided = s.decided;
+      counted0 = le_refl (accepted_at 0 k);
+      counted1 = s.counted1;
+      hand0 = s.hand0;
+      hand1 = s.hand1;
+      arrived0 = s.arrived0;
+      arrived1 = s.arrived1;
+      taken = s.taken;
+      puts = s.puts;
+      answers = s.answers;
+      replies = s.replies;
+    },
     count_fits zero (accepted_at zero k),
   )
   count_stays (suc p) = (
-    record { prefix = s.prefix; in_link = s.in_link; rising = s.rising; behind = s.behind; once = s.once; decided = s.decided;
-        counted0 = s.counted0; counted1 = le_refl (accepted_at (suc p) k); hand0 = s.hand0; hand1 = s.hand1;
-        arrived0 = s.arrived0; arrived1 = s.arrived1; taken = s.taken; puts = s.puts; answers = s.answers; replies = s.replies },
+    record {
+      prefix = s.prefix;
+      in_link = s.in_link;
+      rising = s.rising;
+      behind = s.behind;
+      once = s.once;
+      decided = s.decided;
+      counted0 = s.counted0;
+      counted1 = le_refl (accepted_at (suc p) k);
+      hand0 = s.hand0;
+      hand1 = s.hand1;
+      arrived0 = s.arrived0;
+      arrived1 = s.arrived1;
+      taken = s.taken;
+      puts = s.puts;
+      answers = s.answers;
+      replies = s.replies;
+    },
     count_fits (suc p) (accepted_at (suc p) k),
   )

@@ -26,15 +26,32 @@ use Rattle.pair_rule.proofs.ListsThatGrow.{fewer_arrived}
 
 knows_both : (n t : Who) (turn : Knowledge → Knowledge) → Local n turn → (c d : Core) → SamePart n c.known d.known → Same t c d
     → Same t (with_known turn c) (with_known turn d)
-knows_both n t turn l c d own e = record { sized = record { hands = e.sized.hands; has_slot = e.sized.has_slot;
-    fills = e.sized.fills; empties = e.sized.empties };
-    generation = l.generation c.known ∙ e.generation ∙ sym (l.generation d.known); hand = e.hand; has_slot = e.has_slot;
-    fills = e.fills; empties = e.empties; known = l.both t c.known d.known own e.known }
+knows_both n t turn l c d own e = record {
+  sized = record {
+    hands = e.sized.hands;
+    has_slot = e.sized.has_slot;
+    fills = e.sized.fills;
+    empties = e.sized.empties;
+  };
+  generation = l.generation c.known ∙ e.generation ∙ sym (l.generation d.known);
+  hand = e.hand;
+  has_slot = e.has_slot;
+  fills = e.fills;
+  empties = e.empties;
+  known = l.both t c.known d.known own e.known;
+}
 
 knows_rest : (n t : Who) (turn : Knowledge → Knowledge) → Local n turn → (c d : Core) → (t ≡ n → ⊥) → Same t c d
     → Same t c (with_known turn d)
-knows_rest n t turn l c d ne e = record { sized = e.sized; generation = e.generation ∙ sym (l.generation d.known); hand = e.hand;
-    has_slot = e.has_slot; fills = e.fills; empties = e.empties; known = l.rest t c.known d.known ne e.known }
+knows_rest n t turn l c d ne e = record {
+  sized = e.sized;
+  generation = e.generation ∙ sym (l.generation d.known);
+  hand = e.hand;
+  has_slot = e.has_slot;
+  fills = e.fills;
+  empties = e.empties;
+  known = l.rest t c.known d.known ne e.known;
+}
 
 knows_facts : (g : ℕ) (boxes : List ℕ) (homes : Homes) (c : Core) (turn : Knowledge → Knowledge)
     → ((turn c.known).generation ≡ c.known.generation) → Stands (turn c.known)
@@ -59,8 +76,11 @@ module _ (g : ℕ) (s : Table) (r : Rule g s) (id : ℕ) (me : Mine) (at : get_e
 
   -- the moment of the step, for a seat
   moment : (n : Who) → has me.0 n → Moment n me.0.core.known k
-  moment n mine = let o = own g s r id me.0 at n mine in record { stands = r.facts.stands; generation = o.generation;
-      same = o.known }
+  moment n mine = let o = own g s r id me.0 at n mine in record {
+    stands = r.facts.stands;
+    generation = o.generation;
+    same = o.known;
+  }
 
   word_goes : (n : Who) (i : ℕ) (f : ℕ → ℕ) (told : ℕ → Mine → Type 0) (turn : Knowledge → Knowledge) → has me.0 n → Local n turn
       → Stands (turn k) → ((b : Mailbox) (x : Payload) → Fits b k x → Fits b (turn k) x)
@@ -89,14 +109,14 @@ pub append_allowed : (g n id : ℕ) (me : Mine) (h : ℕ) (p : Packet) → has m
     → Allows (Rule g) n id me 0 (λ x. (x + 1) % 2 ^ 64) (appends me)
 append_allowed g n id me h p mine holds few s r deep at _ =
     let k : Knowledge = r.core.known in let same : me.0.core.known.primary ≡ k.primary =
-        (own g s r id me.0 at Primary mine).known in let st = append_stays k r.facts.stands p.entry in
+    (own g s r id me.0 at Primary mine).known in let st = append_stays k r.facts.stands p.entry in
     let long : length me.0.core.known.primary.list ≡ length k.primary.list = ap (λ (z : PrimaryView). length z.list) same in
     let count : (length k.primary.list + 1) % 2 ^ 64 ≡ length (k.primary.list ++ p.entry ∷ []) =
-        omega (arith, length-append k.primary.list (p.entry ∷ [])) in
+    omega (arith, length-append k.primary.list (p.entry ∷ [])) in
     word_goes g s r id me at Primary 0 (λ x. (x + 1) % 2 ^ 64) (appends me) (appended p.entry) mine
-        (on_primary (λ z. record z { list = z.list ++ p.entry ∷ [] })) st.0 st.1
+    (on_primary (λ z. record z { list = z.list ++ p.entry ∷ [] })) st.0 st.1
     (λ i. count i ∷ last_or 0 k.backup.held_values ∷ winner_of k.primary.winner k.backup.winner
-        ∷ accepted_after 0 k.terminal.arrivals0 ∷ accepted_after 0 k.terminal.arrivals1 ∷ r.boxes)
+    ∷ accepted_after 0 k.terminal.arrivals0 ∷ accepted_after 0 k.terminal.arrivals1 ∷ r.boxes)
     (sym long, refl, λ y q has'. ap (λ (z : Payload). append_as z) (same_load me.1 h y (Log p) (Log q) holds has'))
   where
     append_as : Payload → SeatView
@@ -106,80 +126,84 @@ append_allowed g n id me h p mine holds few s r deep at _ =
 pub see_allowed : (g n id : ℕ) (me : Mine) → has me.0 Primary → Allows (Rule g) n id me 1 (λ x. x) (sees me)
 see_allowed g n id me mine s r deep at _ =
     let k : Knowledge = r.core.known in let same : me.0.core.known.primary ≡ k.primary =
-        (own g s r id me.0 at Primary mine).known in let st = see_stays k r.facts.stands in
+    (own g s r id me.0 at Primary mine).known in let st = see_stays k r.facts.stands in
     let long : length me.0.core.known.primary.list ≡ length k.primary.list = ap (λ (z : PrimaryView). length z.list) same in
     let seen : me.0.core.known.primary.seen ≡ k.primary.seen = ap (λ (z : PrimaryView). z.seen) same in
     word_goes g s r id me at Primary 1 (λ x. x) (sees me) (saw (last_or 0 k.backup.held_values)) mine
-        (on_primary (λ z. record z { seen = last_or 0 k.backup.held_values })) st.0 st.1 refl
-    (refl, (let b = r.facts.stands.behind in omega arith), (let b = held_short k r.facts.stands in omega arith),
-        (k, moment g s r id me at Primary mine, refl), refl)
+    (on_primary (λ z. record z { seen = last_or 0 k.backup.held_values })) st.0 st.1 refl (
+      refl,
+      (let b = r.facts.stands.behind in omega arith),
+      (let b = held_short k r.facts.stands in omega arith),
+      (k, moment g s r id me at Primary mine, refl),
+      refl,
+    )
 
 pub hold_allowed : (g n id : ℕ) (me : Mine) (x : ℕ) → has me.0 Backup → x ≡ length me.0.core.known.backup.list
     → Allows (Rule g) n id me 1 (λ y. max y x) (holds_entries me)
 hold_allowed g n id me x mine is s r deep at _ =
     let k : Knowledge = r.core.known in let same : me.0.core.known.backup ≡ k.backup =
-        (own g s r id me.0 at Backup mine).known in let st = hold_stays k r.facts.stands in
+    (own g s r id me.0 at Backup mine).known in let st = hold_stays k r.facts.stands in
     let long : length me.0.core.known.backup.list ≡ length k.backup.list = ap (λ (z : BackupView). length z.list) same in
     let low = held_low k r.facts.stands in
     let more : max (last_or 0 k.backup.held_values) x ≡ last_or 0 (k.backup.held_values ++ length k.backup.list ∷ []) =
-        (let e = hold_word k r.facts.stands in omega arith) in
+    (let e = hold_word k r.facts.stands in omega arith) in
     word_goes g s r id me at Backup 1 (λ y. max y x) (holds_entries me) held mine
-        (on_backup (λ z. record z { held_values = z.held_values ++ length z.list ∷ [] })) st.0 st.1
+    (on_backup (λ z. record z { held_values = z.held_values ++ length z.list ∷ [] })) st.0 st.1
     (λ i. length k.primary.list ∷ more i ∷ winner_of k.primary.winner k.backup.winner ∷ accepted_after 0 k.terminal.arrivals0
-        ∷ accepted_after 0 k.terminal.arrivals1 ∷ r.boxes)
+    ∷ accepted_after 0 k.terminal.arrivals1 ∷ r.boxes)
     (refl, (let z = low in omega arith), refl)
 
 pub contest_primary_allowed : (g n id : ℕ) (me : Mine) → has me.0 Primary
     → Allows (Rule g) n id me 2 (λ x. either (eqb x 0) 1 x) (contests_primary me)
 contest_primary_allowed g n id me mine s r deep at _ =
     let k : Knowledge = r.core.known in let st = primary_asks k r.facts.stands in let w : ℕ =
-        winner_of k.primary.winner k.backup.winner in
+    winner_of k.primary.winner k.backup.winner in
     word_goes g s r id me at Primary 2 (λ x. either (eqb x 0) 1 x) (contests_primary me) (primary_asked w) mine
-        (on_primary (λ z. record z { winner = winner_after 1 w })) st.0.0 st.0.1
+    (on_primary (λ z. record z { winner = winner_after 1 w })) st.0.0 st.0.1
     (λ i. length k.primary.list ∷ last_or 0 k.backup.held_values ∷ sym st.1 i ∷ accepted_after 0 k.terminal.arrivals0
-        ∷ accepted_after 0 k.terminal.arrivals1 ∷ r.boxes)
+    ∷ accepted_after 0 k.terminal.arrivals1 ∷ r.boxes)
     (refl, r.facts.stands.decided.few, (k, moment g s r id me at Primary mine, refl), refl)
 
 pub contest_backup_allowed : (g n id : ℕ) (me : Mine) → has me.0 Backup
     → Allows (Rule g) n id me 2 (λ x. either (eqb x 0) 2 x) (contests_backup me)
 contest_backup_allowed g n id me mine s r deep at _ =
     let k : Knowledge = r.core.known in let st = backup_asks k r.facts.stands in let w : ℕ =
-        winner_of k.primary.winner k.backup.winner in
+    winner_of k.primary.winner k.backup.winner in
     word_goes g s r id me at Backup 2 (λ x. either (eqb x 0) 2 x) (contests_backup me) (backup_asked w) mine
-        (on_backup (λ z. record z { winner = winner_after 2 w })) st.0.0 st.0.1
+    (on_backup (λ z. record z { winner = winner_after 2 w })) st.0.0 st.0.1
     (λ i. length k.primary.list ∷ last_or 0 k.backup.held_values ∷ sym st.1 i ∷ accepted_after 0 k.terminal.arrivals0
-        ∷ accepted_after 0 k.terminal.arrivals1 ∷ r.boxes)
+    ∷ accepted_after 0 k.terminal.arrivals1 ∷ r.boxes)
     (refl, r.facts.stands.decided.few, (k, moment g s r id me at Backup mine, refl), refl)
 
 pub count_allowed : (g n id : ℕ) (me : Mine) (port x : ℕ) → port < 2 → has me.0 Terminal → x ≡ accepted_with port me.0.core.known
     → Allows (Rule g) n id me (3 + port) (λ y. max y x) (counts port me)
 count_allowed g n id me zero x two mine is s r deep at _ =
     let k : Knowledge = r.core.known in let same : me.0.core.known.terminal ≡ k.terminal =
-        (own g s r id me.0 at Terminal mine).known in let st = came_stays k r.facts.stands 0 in
+    (own g s r id me.0 at Terminal mine).known in let st = came_stays k r.facts.stands 0 in
     let was : accepted_after 0 me.0.core.known.terminal.arrivals0 ≡ accepted_after 0 k.terminal.arrivals0 =
-        ap (λ (z : TerminalView). accepted_after 0 z.arrivals0) same in
+    ap (λ (z : TerminalView). accepted_after 0 z.arrivals0) same in
     let now : accepted_with 0 me.0.core.known ≡ accepted_with 0 k =
-        ap (λ (z : TerminalView). accepted_after 0 (arrives z.hand0 z.arrivals0)) same in
+    ap (λ (z : TerminalView). accepted_after 0 (arrives z.hand0 z.arrivals0)) same in
     let more : max (accepted_after 0 k.terminal.arrivals0) x ≡ accepted_with 0 k =
-        (let low = fewer_arrived k.terminal.hand0 k.terminal.arrivals0 in omega arith) in
+    (let low = fewer_arrived k.terminal.hand0 k.terminal.arrivals0 in omega arith) in
     word_goes g s r id me at Terminal 3 (λ y. max y x) (counts 0 me) (byte_arrived 0) mine
-        (on_terminal (λ z. record z { arrivals0 = arrives z.hand0 z.arrivals0 })) st.0 st.1
+    (on_terminal (λ z. record z { arrivals0 = arrives z.hand0 z.arrivals0 })) st.0 st.1
     (λ i. length k.primary.list ∷ last_or 0 k.backup.held_values ∷ winner_of k.primary.winner k.backup.winner ∷ more i
-        ∷ accepted_after 0 k.terminal.arrivals1 ∷ r.boxes)
+    ∷ accepted_after 0 k.terminal.arrivals1 ∷ r.boxes)
     (refl, refl)
 count_allowed g n id me (suc zero) x two mine is s r deep at _ =
     let k : Knowledge = r.core.known in let same : me.0.core.known.terminal ≡ k.terminal =
-        (own g s r id me.0 at Terminal mine).known in let st = came_stays k r.facts.stands 1 in
+    (own g s r id me.0 at Terminal mine).known in let st = came_stays k r.facts.stands 1 in
     let was : accepted_after 0 me.0.core.known.terminal.arrivals1 ≡ accepted_after 0 k.terminal.arrivals1 =
-        ap (λ (z : TerminalView). accepted_after 0 z.arrivals1) same in
+    ap (λ (z : TerminalView). accepted_after 0 z.arrivals1) same in
     let now : accepted_with 1 me.0.core.known ≡ accepted_with 1 k =
-        ap (λ (z : TerminalView). accepted_after 0 (arrives z.hand1 z.arrivals1)) same in
+    ap (λ (z : TerminalView). accepted_after 0 (arrives z.hand1 z.arrivals1)) same in
     let more : max (accepted_after 0 k.terminal.arrivals1) x ≡ accepted_with 1 k =
-        (let low = fewer_arrived k.terminal.hand1 k.terminal.arrivals1 in omega arith) in
+    (let low = fewer_arrived k.terminal.hand1 k.terminal.arrivals1 in omega arith) in
     word_goes g s r id me at Terminal 4 (λ y. max y x) (counts 1 me) (byte_arrived 1) mine
-        (on_terminal (λ z. record z { arrivals1 = arrives z.hand1 z.arrivals1 })) st.0 st.1
+    (on_terminal (λ z. record z { arrivals1 = arrives z.hand1 z.arrivals1 })) st.0 st.1
     (λ i. length k.primary.list ∷ last_or 0 k.backup.held_values ∷ winner_of k.primary.winner k.backup.winner
-        ∷ accepted_after 0 k.terminal.arrivals0 ∷ more i ∷ r.boxes)
+    ∷ accepted_after 0 k.terminal.arrivals0 ∷ more i ∷ r.boxes)
     (refl, refl)
 count_allowed g n id me (suc (suc port)) x two mine is s r deep at _ = absurd (omega arith)
 
@@ -187,30 +211,40 @@ pub sees_count_allowed : (g n id : ℕ) (me : Mine) (port : ℕ) → port < 2 �
     → Allows (Rule g) n id me (3 + port) (λ y. y) (sees_count port me)
 sees_count_allowed g n id me zero two mine s r deep at _ =
     let k : Knowledge = r.core.known in let same : me.0.core.known.primary ≡ k.primary =
-        (own g s r id me.0 at Primary mine).known in let st = count_stays k r.facts.stands 0 in
+    (own g s r id me.0 at Primary mine).known in let st = count_stays k r.facts.stands 0 in
     let was : me.0.core.known.primary.counted0 ≡ k.primary.counted0 = ap (λ (z : PrimaryView). z.counted0) same in
     word_goes g s r id me at Primary 3 (λ y. y) (sees_count 0 me) (saw_count 0 (accepted_after 0 k.terminal.arrivals0)) mine
-        (on_primary (λ z. record z { counted0 = accepted_after 0 k.terminal.arrivals0 })) st.0 st.1 refl
+    (on_primary (λ z. record z { counted0 = accepted_after 0 k.terminal.arrivals0 })) st.0 st.1 refl
     (refl, (let b = r.facts.stands.counted0 in omega arith), (k, moment g s r id me at Primary mine, refl), refl)
 sees_count_allowed g n id me (suc zero) two mine s r deep at _ =
     let k : Knowledge = r.core.known in let same : me.0.core.known.primary ≡ k.primary =
-        (own g s r id me.0 at Primary mine).known in let st = count_stays k r.facts.stands 1 in
+    (own g s r id me.0 at Primary mine).known in let st = count_stays k r.facts.stands 1 in
     let was : me.0.core.known.primary.counted1 ≡ k.primary.counted1 = ap (λ (z : PrimaryView). z.counted1) same in
     word_goes g s r id me at Primary 4 (λ y. y) (sees_count 1 me) (saw_count 1 (accepted_after 0 k.terminal.arrivals1)) mine
-        (on_primary (λ z. record z { counted1 = accepted_after 0 k.terminal.arrivals1 })) st.0 st.1 refl
+    (on_primary (λ z. record z { counted1 = accepted_after 0 k.terminal.arrivals1 })) st.0 st.1 refl
     (refl, (let b = r.facts.stands.counted1 in omega arith), (k, moment g s r id me at Primary mine, refl), refl)
 sees_count_allowed g n id me (suc (suc port)) two mine s r deep at _ = absurd (omega arith)
 
 pub count_at_allowed : (g n id : ℕ) (me : Mine) (port x : ℕ) → port < 2 → has me.0 Terminal
     → x ≡ accepted_with port me.0.core.known → Allows (Rule g) n id me (3 + port) (λ y. max y x) (counts_at (3 + port) me)
 count_at_allowed g n id me port x two mine is s r deep at big = let a =
-    count_allowed g n id me port x two mine is s r deep at big in
-    (a.0, a.1, a.2, a.3, λ q few e. subst (λ p. counts p me (get_or s.words (3 + port) 0) (a.0, carried_after me.1 a.1))
-        (let z : 3 + port ≡ 3 + q = e in omega arith) a.4)
+    count_allowed g n id me port x two mine is s r deep at big in (
+      a.0,
+      a.1,
+      a.2,
+      a.3,
+      λ q few e. subst (λ p. counts p me (get_or s.words (3 + port) 0) (a.0, carried_after me.1 a.1))
+          (let z : 3 + port ≡ 3 + q = e in omega arith) a.4,
+    )
 
 pub sees_count_at_allowed : (g n id : ℕ) (me : Mine) (port : ℕ) → port < 2 → has me.0 Primary
     → Allows (Rule g) n id me (3 + port) (λ y. y) (sees_count_at (3 + port) me)
 sees_count_at_allowed g n id me port two mine s r deep at big = let a =
-    sees_count_allowed g n id me port two mine s r deep at big in
-    (a.0, a.1, a.2, a.3, λ q few e. subst (λ p. sees_count p me (get_or s.words (3 + port) 0) (a.0, carried_after me.1 a.1))
-        (let z : 3 + port ≡ 3 + q = e in omega arith) a.4)
+    sees_count_allowed g n id me port two mine s r deep at big in (
+      a.0,
+      a.1,
+      a.2,
+      a.3,
+      λ q few e. subst (λ p. sees_count p me (get_or s.words (3 + port) 0) (a.0, carried_after me.1 a.1))
+          (let z : 3 + port ≡ 3 + q = e in omega arith) a.4,
+    )

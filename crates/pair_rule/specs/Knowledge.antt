@@ -161,8 +161,12 @@ abbrev pub after_fill : Mailbox → Payload → Knowledge → Knowledge
 after_fill Bytes0 (Out o) k = record k { primary = record k.primary { released = k.primary.released ++ o ∷ [] } }
 after_fill Bytes1 (Out o) k = record k { primary = record k.primary { released = k.primary.released ++ o ∷ [] } }
 after_fill Requests (Request r) k = record k { primary = record k.primary { released = released_by k.primary.released r } }
-after_fill Answers (Answer a) k = record k { disk = record k.disk { puts = put_by k.disk.taken k.disk.puts;
-    given = k.disk.given ++ a ∷ [] } }
+after_fill Answers (Answer a) k = record k {
+  disk = record k.disk {
+    puts = put_by k.disk.taken k.disk.puts;
+    given = k.disk.given ++ a ∷ [];
+  };
+}
 after_fill _ _ k = k
 
 -- what the seat that empties a box knows then
@@ -204,8 +208,10 @@ arrives (Some (Write w)) arrivals = arrivals
 -- a byte in hand arrives, and what is counted is seen
 abbrev pub byte_arrived : ℕ → Knowledge → Knowledge
 byte_arrived zero k = record k { terminal = record k.terminal { arrivals0 = arrives k.terminal.hand0 k.terminal.arrivals0 } }
-byte_arrived (suc port) k = record k { terminal =
-    record k.terminal { arrivals1 = arrives k.terminal.hand1 k.terminal.arrivals1 } }
+byte_arrived (suc port) k = record k {
+  terminal =
+      record k.terminal { arrivals1 = arrives k.terminal.hand1 k.terminal.arrivals1 };
+}
 
 abbrev pub saw_count : ℕ → ℕ → Knowledge → Knowledge
 saw_count zero n k = record k { primary = record k.primary { counted0 = n } }

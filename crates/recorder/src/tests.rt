@@ -81,7 +81,7 @@ fn an_advance_stops_after_an_operation_and_logs_its_mark(rt: HostRuntime) -> R<(
 }
 
 #[test]
-fn want_of_memory_is_refused_where_no_step_is_made(rt: HostRuntime) -> R<()> {
+fn out_of_memory_is_refused_if_no_step_is_made(rt: HostRuntime) -> R<()> {
     let mut recorder = Recorder::new(Echo::new(0), LogBuffer::new(rt.alloc(), 0)?);
     assert_eq!(rt; offer(&rt, &mut recorder, Input::Rx(0, 0x48)), Ok(0));
     assert_eq!(rt;

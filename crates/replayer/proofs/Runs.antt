@@ -8,7 +8,7 @@ use Rattle.i8080_words.specs.declared.refusal.Fault.{Fault}
 use Rattle.log_entry.specs.Entries.{last_count}
 use Rattle.log_entry.specs.Standing.{IsOnTrace}
 use Rattle.log_entry.specs.declared.entry.Entry.{Entry}
-use Rattle.replayer.specs.Replaying.{Replays, Begin, Then, IsBehind, Ends, AllTurns, AtEnd, WantsMemory, Answers, AnswersStretch}
+use Rattle.replayer.specs.Replaying.{Replays, Begin, Then, IsBehind, Ends, AllTurns, AtEnd, NeedsMemory, Answers, AnswersStretch}
 use Rattle.replayer.specs.Standing.{StaysOnEach}
 use Rattle.replayer.specs.declared.replayer.Replayed.{Replayed}
 use Rattle.replayer.proofs.Below.{stays_below}
@@ -69,7 +69,7 @@ stopped M s v t held now left turns most n fault lt some before a =
       replays =
           subst (λ t. Replays M s held n t left) (sym a.2)
           (subst (λ l. Replays M s held n v l) (sym a.3) before);
-      ends = WantsMemory some lt behind;
+      ends = NeedsMemory some lt behind;
       at_end = (
         λ yes. absurd cc,
         λ nothing. absurd (let none : behind.first ∷ behind.rest ≡ [] = sym left_are ∙ nothing in cc),

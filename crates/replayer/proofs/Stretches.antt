@@ -58,11 +58,11 @@ refused_at_once M s t most ran fault some why none (IsRefused {n = n} lt quiet) 
     let here : fault_of (step_refusal M t) ≡ fault = cc in
     (sym here ∙ ap (λ t. fault_of (step_refusal M t)) same, same)
 
-pub wants_memory : {S : Type 0} (M : Machine S) (s t : S) (held : List Entry) (e : Entry) (turns most : ℕ)
+pub needs_memory : {S : Type 0} (M : Machine S) (s t : S) (held : List Entry) (e : Entry) (turns most : ℕ)
     (ran : Stopped) (fault : Fault) → Counts M → IsOnTrace M s held → slice_get held 0 ≡ Some e
     → M.count s < count_of e → 0 < most → RunsOn M s most ran t → ran.reason ≡ Refused fault → ran.steps ≡ 0
     → AnswersStretch M s held turns (Err fault) t held
-wants_memory M s t held e turns most ran fault counts on first later some runs why none =
+needs_memory M s t held e turns most ran fault counts on first later some runs why none =
     let may : MayStep M s = may_step M s held e counts on first later in
     let refused = refused_at_once M s t most ran fault some why none runs in
     let behind : IsBehind M s held =

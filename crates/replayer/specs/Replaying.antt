@@ -36,7 +36,7 @@ pub record IsBehind {S : Type 0} (M : Machine S) (s : S) (held : List Entry) : T
 pub data Ends {S : Type 0} (M : Machine S) (turns : ℕ) : ℕ → S → List Entry → Type 0 where
   AllTurns : {t : S} {left : List Entry} → Ends M turns turns t left
   AtEnd : {n : ℕ} {t : S} → n < turns → Ends M turns n t []
-  WantsMemory : {n : ℕ} {t : S} {left : List Entry} → 0 < n → n < turns → IsBehind M t left → Ends M turns n t left
+  NeedsMemory : {n : ℕ} {t : S} {left : List Entry} → 0 < n → n < turns → IsBehind M t left → Ends M turns n t left
 
 -- an answer says how many moves were made, and whether an entry is left
 pub record Came {S : Type 0} (M : Machine S) (s : S) (held : List Entry) (turns : ℕ) (r : Replayed) (t : S)

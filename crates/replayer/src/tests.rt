@@ -86,7 +86,7 @@ fn a_replayer_ends_where_the_recorder_ended(rt: HostRuntime) -> R<()> {
 }
 
 #[test]
-fn a_replay_that_wants_memory_goes_on_where_it_stopped(rt: HostRuntime) -> R<()> {
+fn a_replay_out_of_memory_goes_on_where_it_stopped(rt: HostRuntime) -> R<()> {
     let key = Entry::Rx {
         count: 0,
         port: 0,

@@ -9,7 +9,7 @@ use Rattle.pair_protocol.specs.Change.{Wins}
 use Rattle.pair_protocol.specs.Event.{Acknowledge, DeliverAcknowledgement, DeliverLog, Drain, Event, GetReply, PartComes, PutReply, Release, Replay, Reply, Send, SendPart, Step, Stop, Suspect, TakeKey, TellSent}
 use Rattle.pair_protocol.specs.Grows.{Grows}
 use Rattle.pair_protocol.specs.Refusals.{refusal}
-use Rattle.pair_protocol.specs.Row.{Accepts, DeviceFails, Leaves, Refuses, Row, WantsMemory}
+use Rattle.pair_protocol.specs.Row.{Accepts, DeviceFails, Leaves, Refuses, Row, NeedsMemory}
 use Rattle.pair_protocol.specs.Rows.{Does, Suspects}
 use Rattle.pair_protocol.proofs.Invariant.Acting.{Acting, BackupActs, BackupAtTop, BackupEarlier, PrimaryActs, PrimaryAtTop, PrimaryEarlier, acting}
 use Rattle.pair_protocol.proofs.Invariant.{BackupWon, Inv, LineOf, PrimaryWon, Stage, Undecided, settled, winner_at}
@@ -185,7 +185,7 @@ row_won {S} M C laws copies w new e r i (Accepts p d) = go (suspicion e)
         (subst (λ z. Does M C w z r new) h.1 d)
 row_won M C laws copies w new e r i (Refuses {fault = fault} p d) = nobody_wins M w new (leaves_winners w e fault new d)
 row_won M C laws copies w new e r i (DeviceFails p d) = nobody_wins M w new refl
-row_won M C laws copies w new e r i (WantsMemory p d) = nobody_wins M w new refl
+row_won M C laws copies w new e r i (NeedsMemory p d) = nobody_wins M w new refl
 
 pub row_grows : {S : Type 0} (M : Machine S) (C : Copying S) → Lawful M → IsCopying M C →
     (w new : World S) (e : Event) (r : Reply) → Reached M C w → Row M C w e r new → Grows M w new

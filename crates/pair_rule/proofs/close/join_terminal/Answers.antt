@@ -31,5 +31,5 @@ pub returns-clause-known : goal.returns-clause-known
 returns-clause-known c = let k = c.requires.seat in let e = c.exchange.ensures in let put =
     put_in _ _ _ _ _ k.holds e.3 in let l = c.load.ensures in
     ap (λ (m : Mine). m.0.core.known) c.join_seat.ensures.2 ∙ ap
-        (λ (v : SeatView). know_of Terminal v.core.known c.args.lead.now.me.0.core.known) l.2.1 ∙ ap
-        (λ (m : Mine). know_of Terminal m.0.core.known c.args.lead.now.me.0.core.known) put
+    (λ (v : SeatView). know_of Terminal v.core.known c.args.lead.now.me.0.core.known) l.2.1 ∙ ap
+    (λ (m : Mine). know_of Terminal m.0.core.known c.args.lead.now.me.0.core.known) put

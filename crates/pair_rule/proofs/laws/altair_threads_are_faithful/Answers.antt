@@ -15,8 +15,8 @@ returns-clause-runnable c setup sectors =
 pub returns-clause-faithful : goal.returns-clause-faithful
 returns-clause-faithful c setup sectors typed0 typed1 k run =
     runs_shown (λ M C w new e r row. row_changes M C w new e r row)
-        (λ M C w new reached changes. changes_reach M C w new reached changes) always_faithful
-        (λ M C laws copies w new e r reached row. row_grows M C laws copies w new e r reached row)
-        (altair setup sectors) no_copies
+    (λ M C w new reached changes. changes_reach M C w new reached changes) always_faithful
+    (λ M C laws copies w new e r reached row. row_grows M C laws copies w new e r reached row)
+    (altair setup sectors) no_copies
     (altair_runnable setup sectors (c.altairs_are_lawful.ensures setup sectors) c.boards_count.ensures
-        c.boards_issue_and_complete.ensures) (without_copies (altair setup sectors)) typed0 typed1 k run
+    c.boards_issue_and_complete.ensures) (without_copies (altair setup sectors)) typed0 typed1 k run

@@ -30,89 +30,104 @@ pub split_seat-disk-requires : goal.split_seat-disk-requires
 split_seat-disk-requires c = let m = c.in_ok-made.ensures in let w = m.0 in let a = c.split_seat-link.ensures in let b =
     c.split_seat-backup.ensures in let t = c.split_seat-terminal.ensures in
     let is = t.2 ∙ ap (λ (x : Mine). (without Terminal x.0, x.1))
-        (b.2 ∙ ap (λ (x : Mine). (without Backup x.0, x.1)) (a.2 ∙ ap (λ (x : Mine). (without Link x.0, x.1)) m.4)) in
+    (b.2 ∙ ap (λ (x : Mine). (without Backup x.0, x.1)) (a.2 ∙ ap (λ (x : Mine). (without Link x.0, x.1)) m.4)) in
     (t.0 ∙ b.0 ∙ a.0 ∙ m.2, omega arith, splits _ _ _ Disk (subst (λ (x : Mine). has x.0 Disk) (sym is) refl))
 
 pub load-requires : goal.load-requires
 load-requires c = let m = c.in_ok-made.ensures in let w = m.0 in let a = c.split_seat-link.ensures in let b =
     c.split_seat-backup.ensures in let t = c.split_seat-terminal.ensures in let d = c.split_seat-disk.ensures in
     let is = d.2 ∙ ap (λ (x : Mine). (without Disk x.0, x.1))
-        (t.2 ∙ ap (λ (x : Mine). (without Terminal x.0, x.1))
-        (b.2 ∙ ap (λ (x : Mine). (without Backup x.0, x.1)) (a.2 ∙ ap (λ (x : Mine). (without Link x.0, x.1)) m.4))) in
-    (d.0 ∙ t.0 ∙ b.0 ∙ a.0 ∙ m.2, omega arith, takes_slot_first _ _ _ _
-        (cut4 c.args.generation) Primary 6 c.args.generation is refl refl refl)
+    (t.2 ∙ ap (λ (x : Mine). (without Terminal x.0, x.1))
+    (b.2 ∙ ap (λ (x : Mine). (without Backup x.0, x.1)) (a.2 ∙ ap (λ (x : Mine). (without Link x.0, x.1)) m.4))) in (
+      d.0 ∙ t.0 ∙ b.0 ∙ a.0 ∙ m.2,
+      omega arith,
+      takes_slot_first _ _ _ _
+          (cut4 c.args.generation) Primary 6 c.args.generation is refl refl refl,
+    )
 
 pub load-requires-2 : goal.load-requires-2
 load-requires-2 c = let m = c.in_ok-made.ensures in let w = m.0 in let a = c.split_seat-link.ensures in
-    let is = a.4 ∙ ap (λ (x : Mine). let z : Mine = (only Link x.0, []) in z) m.4 in
-    (a.3 ∙ m.2, omega arith, takes_slot_first _ _ _ _
-        (only Link (first_view c.args.generation)) Link 7 c.args.generation is refl refl refl)
+    let is = a.4 ∙ ap (λ (x : Mine). let z : Mine = (only Link x.0, []) in z) m.4 in (
+      a.3 ∙ m.2,
+      omega arith,
+      takes_slot_first _ _ _ _
+          (only Link (first_view c.args.generation)) Link 7 c.args.generation is refl refl refl,
+    )
 
 pub load-requires-3 : goal.load-requires-3
 load-requires-3 c = let m = c.in_ok-made.ensures in let w = m.0 in let a = c.split_seat-link.ensures in let b =
     c.split_seat-backup.ensures in
     let is = b.4 ∙ ap (λ (x : Mine). let z : Mine = (only Backup x.0, []) in z)
-        (a.2 ∙ ap (λ (x : Mine). (without Link x.0, x.1)) m.4) in
-    (b.3 ∙ a.0 ∙ m.2, omega arith, takes_slot_first _ _ _ _
-        (only Backup (cut1 c.args.generation)) Backup 8 c.args.generation is refl refl refl)
+    (a.2 ∙ ap (λ (x : Mine). (without Link x.0, x.1)) m.4) in (
+      b.3 ∙ a.0 ∙ m.2,
+      omega arith,
+      takes_slot_first _ _ _ _
+          (only Backup (cut1 c.args.generation)) Backup 8 c.args.generation is refl refl refl,
+    )
 
 pub load-requires-4 : goal.load-requires-4
 load-requires-4 c = let m = c.in_ok-made.ensures in let w = m.0 in let a = c.split_seat-link.ensures in let b =
     c.split_seat-backup.ensures in let t = c.split_seat-terminal.ensures in
     let is = t.4 ∙ ap (λ (x : Mine). let z : Mine = (only Terminal x.0, []) in z)
-        (b.2 ∙ ap (λ (x : Mine). (without Backup x.0, x.1)) (a.2 ∙ ap (λ (x : Mine). (without Link x.0, x.1)) m.4)) in
-    (t.3 ∙ b.0 ∙ a.0 ∙ m.2, omega arith, takes_slot_first _ _ _ _
-        (only Terminal (cut2 c.args.generation)) Terminal 9 c.args.generation is refl refl refl)
+    (b.2 ∙ ap (λ (x : Mine). (without Backup x.0, x.1)) (a.2 ∙ ap (λ (x : Mine). (without Link x.0, x.1)) m.4)) in (
+      t.3 ∙ b.0 ∙ a.0 ∙ m.2,
+      omega arith,
+      takes_slot_first _ _ _ _
+          (only Terminal (cut2 c.args.generation)) Terminal 9 c.args.generation is refl refl refl,
+    )
 
 pub load-requires-5 : goal.load-requires-5
 load-requires-5 c = let m = c.in_ok-made.ensures in let w = m.0 in let a = c.split_seat-link.ensures in let b =
     c.split_seat-backup.ensures in let t = c.split_seat-terminal.ensures in let d = c.split_seat-disk.ensures in
     let is = d.4 ∙ ap (λ (x : Mine). let z : Mine = (only Disk x.0, []) in z)
-        (t.2 ∙ ap (λ (x : Mine). (without Terminal x.0, x.1))
-        (b.2 ∙ ap (λ (x : Mine). (without Backup x.0, x.1)) (a.2 ∙ ap (λ (x : Mine). (without Link x.0, x.1)) m.4))) in
-    (d.3 ∙ t.0 ∙ b.0 ∙ a.0 ∙ m.2, omega arith, takes_slot_first _ _ _ _
-        (only Disk (cut3 c.args.generation)) Disk 10 c.args.generation is refl refl refl)
+    (t.2 ∙ ap (λ (x : Mine). (without Terminal x.0, x.1))
+    (b.2 ∙ ap (λ (x : Mine). (without Backup x.0, x.1)) (a.2 ∙ ap (λ (x : Mine). (without Link x.0, x.1)) m.4))) in (
+      d.3 ∙ t.0 ∙ b.0 ∙ a.0 ∙ m.2,
+      omega arith,
+      takes_slot_first _ _ _ _
+          (only Disk (cut3 c.args.generation)) Disk 10 c.args.generation is refl refl refl,
+    )
 
 pub returns-clause-primary : goal.returns-clause-primary
 returns-clause-primary c = let m = c.in_ok-made.ensures in let a = c.split_seat-link.ensures in let b =
     c.split_seat-backup.ensures in let t = c.split_seat-terminal.ensures in let d = c.split_seat-disk.ensures in let g =
     c.args.generation in let l = c.load.ensures in
     opened Primary g _ _ _ _ 0 6 (cut4 g) (l.0 ∙ d.0 ∙ t.0 ∙ b.0 ∙ a.0 ∙ m.2)
-        (d.2 ∙ ap (λ (x : Mine). (without Disk x.0, x.1))
-        (t.2 ∙ ap (λ (x : Mine). (without Terminal x.0, x.1))
-        (b.2 ∙ ap (λ (x : Mine). (without Backup x.0, x.1)) (a.2 ∙ ap (λ (x : Mine). (without Link x.0, x.1)) m.4)))) l.2 refl
-        refl refl refl (omega arith)
+    (d.2 ∙ ap (λ (x : Mine). (without Disk x.0, x.1))
+    (t.2 ∙ ap (λ (x : Mine). (without Terminal x.0, x.1))
+    (b.2 ∙ ap (λ (x : Mine). (without Backup x.0, x.1)) (a.2 ∙ ap (λ (x : Mine). (without Link x.0, x.1)) m.4)))) l.2 refl
+    refl refl refl (omega arith)
 
 pub returns-clause-link : goal.returns-clause-link
 returns-clause-link c = let m = c.in_ok-made.ensures in let a = c.split_seat-link.ensures in let b =
     c.split_seat-backup.ensures in let t = c.split_seat-terminal.ensures in let d = c.split_seat-disk.ensures in let g =
     c.args.generation in let l = c.load-2.ensures in
     opened Link g _ _ _ _ 0 7 (only Link (first_view g)) (l.0 ∙ a.3 ∙ m.2)
-        (a.4 ∙ ap (λ (x : Mine). let z : Mine = (only Link x.0, []) in z) (m.4)) l.2 refl refl refl refl (omega arith)
+    (a.4 ∙ ap (λ (x : Mine). let z : Mine = (only Link x.0, []) in z) (m.4)) l.2 refl refl refl refl (omega arith)
 
 pub returns-clause-backup : goal.returns-clause-backup
 returns-clause-backup c = let m = c.in_ok-made.ensures in let a = c.split_seat-link.ensures in let b =
     c.split_seat-backup.ensures in let t = c.split_seat-terminal.ensures in let d = c.split_seat-disk.ensures in let g =
     c.args.generation in let l = c.load-3.ensures in
     opened Backup g _ _ _ _ 0 8 (only Backup (cut1 g)) (l.0 ∙ b.3 ∙ a.0 ∙ m.2)
-        (b.4 ∙ ap (λ (x : Mine). let z : Mine = (only Backup x.0, []) in z)
-        (a.2 ∙ ap (λ (x : Mine). (without Link x.0, x.1)) m.4)) l.2 refl refl refl refl (omega arith)
+    (b.4 ∙ ap (λ (x : Mine). let z : Mine = (only Backup x.0, []) in z)
+    (a.2 ∙ ap (λ (x : Mine). (without Link x.0, x.1)) m.4)) l.2 refl refl refl refl (omega arith)
 
 pub returns-clause-terminal : goal.returns-clause-terminal
 returns-clause-terminal c = let m = c.in_ok-made.ensures in let a = c.split_seat-link.ensures in let b =
     c.split_seat-backup.ensures in let t = c.split_seat-terminal.ensures in let d = c.split_seat-disk.ensures in let g =
     c.args.generation in let l = c.load-4.ensures in
     opened Terminal g _ _ _ _ 0 9 (only Terminal (cut2 g)) (l.0 ∙ t.3 ∙ b.0 ∙ a.0 ∙ m.2)
-        (t.4 ∙ ap (λ (x : Mine). let z : Mine = (only Terminal x.0, []) in z)
-        (b.2 ∙ ap (λ (x : Mine). (without Backup x.0, x.1)) (a.2 ∙ ap (λ (x : Mine). (without Link x.0, x.1)) m.4))) l.2 refl refl
-        refl refl (omega arith)
+    (t.4 ∙ ap (λ (x : Mine). let z : Mine = (only Terminal x.0, []) in z)
+    (b.2 ∙ ap (λ (x : Mine). (without Backup x.0, x.1)) (a.2 ∙ ap (λ (x : Mine). (without Link x.0, x.1)) m.4))) l.2 refl refl
+    refl refl (omega arith)
 
 pub returns-clause-disk : goal.returns-clause-disk
 returns-clause-disk c = let m = c.in_ok-made.ensures in let a = c.split_seat-link.ensures in let b =
     c.split_seat-backup.ensures in let t = c.split_seat-terminal.ensures in let d = c.split_seat-disk.ensures in let g =
     c.args.generation in let l = c.load-5.ensures in
     opened Disk g _ _ _ _ 0 10 (only Disk (cut3 g)) (l.0 ∙ d.3 ∙ t.0 ∙ b.0 ∙ a.0 ∙ m.2)
-        (d.4 ∙ ap (λ (x : Mine). let z : Mine = (only Disk x.0, []) in z)
-        (t.2 ∙ ap (λ (x : Mine). (without Terminal x.0, x.1))
-        (b.2 ∙ ap (λ (x : Mine). (without Backup x.0, x.1)) (a.2 ∙ ap (λ (x : Mine). (without Link x.0, x.1)) m.4)))) l.2 refl
-        refl refl refl (omega arith)
+    (d.4 ∙ ap (λ (x : Mine). let z : Mine = (only Disk x.0, []) in z)
+    (t.2 ∙ ap (λ (x : Mine). (without Terminal x.0, x.1))
+    (b.2 ∙ ap (λ (x : Mine). (without Backup x.0, x.1)) (a.2 ∙ ap (λ (x : Mine). (without Link x.0, x.1)) m.4)))) l.2 refl
+    refl refl refl (omega arith)

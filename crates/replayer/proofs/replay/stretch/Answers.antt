@@ -2,7 +2,7 @@
 use Rattle.std.proofs.Common.{sym, ap, ◌∙◌, arith}
 use Rattle.log_channel.proofs.HeldEntries.{no_first}
 use Rattle.replayer.proofs.OneMove.{still_on, not_before, may_take, no_refusal, takes, passes}
-use Rattle.replayer.proofs.Stretches.{steps_made, wants_memory, still_there, one_move}
+use Rattle.replayer.proofs.Stretches.{steps_made, needs_memory, still_there, one_move}
 use Rattle.replayer.proofs.replay.stretch.Goals as goal
 
 pub unreachable-requires : goal.unreachable-requires
@@ -43,7 +43,7 @@ returns-then-ahead-gt0-clause-answers g c =
     let most = c.min.ensures in
     let some = c.requires.some in
     let none = c.if-stopped-gt0.false in
-    wants_memory g.B.Lockstep.machine (g.B.Lockstep.state c.args.board.now) (g.B.Lockstep.state c.run-stopped.new.guest)
+    needs_memory g.B.Lockstep.machine (g.B.Lockstep.state c.args.board.now) (g.B.Lockstep.state c.run-stopped.new.guest)
     c.args.receiver.now.entries c.in-Some.front.now c.args.turns c.min.result c.run-stopped.result c.in-Refused.fault
     g.met.B.Lockstep.counts c.requires.on_trace (sym c.in-Some.ensures.entry) (omega arith) (omega arith)
     c.run-stopped.ensures.runs c.in-Refused.is (omega arith)

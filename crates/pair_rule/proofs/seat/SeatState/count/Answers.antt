@@ -7,8 +7,11 @@ use Rattle.pair_rule.proofs.seat.SeatState.count.Goals as goal
 
 pub fetch_max-requires : goal.fetch_max-requires
 fetch_max-requires c = let w = c.fabric.invariant.0 in let p =
-    c.requires.port in (c.requires.table ∙ sym c.fabric.view_is, omega arith,
-    count_at_allowed _ _ _ _ _ _ p c.requires.seat.holds.mine c.requires.accepted)
+    c.requires.port in (
+      c.requires.table ∙ sym c.fabric.view_is,
+      omega arith,
+      count_at_allowed _ _ _ _ _ _ p c.requires.seat.holds.mine c.requires.accepted,
+    )
 
 pub returns-clause-seat : goal.returns-clause-seat
 returns-clause-seat c = let t = c.fetch_max.ensures.2 c.args.port c.requires.port refl in knows_keeps Terminal _ _ _ _ _

@@ -4,12 +4,12 @@ use Rattle.std.specs.Prelude.{◌<◌, ◌==◌, if◌then◌else◌, length, sl
 use Rattle.pair_protocol.proofs.Words.{Alone, Backup, Copying, Draining, Entry, Joining, LogEntry, Machine, Message, Node, Primary, Spare, World, acts_as, count_of, is_role, winner_in}
 use Rattle.i8080_words.specs.declared.refusal.Fault.TheVariants.{Lost, NotWhole, OutOfMemory, Unknown, WrongGeneration, WrongRole}
 use Rattle.i8080_words.specs.declared.refusal.Fault.{Fault}
-use Rattle.pair_protocol.specs.Effects.{AtEnd, IsBehind, NoMemory, NoTurns, OneInput, OneMark, OneStep, Replays, WantsMoves}
+use Rattle.pair_protocol.specs.Effects.{AtEnd, IsBehind, NoMemory, NoTurns, OneInput, OneMark, OneStep, Replays, NeedsMoves}
 use Rattle.pair_protocol.specs.Event.{DeliverLog, Drain, Event, New, Old, Refused, Replay, Reply, Step, Suspect}
 use Rattle.pair_protocol.specs.Refusals.{ask_refusal, at_log_entry, at_node, deliver_log_refusal, fault_if, first_of, is_other, refusal, role_refusal, step_refusal, suspect_refusal}
-use Rattle.pair_protocol.specs.Row.{Accepts, DeviceFails, MayWantMemory, Refuses, WantsMemory}
+use Rattle.pair_protocol.specs.Row.{Accepts, DeviceFails, MayNeedMemory, Refuses, NeedsMemory}
 use Rattle.pair_protocol.specs.Rows.{Does, OfNode, drain_reply}
-use Rattle.pair_protocol.specs.Wanting.{WantsNone}
+use Rattle.pair_protocol.specs.Needing.{NeedsNone}
 use Rattle.pair_protocol.proofs.Traces.Lists.{same_some}
 
 -- ---- no refusal is out of memory
@@ -67,56 +67,56 @@ ask_other w n x =
 
 -- ---- so only an event that may need memory is answered with out of memory
 
-wants_none : {S : Type 0} (M : Machine S) (C : Copying S) (w : World S) (e : Event) → Other (refusal M C w e)
-    → ((r : Reply) (new : World S) → Does M C w e r new → r ≢ Refused OutOfMemory) → (MayWantMemory M w e → ⊥)
-    → WantsNone M C w e
-wants_none M C w e other does wants new r (Accepts p d) is = does r new d is
-wants_none M C w e other does wants new r (Refuses {fault = fault} p d) is =
+needs_none : {S : Type 0} (M : Machine S) (C : Copying S) (w : World S) (e : Event) → Other (refusal M C w e)
+    → ((r : Reply) (new : World S) → Does M C w e r new → r ≢ Refused OutOfMemory) → (MayNeedMemory M w e → ⊥)
+    → NeedsNone M C w e
+needs_none M C w e other does needs new r (Accepts p d) is = does r new d is
+needs_none M C w e other does needs new r (Refuses {fault = fault} p d) is =
     let same : fault ≡ OutOfMemory = cc in
     other (p ∙ ap (λ f. Some f) same)
-wants_none M C w e other does wants new r (DeviceFails p d) is = (cc)
-wants_none M C w e other does wants new r (WantsMemory p d) is = wants d
+needs_none M C w e other does needs new r (DeviceFails p d) is = (cc)
+needs_none M C w e other does needs new r (NeedsMemory p d) is = needs d
 
 drain_other : (made : ℕ) (end : Bool) → drain_reply made end ≢ Refused OutOfMemory
 drain_other made true is = (cc)
 drain_other made false is = (cc)
 
-steps_none : {S : Type 0} (M : Machine S) (C : Copying S) (w : World S) (n : ℕ) → WantsNone M C w (Step n 0)
+steps_none : {S : Type 0} (M : Machine S) (C : Copying S) (w : World S) (n : ℕ) → NeedsNone M C w (Step n 0)
 steps_none M C w n =
-    wants_none M C w (Step n 0)
+    needs_none M C w (Step n 0)
     (other_at (slice_get w.nodes n) (step_refusal M 0) (λ x. role_other (not (acts_as x (Primary ∷ Alone ∷ [])))))
     (λ r new d is. (let ran = sym is ∙ d.reply in (cc))) (λ some. omega (arith, some))
 
 replays_none : {S : Type 0} (M : Machine S) (C : Copying S) (w : World S) (n turns : ℕ)
-    → (OfNode w n (WantsMoves M turns) → ⊥) → WantsNone M C w (Replay n turns)
-replays_none M C w n turns wants =
-    wants_none M C w (Replay n turns)
+    → (OfNode w n (NeedsMoves M turns) → ⊥) → NeedsNone M C w (Replay n turns)
+replays_none M C w n turns needs =
+    needs_none M C w (Replay n turns)
     (other_at (slice_get w.nodes n) (role_refusal (Backup ∷ [])) (λ x. role_other (not (acts_as x (Backup ∷ [])))))
-    (λ r new d is. (let moved = sym is ∙ d.reply in (cc))) wants
+    (λ r new d is. (let moved = sym is ∙ d.reply in (cc))) needs
 
 drains_none : {S : Type 0} (M : Machine S) (C : Copying S) (w : World S) (n turns : ℕ)
-    → (OfNode w n (WantsMoves M turns) → ⊥) → WantsNone M C w (Drain n turns)
-drains_none M C w n turns wants =
-    wants_none M C w (Drain n turns)
+    → (OfNode w n (NeedsMoves M turns) → ⊥) → NeedsNone M C w (Drain n turns)
+drains_none M C w n turns needs =
+    needs_none M C w (Drain n turns)
     (other_at (slice_get w.nodes n) (role_refusal (Draining ∷ [])) (λ x. role_other (not (acts_as x (Draining ∷ [])))))
-    (λ r new d is. drain_other d.made _ (sym d.reply ∙ is)) wants
+    (λ r new d is. drain_other d.made _ (sym d.reply ∙ is)) needs
 
-none_asked : {S : Type 0} (M : Machine S) (w : World S) (n : ℕ) → OfNode w n (WantsMoves M 0) → ⊥
+none_asked : {S : Type 0} (M : Machine S) (w : World S) (n : ℕ) → OfNode w n (NeedsMoves M 0) → ⊥
 none_asked M w n h = let some = h.said.0 in omega (arith, some)
 
 pub no_turns : {S : Type 0} (M : Machine S) (C : Copying S) (w : World S) (n : ℕ)
-    → WantsNone M C w (Step n 0) × WantsNone M C w (Replay n 0) × WantsNone M C w (Drain n 0)
+    → NeedsNone M C w (Step n 0) × NeedsNone M C w (Replay n 0) × NeedsNone M C w (Drain n 0)
 no_turns M C w n =
     (steps_none M C w n, replays_none M C w n 0 (none_asked M w n), drains_none M C w n 0 (none_asked M w n))
 
 not_first : {S : Type 0} (M : Machine S) (w : World S) (n turns : ℕ) (x : Node S) → slice_get w.nodes n ≡ Some x
-    → (IsBehind M x → ⊥) → OfNode w n (WantsMoves M turns) → ⊥
+    → (IsBehind M x → ⊥) → OfNode w n (NeedsMoves M turns) → ⊥
 not_first M w n turns x there other h =
     other (subst (λ y. IsBehind M y) (same_some h.x x (slice_get w.nodes n) h.there there) h.said.1)
 
 pub other_moves : {S : Type 0} (M : Machine S) (C : Copying S) (w : World S) (n turns : ℕ) (x : Node S)
     → slice_get w.nodes n ≡ Some x → (IsBehind M x → ⊥)
-    → WantsNone M C w (Replay n turns) × WantsNone M C w (Drain n turns)
+    → NeedsNone M C w (Replay n turns) × NeedsNone M C w (Drain n turns)
 other_moves M C w n turns x there other = (
   replays_none M C w n turns (not_first M w n turns x there other),
   drains_none M C w n turns (not_first M w n turns x there other),
@@ -136,18 +136,18 @@ same_index q g h i k e d is also = (cc)
 
 pub other_entries : {S : Type 0} (M : Machine S) (C : Copying S) (w : World S) (m n generation index : ℕ) (e : Entry)
     (x : Node S) → slice_get w.messages m ≡ Some (LogEntry generation index e) → slice_get w.nodes n ≡ Some x
-    → index ≢ length x.held → WantsNone M C w (DeliverLog m n)
+    → index ≢ length x.held → NeedsNone M C w (DeliverLog m n)
 other_entries {S} M C w m n generation index e x message there other =
-    wants_none M C w (DeliverLog m n)
+    needs_none M C w (DeliverLog m n)
     (log_message_other (slice_get w.nodes n) (slice_get w.messages m) generation index e message)
     (held_or_not M C w m n)
     (λ h. other (same_index (slice_get w.messages m) generation h.generation index h.index e h.e message h.message
     ∙ h.next.said ∙ ap (λ (y : Node S). length y.held) (same_some h.next.x x (slice_get w.nodes n) h.next.there there)))
 
 pub winners : {S : Type 0} (M : Machine S) (C : Copying S) (w : World S) (n : ℕ) (x : Node S)
-    → slice_get w.nodes n ≡ Some x → winner_in w.winners x.generation ≡ Some n → WantsNone M C w (Suspect n)
+    → slice_get w.nodes n ≡ Some x → winner_in w.winners x.generation ≡ Some n → NeedsNone M C w (Suspect n)
 winners {S} M C w n x there won =
-    wants_none M C w (Suspect n)
+    needs_none M C w (Suspect n)
     (other_at (slice_get w.nodes n) (ask_refusal w n) (λ x. ask_other w n x))
     (λ r new d is. (let won = sym is ∙ d.reply in (cc)))
     (λ h. (let same : h.x ≡ x = same_some h.x x (slice_get w.nodes n) h.there there in

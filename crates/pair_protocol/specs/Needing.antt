@@ -12,33 +12,33 @@ use Rattle.pair_protocol.specs.Effects.{IsBehind, Replays}
 use Rattle.pair_protocol.specs.Row.{Row}
 
 -- an event is never answered with out of memory
-abbrev pub WantsNone : {S : Type 0} → Machine S → Copying S → World S → Event → Type 0
-WantsNone {S} M C w e = (new : World S) (r : Reply) → Row M C w e r new → r ≢ Refused OutOfMemory
+abbrev pub NeedsNone : {S : Type 0} → Machine S → Copying S → World S → Event → Type 0
+NeedsNone {S} M C w e = (new : World S) (r : Reply) → Row M C w e r new → r ≢ Refused OutOfMemory
 
 -- a step, a replay or a drain of no turns
-abbrev pub NoTurnsWantNone : (S : Type 0) → Type 0
-NoTurnsWantNone S =
+abbrev pub NoTurnsNeedNone : (S : Type 0) → Type 0
+NoTurnsNeedNone S =
     (M : Machine S) (C : Copying S) (w : World S) (n : ℕ) →
-    WantsNone M C w (Step n 0) × WantsNone M C w (Replay n 0) × WantsNone M C w (Drain n 0)
+    NeedsNone M C w (Step n 0) × NeedsNone M C w (Replay n 0) × NeedsNone M C w (Drain n 0)
 
 -- a replay or a drain whose first move is not a step
-abbrev pub OtherMovesWantNone : (S : Type 0) → Type 0
-OtherMovesWantNone S =
+abbrev pub OtherMovesNeedNone : (S : Type 0) → Type 0
+OtherMovesNeedNone S =
     (M : Machine S) (C : Copying S) (w : World S) (n turns : ℕ) (x : Node S) → slice_get w.nodes n ≡ Some x →
-    (IsBehind M x → ⊥) → WantsNone M C w (Replay n turns) × WantsNone M C w (Drain n turns)
+    (IsBehind M x → ⊥) → NeedsNone M C w (Replay n turns) × NeedsNone M C w (Drain n turns)
 
 -- a packet that is a repeat or past a gap
-abbrev pub OtherEntriesWantNone : (S : Type 0) → Type 0
-OtherEntriesWantNone S =
+abbrev pub OtherEntriesNeedNone : (S : Type 0) → Type 0
+OtherEntriesNeedNone S =
     (M : Machine S) (C : Copying S) (w : World S) (m n generation index : ℕ) (e : Entry) (x : Node S) →
     slice_get w.messages m ≡ Some (LogEntry generation index e) → slice_get w.nodes n ≡ Some x →
-    index ≢ length x.held → WantsNone M C w (DeliverLog m n)
+    index ≢ length x.held → NeedsNone M C w (DeliverLog m n)
 
 -- a winner that asks again
-abbrev pub WinnersWantNone : (S : Type 0) → Type 0
-WinnersWantNone S =
+abbrev pub WinnersNeedNone : (S : Type 0) → Type 0
+WinnersNeedNone S =
     (M : Machine S) (C : Copying S) (w : World S) (n : ℕ) (x : Node S) → slice_get w.nodes n ≡ Some x →
-    winner_in w.winners x.generation ≡ Some n → WantsNone M C w (Suspect n)
+    winner_in w.winners x.generation ≡ Some n → NeedsNone M C w (Suspect n)
 
 -- moves end if all that were asked for are made, if nothing is left, or if the next one is a step
 abbrev pub StopsAtSteps : (S : Type 0) → Type 0

@@ -2,7 +2,7 @@ use Rattle.std.proofs.Common.{[], ◌∷◌, ◌++◌, ap, ◌∙◌}
 use Rattle.log_channel.specs.Channel.{Receiving, holding}
 use Rattle.log_entry.specs.declared.entry.Entry.TheVariants.{Mark, Rx}
 use Rattle.replayer.proofs.EchoTrace.{on_trace}
-use Rattle.replayer.proofs.tests.a_replay_that_wants_memory_goes_on_where_it_stopped.Goals as goal
+use Rattle.replayer.proofs.tests.a_replay_out_of_memory_goes_on_where_it_stopped.Goals as goal
 
 pub replay-requires : goal.replay-requires
 replay-requires g c = record {

@@ -1,6 +1,6 @@
 -- No refusal is out of memory, and these events need no memory.
-use Rattle.pair_protocol.proofs.Wanting.{no_turns, other_entries, other_moves, stops_at_steps, winners}
-use Rattle.pair_protocol.proofs.laws.some_events_want_no_memory.Goals as goal
+use Rattle.pair_protocol.proofs.Needing.{no_turns, other_entries, other_moves, stops_at_steps, winners}
+use Rattle.pair_protocol.proofs.laws.some_events_need_no_memory.Goals as goal
 
 pub returns : goal.returns
 returns g c = record {
