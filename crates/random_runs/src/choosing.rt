@@ -1,5 +1,7 @@
 //! The next event, by chance: mostly one that can be answered, with losses, repeats, reorderings and suspicions.
 
+ghost use Rattle.std.specs.Prelude.{◌≤◌};
+
 use crate::seen::Seen;
 use circular_buffer::HeapCircularBuffer;
 use event_callbacks::OpId;
@@ -14,38 +16,46 @@ const NO_MESSAGE: u64 = u64::MAX;
 /// make a node suspect its peer, or stop it.
 pub fn next_event(random: &mut Pcg32, seen: &Seen) -> Event {
     let [kind, place, number, _] = random.next_word().to_be_bytes();
-    let node = u64::from(place & 1);
-    let port = place >> 1 & 1;
+    let leader = node_that_leads(place);
+    let follower = 1 - leader;
+    let port = place >> 4 & 1;
     let turns = u64::from(number) + 1;
     match kind {
-        0..48 => Event::Step { node, turns },
-        48..72 => Event::Replay { node, turns },
-        72..80 => Event::Drain { node, turns },
+        0..48 => Event::Step {
+            node: leader,
+            turns,
+        },
+        48..72 => Event::Replay {
+            node: follower,
+            turns,
+        },
+        72..80 => Event::Drain {
+            node: follower,
+            turns,
+        },
         80..112 => Event::Send {
-            node: node_that_leads(place),
+            node: leader,
             index: near(seen.sent, number),
         },
         112..144 => Event::DeliverLog {
             message: one_of(&seen.packets, number),
-            node: node_that_follows(place),
+            node: follower,
         },
-        144..160 => Event::Acknowledge {
-            node: node_that_follows(place),
-        },
+        144..160 => Event::Acknowledge { node: follower },
         160..180 => Event::DeliverAcknowledgement {
             message: one_of(&seen.acknowledgements, number),
-            node: node_that_leads(place),
+            node: leader,
         },
         180..200 => Event::Release {
-            node,
+            node: leader,
             id: seen.operation(place_of(number)).unwrap_or(OpId::Write(0)),
         },
         200..216 => Event::Arrive {
             message: one_of(&seen.releases, number),
         },
-        216..228 => input(random, seen, node, port),
-        228..252 => disk_event(random, seen, node),
-        _ => seldom(random, node, port),
+        216..228 => input(random, seen, leader, port),
+        228..252 => disk_event(random, seen, leader),
+        _ => seldom(random, leader, port),
     }
 }
 
@@ -106,13 +116,10 @@ fn seldom(random: &mut Pcg32, node: u64, port: u8) -> Event {
 }
 
 // Mostly node 0, the first primary.
-fn node_that_leads(place: u8) -> u64 {
+fn node_that_leads(place: u8) -> u64
+    ensures { result ≤ 1 }
+{
     u64::from(place & 15 == 0)
-}
-
-// Mostly node 1, the first backup.
-fn node_that_follows(place: u8) -> u64 {
-    u64::from(place & 15 != 0)
 }
 
 // The next number, or seldom one of those near it.
