@@ -15,8 +15,6 @@ mod pair;
 mod readers;
 mod room;
 mod station;
-#[cfg(test)]
-mod tests;
 mod world;
 
 pub use hosts::NodeStatus;

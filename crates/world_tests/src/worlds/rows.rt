@@ -4,10 +4,10 @@ ghost use Rattle.std.specs.Prelude.{◌≡◌, ◌^◌, ◌<◌, ◌≤◌, IsTr
 ghost use Rattle.event_callbacks.specs.declared.devices.TheConstants.{SENT, SECTOR, WRITTEN};
 ghost use Rattle.event_callbacks.specs.Keeping.{Keeps};
 
-use crate::tests::lines::Line;
-use crate::{Message, NodeStatus, World};
+use crate::worlds::lines::Line;
 use disk_dcdd::{SECTOR_BYTES, SectorAddress, SectorWrite};
 use event_callbacks::{Callbacks, Completes, plain_completions};
+use ft_world::{Message, NodeStatus, World};
 use guest_board::{Board, Lockstep, Setup};
 use guest_trace::Timed;
 use i8080_words::{Fault, R};

@@ -3,12 +3,12 @@ ghost use Rattle.std.specs.Prelude.{◌≡◌, ◌^◌, ◌<◌, ◌≤◌, IsTr
 ghost use Rattle.event_callbacks.specs.declared.devices.TheConstants.{SENT, SECTOR, WRITTEN};
 ghost use Rattle.event_callbacks.specs.Keeping.{Keeps};
 
-use crate::tests::lines::{
+use crate::worlds::lines::{
     Line, ack, acked, arrive, done, drain, get, key, log, moved, put, release, replay, send, sent,
     step, stop, suspect, told, type_byte, under,
 };
-use crate::tests::outputs::{FIRST_BYTE, after_first_byte, first_byte};
-use crate::tests::rows::{End, Sent, boot, check, happen, node, sector};
+use crate::worlds::outputs::{FIRST_BYTE, after_first_byte, first_byte};
+use crate::worlds::rows::{End, Sent, boot, check, happen, node, sector};
 use event_callbacks::{Callbacks, Completes, OpId, plain_completions};
 use i8080_words::{Fault, R};
 use pair_events::{Reply, Role};

@@ -1,11 +1,11 @@
 //! A node goes on without its peer, and the keys that stay.
 
-use crate::tests::lines::{
+use crate::worlds::lines::{
     Line, ack, acked, arrive, drain, gave, key, log, message, moved, ran, release, replay, send,
     step, stop, suspect, told, type_byte,
 };
-use crate::tests::outputs::{FIRST, FIRST_BYTE, after_first_byte};
-use crate::tests::rows::{End, Sent, check, node, sector};
+use crate::worlds::outputs::{FIRST, FIRST_BYTE, after_first_byte};
+use crate::worlds::rows::{End, Sent, check, node, sector};
 use guest_board::StopReason;
 use guest_trace::{Bare, Timed};
 use i8080_words::{Fault, R};

@@ -1,10 +1,10 @@
 //! Writes of a sector, and sectors that are read.
 
-use crate::tests::lines::{
+use crate::worlds::lines::{
     Line, ack, acked, done, drain, gave, get, log, message, put, ran, release, send, step, suspect,
     under,
 };
-use crate::tests::rows::{End, Sent, check, node, sector, write};
+use crate::worlds::rows::{End, Sent, check, node, sector, write};
 use event_callbacks::OpId;
 use guest_board::StopReason;
 use guest_trace::{Bare, Timed};

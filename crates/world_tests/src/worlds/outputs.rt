@@ -3,10 +3,10 @@ ghost use Rattle.std.specs.Prelude.{◌≡◌, ◌^◌, ◌<◌, ◌≤◌, IsTr
 ghost use Rattle.event_callbacks.specs.declared.devices.TheConstants.{SENT, SECTOR, WRITTEN};
 ghost use Rattle.event_callbacks.specs.Keeping.{Keeps};
 
-use crate::tests::lines::{
+use crate::worlds::lines::{
     Line, ack, acked, arrive, gave, log, message, ran, release, send, sent, step,
 };
-use crate::tests::rows::{End, Sent, boot, check, node, sector, stands};
+use crate::worlds::rows::{End, Sent, boot, check, node, sector, stands};
 use event_callbacks::{Completes, OpId, plain_completions};
 use guest_board::StopReason;
 use i8080_words::{Fault, R};
