@@ -6,9 +6,10 @@ mod folds;
 mod states;
 mod walks;
 
-use crate::{Bare, Single, Timed};
+use crate::Single;
 use disk_dcdd::{SECTOR_BYTES, SectorAddress, SectorWrite};
 use guest_board::Setup;
+use guest_trace::{Bare, Timed};
 use i8080_words::{Fault, R};
 use std::alloc::Global;
 use std::process::Abort;
