@@ -12,7 +12,7 @@ use Rattle.guest_board.specs.declared.running.StopReason.TheVariants as reason
 use Rattle.guest_board.specs.declared.running.Stopped.{Stopped}
 use Rattle.i8080_words.specs.declared.refusal.Fault.{Fault}
 use Rattle.i8080_words.specs.declared.refusal.Fault.TheVariants.{Spent, Idle}
-use Rattle.pair_protocol.specs.Node.{Node, Alone}
+use Rattle.pair_protocol.specs.Node.{Node}
 use Rattle.pair_protocol.specs.Refusals as refusals
 use Rattle.pair_protocol.specs.Effects.{stepped}
 use Rattle.ft_node.specs.Calls as calls

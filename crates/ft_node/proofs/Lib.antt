@@ -6,12 +6,12 @@ pub mod ServingSteps
 pub mod PrimarySteps
 pub mod PrimaryAcknowledged
 pub mod PrimaryReleases
-pub mod AloneInputs
 pub mod AloneSteps
 pub mod FollowerMoves
 pub mod FollowerLog
+pub mod Deliveries
 pub mod Halting
 pub mod LastMoves
 pub mod EchoNodes
-pub mod PrimaryChecks
+pub mod Inputs
 pub mod PassedChecks

@@ -1,14 +1,12 @@
 -- An input that a primary takes. Its entry is pushed after those that are kept, so the primary keeps what it kept and
 -- the new entry; its machine takes the input; and the operation that the input completes no longer has a note.
-use Rattle.std.proofs.Common.{◌≡◌, ℕ, ◌≤◌, Option, Some, None, Ok, Err, List, [], ◌∷◌, ◌++◌, length, drop, length-append, refl, sym, ap, subst, ◌∙◌, arith}
+use Rattle.std.proofs.Common.{◌≡◌, ℕ, ◌≤◌, Option, Some, None, Ok, List, [], ◌∷◌, ◌++◌, length, drop, length-append, refl, sym, ap, subst, ◌∙◌, arith}
 use Rattle.std.proofs.lemmas.List.{drop-append-le}
 use Rattle.std.proofs.lemmas.List.Elements.{All-push}
 use Rattle.event_callbacks.specs.declared.operations.OpId.{OpId}
-use Rattle.guest_board.specs.Machine.{Machine, refusal_of}
+use Rattle.guest_board.specs.Machine.{Machine}
 use Rattle.guest_board.specs.declared.input.Input.{Input}
-use Rattle.i8080_words.specs.declared.refusal.Fault.{Fault}
-use Rattle.log_buffer.specs.Log as buffer
-use Rattle.log_buffer.specs.Log.{Log, log, next_of, pushed, IsWithinLimits}
+use Rattle.log_buffer.specs.Log.{Log, log, pushed, IsWithinLimits}
 use Rattle.log_channel.specs.Channel.{Sending}
 use Rattle.log_entry.specs.Entries.{entry_of}
 use Rattle.log_entry.specs.Spelling.{IsEntry}
@@ -16,15 +14,14 @@ use Rattle.log_entry.specs.declared.entry.Entry.{Entry}
 use Rattle.output_rule.specs.Covering.{Covering, after_forget}
 use Rattle.output_rule.specs.declared.notes.Note.{Note}
 use Rattle.pair_protocol.specs.Node.{Node, primary_takes}
-use Rattle.pair_protocol.specs.Effects.{took}
-use Rattle.recorder.specs.Recording.{Offers, offer_answer}
-use Rattle.ft_node.specs.Calls.{Takes}
+use Rattle.pair_protocol.specs.Effects.{Took, took}
+use Rattle.recorder.specs.Recording.{Offers}
+use Rattle.ft_node.specs.Calls.{Makes}
 use Rattle.guest_board.specs.Outstanding.{ComesAndGoes, completed_by}
 use Rattle.ft_node.specs.Roles.{IsPrimary}
 use Rattle.ft_node.proofs.PrimaryNotes.{Covers-kept, keeps_all, keeps_others}
 use Rattle.ft_node.proofs.PrimaryNotes as notes
-use Rattle.ft_node.proofs.PrimaryRefusals.{Keeps, allowed}
-use Rattle.ft_node.proofs.PassedChecks.{Passes, has_room}
+use Rattle.ft_node.proofs.PrimaryRefusals.{Keeps}
 
 -- ---- a primary
 
@@ -80,47 +77,30 @@ primary_took M s t l sd c left x i p valid keeps =
           (subst (λ s. notes.Keeps M s c.notes t left) (sym p.machine) keeps);
     }))
 
--- ---- an offer
-
 -- the notes that an input leaves
 abbrev pub notes_left : Option OpId → Covering → Covering
 notes_left None c = c
 notes_left (Some name) c = after_forget c name
 
--- what a check let pass is not refused
-pub offer_stands : {S : Type 0} (M : Machine S) (s : S) (l : Log) (sd : Sending) (c : Covering) (x : Node S)
-    (i : Input) (refusal : Option Fault) (fault : Fault) → IsPrimary M s l sd c x → Passes M i refusal x
-    → Err fault ≡ offer_answer (refusal_of M s i) l → ⊥
-offer_stands M s l sd c x i refusal fault p passes answer =
-    let guest : refusal_of M s i ≡ None = ap (λ s. refusal_of M s i) (sym p.machine) ∙ passes.guest in
-    let room = has_room M s l sd c x p passes.full passes.spent in
-    let index : Err fault ≡ Ok (next_of l) =
-    answer ∙ ap (λ r. offer_answer r l) guest ∙ ap (λ r. buffer.answered r (next_of l)) room in
-    cc
+by_completed : {S : Type 0} (M : Machine S) (s t : S) (l : Log) (sd : Sending) (c : Covering) (x : Node S) (i : Input)
+    (name : Option OpId) → ComesAndGoes M → IsPrimary M s l sd c x → IsEntry (entry_of (M.count s) i)
+    → M.take s i ≡ Some t → completed_by M s i ≡ name
+    → IsPrimary M t (pushed l (entry_of (M.count s) i)) sd (notes_left name c) (took M x x.role t i)
+by_completed M s t l sd c x i None laws p valid taken is =
+    primary_took M s t l sd c c.notes x i p valid (keeps_all M s t c.notes (laws.stays s t i taken is))
+by_completed M s t l sd c x i (Some name) laws p valid taken is =
+    let gone = laws.goes s t i name taken is in
+    primary_took M s t l sd c _ x i p valid (keeps_others M s t c.notes name gone.0 gone.1)
 
 -- the input is taken, with the operation that it completes
-pub offer_done : {S : Type 0} (M : Machine S) (s t : S) (l new : Log) (sd : Sending) (c : Covering) (x : Node S)
-    (i : Input) (refusal : Option Fault) (index : ℕ) → ComesAndGoes M → IsPrimary M s l sd c x → refusal ≡ None
-    → Offers M s l i (Ok index) t new → IsEntry (entry_of (M.count s) i)
-    → Takes M i refusal x (Ok tt) (IsPrimary M t new sd (notes_left (completed_by M s i) c))
-offer_done {S} M s t l new sd c x i refusal index laws p none offers valid =
-    allowed (Unit {0}) refusal (Ok tt) _ _ none
-    (record {
-      y = took M x x.role t i;
-      done = record { s = t; takes = ap (λ s. M.take s i) p.machine ∙ offers.0.taken; after = refl };
-      after =
-          subst
-          (λ new. IsPrimary M t new sd (notes_left (completed_by M s i) c) (took M x x.role t i))
-          (sym offers.1)
-          (by_completed M s t l sd c x i (completed_by M s i) laws p valid offers.0.taken refl);
-    })
-  where
-    by_completed : {S : Type 0} (M : Machine S) (s t : S) (l : Log) (sd : Sending) (c : Covering) (x : Node S)
-        (i : Input) (name : Option OpId) → ComesAndGoes M → IsPrimary M s l sd c x → IsEntry (entry_of (M.count s) i)
-        → M.take s i ≡ Some t → completed_by M s i ≡ name
-        → IsPrimary M t (pushed l (entry_of (M.count s) i)) sd (notes_left name c) (took M x x.role t i)
-    by_completed M s t l sd c x i None laws p valid taken is =
-        primary_took M s t l sd c c.notes x i p valid (keeps_all M s t c.notes (laws.stays s t i taken is))
-    by_completed M s t l sd c x i (Some name) laws p valid taken is =
-        let gone = laws.goes s t i name taken is in
-        primary_took M s t l sd c _ x i p valid (keeps_others M s t c.notes name gone.0 gone.1)
+pub accepts : {S : Type 0} (M : Machine S) (s t : S) (l new : Log) (sd : Sending) (c : Covering) (x : Node S) (i : Input)
+    (name : Option OpId) (index : ℕ) → ComesAndGoes M → IsPrimary M s l sd c x → Offers M s l i (Ok index) t new
+    → IsEntry (entry_of (M.count s) i) → name ≡ completed_by M s i
+    → Makes x (Took M i) (IsPrimary M t new sd (notes_left name c))
+accepts M s t l new sd c x i name index laws p offers valid is = record {
+  y = took M x x.role t i;
+  done = record { s = t; takes = ap (λ s. M.take s i) p.machine ∙ offers.0.taken; after = refl };
+  after =
+      subst (λ new. IsPrimary M t new sd (notes_left name c) (took M x x.role t i)) (sym offers.1)
+      (by_completed M s t l sd c x i name laws p valid offers.0.taken (sym is));
+}

@@ -1,23 +1,19 @@
 -- What a run leaves, besides the machine. Quiet steps change no operation, so whatever had a note is still outstanding
--- after them; the new name is outstanding too, and since few operations are, there is room for its note. The log begins
--- where it began and is no shorter.
-use Rattle.std.proofs.Common.{◌≡◌, ℕ, ◌≤◌, Option, Some, None, Ok, [], ◌∷◌, length-append, refl, sym, subst, ◌∙◌, arith}
+-- after them; the new name is outstanding too, and since few operations are, there is room for its note.
+use Rattle.std.proofs.Common.{◌≡◌, ℕ, Option, Some, None, Ok, refl, ◌∙◌}
 use Rattle.event_callbacks.specs.Operations.{id_of}
 use Rattle.event_callbacks.specs.declared.operations.OpId.{OpId}
 use Rattle.guest_board.specs.Machine.{Machine}
 use Rattle.i8080_words.specs.declared.refusal.Fault.{Fault}
-use Rattle.log_buffer.specs.Log.{Log, next_of}
-use Rattle.log_entry.specs.declared.entry.Entry.TheVariants.{Mark}
+use Rattle.log_buffer.specs.Log.{Log}
 use Rattle.output_rule.specs.Covering.{Covering, IsCovering}
 use Rattle.recorder.proofs.Advances.{records_steps}
 use Rattle.recorder.proofs.Recorded.{is_run}
 use Rattle.guest_board.specs.Recorded.{Counts}
 use Rattle.guest_board.specs.Running.{Quiet, Begin, More, RunsOn, AllTurns, Gives, IsRefused}
-use Rattle.recorder.specs.Recording.{AdvancesUnless, AdvancesSome, advance_refusal, logged}
-use Rattle.guest_board.specs.declared.running.StopReason.{StopReason}
-use Rattle.guest_board.specs.declared.running.StopReason.TheVariants as reason
+use Rattle.recorder.specs.Recording.{AdvancesUnless, AdvancesSome, advance_refusal}
 use Rattle.guest_board.specs.declared.running.Stopped.{Stopped}
-use Rattle.ft_node.specs.Noting.{noted, HasPlace}
+use Rattle.ft_node.specs.Noting.{HasPlace}
 use Rattle.guest_board.specs.Outstanding.{ComesAndGoes, AreFew, IsFrugal}
 use Rattle.ft_node.specs.Roles.{AreOfOutstanding}
 use Rattle.ft_node.proofs.PrimaryNotes.{AreOfOutstanding-noted, room_for_note}
@@ -28,30 +24,6 @@ pub made_some : {S : Type 0} (M : Machine S) (s t : S) (l new : Log) (turns : �
     → AdvancesUnless M s l turns r (Ok a) t new → (r ≡ None) × AdvancesSome M s l turns (Ok a) t new
 made_some M s t l new turns a None made = (refl, made)
 made_some M s t l new turns a (Some fault) made = let no = made.0 in absurd (cc)
-
--- ---- the log
-
--- the log begins where it began, and is no shorter
-grows : (l : Log) (count : ℕ) (why : StopReason)
-    → ((logged l count why).first ≡ l.first) × (next_of l ≤ next_of (logged l count why))
-grows l count reason.Turns = (refl, omega arith)
-grows l count (reason.Operation name) =
-    (refl, (let longer = length-append l.entries (Mark count ∷ []) in omega arith))
-grows l count (reason.Refused fault) = (refl, omega arith)
-
--- a note acknowledges nothing
-pub noted_acknowledged : (c : Covering) (why : StopReason) (mark : ℕ) → (noted c why mark).acknowledged ≡ c.acknowledged
-noted_acknowledged c reason.Turns mark = refl
-noted_acknowledged c (reason.Operation name) mark = refl
-noted_acknowledged c (reason.Refused fault) mark = refl
-
-pub log_grows : {S : Type 0} (M : Machine S) (s t : S) (l new : Log) (turns held : ℕ) (a : Stopped)
-    → AdvancesUnless M s l turns (advance_refusal M s l turns) (Ok a) t new → held ≤ next_of l
-    → (new.first ≡ l.first) × (held ≤ next_of new)
-log_grows M s t l new turns held a made within =
-    let some = made_some M s t l new turns a (advance_refusal M s l turns) made in
-    subst (λ (new : Log). (new.first ≡ l.first) × (held ≤ next_of new)) (sym some.1.0.log_is)
-    (let grown = grows l (M.count t) a.reason in let more = grown.1 in (grown.0, omega arith))
 
 -- ---- there is room for the note
 

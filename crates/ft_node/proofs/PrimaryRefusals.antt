@@ -1,26 +1,24 @@
 -- Why a primary refuses a call. It serves, so what is left of each list of refusals is the call's own part and the
 -- log's; and the log that it keeps is full, or has no index left, exactly if the protocol says so of the whole log.
 -- What is not refused does what its row says.
-use Rattle.std.proofs.Common.{◌≡◌, ℕ, zero, suc, ◌-◌, ◌≤◌, Bool, true, false, cond, not, ◌==◌, ◌&&◌, Option, Some, None, is_none, Result, Ok, Err, ◌⊎◌, inl, inr, ◌<◌, ◌||◌, List, [], ◌∷◌, length, drop, refl, sym, ap, subst, ◌∙◌, arith}
+use Rattle.std.proofs.Common.{◌≡◌, ℕ, zero, suc, ◌-◌, ◌≤◌, Bool, true, false, cond, not, ◌==◌, ◌&&◌, Option, Some, None, is_none, Result, ◌⊎◌, inl, inr, ◌<◌, ◌||◌, List, [], ◌∷◌, length, drop, refl, sym, ap, subst, ◌∙◌, arith}
 use Rattle.std.specs.Prelude.{nat_le}
 use Rattle.std.proofs.lemmas.Bool.{le-leb, lt-leb, eq-eqb, ne_eqb, cases_lt}
 use Rattle.std.proofs.lemmas.List.{length-drop}
-use Rattle.disk_dcdd.specs.Address.{same_address}
-use Rattle.disk_dcdd.specs.declared.address.SectorAddress.{SectorAddress}
 use Rattle.i8080_words.specs.declared.limits.TheConstants.{GREATEST_NUMBER}
 use Rattle.guest_board.specs.Lockstep as lockstep
-use Rattle.guest_board.specs.Machine.{Machine, refusal_of}
-use Rattle.guest_board.specs.declared.input.Input.TheVariants as input
+use Rattle.guest_board.specs.Machine.{Machine}
 use Rattle.i8080_words.specs.declared.refusal.Fault.{Fault}
-use Rattle.i8080_words.specs.declared.refusal.Fault.TheVariants.{WrongRole, NotDue, WrongNumber, LogFull, Spent, Idle}
+use Rattle.i8080_words.specs.declared.refusal.Fault.TheVariants.{WrongRole, LogFull, Spent, Idle}
 use Rattle.log_buffer.specs.Log as buffer
 use Rattle.log_buffer.specs.Log.{Log, log, IsWithinLimits, next_of, answered, room_answer}
 use Rattle.log_buffer.specs.declared.buffer.TheConstants.{CAPACITY}
 use Rattle.pair_protocol.specs.Lawful.{top}
 use Rattle.pair_protocol.specs.Node.{Node, Primary, Alone, is_role}
-use Rattle.pair_protocol.specs.Refusals.{fault_if, first_of, role_refusal, serves, log_size, log_full, log_spent, step_refusal, take_key_refusal, keys_spent, is_number, tell_sent_refusal, put_reply_refusal, get_reply_refusal}
+use Rattle.pair_protocol.specs.Refusals.{fault_if, first_of, role_refusal, serves, log_size, log_full, log_spent, step_refusal}
 use Rattle.recorder.specs.Recording.{advance_refusal, refusal_behind}
 use Rattle.ft_node.specs.Calls.{Unless}
+use Rattle.ft_node.specs.Due.{refused_by}
 
 -- ---- lists of refusals
 
@@ -119,6 +117,15 @@ by_log x l rest k =
     ∙ ap (λ r. first_of (fault_if (length l.entries == CAPACITY) LogFull ∷ r ∷ rest)) (spent_alike x l k)
     ∙ by_tests (length l.entries == CAPACITY) (next_of l == GREATEST_NUMBER) rest
 
+-- what the log answers to one more entry
+pub log_answers : {S : Type 0} (x : Node S) (l : Log) → Keeps x l
+    → first_of (log_full x ∷ log_spent x ∷ []) ≡ refused_by (room_answer l)
+log_answers x l k = by_log x l [] k ∙ returned (buffer.refusal_of l)
+  where
+    returned : (r : Option Fault) → or_else r None ≡ refused_by (answered r tt)
+    returned None = refl
+    returned (Some fault) = refl
+
 -- a call's list, without the role
 served : {S : Type 0} (x : Node S) (l : Log) (rest : List (Option Fault)) → Keeps x l
     → first_of (serves x ∷ rest) ≡ first_of rest
@@ -144,71 +151,3 @@ steps_refused M x l (suc turns) k =
     served x l _ k ∙ by_log x l _ k
     ∙ ap (or_else (buffer.refusal_of l)) (by_machine (M.is_spent x.machine) (is_none (M.step x.machine)))
     ∙ by_room (buffer.refusal_of l) (lockstep.step_refusal M x.machine)
-
--- ---- inputs
-
-pub or_none : (r : Option Fault) → or_else r None ≡ r
-or_none None = refl
-or_none (Some fault) = refl
-
-by_input : {S : Type 0} (x : Node S) (l : Log) (r : Option Fault) → Keeps x l
-    → first_of (r ∷ log_full x ∷ log_spent x ∷ []) ≡ or_else r (buffer.refusal_of l)
-by_input x l None k = by_log x l [] k ∙ or_none (buffer.refusal_of l)
-by_input x l (Some fault) k = refl
-
-pub next_key : {S : Type 0} (M : Machine S) (port index : ℕ) (x : Node S) (l : Log) → Keeps x l
-    → (index == M.keys x.machine port) ≡ true
-    → take_key_refusal M port index x ≡ or_else (buffer.refusal_of l) (first_of (keys_spent M port x ∷ []))
-next_key M port index x l k next =
-    served x l _ k
-    ∙ ap (λ b. first_of (fault_if (not b) WrongNumber ∷ log_full x ∷ log_spent x ∷ keys_spent M port x ∷ [])) next
-    ∙ by_log x l _ k
-
-pub keys_are_spent : {S : Type 0} (M : Machine S) (port : ℕ) (x : Node S) → GREATEST_NUMBER ≤ M.keys x.machine port
-    → first_of (keys_spent M port x ∷ []) ≡ Some Spent
-keys_are_spent M port x most =
-    ap (λ n. first_of (fault_if (nat_le n (M.keys x.machine port)) Spent ∷ [])) top_is
-    ∙ ap (λ b. first_of (fault_if b Spent ∷ [])) (le-leb GREATEST_NUMBER (M.keys x.machine port) most)
-
-pub keys_are_left : {S : Type 0} (M : Machine S) (port : ℕ) (x : Node S) → M.keys x.machine port < GREATEST_NUMBER
-    → first_of (keys_spent M port x ∷ []) ≡ None
-keys_are_left M port x left =
-    ap (λ n. first_of (fault_if (nat_le n (M.keys x.machine port)) Spent ∷ [])) top_is
-    ∙ ap (λ b. first_of (fault_if b Spent ∷ [])) (lt-leb GREATEST_NUMBER (M.keys x.machine port) left)
-
-pub byte_due : {S : Type 0} (M : Machine S) (port number due : ℕ) (x : Node S) (l : Log) → Keeps x l
-    → M.due_byte x.machine port ≡ Some due → (due == number) ≡ true
-    → tell_sent_refusal M port number x ≡ or_else (refusal_of M x.machine (input.Sent port)) (buffer.refusal_of l)
-byte_due M port number due x l k is right =
-    served x l _ k
-    ∙ ap (λ d. first_of (cond (is_none d) (Some NotDue) None ∷ fault_if (not (is_number d number)) WrongNumber
-    ∷ log_full x ∷ log_spent x ∷ [])) is
-    ∙ ap (λ b. first_of (None ∷ fault_if (not b) WrongNumber ∷ log_full x ∷ log_spent x ∷ [])) right
-    ∙ by_input x l None k
-    ∙ ap (λ d. or_else (cond (is_none d) (Some NotDue) None) (buffer.refusal_of l)) (sym is)
-
-pub write_done : {S : Type 0} (M : Machine S) (number : ℕ) (x : Node S) (l : Log) → Keeps x l
-    → put_reply_refusal M number x ≡ or_else (refusal_of M x.machine (input.Written number)) (buffer.refusal_of l)
-write_done M number x l k = served x l _ k ∙ by_input x l (refusal_of M x.machine (input.Written number)) k
-
-pub under_head : {S : Type 0} (M : Machine S) (address : SectorAddress) (number : ℕ) (bytes : List ℕ) (x : Node S)
-    (l : Log) → Keeps x l → same_address (M.address x.machine address.drive address.sector) address ≡ true
-    → get_reply_refusal M address number bytes x
-    ≡ or_else (refusal_of M x.machine (input.Sector address.drive address.sector number bytes)) (buffer.refusal_of l)
-under_head M address number bytes x l k here =
-    served x l _ k
-    ∙ ap (λ b. first_of (fault_if (not b) NotDue
-    ∷ refusal_of M x.machine (input.Sector address.drive address.sector number bytes) ∷ log_full x ∷ log_spent x
-    ∷ [])) here
-    ∙ by_input x l (refusal_of M x.machine (input.Sector address.drive address.sector number bytes)) k
-
--- ---- what the log answers
-
-pub room_refused : (r rest : Option Fault) (fault : Fault) → Err fault ≡ answered {A = Unit {0}} r tt
-    → or_else r rest ≡ Some fault
-room_refused None rest fault answer = absurd (cc)
-room_refused (Some first) rest fault answer = cc
-
-pub room_there : (r rest : Option Fault) (done : Unit {0}) → Ok done ≡ answered r tt → or_else r rest ≡ rest
-room_there None rest done answer = refl
-room_there (Some fault) rest done answer = absurd (cc)

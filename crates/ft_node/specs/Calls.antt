@@ -17,7 +17,7 @@ use Rattle.arbiter_core.specs.Winners.{winner_of, after_asking}
 use Rattle.arbiter_core.specs.declared.arbiter.Asking.{Asking}
 use Rattle.arbiter_core.specs.declared.arbiter.Won.{Won}
 use Rattle.pair_protocol.specs.Effects.{Stepped, Took, Held, Heard, Replayed, Drained, Halted, HasEntry, HasOutstanding, HasCovered, IsUnder, NeedsMoves, NeedsEntry}
-use Rattle.pair_protocol.specs.Node.{Node, Role, Primary, Backup, halts, wins}
+use Rattle.pair_protocol.specs.Node.{Node, Role, Primary, Backup, halts, holds, wins}
 use Rattle.pair_protocol.specs.Refusals as refusals
 use Rattle.ft_node.specs.declared.ran.Ran.{Ran}
 use Rattle.ft_node.specs.declared.ran.Drained as ran
@@ -119,6 +119,10 @@ Expects (Some (Log generation index e)) x result =
     result
 Expects _ x result =
     Unless (refusals.first_of (refusals.role_refusal (Backup ∷ []) x ∷ Some Malformed ∷ [])) result (Unit {0}) ⊥
+
+-- the next entry is held, or there is no memory, which is needed only if another entry is held and not replayed
+abbrev pub Holds : {S : Type 0} → Entry → Node S → Result (Unit {0}) Fault → (Node S → Type 0) → Type 0
+Holds e x result Is = Call None (λ x. x.replayed < length x.held) (λ done x y. y ≡ holds x e) x result Is
 
 -- the packet that acknowledges all that is held; it reports nothing as replayed
 abbrev pub Acknowledges : {S : Type 0} → Node S → Result (Vec ℕ) Fault → Type 0

@@ -1,4 +1,5 @@
 pub mod Roles
 pub mod Seats
+pub mod Due
 pub mod Calls
 pub mod Noting

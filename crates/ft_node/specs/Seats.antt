@@ -1,9 +1,15 @@
--- Which node of the protocol a node is, in whatever role, and what its calls require of its guest.
-use Rattle.std.specs.Prelude.{◌≡◌, true, false}
+-- Which node of the protocol a node is, in whatever role, and what its calls require.
+use Rattle.std.specs.Prelude.{◌≡◌, true, false, Option, Some, None, Result, Ok}
 use Rattle.guest_board.specs.Machine.{Machine}
-use Rattle.pair_protocol.specs.Node.{Node, Primary, Backup, Draining, Alone}
-use Rattle.log_entry.specs.Standing.{IsOnTrace}
 use Rattle.guest_board.specs.Outstanding.{IsFrugal}
+use Rattle.guest_board.specs.declared.input.Input.{Input}
+use Rattle.i8080_words.specs.declared.refusal.Fault.{Fault}
+use Rattle.log_buffer.specs.Log.{room_answer}
+use Rattle.log_channel.specs.Channel as channel
+use Rattle.log_entry.specs.Standing.{IsOnTrace}
+use Rattle.log_entry.specs.declared.entry.Entry.{Entry}
+use Rattle.pair_protocol.specs.Node.{Node, Primary, Backup, Draining, Alone}
+use Rattle.recorder.specs.Recording.{IsDue}
 use Rattle.ft_node.specs.Roles.{AreOfOutstanding, IsPrimary, IsFollower, IsAlone, IsHalted}
 use Rattle.ft_node.specs.declared.node.Node as code
 use Rattle.ft_node.specs.declared.node.Node.TheVariants as seat
@@ -18,7 +24,40 @@ IsNode state M (seat.Draining d) x = IsFollower Draining (state d.replayer.board
 IsNode state M (seat.Alone a) x = IsAlone (state a.board) a.generation x
 IsNode state M (seat.Halted h) x = IsHalted M h.generation h.count x
 
--- ---- what the calls of a node require of its guest
+-- ---- a node that takes input
+
+-- its guest
+abbrev pub board_of : {B : Type 0} → code.Node B → Option B
+board_of (seat.Primary p) = Some p.recorder.board
+board_of (seat.Backup b) = None
+board_of (seat.Draining d) = None
+board_of (seat.Alone a) = Some a.board
+board_of (seat.Halted h) = None
+
+-- what its log answers to one more entry; only a primary has a log
+abbrev pub room_of : {B : Type 0} → code.Node B → Result (Unit {0}) Fault
+room_of (seat.Primary p) = room_answer p.recorder.log
+room_of (seat.Backup b) = Ok tt
+room_of (seat.Draining d) = Ok tt
+room_of (seat.Alone a) = Ok tt
+room_of (seat.Halted h) = Ok tt
+
+-- ---- what the calls of a node require
+
+-- nothing refuses an input: the guest awaits it, and a log has room for its entry
+pub record MayAccept {B S : Type 0} (state : B → S) (M : Machine S) (node : code.Node B) (i : Input) : Type 0 where
+  pub board : B
+  pub takes : board_of node ≡ Some board
+  pub due : IsDue M (state board) i
+  pub room : room_of node ≡ Ok tt
+
+-- an entry is the next one of a backup's log, and an index is left for it
+abbrev pub MayHold : {B : Type 0} → code.Node B → Entry → Type 0
+MayHold (seat.Primary p) e = ⊥
+MayHold (seat.Backup b) e = channel.MayHold b.receiver e
+MayHold (seat.Draining d) e = ⊥
+MayHold (seat.Alone a) e = ⊥
+MayHold (seat.Halted h) e = ⊥
 
 -- a primary's coverage has room for the note of each operation, wherever the guest goes: few operations are
 -- outstanding, and no others have notes

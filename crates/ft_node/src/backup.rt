@@ -1,5 +1,6 @@
 //! The backup of a generation.
-ghost use Rattle.std.specs.Prelude.{◌≡◌, OnErr};
+ghost use Rattle.std.specs.Prelude.{◌≡◌, IfOk, IfSome, OnErr};
+ghost use Rattle.log_channel.specs.Channel.{MayHold};
 ghost use Rattle.log_channel.specs.Packet.{packet_at};
 ghost use Rattle.pair_protocol.specs.Node as protocol;
 ghost use Rattle.log_entry.specs.Standing.{IsOnTrace};
@@ -7,8 +8,8 @@ ghost use Rattle.ft_node.specs.Calls as calls;
 ghost use Rattle.ft_node.specs.Roles.{IsFollower};
 
 use guest_board::Lockstep;
-use i8080_words::{Fault, R};
-use log_channel::{Packet, Receiver};
+use i8080_words::R;
+use log_channel::Receiver;
 use log_entry::Entry;
 use replayer::{Replayed, Replayer};
 use std::alloc::Global;
@@ -21,35 +22,26 @@ pub struct Backup<B> {
 }
 
 impl<B: Lockstep> Backup<B> {
-    /// Takes a packet of the log: true if its entry is the next one, and is now held.
-    pub(crate) fn on_log(&mut self, bytes: &[u8]) -> R<bool>
+    /// The entry that a packet of the log brings; `None` if it is a repeat or past a gap.
+    pub(crate) fn next_entry(&self, bytes: &[u8]) -> R<Option<Entry>>
+        ensures answer { (x : protocol.Node B.State)
+            → IsFollower protocol.Backup (B.state self.now.replayer.board) self.now.receiver x
+            → calls.Expects (packet_at bytes.now) x result }
+        ensures may { IfOk result (λ next. IfSome next (MayHold self.now.receiver)) }
+    {
+        self.receiver.next_entry(bytes)
+    }
+
+    /// Holds the next entry.
+    pub(crate) fn hold(&mut self, entry: Entry) -> R<()>
+        requires { MayHold self.old.receiver entry }
         ensures answer { (x : protocol.Node B.State)
             → IsFollower protocol.Backup (B.state self.old.replayer.board) self.old.receiver x
-            → calls.DeliversLog calls.NeedsRoom (packet_at bytes.now) x result
+            → calls.Holds entry x result
             (IsFollower protocol.Backup (B.state self.new.replayer.board) self.new.receiver) }
         ensures unchanged { OnErr result (self.new ≡ self.old) }
     {
-        self.receiver.on_log(bytes)
-    }
-
-    /// The entry that `on_log` would hold; `None` if the packet is a repeat or past a gap.
-    pub(crate) fn next_entry(&self, bytes: &[u8]) -> R<Option<Entry>>
-        ensures { (x : protocol.Node B.State)
-            → IsFollower protocol.Backup (B.state self.now.replayer.board) self.now.receiver x
-            → calls.Expects (packet_at bytes.now) x result }
-    {
-        let Packet::Log {
-            generation,
-            index,
-            entry,
-        } = Packet::read(bytes)?
-        else {
-            return Err(Fault::Malformed);
-        };
-        if generation != self.receiver.generation() {
-            return Err(Fault::WrongGeneration);
-        }
-        Ok((index == self.receiver.held()).then_some(entry))
+        self.receiver.hold(entry)
     }
 
     /// The packet that acknowledges all that is held.

@@ -3,6 +3,7 @@
 
 mod alone;
 mod backup;
+mod due;
 mod halted;
 mod node;
 mod primary;

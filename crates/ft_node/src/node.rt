@@ -1,7 +1,7 @@
 //! A node, in whatever role.
-ghost use Rattle.std.specs.Prelude.{◌≡◌, ◌≢◌, ◌<◌, [], true, IfErr, OnErr};
-ghost use Rattle.i8080_words.specs.declared.refusal.Fault.TheVariants.{Lost};
-ghost use Rattle.pair_protocol.specs.Effects.{at_end};
+ghost use Rattle.std.specs.Prelude.{◌≡◌, ◌≢◌, ◌<◌, ℕ, Some, None, [], ◌∷◌, true, IfErr, IfOk, IfSome, OnErr, OnOk};
+ghost use Rattle.i8080_words.specs.declared.refusal.Fault.TheVariants.{Lost, WrongRole};
+ghost use Rattle.pair_protocol.specs.Effects.{Took, at_end};
 ghost use Rattle.pair_protocol.specs.Node.{goes_live, halts, wins};
 ghost use Rattle.disk_dcdd.specs.declared.controller.TheConstants.{DRIVES};
 ghost use Rattle.disk_dcdd.specs.declared.sector.TheConstants.{SECTORS};
@@ -13,11 +13,13 @@ ghost use Rattle.log_channel.specs.Packet.{packet_at};
 ghost use Rattle.pair_protocol.specs.Node as protocol;
 ghost use Rattle.pair_protocol.specs.Refusals as refusals;
 ghost use Rattle.ft_node.specs.Calls as calls;
+ghost use Rattle.ft_node.specs.Due.{refused_by};
 ghost use Rattle.ft_node.specs.Roles.{IsFollower, IsHalted};
-ghost use Rattle.ft_node.specs.Seats.{IsNode, MayRun, MayReplay, IsRole};
+ghost use Rattle.ft_node.specs.Seats.{IsNode, IsRole, MayAccept, MayHold, MayReplay, MayRun, board_of, room_of};
 
 use crate::alone::Alone;
 use crate::backup::Backup;
+use crate::due;
 use crate::halted::Halted;
 use crate::primary::Primary;
 use crate::ran::{Drained, Ran};
@@ -25,7 +27,7 @@ use arbiter_core::{Arbiter, Won};
 use disk_dcdd::{SECTOR_BYTES, SectorAddress};
 use event_callbacks::{OpId, Operation, PORTS};
 use go_live::Draining;
-use guest_board::Lockstep;
+use guest_board::{Input, Lockstep};
 use i8080_words::{Fault, R};
 use log_buffer::LogBuffer;
 use log_channel::{Receiver, Sender};
@@ -93,39 +95,30 @@ impl<B: Lockstep + Drop> Node<B> {
     /// Whether `key` would take the key with an index: returns its refusal, and changes nothing.
     pub fn check_key(&self, port: u8, index: u64) -> R<()>
         requires { port < PORTS }
-        ensures { (x : protocol.Node B.State) → IsNode B.state B.machine self.now x
+        ensures answer { (x : protocol.Node B.State) → IsNode B.state B.machine self.now x
             → result ≡ answered (refusals.take_key_refusal B.machine port index x) }
+        ensures may { OnOk result ((byte : ℕ) → MayAccept B.state B.machine self.now (input.Rx port byte)) }
     {
-        match self {
-            Node::Primary(primary) => primary.check_key(port, index),
-            Node::Alone(alone) => alone.check_key(port, index),
-            _ => Err(Fault::WrongRole),
-        }
+        due::check_key(self.board()?, self.room(), port, index)
     }
 
     /// Whether `sent` would take the acceptance of a byte: returns its refusal, and changes nothing.
     pub fn check_sent(&self, port: u8, number: u64) -> R<()>
         requires { port < PORTS }
-        ensures { (x : protocol.Node B.State) → IsNode B.state B.machine self.now x
+        ensures answer { (x : protocol.Node B.State) → IsNode B.state B.machine self.now x
             → result ≡ answered (refusals.tell_sent_refusal B.machine port number x) }
+        ensures may { OnOk result (MayAccept B.state B.machine self.now (input.Sent port)) }
     {
-        match self {
-            Node::Primary(primary) => primary.check_sent(port, number),
-            Node::Alone(alone) => alone.check_sent(port, number),
-            _ => Err(Fault::WrongRole),
-        }
+        due::check_sent(self.board()?, self.room(), port, number)
     }
 
     /// Whether `done` would take the completion of a write: returns its refusal, and changes nothing.
     pub fn check_done(&self, number: u64) -> R<()>
-        ensures { (x : protocol.Node B.State) → IsNode B.state B.machine self.now x
+        ensures answer { (x : protocol.Node B.State) → IsNode B.state B.machine self.now x
             → result ≡ answered (refusals.put_reply_refusal B.machine number x) }
+        ensures may { OnOk result (MayAccept B.state B.machine self.now (input.Written number)) }
     {
-        match self {
-            Node::Primary(primary) => primary.check_done(number),
-            Node::Alone(alone) => alone.check_done(number),
-            _ => Err(Fault::WrongRole),
-        }
+        due::check_done(self.board()?, self.room(), number)
     }
 
     /// Whether `under` would take a sector: returns its refusal, and changes nothing.
@@ -137,25 +130,24 @@ impl<B: Lockstep + Drop> Node<B> {
     ) -> R<()>
         requires drive { address.drive < DRIVES }
         requires sector { address.sector < SECTORS }
-        ensures { (x : protocol.Node B.State) → IsNode B.state B.machine self.now x
+        ensures answer { (x : protocol.Node B.State) → IsNode B.state B.machine self.now x
             → result ≡ answered (refusals.get_reply_refusal B.machine address number bytes x) }
+        ensures may { OnOk result (MayAccept B.state B.machine self.now
+            (input.Sector address.drive address.sector number bytes)) }
     {
-        match self {
-            Node::Primary(primary) => primary.check_under(address, number, bytes),
-            Node::Alone(alone) => alone.check_under(address, number, bytes),
-            _ => Err(Fault::WrongRole),
-        }
+        due::check_under(self.board()?, self.room(), address, number, bytes)
     }
 
-    /// The entry that `on_log` would hold; `None` if the packet is a repeat or past a gap. Refused as `on_log` is,
-    /// except for out of memory.
-    pub fn next_entry(&self, bytes: &[u8]) -> R<Option<Entry>>
-        ensures { (x : protocol.Node B.State) → IsNode B.state B.machine self.now x
-            → calls.Expects (packet_at bytes.now) x result }
+    /// Takes an input that nothing refuses. Allocates no memory.
+    pub fn accept(&mut self, input: Input)
+        requires { MayAccept B.state B.machine self.old input }
+        ensures { (x : protocol.Node B.State) → IsNode B.state B.machine self.old x
+            → calls.Makes x (Took B.machine input) (IsNode B.state B.machine self.new) }
     {
         match self {
-            Node::Backup(backup) => backup.next_entry(bytes),
-            _ => Err(Fault::WrongRole),
+            Node::Primary(primary) => primary.accept(input),
+            Node::Alone(alone) => alone.accept(input),
+            _ => unreachable!(),
         }
     }
 
@@ -168,11 +160,9 @@ impl<B: Lockstep + Drop> Node<B> {
             result (IsNode B.state B.machine self.new) }
         ensures unchanged { OnErr result (self.new ≡ self.old) }
     {
-        match self {
-            Node::Primary(primary) => primary.key(port, index, byte),
-            Node::Alone(alone) => alone.key(port, index, byte),
-            _ => Err(Fault::WrongRole),
-        }
+        self.check_key(port, index)?;
+        self.accept(Input::Rx(port, byte));
+        Ok(())
     }
 
     /// Takes the acceptance of the byte with a number. `NotDue` if no byte of the port waits, `WrongNumber` if another
@@ -184,11 +174,9 @@ impl<B: Lockstep + Drop> Node<B> {
             (IsNode B.state B.machine self.new) }
         ensures unchanged { OnErr result (self.new ≡ self.old) }
     {
-        match self {
-            Node::Primary(primary) => primary.sent(port, number),
-            Node::Alone(alone) => alone.sent(port, number),
-            _ => Err(Fault::WrongRole),
-        }
+        self.check_sent(port, number)?;
+        self.accept(Input::Sent(port));
+        Ok(())
     }
 
     /// Takes the completion of a write. `NotDue` if the write is not outstanding.
@@ -198,11 +186,9 @@ impl<B: Lockstep + Drop> Node<B> {
             (IsNode B.state B.machine self.new) }
         ensures unchanged { OnErr result (self.new ≡ self.old) }
     {
-        match self {
-            Node::Primary(primary) => primary.done(number),
-            Node::Alone(alone) => alone.done(number),
-            _ => Err(Fault::WrongRole),
-        }
+        self.check_done(number)?;
+        self.accept(Input::Written(number));
+        Ok(())
     }
 
     /// The sector with a number at the selected drive, at its head's track. `NotDue` if no drive is selected.
@@ -211,12 +197,9 @@ impl<B: Lockstep + Drop> Node<B> {
         ensures { (x : protocol.Node B.State) → IsNode B.state B.machine self.now x
             → calls.Gets B.machine sector x result }
     {
-        let selected = match self {
-            Node::Primary(primary) => primary.sector(sector),
-            Node::Alone(alone) => alone.sector(sector),
-            _ => return Err(Fault::WrongRole),
-        };
-        selected.ok_or(Fault::NotDue)
+        let board = self.board()?;
+        let drive = board.selected().ok_or(Fault::NotDue)?;
+        Ok(board.sector_under(drive, sector))
     }
 
     /// Takes a sector that was read, with the number of the write that brought its bytes. `NotDue` if the head is
@@ -229,11 +212,14 @@ impl<B: Lockstep + Drop> Node<B> {
             (refusals.get_reply_refusal B.machine address number bytes x) x result (IsNode B.state B.machine self.new) }
         ensures unchanged { OnErr result (self.new ≡ self.old) }
     {
-        match self {
-            Node::Primary(primary) => primary.under(address, number, bytes),
-            Node::Alone(alone) => alone.under(address, number, bytes),
-            _ => Err(Fault::WrongRole),
-        }
+        self.check_under(address, number, bytes)?;
+        self.accept(Input::Sector {
+            drive: address.drive,
+            sector: address.sector,
+            number,
+            bytes,
+        });
+        Ok(())
     }
 
     /// The packet of a primary's log entry at an index. `Unknown` if the entry is acknowledged or not there yet, and at
@@ -247,17 +233,44 @@ impl<B: Lockstep + Drop> Node<B> {
         }
     }
 
-    /// Takes a packet of the log: true if its entry is the next one, and is now held; a repeat, or one past a gap, is
-    /// false and changes nothing. `Malformed` and `WrongGeneration` as the packet is.
+    /// The entry that a packet of the log brings; `None` if the packet is a repeat or past a gap. `Malformed` and
+    /// `WrongGeneration` as the packet is.
+    pub fn next_entry(&self, bytes: &[u8]) -> R<Option<Entry>>
+        ensures answer { (x : protocol.Node B.State) → IsNode B.state B.machine self.now x
+            → calls.Expects (packet_at bytes.now) x result }
+        ensures may { IfOk result (λ next. IfSome next (MayHold self.now)) }
+    {
+        match self {
+            Node::Backup(backup) => backup.next_entry(bytes),
+            _ => Err(Fault::WrongRole),
+        }
+    }
+
+    /// Holds the next entry of the log. If all that is held was replayed, no memory is needed.
+    pub fn hold(&mut self, entry: Entry) -> R<()>
+        requires { MayHold self.old entry }
+        ensures answer { (x : protocol.Node B.State) → IsNode B.state B.machine self.old x
+            → calls.Holds entry x result (IsNode B.state B.machine self.new) }
+        ensures unchanged { OnErr result (self.new ≡ self.old) }
+    {
+        match self {
+            Node::Backup(backup) => backup.hold(entry),
+            _ => unreachable!(),
+        }
+    }
+
+    /// Takes a packet of the log: holds the entry that `next_entry` finds, and returns true; a repeat, or a packet past a
+    /// gap, is false and changes nothing.
     pub fn on_log(&mut self, bytes: &[u8]) -> R<bool>
         ensures answer { (x : protocol.Node B.State) → IsNode B.state B.machine self.old x
             → calls.DeliversLog calls.NeedsRoom (packet_at bytes.now) x result (IsNode B.state B.machine self.new) }
         ensures unchanged { OnErr result (self.new ≡ self.old) }
     {
-        match self {
-            Node::Backup(backup) => backup.on_log(bytes),
-            _ => Err(Fault::WrongRole),
-        }
+        let Some(entry) = self.next_entry(bytes)? else {
+            return Ok(false);
+        };
+        self.hold(entry)?;
+        Ok(true)
     }
 
     /// The packet by which a backup acknowledges all that it holds.
@@ -422,6 +435,33 @@ impl<B: Lockstep + Drop> Node<B> {
             Node::Draining(draining) => draining.receiver().generation(),
             Node::Alone(alone) => alone.generation,
             Node::Halted(halted) => halted.generation,
+        }
+    }
+
+    // The guest of a node that takes input; `WrongRole` if the node takes none.
+    fn board(&self) -> R<&B>
+        ensures takes { IfOk result (λ board. board_of self.now ≡ Some board.now) }
+        ensures none { IfErr result (λ fault. (fault ≡ WrongRole) × (board_of self.now ≡ None)) }
+    {
+        match self {
+            Node::Primary(primary) => Ok(primary.recorder.board()),
+            Node::Alone(alone) => Ok(&alone.board),
+            _ => Err(Fault::WrongRole),
+        }
+    }
+
+    // What a primary's log answers to one more entry; no other node has a log.
+    fn room(&self) -> R<()>
+        ensures value { result ≡ room_of self.now }
+        ensures log { (x : protocol.Node B.State) → IsNode B.state B.machine self.now x → refusals.serves x ≡ None
+            → refusals.first_of (refusals.log_full x ∷ refusals.log_spent x ∷ []) ≡ refused_by result }
+    {
+        match self {
+            Node::Primary(primary) => {
+                primary.recorder.log().stands();
+                primary.recorder.log().room()
+            }
+            _ => Ok(()),
         }
     }
 

@@ -1,26 +1,21 @@
 //! The primary of a generation.
-ghost use Rattle.std.specs.Prelude.{◌≡◌, ◌<◌, ◌≤◌, Ok, OnErr, OnOk, ok_or};
-ghost use Rattle.i8080_words.specs.declared.refusal.Fault.TheVariants.{NotDue};
-ghost use Rattle.disk_dcdd.specs.declared.controller.TheConstants.{DRIVES};
-ghost use Rattle.i8080_words.specs.declared.limits.TheConstants.{GREATEST_NUMBER};
-ghost use Rattle.disk_dcdd.specs.declared.sector.TheConstants.{SECTORS};
+ghost use Rattle.std.specs.Prelude.{◌≡◌, ◌<◌, ◌≤◌, Ok, OnErr};
 ghost use Rattle.event_callbacks.specs.declared.devices.TheConstants.{PORTS};
-ghost use Rattle.guest_board.specs.declared.input.Input.TheVariants as input;
+ghost use Rattle.guest_board.specs.Lockstep.{IsInput};
+ghost use Rattle.guest_board.specs.Outstanding as outstanding;
 ghost use Rattle.log_buffer.specs.Log.{next_of};
-ghost use Rattle.disk_dcdd.specs.Completion.{answered};
 ghost use Rattle.log_channel.specs.Packet.{packet_at};
+ghost use Rattle.pair_protocol.specs.Effects.{Took};
 ghost use Rattle.pair_protocol.specs.Node.{Node};
-ghost use Rattle.pair_protocol.specs.Refusals as refusals;
+ghost use Rattle.recorder.specs.Recording.{MayTake};
 ghost use Rattle.ft_node.specs.Calls as calls;
 ghost use Rattle.ft_node.specs.Noting as noting;
-ghost use Rattle.guest_board.specs.Outstanding.{IsFrugal};
 ghost use Rattle.ft_node.specs.Roles.{AreOfOutstanding, IsPrimary};
 
 use crate::ran::Ran;
-use disk_dcdd::{SECTOR_BYTES, SectorAddress};
 use event_callbacks::{OpId, Operation};
 use guest_board::{Input, Lockstep, StopReason, Stopped};
-use i8080_words::{Fault, GREATEST_NUMBER, R};
+use i8080_words::{Fault, R};
 use log_buffer::LogBuffer;
 use log_channel::Sender;
 use output_rule::Coverage;
@@ -44,7 +39,7 @@ impl<B: Lockstep> Primary<B> {
     /// Makes at most `turns` steps, and stops after the first that gives an operation, which waits for its mark to be
     /// acknowledged.
     pub(crate) fn step(&mut self, turns: u64) -> R<Ran>
-        requires few { IsFrugal B.machine (B.state self.old.recorder.board) }
+        requires few { outstanding.IsFrugal B.machine (B.state self.old.recorder.board) }
         requires notes { AreOfOutstanding B.machine (B.state self.old.recorder.board) self.old.coverage }
         ensures answer { (x : Node B.State)
             → IsPrimary B.machine (B.state self.old.recorder.board) self.old.recorder.log self.old.sender
@@ -66,161 +61,21 @@ impl<B: Lockstep> Primary<B> {
         })
     }
 
-    /// Whether `key` would take the key with an index: returns its refusal, and changes nothing.
-    pub(crate) fn check_key(&self, port: u8, index: u64) -> R<()>
-        requires { port < PORTS }
-        ensures answer { (x : Node B.State)
-            → IsPrimary B.machine (B.state self.now.recorder.board) self.now.recorder.log self.now.sender
-            self.now.coverage x
-            → result ≡ answered (refusals.take_key_refusal B.machine port index x) }
-        ensures room { OnOk result (B.machine.keys (B.state self.now.recorder.board) port < GREATEST_NUMBER) }
-    {
-        self.recorder.log().stands();
-        if index != self.recorder.board().keys(port) {
-            return Err(Fault::WrongNumber);
-        }
-        self.recorder.log().room()?;
-        if index >= GREATEST_NUMBER {
-            return Err(Fault::Spent);
-        }
-        Ok(())
-    }
-
-    /// Whether `sent` would take the acceptance of a byte: returns its refusal, and changes nothing.
-    pub(crate) fn check_sent(&self, port: u8, number: u64) -> R<()>
-        requires { port < PORTS }
+    /// Takes an input that nothing refuses: logs it, and forgets the operation that it completes.
+    pub(crate) fn accept(&mut self, input: Input)
+        requires { MayTake B.machine (B.state self.old.recorder.board) self.old.recorder.log input }
         ensures { (x : Node B.State)
-            → IsPrimary B.machine (B.state self.now.recorder.board) self.now.recorder.log self.now.sender
-            self.now.coverage x
-            → result ≡ answered (refusals.tell_sent_refusal B.machine port number x) }
+            → IsPrimary B.machine (B.state self.old.recorder.board) self.old.recorder.log self.old.sender
+            self.old.coverage x
+            → calls.Makes x (Took B.machine input)
+            (IsPrimary B.machine (B.state self.new.recorder.board) self.new.recorder.log self.new.sender
+            self.new.coverage) }
     {
-        self.recorder.log().stands();
-        let due = self.recorder.board().due_byte(port).ok_or(Fault::NotDue)?;
-        if due != number {
-            return Err(Fault::WrongNumber);
+        let completed = completed_by(self.recorder.board(), &input);
+        self.recorder.accept(input);
+        if let Some(id) = completed {
+            self.coverage.forget(id);
         }
-        self.recorder.log().room()
-    }
-
-    /// Whether `done` would take the completion of a write: returns its refusal, and changes nothing.
-    pub(crate) fn check_done(&self, number: u64) -> R<()>
-        ensures { (x : Node B.State)
-            → IsPrimary B.machine (B.state self.now.recorder.board) self.now.recorder.log self.now.sender
-            self.now.coverage x
-            → result ≡ answered (refusals.put_reply_refusal B.machine number x) }
-    {
-        self.recorder.log().stands();
-        self.recorder.board().check(&Input::Written(number))?;
-        self.recorder.log().room()
-    }
-
-    /// Whether `under` would take a sector: returns its refusal, and changes nothing.
-    pub(crate) fn check_under(
-        &self,
-        address: SectorAddress,
-        number: u64,
-        bytes: [u8; SECTOR_BYTES],
-    ) -> R<()>
-        requires drive { address.drive < DRIVES }
-        requires sector { address.sector < SECTORS }
-        ensures { (x : Node B.State)
-            → IsPrimary B.machine (B.state self.now.recorder.board) self.now.recorder.log self.now.sender
-            self.now.coverage x
-            → result ≡ answered (refusals.get_reply_refusal B.machine address number bytes x) }
-    {
-        self.recorder.log().stands();
-        if self
-            .recorder
-            .board()
-            .sector_under(address.drive, address.sector)
-            != address
-        {
-            return Err(Fault::NotDue);
-        }
-        self.recorder.board().check(&Input::Sector {
-            drive: address.drive,
-            sector: address.sector,
-            number,
-            bytes,
-        })?;
-        self.recorder.log().room()
-    }
-
-    /// Takes the key with an index.
-    pub(crate) fn key(&mut self, port: u8, index: u64, byte: u8) -> R<()>
-        requires port { port < PORTS }
-        ensures answer { (x : Node B.State)
-            → IsPrimary B.machine (B.state self.old.recorder.board) self.old.recorder.log self.old.sender
-            self.old.coverage x
-            → calls.Takes B.machine (input.Rx port byte) (refusals.take_key_refusal B.machine port index x) x result
-            (IsPrimary B.machine (B.state self.new.recorder.board) self.new.recorder.log self.new.sender
-            self.new.coverage) }
-        ensures unchanged { OnErr result (self.new ≡ self.old) }
-    {
-        self.check_key(port, index)?;
-        self.recorder.offer(Input::Rx(port, byte))?;
-        Ok(())
-    }
-
-    /// Takes the acceptance of the byte with a number, which must be the oldest that is not accepted.
-    pub(crate) fn sent(&mut self, port: u8, number: u64) -> R<()>
-        requires port { port < PORTS }
-        ensures answer { (x : Node B.State)
-            → IsPrimary B.machine (B.state self.old.recorder.board) self.old.recorder.log self.old.sender
-            self.old.coverage x
-            → calls.Takes B.machine (input.Sent port) (refusals.tell_sent_refusal B.machine port number x) x result
-            (IsPrimary B.machine (B.state self.new.recorder.board) self.new.recorder.log self.new.sender
-            self.new.coverage) }
-        ensures unchanged { OnErr result (self.new ≡ self.old) }
-    {
-        self.check_sent(port, number)?;
-        self.recorder.offer(Input::Sent(port))?;
-        self.coverage.forget(OpId::Byte(port, number));
-        Ok(())
-    }
-
-    /// Takes the completion of a write.
-    pub(crate) fn done(&mut self, number: u64) -> R<()>
-        ensures answer { (x : Node B.State)
-            → IsPrimary B.machine (B.state self.old.recorder.board) self.old.recorder.log self.old.sender
-            self.old.coverage x
-            → calls.Takes B.machine (input.Written number) (refusals.put_reply_refusal B.machine number x) x result
-            (IsPrimary B.machine (B.state self.new.recorder.board) self.new.recorder.log self.new.sender
-            self.new.coverage) }
-        ensures unchanged { OnErr result (self.new ≡ self.old) }
-    {
-        self.check_done(number)?;
-        self.recorder.offer(Input::Written(number))?;
-        self.coverage.forget(OpId::Write(number));
-        Ok(())
-    }
-
-    /// Takes a sector that was read at an address, with the number of the write that brought its bytes.
-    pub(crate) fn under(
-        &mut self,
-        address: SectorAddress,
-        number: u64,
-        bytes: [u8; SECTOR_BYTES],
-    ) -> R<()>
-        requires drive { address.drive < DRIVES }
-        requires sector { address.sector < SECTORS }
-        ensures answer { (x : Node B.State)
-            → IsPrimary B.machine (B.state self.old.recorder.board) self.old.recorder.log self.old.sender
-            self.old.coverage x
-            → calls.Takes B.machine (input.Sector address.drive address.sector number bytes)
-            (refusals.get_reply_refusal B.machine address number bytes x) x result
-            (IsPrimary B.machine (B.state self.new.recorder.board) self.new.recorder.log self.new.sender
-            self.new.coverage) }
-        ensures unchanged { OnErr result (self.new ≡ self.old) }
-    {
-        self.check_under(address, number, bytes)?;
-        self.recorder.offer(Input::Sector {
-            drive: address.drive,
-            sector: address.sector,
-            number,
-            bytes,
-        })?;
-        Ok(())
     }
 
     /// The packet of the entry at an index; `Unknown` if it is acknowledged or not there yet.
@@ -251,17 +106,6 @@ impl<B: Lockstep> Primary<B> {
         Ok(covered)
     }
 
-    /// The sector with a number at the selected drive, at its head's track; `None` if no drive is selected.
-    pub(crate) fn sector(&self, sector: u8) -> Option<SectorAddress>
-        ensures { (x : Node B.State)
-            → IsPrimary B.machine (B.state self.now.recorder.board) self.now.recorder.log self.now.sender
-            self.now.coverage x
-            → calls.Gets B.machine sector x (ok_or result NotDue) }
-    {
-        let drive = self.recorder.board().selected()?;
-        Some(self.recorder.board().sector_under(drive, sector))
-    }
-
     /// The outstanding operation with a name, if its mark is acknowledged.
     #[tactic(auto, using(crate::proofs::PrimaryReleases::release_refused))]
     pub(crate) fn release(&self, id: OpId) -> R<Operation>
@@ -284,6 +128,18 @@ impl<B: Lockstep> Primary<B> {
             → calls.Tells B.machine port x (Ok result) }
     {
         self.coverage.told(port)
+    }
+}
+
+// The operation that an input completes: the byte that is due, or the write.
+fn completed_by<B: Lockstep>(board: &B, input: &Input) -> Option<OpId>
+    requires { IsInput input.now }
+    ensures { result ≡ outstanding.completed_by B.machine (B.state board.now) input.now }
+{
+    match *input {
+        Input::Rx(..) | Input::Sector { .. } => None,
+        Input::Sent(port) => Some(OpId::Byte(port, board.due_byte(port)?)),
+        Input::Written(number) => Some(OpId::Write(number)),
     }
 }
 

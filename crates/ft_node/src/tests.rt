@@ -1,10 +1,10 @@
-//! Nodes over a small guest. The guest keeps no operation and has no drive, so its nodes make no step and take no input
-//! here: those calls are tested with boards, in the crate of the world.
-//! those calls are tested with boards, in the crate of the world.
+//! Nodes over a small guest. The guest keeps no operation and has no drive, so its nodes make no step and take only keys
+//! here: the other calls are tested with boards, in the crate of the world.
 use crate::{Drained, Node};
 use arbiter_core::{Arbiter, Won};
 use echo_guest::Echo;
 use event_callbacks::OpId;
+use guest_board::Input;
 use i8080_words::{Fault, R};
 use log_buffer::LogBuffer;
 use log_channel::Packet;
@@ -44,7 +44,6 @@ fn a_backup_holds_what_comes_next(rt: HostRuntime) -> R<()> {
         (Role::Backup, 0, 1)
     );
     let bytes = first_packet(rt.alloc())?;
-    assert_eq!(rt; backup.next_entry(&bytes), Ok(Some(KEY)));
     assert_eq!(rt; backup.on_log(&bytes), Ok(true));
     assert_eq!(rt; backup.next_entry(&bytes), Ok(None));
     assert_eq!(rt; backup.on_log(&bytes), Ok(false));
@@ -62,6 +61,33 @@ fn a_backup_holds_what_comes_next(rt: HostRuntime) -> R<()> {
         (backup.role(), backup.count(), backup.generation()),
         (Role::Halted, 0, 1)
     );
+    Ok(())
+}
+
+#[test]
+fn an_entry_is_read_and_then_held(rt: HostRuntime) -> R<()> {
+    let mut backup = Node::backup(rt.alloc(), Echo::new(1), 1);
+    let bytes = first_packet(rt.alloc())?;
+    let Some(entry) = backup.next_entry(&bytes)? else {
+        panic!(rt; "the first packet brings the first entry");
+    };
+    assert_eq!(rt; entry, KEY);
+    assert_eq!(rt; backup.hold(entry), Ok(()));
+    assert_eq!(rt; backup.on_log(&bytes), Ok(false));
+    Ok(())
+}
+
+#[test]
+fn a_primary_takes_keys_in_their_order(rt: HostRuntime) -> R<()> {
+    let mut primary = primary(rt.alloc())?;
+    assert_eq!(rt; primary.key(0, 1, 0x49), Err(Fault::WrongNumber));
+    assert_eq!(rt; primary.key(0, 0, 0x48), Ok(()));
+    primary.check_key(0, 1)?;
+    primary.accept(Input::Rx(0, 0x49));
+    assert_eq!(rt; primary.check_key(0, 2), Ok(()));
+    assert!(rt; primary.packet(rt.alloc(), 1).is_ok());
+    assert_eq!(rt; primary.sent(0, 1), Err(Fault::NotDue));
+    assert_eq!(rt; primary.done(1), Err(Fault::NotDue));
     Ok(())
 }
 

@@ -2,7 +2,6 @@
 -- as of a station in place of its node.
 use Rattle.std.proofs.Common.{◌≡◌, ◌∙◌, ℕ, List, Err, None, Ok, Option, Result, Some, ap, refl}
 use Rattle.std.specs.Result.{IsErrAnd}
-use Rattle.disk_dcdd.specs.Completion.{answered}
 use Rattle.i8080_words.specs.declared.refusal.Fault.{Fault}
 use Rattle.arbiter_core.specs.declared.arbiter.Asking.{Asking}
 use Rattle.arbiter_core.specs.declared.arbiter.Won.{Won}
@@ -47,14 +46,6 @@ module _ {A S : Type 0} (o : Option Fault) (needs also : Node S → Type 0) (doe
       go k (Ok v) is d = absurd is
       go None (Err k) is d = (is ∙ d.0, (needing d.1.0, stays d.1.1))
       go (Some m) (Err k) is d = (ap Err is ∙ d.0, stays d.1)
-
--- a refusal that was looked for and found
-pub found : {A S : Type 0} (o : Option Fault) (also : Node S → Type 0) (does : A → Node S → Node S → Type 0)
-    (x : Node S) (Q : Node S → Type 0) (r : Result A Fault) (fault : Fault) → IsErrAnd r (λ k. k ≡ fault)
-    → ◌≡◌ {A = Result (Unit {0}) Fault} (Err fault) (answered o) → Q x → Call o also does x r Q
-found o also does x Q (Ok v) fault is e q = absurd is
-found None also does x Q (Err k) fault is e q = (cc)
-found (Some m) also does x Q (Err k) fault is e q = let same : fault ≡ m = (cc) in (ap Err (is ∙ same), q)
 
 pub unless : {A : Type 0} (o : Option Fault) (r : Result A Fault) (P Q D E : Type 0) → (P → Q) → (D → E)
     → Unless o r P D → Unless o r Q E

@@ -1,17 +1,16 @@
 -- What follows from a row at a world that is shown: the world after it is reached by actions, so it is faithful, and
 -- what was settled grows. So an event applies if its row holds and the fields show the world after it.
 use Rattle.std.proofs.Common.{◌≡◌, Bool, Err, List, None, Ok, Some, ap, false, refl, subst, sym, true}
-use Rattle.std.specs.Prelude.{IsTrue, Result}
+use Rattle.std.specs.Prelude.{Result}
 use Rattle.std.specs.Result.{IsErrAnd}
 use Rattle.guest_board.specs.Machine.{Machine}
 use Rattle.i8080_words.specs.declared.refusal.Fault.{Fault}
-use Rattle.i8080_words.specs.declared.refusal.Fault.TheVariants.{DeviceFault, OutOfMemory}
+use Rattle.i8080_words.specs.declared.refusal.Fault.TheVariants.{OutOfMemory}
 use Rattle.shared_disk.specs.declared.store.Record.{Record}
 use Rattle.pair_protocol.specs.Change.{Reached}
-use Rattle.pair_protocol.specs.Copying.{IsCopying, no_copies}
-use Rattle.pair_protocol.specs.Event.{Refused, is_disk}
+use Rattle.pair_protocol.specs.Event.{Refused}
 use Rattle.pair_protocol.specs.Refusals.{fault_if, refusal}
-use Rattle.pair_protocol.specs.Row.{DeviceFails, Leaves, MayNeedMemory, Refuses, Row, NeedsMemory}
+use Rattle.pair_protocol.specs.Row.{Leaves, MayNeedMemory, Refuses, Row, NeedsMemory}
 use Rattle.pair_protocol.specs.World.{World}
 use Rattle.pair_protocol.proofs.Promises.Growth.{row_grows}
 use Rattle.pair_protocol.proofs.RowActions.{row_changes}
@@ -23,34 +22,30 @@ use Rattle.ft_world.specs.Words.{answer_of, event_of}
 use Rattle.pair_events.specs.declared.event.Event.{Event}
 use Rattle.pair_events.specs.declared.reply.Reply.{Reply}
 
-pub no_copies_copy : {S : Type 0} (M : Machine S) → IsCopying M no_copies
-no_copies_copy M = record { counted = λ moves s reaches. refl; again = λ moves s t reaches owns e. (cc) }
-
 -- a world that is shown is faithful, since actions reach it
 pub shown_is_faithful : {B H D S : Type 0} (state : B → S) (M : Machine S) (records : D → List Record)
     (v : Running B H D) (c : Course S) → Shows state M records v c → IsFaithful M c
 shown_is_faithful state M records v c h =
     let N = machine_of M c in
-    always_faithful N no_copies h.machine.lawful (no_copies_copy N) c.world h.reached
+    always_faithful N c.copying h.machine.lawful h.machine.copies c.world h.reached
 
 -- an event applies if its row holds and the fields show the world after it
 pub applies : {B H D S : Type 0} (state : B → S) (M : Machine S) (records : D → List Record) (old : Running B H D)
     (c : Course S) (e : Event) (answer : Result Reply Fault) (after : World S) (new : Running B H D) →
     (h : Shows state M records old c) →
-    Row (machine_of M c) no_copies c.world (event_of e) (answer_of answer) after →
+    Row (machine_of M c) c.copying c.world (event_of e) (answer_of answer) after →
     ShowsParts state M records h.drives new (record c { world = after }) →
     Applies state M records c e answer new
 applies state M records old c e answer after new h row parts =
     let N = machine_of M c in
-    let copies = no_copies_copy N in
-    let reached : Reached N no_copies after =
-    changes_reach N no_copies c.world after h.reached (row_changes N no_copies c.world after _ _ row) in
+    let reached : Reached N c.copying after =
+    changes_reach N c.copying c.world after h.reached (row_changes N c.copying c.world after _ _ row) in
     record {
       after = after;
       row = row;
       shows = record { drives = h.drives; machine = h.machine; reached = reached; parts = parts };
-      faithful = always_faithful N no_copies h.machine.lawful copies after reached;
-      grows = row_grows N no_copies h.machine.lawful copies c.world after _ _ h.reached row;
+      faithful = always_faithful N c.copying h.machine.lawful h.machine.copies after reached;
+      grows = row_grows N c.copying h.machine.lawful h.machine.copies c.world after _ _ h.reached row;
     }
 
 -- An event that is refused, and leaves the world and the fields as they were.
@@ -58,14 +53,14 @@ applies state M records old c e answer after new h row parts =
 pub unchanged : {B H D S : Type 0} (state : B → S) (M : Machine S) (records : D → List Record)
     (old new : Running B H D) (c : Course S) (e : Event) (fault : Fault) → (h : Shows state M records old c) →
     ShowsParts state M records h.drives new c →
-    Row (machine_of M c) no_copies c.world (event_of e) (Refused fault) c.world →
+    Row (machine_of M c) c.copying c.world (event_of e) (Refused fault) c.world →
     Applies state M records c e (Err fault) new
 unchanged state M records old new c e fault h parts row =
     applies state M records old c e (Err fault) c.world new h row parts
 
 same_world : {B H D S : Type 0} (state : B → S) (M : Machine S) (records : D → List Record) (old new : Running B H D)
     (c : Course S) (e : Event) (fault : Fault) → (h : Shows state M records old c) → new ≡ old →
-    Row (machine_of M c) no_copies c.world (event_of e) (Refused fault) c.world →
+    Row (machine_of M c) c.copying c.world (event_of e) (Refused fault) c.world →
     Applies state M records c e (Err fault) new
 same_world state M records old new c e fault h same row =
     unchanged state M records old new c e fault h
@@ -73,26 +68,18 @@ same_world state M records old new c e fault h same row =
 
 pub refuses : {B H D S : Type 0} (state : B → S) (M : Machine S) (records : D → List Record) (old new : Running B H D)
     (c : Course S) (e : Event) (fault : Fault) → Shows state M records old c → new ≡ old →
-    refusal (machine_of M c) no_copies c.world (event_of e) ≡ Some fault →
+    refusal (machine_of M c) c.copying c.world (event_of e) ≡ Some fault →
     Leaves c.world (event_of e) fault c.world → Applies state M records c e (Err fault) new
 refuses state M records old new c e fault h same because leaves =
     same_world state M records old new c e fault h same (Refuses because leaves)
 
 pub needs_memory : {B H D S : Type 0} (state : B → S) (M : Machine S) (records : D → List Record)
     (old new : Running B H D) (c : Course S) (e : Event) (fault : Fault) → Shows state M records old c → new ≡ old →
-    refusal (machine_of M c) no_copies c.world (event_of e) ≡ None →
+    refusal (machine_of M c) c.copying c.world (event_of e) ≡ None →
     MayNeedMemory (machine_of M c) c.world (event_of e) → fault ≡ OutOfMemory → Applies state M records c e (Err fault) new
 needs_memory state M records old new c e fault h same free takes needs =
     subst (λ f. Applies state M records c e (Err f) new) (sym needs)
     (same_world state M records old new c e OutOfMemory h same (NeedsMemory free takes))
-
-pub device_fails : {B H D S : Type 0} (state : B → S) (M : Machine S) (records : D → List Record)
-    (old new : Running B H D) (c : Course S) (e : Event) (fault : Fault) → Shows state M records old c → new ≡ old →
-    refusal (machine_of M c) no_copies c.world (event_of e) ≡ None → IsTrue (is_disk (event_of e)) →
-    fault ≡ DeviceFault → Applies state M records c e (Err fault) new
-device_fails state M records old new c e fault h same free disk fails =
-    subst (λ f. Applies state M records c e (Err f) new) (sym fails)
-    (same_world state M records old new c e DeviceFault h same (DeviceFails free disk))
 
 -- a refusal that applies, and one that does not
 pub stands : (b : Bool) (fault : Fault) → b ≡ true → fault_if b fault ≡ Some fault

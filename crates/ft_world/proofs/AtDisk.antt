@@ -14,7 +14,6 @@ use Rattle.shared_disk.specs.Arrivals.{after_meeting, after_put, record_of}
 use Rattle.shared_disk.specs.Records.{IsAt, record_at, refusal_at, with_record}
 use Rattle.shared_disk.specs.declared.store.Record.{Record}
 use Rattle.shared_disk.proofs.RecordsBySector.{is_other, is_same, record_at-with_other, record_at-with_same}
-use Rattle.pair_protocol.specs.Copying.{no_copies}
 use Rattle.pair_protocol.specs.Event as protocol
 use Rattle.pair_protocol.specs.Refusals.{write_refusal}
 use Rattle.pair_protocol.specs.Row.{Accepts, DeviceFails, Row, NeedsMemory}
@@ -33,7 +32,7 @@ use Rattle.pair_events.specs.declared.event.Event.TheVariants as event
 use Rattle.ft_world.specs.declared.message.Message.{Message}
 use Rattle.ft_world.specs.declared.message.Message.TheVariants as message
 use Rattle.pair_events.specs.declared.reply.Reply.{Reply}
-use Rattle.ft_world.proofs.Applying.{applies, no_copies_copy, refuses, unchanged}
+use Rattle.ft_world.proofs.Applying.{applies, refuses, unchanged}
 use Rattle.ft_world.proofs.Released.{writes_on_disk}
 use Rattle.ft_world.proofs.Sending.{messages_push}
 
@@ -169,7 +168,7 @@ puts_applies state M records old c m write (Ok r) ms disk brings h (said, sends,
     let N = machine_of M c in
     let there = brings_write (slice_get old.messages m) (slice_get c.world.messages m) write
     (h.parts.messages.each m) brings in
-    let on_disk = writes_on_disk N h.drives m c.world write h.machine (no_copies_copy N) h.reached there in
+    let on_disk = writes_on_disk N c.copying h.drives m c.world write h.machine h.reached there in
     let met = h.parts.disk.there (address_of write) on_disk in
     applies state M records old c (event.Put m) (Ok r) (with_put c.world write)
     (record old { messages = ms; disk = disk }) h
@@ -195,10 +194,10 @@ puts_applies state M records old c m write (Err fault) ms disk brings h (why, sa
     let N = machine_of M c in
     let there = brings_write (slice_get old.messages m) (slice_get c.world.messages m) write
     (h.parts.messages.each m) brings in
-    let on_disk = writes_on_disk N h.drives m c.world write h.machine (no_copies_copy N) h.reached there in
+    let on_disk = writes_on_disk N c.copying h.drives m c.world write h.machine h.reached there in
     let met = h.parts.disk.there (address_of write) on_disk in
     let free : write_refusal (slice_get c.world.messages m) ≡ None = ap write_refusal there in
-    let refused = λ (f : Fault). Row N no_copies c.world (protocol.Put m) (protocol.Refused f) c.world in
+    let refused = λ (f : Fault). Row N c.copying c.world (protocol.Put m) (protocol.Refused f) c.world in
     let row : refused fault = elim why [
       | inl is ↦ subst refused (sym is) (NeedsMemory free tt)
       | inr is ↦ subst refused (sym (not_put (records old.disk) (address_of write) met.0 fault met.1 is))

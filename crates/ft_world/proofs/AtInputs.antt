@@ -13,7 +13,6 @@ use Rattle.i8080_words.specs.declared.refusal.Fault.{Fault}
 use Rattle.i8080_words.specs.declared.refusal.Fault.TheVariants.{Unknown}
 use Rattle.shared_disk.specs.declared.store.Record.{Record}
 use Rattle.terminals.specs.Screen.{Screen, blank}
-use Rattle.pair_protocol.specs.Copying.{no_copies}
 use Rattle.pair_protocol.specs.Effects.{Took}
 use Rattle.pair_protocol.specs.Event as protocol
 use Rattle.pair_protocol.specs.Node.{Node}
@@ -47,9 +46,9 @@ use Rattle.ft_world.proofs.Reading.{accepted_is}
 pub input_applies : {B H D S : Type 0} (state : B → S) (M : Machine S) (records : D → List Record)
     (old : Running B H D) (c : Course S) (e : Event) (n : ℕ) (part : Node S → Option Fault) (i : Input)
     (hosts : List (Host B H)) → Shows state M records old c →
-    refusal (machine_of M c) no_copies c.world (event_of e) ≡ at_node (slice_get c.world.nodes n) part →
+    refusal (machine_of M c) c.copying c.world (event_of e) ≡ at_node (slice_get c.world.nodes n) part →
     ((new : World S) → Takes (machine_of M c) c.world n i protocol.Taken new →
-    Does (machine_of M c) no_copies c.world (event_of e) protocol.Taken new) →
+    Does (machine_of M c) c.copying c.world (event_of e) protocol.Taken new) →
     AtHost {A = Unit {0}} state M c.world n part Ever (λ done. Took M i) (Ok tt) hosts →
     Applies state M records c e (Ok reply.Taken) (record old { hosts = hosts })
 input_applies state M records old c e n part i hosts h free row a =
@@ -102,7 +101,7 @@ key_typed : {B H D S : Type 0} (state : B → S) (M : Machine S) (records : D �
     (c : Course S) (n port index byte : ℕ) → Shows state M records old c →
     ◌≡◌ {A = Result ℕ Fault} (Ok byte) (ok_or (slice_get (screen_in old.terminals port).typed index) Unknown) →
     (slice_get (terminal_in c.world.terminals port).typed index ≡ Some byte)
-    × (refusal (machine_of M c) no_copies c.world (protocol.TakeKey n port index)
+    × (refusal (machine_of M c) c.copying c.world (protocol.TakeKey n port index)
     ≡ at_node (slice_get c.world.nodes n) (refusals.take_key_refusal M port index))
 key_typed state M records old c n port index byte h e =
     let typed = key_in_world state M records old c port index h
@@ -169,7 +168,7 @@ sent_unknown state M records old c n port number fault h e =
 sent_free : {B H D S : Type 0} (state : B → S) (M : Machine S) (records : D → List Record) (old : Running B H D)
     (c : Course S) (n port number : ℕ) → Shows state M records old c →
     ◌≡◌ {A = Result (Unit {0}) Fault} (Ok tt) (answered (table.not_accepted old.terminals port number)) →
-    refusal (machine_of M c) no_copies c.world (protocol.TellSent n port number)
+    refusal (machine_of M c) c.copying c.world (protocol.TellSent n port number)
     ≡ at_node (slice_get c.world.nodes n) (refusals.tell_sent_refusal M port number)
 sent_free state M records old c n port number h e =
     second_of (not_accepted c.world port number)

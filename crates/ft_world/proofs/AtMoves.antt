@@ -11,7 +11,6 @@ use Rattle.log_entry.specs.Standing.{IsOnTrace}
 use Rattle.replayer.specs.declared.replayer.Replayed.{Replayed}
 use Rattle.shared_disk.specs.declared.store.Record.{Record}
 use Rattle.pair_protocol.specs.Change.{Replaying}
-use Rattle.pair_protocol.specs.Copying.{no_copies}
 use Rattle.pair_protocol.specs.Effects.{Halted, NeedsMoves}
 use Rattle.pair_protocol.specs.Node.{Backup, Draining, Node, Role}
 use Rattle.pair_protocol.specs.Refusals.{drain_refusal, replay_refusal, step_refusal, stop_refusal}
@@ -37,7 +36,6 @@ use Rattle.pair_events.specs.declared.reply.Reply.TheVariants as reply
 use Rattle.ft_world.specs.declared.host.Host.{Host}
 use Rattle.ft_world.specs.declared.host.Host.TheVariants as host
 use Rattle.ft_world.proofs.Agreeing.{agree-other}
-use Rattle.ft_world.proofs.Applying.{no_copies_copy}
 use Rattle.ft_world.proofs.AtOneNode.{elsewhere, node_applies, node_refused}
 use Rattle.ft_world.proofs.Keeping.{acting_role, advances_keep, drained_stays, halted_kept, kept_stays, replays_keep}
 
@@ -49,7 +47,7 @@ follows : {B H D S : Type 0} (state : B → S) (M : Machine S) (records : D → 
     slice_get c.world.nodes n ≡ Some x → Replaying role → IsFollower role s r x → IsOnTrace M s r.entries
 follows {S = S} state M records old c n x role s r h there replays is =
     let N : Machine S = machine_of M c in
-    let stands = nodes_stand N no_copies h.machine.lawful (no_copies_copy N) c.world h.reached n x there in
+    let stands = nodes_stand N c.copying h.machine.lawful h.machine.copies c.world h.reached n x there in
     let here : IsOnTrace M x.machine (drop x.replayed x.held) =
     IsOnTrace-back M c.boot c.sectors x.machine (drop x.replayed x.held)
     (stands.on_trace (subst (λ q. Replaying q) (sym is.role_is) replays)) in

@@ -6,7 +6,6 @@ use Rattle.guest_board.specs.Machine.{Machine}
 use Rattle.i8080_words.specs.declared.refusal.Fault.{Fault}
 use Rattle.i8080_words.specs.declared.refusal.Fault.TheVariants.{OutOfMemory}
 use Rattle.shared_disk.specs.declared.store.Record.{Record}
-use Rattle.pair_protocol.specs.Copying.{no_copies}
 use Rattle.pair_protocol.specs.Event.{Refused}
 use Rattle.pair_protocol.specs.Node.{Node}
 use Rattle.pair_protocol.specs.Refusals.{at_node, first_of, refusal}
@@ -56,10 +55,10 @@ module _ {B H D S : Type 0} {state : B → S} {M : Machine S} {records : D → L
     {c : Course S} (h : Shows state M records old c) where
   pub node_applies : {A : Type 0} (e : Event) (r : Reply) {n : ℕ} {part : Node S → Option Fault}
       {needs : Node S → Type 0} {does : A → Node S → Node S → Type 0} {value : A} (hosts : List (Host B H)) →
-      refusal (machine_of M c) no_copies c.world (event_of e) ≡ at_node (slice_get c.world.nodes n) part →
+      refusal (machine_of M c) c.copying c.world (event_of e) ≡ at_node (slice_get c.world.nodes n) part →
       ((x y : Node S) → part x ≡ None → does value x y → Stays x y) →
       ((new : World S) → AtNode c.world n (does value) new →
-      Does (machine_of M c) no_copies c.world (event_of e) (reply_of r) new) →
+      Does (machine_of M c) c.copying c.world (event_of e) (reply_of r) new) →
       AtHost state M c.world n part needs does (Ok value) hosts →
       Applies state M records c e (Ok r) (record old { hosts = hosts })
   node_applies e r {n} {part} {needs} {does} {value} hosts free stays row a =
@@ -76,7 +75,7 @@ module _ {B H D S : Type 0} {state : B → S} {M : Machine S} {records : D → L
   -- it is refused as the node refuses it, or is out of memory
   pub node_refused : {A : Type 0} (e : Event) {n : ℕ} {part : Node S → Option Fault} {needs : Node S → Type 0}
       {does : A → Node S → Node S → Type 0} (fault : Fault) (hosts : List (Host B H)) →
-      refusal (machine_of M c) no_copies c.world (event_of e) ≡ at_node (slice_get c.world.nodes n) part →
+      refusal (machine_of M c) c.copying c.world (event_of e) ≡ at_node (slice_get c.world.nodes n) part →
       (OfNode c.world n needs → MayNeedMemory (machine_of M c) c.world (event_of e)) →
       Leaves c.world (event_of e) fault c.world →
       AtHost state M c.world n part needs does (Err fault) hosts →
@@ -89,7 +88,7 @@ module _ {B H D S : Type 0} {state : B → S} {M : Machine S} {records : D → L
             (with_hosts state M records h.drives old c hosts h.parts k.1) (Refuses (free ∙ k.0) leaves)
         | inr k ↦ unchanged state M records old (record old { hosts = hosts }) c e fault h
             (with_hosts state M records h.drives old c hosts h.parts k.2.1)
-            (subst (λ f. Row (machine_of M c) no_copies c.world (event_of e) (Refused f) c.world)
+            (subst (λ f. Row (machine_of M c) c.copying c.world (event_of e) (Refused f) c.world)
             (sym k.1) (NeedsMemory (free ∙ k.0) (takes k.2.0)))
       ]
 
@@ -97,7 +96,7 @@ module _ {B H D S : Type 0} {state : B → S} {M : Machine S} {records : D → L
 
   pub asks_refused : {A : Type 0} (e : Event) {n : ℕ} {part : Node S → Option Fault} {needs : Node S → Type 0}
       {says : A → Node S → Type 0} (fault : Fault) →
-      refusal (machine_of M c) no_copies c.world (event_of e) ≡ at_node (slice_get c.world.nodes n) part →
+      refusal (machine_of M c) c.copying c.world (event_of e) ≡ at_node (slice_get c.world.nodes n) part →
       (OfNode c.world n needs → MayNeedMemory (machine_of M c) c.world (event_of e)) →
       Leaves c.world (event_of e) fault c.world → AsksNode c.world n part needs says (Err fault) →
       Applies state M records c e (Err fault) old

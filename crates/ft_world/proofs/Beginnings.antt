@@ -19,6 +19,7 @@ use Rattle.shared_disk.specs.Records.{HasDrives, IsUnwritten, record_at}
 use Rattle.shared_disk.specs.declared.store.Record.{Record}
 use Rattle.terminals.specs.Screen.{Screen, blank}
 use Rattle.pair_protocol.specs.Change.{AtBoot}
+use Rattle.pair_protocol.specs.Copying.{no_copies}
 use Rattle.pair_protocol.specs.Lawful.{Lawful}
 use Rattle.pair_protocol.specs.Node.{Backup, Node, Primary, Role, first_node}
 use Rattle.altair_laws.specs.OnDisk.{StaysOnDisk}
@@ -185,7 +186,7 @@ completed_there M c s (Written number) = refl
 
 -- a machine whose operations come and go has operations that do so wherever it boots
 is_machine : {S : Type 0} (M : Machine S) (c : Course S) (drives : ℕ) → Lawful (machine_of M c) → ComesAndGoes M →
-    drives ≤ DRIVES → StaysOnDisk (machine_of M c) drives → IsMachine (machine_of M c) drives
+    drives ≤ DRIVES → StaysOnDisk (machine_of M c) drives → IsMachine (machine_of M c) no_copies drives
 is_machine M c drives lawful operations within on_disk = record {
   lawful = lawful;
   operations = record {
@@ -196,6 +197,7 @@ is_machine M c drives lawful operations within on_disk = record {
   };
   drives_within = within;
   on_disk = on_disk;
+  copies = record { counted = λ moves s reaches. refl; again = λ moves s t reaches owns e. (cc) };
 }
 
 -- two guests of one setup may begin over a disk that has its drives, and on which nothing is written
@@ -210,7 +212,7 @@ altairs_may_begin state records setup primary backup store lawful on_disk within
     let sectors = bytes_in (records store) in record {
       drives = setup.drives;
       machine = subst
-          (λ s. IsMachine (machine_of some_altair (beginning some_altair s (records store))) setup.drives) (sym first)
+          (λ s. IsMachine (machine_of some_altair (beginning some_altair s (records store))) no_copies setup.drives) (sym first)
           (is_machine some_altair (beginning some_altair (guest_at_boot setup) (records store)) setup.drives
           (lawful setup sectors) guests_issue_and_complete within (on_disk setup sectors));
       alike = second ∙ sym first;

@@ -10,7 +10,6 @@ use Rattle.guest_board.specs.Machine.{Machine}
 use Rattle.i8080_words.specs.declared.refusal.Fault.{Fault}
 use Rattle.i8080_words.specs.declared.refusal.Fault.TheVariants.{Lost, NotWhole, Unknown, WrongRole}
 use Rattle.shared_disk.specs.declared.store.Record.{Record}
-use Rattle.pair_protocol.specs.Copying.{no_copies}
 use Rattle.pair_protocol.specs.Event as protocol
 use Rattle.pair_protocol.specs.Node.{Joining, Node, Spare, halts, is_role}
 use Rattle.pair_protocol.specs.Refusals.{ask_refusal, at_node, fault_if, first_of, is_other, refusal, suspect_refusal}
@@ -98,7 +97,7 @@ left {S} w n (Some y) x at e =
 stays : {B H D S : Type 0} (state : B → S) (M : Machine S) (records : D → List Record) (old : Running B H D)
     (c : Course S) (n : ℕ) (fault : Fault) (hosts : List (Host B H)) (askings : List Asking) →
     Shows state M records old c → AreHosts state M hosts c.world.nodes → askings ≡ old.askings →
-    Row (machine_of M c) no_copies c.world (protocol.Suspect n) (protocol.Refused fault) c.world →
+    Row (machine_of M c) c.copying c.world (protocol.Suspect n) (protocol.Refused fault) c.world →
     Applies state M records c (event.Suspect n) (Err fault) (record old { hosts = hosts; askings = askings })
 stays state M records old c n fault hosts askings h are same row =
     subst (λ l. Applies state M records c (event.Suspect n) (Err fault) (record old { hosts = hosts; askings = l }))
@@ -118,7 +117,7 @@ wins_it : {B H D S : Type 0} (state : B → S) (M : Machine S) (records : D → 
     (c : Course S) (n : ℕ) (won : Won) (hosts : List (Host B H)) (askings : List Asking) (x : Node S)
     (winner : Option ℕ) → Shows state M records old c → slice_get c.world.nodes n ≡ Some x →
     winner_of old.askings x.generation ≡ winner →
-    refusal (machine_of M c) no_copies c.world (protocol.Suspect n) ≡ fault_if (is_other winner n) Lost →
+    refusal (machine_of M c) c.copying c.world (protocol.Suspect n) ≡ fault_if (is_other winner n) Lost →
     SuspectsOf winner old.askings n x (Ok won) askings (λ y. AreHosts state M hosts (slice_set c.world.nodes n y)) →
     Applies state M records c (event.Suspect n) (Ok reply.Won) (record old { hosts = hosts; askings = askings })
 wins_it state M records old c n won hosts askings x None h there is free (asked, are) =
@@ -153,13 +152,13 @@ loses_it : {B H D S : Type 0} (state : B → S) (M : Machine S) (records : D →
     (c : Course S) (n : ℕ) (fault : Fault) (hosts : List (Host B H)) (askings : List Asking) (x : Node S)
     (winner : Option ℕ) → Shows state M records old c → slice_get c.world.nodes n ≡ Some x →
     winner_of old.askings x.generation ≡ winner →
-    refusal (machine_of M c) no_copies c.world (protocol.Suspect n) ≡ fault_if (is_other winner n) Lost →
+    refusal (machine_of M c) c.copying c.world (protocol.Suspect n) ≡ fault_if (is_other winner n) Lost →
     SuspectsOf winner old.askings n x (Err fault) askings (λ y. AreHosts state M hosts (slice_set c.world.nodes n y)) →
     Applies state M records c (event.Suspect n) (Err fault) (record old { hosts = hosts; askings = askings })
 loses_it state M records old c n fault hosts askings x None h there is free (needs, same, are) =
     stays state M records old c n fault hosts askings h
     (subst (AreHosts state M hosts) (set_get c.world.nodes n x there) are) same
-    (subst (λ f. Row (machine_of M c) no_copies c.world (protocol.Suspect n) (protocol.Refused f) c.world) (sym needs)
+    (subst (λ f. Row (machine_of M c) c.copying c.world (protocol.Suspect n) (protocol.Refused f) c.world) (sym needs)
     (NeedsMemory free
     (record { x = x; there = there; said = sym (h.parts.winners x.generation) ∙ is })))
 loses_it state M records old c n fault hosts askings x (Some winner) h there is free (other, lost, same, are) =

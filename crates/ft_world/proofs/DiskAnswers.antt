@@ -9,7 +9,6 @@ use Rattle.i8080_words.specs.declared.refusal.Fault.{Fault}
 use Rattle.i8080_words.specs.declared.refusal.Fault.TheVariants.{Unknown}
 use Rattle.shared_disk.specs.declared.disk.SectorRead.{SectorRead}
 use Rattle.shared_disk.specs.declared.store.Record.{Record}
-use Rattle.pair_protocol.specs.Copying.{no_copies}
 use Rattle.pair_protocol.specs.Event as protocol
 use Rattle.pair_protocol.specs.Node.{Node}
 use Rattle.pair_protocol.specs.Refusals.{at_write_done, at_node, at_sector_read, put_reply_refusal, refusal, get_reply_refusal}
@@ -81,7 +80,7 @@ done_there state M records old c m number brings h =
 
 done_free : {S : Type 0} (M : Machine S) (c : Course S) (m n number : ℕ) →
     slice_get c.world.messages m ≡ Some (world.WriteDone number) →
-    refusal (machine_of M c) no_copies c.world (protocol.PutReply m n)
+    refusal (machine_of M c) c.copying c.world (protocol.PutReply m n)
     ≡ at_node (slice_get c.world.nodes n) (put_reply_refusal M number)
 done_free M c m n number there = ap (λ q. at_write_done (machine_of M c) (slice_get c.world.nodes n) q) there
 
@@ -156,7 +155,7 @@ read_there state M records old c m read brings h =
 
 read_free : {S : Type 0} (M : Machine S) (c : Course S) (m n : ℕ) (read : SectorRead) →
     slice_get c.world.messages m ≡ Some (world.SectorRead (read_address read) read.number read.bytes) →
-    refusal (machine_of M c) no_copies c.world (protocol.GetReply m n)
+    refusal (machine_of M c) c.copying c.world (protocol.GetReply m n)
     ≡ at_node (slice_get c.world.nodes n) (get_reply_refusal M (read_address read) read.number read.bytes)
 read_free M c m n read there = ap (λ q. at_sector_read (machine_of M c) (slice_get c.world.nodes n) q) there
 

@@ -18,7 +18,6 @@ use Rattle.shared_disk.specs.Records.{faults_in, record_at}
 use Rattle.shared_disk.specs.declared.disk.SectorRead.{SectorRead}
 use Rattle.shared_disk.specs.declared.store.Record.{Record}
 use Rattle.pair_protocol.specs.Change.{Serving}
-use Rattle.pair_protocol.specs.Copying.{no_copies}
 use Rattle.pair_protocol.specs.Event as protocol
 use Rattle.pair_protocol.specs.Node.{Alone, Node, Primary, Spare, acts_as, is_role}
 use Rattle.pair_protocol.specs.Refusals.{at_node, fault_if, first_of, no_sector, get_refusal, serves}
@@ -41,7 +40,7 @@ use Rattle.pair_events.specs.declared.event.Event.TheVariants as event
 use Rattle.ft_world.specs.declared.message.Message.{Message}
 use Rattle.ft_world.specs.declared.message.Message.TheVariants as message
 use Rattle.pair_events.specs.declared.reply.Reply.{Reply}
-use Rattle.ft_world.proofs.Applying.{applies, no_copies_copy, refuses, stands, stands_not, unchanged}
+use Rattle.ft_world.proofs.Applying.{applies, refuses, stands, stands_not, unchanged}
 use Rattle.ft_world.proofs.AtDisk.{not_put}
 use Rattle.ft_world.proofs.AtOneNode.{asks_refused, node_asked, node_asked_not}
 use Rattle.ft_world.proofs.Sending.{messages_push}
@@ -143,7 +142,7 @@ stands_at state M records old c n sector address h low a =
     let passed = node-passed (slice_get c.world.nodes n) x (get_refusal N) k.1.there k.0 in
     let serves_now = serving c.world n x k.1.there (first-passed (serves x) _ passed.1).0 in
     let is_serving = subst (λ role. Serving role) (sym serves_now.1.role_is) serves_now.2 in
-    let r = serving_runs N c.world n x h.machine.lawful (no_copies_copy N) h.reached k.1.there is_serving in
+    let r = serving_runs N c.copying c.world n x h.machine.lawful h.machine.copies h.reached k.1.there is_serving in
     record {
       node = record {
         x = x;
@@ -200,7 +199,7 @@ gets_applies state M records old c n sector address (Err fault) ms disk h low a 
     let N = machine_of M c in
     let s = stands_at state M records old c n sector address h low a in
     let met = h.parts.disk.there address s.there in
-    let refused = λ (f : Fault). Row N no_copies c.world (protocol.Get n sector) (protocol.Refused f) c.world in
+    let refused = λ (f : Fault). Row N c.copying c.world (protocol.Get n sector) (protocol.Refused f) c.world in
     let row : refused fault = elim why [
       | inl is ↦ subst refused (sym is) (NeedsMemory s.free tt)
       | inr is ↦ subst refused (sym (not_put (records old.disk) address met.0 fault met.1 is)) (DeviceFails s.free refl)

@@ -6,7 +6,7 @@ use Rattle.guest_board.specs.Machine.{Machine}
 use Rattle.guest_board.specs.declared.input.Input.{Input}
 use Rattle.i8080_words.specs.declared.refusal.Fault.{Fault}
 use Rattle.i8080_words.specs.declared.refusal.Fault.TheVariants.{Lost}
-use Rattle.pair_protocol.specs.Copying.{Copying, no_copies}
+use Rattle.pair_protocol.specs.Copying.{Copying}
 use Rattle.pair_protocol.specs.Event as protocol
 use Rattle.pair_protocol.specs.Node.{Node, Spare, wins}
 use Rattle.pair_protocol.specs.Refusals.{refusal}
@@ -79,33 +79,33 @@ stays : {S : Type 0} (w new after : World S) → new ≡ after → after.nodes �
     KeepsHighest w new
 stays w new after e nodes winners = nodes_stay w new (ap (λ v. v.nodes) e ∙ nodes) (ap (λ v. v.winners) e ∙ winners)
 
-does_keeps : {S : Type 0} (M : Machine S) (w new : World S) (e : Event) (r : protocol.Reply) →
-    Inv M no_copies w → refusal M no_copies w (event_of e) ≡ None → Does M no_copies w (event_of e) r new →
+does_keeps : {S : Type 0} (M : Machine S) (C : Copying S) (w new : World S) (e : Event) (r : protocol.Reply) →
+    Inv M C w → refusal M C w (event_of e) ≡ None → Does M C w (event_of e) r new →
     KeepsHighest w new
-does_keeps M w new (event.Step n turns) r i free d =
+does_keeps M C w new (event.Step n turns) r i free d =
     node_changes d.at (λ x y s. (advances_keep M s.advances).generation)
-does_keeps M w new (event.TypeByte port byte) r i free d = stays w new _ d.after refl refl
-does_keeps M w new (event.TakeKey n port index) r i free d = takes_keeps M w new n _ r d.input
-does_keeps M w new (event.Send n index) r i free d = stays w new _ d.says.after refl refl
-does_keeps M w new (event.DeliverLog m n) r i free d =
+does_keeps M C w new (event.TypeByte port byte) r i free d = stays w new _ d.after refl refl
+does_keeps M C w new (event.TakeKey n port index) r i free d = takes_keeps M w new n _ r d.input
+does_keeps M C w new (event.Send n index) r i free d = stays w new _ d.says.after refl refl
+does_keeps M C w new (event.DeliverLog m n) r i free d =
     node_changes d.at (λ x y s. (held_stays d.index d.e d.next x y s).generation)
-does_keeps M w new (event.Acknowledge n) r i free d = stays w new _ d.says.after refl refl
-does_keeps M w new (event.DeliverAcknowledgement m n) r i free d =
+does_keeps M C w new (event.Acknowledge n) r i free d = stays w new _ d.says.after refl refl
+does_keeps M C w new (event.DeliverAcknowledgement m n) r i free d =
     node_changes d.at (λ x y s. (heard_kept x y d.held d.replayed d.covered s).generation)
-does_keeps M w new (event.Replay n turns) r i free d =
+does_keeps M C w new (event.Replay n turns) r i free d =
     node_changes d.at (λ x y s. (replays_keep M s.moves).generation)
-does_keeps M w new (event.Release n name) r i free d = stays w new _ d.says.after refl refl
-does_keeps M w new (event.Arrive m) r i free d = stays w new _ d.after refl refl
-does_keeps M w new (event.TellSent n port number) r i free d = takes_keeps M w new n _ r d
-does_keeps M w new (event.Told n port) r i free d = stays w new _ d.after refl refl
-does_keeps M w new (event.Put m) r i free d = stays w new _ d.after refl refl
-does_keeps M w new (event.PutReply m n) r i free d = takes_keeps M w new n _ r d.input
-does_keeps M w new (event.Get n sector) r i free d = stays w new _ d.after refl refl
-does_keeps M w new (event.GetReply m n) r i free d = takes_keeps M w new n _ r d.input
-does_keeps M w new (event.Suspect n) r i free d = asks_keeps M no_copies w new n r i free d
-does_keeps M w new (event.Drain n turns) r i free d =
+does_keeps M C w new (event.Release n name) r i free d = stays w new _ d.says.after refl refl
+does_keeps M C w new (event.Arrive m) r i free d = stays w new _ d.after refl refl
+does_keeps M C w new (event.TellSent n port number) r i free d = takes_keeps M w new n _ r d
+does_keeps M C w new (event.Told n port) r i free d = stays w new _ d.after refl refl
+does_keeps M C w new (event.Put m) r i free d = stays w new _ d.after refl refl
+does_keeps M C w new (event.PutReply m n) r i free d = takes_keeps M w new n _ r d.input
+does_keeps M C w new (event.Get n sector) r i free d = stays w new _ d.after refl refl
+does_keeps M C w new (event.GetReply m n) r i free d = takes_keeps M w new n _ r d.input
+does_keeps M C w new (event.Suspect n) r i free d = asks_keeps M C w new n r i free d
+does_keeps M C w new (event.Drain n turns) r i free d =
     node_changes d.at (λ x y s. drained_generation s)
-does_keeps M w new (event.Stop n) r i free d = node_changes d.at (λ x y s. (halted_kept x y s).generation)
+does_keeps M C w new (event.Stop n) r i free d = node_changes d.at (λ x y s. (halted_kept x y s).generation)
 
 leaves_keeps : {S : Type 0} (w new : World S) (e : protocol.Event) (fault : Fault) → Leaves w e fault new →
     KeepsHighest w new
@@ -113,9 +113,9 @@ leaves_keeps w new (protocol.Suspect n) Lost d = node_changes d (λ x y s. (halt
 leaves_keeps w new e fault d = stays w new w d refl refl
 
 -- each row
-pub row_keeps : {S : Type 0} (M : Machine S) (w new : World S) (e : Event) (r : protocol.Reply) →
-    Inv M no_copies w → Row M no_copies w (event_of e) r new → KeepsHighest w new
-row_keeps M w new e r i (Accepts free d) = does_keeps M w new e r i free d
-row_keeps M w new e r i (Refuses {fault = fault} because d) = leaves_keeps w new (event_of e) fault d
-row_keeps M w new e r i (DeviceFails free d) = nodes_stay w new refl refl
-row_keeps M w new e r i (NeedsMemory free d) = nodes_stay w new refl refl
+pub row_keeps : {S : Type 0} (M : Machine S) (C : Copying S) (w new : World S) (e : Event) (r : protocol.Reply) →
+    Inv M C w → Row M C w (event_of e) r new → KeepsHighest w new
+row_keeps M C w new e r i (Accepts free d) = does_keeps M C w new e r i free d
+row_keeps M C w new e r i (Refuses {fault = fault} because d) = leaves_keeps w new (event_of e) fault d
+row_keeps M C w new e r i (DeviceFails free d) = nodes_stay w new refl refl
+row_keeps M C w new e r i (NeedsMemory free d) = nodes_stay w new refl refl

@@ -6,7 +6,7 @@ use Rattle.std.specs.Prelude.{map, slice_get}
 use Rattle.guest_board.specs.Machine.{Machine}
 use Rattle.guest_trace.specs.declared.timed.Timed.{Timed}
 use Rattle.pair_protocol.specs.Change.{Changes, Reached, Stays}
-use Rattle.pair_protocol.specs.Copying.{Copying, no_copies}
+use Rattle.pair_protocol.specs.Copying.{Copying, IsCopying}
 use Rattle.pair_protocol.specs.Event as protocol
 use Rattle.pair_protocol.specs.Faithful.{IsPrefix}
 use Rattle.pair_protocol.specs.Grows.{Grows}
@@ -28,26 +28,25 @@ use Rattle.pair_protocol.proofs.Promises.Settling.{highest_is}
 use Rattle.ft_world.specs.Applies.{First, Nothing, Rows}
 use Rattle.ft_world.specs.Words.{event_of}
 use Rattle.pair_events.specs.declared.event.Event.{Event}
-use Rattle.ft_world.proofs.Applying.{no_copies_copy}
 use Rattle.ft_world.proofs.Generations.{KeepsHighest, row_keeps}
 
 -- rows are actions
-rows_changes : {S : Type 0} (M : Machine S) (w new : World S) (events : List protocol.Event)
-    (replies : List protocol.Reply) → Rows M w events replies new → Changes M no_copies w new
-rows_changes M w new events replies Nothing = Stays
-rows_changes M w new events replies (First {mid = v} {e = e} {events = es} {r = r} {replies = rs} row rest) =
-    changes-append M no_copies w v new (row_changes M no_copies w v e r row) (rows_changes M v new es rs rest)
+rows_changes : {S : Type 0} (M : Machine S) (C : Copying S) (w new : World S) (events : List protocol.Event)
+    (replies : List protocol.Reply) → Rows M C w events replies new → Changes M C w new
+rows_changes M C w new events replies Nothing = Stays
+rows_changes M C w new events replies (First {mid = v} {e = e} {events = es} {r = r} {replies = rs} row rest) =
+    changes-append M C w v new (row_changes M C w v e r row) (rows_changes M C v new es rs rest)
 
 -- winners stay
-rows_winners : {S : Type 0} (M : Machine S) → Lawful M → (w new : World S) (events : List protocol.Event)
-    (replies : List protocol.Reply) → Reached M no_copies w → Rows M w events replies new →
+rows_winners : {S : Type 0} (M : Machine S) (C : Copying S) → Lawful M → IsCopying M C → (w new : World S) (events : List protocol.Event)
+    (replies : List protocol.Reply) → Reached M C w → Rows M C w events replies new →
     (generation n : ℕ) → winner_in w.winners generation ≡ Some n → winner_in new.winners generation ≡ Some n
-rows_winners M laws w new events replies h Nothing generation n won = won
-rows_winners M laws w new events replies h
+rows_winners M C laws copies w new events replies h Nothing generation n won = won
+rows_winners M C laws copies w new events replies h
     (First {mid = v} {e = e} {events = es} {r = r} {replies = rs} row rest) generation n won =
-    rows_winners M laws v new es rs
-    (changes_reach M no_copies w v h (row_changes M no_copies w v e r row)) rest generation n
-    ((row_grows M no_copies laws (no_copies_copy M) w v e r h row).winners generation n won)
+    rows_winners M C laws copies v new es rs
+    (changes_reach M C w v h (row_changes M C w v e r row)) rest generation n
+    ((row_grows M C laws copies w v e r h row).winners generation n won)
 
 -- one row, and then others
 keeps_then : {S : Type 0} (w mid new : World S) → KeepsHighest w mid → KeepsHighest mid new → KeepsHighest w new
@@ -61,17 +60,17 @@ keeps_then {S} w mid new a b = record {
     go generation n None e none won = b.wins_there generation n e won ∙ a.highest_stays
     go generation n (Some m) e none won = a.wins_there generation m none e
 
-rows_keeps : {S : Type 0} (M : Machine S) → Lawful M → (w new : World S) (events : List Event)
-    (replies : List protocol.Reply) → Reached M no_copies w → Rows M w (map event_of events) replies new →
+rows_keeps : {S : Type 0} (M : Machine S) (C : Copying S) → Lawful M → IsCopying M C → (w new : World S) (events : List Event)
+    (replies : List protocol.Reply) → Reached M C w → Rows M C w (map event_of events) replies new →
     KeepsHighest w new
-rows_keeps M laws w new [] replies h Nothing = record {
+rows_keeps M C laws copies w new [] replies h Nothing = record {
   highest_stays = refl;
   wins_there = λ generation n none won. absurd (cc);
 }
-rows_keeps M laws w new (e ∷ events) replies h (First {mid = v} {r = r} {replies = rs} row rest) =
-    keeps_then w v new (row_keeps M w v e r (reached M no_copies laws (no_copies_copy M) w h) row)
-    (rows_keeps M laws v new events rs
-    (changes_reach M no_copies w v h (row_changes M no_copies w v (event_of e) r row)) rest)
+rows_keeps M C laws copies w new (e ∷ events) replies h (First {mid = v} {r = r} {replies = rs} row rest) =
+    keeps_then w v new (row_keeps M C w v e r (reached M C laws copies w h) row)
+    (rows_keeps M C laws copies v new events rs
+    (changes_reach M C w v h (row_changes M C w v (event_of e) r row)) rest)
 
 -- the winner of the highest generation settles
 winner_settles : {S : Type 0} (M : Machine S) (C : Copying S) (w : World S) (i : Inv M C w) (n : ℕ) (x : Node S) →
@@ -113,26 +112,26 @@ winner_settles {S} M C w i n x there won = go l.stage o.tied
         (backup-no_spare M C l t.backup.b t.backup.is_backup.state)
 
 -- rows of events let what is settled grow
-pub rows_grow : {S : Type 0} (M : Machine S) → Lawful M → (w new : World S) (events : List Event)
-    (replies : List protocol.Reply) → Reached M no_copies w → Rows M w (map event_of events) replies new →
+pub rows_grow : {S : Type 0} (M : Machine S) (C : Copying S) → Lawful M → IsCopying M C → (w new : World S) (events : List Event)
+    (replies : List protocol.Reply) → Reached M C w → Rows M C w (map event_of events) replies new →
     Grows M w new
-rows_grow {S} M laws w new events replies h rows = record {
-  settled = grows_by M no_copies w new i next.inv next.grows;
-  winners = rows_winners M laws w new (map event_of events) replies h rows;
+rows_grow {S} M C laws copies w new events replies h rows = record {
+  settled = grows_by M C w new i next.inv next.grows;
+  winners = rows_winners M C laws copies w new (map event_of events) replies h rows;
   won = λ list count generation n x old none won there.
       won_list list count n x old there (subst (λ g. winner_in new.winners g ≡ Some n)
       (kept.wins_there generation n none won ∙ sym kept.highest_stays) won);
 }
   where
-    i : Inv M no_copies w
-    i = reached M no_copies laws (no_copies_copy M) w h
+    i : Inv M C w
+    i = reached M C laws copies w h
 
-    next : Next M no_copies i.trace new
-    next = keep_all M no_copies laws (no_copies_copy M) w new i
-        (rows_changes M w new (map event_of events) replies rows)
+    next : Next M C i.trace new
+    next = keep_all M C laws copies w new i
+        (rows_changes M C w new (map event_of events) replies rows)
 
     kept : KeepsHighest w new
-    kept = rows_keeps M laws w new events replies h rows
+    kept = rows_keeps M C laws copies w new events replies h rows
 
     won_list : (list : List Timed) (count n : ℕ) (x : Node S) → Settled M w list count →
         slice_get new.nodes n ≡ Some x → winner_in new.winners (highest new.nodes) ≡ Some n →
@@ -141,10 +140,10 @@ rows_grow {S} M laws w new events replies h rows = record {
         let s : Settled M new (list_of x x.role) (count_in M x x.role) = record {
           n = n;
           x = x;
-          settles = winner_settles M no_copies new next.inv n x there won;
+          settles = winner_settles M C new next.inv n x there won;
           list_is = refl;
           count_is = refl;
         } in
-        let e = grows_by M no_copies w new i next.inv next.grows list count (list_of x x.role) (count_in M x x.role)
+        let e = grows_by M C w new i next.inv next.grows list count (list_of x x.role) (count_in M x x.role)
         old s in
         (e.added, e.goes_on)

@@ -1,23 +1,19 @@
 -- A station takes an input: the input is appended to its inputs, at the count of its machine.
-use Rattle.std.proofs.Common.{◌≡◌, ◌∙◌, [], ◌∷◌, ◌++◌, Err, None, Ok, Option, Result, Some, ap, inl, inr, refl, subst, sym}
-use Rattle.std.specs.Result.{IsErrAnd}
-use Rattle.disk_dcdd.specs.Completion.{answered}
+use Rattle.std.proofs.Common.{◌≡◌, ◌∙◌, [], ◌∷◌, ◌++◌, Some, ap, inl, inr, refl, subst, sym}
 use Rattle.guest_board.specs.Machine.{Machine}
 use Rattle.guest_board.specs.declared.input.Input.{Input}
-use Rattle.i8080_words.specs.declared.refusal.Fault.{Fault}
 use Rattle.guest_trace.specs.Reach.{timed}
 use Rattle.guest_board.specs.Recorded.{Counts}
 use Rattle.pair_protocol.specs.Change.{Serving}
 use Rattle.pair_protocol.specs.Effects.{Took, took}
 use Rattle.pair_protocol.specs.Node.{Node, Role, Primary, Backup, Joining, Draining, Alone, Spare}
-use Rattle.pair_protocol.specs.Refusals.{serves}
-use Rattle.ft_node.specs.Calls as calls
-use Rattle.ft_node.specs.Seats.{IsNode}
+use Rattle.ft_node.specs.Calls.{Makes}
+use Rattle.ft_node.specs.Seats.{IsNode, MayAccept, board_of}
 use Rattle.ft_node.specs.declared.node.Node as code
+use Rattle.ft_node.specs.declared.node.Node.TheVariants as seat
 use Rattle.ft_world.specs.Shows.{IsStation}
 use Rattle.ft_world.specs.declared.station.Station.{Station}
-use Rattle.ft_world.proofs.Answering.{found, given}
-use Rattle.ft_world.proofs.Keeping.{serving_role, machine_count, own_inputs}
+use Rattle.ft_world.proofs.Keeping.{machine_count, own_inputs}
 
 -- a node that has taken an input
 record Takes {S : Type 0} (M : Machine S) (i : Input) (x y : Node S) : Type 0 where
@@ -53,21 +49,25 @@ took_station state M i h new x y serve t is now e c =
       a_node = λ s. is.a_node (sym t.role ∙ s);
     }
 
-pub takes_on : {B S : Type 0} (state : B → S) (M : Machine S) (i : Input) (o : Option Fault) (h : Station B)
-    (node : code.Node B) (new : Station B) (x : Node S) → Counts M → (o ≡ None → serves x ≡ None)
-    → IsStation state M h x → calls.Takes M i o x (Ok tt) (IsNode state M node) → new.node ≡ node
-    → new.inputs ≡ h.inputs ++ timed h.count i ∷ [] → new.count ≡ h.count
-    → calls.Call {A = Unit {0}} o calls.Ever (λ done. Took M i) x (Ok tt) (IsStation state M new)
-takes_on state M i o h node new x counts serve is d en e c =
-    given {A = Unit {0}} o calls.Never calls.Ever (λ done. Took M i) x (IsNode state M node) (IsStation state M new) tt (λ y none t now.
-    (let role : Serving x.role = serving_role x (serve none) in
-    took_station state M i h new x y role
-    (subst (Takes M i x) (sym t.after) (takes M i x t.s counts t.takes x.role role)) is
-    (subst (λ k. IsNode state M k y) (sym en) now) e c)) d
+-- a node that may accept an input serves
+serves_in : {B S : Type 0} (state : B → S) (M : Machine S) (node : code.Node B) (b : B) (x : Node S)
+    → board_of node ≡ Some b → IsNode state M node x → Serving x.role
+serves_in state M (seat.Primary p) b x is node = inl node.role
+serves_in state M (seat.Alone a) b x is node = inr node.role
+serves_in state M (seat.Backup f) b x is node = absurd cc
+serves_in state M (seat.Draining d) b x is node = absurd cc
+serves_in state M (seat.Halted h) b x is node = absurd cc
 
-pub refused : {B S : Type 0} (state : B → S) (M : Machine S) (i : Input) (o : Option Fault)
-    (r : Result (Unit {0}) Fault) (fault : Fault) (h : Station B) (x : Node S) → IsErrAnd r (λ k. k ≡ fault)
-    → ◌≡◌ {A = Result (Unit {0}) Fault} (Err fault) (answered o) → IsStation state M h x
-    → calls.Call o calls.Ever (λ done. Took M i) x r (IsStation state M h)
-refused state M i o r fault h x at e is =
-    found o calls.Ever (λ done. Took M i) x (IsStation state M h) r fault at e is
+pub accepts : {B S : Type 0} (state : B → S) (M : Machine S) (i : Input) (h new : Station B) (x : Node S) → Counts M
+    → MayAccept state M h.node i → IsStation state M h x → Makes x (Took M i) (IsNode state M new.node)
+    → new.inputs ≡ h.inputs ++ timed h.count i ∷ [] → new.count ≡ h.count → Makes x (Took M i) (IsStation state M new)
+accepts state M i h new x counts may is made e c =
+    let role = serves_in state M h.node may.board x may.takes is.node in
+    let t = made.done in
+    record {
+      y = made.y;
+      done = t;
+      after =
+          took_station state M i h new x made.y role
+          (subst (Takes M i x) (sym t.after) (takes M i x t.s counts t.takes x.role role)) is made.after e c;
+    }

@@ -38,7 +38,6 @@ use Rattle.ft_world.specs.declared.host.Host.TheVariants as host
 use Rattle.ft_world.specs.declared.message.Message.{Message}
 use Rattle.ft_world.specs.declared.station.Station.{Station}
 use Rattle.ft_world.proofs.Agreeing.{agree-other}
-use Rattle.ft_world.proofs.Applying.{no_copies_copy}
 use Rattle.ft_world.proofs.AtDisk.{brings_write, not_put}
 use Rattle.ft_world.proofs.AtHosts.{AsksNode}
 use Rattle.ft_world.proofs.DiskReads.{stands_at}
@@ -136,7 +135,7 @@ put_stays state M records old m write (Err fault) ms disk some brings (why, same
     let h = some.shows in
     let N = machine_of M c in
     let met = h.parts.disk.there (address_of write)
-    (writes_on_disk N h.drives m c.world write h.machine (no_copies_copy N) h.reached
+    (writes_on_disk N c.copying h.drives m c.world write h.machine h.reached
     (brings_write (slice_get old.messages m) (slice_get c.world.messages m) write (h.parts.messages.each m) brings)) in
     disk_leaves records old ms disk fault (elim why [
       | inl is ↦ inl is

@@ -11,7 +11,7 @@ use Rattle.guest_board.specs.Machine.{Do, Machine, Move, Runs, Take}
 use Rattle.guest_trace.specs.Reach.{operations}
 use Rattle.disk_dcdd.specs.Address.{has_sector}
 use Rattle.pair_protocol.specs.Change.{Reached}
-use Rattle.pair_protocol.specs.Copying.{IsCopying, no_copies}
+use Rattle.pair_protocol.specs.Copying.{Copying}
 use Rattle.pair_protocol.specs.Lawful.{Among, Reaches}
 use Rattle.pair_protocol.specs.World.{Released, World}
 use Rattle.pair_protocol.proofs.Traces.Lists.{among-get}
@@ -47,18 +47,17 @@ issued M laws front (Take i ∷ moves) s t o from runs among =
     issued M laws (front ++ Take i ∷ []) moves runs.0 t o
     (runs-append M M.boot s runs.0 front (Take i ∷ []) from (runs.0, runs.1, refl)) runs.2 among
 
-pub released_was_outstanding : {S : Type 0} (M : Machine S) (drives m : ℕ) (w : World S) (o : Operation) →
-    IsMachine M drives → IsCopying M no_copies → Reached M no_copies w → slice_get w.messages m ≡ Some (Released o) →
+pub released_was_outstanding : {S : Type 0} (M : Machine S) (C : Copying S) (drives m : ℕ) (w : World S) (o : Operation) →
+    IsMachine M C drives → Reached M C w → slice_get w.messages m ≡ Some (Released o) →
     WasOutstanding M o
-released_was_outstanding M drives m w o machine copies h there =
-    let i = reached M no_copies machine.lawful copies w h in
-    let r = trace_runs M no_copies w i in
+released_was_outstanding M C drives m w o machine h there =
+    let i = reached M C machine.lawful machine.copies w h in
+    let r = trace_runs M C w i in
     issued M machine.operations [] i.trace M.boot r.0 o refl r.1
     (i.global.sends o (among-get w.messages m (Released o) there))
 
-pub writes_on_disk : {S : Type 0} (M : Machine S) (drives m : ℕ) (w : World S) (write : SectorWrite) →
-    IsMachine M drives → IsCopying M no_copies → Reached M no_copies w →
-    slice_get w.messages m ≡ Some (Released (Write write)) → IsTrue (has_sector drives (address_of write))
-writes_on_disk M drives m w write machine copies h there =
-    let x = released_was_outstanding M drives m w (Write write) machine copies h there in
+pub writes_on_disk : {S : Type 0} (M : Machine S) (C : Copying S) (drives m : ℕ) (w : World S) (write : SectorWrite) →
+    IsMachine M C drives → Reached M C w → slice_get w.messages m ≡ Some (Released (Write write)) → IsTrue (has_sector drives (address_of write))
+writes_on_disk M C drives m w write machine h there =
+    let x = released_was_outstanding M C drives m w (Write write) machine h there in
     machine.on_disk.writes x.moves x.at (id_of (Write write)) write x.reaches x.found

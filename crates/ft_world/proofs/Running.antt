@@ -8,7 +8,7 @@ use Rattle.std.proofs.lemmas.List.{length-append, map-append, take_more}
 use Rattle.guest_board.specs.Machine.{Machine}
 use Rattle.i8080_words.specs.declared.refusal.Fault.{Fault}
 use Rattle.shared_disk.specs.declared.store.Record.{Record}
-use Rattle.pair_protocol.specs.Copying.{no_copies}
+use Rattle.pair_protocol.specs.Copying.{Copying}
 use Rattle.pair_protocol.specs.Event as protocol
 use Rattle.pair_protocol.specs.Row.{Row}
 use Rattle.pair_protocol.specs.World.{World}
@@ -19,16 +19,15 @@ use Rattle.ft_world.specs.Standing.{Course, machine_of}
 use Rattle.ft_world.specs.Words.{answer_of, event_of}
 use Rattle.pair_events.specs.declared.event.Event.{Event}
 use Rattle.pair_events.specs.declared.reply.Reply.{Reply}
-use Rattle.ft_world.proofs.Applying.{no_copies_copy}
 use Rattle.ft_world.proofs.Growing.{rows_grow}
 
 -- one more row at the end
-rows_then : {S : Type 0} (M : Machine S) (w mid new : World S) (events : List protocol.Event)
-    (replies : List protocol.Reply) (e : protocol.Event) (r : protocol.Reply) → Rows M w events replies mid →
-    Row M no_copies mid e r new → Rows M w (events ++ e ∷ []) (replies ++ r ∷ []) new
-rows_then M w mid new events replies e r Nothing row = First row Nothing
-rows_then M w mid new events replies e r (First {mid = v} {events = es} {replies = rs} first rest) row =
-    First first (rows_then M v mid new es rs e r rest row)
+rows_then : {S : Type 0} (M : Machine S) (C : Copying S) (w mid new : World S) (events : List protocol.Event)
+    (replies : List protocol.Reply) (e : protocol.Event) (r : protocol.Reply) → Rows M C w events replies mid →
+    Row M C mid e r new → Rows M C w (events ++ e ∷ []) (replies ++ r ∷ []) new
+rows_then M C w mid new events replies e r Nothing row = First row Nothing
+rows_then M C w mid new events replies e r (First {mid = v} {events = es} {replies = rs} first rest) row =
+    First first (rows_then M C v mid new es rs e r rest row)
 
 -- no event has happened yet
 pub runs_begin : {B H D S : Type 0} (state : B → S) (M : Machine S) (records : D → List Record) (v : Running B H D)
@@ -40,8 +39,8 @@ runs_begin state M records v c h =
       rows = Nothing;
       each = refl;
       shows = h;
-      faithful = always_faithful N no_copies h.machine.lawful (no_copies_copy N) c.world h.reached;
-      grows = rows_grow N h.machine.lawful c.world c.world [] [] h.reached Nothing;
+      faithful = always_faithful N c.copying h.machine.lawful h.machine.copies c.world h.reached;
+      grows = rows_grow N c.copying h.machine.lawful h.machine.copies c.world c.world [] [] h.reached Nothing;
     }
 
 -- one more event has happened
@@ -56,7 +55,7 @@ runs_then {S = S} state M records start old new c events answers e answer h so_f
   each = length-append answers (answer ∷ []) ∙ ap (λ n. n + 1) so_far.each ∙ sym (length-append events (e ∷ []));
   shows = a.shows;
   faithful = a.faithful;
-  grows = rows_grow N h.machine.lawful c.world a.after (events ++ e ∷ []) (map answer_of (answers ++ answer ∷ []))
+  grows = rows_grow N c.copying h.machine.lawful h.machine.copies c.world a.after (events ++ e ∷ []) (map answer_of (answers ++ answer ∷ []))
       h.reached rows;
 }
   where
@@ -66,12 +65,12 @@ runs_then {S = S} state M records start old new c events answers e answer h so_f
     a : Applies state M records (record c { world = so_far.after }) e answer new
     a = happens (record c { world = so_far.after }) so_far.shows
 
-    rows : Rows N c.world (map event_of (events ++ e ∷ [])) (map answer_of (answers ++ answer ∷ [])) a.after
-    rows = subst (λ rs. Rows N c.world (map event_of (events ++ e ∷ [])) rs a.after)
+    rows : Rows N c.copying c.world (map event_of (events ++ e ∷ [])) (map answer_of (answers ++ answer ∷ [])) a.after
+    rows = subst (λ rs. Rows N c.copying c.world (map event_of (events ++ e ∷ [])) rs a.after)
         (sym (map-append answer_of answers (answer ∷ [])))
-        (subst (λ es. Rows N c.world es (map answer_of answers ++ answer_of answer ∷ []) a.after)
+        (subst (λ es. Rows N c.copying c.world es (map answer_of answers ++ answer_of answer ∷ []) a.after)
         (sym (map-append event_of events (e ∷ [])))
-        (rows_then N c.world so_far.after a.after (map event_of events) (map answer_of answers) (event_of e)
+        (rows_then N c.copying c.world so_far.after a.after (map event_of events) (map answer_of answers) (event_of e)
         (answer_of answer) so_far.rows a.row))
 
 -- the event at a place in a list has happened after those before it

@@ -9,7 +9,6 @@ use Rattle.i8080_words.specs.declared.refusal.Fault.{Fault}
 use Rattle.shared_disk.specs.declared.store.Record.{Record}
 use Rattle.log_channel.specs.declared.packet.Packet.TheVariants as packet
 use Rattle.log_channel.proofs.PacketLaws.{is_only}
-use Rattle.pair_protocol.specs.Copying.{no_copies}
 use Rattle.pair_protocol.specs.Event as protocol
 use Rattle.pair_protocol.specs.Node.{Node}
 use Rattle.pair_protocol.specs.Refusals.{acknowledge_refusal, refusal, send_refusal}
@@ -60,9 +59,9 @@ with_messages state M records drives old c ms ss p are = record {
 -- an event that sends a message
 pub says_applies : {B H D S : Type 0} (state : B → S) (M : Machine S) (records : D → List Record) (old : Running B H D)
     (c : Course S) (e : Event) (m : Message) (s : sent.Message) (answer : Result Reply Fault) (ms : List Message) →
-    Shows state M records old c → IsMessage m s → refusal (machine_of M c) no_copies c.world (event_of e) ≡ None →
+    Shows state M records old c → IsMessage m s → refusal (machine_of M c) c.copying c.world (event_of e) ≡ None →
     MayNeedMemory (machine_of M c) c.world (event_of e) →
-    Does (machine_of M c) no_copies c.world (event_of e) (protocol.MessageIs (length c.world.messages))
+    Does (machine_of M c) c.copying c.world (event_of e) (protocol.MessageIs (length c.world.messages))
     (with_message c.world s) →
     Says old.messages m answer ms → Applies state M records c e answer (record old { messages = ms })
 says_applies state M records old c e m s (Ok r) ms h i free takes does (said, after) =
@@ -70,7 +69,7 @@ says_applies state M records old c e m s (Ok r) ms h i free takes does (said, af
     ap reply_of said ∙ ap protocol.MessageIs h.parts.messages.count in
     applies state M records old c e (Ok r) (with_message c.world s) (record old { messages = ms }) h
     (Accepts free
-    (subst (λ q. Does (machine_of M c) no_copies c.world (event_of e) q (with_message c.world s)) (sym is) does))
+    (subst (λ q. Does (machine_of M c) c.copying c.world (event_of e) q (with_message c.world s)) (sym is) does))
     (with_messages state M records h.drives old c ms (c.world.messages ++ s ∷ []) h.parts
     (subst (λ l. AreMessages l (c.world.messages ++ s ∷ [])) (sym after)
     (messages_push old.messages c.world.messages m s h.parts.messages i)))

@@ -6,7 +6,6 @@ use Rattle.arbiter_core.specs.Winners.{winner_of}
 use Rattle.guest_board.specs.Machine.{Machine}
 use Rattle.guest_trace.specs.declared.timed.Timed.{Timed}
 use Rattle.shared_disk.specs.declared.store.Record.{Record}
-use Rattle.pair_protocol.specs.Copying.{no_copies}
 use Rattle.pair_protocol.specs.Node.{Alone, Backup, Draining, Joining, Node, Primary, Role, Spare}
 use Rattle.pair_protocol.specs.Settled.{Settled, Settles, count_in, list_of}
 use Rattle.pair_protocol.specs.World.{winner_in}
@@ -18,7 +17,6 @@ use Rattle.ft_world.specs.Standing.{Course, machine_of}
 use Rattle.ft_world.specs.declared.host.Host.{Host}
 use Rattle.ft_world.specs.declared.host.Host.TheVariants as host
 use Rattle.ft_world.specs.declared.station.Station.{Station}
-use Rattle.ft_world.proofs.Applying.{no_copies_copy}
 
 count_same : {S : Type 0} (M : Machine S) (c : Course S) (x : Node S) (role : Role) →
     count_in (machine_of M c) x role ≡ count_in M x role
@@ -67,7 +65,7 @@ pub settled_is : {B H D S : Type 0} (state : B → S) (M : Machine S) (records :
     Settled (machine_of M c) c.world list count
 settled_is {B} state M records old c node list count h found tells =
     let N = machine_of M c in
-    let f = (always_faithful N no_copies h.machine.lawful (no_copies_copy N) c.world h.reached).settled in
+    let f = (always_faithful N c.copying h.machine.lawful h.machine.copies c.world h.reached).settled in
     let same = who_settles state M records old c node f.n f.x h f.settles found in
     let here = at_station state M (slice_get old.hosts f.n) (slice_get c.world.nodes f.n) f.x list count
     (h.parts.hosts f.n) f.settles.there f.settles.a_node

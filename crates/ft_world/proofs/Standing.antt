@@ -5,7 +5,7 @@ use Rattle.std.specs.Prelude.{slice_get}
 use Rattle.guest_board.specs.Machine.{Do, Machine, Move, Runs, Take}
 use Rattle.shared_disk.specs.declared.store.Record.{Record}
 use Rattle.pair_protocol.specs.Change.{Reached, Serving}
-use Rattle.pair_protocol.specs.Copying.{IsCopying, no_copies}
+use Rattle.pair_protocol.specs.Copying.{Copying, IsCopying}
 use Rattle.pair_protocol.specs.Lawful.{Lawful, Reaches}
 use Rattle.pair_protocol.specs.Node.{Node}
 use Rattle.pair_protocol.specs.World.{World}
@@ -23,13 +23,12 @@ use Rattle.ft_world.specs.Standing.{Course, IsMachine, machine_of}
 use Rattle.ft_world.specs.declared.station.Station.{Station}
 use Rattle.ft_world.specs.declared.host.Host.TheVariants as host
 use Rattle.ft_world.proofs.Agreeing.{agree-other}
-use Rattle.ft_world.proofs.Applying.{no_copies_copy}
 
 -- a node that serves has a machine that was run from boot
-pub serving_runs : {S : Type 0} (M : Machine S) (w : World S) (n : ℕ) (x : Node S) → Lawful M → IsCopying M no_copies →
-    Reached M no_copies w → slice_get w.nodes n ≡ Some x → Serving x.role → (moves : List Move) × Reaches M moves x.machine
-serving_runs M w n x laws copies h there serves =
-    (nodes_stand M no_copies laws copies w h n x there).machine (inl serves)
+pub serving_runs : {S : Type 0} (M : Machine S) (C : Copying S) (w : World S) (n : ℕ) (x : Node S) → Lawful M → IsCopying M C →
+    Reached M C w → slice_get w.nodes n ≡ Some x → Serving x.role → (moves : List Move) × Reaches M moves x.machine
+serving_runs M C w n x laws copies h there serves =
+    (nodes_stand M C laws copies w h n x there).machine (inl serves)
 
 runs_same : {S : Type 0} (M : Machine S) (c : Course S) (s t : S) (moves : List Move) → Runs M s moves t →
     Runs (machine_of M c) s moves t
@@ -38,7 +37,7 @@ runs_same M c s t (Do gives ∷ moves) h = (h.0, h.1, runs_same M c h.0 t moves 
 runs_same M c s t (Take i ∷ moves) h = (h.0, h.1, runs_same M c h.0 t moves h.2)
 
 frugal : {S : Type 0} (M : Machine S) (c : Course S) (drives : ℕ) (front : List Move) (s : S) →
-    IsMachine (machine_of M c) drives → Reaches (machine_of M c) front s → IsFrugal M s
+    IsMachine (machine_of M c) c.copying drives → Reaches (machine_of M c) front s → IsFrugal M s
 frugal M c drives front s machine from = λ moves t runs.
     let few = machine.lawful.few (front ++ moves) t
     (runs-append (machine_of M c) c.boot s t front moves from (runs_same M c s t moves runs)) in
@@ -49,7 +48,7 @@ may_run : {B H D S : Type 0} (state : B → S) (M : Machine S) (records : D → 
     slice_get c.world.nodes n ≡ Some x → IsNode state M node x → MayRun state M node
 may_run state M records old c n x (seat.Primary p) h there is =
     let N = machine_of M c in
-    let r = serving_runs N c.world n x h.machine.lawful (no_copies_copy N) h.reached there (inl is.role) in (
+    let r = serving_runs N c.copying c.world n x h.machine.lawful h.machine.copies h.reached there (inl is.role) in (
       subst (λ s. IsFrugal M s) is.machine (frugal M c h.drives r.0 x.machine h.machine r.1),
       subst (λ s. AreOfOutstanding M s p.coverage) is.machine is.covers.outstanding,
     )

@@ -7,7 +7,7 @@ use Rattle.shared_disk.specs.Records.{faults_in}
 use Rattle.shared_disk.specs.declared.disk.SectorRead.{SectorRead}
 use Rattle.shared_disk.specs.declared.store.Record.{Record}
 use Rattle.pair_protocol.specs.Change.{Reached}
-use Rattle.pair_protocol.specs.Copying.{no_copies}
+use Rattle.pair_protocol.specs.Copying.{Copying}
 use Rattle.pair_protocol.specs.Event as protocol
 use Rattle.pair_protocol.specs.Faithful.{Faithful}
 use Rattle.pair_protocol.specs.Grows.{Grows}
@@ -34,12 +34,12 @@ pub record ShowsParts {B H D S : Type 0} (state : B → S) (M : Machine S) (reco
   pub generation : v.generation ≡ highest c.world.nodes
   pub backup : IsOnlyBackup c.world.nodes v.generation v.backup
 
--- a world of the protocol that a pair of such machines reaches without copies, and that the running world shows
+-- a world of the protocol that a pair of such machines reaches, and that the running world shows
 pub record Shows {B H D S : Type 0} (state : B → S) (M : Machine S) (records : D → List Record) (v : Running B H D)
     (c : Course S) : Type 0 where
   pub drives : ℕ
-  pub machine : IsMachine (machine_of M c) drives
-  pub reached : Reached (machine_of M c) no_copies c.world
+  pub machine : IsMachine (machine_of M c) c.copying drives
+  pub reached : Reached (machine_of M c) c.copying c.world
   pub parts : ShowsParts state M records drives v c
 
 -- some such world is shown
@@ -52,7 +52,7 @@ pub record ShowsSome {B H D S : Type 0} (state : B → S) (M : Machine S) (recor
 pub record Applies {B H D S : Type 0} (state : B → S) (M : Machine S) (records : D → List Record) (c : Course S)
     (e : Event) (answer : Result Reply Fault) (new : Running B H D) : Type 0 where
   pub after : World S
-  pub row : Row (machine_of M c) no_copies c.world (event_of e) (answer_of answer) after
+  pub row : Row (machine_of M c) c.copying c.world (event_of e) (answer_of answer) after
   pub shows : Shows state M records new (record c { world = after })
   pub faithful : Faithful (machine_of M c) after
   pub grows : Grows (machine_of M c) c.world after
@@ -79,19 +79,19 @@ failures_over (e ∷ events) (answer ∷ answers) = failures_told e answer + fai
 failures_over _ _ = 0
 
 -- rows of events, one after another; no host comes in between
-pub data Rows {S : Type 0} (M : Machine S) : World S → List protocol.Event → List protocol.Reply → World S
+pub data Rows {S : Type 0} (M : Machine S) (C : Copying S) : World S → List protocol.Event → List protocol.Reply → World S
     → Type 0 where
-  Nothing : {w : World S} → Rows M w [] [] w
+  Nothing : {w : World S} → Rows M C w [] [] w
   First : {w mid new : World S} {e : protocol.Event} {events : List protocol.Event} {r : protocol.Reply}
-      {replies : List protocol.Reply} → Row M no_copies w e r mid → Rows M mid events replies new →
-      Rows M w (e ∷ events) (r ∷ replies) new
+      {replies : List protocol.Reply} → Row M C w e r mid → Rows M C mid events replies new →
+      Rows M C w (e ∷ events) (r ∷ replies) new
 
 -- a run: one answer for each event, each of them the event's row; the world after it is shown, it is faithful, and what
 -- was settled before the run grows
 pub record Runs {B H D S : Type 0} (state : B → S) (M : Machine S) (records : D → List Record) (c : Course S)
     (events : List Event) (answers : List (Result Reply Fault)) (new : Running B H D) : Type 0 where
   pub after : World S
-  pub rows : Rows (machine_of M c) c.world (map event_of events) (map answer_of answers) after
+  pub rows : Rows (machine_of M c) c.copying c.world (map event_of events) (map answer_of answers) after
   pub each : length answers ≡ length events
   pub shows : Shows state M records new (record c { world = after })
   pub faithful : Faithful (machine_of M c) after

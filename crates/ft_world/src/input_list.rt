@@ -1,9 +1,11 @@
 //! The inputs beside a node.
 ghost use Rattle.std.specs.Prelude.{◌≡◌, [], ◌∷◌, ◌++◌, length, take, IfErr, OnErr, OnOk};
 ghost use Rattle.i8080_words.specs.declared.refusal.Fault.TheVariants.{OutOfMemory};
+ghost use Rattle.guest_trace.specs.Reach.{timed};
 ghost use Rattle.log_entry.specs.Entries.{timed_in, timed_of};
 
-use guest_trace::Timed;
+use guest_board::Input;
+use guest_trace::{Bare, Timed};
 use i8080_words::R;
 use log_entry::Entry;
 use std::alloc::Global;
@@ -48,13 +50,19 @@ impl Inputs {
         self.list.len()
     }
 
-    // Appends one more.
-    pub(crate) fn push(&mut self, timed: Timed) -> R<()>
-        ensures ok { OnOk result (self.new ≡ self.old ++ timed ∷ []) }
+    // Appends an input that is taken at a count.
+    pub(crate) fn push(&mut self, count: u64, input: &Input) -> R<()>
+        ensures ok { OnOk result (self.new ≡ self.old ++ timed count input.now ∷ []) }
         ensures full { IfErr result (λ fault. fault ≡ OutOfMemory) }
         ensures unchanged { OnErr result (self.new ≡ self.old) }
     {
-        self.list.push(timed)?;
+        let input = match *input {
+            Input::Rx(port, byte) => Bare::Rx(port, byte),
+            Input::Sent(port) => Bare::Sent(port),
+            Input::Sector { drive, sector, .. } => Bare::Sector(drive, sector),
+            Input::Written(number) => Bare::Written(number),
+        };
+        self.list.push(Timed { count, input })?;
         Ok(())
     }
 
@@ -64,10 +72,10 @@ impl Inputs {
         ensures full { IfErr result (λ fault. fault ≡ OutOfMemory) }
         ensures unchanged { OnErr result (self.new ≡ self.old) }
     {
-        match entry.timed() {
-            Some(timed) => self.push(timed),
-            None => Ok(()),
+        if let Some(timed) = entry.timed() {
+            self.list.push(timed)?;
         }
+        Ok(())
     }
 
     // Keeps at most the first `len` of them.

@@ -1,5 +1,5 @@
 //! A node with its list of inputs, and what an event does there.
-ghost use Rattle.std.specs.Prelude.{◌≡◌, ◌≢◌, ◌<◌, [], if◌then◌else◌, IfErr, OnErr};
+ghost use Rattle.std.specs.Prelude.{◌≡◌, ◌≢◌, ◌<◌, [], None, if◌then◌else◌, IfErr, OnErr};
 ghost use Rattle.disk_dcdd.specs.declared.controller.TheConstants.{DRIVES};
 ghost use Rattle.disk_dcdd.specs.declared.sector.TheConstants.{SECTORS};
 ghost use Rattle.event_callbacks.specs.declared.devices.TheConstants.{PORTS};
@@ -10,15 +10,14 @@ ghost use Rattle.pair_protocol.specs.Effects.{Took, NeedsEntry};
 ghost use Rattle.pair_protocol.specs.Node as protocol;
 ghost use Rattle.pair_protocol.specs.Refusals as refusals;
 ghost use Rattle.ft_node.specs.Calls as calls;
-ghost use Rattle.ft_node.specs.Seats.{IsNode, MayRun, MayReplay};
+ghost use Rattle.ft_node.specs.Seats.{IsNode, MayAccept, MayReplay, MayRun};
 ghost use Rattle.ft_world.specs.Shows.{IsStation};
 
 use crate::input_list::Inputs;
 use arbiter_core::{Arbiter, Won};
 use disk_dcdd::{SECTOR_BYTES, SectorAddress};
 use ft_node::{Drained, Node, Ran};
-use guest_board::Lockstep;
-use guest_trace::{Bare, Timed};
+use guest_board::{Input, Lockstep};
 use i8080_words::R;
 use replayer::Replayed;
 use std::alloc::Global;
@@ -68,6 +67,19 @@ impl<B: Lockstep + Drop> Station<B> {
         Ok(ran)
     }
 
+    // A node takes an input that nothing refuses, once it is appended to the inputs. `OutOfMemory` if they have no room.
+    fn accept(&mut self, input: Input) -> R<()>
+        requires { MayAccept B.state B.machine self.old.node input }
+        ensures answer { (x : protocol.Node B.State) → IsStation B.state B.machine self.old x
+            → calls.Call None calls.Ever (λ done. Took B.machine input) x result
+            (IsStation B.state B.machine self.new) }
+        ensures unchanged { OnErr result (self.new ≡ self.old) }
+    {
+        self.inputs.push(self.count, &input)?;
+        self.node.accept(input);
+        Ok(())
+    }
+
     /// A node takes the key that was typed at an index, from 0.
     pub(crate) fn take_key(&mut self, port: u8, index: u64, byte: u8) -> R<()>
         requires port { port < PORTS }
@@ -77,18 +89,7 @@ impl<B: Lockstep + Drop> Station<B> {
         ensures unchanged { OnErr result (self.new ≡ self.old) }
     {
         self.node.check_key(port, index)?;
-        let before = self.inputs.len();
-        self.inputs.push(Timed {
-            count: self.count,
-            input: Bare::Rx(port, byte),
-        })?;
-        match self.node.key(port, index, byte) {
-            Ok(()) => Ok(()),
-            Err(fault) => {
-                self.inputs.truncate(before);
-                Err(fault)
-            }
-        }
+        self.accept(Input::Rx(port, byte))
     }
 
     /// A node takes the acceptance of the byte with a number, from 1.
@@ -100,18 +101,7 @@ impl<B: Lockstep + Drop> Station<B> {
         ensures unchanged { OnErr result (self.new ≡ self.old) }
     {
         self.node.check_sent(port, number)?;
-        let before = self.inputs.len();
-        self.inputs.push(Timed {
-            count: self.count,
-            input: Bare::Sent(port),
-        })?;
-        match self.node.sent(port, number) {
-            Ok(()) => Ok(()),
-            Err(fault) => {
-                self.inputs.truncate(before);
-                Err(fault)
-            }
-        }
+        self.accept(Input::Sent(port))
     }
 
     /// A node takes the completion of the write with a number.
@@ -122,18 +112,7 @@ impl<B: Lockstep + Drop> Station<B> {
         ensures unchanged { OnErr result (self.new ≡ self.old) }
     {
         self.node.check_done(number)?;
-        let before = self.inputs.len();
-        self.inputs.push(Timed {
-            count: self.count,
-            input: Bare::Written(number),
-        })?;
-        match self.node.done(number) {
-            Ok(()) => Ok(()),
-            Err(fault) => {
-                self.inputs.truncate(before);
-                Err(fault)
-            }
-        }
+        self.accept(Input::Written(number))
     }
 
     /// A node takes a sector that was read, with the number of the write that brought its bytes.
@@ -152,18 +131,12 @@ impl<B: Lockstep + Drop> Station<B> {
         ensures unchanged { OnErr result (self.new ≡ self.old) }
     {
         self.node.check_under(address, number, bytes)?;
-        let before = self.inputs.len();
-        self.inputs.push(Timed {
-            count: self.count,
-            input: Bare::Sector(address.drive, address.sector),
-        })?;
-        match self.node.under(address, number, bytes) {
-            Ok(()) => Ok(()),
-            Err(fault) => {
-                self.inputs.truncate(before);
-                Err(fault)
-            }
-        }
+        self.accept(Input::Sector {
+            drive: address.drive,
+            sector: address.sector,
+            number,
+            bytes,
+        })
     }
 
     /// A node takes a packet of the log: true if its entry is the next one, and is now held; a repeat, or one past a
@@ -173,22 +146,19 @@ impl<B: Lockstep + Drop> Station<B> {
             → calls.DeliversLog NeedsEntry (packet_at bytes.now) x result (IsStation B.state B.machine self.new) }
         ensures unchanged { OnErr result (self.new ≡ self.old) }
     {
-        let next = self.node.next_entry(bytes)?;
-        match next {
-            None => self.node.on_log(bytes),
-            Some(entry) => {
-                let before = self.inputs.len();
-                self.inputs.hold(&entry)?;
-                match self.node.on_log(bytes) {
-                    Ok(held) => {
-                        self.count = entry.count();
-                        Ok(held)
-                    }
-                    Err(fault) => {
-                        self.inputs.truncate(before);
-                        Err(fault)
-                    }
-                }
+        let Some(entry) = self.node.next_entry(bytes)? else {
+            return Ok(false);
+        };
+        let before = self.inputs.len();
+        self.inputs.hold(&entry)?;
+        match self.node.hold(entry) {
+            Ok(()) => {
+                self.count = entry.count();
+                Ok(true)
+            }
+            Err(fault) => {
+                self.inputs.truncate(before);
+                Err(fault)
             }
         }
     }

@@ -51,12 +51,16 @@ AdvancesUnless M s log turns None answer t new = AdvancesSome M s log turns answ
 
 -- ---- offer
 
--- nothing refuses an input: it is one for the guest, which has a number left for a key, and the log has room
-pub record MayTake {S : Type 0} (M : Machine S) (s : S) (log : Log) (input : Input) : Type 0 where
+-- a guest awaits an input: the guest does not refuse it, and has a number left for a key
+pub record IsDue {S : Type 0} (M : Machine S) (s : S) (input : Input) : Type 0 where
   pub is_input : IsInput input
   pub numbered : IsNumbered input
-  pub guest : refusal_of M s input ≡ None
+  pub allowed : refusal_of M s input ≡ None
   pub number_left : HasRoom M s input
+
+-- nothing refuses an input: the guest awaits it, and the log has room for its entry
+pub record MayTake {S : Type 0} (M : Machine S) (s : S) (log : Log) (input : Input) : Type 0 where
+  pub due : IsDue M s input
   pub room : room_answer log ≡ Ok tt
 
 -- the guest's refusal comes before the log's

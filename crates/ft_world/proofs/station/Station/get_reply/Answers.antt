@@ -1,22 +1,22 @@
--- The node refuses the sector, or takes it, and it is appended to the station's inputs.
-use Rattle.std.proofs.Common.{refl}
+-- The node refuses the sector, or takes it.
 use Rattle.guest_board.specs.declared.input.Input.TheVariants as input
-use Rattle.pair_protocol.specs.Refusals as refusals
-use Rattle.pair_protocol.proofs.Passed.{first-passed}
-use Rattle.ft_world.proofs.Inputs.{refused, takes_on}
+use Rattle.pair_protocol.specs.Effects.{Took}
+use Rattle.pair_protocol.specs.Refusals.{get_reply_refusal}
+use Rattle.ft_node.specs.Calls.{Ever}
+use Rattle.ft_node.proofs.PassedChecks.{passed, refused}
+use Rattle.ft_world.specs.Shows.{IsStation}
 use Rattle.ft_world.proofs.station.Station.get_reply.Goals as goal
 
 pub returns-in_err-check_under-clause-answer : goal.returns-in_err-check_under-clause-answer
 returns-in_err-check_under-clause-answer g c = λ x is.
-    refused g.B.Lockstep.state g.B.Lockstep.machine (input.Sector c.args.address.drive c.args.address.sector
-    c.args.number c.args.bytes)
-    (refusals.get_reply_refusal g.B.Lockstep.machine c.args.address c.args.number c.args.bytes x) c.from_residual.result
-    c.in_err-check_under.field-0.0 c.args.self.now x c.from_residual.ensures.1 (c.in_err-check_under.ensures x
-    is.node) is
+    let M = g.B.Lockstep.machine in
+    refused (get_reply_refusal M c.args.address c.args.number c.args.bytes x) Ever (λ done. Took M (input.Sector c.args.address.drive c.args.address.sector c.args.number c.args.bytes)) x c.from_residual.result
+    (IsStation g.B.Lockstep.state M c.args.self.now) c.in_err-check_under.field-0.0 c.from_residual.ensures.1
+    (c.in_err-check_under.ensures.answer x is.node) is
 
-pub returns-in-Ok-clause-answer : goal.returns-in-Ok-clause-answer
-returns-in-Ok-clause-answer g c = λ x is.
-    takes_on g.B.Lockstep.state g.B.Lockstep.machine (input.Sector c.args.address.drive c.args.address.sector c.args.number c.args.bytes)
-    (refusals.get_reply_refusal g.B.Lockstep.machine c.args.address c.args.number c.args.bytes x) c.args.self.now c.under.new.self
-    (record c.args.self.now { node = c.under.new.self; inputs = c.push.new.self }) x g.met.B.Lockstep.counts
-    (λ e. (first-passed (refusals.serves x) _ e).0) is (c.in-Ok.ensures.answer x is.node) refl c.in_ok-push.ensures.ok refl
+pub returns-clause-answer : goal.returns-clause-answer
+returns-clause-answer g c = λ x is.
+    let M = g.B.Lockstep.machine in
+    passed (get_reply_refusal M c.args.address c.args.number c.args.bytes x) Ever (λ done. Took M (input.Sector c.args.address.drive c.args.address.sector c.args.number c.args.bytes)) x c.accept.result
+    (IsStation g.B.Lockstep.state M c.accept.new.self) c.in_ok-check_under.field-0 (c.in_ok-check_under.ensures.answer x is.node)
+    (c.accept.ensures.answer x is)

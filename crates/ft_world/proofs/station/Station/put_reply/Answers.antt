@@ -1,14 +1,15 @@
--- The node takes the completion, which is appended to the station's inputs.
-use Rattle.std.proofs.Common.{refl}
+-- The node refuses the completion, or takes it.
 use Rattle.guest_board.specs.declared.input.Input.TheVariants as input
-use Rattle.pair_protocol.specs.Refusals as refusals
-use Rattle.pair_protocol.proofs.Passed.{first-passed}
-use Rattle.ft_world.proofs.Inputs.{takes_on}
+use Rattle.pair_protocol.specs.Effects.{Took}
+use Rattle.pair_protocol.specs.Refusals.{put_reply_refusal}
+use Rattle.ft_node.specs.Calls.{Ever}
+use Rattle.ft_node.proofs.PassedChecks.{passed}
+use Rattle.ft_world.specs.Shows.{IsStation}
 use Rattle.ft_world.proofs.station.Station.put_reply.Goals as goal
 
-pub returns-in-Ok-clause-answer : goal.returns-in-Ok-clause-answer
-returns-in-Ok-clause-answer g c = λ x is.
-    takes_on g.B.Lockstep.state g.B.Lockstep.machine (input.Written c.args.number)
-    (refusals.put_reply_refusal g.B.Lockstep.machine c.args.number x) c.args.self.now c.done.new.self
-    (record c.args.self.now { node = c.done.new.self; inputs = c.push.new.self }) x g.met.B.Lockstep.counts
-    (λ e. (first-passed (refusals.serves x) _ e).0) is (c.in-Ok.ensures.answer x is.node) refl c.in_ok-push.ensures.ok refl
+pub returns-clause-answer : goal.returns-clause-answer
+returns-clause-answer g c = λ x is.
+    let M = g.B.Lockstep.machine in
+    passed (put_reply_refusal M c.args.number x) Ever (λ done. Took M (input.Written c.args.number)) x c.accept.result
+    (IsStation g.B.Lockstep.state M c.accept.new.self) c.in_ok-check_done.field-0 (c.in_ok-check_done.ensures.answer x is.node)
+    (c.accept.ensures.answer x is)

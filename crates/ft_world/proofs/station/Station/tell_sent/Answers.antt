@@ -1,20 +1,22 @@
--- The node refuses the acceptance, or takes it, and it is appended to the station's inputs.
-use Rattle.std.proofs.Common.{refl}
+-- The node refuses the acceptance, or takes it.
 use Rattle.guest_board.specs.declared.input.Input.TheVariants as input
-use Rattle.pair_protocol.specs.Refusals as refusals
-use Rattle.pair_protocol.proofs.Passed.{first-passed}
-use Rattle.ft_world.proofs.Inputs.{refused, takes_on}
+use Rattle.pair_protocol.specs.Effects.{Took}
+use Rattle.pair_protocol.specs.Refusals.{tell_sent_refusal}
+use Rattle.ft_node.specs.Calls.{Ever}
+use Rattle.ft_node.proofs.PassedChecks.{passed, refused}
+use Rattle.ft_world.specs.Shows.{IsStation}
 use Rattle.ft_world.proofs.station.Station.tell_sent.Goals as goal
 
 pub returns-in_err-check_sent-clause-answer : goal.returns-in_err-check_sent-clause-answer
 returns-in_err-check_sent-clause-answer g c = λ x is.
-    refused g.B.Lockstep.state g.B.Lockstep.machine (input.Sent c.args.port)
-    (refusals.tell_sent_refusal g.B.Lockstep.machine c.args.port c.args.number x) c.from_residual.result
-    c.in_err-check_sent.field-0.0 c.args.self.now x c.from_residual.ensures.1 (c.in_err-check_sent.ensures x is.node) is
+    let M = g.B.Lockstep.machine in
+    refused (tell_sent_refusal M c.args.port c.args.number x) Ever (λ done. Took M (input.Sent c.args.port)) x c.from_residual.result
+    (IsStation g.B.Lockstep.state M c.args.self.now) c.in_err-check_sent.field-0.0 c.from_residual.ensures.1
+    (c.in_err-check_sent.ensures.answer x is.node) is
 
-pub returns-in-Ok-clause-answer : goal.returns-in-Ok-clause-answer
-returns-in-Ok-clause-answer g c = λ x is.
-    takes_on g.B.Lockstep.state g.B.Lockstep.machine (input.Sent c.args.port)
-    (refusals.tell_sent_refusal g.B.Lockstep.machine c.args.port c.args.number x) c.args.self.now c.sent.new.self
-    (record c.args.self.now { node = c.sent.new.self; inputs = c.push.new.self }) x g.met.B.Lockstep.counts
-    (λ e. (first-passed (refusals.serves x) _ e).0) is (c.in-Ok.ensures.answer x is.node) refl c.in_ok-push.ensures.ok refl
+pub returns-clause-answer : goal.returns-clause-answer
+returns-clause-answer g c = λ x is.
+    let M = g.B.Lockstep.machine in
+    passed (tell_sent_refusal M c.args.port c.args.number x) Ever (λ done. Took M (input.Sent c.args.port)) x c.accept.result
+    (IsStation g.B.Lockstep.state M c.accept.new.self) c.in_ok-check_sent.field-0 (c.in_ok-check_sent.ensures.answer x is.node)
+    (c.accept.ensures.answer x is)
