@@ -41,8 +41,8 @@ pub accepted_marked : {S : Type 0} (M : Machine S) (typed0 typed1 : List ℕ) (k
     number ≤ acceptances port (inputs_of k.primary.list) → ByteIsAcknowledged z.moves k.primary.seen port number
 accepted_marked M typed0 typed1 k w st told z zero number two some le =
     let few = told.accepted0 in
-    let counted = st.counted0 in
-    let there = arrived_at 0 k.terminal.arrivals0 number _ st.arrived0 some (omega (arith, le, few, counted)) in
+    let counted = st.port0.accepted in
+    let there = arrived_at 0 k.terminal.arrivals0 number _ st.port0.arrived some (omega (arith, le, few, counted)) in
     record {
       byte = there.0.byte;
       marked = subst (λ n. IsAcknowledged z.moves k.primary.seen (Byte 0 n there.0.byte)) there.2
@@ -50,8 +50,8 @@ accepted_marked M typed0 typed1 k w st told z zero number two some le =
     }
 accepted_marked M typed0 typed1 k w st told z (suc zero) number two some le =
     let few = told.accepted1 in
-    let counted = st.counted1 in
-    let there = arrived_at 0 k.terminal.arrivals1 number _ st.arrived1 some (omega (arith, le, few, counted)) in
+    let counted = st.port1.accepted in
+    let there = arrived_at 0 k.terminal.arrivals1 number _ st.port1.arrived some (omega (arith, le, few, counted)) in
     record {
       byte = there.0.byte;
       marked = subst (λ n. IsAcknowledged z.moves k.primary.seen (Byte 1 n there.0.byte)) there.2

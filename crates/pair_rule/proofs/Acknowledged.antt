@@ -17,7 +17,7 @@ use Rattle.pair_rule.specs.declared.mailbox.Mailbox.TheVariants.{Inbox}
 use Rattle.pair_rule.specs.declared.payload.Packet.{Packet}
 use Rattle.pair_rule.specs.declared.payload.Payload.TheVariants.{Log}
 use Rattle.pair_rule.specs.Knowledge.{last_or, IsEntryOf, Stands, held, saw, grown, after_empty}
-use Rattle.pair_rule.specs.Shown.{primary_role, primary_runs, backup_role, backup_runs, primary_node, backup_node, Sent, Shows, Leads}
+use Rattle.pair_rule.specs.Shown.{visible, primary_role, primary_runs, backup_role, backup_runs, primary_node, backup_node, Sent, Shows, Leads}
 use Rattle.pair_rule.proofs.Filled.{among_last}
 use Rattle.pair_rule.proofs.ListsThatGrow.{last_among}
 use Rattle.pair_rule.proofs.WordChanges.{held_short}
@@ -58,7 +58,7 @@ module _ {S : Type 0} (M : Machine S) (C : Copying S) (typed0 typed1 : List ℕ)
       entries_are = z.entries_are;
       count = z.count;
       nodes = z.nodes;
-      sent = let t = more_sent k w.messages (Acknowledgement 1 (length k.backup.list) 0 ∷ []) z.sent in record {
+      sent = let t = more_sent (visible k) w.messages (Acknowledgement 1 (length k.backup.list) 0 ∷ []) z.sent in record {
         logs = t.logs;
         acks = λ h at. ⊎_elim (λ (i : Among h k.backup.held_values). t.acks h i)
             (λ (e : h ≡ length k.backup.list). subst
@@ -83,7 +83,7 @@ module _ {S : Type 0} (M : Machine S) (C : Copying S) (typed0 typed1 : List ℕ)
   }
 
   -- the primary sees what the backup acknowledged
-  saw_shows : (n : ℕ) (v : World S) → k.primary.seen ≤ n → v.nodes ≡ primary_node (saw n k) z.moves z.s ∷ backup_node M k ∷ []
+  saw_shows : (n : ℕ) (v : World S) → k.primary.seen ≤ n → v.nodes ≡ primary_node (visible (saw n k)) z.moves z.s ∷ backup_node M (visible k) ∷ []
       → v.messages ≡ w.messages → v.terminals ≡ w.terminals → v.winners ≡ w.winners → v.puts ≡ w.puts
       → Shows M typed0 typed1 (saw n k) v
   saw_shows n v more nodes messages terminals winners puts = record {
@@ -93,7 +93,7 @@ module _ {S : Type 0} (M : Machine S) (C : Copying S) (typed0 typed1 : List ℕ)
     entries_are = z.entries_are;
     count = z.count;
     nodes = nodes;
-    sent = subst (Sent (saw n k)) (sym messages) record {
+    sent = subst (Sent (visible (saw n k))) (sym messages) record {
       logs = z.sent.logs;
       acks = z.sent.acks;
       operations = z.sent.operations;
@@ -118,7 +118,7 @@ module _ {S : Type 0} (M : Machine S) (C : Copying S) (typed0 typed1 : List ℕ)
     run = Nothing;
     once = inl refl;
     shows = saw_shows n w (omega (arith, e))
-        (z.nodes ∙ (λ i. primary_node (saw (sym e i) k) z.moves z.s ∷ backup_node M k ∷ [])) refl refl refl refl;
+        (z.nodes ∙ (λ i. primary_node (visible (saw (sym e i) k)) z.moves z.s ∷ backup_node M (visible k) ∷ [])) refl refl refl refl;
   }
 
   see_one : (n : ℕ) → k.primary.winner ≡ 0 → k.primary.seen ≤ n → n ≤ length k.primary.list → Among n k.backup.held_values
@@ -146,13 +146,13 @@ module _ {S : Type 0} (M : Machine S) (C : Copying S) (typed0 typed1 : List ℕ)
               role = primary_role (sym none i);
               running = primary_runs (sym none i);
               covered = greater i;
-            } ∷ backup_node M k ∷ []))
+            } ∷ backup_node M (visible k) ∷ []))
             refl refl refl refl;
       }
 
   pub see_leads : Stands k → k.primary.winner ≡ 0
       → Leads M C typed0 typed1 (saw (last_or 0 k.backup.held_values) k) w (SeeEvents (last_or 0 k.backup.held_values))
-  see_leads st none = go (last_or 0 k.backup.held_values) st.behind (held_short k st) (last_among 0 k.backup.held_values)
+  see_leads st none = go (last_or 0 k.backup.held_values) st.log.behind (held_short k st) (last_among 0 k.backup.held_values)
     where
       go : (n : ℕ) → k.primary.seen ≤ n → n ≤ length k.primary.list → (n ≡ 0) ⊎ Among n k.backup.held_values
           → Leads M C typed0 typed1 (saw n k) w (SeeEvents n)
@@ -199,7 +199,7 @@ module _ {S : Type 0} (M : Machine S) (C : Copying S) (typed0 typed1 : List ℕ)
       entries_are = z.entries_are;
       count = z.count;
       nodes = ap (λ l. slice_set l 1 (holds backup p.entry)) z.nodes ∙
-          (λ i. primary_node k z.moves z.s ∷ record (holds backup p.entry) {
+          (λ i. primary_node (visible k) z.moves z.s ∷ record (holds backup p.entry) {
             role = backup_role (sym none i);
             running = backup_runs (sym none i);
           } ∷ []);
@@ -235,23 +235,7 @@ module _ {S : Type 0} (M : Machine S) (C : Copying S) (typed0 typed1 : List ℕ)
       reply = refl;
     }) Nothing;
     once = inl refl;
-    shows = record {
-      moves = z.moves;
-      s = z.s;
-      recorded = z.recorded;
-      entries_are = z.entries_are;
-      count = z.count;
-      nodes = z.nodes;
-      sent = record { logs = z.sent.logs; acks = z.sent.acks; operations = z.sent.operations; writes = z.sent.writes };
-      terminals = z.terminals;
-      winners = z.winners;
-      puts = z.puts;
-      issued = z.issued;
-      done = z.done;
-      first_reads = z.first_reads;
-      covered = z.covered;
-      only = z.only;
-    };
+    shows = z;
   }
 
   pub take_leads : (p : Packet) → k.backup.winner ≡ 0 → IsEntryOf k.generation k.primary.list p

@@ -100,7 +100,7 @@ module _ {S : Type 0} (M : Machine S) (C : Copying S) (may : Runnable M) (typed0
         let allowed : refusal_of M t (input.Sector drive sector r.number r.bytes) ≡ None =
         ap (λ n. sector_refusal M t (M.address t drive sector) n) same ∙ accepts.allowed in
         let first : r.number ≡ 0 → r.bytes ≡ M.boot_sector (M.address t drive sector) =
-        λ none. z.first_reads r (all_in (λ a. Among a k.disk.given) k.primary.answers (answer.Read r) st.answers given) none
+        λ none. z.first_reads r (all_in (λ a. Among a k.disk.given) k.primary.answers (answer.Read r) st.disk.answers given) none
         ∙ ap M.boot_sector at in
         sector_leads M C may.counts laws typed0 typed1 k w z st free.asks_not free.few free.room n t u drive sector number bytes q
         accepts

@@ -1,5 +1,5 @@
 -- An append is events of the world: steps up to the entry's count, its input, and the entry is sent.
-use Rattle.std.proofs.Common.{◌≡◌, ℕ, zero, suc, ◌+◌, ◌-◌, ◌<◌, ◌≤◌, Bool, true, false, List, [], ◌∷◌, ◌++◌, length, map, sym, refl, ap, ◌∙◌, subst, ◌⊎◌, inl, inr, ⊎_elim, arith, eq-eqb, ne_eqb, Option, Some, None, slice_get, slice_set, nat_lt, nat_le, is_none, not, ◌||◌, append-nil, ◌==◌}
+use Rattle.std.proofs.Common.{◌≡◌, ℕ, suc, ◌+◌, ◌-◌, ◌<◌, ◌≤◌, true, false, List, [], ◌∷◌, ◌++◌, length, map, sym, refl, ap, ◌∙◌, subst, inl, inr, ⊎_elim, arith, eq-eqb, ne_eqb, Option, Some, None, slice_get, slice_set, nat_lt, nat_le, is_none, not, ◌||◌, append-nil, ◌==◌}
 use Rattle.disk_dcdd.specs.Address.{same_address}
 use Rattle.disk_dcdd.specs.declared.address.SectorAddress.{SectorAddress}
 use Rattle.event_callbacks.specs.Operations.{id_of}
@@ -10,12 +10,11 @@ use Rattle.guest_board.specs.Running.{Quiet, Begin, More}
 use Rattle.guest_board.specs.declared.input.Input.{Input}
 use Rattle.guest_board.specs.declared.input.Input.TheVariants as input
 use Rattle.i8080_words.specs.declared.refusal.Fault.TheVariants.{LogFull, Spent, Idle, Unknown, WrongNumber, NotDue}
-use Rattle.log_entry.specs.Entries.{entries, entry_of, count_of, inputs_of, last_count}
+use Rattle.log_entry.specs.Entries.{entries, entry_of, count_of, inputs_of}
 use Rattle.log_entry.specs.declared.entry.Entry.{Entry}
 use Rattle.log_entry.specs.declared.entry.Entry.TheVariants.{Mark}
 use Rattle.guest_trace.specs.Reach.{steps, inputs, operations, bare}
 use Rattle.guest_trace.specs.declared.timed.Timed.{Timed}
-use Rattle.guest_trace.specs.declared.timed.Bare.{Bare}
 use Rattle.guest_trace.specs.declared.timed.Bare.TheVariants.{Written}
 use Rattle.pair_protocol.specs.Faithful.{IsPrefix}
 use Rattle.pair_rule.specs.Knowledge.{HasWrite}
@@ -35,60 +34,13 @@ use Rattle.pair_protocol.proofs.Traces.Lists.{among-prefix, among-split, map-app
 use Rattle.pair_protocol.proofs.Traces.Moves.{operations-prefix, inputs-append, inputs_of-append, timed_entry, count_entry, entries-append}
 use Rattle.pair_rule.specs.declared.view.Knowledge.{Knowledge}
 use Rattle.pair_rule.specs.Knowledge.{Stands, appended}
-use Rattle.pair_rule.specs.Shown.{notes_from, primary_role, primary_runs, primary_node, backup_node, Sent, Shows, Leads}
+use Rattle.pair_rule.specs.Shown.{visible, notes_from, primary_role, primary_runs, primary_node, backup_node, Sent, Shows, Leads}
 use Rattle.pair_protocol.proofs.Traces.Recorded.{recorded-runs, recorded-append}
 use Rattle.pair_rule.proofs.QuietSteps.{QuietMoves, quiet_moves, quiet_count, quiet_first, notes_more}
 use Rattle.pair_rule.proofs.Filled.{among_last}
+use Rattle.pair_rule.proofs.ListEnds.{get_last, get_end, last_of, too_low, same_self, same_number, not_true, key_room}
 use Rattle.pair_rule.proofs.WordChanges.{held_short}
 use Rattle.pair_rule.proofs.ShownNodes.{only_more, only_longer, longer_covered, serving, first_node, more_sent, index_of}
-use Rattle.i8080_words.specs.declared.limits.TheConstants.{GREATEST_NUMBER}
-
--- ---- lists
-
-get_last : {A : Type 0} (xs : List A) (x : A) → slice_get (xs ++ x ∷ []) (length xs) ≡ Some x
-get_last [] x = refl
-get_last (y ∷ xs) x = get_last xs x
-
-get_end : {A : Type 0} (xs : List A) (x y : A) (i : ℕ) → slice_get (xs ++ x ∷ []) i ≡ Some y
-    → (slice_get xs i ≡ Some y) ⊎ ((i ≡ length xs) × (x ≡ y))
-get_end [] x y zero e = inr (refl, is_some e)
-  where
-    some_or : {A : Type 0} → A → Option A → A
-    some_or d None = d
-    some_or d (Some a) = a
-
-    is_some : {A : Type 0} {a b : A} → Some a ≡ Some b → a ≡ b
-    is_some {A} {a} {b} e = ap (some_or a) e
-get_end [] x y (suc i) e = absurd (let c : None ≡ Some y = e in cc)
-get_end (z ∷ xs) x y zero e = inl e
-get_end (z ∷ xs) x y (suc i) e = ⊎_elim (λ t. inl t) (λ t. inr (ap suc t.0, t.1)) (get_end xs x y i e)
-
-last_of : (c : ℕ) (es : List Entry) (e : Entry) → last_count c (es ++ e ∷ []) ≡ count_of e
-last_of c [] e = refl
-last_of c (x ∷ es) e = last_of (count_of x) es e
-
-too_low : (a b : ℕ) → a < b → nat_le b a ≡ false
-too_low a b lt = grind arith
-
-same_self : (a : SectorAddress) → same_address a a ≡ true
-same_self a = grind arith
-
-number_in : Bare → ℕ
-number_in (Written n) = n
-number_in _ = 0
-
-same_number : (m n : ℕ) → Written m ≡ Written n → m ≡ n
-unfolding number_in
-same_number m n e = ap number_in e
-
-not_true : (b : Bool) → (b ≡ true → ⊥) → b ≡ false
-not_true true n = absurd (n refl)
-not_true false n = refl
-
--- there is room for one more key
-key_room : {S : Type 0} (M : Machine S) (n : ℕ) → n < GREATEST_NUMBER → n < top
-unfolding top
-key_room M n room = room
 
 module _ {S : Type 0} (M : Machine S) (C : Copying S) (counts : Counts M) (laws : Lawful M) (typed0 typed1 : List ℕ)
     (k : Knowledge) (w : World S) (z : Shows M typed0 typed1 k w) (st : Stands k) (none : k.primary.winner ≡ 0)
@@ -134,7 +86,7 @@ module _ {S : Type 0} (M : Machine S) (C : Copying S) (counts : Counts M) (laws 
 
   -- the primary with the longer list, after these moves
   abbrev then_node : Entry → List Move → S → Node S
-  then_node e moves u = record (primary_node (appended e k) moves u) { role = Primary; running = true }
+  then_node e moves u = record (primary_node (visible (appended e k)) moves u) { role = Primary; running = true }
 
   run_more : (a : World S) (es : List Event) (rs : List Reply) (b c : World S) (fs : List Event) (qs : List Reply)
       → Happens M C a es rs b → Happens M C b fs qs c → Happens M C a (es ++ fs) (rs ++ qs) c
@@ -149,7 +101,7 @@ module _ {S : Type 0} (M : Machine S) (C : Copying S) (counts : Counts M) (laws 
   -- where events lead to a primary with the entry, the entry is sent
   finish : (e : Entry) (moves : List Move) (u : S) (v : World S) (events : List Event) (replies : List Reply)
       → Recorded M M.boot moves u → entries 0 moves ≡ list ++ e ∷ [] → M.count u ≡ count_of e → Happens M C w events replies v
-      → v.nodes ≡ then_node e moves u ∷ backup_node M k ∷ [] → Sent k v.messages → v.terminals ≡ w.terminals
+      → v.nodes ≡ then_node e moves u ∷ backup_node M (visible k) ∷ [] → Sent (visible k) v.messages → v.terminals ≡ w.terminals
       → v.winners ≡ w.winners → v.puts ≡ w.puts → OnlySent v
       → IsPrefix z.moves moves → ((n : ℕ) → IsDone n moves → HasWrite k.disk.puts n)
       → AppendEvents (length list) e (events ++ Send 0 (length list) ∷ [])
@@ -163,7 +115,7 @@ module _ {S : Type 0} (M : Machine S) (C : Copying S) (counts : Counts M) (laws 
         run = run_more w events replies v (with_message v message) (Send 0 (length list) ∷ [])
             (MessageIs (length v.messages) ∷ []) run (First (Accepts
             (ap (λ l. at_node (slice_get l 0) (send_refusal (length list))) nodes
-            ∙ (let a : nat_lt (length list) k.primary.seen ≡ false = (let b = held_short k st in let c = st.behind in grind arith) in
+            ∙ (let a : nat_lt (length list) k.primary.seen ≡ false = (let b = held_short k st in let c = st.log.behind in grind arith) in
             λ i. fault_if (false || (a i || is_none (get_last list e i))) Unknown))
             record {
               e = e;
@@ -177,9 +129,9 @@ module _ {S : Type 0} (M : Machine S) (C : Copying S) (counts : Counts M) (laws 
           recorded = recorded;
           entries_are = entered;
           count = count ∙ sym (last_of 0 list e);
-          nodes = nodes ∙ (λ i. record y { role = primary_role (sym none i); running = primary_runs (sym none i) } ∷ backup_node M k ∷
+          nodes = nodes ∙ (λ i. record y { role = primary_role (sym none i); running = primary_runs (sym none i) } ∷ backup_node M (visible k) ∷
               []);
-          sent = let t = more_sent k v.messages (message ∷ []) sent in record {
+          sent = let t = more_sent (visible k) v.messages (message ∷ []) sent in record {
             logs = λ i x at. ⊎_elim (λ (old : slice_get list i ≡ Some x). t.logs i x old)
                 (λ (new : (i ≡ length list) × (e ≡ x)). subst
                 (λ (p : ℕ × Entry). Among (LogEntry 1 p.0 p.1) (v.messages ++ message ∷ [])) (λ j. (sym new.0 j, new.1 j))
@@ -351,7 +303,7 @@ module _ {S : Type 0} (M : Machine S) (C : Copying S) (counts : Counts M) (laws 
 
   input_leads : (n : ℕ) (t u : S) (i : Input) → Quiet M z.s n t → IsAccepted M t i u
       → (events : List Event) (replies : List Reply) (v : World S)
-      → Happens M C (with_node w 0 (at t)) events replies v → v.nodes ≡ taken t u i ∷ backup_node M k ∷ [] → Sent k v.messages
+      → Happens M C (with_node w 0 (at t)) events replies v → v.nodes ≡ taken t u i ∷ backup_node M (visible k) ∷ [] → Sent (visible k) v.messages
       → v.terminals ≡ w.terminals → v.winners ≡ w.winners → v.puts ≡ w.puts → OnlySent v → Tells i
       → AppendEvents (length list) (entry_of (M.count t) i) ((Step 0 n ∷ events) ++ Send 0 (length list) ∷ [])
       → Leads M C typed0 typed1 (appended (entry_of (M.count t) i) k) w (AppendEvents (length list) (entry_of (M.count t) i))
@@ -368,13 +320,13 @@ module _ {S : Type 0} (M : Machine S) (C : Copying S) (counts : Counts M) (laws 
       (nodes ∙ (λ j. record (taken t u i) {
         list = sym (inputs_of-append list (e ∷ []) ∙ ap (λ l. inputs_of list ++ (l ++ [])) (timed_entry (M.count t) i)) j;
         notes = sym (longer_notes n t r (Take i)) j;
-      } ∷ backup_node M k ∷ []))
+      } ∷ backup_node M (visible k) ∷ []))
       sent terminals winners puts only (r.moves ++ Take i ∷ [], refl) (longer_done n t r (Take i) (one_told i tells)) formed
 
   there_at : (t : S) → slice_get (with_node w 0 (at t)).nodes 0 ≡ Some (at t)
   there_at t = ap (λ l. slice_get (slice_set l 0 (at t)) 0) z.nodes
 
-  then_nodes : (t : S) (y : Node S) → slice_set (slice_set w.nodes 0 (at t)) 0 y ≡ y ∷ backup_node M k ∷ []
+  then_nodes : (t : S) (y : Node S) → slice_set (slice_set w.nodes 0 (at t)) 0 y ≡ y ∷ backup_node M (visible k) ∷ []
   then_nodes t y = ap (λ l. slice_set (slice_set l 0 (at t)) 0 y) z.nodes
 
   -- a key that was typed
@@ -513,7 +465,7 @@ module _ {S : Type 0} (M : Machine S) (C : Copying S) (counts : Counts M) (laws 
           reply = refl;
         };
       }) Nothing))
-      (then_nodes t (taken t u i)) (more_sent k w.messages
+      (then_nodes t (taken t u i)) (more_sent (visible k) w.messages
       (SectorRead address (sector_record M w.puts address).number (sector_record M w.puts address).bytes ∷ []) z.sent) refl
       refl refl (only_more list k.backup.held_values
       (SectorRead address (sector_record M w.puts address).number (sector_record M w.puts address).bytes) w.messages tt

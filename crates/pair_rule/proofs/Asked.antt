@@ -11,7 +11,7 @@ use Rattle.pair_protocol.specs.Row.{Row, Accepts, Refuses}
 use Rattle.pair_rule.specs.Shown.{First, Nothing}
 use Rattle.pair_rule.specs.declared.view.Knowledge.{Knowledge}
 use Rattle.pair_rule.specs.Knowledge.{winner_of, primary_asked, backup_asked}
-use Rattle.pair_rule.specs.Shown.{winners_of, Shows, Leads}
+use Rattle.pair_rule.specs.Shown.{Visible, visible, primary_node, backup_node, winners_of, Shows, ShowsVisible, Leads}
 use Rattle.pair_rule.proofs.ShownNodes.{serving, waiting, first_node, second_node}
 
 module _ {S : Type 0} (M : Machine S) (C : Copying S) (typed0 typed1 : List ℕ) (k : Knowledge) (w : World S)
@@ -28,18 +28,46 @@ module _ {S : Type 0} (M : Machine S) (C : Copying S) (typed0 typed1 : List ℕ)
   at_backup : k.backup.winner ≡ 0 → slice_get w.nodes 1 ≡ Some backup
   at_backup none = second_node M C typed0 typed1 k w z none
 
+  -- who has asked shows in the nodes and in the winner alone
+  abbrev asked : ℕ → ℕ → Visible
+  asked primary backup = record (visible k) { winner = primary; backup = record k.backup { winner = backup } }
+
+  asked_shows : (a b : ℕ) (nodes : List (Node S)) (winners : List Winner)
+      → nodes ≡ primary_node (asked a b) z.moves z.s ∷ backup_node M (asked a b) ∷ [] → winners ≡ winners_of (winner_of a b)
+      → ShowsVisible M typed0 typed1 (asked a b) (record w { nodes = nodes; winners = winners })
+  asked_shows a b nodes winners nodes_are winners_are = record {
+    moves = z.moves;
+    s = z.s;
+    recorded = z.recorded;
+    entries_are = z.entries_are;
+    count = z.count;
+    nodes = nodes_are;
+    sent = record { logs = z.sent.logs; acks = z.sent.acks; operations = z.sent.operations; writes = z.sent.writes };
+    terminals = z.terminals;
+    winners = winners_are;
+    puts = z.puts;
+    issued = z.issued;
+    done = z.done;
+    first_reads = z.first_reads;
+    covered = z.covered;
+    only = z.only;
+  }
+
+  undecided : k.primary.winner ≡ 0 → k.backup.winner ≡ 0 → w.winners ≡ []
+  undecided none nobody = z.winners ∙ (λ i. winners_of (winner_of (none i) (nobody i)))
+
   -- a primary asks: it has won, or it is halted
   pub primary_wins : k.primary.winner ≡ 0 → k.backup.winner ≡ 0
       → Leads M C typed0 typed1 (primary_asked 0 k) w (λ events. events ≡ Suspect 0 ∷ [])
-  primary_wins none nobody = let undecided : w.winners ≡ [] = z.winners ∙ (λ i. winners_of (winner_of (none i) (nobody i))) in
+  primary_wins none nobody = let free = undecided none nobody in
       let row : Row M C w (Suspect 0) (Won) (with_winner w 0 primary) =
       Accepts (ap (λ o. at_node o (ask_refusal w 0)) (at_primary none) ∙ ap
-      (λ (l : List Winner). first_of (fault_if (is_other (winner_in l 1) 0) Lost ∷ [])) undecided)
+      (λ (l : List Winner). first_of (fault_if (is_other (winner_in l 1) 0) Lost ∷ [])) free)
       record {
         x = primary;
         there = at_primary none;
         reply = refl;
-        after = inl (ap (λ l. winner_in l 1) undecided, refl);
+        after = inl (ap (λ l. winner_in l 1) free, refl);
       } in record {
         events = Suspect 0 ∷ [];
         formed = refl;
@@ -47,23 +75,8 @@ module _ {S : Type 0} (M : Machine S) (C : Copying S) (typed0 typed1 : List ℕ)
         new = with_winner w 0 primary;
         run = First row Nothing;
         once = inr (Suspect 0, Won, row);
-        shows = record {
-          moves = z.moves;
-          s = z.s;
-          recorded = z.recorded;
-          entries_are = z.entries_are;
-          count = z.count;
-          nodes = ap (λ l. slice_set l 0 (wins primary)) z.nodes;
-          sent = record { logs = z.sent.logs; acks = z.sent.acks; operations = z.sent.operations; writes = z.sent.writes };
-          terminals = z.terminals;
-          winners = ap (λ l. l ++ record { generation = 1; node = 0 } ∷ []) undecided;
-          puts = z.puts;
-          issued = z.issued;
-          done = z.done;
-          first_reads = z.first_reads;
-          covered = z.covered;
-          only = z.only;
-        };
+        shows = asked_shows 1 k.backup.winner _ _ (ap (λ l. slice_set l 0 (wins primary)) z.nodes)
+            (ap (λ l. l ++ record { generation = 1; node = 0 } ∷ []) free);
       }
 
   pub primary_loses : k.primary.winner ≡ 0 → k.backup.winner ≡ 2
@@ -80,36 +93,20 @@ module _ {S : Type 0} (M : Machine S) (C : Copying S) (typed0 typed1 : List ℕ)
         new = with_node w 0 (halts primary);
         run = First row Nothing;
         once = inr (Suspect 0, Refused Lost, row);
-        shows = record {
-          moves = z.moves;
-          s = z.s;
-          recorded = z.recorded;
-          entries_are = z.entries_are;
-          count = z.count;
-          nodes = ap (λ l. slice_set l 0 (halts primary)) z.nodes;
-          sent = record { logs = z.sent.logs; acks = z.sent.acks; operations = z.sent.operations; writes = z.sent.writes };
-          terminals = z.terminals;
-          winners = decided;
-          puts = z.puts;
-          issued = z.issued;
-          done = z.done;
-          first_reads = z.first_reads;
-          covered = z.covered;
-          only = z.only;
-        };
+        shows = asked_shows 2 k.backup.winner _ _ (ap (λ l. slice_set l 0 (halts primary)) z.nodes) decided;
       }
 
   pub backup_wins : k.primary.winner ≡ 0 → k.backup.winner ≡ 0
       → Leads M C typed0 typed1 (backup_asked 0 k) w (λ events. events ≡ Suspect 1 ∷ [])
-  backup_wins none nobody = let undecided : w.winners ≡ [] = z.winners ∙ (λ i. winners_of (winner_of (none i) (nobody i))) in
+  backup_wins none nobody = let free = undecided none nobody in
       let row : Row M C w (Suspect 1) (Won) (with_winner w 1 backup) =
       Accepts (ap (λ o. at_node o (ask_refusal w 1)) (at_backup nobody) ∙ ap
-      (λ (l : List Winner). first_of (fault_if (is_other (winner_in l 1) 1) Lost ∷ [])) undecided)
+      (λ (l : List Winner). first_of (fault_if (is_other (winner_in l 1) 1) Lost ∷ [])) free)
       record {
         x = backup;
         there = at_backup nobody;
         reply = refl;
-        after = inl (ap (λ l. winner_in l 1) undecided, refl);
+        after = inl (ap (λ l. winner_in l 1) free, refl);
       } in record {
         events = Suspect 1 ∷ [];
         formed = refl;
@@ -117,24 +114,8 @@ module _ {S : Type 0} (M : Machine S) (C : Copying S) (typed0 typed1 : List ℕ)
         new = with_winner w 1 backup;
         run = First row Nothing;
         once = inr (Suspect 1, Won, row);
-        shows = record {
-          moves = z.moves;
-          s = z.s;
-          recorded = z.recorded;
-          entries_are = z.entries_are;
-          count = z.count;
-          nodes = ap (λ l. slice_set l 1 (wins backup)) z.nodes;
-          sent = record { logs = z.sent.logs; acks = z.sent.acks; operations = z.sent.operations; writes = z.sent.writes };
-          terminals = z.terminals;
-          winners = ap (λ l. l ++ record { generation = 1; node = 1 } ∷ []) undecided ∙
-              (λ i. winners_of (winner_of (sym none i) 2));
-          puts = z.puts;
-          issued = z.issued;
-          done = z.done;
-          first_reads = z.first_reads;
-          covered = z.covered;
-          only = z.only;
-        };
+        shows = asked_shows k.primary.winner 2 _ _ (ap (λ l. slice_set l 1 (wins backup)) z.nodes)
+            (ap (λ l. l ++ record { generation = 1; node = 1 } ∷ []) free ∙ (λ i. winners_of (winner_of (sym none i) 2)));
       }
 
   pub backup_loses : k.primary.winner ≡ 1 → k.backup.winner ≡ 0
@@ -151,21 +132,6 @@ module _ {S : Type 0} (M : Machine S) (C : Copying S) (typed0 typed1 : List ℕ)
         new = with_node w 1 (halts backup);
         run = First row Nothing;
         once = inr (Suspect 1, Refused Lost, row);
-        shows = record {
-          moves = z.moves;
-          s = z.s;
-          recorded = z.recorded;
-          entries_are = z.entries_are;
-          count = z.count;
-          nodes = ap (λ l. slice_set l 1 (halts backup)) z.nodes;
-          sent = record { logs = z.sent.logs; acks = z.sent.acks; operations = z.sent.operations; writes = z.sent.writes };
-          terminals = z.terminals;
-          winners = decided ∙ (λ i. winners_of (winner_of (sym other i) 1));
-          puts = z.puts;
-          issued = z.issued;
-          done = z.done;
-          first_reads = z.first_reads;
-          covered = z.covered;
-          only = z.only;
-        };
+        shows = asked_shows k.primary.winner 1 _ _ (ap (λ l. slice_set l 1 (halts backup)) z.nodes)
+            (decided ∙ (λ i. winners_of (winner_of (sym other i) 1)));
       }

@@ -1,5 +1,5 @@
 -- A generation begins: the bytes are typed, one after another.
-use Rattle.std.proofs.Common.{ℕ, List, [], ◌∷◌, ◌++◌, length, refl, sym, subst, append_assoc, append-nil, le_refl, inl, arith}
+use Rattle.std.proofs.Common.{ℕ, List, [], ◌∷◌, ◌++◌, length, refl, sym, subst, append_assoc, append-nil}
 use Rattle.guest_board.specs.Machine.{Machine}
 use Rattle.pair_protocol.specs.Lawful.{Lawful}
 use Rattle.pair_protocol.specs.Change.{AtBoot}
@@ -8,36 +8,11 @@ use Rattle.pair_protocol.specs.Event.{Event, Reply, TypeByte, TypedAt}
 use Rattle.pair_protocol.specs.Laws.{RowIsChanges, ChangesReach}
 use Rattle.pair_protocol.specs.Row.{Accepts}
 use Rattle.pair_protocol.specs.World.{World, opening}
-use Rattle.pair_rule.specs.Knowledge.{Stands}
 use Rattle.pair_rule.specs.Rules.{first_known}
 use Rattle.pair_rule.specs.Law.{StartsShown}
 use Rattle.pair_rule.specs.Shown.{Happens, First, Nothing, Shows}
+use Rattle.pair_rule.proofs.FirstTable.{first_stands}
 use Rattle.pair_rule.proofs.Law.{run_reaches}
-
-first_stands : (g : ℕ) → Stands (first_known g)
-first_stands g = record {
-  prefix = ([], refl);
-  in_link = tt;
-  rising = le_refl 0;
-  behind = le_refl 0;
-  once = inl refl;
-  decided = record {
-    few = omega arith;
-    same = λ x y. absurd (x refl);
-    primary_lost = λ e. absurd (omega arith);
-    backup_lost = λ e. absurd (omega arith);
-  };
-  counted0 = le_refl 0;
-  counted1 = le_refl 0;
-  hand0 = tt;
-  hand1 = tt;
-  arrived0 = tt;
-  arrived1 = tt;
-  taken = tt;
-  puts = tt;
-  answers = tt;
-  replies = tt;
-}
 
 module _ {S : Type 0} (M : Machine S) (C : Copying S) where
   abbrev typed_world : List ℕ → List ℕ → World S

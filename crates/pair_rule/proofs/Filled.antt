@@ -16,11 +16,12 @@ use Rattle.pair_rule.specs.declared.payload.DiskRequest.{DiskRequest}
 use Rattle.pair_rule.specs.declared.payload.DiskRequest.TheVariants as ask
 use Rattle.pair_rule.specs.declared.payload.DiskAnswer.{DiskAnswer}
 use Rattle.pair_rule.specs.declared.payload.DiskAnswer.TheVariants as answer
+use Rattle.pair_rule.specs.declared.view.Arrived.{Arrived}
 use Rattle.pair_rule.specs.declared.view.PrimaryView.{PrimaryView}
 use Rattle.pair_rule.specs.declared.view.DiskView.{DiskView}
 use Rattle.pair_rule.specs.declared.view.Knowledge.{Knowledge}
 use Rattle.pair_rule.specs.Boxes.{filler, emptier}
-use Rattle.pair_rule.specs.Knowledge.{IsEntryOf, IsByteOf, IsAsked, IsReplied, Fits, WhereSome, AllAre, Stands, grown, put_by, released_by, after_fill, after_empty, CanFill}
+use Rattle.pair_rule.specs.Knowledge.{IsEntryOf, IsByteOf, IsAsked, IsReplied, Fits, WhereSome, AllAre, PortStands, Stands, grown, put_by, released_by, after_fill, after_empty, CanFill}
 use Rattle.pair_rule.specs.Rules.{SamePart}
 use Rattle.pair_rule.proofs.Parts.{Local, nothing, on_primary, on_link, on_backup, on_terminal, on_disk}
 use Rattle.pair_rule.proofs.BoxSwaps.{Keeps, keeps_all}
@@ -121,38 +122,34 @@ local_empty Answers (Request r) = nothing _
 
 -- ---- what stands goes on to stand: where boxes are filled
 
+port_more : (port counted : ℕ) (released more : List Operation) (hand : Option Operation) (arrivals : List Arrived)
+    → PortStands port released counted hand arrivals → PortStands port (released ++ more) counted hand arrivals
+port_more port counted released more hand arrivals p = record {
+  accepted = p.accepted;
+  in_hand = if_map hand _ _ (byte_more port released more) p.in_hand;
+  arrived = all_map arrivals _ _ (λ a i. among_more (Byte port a.number a.byte) released more i) p.arrived;
+}
+
 module _ (k : Knowledge) (s : Stands k) where
   -- the primary released more
   released : (more : List Operation) → Stands (record k { primary = record k.primary { released = k.primary.released ++ more } })
   released more = record {
-    prefix = s.prefix;
-    in_link = s.in_link;
-    rising = s.rising;
-    behind = s.behind;
-    once = s.once;
+    log = s.log;
     decided = s.decided;
-    counted0 = s.counted0;
-    counted1 = s.counted1;
-    hand0 = if_map k.terminal.hand0 _ _ (byte_more 0 k.primary.released more) s.hand0;
-    hand1 = if_map k.terminal.hand1 _ _ (byte_more 1 k.primary.released more) s.hand1;
-    arrived0 = all_map k.terminal.arrivals0 _ _ (λ a i. among_more (Byte 0 a.number a.byte) k.primary.released more i) s.arrived0;
-    arrived1 = all_map k.terminal.arrivals1 _ _ (λ a i. among_more (Byte 1 a.number a.byte) k.primary.released more i) s.arrived1;
-    taken = if_map k.disk.taken _ _ (asked_more k.primary.released more) s.taken;
-    puts = all_map k.disk.puts _ _ (λ w i. among_more (Write w) k.primary.released more i) s.puts;
-    answers = s.answers;
-    replies = s.replies;
+    port0 = port_more 0 k.primary.counted0 k.primary.released more k.terminal.hand0 k.terminal.arrivals0 s.port0;
+    port1 = port_more 1 k.primary.counted1 k.primary.released more k.terminal.hand1 k.terminal.arrivals1 s.port1;
+    disk = record {
+      taken = if_map k.disk.taken _ _ (asked_more k.primary.released more) s.disk.taken;
+      puts = all_map k.disk.puts _ _ (λ w i. among_more (Write w) k.primary.released more i) s.disk.puts;
+      answers = s.disk.answers;
+      replies = s.disk.replies;
+    };
   }
 
   released_fits : (more : List Operation) (b : Mailbox) (x : Payload) → Fits b k x
       → Fits b (record k { primary = record k.primary { released = k.primary.released ++ more } }) x
-  released_fits more Outbox (Log p) f = f
-  released_fits more Outbox (Out o) f = f
-  released_fits more Outbox (Request r) f = f
-  released_fits more Outbox (Answer a) f = f
-  released_fits more Inbox (Log p) f = f
-  released_fits more Inbox (Out o) f = f
-  released_fits more Inbox (Request r) f = f
-  released_fits more Inbox (Answer a) f = f
+  released_fits more Outbox x f = f
+  released_fits more Inbox x f = f
   released_fits more Bytes0 (Out o) f = byte_more 0 k.primary.released more o f
   released_fits more Bytes0 (Log p) f = f
   released_fits more Bytes0 (Request r) f = f
@@ -165,10 +162,7 @@ module _ (k : Knowledge) (s : Stands k) where
   released_fits more Requests (Log p) f = f
   released_fits more Requests (Out o) f = f
   released_fits more Requests (Answer a) f = f
-  released_fits more Answers (Answer a) f = f
-  released_fits more Answers (Log p) f = f
-  released_fits more Answers (Out o) f = f
-  released_fits more Answers (Request r) f = f
+  released_fits more Answers x f = f
 
   release_keeps : (more : List Operation)
       → Keeps (λ k. record k { primary = record k.primary { released = k.primary.released ++ more } }) k
@@ -180,29 +174,23 @@ module _ (k : Knowledge) (s : Stands k) where
 
   puts_more : (t : Option DiskRequest) → WhereSome t (IsAsked k.primary.released)
       → AllAre (put_by t k.disk.puts) (λ w. Among (Write w) k.primary.released)
-  puts_more None i = s.puts
-  puts_more (Some (ask.Write w)) i = all_more k.disk.puts w (λ w. Among (Write w) k.primary.released) s.puts i
-  puts_more (Some (ask.Read a)) i = s.puts
+  puts_more None i = s.disk.puts
+  puts_more (Some (ask.Write w)) i = all_more k.disk.puts w (λ w. Among (Write w) k.primary.released) s.disk.puts i
+  puts_more (Some (ask.Read a)) i = s.disk.puts
 
   answered_stands : (a : DiskAnswer) → IsReplied (put_by k.disk.taken k.disk.puts) a → Stands (answered a)
   answered_stands a can = record {
-    prefix = s.prefix;
-    in_link = s.in_link;
-    rising = s.rising;
-    behind = s.behind;
-    once = s.once;
+    log = s.log;
     decided = s.decided;
-    counted0 = s.counted0;
-    counted1 = s.counted1;
-    hand0 = s.hand0;
-    hand1 = s.hand1;
-    arrived0 = s.arrived0;
-    arrived1 = s.arrived1;
-    taken = s.taken;
-    puts = puts_more k.disk.taken s.taken;
-    answers = all_map k.primary.answers _ _ (λ x i. among_more x k.disk.given (a ∷ []) i) s.answers;
-    replies = all_more k.disk.given a (IsReplied (put_by k.disk.taken k.disk.puts))
-        (all_map k.disk.given _ _ (λ x i. replied_more k.disk.taken k.disk.puts x i) s.replies) can;
+    port0 = s.port0;
+    port1 = s.port1;
+    disk = record {
+      taken = s.disk.taken;
+      puts = puts_more k.disk.taken s.disk.taken;
+      answers = all_map k.primary.answers _ _ (λ x i. among_more x k.disk.given (a ∷ []) i) s.disk.answers;
+      replies = all_more k.disk.given a (IsReplied (put_by k.disk.taken k.disk.puts))
+          (all_map k.disk.given _ _ (λ x i. replied_more k.disk.taken k.disk.puts x i) s.disk.replies) can;
+    };
   }
 
   answered_fits : (a : DiskAnswer) (b : Mailbox) (x : Payload) → Fits b k x → Fits b (answered a) x
@@ -210,26 +198,11 @@ module _ (k : Knowledge) (s : Stands k) where
   answered_fits a Answers (Log p) f = f
   answered_fits a Answers (Out o) f = f
   answered_fits a Answers (Request r) f = f
-  answered_fits a Outbox (Log p) f = f
-  answered_fits a Outbox (Out o) f = f
-  answered_fits a Outbox (Request r) f = f
-  answered_fits a Outbox (Answer x) f = f
-  answered_fits a Inbox (Log p) f = f
-  answered_fits a Inbox (Out o) f = f
-  answered_fits a Inbox (Request r) f = f
-  answered_fits a Inbox (Answer x) f = f
-  answered_fits a Bytes0 (Out o) f = f
-  answered_fits a Bytes0 (Log p) f = f
-  answered_fits a Bytes0 (Request r) f = f
-  answered_fits a Bytes0 (Answer x) f = f
-  answered_fits a Bytes1 (Out o) f = f
-  answered_fits a Bytes1 (Log p) f = f
-  answered_fits a Bytes1 (Request r) f = f
-  answered_fits a Bytes1 (Answer x) f = f
-  answered_fits a Requests (Request r) f = f
-  answered_fits a Requests (Log p) f = f
-  answered_fits a Requests (Out o) f = f
-  answered_fits a Requests (Answer x) f = f
+  answered_fits a Outbox x f = f
+  answered_fits a Inbox x f = f
+  answered_fits a Bytes0 x f = f
+  answered_fits a Bytes1 x f = f
+  answered_fits a Requests x f = f
 
   abbrev MayFill : Mailbox → Payload → Type 0
   MayFill b q = Keeps (after_fill b q) k × Fits b (after_fill b q k) q
@@ -239,7 +212,7 @@ module _ (k : Knowledge) (s : Stands k) where
   fill_keeps Outbox (Out o) can = absurd can
   fill_keeps Outbox (Request r) can = absurd can
   fill_keeps Outbox (Answer a) can = absurd can
-  fill_keeps Inbox (Log p) can = (keeps_all k s, subst (λ x. WhereSome x (IsEntryOf k.generation k.primary.list)) can s.in_link)
+  fill_keeps Inbox (Log p) can = (keeps_all k s, subst (λ x. WhereSome x (IsEntryOf k.generation k.primary.list)) can s.log.in_link)
   fill_keeps Inbox (Out o) can = absurd can
   fill_keeps Inbox (Request r) can = absurd can
   fill_keeps Inbox (Answer a) can = absurd can

@@ -9,7 +9,7 @@ use Rattle.pair_rule.specs.declared.view.Side.{Side}
 use Rattle.pair_rule.specs.declared.view.Knowledge.{Knowledge}
 use Rattle.pair_rule.specs.declared.view.SeatView.{SeatView}
 use Rattle.pair_rule.specs.Boxes.{slot_of, is_full, Boxed, Homes, box_index, Who, Primary, Link, Backup, Terminal, Disk}
-use Rattle.pair_rule.specs.Knowledge.{Fits, WhereSome}
+use Rattle.pair_rule.specs.Knowledge.{Fits, Stands, WhereSome}
 use Rattle.pair_rule.specs.Rules.{SamePart, Sized, Same, has, Rule, first_known, first_core, first_view, new_side}
 
 abbrev homes0 : Homes
@@ -81,6 +81,20 @@ alone : (v w : SeatView) (j : ℕ) → get_elem? (v ∷ []) j ≡ some w → (j 
 alone v w zero e = (refl, some-injective v w e)
 alone v w (suc j) e = absurd (some-ne-none w (sym e))
 
+pub first_stands : (g : ℕ) → Stands (first_known g)
+first_stands g = record {
+  log = record { prefix = ([], refl); in_link = tt; rising = le_refl 0; behind = le_refl 0; once = inl refl };
+  decided = record {
+    few = omega arith;
+    same = λ x y. absurd (x refl);
+    primary_lost = λ e. absurd (omega arith);
+    backup_lost = λ e. absurd (omega arith);
+  };
+  port0 = record { accepted = le_refl 0; in_hand = tt; arrived = tt };
+  port1 = record { accepted = le_refl 0; in_hand = tt; arrived = tt };
+  disk = record { taken = tt; puts = tt; answers = tt; replies = tt };
+}
+
 pub opens : (g : ℕ) → Rule g (opening (0 ∷ 0 ∷ 0 ∷ 0 ∷ 0 ∷ 0 ∷ 1 ∷ 2 ∷ 3 ∷ 4 ∷ 5 ∷ []) (replicate 11 None) (first_view g))
 opens g = let v : SeatView = first_view g in record {
   core = first_core g;
@@ -124,28 +138,6 @@ opens g = let v : SeatView = first_view g in record {
         )) z.2;
     fitting = λ b f e. let z = box0 b in subst (λ (x : Side). WhereSome x.last (Fits b (first_known g)))
         (some-injective new_side f (sym z.1 ∙ e)) tt;
-    stands = record {
-      prefix = ([], refl);
-      in_link = tt;
-      rising = le_refl 0;
-      behind = le_refl 0;
-      once = inl refl;
-      decided = record {
-        few = omega arith;
-        same = λ x y. absurd (x refl);
-        primary_lost = λ e. absurd (omega arith);
-        backup_lost = λ e. absurd (omega arith);
-      };
-      counted0 = le_refl 0;
-      counted1 = le_refl 0;
-      hand0 = tt;
-      hand1 = tt;
-      arrived0 = tt;
-      arrived1 = tt;
-      taken = tt;
-      puts = tt;
-      answers = tt;
-      replies = tt;
-    };
+    stands = first_stands g;
   };
 }

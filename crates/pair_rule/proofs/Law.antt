@@ -53,8 +53,8 @@ release M C may typed0 typed1 k w z st o run there serves (found, covered) =
 -- a byte in a hand was released
 hand_released : (k : Knowledge) → Stands k → (port number byte : ℕ) → port < 2 → hand_of port k ≡ Some (Byte port number byte)
     → Among (Byte port number byte) k.primary.released
-hand_released k st zero number byte two hand = (subst (λ h. WhereSome h (IsByteOf 0 k.primary.released)) hand st.hand0).1
-hand_released k st (suc zero) number byte two hand = (subst (λ h. WhereSome h (IsByteOf 1 k.primary.released)) hand st.hand1).1
+hand_released k st zero number byte two hand = (subst (λ h. WhereSome h (IsByteOf 0 k.primary.released)) hand st.port0.in_hand).1
+hand_released k st (suc zero) number byte two hand = (subst (λ h. WhereSome h (IsByteOf 1 k.primary.released)) hand st.port1.in_hand).1
 hand_released k st (suc (suc port)) number byte two hand = absurd (omega arith)
 
 pub steps_lead : {S : Type 0} → StepsAreEvents S

@@ -11,10 +11,11 @@ use Rattle.pair_protocol.specs.Copying.{Copying}
 use Rattle.i8080_words.specs.declared.refusal.Fault.TheVariants.{NotDue, NotCovered}
 use Rattle.pair_protocol.specs.Node.{Node, note_of, covers}
 use Rattle.pair_protocol.specs.Refusals.{fault_if, first_of, byte_refusal, write_refusal, at_node, release_refusal, no_such}
-use Rattle.pair_protocol.specs.World.{World, Message, Released, WriteDone, with_arrival, with_put, with_message, accepted, terminal_in}
+use Rattle.pair_protocol.specs.World.{World, Message, Released, Terminal, WriteDone, with_arrival, with_put, with_message, accepted, terminal_in}
 use Rattle.pair_protocol.specs.Event.{Release, Arrive, Put, MessageIs, Accepted, Dropped}
 use Rattle.pair_protocol.specs.Row.{Accepts}
 use Rattle.pair_rule.specs.Shown.{IsAcknowledged, Happens, First, Nothing}
+use Rattle.pair_rule.specs.declared.view.Arrived.{Arrived}
 use Rattle.pair_rule.specs.declared.view.Knowledge.{Knowledge}
 use Rattle.pair_rule.specs.declared.mailbox.Mailbox.TheVariants.{Answers}
 use Rattle.pair_rule.specs.declared.payload.Payload.TheVariants.{Answer}
@@ -22,7 +23,7 @@ use Rattle.pair_rule.specs.declared.payload.DiskRequest.TheVariants as ask
 use Rattle.pair_rule.specs.declared.payload.DiskAnswer.{DiskAnswer}
 use Rattle.pair_rule.specs.declared.payload.DiskAnswer.TheVariants as answer
 use Rattle.pair_rule.specs.Knowledge.{WhereSome, IsAsked, Stands, after_fill, put_by, arrives, byte_arrived}
-use Rattle.pair_rule.specs.Shown.{terminals_of, arrival_of, notes_from, hand_of, Sent, Shows, Leads}
+use Rattle.pair_rule.specs.Shown.{Visible, visible, terminals_of, arrival_of, notes_from, hand_of, Sent, Shows, ShowsVisible, Leads}
 use Rattle.guest_trace.specs.Reach.{operations}
 use Rattle.pair_rule.proofs.Filled.{among_last, put_more}
 use Rattle.pair_rule.proofs.ShownNodes.{only_more, index_of, more_sent, among_either, no_read, map_more, serving, first_node}
@@ -36,9 +37,9 @@ module _ {S : Type 0} (M : Machine S) (C : Copying S) (typed0 typed1 : List ℕ)
   at_primary none = first_node M C typed0 typed1 k w z none
 
   -- an operation is released: it is outstanding and covered
-  release_shows : (o : Operation) → Sent (record k { primary = record k.primary { released = k.primary.released ++ o ∷ [] } })
+  release_shows : (o : Operation) → Sent (record (visible k) { released = k.primary.released ++ o ∷ [] })
       (w.messages ++ Released o ∷ [])
-  release_shows o = let t = more_sent k w.messages (Released o ∷ []) z.sent in record {
+  release_shows o = let t = more_sent (visible k) w.messages (Released o ∷ []) z.sent in record {
     logs = t.logs;
     acks = t.acks;
     operations = λ x at. ⊎_elim (λ (i : Among x k.primary.released). t.operations x i)
@@ -93,52 +94,27 @@ module _ {S : Type 0} (M : Machine S) (C : Copying S) (typed0 typed1 : List ℕ)
   }
 
   -- a byte that a terminal has in hand arrives
-  arrive_shows : (port : ℕ) (v : World S) → v.nodes ≡ w.nodes → v.messages ≡ w.messages
-      → v.terminals ≡ terminals_of (byte_arrived port k) typed0 typed1 → v.winners ≡ w.winners → v.puts ≡ w.puts
-      → Shows M typed0 typed1 (byte_arrived port k) v
-  arrive_shows zero v nodes messages terminals winners puts = record {
+  abbrev arrived : List Arrived → List Arrived → Visible
+  arrived arrivals0 arrivals1 = record (visible k) { arrivals0 = arrivals0; arrivals1 = arrivals1 }
+
+  arrive_shows : (a b : List Arrived) (terminals : List Terminal) → terminals ≡ terminals_of (arrived a b) typed0 typed1
+      → ShowsVisible M typed0 typed1 (arrived a b) (record w { terminals = terminals })
+  arrive_shows a b terminals terminals_are = record {
     moves = z.moves;
     s = z.s;
     recorded = z.recorded;
     entries_are = z.entries_are;
     count = z.count;
-    nodes = nodes ∙ z.nodes;
-    sent = subst (Sent (byte_arrived 0 k)) (sym messages) record {
-      logs = z.sent.logs;
-      acks = z.sent.acks;
-      operations = z.sent.operations;
-      writes = z.sent.writes;
-    };
-    terminals = terminals;
-    winners = winners ∙ z.winners;
-    puts = puts ∙ z.puts;
+    nodes = z.nodes;
+    sent = record { logs = z.sent.logs; acks = z.sent.acks; operations = z.sent.operations; writes = z.sent.writes };
+    terminals = terminals_are;
+    winners = z.winners;
+    puts = z.puts;
     issued = z.issued;
     done = z.done;
     first_reads = z.first_reads;
     covered = z.covered;
-    only = λ m at. z.only m (subst (λ l. Among m l) messages at);
-  }
-  arrive_shows (suc p) v nodes messages terminals winners puts = record {
-    moves = z.moves;
-    s = z.s;
-    recorded = z.recorded;
-    entries_are = z.entries_are;
-    count = z.count;
-    nodes = nodes ∙ z.nodes;
-    sent = subst (Sent (byte_arrived (suc p) k)) (sym messages) record {
-      logs = z.sent.logs;
-      acks = z.sent.acks;
-      operations = z.sent.operations;
-      writes = z.sent.writes;
-    };
-    terminals = terminals;
-    winners = winners ∙ z.winners;
-    puts = puts ∙ z.puts;
-    issued = z.issued;
-    done = z.done;
-    first_reads = z.first_reads;
-    covered = z.covered;
-    only = λ m at. z.only m (subst (λ l. Among m l) messages at);
+    only = z.only;
   }
 
   arrive_event : (port number byte m : ℕ) → slice_get w.messages m ≡ Some (Released (Byte port number byte))
@@ -166,7 +142,7 @@ module _ {S : Type 0} (M : Machine S) (C : Copying S) (typed0 typed1 : List ℕ)
         new = with_arrival w 0 (record { number = number; byte = byte });
         run = arrive_event 0 number byte m.0 m.1;
         once = inl refl;
-        shows = arrive_shows 0 (with_arrival w 0 (record { number = number; byte = byte })) refl refl
+        shows = arrive_shows _ k.terminal.arrivals1 _
             (ap (λ l. slice_set l 0 (record (terminal_in l 0) {
               arrivals = (terminal_in l 0).arrivals ++ record {
                 number = number;
@@ -182,8 +158,7 @@ module _ {S : Type 0} (M : Machine S) (C : Copying S) (typed0 typed1 : List ℕ)
               arrivals = map arrival_of (arrives (sym hand i) k.terminal.arrivals0);
               typed = typed0;
               told = 0;
-            } ∷ record { arrivals = map arrival_of k.terminal.arrivals1; typed = typed1; told = 0 } ∷ []))
-            refl refl;
+            } ∷ record { arrivals = map arrival_of k.terminal.arrivals1; typed = typed1; told = 0 } ∷ []));
       }
   arrive_leads (suc zero) number byte two hand at = let m =
       index_of (Released (Byte 1 number byte)) w.messages (z.sent.operations (Byte 1 number byte) at) in record {
@@ -193,7 +168,7 @@ module _ {S : Type 0} (M : Machine S) (C : Copying S) (typed0 typed1 : List ℕ)
         new = with_arrival w 1 (record { number = number; byte = byte });
         run = arrive_event 1 number byte m.0 m.1;
         once = inl refl;
-        shows = arrive_shows 1 (with_arrival w 1 (record { number = number; byte = byte })) refl refl
+        shows = arrive_shows k.terminal.arrivals0 _ _
             (ap (λ l. slice_set l 1 (record (terminal_in l 1) {
               arrivals = (terminal_in l 1).arrivals ++ record {
                 number = number;
@@ -218,8 +193,7 @@ module _ {S : Type 0} (M : Machine S) (C : Copying S) (typed0 typed1 : List ℕ)
               arrivals = map arrival_of (arrives (sym hand i) k.terminal.arrivals1);
               typed = typed1;
               told = 0;
-            } ∷ []))
-            refl refl;
+            } ∷ []));
       }
   arrive_leads (suc (suc p)) number byte two hand at = absurd (omega arith)
 
@@ -229,7 +203,7 @@ module _ {S : Type 0} (M : Machine S) (C : Copying S) (typed0 typed1 : List ℕ)
       (λ events. (m : ℕ) × (events ≡ Put m ∷ []))
   put_leads st write is =
       let m = index_of (Released (Write write)) w.messages
-      (z.sent.operations (Write write) (subst (λ t. WhereSome t (IsAsked k.primary.released)) is st.taken)) in record {
+      (z.sent.operations (Write write) (subst (λ t. WhereSome t (IsAsked k.primary.released)) is st.disk.taken)) in record {
         events = Put m.0 ∷ [];
         formed = (m.0, refl);
         replies = MessageIs (length w.messages) ∷ [];
@@ -243,7 +217,7 @@ module _ {S : Type 0} (M : Machine S) (C : Copying S) (typed0 typed1 : List ℕ)
           entries_are = z.entries_are;
           count = z.count;
           nodes = z.nodes;
-          sent = let t = more_sent k w.messages (WriteDone write.number ∷ []) z.sent in record {
+          sent = let t = more_sent (visible k) w.messages (WriteDone write.number ∷ []) z.sent in record {
             logs = t.logs;
             acks = t.acks;
             operations = t.operations;

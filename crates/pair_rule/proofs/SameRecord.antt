@@ -92,7 +92,7 @@ module _ {S : Type 0} (M : Machine S) (laws : Lawful M) (typed0 typed1 : List �
     unfolding moves
     issued v m = subst (λ l. Among (Write v) l) (sym (operations-append z.moves more.moves))
         (among-left (Write v) (operations z.moves) (operations more.moves)
-        (z.issued (Write v) (all_in (λ x. Among (Write x) k.primary.released) k.disk.puts v st.puts m)))
+        (z.issued (Write v) (all_in (λ x. Among (Write x) k.primary.released) k.disk.puts v st.disk.puts m)))
 
     -- what is done was put
     put : (number : ℕ) → IsDone number moves → HasWrite k.disk.puts number
@@ -146,6 +146,6 @@ module _ {S : Type 0} (M : Machine S) (laws : Lawful M) (typed0 typed1 : List �
             let same : v.number ≡ r.number = omega (arith, is, f, l, d) in
             h ∙ (λ i. record {
               number = same i;
-              bytes = bytes_of v m same (all_in (IsReplied k.disk.puts) k.disk.given (answer.Read r) st.replies
-                  (all_in (λ a. Among a k.disk.given) k.primary.answers (answer.Read r) st.answers given)) i;
+              bytes = bytes_of v m same (all_in (IsReplied k.disk.puts) k.disk.given (answer.Read r) st.disk.replies
+                  (all_in (λ a. Among a k.disk.given) k.primary.answers (answer.Read r) st.disk.answers given)) i;
             })

@@ -36,11 +36,11 @@ module _ {S : Type 0} (M : Machine S) (typed0 typed1 : List ℕ) (k : Knowledge)
   typed_there (suc (suc port)) i byte two e = absurd (omega arith)
 
   pub accepted_there : Stands k → (port number : ℕ) → port < 2 → number ≤ counted_at port k → number ≤ length (accepted w port)
-  accepted_there st zero number two few = let a = st.counted0 in let b =
+  accepted_there st zero number two few = let a = st.port0.accepted in let b =
       as_many 0 k.terminal.arrivals0 in let c : length (accepted w 0) ≡ length
       (bytes_after 0 (map arrival_of k.terminal.arrivals0)) =
       ap (λ l. length (accepted_in l 0)) z.terminals in omega (arith, a, b, c, few)
-  accepted_there st (suc zero) number two few = let a = st.counted1 in let b =
+  accepted_there st (suc zero) number two few = let a = st.port1.accepted in let b =
       as_many 0 k.terminal.arrivals1 in let c : length (accepted w 1) ≡ length
       (bytes_after 0 (map arrival_of k.terminal.arrivals1)) =
       ap (λ l. length (accepted_in l 1)) z.terminals in omega (arith, a, b, c, few)
@@ -48,8 +48,8 @@ module _ {S : Type 0} (M : Machine S) (typed0 typed1 : List ℕ) (k : Knowledge)
 
   pub done_there : Stands k → (number : ℕ) → Among (answer.Written number) k.primary.answers → Among (WriteDone number) w.messages
   done_there st number i = z.sent.writes number
-      (all_in (λ a. Among a k.disk.given) k.primary.answers (answer.Written number) st.answers i)
+      (all_in (λ a. Among a k.disk.given) k.primary.answers (answer.Written number) st.disk.answers i)
 
   pub put_there : Stands k → (number : ℕ) → Among (answer.Written number) k.primary.answers → HasWrite k.disk.puts number
-  put_there st number i = all_in (IsReplied k.disk.puts) k.disk.given (answer.Written number) st.replies
-      (all_in (λ a. Among a k.disk.given) k.primary.answers (answer.Written number) st.answers i)
+  put_there st number i = all_in (IsReplied k.disk.puts) k.disk.given (answer.Written number) st.disk.replies
+      (all_in (λ a. Among a k.disk.given) k.primary.answers (answer.Written number) st.disk.answers i)

@@ -13,7 +13,7 @@ use Rattle.pair_protocol.specs.World.{World, Message, LogEntry, Acknowledgement,
 use Rattle.pair_rule.specs.declared.view.Knowledge.{Knowledge}
 use Rattle.pair_rule.specs.declared.payload.DiskAnswer.{DiskAnswer}
 use Rattle.pair_rule.specs.declared.payload.DiskAnswer.TheVariants as answer
-use Rattle.pair_rule.specs.Shown.{IsAcknowledged, IsSentBy, primary_role, primary_runs, backup_role, backup_runs, primary_node, backup_node, Sent, Shows}
+use Rattle.pair_rule.specs.Shown.{Visible, visible, IsAcknowledged, IsSentBy, primary_role, primary_runs, backup_role, backup_runs, primary_node, backup_node, Sent, Shows}
 use Rattle.shared_disk.specs.declared.disk.SectorRead.{SectorRead}
 use Rattle.pair_rule.proofs.Filled.{among_more}
 
@@ -22,8 +22,8 @@ pub index_of : {A : Type 0} (x : A) (xs : List A) → Among x xs → (m : ℕ) �
 index_of x [] a = absurd a
 index_of x (y ∷ xs) a = ⊎_elim (λ e. (0, ap Some (sym e))) (λ i. let r = index_of x xs i in (suc r.0, r.1)) a
 
-pub more_sent : (k : Knowledge) (messages more : List Message) → Sent k messages → Sent k (messages ++ more)
-more_sent k messages more t = record {
+pub more_sent : (v : Visible) (messages more : List Message) → Sent v messages → Sent v (messages ++ more)
+more_sent v messages more t = record {
   logs = λ i e at. among_more (LogEntry 1 i e) messages more (t.logs i e at);
   acks = λ h at. among_more (Acknowledgement 1 h 0) messages more (t.acks h at);
   operations = λ o at. among_more (Released o) messages more (t.operations o at);
@@ -109,10 +109,10 @@ module _ {S : Type 0} (M : Machine S) (C : Copying S) (typed0 typed1 : List ℕ)
     (z : Shows M typed0 typed1 k w) where
   -- the nodes, while nobody has asked
   abbrev pub serving : Node S
-  serving = record (primary_node k z.moves z.s) { role = Primary; running = true }
+  serving = record (primary_node (visible k) z.moves z.s) { role = Primary; running = true }
 
   abbrev pub waiting : Node S
-  waiting = record (backup_node M k) { role = Backup; running = true }
+  waiting = record (backup_node M (visible k)) { role = Backup; running = true }
 
   pub first_node : k.primary.winner ≡ 0 → slice_get w.nodes 0 ≡ Some serving
   first_node none = ap (λ l. slice_get l 0) z.nodes ∙

@@ -119,14 +119,14 @@ module _ {S : Type 0} (M : Machine S) (typed0 typed1 : List ℕ) (k : Knowledge)
   counts port two (Some (Write w)) is there = absurd there
 
   hand_there : (port : ℕ) → port < 2 → WhereSome (hand_of port k) (IsByteOf port k.primary.released)
-  hand_there zero two = st.hand0
-  hand_there (suc zero) two = st.hand1
+  hand_there zero two = st.port0.in_hand
+  hand_there (suc zero) two = st.port1.in_hand
   hand_there (suc (suc port)) two = absurd (omega arith)
 
 -- no more was seen counted than is
 counted_before : (k : Knowledge) → Stands k → (port : ℕ) → counted_at port k ≤ accepted_at port k
-counted_before k st zero = st.counted0
-counted_before k st (suc port) = st.counted1
+counted_before k st zero = st.port0.accepted
+counted_before k st (suc port) = st.port1.accepted
 
 pub table_steps : {S : Type 0} → TableStepsAreSteps S
 table_steps M typed0 typed1 k new st Stays = record { stands = st; step = inr Keeps }

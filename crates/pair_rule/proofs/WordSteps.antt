@@ -132,7 +132,7 @@ see_allowed g n id me mine s r deep at _ =
     word_goes g s r id me at Primary 1 (λ x. x) (sees me) (saw (last_or 0 k.backup.held_values)) mine
     (on_primary (λ z. record z { seen = last_or 0 k.backup.held_values })) st.0 st.1 refl (
       refl,
-      (let b = r.facts.stands.behind in omega arith),
+      (let b = r.facts.stands.log.behind in omega arith),
       (let b = held_short k r.facts.stands in omega arith),
       (k, moment g s r id me at Primary mine, refl),
       refl,
@@ -215,14 +215,14 @@ sees_count_allowed g n id me zero two mine s r deep at _ =
     let was : me.0.core.known.primary.counted0 ≡ k.primary.counted0 = ap (λ (z : PrimaryView). z.counted0) same in
     word_goes g s r id me at Primary 3 (λ y. y) (sees_count 0 me) (saw_count 0 (accepted_after 0 k.terminal.arrivals0)) mine
     (on_primary (λ z. record z { counted0 = accepted_after 0 k.terminal.arrivals0 })) st.0 st.1 refl
-    (refl, (let b = r.facts.stands.counted0 in omega arith), (k, moment g s r id me at Primary mine, refl), refl)
+    (refl, (let b = r.facts.stands.port0.accepted in omega arith), (k, moment g s r id me at Primary mine, refl), refl)
 sees_count_allowed g n id me (suc zero) two mine s r deep at _ =
     let k : Knowledge = r.core.known in let same : me.0.core.known.primary ≡ k.primary =
     (own g s r id me.0 at Primary mine).known in let st = count_stays k r.facts.stands 1 in
     let was : me.0.core.known.primary.counted1 ≡ k.primary.counted1 = ap (λ (z : PrimaryView). z.counted1) same in
     word_goes g s r id me at Primary 4 (λ y. y) (sees_count 1 me) (saw_count 1 (accepted_after 0 k.terminal.arrivals1)) mine
     (on_primary (λ z. record z { counted1 = accepted_after 0 k.terminal.arrivals1 })) st.0 st.1 refl
-    (refl, (let b = r.facts.stands.counted1 in omega arith), (k, moment g s r id me at Primary mine, refl), refl)
+    (refl, (let b = r.facts.stands.port1.accepted in omega arith), (k, moment g s r id me at Primary mine, refl), refl)
 sees_count_allowed g n id me (suc (suc port)) two mine s r deep at _ = absurd (omega arith)
 
 pub count_at_allowed : (g n id : ℕ) (me : Mine) (port x : ℕ) → port < 2 → has me.0 Terminal

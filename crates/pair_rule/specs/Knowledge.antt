@@ -20,6 +20,7 @@ use Rattle.disk_dcdd.specs.Address.{address_of}
 use Rattle.disk_dcdd.specs.declared.address.SectorAddress.{SectorAddress}
 use Rattle.shared_disk.specs.declared.disk.SectorRead.{SectorRead}
 use Rattle.pair_rule.specs.declared.view.Arrived.{Arrived}
+use Rattle.pair_rule.specs.declared.view.DiskView.{DiskView}
 use Rattle.pair_rule.specs.declared.view.Knowledge.{Knowledge}
 
 -- ---- the words that what is known gives
@@ -75,15 +76,18 @@ abbrev pub IsAsked : List Operation → DiskRequest → Type 0
 IsAsked released (ask.Write w) = Among (Write w) released
 IsAsked released (ask.Read a) = Unit {0}
 
--- what may lie in a box
+-- what may lie in a box, by the primary's list, what it released, and what the disk answered
+abbrev pub MayLie : Mailbox → ℕ → List Entry → List Operation → List DiskAnswer → Payload → Type 0
+MayLie Outbox g list released given (Log p) = IsEntryOf g list p
+MayLie Inbox g list released given (Log p) = IsEntryOf g list p
+MayLie Bytes0 g list released given (Out o) = IsByteOf 0 released o
+MayLie Bytes1 g list released given (Out o) = IsByteOf 1 released o
+MayLie Requests g list released given (Request r) = IsAsked released r
+MayLie Answers g list released given (Answer a) = Among a given
+MayLie _ g list released given _ = ⊥
+
 abbrev pub Fits : Mailbox → Knowledge → Payload → Type 0
-Fits Outbox k (Log p) = IsEntryOf k.generation k.primary.list p
-Fits Inbox k (Log p) = IsEntryOf k.generation k.primary.list p
-Fits Bytes0 k (Out o) = IsByteOf 0 k.primary.released o
-Fits Bytes1 k (Out o) = IsByteOf 1 k.primary.released o
-Fits Requests k (Request r) = IsAsked k.primary.released r
-Fits Answers k (Answer a) = Among a k.disk.given
-Fits _ k _ = ⊥
+Fits b k x = MayLie b k.generation k.primary.list k.primary.released k.disk.given x
 
 -- it holds of what is there, if anything is
 abbrev pub WhereSome : {A : Type 0} → Option A → (A → Type 0) → Type 0
@@ -117,27 +121,36 @@ IsReplied puts (answer.Written n) = HasWrite puts n
 IsReplied puts (answer.Read r) = (r.number ≡ 0) ⊎
     ((w : SectorWrite) × Among w puts × (address_of w ≡ read_at r) × (w.number ≡ r.number) × (w.bytes ≡ r.bytes))
 
+-- the primary's list: the backup's copy, the packet in the link, what is acknowledged, and what the primary saw of it
+pub record ListStands (generation : ℕ) (list : List Entry) (link : Option Packet) (copy : List Entry)
+    (held_values : List ℕ) (seen : ℕ) : Type 0 where
+  pub prefix : StartsWith list copy
+  pub in_link : WhereSome link (IsEntryOf generation list)
+  pub rising : Rising 0 (length copy) held_values
+  pub behind : seen ≤ last_or 0 held_values
+  pub once : (seen ≡ 0) ⊎ Among seen held_values
+
+-- a port: the primary counts no byte that its terminal has not accepted, and what came there was released
+pub record PortStands (port : ℕ) (released : List Operation) (counted : ℕ) (hand : Option Operation)
+    (arrivals : List Arrived) : Type 0 where
+  pub accepted : counted ≤ accepted_after 0 arrivals
+  pub in_hand : WhereSome hand (IsByteOf port released)
+  pub arrived : AllAre arrivals (λ a. Among (Byte port a.number a.byte) released)
+
+-- the disk: what it took and put was released, and each answer that the primary has is one of its answers
+pub record DiskStands (released : List Operation) (had : List DiskAnswer) (disk : DiskView) : Type 0 where
+  pub taken : WhereSome disk.taken (IsAsked released)
+  pub puts : AllAre disk.puts (λ w. Among (Write w) released)
+  pub answers : AllAre had (λ a. Among a disk.given)
+  pub replies : AllAre disk.given (IsReplied disk.puts)
+
 -- what stands of all that the seats know
 pub record Stands (k : Knowledge) : Type 0 where
-  pub prefix : StartsWith k.primary.list k.backup.list
-  pub in_link : WhereSome k.link (IsEntryOf k.generation k.primary.list)
-  -- what is acknowledged, and what the primary has seen of it
-  pub rising : Rising 0 (length k.backup.list) k.backup.held_values
-  pub behind : k.primary.seen ≤ last_or 0 k.backup.held_values
-  pub once : (k.primary.seen ≡ 0) ⊎ Among k.primary.seen k.backup.held_values
+  pub log : ListStands k.generation k.primary.list k.link k.backup.list k.backup.held_values k.primary.seen
   pub decided : Decided k.primary.winner k.backup.winner
-  -- the terminals
-  pub counted0 : k.primary.counted0 ≤ accepted_after 0 k.terminal.arrivals0
-  pub counted1 : k.primary.counted1 ≤ accepted_after 0 k.terminal.arrivals1
-  pub hand0 : WhereSome k.terminal.hand0 (IsByteOf 0 k.primary.released)
-  pub hand1 : WhereSome k.terminal.hand1 (IsByteOf 1 k.primary.released)
-  pub arrived0 : AllAre k.terminal.arrivals0 (λ a. Among (Byte 0 a.number a.byte) k.primary.released)
-  pub arrived1 : AllAre k.terminal.arrivals1 (λ a. Among (Byte 1 a.number a.byte) k.primary.released)
-  -- the disk
-  pub taken : WhereSome k.disk.taken (IsAsked k.primary.released)
-  pub puts : AllAre k.disk.puts (λ w. Among (Write w) k.primary.released)
-  pub answers : AllAre k.primary.answers (λ a. Among a k.disk.given)
-  pub replies : AllAre k.disk.given (IsReplied k.disk.puts)
+  pub port0 : PortStands 0 k.primary.released k.primary.counted0 k.terminal.hand0 k.terminal.arrivals0
+  pub port1 : PortStands 1 k.primary.released k.primary.counted1 k.terminal.hand1 k.terminal.arrivals1
+  pub disk : DiskStands k.primary.released k.primary.answers k.disk
 
 -- ---- how each step changes what is known
 

@@ -15,7 +15,10 @@ use Rattle.pair_protocol.specs.Row.{Row}
 use Rattle.pair_protocol.specs.Node.{Node, Note, Role, Primary, Backup, Draining, Alone, notes_after}
 use Rattle.pair_protocol.specs.World.{World, Message, LogEntry, Acknowledgement, ImagePart, Released, WriteDone, SectorRead, Terminal, Arrival, Winner}
 use Rattle.pair_rule.specs.declared.payload.DiskAnswer.TheVariants.{Written, Read}
+use Rattle.disk_dcdd.specs.declared.sector.SectorWrite.{SectorWrite}
+use Rattle.pair_rule.specs.declared.payload.DiskAnswer.{DiskAnswer}
 use Rattle.pair_rule.specs.declared.view.Arrived.{Arrived}
+use Rattle.pair_rule.specs.declared.view.BackupView.{BackupView}
 use Rattle.pair_rule.specs.declared.view.Knowledge.{Knowledge}
 use Rattle.pair_rule.specs.Knowledge.{winner_of, read_at, HasWrite}
 
@@ -25,6 +28,31 @@ notes_from count log notes [] = notes
 notes_from count log notes (Do gives ∷ moves) =
     notes_from (suc count) (log ++ marks (suc count) gives) (notes_after notes log gives) moves
 notes_from count log notes (Take i ∷ moves) = notes_from count (log ++ entry_of count i ∷ []) notes moves
+
+-- what a world shows of what is known: all but what is in a hand, on its way, or only counted
+pub record Visible : Type 0 where
+  pub list : List Entry
+  pub seen : ℕ
+  pub winner : ℕ
+  pub released : List Operation
+  pub backup : BackupView
+  pub arrivals0 : List Arrived
+  pub arrivals1 : List Arrived
+  pub puts : List SectorWrite
+  pub given : List DiskAnswer
+
+abbrev pub visible : Knowledge → Visible
+visible k = record {
+  list = k.primary.list;
+  seen = k.primary.seen;
+  winner = k.primary.winner;
+  released = k.primary.released;
+  backup = k.backup;
+  arrivals0 = k.terminal.arrivals0;
+  arrivals1 = k.terminal.arrivals1;
+  puts = k.disk.puts;
+  given = k.disk.given;
+}
 
 -- ---- the nodes: a seat whose view names a winner has the role that its asking gave
 
@@ -47,35 +75,35 @@ backup_runs (suc zero) = false
 backup_runs _ = true
 
 -- the primary has the list, stands at its last count, and is covered as far as it has seen; the backup holds its list
-abbrev pub primary_node : {S : Type 0} → Knowledge → List Move → S → Node S
-primary_node k moves s = record {
-  role = primary_role k.primary.winner;
-  running = primary_runs k.primary.winner;
+abbrev pub primary_node : {S : Type 0} → Visible → List Move → S → Node S
+primary_node v moves s = record {
+  role = primary_role v.winner;
+  running = primary_runs v.winner;
   generation = 1;
   machine = s;
-  list = inputs_of k.primary.list;
+  list = inputs_of v.list;
   copy = [];
   start = 0;
   held = [];
   replayed = 0;
-  log = k.primary.list;
-  covered = k.primary.seen;
+  log = v.list;
+  covered = v.seen;
   reported = 0;
   notes = notes_from 0 [] [] moves;
   image = None;
   parts = [];
 }
 
-abbrev pub backup_node : {S : Type 0} → Machine S → Knowledge → Node S
-backup_node M k = record {
-  role = backup_role k.backup.winner;
-  running = backup_runs k.backup.winner;
+abbrev pub backup_node : {S : Type 0} → Machine S → Visible → Node S
+backup_node M v = record {
+  role = backup_role v.backup.winner;
+  running = backup_runs v.backup.winner;
   generation = 1;
   machine = M.boot;
   list = [];
   copy = [];
   start = 0;
-  held = k.backup.list;
+  held = v.backup.list;
   replayed = 0;
   log = [];
   covered = 0;
@@ -91,10 +119,10 @@ backup_node M k = record {
 abbrev pub arrival_of : Arrived → Arrival
 arrival_of a = record { number = a.number; byte = a.byte }
 
-abbrev pub terminals_of : Knowledge → List ℕ → List ℕ → List Terminal
-terminals_of k typed0 typed1 =
-    record { arrivals = map arrival_of k.terminal.arrivals0; typed = typed0; told = 0 }
-    ∷ record { arrivals = map arrival_of k.terminal.arrivals1; typed = typed1; told = 0 } ∷ []
+abbrev pub terminals_of : Visible → List ℕ → List ℕ → List Terminal
+terminals_of v typed0 typed1 =
+    record { arrivals = map arrival_of v.arrivals0; typed = typed0; told = 0 }
+    ∷ record { arrivals = map arrival_of v.arrivals1; typed = typed1; told = 0 } ∷ []
 
 -- the winner
 abbrev pub winners_of : ℕ → List Winner
@@ -103,11 +131,11 @@ winners_of (suc zero) = record { generation = 1; node = 0 } ∷ []
 winners_of (suc (suc n)) = record { generation = 1; node = 1 } ∷ []
 
 -- of the messages: which there are
-pub record Sent (k : Knowledge) (messages : List Message) : Type 0 where
-  pub logs : (i : ℕ) (e : Entry) → slice_get k.primary.list i ≡ Some e → Among (LogEntry 1 i e) messages
-  pub acks : (h : ℕ) → Among h k.backup.held_values → Among (Acknowledgement 1 h 0) messages
-  pub operations : (o : Operation) → Among o k.primary.released → Among (Released o) messages
-  pub writes : (n : ℕ) → Among (Written n) k.disk.given → Among (WriteDone n) messages
+pub record Sent (v : Visible) (messages : List Message) : Type 0 where
+  pub logs : (i : ℕ) (e : Entry) → slice_get v.list i ≡ Some e → Among (LogEntry 1 i e) messages
+  pub acks : (h : ℕ) → Among h v.backup.held_values → Among (Acknowledgement 1 h 0) messages
+  pub operations : (o : Operation) → Among o v.released → Among (Released o) messages
+  pub writes : (n : ℕ) → Among (Written n) v.given → Among (WriteDone n) messages
 
 -- a log packet that was sent is that entry of the list, and an acknowledgement is one of the values of held
 abbrev pub IsSentBy : List Entry → List ℕ → Message → Type 0
@@ -125,26 +153,30 @@ pub record IsAcknowledged (moves : List Move) (seen : ℕ) (o : Operation) : Typ
   pub given : moves ≡ front ++ Do (Some o) ∷ rest
   pub marked : length (entries 0 front) < seen
 
--- the world is shown by what is known
-pub record Shows {S : Type 0} (M : Machine S) (typed0 typed1 : List ℕ) (k : Knowledge) (w : World S) : Type 0 where
+-- the world is shown by what is visible
+pub record ShowsVisible {S : Type 0} (M : Machine S) (typed0 typed1 : List ℕ) (v : Visible) (w : World S) : Type 0 where
   pub moves : List Move
   pub s : S
   pub recorded : Recorded M M.boot moves s
-  pub entries_are : entries 0 moves ≡ k.primary.list
-  pub count : M.count s ≡ last_count 0 k.primary.list
-  pub nodes : w.nodes ≡ primary_node k moves s ∷ backup_node M k ∷ []
-  pub sent : Sent k w.messages
-  pub only : (m : Message) → Among m w.messages → IsSentBy k.primary.list k.backup.held_values m
-  pub terminals : w.terminals ≡ terminals_of k typed0 typed1
-  pub winners : w.winners ≡ winners_of (winner_of k.primary.winner k.backup.winner)
-  pub puts : w.puts ≡ k.disk.puts
+  pub entries_are : entries 0 moves ≡ v.list
+  pub count : M.count s ≡ last_count 0 v.list
+  pub nodes : w.nodes ≡ primary_node v moves s ∷ backup_node M v ∷ []
+  pub sent : Sent v w.messages
+  pub only : (m : Message) → Among m w.messages → IsSentBy v.list v.backup.held_values m
+  pub terminals : w.terminals ≡ terminals_of v typed0 typed1
+  pub winners : w.winners ≡ winners_of (winner_of v.winner v.backup.winner)
+  pub puts : w.puts ≡ v.puts
   -- what was released was given by a step; a write that is done was put; and a sector that the disk read before any
   -- write has the bytes that it booted with
-  pub issued : (o : Operation) → Among o k.primary.released → Among o (operations moves)
-  pub done : (n : ℕ) → IsDone n moves → HasWrite k.disk.puts n
+  pub issued : (o : Operation) → Among o v.released → Among o (operations moves)
+  pub done : (n : ℕ) → IsDone n moves → HasWrite v.puts n
   -- output rule: whatever was released is acknowledged
-  pub covered : (o : Operation) → Among o k.primary.released → IsAcknowledged moves k.primary.seen o
-  pub first_reads : (r : disk.SectorRead) → Among (Read r) k.disk.given → r.number ≡ 0 → r.bytes ≡ M.boot_sector (read_at r)
+  pub covered : (o : Operation) → Among o v.released → IsAcknowledged moves v.seen o
+  pub first_reads : (r : disk.SectorRead) → Among (Read r) v.given → r.number ≡ 0 → r.bytes ≡ M.boot_sector (read_at r)
+
+-- and so by what is known
+abbrev pub Shows : {S : Type 0} → Machine S → List ℕ → List ℕ → Knowledge → World S → Type 0
+Shows M typed0 typed1 k w = ShowsVisible M typed0 typed1 (visible k) w
 
 -- events of a pair, one after another
 pub data Happens {S : Type 0} (M : Machine S) (C : Copying S) : World S → List Event → List Reply → World S → Type 0 where
