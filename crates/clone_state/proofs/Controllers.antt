@@ -33,7 +33,7 @@ at_most a b few = grind (arith, nat_tests)
 pub strictly : (a b : ℕ) → a < b → nat_lt a b ≡ true
 strictly a b less = grind (arith, nat_tests)
 
-is_at_most : (a b : ℕ) → nat_le a b ≡ true → a ≤ b
+pub is_at_most : (a b : ℕ) → nat_le a b ≡ true → a ≤ b
 is_at_most a b e = grind (arith, nat_tests)
 
 list_passes : {A : Type 0} (test : A → Bool) (P : A → Type 0) → ((x : A) → P x → test x ≡ true) → (xs : List A)

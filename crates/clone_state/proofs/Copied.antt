@@ -1,10 +1,9 @@
 -- What is copied of a board is the checkpoint of its guest.
-use Rattle.std.proofs.Common.{◌≡◌, ℕ, ◌+◌, ◌-◌, ◌*◌, List, [], ◌∷◌, ◌++◌, length, map, take, drop, Some, refl, sym, ap, ◌∙◌, arith}
-use Rattle.std.specs.Prelude.{slice_range, All}
+use Rattle.std.proofs.Common.{◌≡◌, ℕ, ◌+◌, ◌-◌, ◌*◌, List, [], ◌∷◌, ◌++◌, map, take, drop, Some, refl, sym, ap, ◌∙◌, arith}
+use Rattle.std.specs.Prelude.{slice_range}
 use Rattle.std.proofs.Math.Seq.{take-add}
 use Rattle.std.proofs.lemmas.List.Elements.{All-head, All-tail}
 use Rattle.disk_dcdd.specs.Sector.{place_of}
-use Rattle.disk_dcdd.specs.declared.address.TheConstants.{DRIVE_SECTORS}
 use Rattle.disk_dcdd.specs.declared.sector.SectorWrite.{SectorWrite}
 use Rattle.event_callbacks.specs.Operations.{Operations, operation_at}
 use Rattle.event_callbacks.specs.declared.operations.OpId.TheVariants as id
@@ -13,7 +12,7 @@ use Rattle.guest_board.specs.Board.{IsBoard}
 use Rattle.guest_board.specs.Guest.{Guest}
 use Rattle.guest_board.specs.Parts.{HaveWrites, Shows}
 use Rattle.guest_board.specs.declared.parts.BoardParts.{BoardParts}
-use Rattle.clone_state.specs.Checkpoint.{checkpoint_in_parts, checkpoint_of, padded, window_of, write_at, writes_at}
+use Rattle.clone_state.specs.Checkpoint.{padded, window_of, write_at, writes_at}
 use Rattle.clone_state.specs.Image.{IsCopyOf}
 
 -- ---- memory, page after page

@@ -8,7 +8,7 @@ use Rattle.disk_dcdd.specs.Completion.{is_outstanding}
 use Rattle.disk_dcdd.specs.Controller.{IsIssued, IsUnderHead}
 use Rattle.disk_dcdd.specs.Drive.{Drives}
 use Rattle.disk_dcdd.specs.declared.address.TheConstants.{DRIVE_SECTORS}
-use Rattle.disk_dcdd.specs.declared.controller.TheConstants.{DRIVES}
+use Rattle.disk_dcdd.specs.declared.controller.TheConstants.{DRIVES, OUTSTANDING}
 use Rattle.i8080_words.specs.declared.limits.TheConstants.{GREATEST_NUMBER}
 use Rattle.disk_dcdd.specs.declared.sector.CurrentSector.{CurrentSector}
 use Rattle.disk_dcdd.specs.declared.sector.Place.{Place}
@@ -31,6 +31,7 @@ use Rattle.clone_state.specs.Possible.{are_zeros, is_controller, is_possible, is
 use Rattle.clone_state.proofs.Controllers.{at_most, both_true, controller_passes, strictly}
 use Rattle.clone_state.proofs.First.{AreNumbers, IsFirst, IsPortImage, first_in_again, first_in_again_01}
 use Rattle.clone_state.proofs.Devices.{HasOne, IsCurrent, IsWrite}
+use Rattle.clone_state.proofs.Lists.{map_length}
 use Rattle.clone_state.proofs.Guests.{guest_again, padded_length, window_length, write_itself, writes_placed}
 use Rattle.clone_state.proofs.PartLaws.{IsImage, parts_again}
 
@@ -198,6 +199,10 @@ first_is g h =
       drives = h.disk.drives.count;
       current = current_whole d d.current h.disk.current;
       writes = writes_whole d g.operations d.outstanding h.writes a.places h.disk.outstanding.each few;
+      few = at_most (length (writes_at g.operations d.outstanding)) OUTSTANDING
+          (let few_places = h.disk.outstanding.few in
+          let long = map_length (λ place. write_at place (operation_at g.operations (id.Write place.number))) d.outstanding in
+          omega (arith, few_places, long));
       outstanding = writes_placed g.operations d.outstanding a.places;
       possible = possible g h;
     }

@@ -1,8 +1,8 @@
 -- The first part: what is written is read again, and what is read is written just so, in version 02 or in version 01.
-use Rattle.std.proofs.Common.{◌≡◌, ℕ, ◌<◌, ◌^◌, Bool, true, false, cond, eqb, List, [], ◌∷◌, ◌++◌, length, map, Some, None, ◌⊎◌, inl, inr, refl, sym, ap, subst, ◌∙◌, append-nil, arith}
+use Rattle.std.proofs.Common.{◌≡◌, ℕ, ◌<◌, ◌^◌, Bool, true, false, cond, eqb, List, [], ◌∷◌, ◌++◌, length, map, Option, Some, None, ◌⊎◌, inl, inr, refl, sym, ap, subst, ◌∙◌, append-nil, arith}
 use Rattle.std.specs.Prelude.{All, IfSome}
 use Rattle.std.specs.List.{zip}
-use Rattle.std.proofs.lemmas.Bool.{eqb-true}
+use Rattle.std.proofs.lemmas.Bool.{eq-eqb, eqb-true}
 use Rattle.std.proofs.lemmas.List.{nil_from_length}
 use Rattle.std.proofs.lemmas.Option.{none-some}
 use Rattle.serial_2sio.specs.Port as serial
@@ -11,8 +11,9 @@ use Rattle.log_entry.specs.Numbers.{◌>>=◌, IsBytes}
 use Rattle.log_entry.proofs.ReadingLaws.{IsBytes-rest, first_read, admitted}
 use Rattle.clone_state.specs.Codec.{Codec, Again, alone, by, one, bytes, number, read_all, times, counted}
 use Rattle.clone_state.specs.Checkpoint.{FirstPart}
+use Rattle.clone_state.specs.Reading.{IsOfBoard}
 use Rattle.clone_state.specs.Possible.{is_possible}
-use Rattle.clone_state.specs.FirstPart.{truth, maybe, processor, PortImage, has_window, port, port_01, current, drives, write, FirstImage, fields, image_of_first, first_of_image, versioned, first, spelling_01}
+use Rattle.clone_state.specs.FirstPart.{truth, maybe, processor, PortImage, has_window, port, port_01, current, drives, write, are_few, writes, controller, two_numbers, devices, FirstImage, fields, image_of_first, first_of_image, versioned, first, spelling_01}
 use Rattle.clone_state.specs.Parts.{first_in, of_drives}
 use Rattle.clone_state.proofs.Codecs.{both_again, by_again, only_again, one_again, bytes_again, numbers_again, times_again, counted_again, all_again}
 use Rattle.clone_state.proofs.Spellings.{Spells, weaker, one_spells, bytes_spells, number_spells, both_spells, by_spells, only_spells, times_spells, counted_spells}
@@ -46,6 +47,7 @@ pub record IsFirst (f : FirstPart) : Type 0 where
   pub drives : length f.devices.disk.drives ≡ 4
   pub current : IsCurrent f.devices.disk.current
   pub writes : All IsWrite f.writes
+  pub few : are_few f.writes ≡ true
   pub outstanding : map place_of f.writes ≡ f.devices.disk.outstanding
   pub possible : is_possible f ≡ true
 
@@ -55,7 +57,7 @@ all_of xs f h = λ k x inside. f _ (h k x inside)
 
 fields_again : (c : Codec PortImage) (f : FirstPart) → IsFirst f → All (Again c) (zip f.devices.ports f.unaccepted)
     → Again (fields c) (image_of_first f)
-unfolding fields
+unfolding fields devices two_numbers controller writes
 fields_again c f h each =
     both_again one _ _ _ (one_again _) (both_again (bytes 3) _ _ _ (bytes_again 3 f.levels h.levels)
     (both_again one _ _ _ (one_again f.sense) (both_again number _ _ _ (numbers_again f.count h.count)
@@ -66,8 +68,8 @@ fields_again c f h each =
     (zip_length f.devices.ports f.unaccepted (h.two_ports ∙ sym h.two_windows) ∙ h.two_ports) each)
     (both_again number _ _ _ (numbers_again _ h.writes_issued) (both_again maybe _ _ _ (maybe_again _ h.selected)
     (both_again truth _ _ _ (truth_again _) (both_again drives _ _ _ (drives_again _ h.drives)
-    (both_again current (counted write) _ _ (current_again _ h.current)
-    (counted_again write f.writes (all_of f.writes write_again h.writes))))))))))))))
+    (both_again current writes _ _ (current_again _ h.current)
+    (only_again (counted write) are_few f.writes (counted_again write f.writes (all_of f.writes write_again h.writes)) h.few)))))))))))))
   where
     numbers : (xs : List ℕ) → AreNumbers xs → All (Again number) xs
     numbers xs h = all_of xs numbers_again h
@@ -140,7 +142,7 @@ abbrev HasCount : FirstImage → Type 0
 HasCount r = r.1.1.1.0 < 2 ^ 62
 
 fields_spells : {P : PortImage → Type 0} (c : Codec PortImage) → Spells c P → Spells (fields c) HasCount
-unfolding fields
+unfolding fields devices two_numbers controller writes
 fields_spells c h =
     weaker (both_spells one _ one_spells (both_spells (bytes 3) _ (bytes_spells 3) (both_spells one _ one_spells
     (both_spells number _ number_spells (both_spells processor _ processor_spells
@@ -148,7 +150,7 @@ fields_spells c h =
     (both_spells (times 2 number) _ (times_spells 2 number number_spells)
     (both_spells (times 2 c) _ (times_spells 2 c h) (both_spells number _ number_spells
     (both_spells maybe _ maybe_spells (both_spells truth _ truth_spells (both_spells drives _ drives_spells
-    (both_spells current (counted write) current_spells (counted_spells write write_spells))))))))))))))
+    (both_spells current writes current_spells (only_spells (counted write) are_few (counted_spells write write_spells)))))))))))))))
     (λ r p. p.1.1.1.0)
 
 abbrev with_ports : FirstImage → List PortImage → FirstImage
@@ -249,3 +251,14 @@ first_in_spelled drives payload f all e =
       attached = ap (λ (g : FirstPart). g.devices.disk.attached) (sym d.1) ∙ eqb-true _ _ d.0;
       holds = subst (λ g. HasWrites g × (is_possible g ≡ true)) same s.holds;
     }
+
+-- so a board with this many drives can have it
+pub is_of_board : (drives : ℕ) (payload : List ℕ) (f : FirstPart) → IsBytes payload → Some f ≡ read_all first payload
+    → f.devices.disk.attached ≡ drives → IsOfBoard drives f
+unfolding first_in
+is_of_board drives payload f all e attached =
+    let read : first_in drives payload ≡ Some f =
+    ap (λ (o : Option FirstPart). o >>= of_drives drives) (sym e)
+    ∙ ap (λ b. cond b (Some f) None) (eq-eqb f.devices.disk.attached drives attached) in
+    let h = first_in_spelled drives payload f all read in
+    record { attached = h.attached; possible = h.holds.1; count = h.holds.0.0; writes = h.holds.0.1 }

@@ -34,7 +34,7 @@ no_slot (suc n) zero payload e = none-some payload (same_Some None (Some payload
 no_slot (suc n) (suc index) payload e = no_slot n index payload e
 
 pub begins_of : (parts : List (List ℕ)) (generation drives : ℕ) → length parts ≡ part_count drives
-    → AreOf parts (nothing_gathered generation drives).slots
+    → AreOf parts (nothing_gathered generation drives (part_count drives)).slots
 begins_of parts generation drives e = record {
   long = length-replicate (part_count drives) None ∙ sym e;
   each = λ index payload there. absurd (no_slot (part_count drives) index payload there);

@@ -16,3 +16,12 @@ pub mod Rebuilding
 pub mod Messages
 pub mod Sizes
 pub mod Gathered
+pub mod Collecting
+pub mod ReadSizes
+pub mod Filling
+pub mod Made
+pub mod Decided
+pub mod OutstandingWrites
+pub mod TableReading
+pub mod Coming
+pub mod Assembled

@@ -1,9 +1,9 @@
--- A part's message is read again, and what is read as one is written just so.
+-- What is read as a part's message is written just so.
 use Rattle.std.proofs.Common.{◌≡◌, ℕ, ◌<◌, ◌≤◌, ◌^◌, Bool, true, false, cond, eqb, ltb, List, [], ◌∷◌, ◌++◌, length, take, drop, Option, Some, None, refl, sym, ap, subst, ◌∙◌, arith}
 use Rattle.std.specs.Int.{w32, from_be_bytes}
-use Rattle.std.proofs.lemmas.Bool.{eqb-true, eqb-false, ne_eqb, ltb-false, le-ltb}
+use Rattle.std.proofs.lemmas.Bool.{eqb-true, eqb-false, ltb-false}
 use Rattle.std.proofs.lemmas.List.{length-take, take-append-drop}
-use Rattle.std.proofs.lemmas.Nat.{be_bytes_4, from_be_bytes-to_be_bytes_4}
+use Rattle.std.proofs.lemmas.Nat.{be_bytes_4}
 use Rattle.std.proofs.lemmas.Option.{same_Some, none-some}
 use Rattle.byteorder.specs.Endian.{big_bytes}
 use Rattle.log_entry.specs.Numbers.{◌>>=◌, IsBytes}
@@ -11,12 +11,10 @@ use Rattle.log_entry.proofs.ReadingLaws.{IsBytes-drop, IsBytes-rest, IsBytes-tak
 use Rattle.clone_state.specs.FirstPart.{word}
 use Rattle.clone_state.specs.Laws.{IsMessage}
 use Rattle.clone_state.specs.Parts.{PartMessage, after_tag, checked, generation_from, is_payload, message_at, message_bytes, nonzero}
-use Rattle.clone_state.proofs.Values.{word_again, word_spells}
+use Rattle.clone_state.specs.PartsRead.{Read, after_generation, after_index}
+use Rattle.clone_state.proofs.Values.{word_spells}
 
 -- ---- the generation
-
-abbrev Read : Type 0
-Read = ℕ × List ℕ
 
 record TakesGeneration (bytes : List ℕ) (generation : ℕ) (rest : List ℕ) : Type 0 where
   parts : bytes ≡ big_bytes 4 generation ++ rest
@@ -52,35 +50,7 @@ generation_takes bytes x are_bytes read =
       below = subst (λ (n : ℕ). n < 2 ^ 32) (sym same_number) below;
     }
 
-generation_again : (generation : ℕ) (rest : List ℕ) → 0 < generation → generation < 2 ^ 32
-    → generation_from (big_bytes 4 generation ++ rest) ≡ Some (generation, rest)
-unfolding generation_from
-generation_again generation rest above below =
-    let again : from_be_bytes w32 (big_bytes 4 generation) ≡ generation =
-    from_be_bytes-to_be_bytes_4 generation below
-    in
-    let long : ltb (length (big_bytes 4 generation ++ rest)) 4 ≡ false = le-ltb _ _ (omega arith) in
-    let not_zero : eqb generation 0 ≡ false = ne_eqb generation 0 (λ z. omega (arith, above)) in
-    rw (long, again, not_zero) refl
-
 -- ---- the message
-
--- what follows the generation, and what follows the index
-abbrev behind_generation : ℕ → Read → Option PartMessage
-behind_generation drives generation = word.read generation.1 >>= λ index.
-    checked drives (record { generation = generation.0; index = index.0; payload = index.1 })
-
-abbrev behind_index : ℕ → ℕ → Read → Option PartMessage
-behind_index drives generation index =
-    checked drives (record { generation = generation; index = index.0; payload = index.1 })
-
-pub message_again : (drives : ℕ) (m : PartMessage) → IsMessage drives m → message_at drives (message_bytes m) ≡ Some m
-unfolding message_at
-message_again drives m h =
-    ap (λ (o : Option Read). o >>= behind_generation drives)
-    (generation_again m.generation (word.spell m.index ++ m.payload) h.some h.few)
-    ∙ ap (λ (o : Option Read). o >>= behind_index drives m.generation) ((word_again m.index).again m.payload)
-    ∙ ap (λ b. cond b (Some m) None) h.payload
 
 pub message_written : (drives : ℕ) (bytes : List ℕ) (m : PartMessage) → IsBytes bytes
     → message_at drives bytes ≡ Some m → IsMessage drives m × (bytes ≡ message_bytes m)
@@ -88,9 +58,9 @@ unfolding message_at
 message_written drives [] m all e = absurd (none-some m e)
 message_written drives (tag ∷ bytes) m all e =
     let test = passed (eqb tag 0x50) (after_tag drives bytes) e in
-    let g = first_read (generation_from bytes) (behind_generation drives) m test.1 in
+    let g = first_read (generation_from bytes) (after_generation drives) m test.1 in
     let taken = generation_takes bytes g.0 (IsBytes-rest tag bytes all) g.1 in
-    let i = first_read (word.read g.0.1) (behind_index drives g.0.0) m g.2 in
+    let i = first_read (word.read g.0.1) (after_index drives g.0.0) m g.2 in
     let index = word_spells.written g.0.1 i.0 taken.are_bytes i.1 in
     let c = admitted (is_payload drives i.0.0 i.0.1) (record { generation = g.0.0; index = i.0.0; payload = i.0.1 }) m i.2 in
     let same = c.1 in (

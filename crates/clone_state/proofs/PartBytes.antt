@@ -1,5 +1,5 @@
 -- The part of an index in a message, and that there is none past the image.
-use Rattle.std.proofs.Common.{◌≡◌, ℕ, ◌<◌, ◌≤◌, List, [], length, Some, None, option_map, refl, sym, ap, ◌∙◌, subst, arith}
+use Rattle.std.proofs.Common.{◌≡◌, ℕ, ◌<◌, ◌≤◌, List, [], length, Some, option_map, refl, sym, subst}
 use Rattle.std.specs.Prelude.{IfOk, IsOkUnless, Result, Ok, Err, slice_index_or}
 use Rattle.std.specs.Global.{Vec}
 use Rattle.std.proofs.lemmas.Option.{slice_get_past, slice_get-get_or}

@@ -33,13 +33,13 @@ no_elements : {A : Type 0} (xs : List A) → length xs ≡ 0 → xs ≡ []
 no_elements [] e = refl
 no_elements (x ∷ xs) e = absurd (omega (arith, e))
 
-all_front : (P : ℕ → Type 0) (n : ℕ) (xs : List ℕ) → All P xs → All P (take n xs)
+pub all_front : {A : Type 0} (P : A → Type 0) (n : ℕ) (xs : List A) → All P xs → All P (take n xs)
 all_front P zero xs h = λ k x inside. absurd (omega (arith, inside))
 all_front P (suc n) [] h = h
 all_front P (suc n) (x ∷ xs) h =
     All-cons P x (take n xs) (All-head P x xs h) (all_front P n xs (All-tail P x xs h))
 
-all_behind : (P : ℕ → Type 0) (n : ℕ) (xs : List ℕ) → All P xs → All P (drop n xs)
+pub all_behind : {A : Type 0} (P : A → Type 0) (n : ℕ) (xs : List A) → All P xs → All P (drop n xs)
 all_behind P zero xs h = h
 all_behind P (suc n) [] h = h
 all_behind P (suc n) (x ∷ xs) h = all_behind P n xs (All-tail P x xs h)
@@ -86,7 +86,7 @@ table_spells : Spells table (λ xs. length xs ≡ 32)
 unfolding table
 table_spells = times_spells 32 number number_spells
 
-page_again : (xs : List ℕ) → length xs ≡ 256 → Again page xs
+pub page_again : (xs : List ℕ) → length xs ≡ 256 → Again page xs
 unfolding page
 page_again xs e = bytes_again 256 xs e
 

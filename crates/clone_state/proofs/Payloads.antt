@@ -1,5 +1,5 @@
 -- What a part says, by its index: the first part, a page, a table.
-use Rattle.std.proofs.Common.{◌≡◌, ℕ, zero, suc, ◌+◌, ◌-◌, ◌*◌, ◌<◌, ◌≤◌, List, [], ◌∷◌, ◌++◌, length, map, take, drop, get_or, refl, sym, ap, ◌∙◌, append_assoc, arith}
+use Rattle.std.proofs.Common.{◌≡◌, ℕ, zero, suc, ◌+◌, ◌-◌, ◌*◌, ◌<◌, ◌≤◌, List, [], ◌∷◌, ◌++◌, length, map, take, drop, get_or, sym, ap, ◌∙◌, append_assoc, arith}
 use Rattle.std.specs.Prelude.{slice_index_or}
 use Rattle.std.specs.List.{zip}
 use Rattle.std.proofs.lemmas.List.{append-nil, take_more, get_or-append_right, get_or_append_left, get_or-map, drop-drop, length-map}
@@ -9,7 +9,7 @@ use Rattle.serial_2sio.specs.Port as serial
 use Rattle.guest_memory.specs.declared.memory.TheConstants.{PAGES, PAGE_BYTES}
 use Rattle.clone_state.specs.Checkpoint.{Checkpoint, FirstPart}
 use Rattle.clone_state.specs.Codec.{Codec, both, by, only, one, bytes, times, counted, number, spell_each}
-use Rattle.clone_state.specs.FirstPart.{first, versioned, fields, processor, port, maybe, truth, drives, current, write}
+use Rattle.clone_state.specs.FirstPart.{first, versioned, fields, devices, two_numbers, controller, writes, processor, port, maybe, truth, drives, current, write}
 use Rattle.clone_state.specs.Parts.{page, table, table_count, part_count, pieces, later_parts, parts_of}
 use Rattle.clone_state.proofs.PartLaws.{pieces_length}
 
@@ -38,7 +38,7 @@ pub first_spelled : (f : FirstPart) → first.spell f
     ++ ((number.spell f.devices.disk.issued ++ (maybe.spell f.devices.disk.selected ++ truth.spell f.devices.disk.interrupts))
     ++ (drives.spell f.devices.disk.drives ++ (current.spell f.devices.disk.current
     ++ ((length f.writes ∷ []) ++ spell_each write f.writes))))))))
-unfolding first versioned fields both by only one bytes times counted
+unfolding first versioned fields devices two_numbers controller writes both by only one bytes times counted
 first_spelled f = simp append_assoc
 
 -- what is appended piece by piece is appended together

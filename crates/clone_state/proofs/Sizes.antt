@@ -10,7 +10,7 @@ use Rattle.i8080_words.specs.declared.registers.Processor.{Processor}
 use Rattle.std.specs.Prelude.{Bool, Option, Some, None}
 use Rattle.clone_state.specs.Codec.{Codec, both, by, bytes, counted, number, one, only, spell_each, times}
 use Rattle.clone_state.specs.Checkpoint.{Checkpoint, FirstPart}
-use Rattle.clone_state.specs.FirstPart.{PortImage, current, drives, fields, first, flags, image_of_first, interrupts, maybe, port, processor, receiver, registers, truth, versioned, word, write, no_bytes, shown_current}
+use Rattle.clone_state.specs.FirstPart.{PortImage, are_few, controller, current, devices, drives, fields, first, flags, image_of_first, interrupts, maybe, port, processor, receiver, registers, truth, two_numbers, versioned, word, write, writes, no_bytes, shown_current}
 use Rattle.clone_state.specs.Laws.{HasSize}
 use Rattle.clone_state.specs.Parts.{later_parts, page, pieces, table, table_count}
 use Rattle.clone_state.proofs.Devices.{IsCurrent, IsWrite, no_bytes_length}
@@ -143,7 +143,7 @@ write_sized w h =
 fields_sized : (f : FirstPart) → IsFirst f
     → Sized (fields port) (image_of_first f) (1 + (3 + (1 + (8 + (14 + (16 + (16 + (40 + (8 + (1 + (1 + (8 + (142
     + (1 + 148 * length f.writes))))))))))))))
-unfolding fields
+unfolding fields devices two_numbers controller writes
 fields_sized f h =
     both_sized one _ _ _ 1 _ (one_sized _) (both_sized (bytes 3) _ _ _ 3 _ (bytes_sized 3 f.levels h.levels)
     (both_sized one _ _ _ 1 _ (one_sized _) (both_sized number _ _ _ 8 _ (number_sized _)
@@ -155,8 +155,8 @@ fields_sized f h =
     (λ k x inside. port_sized _ (h.ports k x inside)))
     (both_sized number _ _ _ 8 _ (number_sized _) (both_sized maybe _ _ _ 1 _ (maybe_sized _)
     (both_sized truth _ _ _ 1 _ (truth_sized _) (both_sized drives _ _ _ 8 _ (drives_sized _ h.drives)
-    (both_sized current (counted write) _ _ 142 _ (current_sized _ h.current)
-    (counted_sized write 148 f.writes (λ k x inside. write_sized _ (h.writes k x inside)))))))))))))))
+    (both_sized current writes _ _ 142 _ (current_sized _ h.current)
+    (only_sized (counted write) are_few f.writes _ (counted_sized write 148 f.writes (λ k x inside. write_sized _ (h.writes k x inside))))))))))))))))
 
 first_sized : (f : FirstPart) → IsFirst f → length (first.spell f) ≡ 261 + 148 * length f.writes
 unfolding first versioned by only

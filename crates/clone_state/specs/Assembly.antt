@@ -1,10 +1,10 @@
 -- The parts of one image as they come, in any order, and what is answered to each.
-use Rattle.std.specs.Prelude.{ℕ, ◌==◌, Bool, not, if◌then◌else◌, ◌&&◌, List, [], ◌∷◌, replicate, slice_index_or, slice_set, is_none, is_some, Option, Some, None, Result, Ok, Err}
+use Rattle.std.specs.Prelude.{ℕ, ◌==◌, Bool, if◌then◌else◌, ◌&&◌, List, [], ◌∷◌, replicate, slice_index_or, slice_set, is_none, is_some, Option, Some, None, Result, Ok, Err}
 use Rattle.i8080_words.specs.declared.refusal.Fault.{Fault}
 use Rattle.i8080_words.specs.declared.refusal.Fault.TheVariants.{Malformed, NotWhole, WrongGeneration}
 use Rattle.guest_board.specs.Guest.{Guest}
 use Rattle.log_entry.specs.Numbers.{◌>>=◌}
-use Rattle.clone_state.specs.Parts.{PartMessage, guest_in, message_at, part_count}
+use Rattle.clone_state.specs.Parts.{PartMessage, guest_in, message_at}
 
 -- the payloads of the parts that came, by index
 abbrev pub Slots : Type 0
@@ -16,10 +16,10 @@ pub record Gathering : Type 0 where
   pub drives : ℕ
   pub slots : Slots
 
--- no part came yet
-abbrev pub nothing_gathered : ℕ → ℕ → Gathering
-nothing_gathered generation drives =
-    record { generation = generation; drives = drives; slots = replicate (part_count drives) None }
+-- no part came yet, of so many
+abbrev pub nothing_gathered : ℕ → ℕ → ℕ → Gathering
+nothing_gathered generation drives count =
+    record { generation = generation; drives = drives; slots = replicate count None }
 
 -- the payloads, if all came
 abbrev pub gathered : Slots → Option (List (List ℕ))
@@ -46,11 +46,20 @@ with_part g (Some m) =
     then record g { slots = slice_set g.slots m.index (Some m.payload) }
     else g
 
+-- a part of the generation is taken back
+abbrev pub without_part : Gathering → Option PartMessage → Gathering
+without_part g None = g
+without_part g (Some m) =
+    if m.generation == g.generation then record g { slots = slice_set g.slots m.index None } else g
+
 unfoldable pub part_answer : Gathering → List ℕ → Result Bool Fault
 part_answer g bytes = answer_to g (message_at g.drives bytes)
 
 unfoldable pub after_part : Gathering → List ℕ → Gathering
 after_part g bytes = with_part g (message_at g.drives bytes)
+
+unfoldable pub after_forgetting : Gathering → List ℕ → Gathering
+after_forgetting g bytes = without_part g (message_at g.drives bytes)
 
 -- ---- all parts came
 
@@ -63,8 +72,3 @@ whole_answer g = if is_whole g then Ok tt else Err NotWhole
 -- the machine that the parts make, if all came and they fit a board together
 abbrev pub machine_in : Gathering → Option Guest
 machine_in g = gathered g.slots >>= guest_in g.drives
-
--- why they make none, memory apart
-abbrev pub machine_refusal : Gathering → Option Fault
-machine_refusal g =
-    if not (is_whole g) then Some NotWhole else if is_none (machine_in g) then Some Malformed else None

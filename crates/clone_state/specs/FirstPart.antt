@@ -1,6 +1,6 @@
 -- The first part of an image: all but memory and the last completed writes. In a message, with a head of 7 bytes, it has
 -- 268 + 148n bytes with n outstanding writes; in version 01 it has 238 + 148n.
-use Rattle.std.specs.Prelude.{ℕ, ◌+◌, ◌*◌, ◌/◌, ◌%◌, ◌==◌, nat_lt, Bool, true, false, not, if◌then◌else◌, ◌&&◌, ◌||◌, List, ◌∷◌, map, replicate, slice_index, is_none, Option, Some, None}
+use Rattle.std.specs.Prelude.{ℕ, ◌+◌, ◌*◌, ◌/◌, ◌%◌, ◌==◌, nat_lt, nat_le, Bool, true, false, not, if◌then◌else◌, ◌&&◌, ◌||◌, List, ◌∷◌, length, map, replicate, slice_index, is_none, Option, Some, None}
 use Rattle.std.specs.List.{zip}
 use Rattle.std.specs.Option.{option_map_or}
 use Rattle.i8080_words.specs.Arithmetic.{bit, has_bit, flag_byte, flags_from}
@@ -12,7 +12,7 @@ use Rattle.serial_2sio.specs.Port as serial
 use Rattle.serial_2sio.specs.declared.acia.Receiver.{Receiver}
 use Rattle.serial_2sio.specs.declared.acia.Receiver.TheVariants.{Empty, Full, FullLost, Over}
 use Rattle.disk_dcdd.specs.Sector.{place_of}
-use Rattle.disk_dcdd.specs.declared.controller.TheConstants.{DRIVES}
+use Rattle.disk_dcdd.specs.declared.controller.TheConstants.{DRIVES, OUTSTANDING}
 use Rattle.disk_dcdd.specs.declared.drive.Drive.{Drive}
 use Rattle.disk_dcdd.specs.declared.sector.CurrentSector.{CurrentSector}
 use Rattle.disk_dcdd.specs.declared.sector.SectorWrite.{SectorWrite}
@@ -137,6 +137,10 @@ port = only
 abbrev pub PortImage01 : Type 0
 PortImage01 = (ℕ × (ℕ × (Receiver × (Bool × ℕ))))
 
+-- a window whose oldest place has this byte
+abbrev pub one_byte : ℕ → List ℕ
+one_byte byte = byte ∷ replicate 15 0
+
 abbrev pub has_byte : PortImage01 → Bool
 has_byte r = not r.1.1.1.0 || r.1.1.1.1 == 0
 
@@ -145,7 +149,7 @@ port_01 = by (only (both one (both one (both receiver (both truth one)))) has_by
     (λ p. (p.0.control, (p.0.receive_data, (p.0.receiver, (p.0.unaccepted == 0, slice_index p.1 0)))))
     (λ r. (
       serial.port_with r.0 r.1.0 r.1.1.0 (if r.1.1.1.0 then 0 else 1),
-      r.1.1.1.1 ∷ replicate 15 0,
+      one_byte r.1.1.1.1,
     ))
 
 -- ---- the controller and its outstanding writes
@@ -196,19 +200,38 @@ write = by (both number (both one (both one (both one (bytes SECTOR_BYTES)))))
     (λ w. (w.number, (w.drive, (w.track, (w.sector, w.bytes)))))
     (λ r. record { number = r.0; drive = r.1.0; track = r.1.1.0; sector = r.1.1.1.0; bytes = r.1.1.1.1 })
 
+-- at most 8 writes, after a byte that says how many
+abbrev pub are_few : List SectorWrite → Bool
+are_few ws = nat_le (length ws) OUTSTANDING
+
+unfoldable pub writes : Codec (List SectorWrite)
+writes = only (counted write) are_few
+
+-- how many writes were issued, the selected drive, interrupts, the drives, the sector under the head, the writes
+abbrev pub ControllerFields : Type 0
+ControllerFields = (ℕ × (Option ℕ × (Bool × (List Drive × (Option CurrentSector × List SectorWrite)))))
+
+unfoldable pub controller : Codec ControllerFields
+controller = both number (both maybe (both truth (both drives (both current writes))))
+
 -- ---- all of it
 
--- drives, levels, sense; count; processor; keys; bytes issued; both ports; writes issued, selected drive, interrupts,
--- drives, sector under the head; outstanding writes
+-- the keys of each port, the bytes issued at each, the ports, and the controller
+abbrev pub DeviceFields : Type 0
+DeviceFields = (List ℕ × (List ℕ × (List PortImage × ControllerFields)))
+
+unfoldable pub two_numbers : Codec (List ℕ)
+two_numbers = times PORTS number
+
+unfoldable pub devices : Codec PortImage → Codec DeviceFields
+devices port_codec = both two_numbers (both two_numbers (both (times PORTS port_codec) controller))
+
+-- how many drives, the levels, the sense switches, the count, the processor, and the devices
 abbrev pub FirstImage : Type 0
-FirstImage = (ℕ × (List ℕ × (ℕ × (ℕ × (Processor × (List ℕ × (List ℕ × (List PortImage × (ℕ × (Option ℕ
-    × (Bool × (List Drive × (Option CurrentSector × List SectorWrite)))))))))))))
+FirstImage = (ℕ × (List ℕ × (ℕ × (ℕ × (Processor × DeviceFields)))))
 
 unfoldable pub fields : Codec PortImage → Codec FirstImage
-fields port_codec =
-    both one (both (bytes 3) (both one (both number (both processor (both (times PORTS number)
-    (both (times PORTS number) (both (times PORTS port_codec) (both number (both maybe (both truth (both drives
-    (both current (counted write)))))))))))))
+fields port_codec = both one (both (bytes 3) (both one (both number (both processor (devices port_codec)))))
 
 abbrev pub image_of_first : FirstPart → FirstImage
 image_of_first f =

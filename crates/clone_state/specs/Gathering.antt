@@ -20,7 +20,7 @@ IsOfImage g parts bytes = (m : PartMessage) → message_at g.drives bytes ≡ So
 -- that holds before any part came, and after each message that comes
 abbrev pub BeginsOfImage : Type 0
 BeginsOfImage = (parts : List (List ℕ)) (generation drives : ℕ) → length parts ≡ part_count drives
-    → AreOf parts (nothing_gathered generation drives).slots
+    → AreOf parts (nothing_gathered generation drives (part_count drives)).slots
 
 abbrev pub StaysOfImage : Type 0
 StaysOfImage = (parts : List (List ℕ)) (g : Gathering) (bytes : List ℕ) → AreOf parts g.slots

@@ -7,3 +7,8 @@ pub mod Assembly
 pub mod Laws
 pub mod Gathering
 pub mod Image
+pub mod Reading
+pub mod Copies
+pub mod Slots
+pub mod CopiedBoard
+pub mod PartsRead

@@ -95,11 +95,14 @@ unfoldable pub generation_from : List ℕ → Option (ℕ × List ℕ)
 generation_from bytes =
     if nat_lt (length bytes) 4 then None else nonzero (from_be_bytes w32 (take 4 bytes)) (drop 4 bytes)
 
+abbrev pub is_page : List ℕ → Bool
+is_page payload = is_some (read_all page payload)
+
 -- a payload is well-formed for its index, in an image of this many drives; no index is past the image
 unfoldable pub is_payload : ℕ → ℕ → List ℕ → Bool
 is_payload drives index payload =
     if index == 0 then is_some (first_in drives payload)
-    else if nat_lt index (1 + PAGES) then is_some (read_all page payload)
+    else if nat_lt index (1 + PAGES) then is_page payload
     else if nat_lt index (part_count drives) then is_some (read_all table payload)
     else false
 

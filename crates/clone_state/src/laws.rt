@@ -1,4 +1,5 @@
 //! What follows from the definitions alone.
+ghost use Rattle.clone_state.specs.CopiedBoard.{BoardsAreCopiedAsGuests};
 ghost use Rattle.clone_state.specs.Gathering.{BeginsOfImage, IsWholeWhenAllCame, StaysOfImage, WholeMakesIt};
 ghost use Rattle.clone_state.specs.Laws.{
   BoardsCanBeRebuilt,
@@ -54,4 +55,10 @@ pub fn assemblies_gather_images()
     ensures stays { StaysOfImage }
     ensures whole { IsWholeWhenAllCame }
     ensures makes { WholeMakesIt }
+{}
+
+/// The image of a guest describes the copy of a board with it: its parts are the board's, and parts make a board exactly
+/// if they make its guest.
+pub fn boards_are_copied_as_guests()
+    ensures { BoardsAreCopiedAsGuests }
 {}

@@ -1,14 +1,20 @@
 //! The image of a machine: its parts, and the machine that they make.
 #![tactic(auto)]
 
+mod assembly;
+mod copied_board;
+mod copies;
 mod image;
 mod laws;
+mod reading;
 mod spelling;
 #[cfg(test)]
 mod tests;
 
+pub use assembly::Assembly;
+pub use copies::Copies;
 pub use image::Image;
 pub use laws::{
-    assemblies_gather_images, boards_can_be_rebuilt, controllers_are_decided,
-    messages_are_written_one_way, parts_are_written_one_way, parts_make_their_machines,
+    assemblies_gather_images, boards_are_copied_as_guests, boards_can_be_rebuilt,
+    controllers_are_decided, messages_are_written_one_way, parts_are_written_one_way, parts_make_their_machines,
 };

@@ -22,7 +22,7 @@ use log_entry::spelled_number;
 use serial_2sio::{Acia, WINDOW};
 
 /// The byte that a part begins with, the letter `P`.
-const PART_TAG: u8 = 0x50;
+pub(crate) const PART_TAG: u8 = 0x50;
 
 // How many bytes a part's head has, and the first part if no write is outstanding.
 const HEAD: usize = 7;
@@ -148,8 +148,8 @@ fn write_ports(
     Ok(())
 }
 
-// An array has as many elements as its type says.
-fn has_all<X, const N: usize>(array: &[X; N])
+/// An array has as many elements as its type says.
+pub(crate) fn has_all<X, const N: usize>(array: &[X; N])
     ensures { length array.now ≡ N }
 {}
 

@@ -18,6 +18,8 @@ use std::alloc::Global;
 use std::process::Abort;
 use std::test::Fail;
 
+mod gathering;
+
 // MVI A,48; STA 2000; HLT.
 const PROGRAM: [u8; 6] = [0x3e, 0x48, 0x32, 0x00, 0x20, 0x76];
 

@@ -1,4 +1,5 @@
-use Rattle.clone_state.proofs.Messages.{message_again, message_written}
+use Rattle.clone_state.specs.PartsRead.{message_again}
+use Rattle.clone_state.proofs.Messages.{message_written}
 use Rattle.clone_state.proofs.laws.messages_are_written_one_way.Goals as goal
 
 pub returns-clause-again : goal.returns-clause-again

@@ -1,5 +1,5 @@
 -- What is appended piece by piece is the spelling of the first part.
-use Rattle.std.proofs.Common.{◌≡◌, List, [], ◌∷◌, ◌++◌, ℕ, length, refl, sym, ap, ◌∙◌, subst}
+use Rattle.std.proofs.Common.{◌≡◌, List, [], ◌∷◌, ◌++◌, ℕ, length, subst}
 use Rattle.std.specs.Prelude.{OnOk}
 use Rattle.std.specs.List.{zip}
 use Rattle.clone_state.specs.Checkpoint.{FirstPart, checkpoint_in_parts}

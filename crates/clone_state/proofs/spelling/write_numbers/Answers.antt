@@ -1,4 +1,4 @@
-use Rattle.std.proofs.Common.{List, [], ◌++◌, ℕ, ap, ◌∙◌, take, get_or}
+use Rattle.std.proofs.Common.{List, ◌++◌, ℕ, ap, ◌∙◌, take}
 use Rattle.clone_state.specs.Codec.{number, spell_each}
 use Rattle.clone_state.proofs.Payloads.{spell_next}
 use Rattle.clone_state.proofs.spelling.write_numbers.Goals as goal

@@ -1,5 +1,5 @@
 -- The index says which part it is.
-use Rattle.std.proofs.Common.{refl, ◌≡◌, ◌+◌, ◌-◌, ◌*◌, List, [], ◌∷◌, ◌++◌, ℕ, take, drop, sym, ap, ◌∙◌, subst, arith}
+use Rattle.std.proofs.Common.{refl, ◌≡◌, ◌-◌, ◌*◌, List, [], ◌++◌, ℕ, take, drop, sym, ap, ◌∙◌, subst, arith}
 use Rattle.std.specs.Prelude.{OnOk, slice_index_or}
 use Rattle.clone_state.specs.Checkpoint.{Checkpoint, checkpoint_in_parts}
 use Rattle.clone_state.specs.Codec.{number, spell_each}

@@ -1,5 +1,5 @@
 -- What the copied parts say is the checkpoint of their guest.
-use Rattle.std.proofs.Common.{refl, ◌≡◌, ◌<◌, ℕ, [], length, subst, arith}
+use Rattle.std.proofs.Common.{refl, ◌≡◌, [], subst, arith}
 use Rattle.std.specs.Prelude.{IfOk, slice_index_or}
 use Rattle.guest_board.specs.Guest.{Guest}
 use Rattle.guest_board.specs.Parts.{guest_of_parts}

@@ -1,5 +1,5 @@
 -- Each byte that is read takes the next place; after the last one the window is that of the guest.
-use Rattle.std.proofs.Common.{◌≡◌, ℕ, ◌+◌, ◌-◌, ◌≤◌, length, refl, sym, ap, ◌∙◌, arith}
+use Rattle.std.proofs.Common.{◌≡◌, ℕ, ◌+◌, ◌-◌, ◌≤◌, length, refl, ap, ◌∙◌, arith}
 use Rattle.std.proofs.lemmas.List.{length-set}
 use Rattle.event_callbacks.specs.Operations.{Operations}
 use Rattle.guest_board.specs.Parts.{oldest_of}
