@@ -18,6 +18,7 @@ use std::alloc::Global;
 use std::process::Abort;
 use std::test::Fail;
 
+mod changes;
 mod gathering;
 
 // MVI A,48; STA 2000; HLT.

@@ -6,4 +6,5 @@ mod lines;
 mod outputs;
 mod refusals;
 mod rows;
+mod shown;
 mod takeovers;

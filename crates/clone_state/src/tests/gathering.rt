@@ -71,7 +71,7 @@ fn assembled<T: Completes + Drop, S: Completes + Drop, W: Completes + Drop>(
 }
 
 // The image of the board of these tests.
-fn copied<T: Completes + Drop, S: Completes + Drop, W: Completes + Drop>(
+pub(super) fn copied<T: Completes + Drop, S: Completes + Drop, W: Completes + Drop>(
     alloc: Global,
     sent: T,
     sector: S,

@@ -5,6 +5,7 @@ ghost use Rattle.event_callbacks.specs.declared.devices.TheConstants.{SENT, SECT
 ghost use Rattle.event_callbacks.specs.Keeping.{Keeps};
 
 use crate::worlds::lines::Line;
+use crate::worlds::shown::shown;
 use disk_dcdd::{SECTOR_BYTES, SectorAddress, SectorWrite};
 use event_callbacks::{Callbacks, Completes, plain_completions};
 use ft_world::{Message, NodeStatus, World};
@@ -132,8 +133,8 @@ pub(crate) fn boot<
     }
 }
 
-/// Each event happens and has this answer. If memory is refused, at most once, the same event is asked for again and
-/// then has this answer.
+/// Each event happens and has this answer. If memory is refused, at most once, the world shows what it did before, and
+/// the same event is asked for again and then has this answer.
 pub(crate) fn happen<B: Lockstep + Drop, D: SectorStore, H: Drop>(
     rt: &impl Abort,
     alloc: Global,
@@ -142,17 +143,19 @@ pub(crate) fn happen<B: Lockstep + Drop, D: SectorStore, H: Drop>(
 ) {
     let mut refused = false;
     for (event, answer) in events {
+        let before = shown(world);
         let mut answered = world.apply(alloc, *event);
         if answered == Err(Fault::OutOfMemory) && !refused {
             refused = true;
+            assert_eq!(rt; shown(world), before, "{event:?}");
             answered = world.apply(alloc, *event);
         }
         assert_eq!(rt; answered, *answer, "{event:?}");
     }
 }
 
-// What is in a message.
-fn sent_in(message: Option<&Message>) -> Sent<'_> {
+/// What is in a message.
+pub(crate) fn sent_in(message: Option<&Message>) -> Sent<'_> {
     match message {
         None => Sent::Nothing,
         Some(Message::Log(packet)) => Sent::Log(packet),
