@@ -29,6 +29,11 @@ ReadsParts fit message_in =
     → message_in drives (message_bytes (record { generation = generation; index = index; payload = payload }))
     ≡ Some (record { generation = generation; index = index; payload = payload })
 
+-- a law: an image of so many parts has one of the index of each part that is read
+abbrev pub HasSlotsFor : (ℕ → ℕ) → (ℕ → List ℕ → Option PartMessage) → Type 0
+HasSlotsFor part_count message_in =
+    (drives : ℕ) (bytes : List ℕ) (m : PartMessage) → message_in drives bytes ≡ Some m → m.index < part_count drives
+
 -- a copy by the states of guests describes the copy of the guests themselves: the parts of a state are those of each
 -- guest in it, and parts make a state exactly if they make a guest in it
 pub record CopiesAs {S G : Type 0} (state : G → S) (parts_of : G → List (List ℕ)) (count : ℕ)

@@ -12,3 +12,4 @@ pub mod Copies
 pub mod Slots
 pub mod CopiedBoard
 pub mod PartsRead
+pub mod PartsWithin

@@ -10,7 +10,7 @@ use std::alloc::Global;
 impl<T: Completes + Drop, S: Completes + Drop, W: Completes + Drop> Copies for Board<T, S, W> {
     ghost use Rattle.guest_board.specs.Parts.{guest_of_parts};
     ghost use Rattle.clone_state.specs.Parts as parts;
-    ghost use Rattle.clone_state.specs.CopiedBoard.{MakesBoard, board_parts, board_reads, image_parts, parts_fit};
+    ghost use Rattle.clone_state.specs.CopiedBoard.{MakesBoard, board_parts, board_reads, board_within, image_parts, parts_fit};
 
     type Callbacks = Callbacks<T, S, W>;
 
@@ -37,7 +37,10 @@ impl<T: Completes + Drop, S: Completes + Drop, W: Completes + Drop> Copies for B
 
     ghost reads = { board_reads };
 
+    ghost within = { board_within };
+
     fn image(&self, alloc: Global, generation: u32) -> R<Image> {
+        self.stands();
         Image::of(alloc, self, generation)
     }
 

@@ -1,9 +1,11 @@
 //! What the layers of a pair require of a guest that can be copied, so that they are proved for any such guest.
 ghost use Rattle.std.specs.Prelude.{◌≡◌, ◌<◌, ◌≤◌, ℕ, Bool, List, Option, IfOk, IfErr, IsOkUnless, option_map, slice_get};
 ghost use Rattle.disk_dcdd.specs.declared.controller.TheConstants.{DRIVES};
+ghost use Rattle.event_callbacks.specs.declared.devices.TheConstants.{PORTS};
+ghost use Rattle.i8080_words.specs.declared.limits.TheConstants.{GREATEST_NUMBER};
 ghost use Rattle.i8080_words.specs.declared.refusal.Fault.TheVariants.{OutOfMemory};
 ghost use Rattle.clone_state.specs.Assembly.{Gathering, answer_to, gathered, nothing_gathered, whole_answer, with_part, without_part};
-ghost use Rattle.clone_state.specs.Copies.{ImageParts, IsMadeOf, ReadsParts, refused_as};
+ghost use Rattle.clone_state.specs.Copies.{HasSlotsFor, ImageParts, IsMadeOf, ReadsParts, refused_as};
 ghost use Rattle.clone_state.specs.Image.{Spells, part_bytes};
 ghost use Rattle.clone_state.specs.Parts.{PartMessage};
 
@@ -46,6 +48,8 @@ pub trait Copies: Lockstep {
         requires { 0 < generation }
         ensures ok { IfOk result (λ image. imaged image
             ≡ record { generation = generation; parts = parts_of self.now }) }
+        ensures keys { (port : ℕ) → port < PORTS
+            → Self.machine.keys (Self.state self.now) port ≤ GREATEST_NUMBER }
         ensures full { IsOkUnless result OutOfMemory };
 
     /// The bytes of a part in a message, in memory of their own. `Unknown` if the image has no part of this index,
@@ -95,4 +99,7 @@ pub trait Copies: Lockstep {
 
     /// A law: each of the parts that make a guest is read again.
     ghost reads: { ReadsParts fit message_in };
+
+    /// A law: a part that is read has an index of the image.
+    ghost within: { HasSlotsFor part_count message_in };
 }

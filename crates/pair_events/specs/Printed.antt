@@ -76,13 +76,15 @@ packet_text (byte ∷ bytes) = byte_text byte ++ bytes_text bytes
 abbrev pub role_text : Role → List ℕ
 role_text role.Primary = codes "primary"
 role_text role.Backup = codes "backup"
+role_text role.Joining = codes "joining"
 role_text role.Draining = codes "draining"
 role_text role.Alone = codes "alone"
 role_text role.Halted = codes "halted"
 
--- `node N`: its role, generation and count
+-- `node N`: its role, generation and count; of a halted node its role alone, of a joining one no count
 abbrev pub node_text : Role → ℕ → ℕ → List ℕ
 node_text role.Halted generation count = role_text role.Halted
+node_text role.Joining generation count = role_text role.Joining ␣ decimal generation
 node_text other generation count = role_text other ␣ decimal generation ␣ codes "count" ␣ decimal count
 
 -- What is printed for a line.

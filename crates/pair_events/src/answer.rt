@@ -21,7 +21,8 @@ pub enum Answer<'a> {
     },
     /// The bytes of a message of the log.
     Packet(&'a [u8]),
-    /// What a node shows of itself: its role, its generation, from 1, and how many steps its machine has executed.
+    /// What a node shows of itself: its role, its generation, from 1, and how many steps its machine has executed, which
+    /// is not printed of a node whose machine still comes.
     Node {
         role: Role,
         generation: u32,
@@ -81,6 +82,11 @@ impl fmt::Display for Answer<'_> {
                 role: Role::Halted,
                 ..
             } => write!(f, "{}", Role::Halted),
+            Answer::Node {
+                role: Role::Joining,
+                generation,
+                ..
+            } => write!(f, "{} {generation}", Role::Joining),
             Answer::Node {
                 role,
                 generation,

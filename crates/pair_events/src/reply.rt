@@ -15,6 +15,8 @@ pub enum Role {
     Primary,
     /// It repeats what the primary logged.
     Backup,
+    /// It is given a copy of the primary's machine, part by part, and will be the backup.
+    Joining,
     /// It was a backup and has won: it repeats what it still holds.
     Draining,
     /// It runs without a peer.
@@ -80,6 +82,7 @@ impl fmt::Display for Role {
         match self {
             Role::Primary => write!(f, "primary"),
             Role::Backup => write!(f, "backup"),
+            Role::Joining => write!(f, "joining"),
             Role::Draining => write!(f, "draining"),
             Role::Alone => write!(f, "alone"),
             Role::Halted => write!(f, "halted"),

@@ -59,6 +59,7 @@ fn replies_show_as_words(rt: HostRuntime) -> Result<(), Fail> {
     let roles = [
         (Role::Primary, "primary"),
         (Role::Backup, "backup"),
+        (Role::Joining, "joining"),
         (Role::Draining, "draining"),
         (Role::Alone, "alone"),
         (Role::Halted, "halted"),
@@ -86,6 +87,7 @@ fn queries_and_refusals_show_as_words(rt: HostRuntime) -> Result<(), Fail> {
         (Answer::Packet(b""), ""),
         (node(Role::Primary), "primary 1 count 20"),
         (node(Role::Backup), "backup 1 count 20"),
+        (node(Role::Joining), "joining 1"),
         (node(Role::Draining), "draining 1 count 20"),
         (node(Role::Alone), "alone 1 count 20"),
         (node(Role::Halted), "halted"),

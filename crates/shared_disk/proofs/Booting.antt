@@ -2,6 +2,7 @@
 -- sector keeps what it had.
 use Rattle.std.proofs.Common.{◌≡◌, ◌∙◌, ℕ, suc, ◌+◌, ◌<◌, Bool, true, false, cond, List, [], ◌∷◌, ◌++◌, length, replicate, take, get_or, Option, Some, None, Ok, Err, Result, ap, refl, subst, sym, arith}
 use Rattle.std.specs.Prelude.{IsTrue, is_some}
+use Rattle.std.proofs.lemmas.List.{length-replicate}
 use Rattle.std.proofs.lemmas.Option.{same_Some}
 use Rattle.std.proofs.Math.Seq.{take-suc}
 use Rattle.disk_dcdd.specs.Address.{address_of, has_sector, same_address}
@@ -10,7 +11,7 @@ use Rattle.disk_dcdd.specs.declared.sector.SectorWrite.{SectorWrite}
 use Rattle.disk_dcdd.specs.declared.sector.TheConstants.{SECTOR_BYTES}
 use Rattle.i8080_words.specs.declared.refusal.Fault.{Fault}
 use Rattle.i8080_words.specs.declared.refusal.Fault.TheVariants.{Unknown}
-use Rattle.shared_disk.specs.Records.{HasDrives, IsAtBoot, IsUnwritten, boot_record, bytes_after, put_answer, record_at, unwritten, with_record}
+use Rattle.shared_disk.specs.Records.{HasDrives, HasWholeSectors, IsAtBoot, IsUnwritten, blank_record, boot_record, bytes_after, put_answer, record_at, unwritten, with_record}
 use Rattle.shared_disk.specs.declared.store.Record.{Record}
 use Rattle.shared_disk.proofs.RecordsBySector.{is_other, is_same, record_at-with_other, record_at-with_same, takes_none, unwritten_record}
 
@@ -85,6 +86,33 @@ pub is_unwritten : (records : List Record) (drives : ℕ) (sectors : List Sector
     → IsUnwritten records
 is_unwritten records drives sectors at a r e =
     number-at (has_sector drives a) (after sectors a) r (sym (at a) ∙ e)
+
+whole-at : (b : Bool) (r : Record) → cond b (Some blank_record) None ≡ Some r → length r.bytes ≡ SECTOR_BYTES
+whole-at true r e = ap (λ (x : Record). length x.bytes) (sym (same_Some _ _ e)) ∙ length-replicate {A = ℕ} SECTOR_BYTES 0
+whole-at false r e = absurd (cc)
+
+-- each sector of a new store has all its bytes
+pub new_is_whole : (drives : ℕ) → HasWholeSectors (unwritten drives)
+new_is_whole drives a r at = whole-at (has_sector drives a) r (sym (unwritten_record drives a) ∙ at)
+
+put_whole-at : (same : Bool) (o : Option Record) (records : List Record) (a b : SectorAddress) (content : Record)
+    → HasWholeSectors records → length content.bytes ≡ SECTOR_BYTES → same_address a b ≡ same → record_at records a ≡ o
+    → (r : Record) → record_at (with_record records a content) b ≡ Some r → length r.bytes ≡ SECTOR_BYTES
+put_whole-at same None records a b content whole long e at r is =
+    whole b r (sym (ap (λ rs. record_at rs b) (takes_none records a content at)) ∙ is)
+put_whole-at true (Some x) records a b content whole long e at r is =
+    let here : record_at (with_record records a content) b ≡ Some content =
+    subst (λ c. record_at (with_record records a content) c ≡ Some content) (is_same a b e)
+    (record_at-with_same records a content x at) in
+    ap (λ (y : Record). length y.bytes) (same_Some r content (sym is ∙ here)) ∙ long
+put_whole-at false (Some x) records a b content whole long e at r is =
+    whole b r (sym (record_at-with_other records a b content (is_other a b e)) ∙ is)
+
+-- and of a store into which a whole record is put
+pub put_is_whole : (records : List Record) (a : SectorAddress) (content : Record) → length content.bytes ≡ SECTOR_BYTES
+    → HasWholeSectors records → HasWholeSectors (with_record records a content)
+put_is_whole records a content long whole b r is =
+    put_whole-at (same_address a b) (record_at records a) records a b content whole long refl refl r is
 
 -- the answer to a put, if the sector exists, and if it does not
 abbrev answered : Bool → Result (Unit {0}) Fault

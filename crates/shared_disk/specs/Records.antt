@@ -1,5 +1,5 @@
 -- The records of a disk, one for each sector, by the sector's index in a table of them all.
-use Rattle.std.specs.Prelude.{◌≡◌, ℕ, IsTrue, ◌*◌, if◌then◌else◌, List, [], ◌∷◌, All, replicate, slice_get, slice_set, Option, Some, None, is_some, IsSome, Result, Ok, Err}
+use Rattle.std.specs.Prelude.{◌≡◌, ℕ, IsTrue, ◌*◌, if◌then◌else◌, List, [], ◌∷◌, All, length, replicate, slice_get, slice_set, Option, Some, None, is_some, IsSome, Result, Ok, Err}
 use Rattle.std.specs.Option.{option_and_then, option_map_or}
 use Rattle.disk_dcdd.specs.Address.{address_of, has_sector, index_of, same_address}
 use Rattle.disk_dcdd.specs.declared.address.SectorAddress.{SectorAddress}
@@ -58,6 +58,11 @@ HasDrives records drives = (address : SectorAddress) → IsTrue (has_sector driv
 
 abbrev pub IsUnwritten : List Record → Type 0
 IsUnwritten records = (address : SectorAddress) (r : Record) → IsAt records address r → r.number ≡ 0
+
+-- each sector of a disk has all its bytes
+abbrev pub HasWholeSectors : List Record → Type 0
+HasWholeSectors records =
+    (address : SectorAddress) (r : Record) → IsAt records address r → length r.bytes ≡ SECTOR_BYTES
 
 -- what a sector has after these are put on a disk, one after another, if it had these bytes before
 abbrev pub bytes_after : List SectorWrite → SectorAddress → List ℕ → List ℕ

@@ -1,5 +1,6 @@
 //! Records in memory.
-ghost use Rattle.std.specs.Prelude.{◌≡◌, ◌⊎◌, IfErr, IfOk, IsOkUnless};
+ghost use Rattle.std.specs.Prelude.{◌≡◌, ◌⊎◌, IfErr, IfOk, IsOkUnless, length};
+ghost use Rattle.disk_dcdd.specs.declared.sector.TheConstants.{SECTOR_BYTES};
 ghost use Rattle.i8080_words.specs.declared.refusal.Fault.TheVariants.{OutOfMemory, Unknown};
 ghost use Rattle.shared_disk.specs.Records as table;
 
@@ -45,6 +46,7 @@ impl MemoryStore {
         ensures drives { IfOk result (λ store. table.HasDrives store drives) }
         ensures unwritten { IfOk result (λ store. table.IsUnwritten store) }
         ensures sectors { IfOk result (λ store. table.IsAtBoot store drives sectors.now) }
+        ensures whole { IfOk result (λ store. table.HasWholeSectors store) }
         ensures on_drives { IfOk result (λ store. table.AreOnDrives drives sectors.now) }
         ensures refused { IfErr result (λ fault. (fault ≡ OutOfMemory)
             ⊎ ((fault ≡ Unknown) × (table.AreOnDrives drives sectors.now → ⊥))) }
@@ -62,7 +64,9 @@ impl MemoryStore {
     pub fn set_boot(&mut self, address: SectorAddress, bytes: [u8; SECTOR_BYTES]) -> R<()>
         ensures answer { result ≡ table.put_answer self.old address }
         ensures after { self.new ≡ table.with_record self.old address (table.boot_record bytes) }
+        ensures whole { table.HasWholeSectors self.old → table.HasWholeSectors self.new }
     {
+        has_all(&bytes);
         self.put(address, Record { number: 0, bytes })
     }
 
@@ -80,6 +84,11 @@ impl MemoryStore {
         Ok(())
     }
 }
+
+// The bytes of a sector are as many as their type says.
+fn has_all(bytes: &[u8; SECTOR_BYTES])
+    ensures { length bytes.now ≡ SECTOR_BYTES }
+{}
 
 impl SectorStore for MemoryStore {
     ghost records = { λ s. s };

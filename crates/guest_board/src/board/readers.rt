@@ -7,7 +7,7 @@ ghost use Rattle.i8080_words.specs.declared.limits.TheConstants.{GREATEST_NUMBER
 ghost use Rattle.event_callbacks.specs.Operations.{operation_at, id_of};
 ghost use Rattle.event_callbacks.specs.declared.devices.TheConstants.{PORTS};
 ghost use Rattle.guest_memory.specs.Pages as pages;
-ghost use Rattle.guest_memory.specs.declared.memory.TheConstants.{BYTES, PAGE_BYTES};
+ghost use Rattle.guest_memory.specs.declared.memory.TheConstants.{BYTES, PAGES, PAGE_BYTES};
 ghost use Rattle.guest_board.specs.Board.{IsBoard};
 ghost use Rattle.guest_board.specs.Guest as table;
 ghost use Rattle.guest_board.specs.Inputs as inputs;
@@ -160,10 +160,12 @@ impl<T: Completes, S: Completes, W: Completes> Board<T, S, W> {
         self.wiring.sense
     }
 
-    /// Whatever a board has been through, what holds of boards holds of it, and its memory has a byte at every address.
+    /// Whatever a board has been through, what holds of boards holds of it, and its memory has a byte at every address and
+    /// a version for every page.
     pub fn stands(&self)
         ensures board { IsBoard self.now.guest self.now.versions }
         ensures memory { length self.now.guest.memory ≡ BYTES }
+        ensures versions { length self.now.versions ≡ PAGES }
     {
         self.wiring.memory.always_whole();
     }
