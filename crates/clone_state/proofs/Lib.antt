@@ -25,3 +25,5 @@ pub mod OutstandingWrites
 pub mod TableReading
 pub mod Coming
 pub mod Assembled
+pub mod PartsRead
+pub mod PartsWithin

@@ -11,7 +11,7 @@ use Rattle.log_entry.proofs.ReadingLaws.{IsBytes-drop, IsBytes-rest, IsBytes-tak
 use Rattle.clone_state.specs.FirstPart.{word}
 use Rattle.clone_state.specs.Laws.{IsMessage}
 use Rattle.clone_state.specs.Parts.{PartMessage, after_tag, checked, generation_from, is_payload, message_at, message_bytes, nonzero}
-use Rattle.clone_state.specs.PartsRead.{Read, after_generation, after_index}
+use Rattle.clone_state.proofs.PartsRead.{Read, after_generation, after_index}
 use Rattle.clone_state.proofs.Values.{word_spells}
 
 -- ---- the generation

@@ -1,5 +1,5 @@
 -- What code that sends or gathers parts may rely on: an image makes its machine again, and each part is written in one way.
-use Rattle.std.specs.Prelude.{◌≡◌, ◌⊎◌, ℕ, ◌+◌, ◌*◌, ◌<◌, ◌≤◌, ◌^◌, true, Some, List, ◌∷◌, All, length, map}
+use Rattle.std.specs.Prelude.{◌≡◌, ◌⊎◌, ℕ, ◌+◌, ◌*◌, ◌<◌, ◌≤◌, ◌^◌, true, Some, List, ◌∷◌, All, is_some, length, map, slice_get}
 use Rattle.serial_2sio.specs.Port as serial
 use Rattle.disk_dcdd.specs.Controller.{IsDrives}
 use Rattle.disk_dcdd.specs.Sector.{place_of}
@@ -112,6 +112,19 @@ pub record IsMessage (drives : ℕ) (m : PartMessage) : Type 0 where
 
 abbrev pub MessageIsReadAgain : Type 0
 MessageIsReadAgain = (drives : ℕ) (m : PartMessage) → IsMessage drives m → message_at drives (message_bytes m) ≡ Some m
+
+-- each of the parts that make a guest is read again, in a message of any generation
+abbrev pub PartsAreReadAgain : Type 0
+PartsAreReadAgain =
+    (drives generation index : ℕ) (parts : List (List ℕ)) (payload : List ℕ) → is_some (guest_in drives parts) ≡ true
+    → 0 < generation → generation < 2 ^ 32 → slice_get parts index ≡ Some payload
+    → message_at drives (message_bytes (record { generation = generation; index = index; payload = payload }))
+    ≡ Some (record { generation = generation; index = index; payload = payload })
+
+-- a part that is read has an index of the image
+abbrev pub IndexesAreWithin : Type 0
+IndexesAreWithin =
+    (drives : ℕ) (bytes : List ℕ) (m : PartMessage) → message_at drives bytes ≡ Some m → m.index < part_count drives
 
 abbrev pub MessageIsWrittenSo : Type 0
 MessageIsWrittenSo = (drives : ℕ) (bytes : List ℕ) (m : PartMessage) → IsBytes bytes

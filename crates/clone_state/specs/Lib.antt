@@ -11,5 +11,3 @@ pub mod Reading
 pub mod Copies
 pub mod Slots
 pub mod CopiedBoard
-pub mod PartsRead
-pub mod PartsWithin

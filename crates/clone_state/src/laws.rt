@@ -4,9 +4,11 @@ ghost use Rattle.clone_state.specs.Gathering.{BeginsOfImage, IsWholeWhenAllCame,
 ghost use Rattle.clone_state.specs.Laws.{
   BoardsCanBeRebuilt,
   FirstIsWrittenSo,
+  IndexesAreWithin,
   MessageIsReadAgain,
   MessageIsWrittenSo,
   OldPartsMakeIt,
+  PartsAreReadAgain,
   PartsAreCounted,
   PartsAreWrittenSo,
   PartsHaveSizes,
@@ -35,6 +37,12 @@ pub fn parts_are_written_one_way()
 pub fn messages_are_written_one_way()
     ensures again { MessageIsReadAgain }
     ensures one_way { MessageIsWrittenSo }
+{}
+
+/// Each of the parts that make a guest is read again from its message, and a part that is read has an index of the image.
+pub fn parts_are_read_again()
+    ensures again { PartsAreReadAgain }
+    ensures within { IndexesAreWithin }
 {}
 
 /// The tests of a controller pass exactly for what a controller can be.

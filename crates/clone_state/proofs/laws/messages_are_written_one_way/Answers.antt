@@ -1,4 +1,4 @@
-use Rattle.clone_state.specs.PartsRead.{message_again}
+use Rattle.clone_state.proofs.PartsRead.{message_again}
 use Rattle.clone_state.proofs.Messages.{message_written}
 use Rattle.clone_state.proofs.laws.messages_are_written_one_way.Goals as goal
 

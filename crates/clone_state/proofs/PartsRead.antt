@@ -11,9 +11,8 @@ use Rattle.log_entry.specs.Numbers.{◌>>=◌}
 use Rattle.log_entry.proofs.ReadingLaws.{first_read}
 use Rattle.clone_state.specs.Checkpoint.{Checkpoint, guest_of}
 use Rattle.clone_state.specs.Codec.{Codec, both, by, one, read_all}
-use Rattle.clone_state.specs.Copies.{ReadsParts}
 use Rattle.clone_state.specs.FirstPart.{word}
-use Rattle.clone_state.specs.Laws.{IsMessage}
+use Rattle.clone_state.specs.Laws.{IsMessage, PartsAreReadAgain}
 use Rattle.clone_state.specs.Parts.{PartMessage, checked, checkpoint_in, first_in, fitting, generation_from, guest_in, is_page, is_payload, message_at, message_bytes, page, part_count, read_joined, read_parts, table, table_count}
 
 -- ---- a message is read again
@@ -164,7 +163,7 @@ payload_fits drives (suc i) (front ∷ rest) payload fits there = go (get_split 
         (lt-ltb (suc i) (part_count drives) (omega (arith, inside, count)))
         ∙ each_read table (drop 256 rest) s.completed h.0 payload s.tables h.2
 
-pub parts_read : ReadsParts (λ drives parts. is_some (guest_in drives parts)) message_at
+pub parts_read : PartsAreReadAgain
 parts_read drives generation index parts payload fits some few there =
     message_again drives (record { generation = generation; index = index; payload = payload })
     (record { some = some; few = few; payload = payload_fits drives index parts payload fits there })

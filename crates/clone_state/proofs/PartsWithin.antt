@@ -5,7 +5,7 @@ use Rattle.std.proofs.lemmas.Option.{none-some, same_Some}
 use Rattle.log_entry.specs.Numbers.{◌>>=◌}
 use Rattle.log_entry.proofs.ReadingLaws.{first_read}
 use Rattle.clone_state.specs.Codec.{read_all}
-use Rattle.clone_state.specs.Copies.{HasSlotsFor}
+use Rattle.clone_state.specs.Laws.{IndexesAreWithin}
 use Rattle.clone_state.specs.FirstPart.{word}
 use Rattle.clone_state.specs.Parts.{PartMessage, after_tag, checked, first_in, generation_from, is_page, is_payload, message_at, part_count, table}
 
@@ -45,7 +45,7 @@ by_tag : (drives : ℕ) (bytes : List ℕ) (m : PartMessage) (b : Bool)
 by_tag drives bytes m true e = tag_within drives bytes m e
 by_tag drives bytes m false e = absurd (none-some m e)
 
-pub parts_within : HasSlotsFor part_count message_at
+pub parts_within : IndexesAreWithin
 unfolding message_at
 parts_within drives [] m e = absurd (none-some m e)
 parts_within drives (tag ∷ bytes) m e = by_tag drives bytes m (eqb tag 0x50) e
