@@ -9,6 +9,7 @@ use Rattle.guest_board.specs.declared.input.Input.{Input}
 use Rattle.guest_board.specs.declared.input.Input.TheVariants as input
 use Rattle.i8080_words.specs.declared.refusal.Fault.{Fault}
 use Rattle.i8080_words.specs.declared.refusal.Fault.TheVariants.{NotDue, WrongNumber}
+use Rattle.pair_protocol.specs.Copying.{Copying}
 use Rattle.pair_protocol.specs.Effects.{Took, took}
 use Rattle.pair_protocol.specs.Lawful.{top}
 use Rattle.pair_protocol.specs.Node.{Node, Alone}
@@ -86,8 +87,8 @@ module _ {S : Type 0} (M : Machine S) (s : S) (room : Result (Unit {0}) Fault) (
 
 -- ---- which nodes take input
 
-module _ {B S : Type 0} (state : B → S) (M : Machine S) where
-  pub takes_input : (node : code.Node B) (x : Node S) (b : B) (room : Result (Unit {0}) Fault) → IsNode state M node x
+module _ {B S : Type 0} {H : Type 0} (state : B → S) (M : Machine S) (C : Copying S) (drives : ℕ) where
+  pub takes_input : (node : code.Node B H) (x : Node S) (b : B) (room : Result (Unit {0}) Fault) → IsNode state M C drives node x
       → board_of node ≡ Some b
       → (serves x ≡ None → first_of (log_full x ∷ log_spent x ∷ []) ≡ refused_by room) → TakesInput (state b) room x
   takes_input (seat.Primary p) x b room is has log =
@@ -99,6 +100,7 @@ module _ {B S : Type 0} (state : B → S) (M : Machine S) where
       let same : a.board ≡ b = cc in
       record { acts = acts; machine = is.machine ∙ ap state same; log = log acts }
   takes_input (seat.Backup r) x b room is has log = absurd cc
+  takes_input (seat.Joining j) x b room is has log = absurd cc
   takes_input (seat.Draining d) x b room is has log = absurd cc
   takes_input (seat.Halted h) x b room is has log = absurd cc
 

@@ -10,8 +10,10 @@ pub mod AloneSteps
 pub mod FollowerMoves
 pub mod FollowerLog
 pub mod Deliveries
-pub mod Halting
 pub mod LastMoves
-pub mod EchoNodes
+pub mod EmptyNodes
 pub mod Inputs
 pub mod PassedChecks
+pub mod KeptParts
+pub mod BegunPairs
+pub mod PartsThatCome

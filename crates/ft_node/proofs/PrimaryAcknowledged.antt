@@ -109,11 +109,11 @@ covers_heard M c l x held covers kept within bound =
       outstanding = covers.outstanding;
     })
 
-primary_heard : {S : Type 0} (M : Machine S) (s : S) (l : Log) (sd : Sending) (c : Covering) (x : Node S) (held : ℕ)
-    → IsPrimary M s l sd c x → held ≤ length x.log
-    → IsPrimary M s (dropped_to l (max x.covered held)) (acknowledged sd (Ok (max x.covered held)))
+primary_heard : {S : Type 0} {K Later : Option S → Type 0} (M : Machine S) (s : S) (l : Log) (sd : Sending) (c : Covering) (x : Node S) (held : ℕ)
+    → IsPrimary M K s l sd c x → Later None → held ≤ length x.log
+    → IsPrimary M Later s (dropped_to l (max x.covered held)) (acknowledged sd (Ok (max x.covered held)))
     (after_acknowledge c l (max x.covered held)) (hears x held 0)
-primary_heard M s l sd c x held p order =
+primary_heard M s l sd c x held p none order =
     let within = p.within in
     let bound : max x.covered held ≤ length x.log = omega arith in
     record {
@@ -128,6 +128,7 @@ primary_heard M s l sd c x held p order =
       entries = All-drop IsEntry (max x.covered held - l.first) l.entries p.entries;
       acknowledged = refl;
       covers = covers_heard M c l x held p.covers p.kept p.within bound;
+      image = none;
     }
 
 -- ---- what is answered
@@ -141,8 +142,8 @@ tests_passed false true covered held answer = cc
 tests_passed false false covered held answer = (refl, refl, (cc))
 
 -- the primary's own tests are the protocol's
-acked_by : {S : Type 0} (M : Machine S) (s : S) (l : Log) (sd : Sending) (c : Covering) (x : Node S)
-    (generation held : ℕ) → IsPrimary M s l sd c x
+acked_by : {S : Type 0} {K : Option S → Type 0} (M : Machine S) (s : S) (l : Log) (sd : Sending) (c : Covering) (x : Node S)
+    (generation held : ℕ) → IsPrimary M K s l sd c x
     → deliver_acknowledgement_refusal generation held x
     ≡ first_of
     (fault_if (not (generation == sd.generation)) WrongGeneration ∷ fault_if (nat_lt (next_of l) held) BadAck ∷ [])
@@ -154,14 +155,14 @@ acked_by M s l sd c x generation held p =
     ∙ ap (λ n. first_of (fault_if (not (generation == sd.generation)) WrongGeneration
     ∷ fault_if (nat_lt n held) BadAck ∷ [])) (next_behind M s l sd c x p)
 
-pub ack_heard : {S : Type 0} (M : Machine S) (s : S) (l : Log) (sd : Sending) (c : Covering) (x : Node S)
-    (came : Option Packet) (covered : ℕ) → IsPrimary M s l sd c x
+pub ack_heard : {S : Type 0} {K : Option S → Type 0} (Later : Option S → Type 0) (M : Machine S) (s : S) (l : Log) (sd : Sending) (c : Covering) (x : Node S)
+    (came : Option Packet) (covered : ℕ) → IsPrimary M K s l sd c x → Later None
     → Ok covered ≡ ack_answer sd (next_of l) came
     → DeliversAcknowledgement came x (Ok covered)
-    (IsPrimary M s (dropped_to l covered) (acknowledged sd (Ok covered)) (after_acknowledge c l covered))
-ack_heard M s l sd c x None covered p answer = absurd (cc)
-ack_heard M s l sd c x (Some (packet.Log generation index e)) covered p answer = absurd (cc)
-ack_heard M s l sd c x (Some (packet.Ack generation held)) covered p answer =
+    (IsPrimary M Later s (dropped_to l covered) (acknowledged sd (Ok covered)) (after_acknowledge c l covered))
+ack_heard Later M s l sd c x None covered p none answer = absurd (cc)
+ack_heard Later M s l sd c x (Some (packet.Log generation index e)) covered p none answer = absurd (cc)
+ack_heard {S} {K} Later M s l sd c x (Some (packet.Ack generation held)) covered p none answer =
     let passed =
     tests_passed (not (generation == sd.generation)) (nat_lt (next_of l) held) covered (max sd.held held) answer in
     let no_more : held ≤ next_of l = ltb-false _ _ passed.1 in
@@ -172,6 +173,6 @@ ack_heard M s l sd c x (Some (packet.Ack generation held)) covered p answer =
       done = (sym is, refl);
       after =
           subst
-          (λ n. IsPrimary M s (dropped_to l n) (acknowledged sd (Ok n)) (after_acknowledge c l n) (hears x held 0)) is
-          (primary_heard M s l sd c x held p bound);
+          (λ n. IsPrimary M Later s (dropped_to l n) (acknowledged sd (Ok n)) (after_acknowledge c l n) (hears x held 0)) is
+          (primary_heard M s l sd c x held p none bound);
     })

@@ -25,8 +25,8 @@ use Rattle.ft_node.proofs.PrimaryRefusals.{Keeps}
 
 -- ---- a primary
 
-pub keeps_log : {S : Type 0} (M : Machine S) (s : S) (l : Log) (sd : Sending) (c : Covering) (x : Node S)
-    → IsPrimary M s l sd c x → IsWithinLimits l → Keeps x l
+pub keeps_log : {S : Type 0} {K : Option S → Type 0} (M : Machine S) (s : S) (l : Log) (sd : Sending) (c : Covering) (x : Node S)
+    → IsPrimary M K s l sd c x → IsWithinLimits l → Keeps x l
 keeps_log M s l sd c x p limits = record {
   role = p.role;
   up = p.up;
@@ -36,10 +36,10 @@ keeps_log M s l sd c x p limits = record {
 }
 
 -- the same primary, if its parts are the same
-pub same_primary : {S : Type 0} (M : Machine S) (s t : S) (l new : Log) (sd : Sending) (c : Covering) (x : Node S)
-    → t ≡ s → new ≡ l → IsPrimary M s l sd c x → IsPrimary M t new sd c x
-same_primary M s t l new sd c x same logged p =
-    subst (λ t. IsPrimary M t new sd c x) (sym same) (subst (λ l. IsPrimary M s l sd c x) (sym logged) p)
+pub same_primary : {S : Type 0} {K : Option S → Type 0} (M : Machine S) (s t : S) (l new : Log) (sd : Sending) (c : Covering) (x : Node S)
+    → t ≡ s → new ≡ l → IsPrimary M K s l sd c x → IsPrimary M K t new sd c x
+same_primary {S} {K} M s t l new sd c x same logged p =
+    subst (λ t. IsPrimary M K t new sd c x) (sym same) (subst (λ l. IsPrimary M K s l sd c x) (sym logged) p)
 
 -- the log with one more entry, as far as it is not acknowledged
 pushed_behind : (l : Log) (covered : ℕ) (whole : List Entry) (e : Entry) → l ≡ log covered (drop covered whole)
@@ -48,15 +48,15 @@ pushed_behind l covered whole e kept within =
     ap (λ l. pushed l e) kept ∙ ap (log covered) (sym (drop-append-le covered whole (e ∷ []) within))
 
 -- the primary that took an input, with the notes that are left
-pub primary_took : {S : Type 0} (M : Machine S) (s t : S) (l : Log) (sd : Sending) (c : Covering) (left : List Note)
-    (x : Node S) (i : Input) → IsPrimary M s l sd c x → IsEntry (entry_of (M.count s) i)
+pub primary_took : {S : Type 0} {K : Option S → Type 0} (M : Machine S) (s t : S) (l : Log) (sd : Sending) (c : Covering) (left : List Note)
+    (x : Node S) (i : Input) → IsPrimary M K s l sd c x → IsEntry (entry_of (M.count s) i)
     → notes.Keeps M s c.notes t left
-    → IsPrimary M t (pushed l (entry_of (M.count s) i)) sd (record c { notes = left }) (took M x x.role t i)
-primary_took M s t l sd c left x i p valid keeps =
-    subst (λ r. IsPrimary M t (pushed l (entry_of (M.count s) i)) sd (record c { notes = left }) (took M x r t i))
+    → IsPrimary M K t (pushed l (entry_of (M.count s) i)) sd (record c { notes = left }) (took M x x.role t i)
+primary_took {S} {K} M s t l sd c left x i p valid keeps =
+    subst (λ r. IsPrimary M K t (pushed l (entry_of (M.count s) i)) sd (record c { notes = left }) (took M x r t i))
     (sym p.role)
     (subst
-    (λ (e : Entry). IsPrimary M t (pushed l e) sd (record c { notes = left }) (primary_takes M x t i))
+    (λ (e : Entry). IsPrimary M K t (pushed l e) sd (record c { notes = left }) (primary_takes M x t i))
     (ap (λ s. entry_of (M.count s) i) p.machine)
     (record {
       role = p.role;
@@ -75,6 +75,7 @@ primary_took M s t l sd c left x i p valid keeps =
       covers =
           Covers-kept M x c t left _ (entry_of (M.count x.machine) i ∷ []) p.covers p.within
           (subst (λ s. notes.Keeps M s c.notes t left) (sym p.machine) keeps);
+      image = p.image;
     }))
 
 -- the notes that an input leaves
@@ -82,10 +83,10 @@ abbrev pub notes_left : Option OpId → Covering → Covering
 notes_left None c = c
 notes_left (Some name) c = after_forget c name
 
-by_completed : {S : Type 0} (M : Machine S) (s t : S) (l : Log) (sd : Sending) (c : Covering) (x : Node S) (i : Input)
-    (name : Option OpId) → ComesAndGoes M → IsPrimary M s l sd c x → IsEntry (entry_of (M.count s) i)
+by_completed : {S : Type 0} {K : Option S → Type 0} (M : Machine S) (s t : S) (l : Log) (sd : Sending) (c : Covering) (x : Node S) (i : Input)
+    (name : Option OpId) → ComesAndGoes M → IsPrimary M K s l sd c x → IsEntry (entry_of (M.count s) i)
     → M.take s i ≡ Some t → completed_by M s i ≡ name
-    → IsPrimary M t (pushed l (entry_of (M.count s) i)) sd (notes_left name c) (took M x x.role t i)
+    → IsPrimary M K t (pushed l (entry_of (M.count s) i)) sd (notes_left name c) (took M x x.role t i)
 by_completed M s t l sd c x i None laws p valid taken is =
     primary_took M s t l sd c c.notes x i p valid (keeps_all M s t c.notes (laws.stays s t i taken is))
 by_completed M s t l sd c x i (Some name) laws p valid taken is =
@@ -93,14 +94,14 @@ by_completed M s t l sd c x i (Some name) laws p valid taken is =
     primary_took M s t l sd c _ x i p valid (keeps_others M s t c.notes name gone.0 gone.1)
 
 -- the input is taken, with the operation that it completes
-pub accepts : {S : Type 0} (M : Machine S) (s t : S) (l new : Log) (sd : Sending) (c : Covering) (x : Node S) (i : Input)
-    (name : Option OpId) (index : ℕ) → ComesAndGoes M → IsPrimary M s l sd c x → Offers M s l i (Ok index) t new
+pub accepts : {S : Type 0} {K : Option S → Type 0} (M : Machine S) (s t : S) (l new : Log) (sd : Sending) (c : Covering) (x : Node S) (i : Input)
+    (name : Option OpId) (index : ℕ) → ComesAndGoes M → IsPrimary M K s l sd c x → Offers M s l i (Ok index) t new
     → IsEntry (entry_of (M.count s) i) → name ≡ completed_by M s i
-    → Makes x (Took M i) (IsPrimary M t new sd (notes_left name c))
-accepts M s t l new sd c x i name index laws p offers valid is = record {
+    → Makes x (Took M i) (IsPrimary M K t new sd (notes_left name c))
+accepts {S} {K} M s t l new sd c x i name index laws p offers valid is = record {
   y = took M x x.role t i;
   done = record { s = t; takes = ap (λ s. M.take s i) p.machine ∙ offers.0.taken; after = refl };
   after =
-      subst (λ new. IsPrimary M t new sd (notes_left name c) (took M x x.role t i)) (sym offers.1)
+      subst (λ new. IsPrimary M K t new sd (notes_left name c) (took M x x.role t i)) (sym offers.1)
       (by_completed M s t l sd c x i name laws p valid offers.0.taken (sym is));
 }

@@ -40,8 +40,8 @@ covers_is M c x name o known there =
     ∙ ap (is_covered c) (sym (known.noted name o there))
 
 -- why a release is refused: nothing is outstanding under the name, or it is not covered
-pub release_refused : {S : Type 0} (M : Machine S) (s : S) (l : Log) (sd : Sending) (c : Covering) (x : Node S)
-    (name : OpId) → IsPrimary M s l sd c x
+pub release_refused : {S : Type 0} {K : Option S → Type 0} (M : Machine S) (s : S) (l : Log) (sd : Sending) (c : Covering) (x : Node S)
+    (name : OpId) → IsPrimary M K s l sd c x
     → release_refusal M name x
     ≡ first_of
     (fault_if (is_none (M.find s name)) NotDue ∷ fault_if (not (is_covered c (index_of c.notes name))) NotCovered ∷ [])

@@ -1,6 +1,6 @@
 -- What each call of a node returns and leaves, by the node of the protocol that it is before the call: the refusal of
 -- the event's node part, or what its row says of the node.
-use Rattle.std.specs.Prelude.{◌≡◌, ◌≢◌, ℕ, ◌<◌, Bool, true, Option, Some, None, List, [], ◌∷◌, length, ◌==◌, if◌then◌else◌, Result, Ok, Err}
+use Rattle.std.specs.Prelude.{◌≡◌, ◌≢◌, ℕ, suc, ◌<◌, Bool, true, Option, Some, None, is_none, List, [], ◌∷◌, length, replicate, slice_index_or, ◌==◌, if◌then◌else◌, Result, Ok, Err}
 use Rattle.std.specs.Global.{Vec}
 use Rattle.disk_dcdd.specs.declared.address.SectorAddress.{SectorAddress}
 use Rattle.event_callbacks.specs.declared.operations.OpId.{OpId}
@@ -16,11 +16,18 @@ use Rattle.log_channel.specs.declared.packet.Packet.TheVariants.{Log, Ack}
 use Rattle.arbiter_core.specs.Winners.{winner_of, after_asking}
 use Rattle.arbiter_core.specs.declared.arbiter.Asking.{Asking}
 use Rattle.arbiter_core.specs.declared.arbiter.Won.{Won}
-use Rattle.pair_protocol.specs.Effects.{Stepped, Took, Held, Heard, Replayed, Drained, Halted, HasEntry, HasOutstanding, HasCovered, IsUnder, NeedsMoves, NeedsEntry}
-use Rattle.pair_protocol.specs.Node.{Node, Role, Primary, Backup, halts, holds, wins}
+use Rattle.clone_state.specs.Image.{part_bytes}
+use Rattle.clone_state.specs.Parts.{PartMessage}
+use Rattle.guest_trace.specs.Reach.{keys}
+use Rattle.pair_protocol.specs.Copying.{Copying}
+use Rattle.pair_protocol.specs.Effects.{Stepped, Took, Held, Heard, Replayed, Drained, Halted, GotPart, HasEntry, HasOutstanding, HasCovered, HasPart, IsUnder, NeedsMoves, NeedsEntry}
+use Rattle.pair_protocol.specs.Event as event
+use Rattle.pair_protocol.specs.Node.{Node, Role, Primary, Backup, Joining, begun, gathered, gets_part, halts, holds, wins}
 use Rattle.pair_protocol.specs.Refusals as refusals
 use Rattle.ft_node.specs.declared.ran.Ran.{Ran}
 use Rattle.ft_node.specs.declared.ran.Drained as ran
+use Rattle.ft_node.specs.declared.ran.PartCame.{PartCame}
+use Rattle.ft_node.specs.declared.ran.PartCame.TheVariants as came
 use Rattle.replayer.specs.declared.replayer.Replayed as replayer
 
 -- if something refuses a call, that is the result and the node stays; if not, this is what the call does
@@ -60,7 +67,8 @@ Ever x = Unit {0}
 
 -- ---- the calls; `Is` says which node of the protocol the node is after the call
 
--- a node that begins: nothing of its generation is logged, held, acknowledged or noted, and no key is covered
+-- a node that begins: nothing of its generation is logged, held, acknowledged or noted, no key is covered, and there is
+-- no image
 pub record Begins {S : Type 0} (M : Machine S) (role : Role) (generation : ℕ) (s : S) (x : Node S) : Type 0 where
   pub role_is : x.role ≡ role
   pub up : x.running ≡ true
@@ -72,6 +80,17 @@ pub record Begins {S : Type 0} (M : Machine S) (role : Role) (generation : ℕ) 
   pub no_held : x.held ≡ []
   pub replayed : x.replayed ≡ 0
   pub no_copy : x.copy ≡ []
+  pub no_image : x.image ≡ None
+
+-- a node that joins, to be given the copy of a machine that has made this many steps: no part came yet
+pub record Joins {S : Type 0} (C : Copying S) (generation count : ℕ) (x : Node S) : Type 0 where
+  pub role_is : x.role ≡ Joining
+  pub up : x.running ≡ true
+  pub generation_is : x.generation ≡ generation
+  pub start_is : x.start ≡ count
+  pub no_parts : x.parts ≡ replicate C.part_count None
+  pub no_held : x.held ≡ []
+  pub replayed : x.replayed ≡ 0
 
 -- steps of the machine
 abbrev pub SteppedBy : {S : Type 0} → Machine S → ℕ → Ran → Node S → Node S → Type 0
@@ -180,3 +199,61 @@ abbrev pub Suspects : {S : Type 0} → List Asking → ℕ → Node S → Result
 Suspects old n x result new Is =
     Unless (refusals.suspect_refusal x) result (Is x × (new ≡ old))
     (SuspectsOf (winner_of old x.generation) old n x result new Is)
+
+-- ---- a generation that begins with a copied machine
+
+-- the machine has taken the keys of the node's list
+abbrev pub HasTakenKeys : {S : Type 0} → Machine S → Node S → Type 0
+HasTakenKeys M x = (port : ℕ) → M.keys x.machine port ≡ length (keys port x.list)
+
+-- an alone node is the primary of the next generation, with an image of its machine and an empty log
+abbrev pub Begun : {S : Type 0} → Machine S → ℕ → Node S → Node S → Type 0
+Begun M generation x y = (generation ≡ suc x.generation) × (y ≡ begun M x)
+
+abbrev pub BeginsPair : {S : Type 0} → Machine S → Node S → Result ℕ Fault → (Node S → Type 0) → Type 0
+BeginsPair M x result Is = Call (refusals.begin_pair_refusal x) Ever (Begun M) x result Is
+
+-- a part of a primary's image, as the bytes of a message
+pub record SpellsPart {S : Type 0} (C : Copying S) (index : ℕ) (x : Node S) (bytes : Vec ℕ) : Type 0 where
+  pub part : List ℕ
+  pub has : HasPart C index part x
+  pub spelled : bytes.items ≡ part_bytes x.generation index part
+
+abbrev pub SendsPart : {S : Type 0} → Copying S → ℕ → Node S → Result (Vec ℕ) Fault → Type 0
+SendsPart C index x result =
+    Ask (refusals.send_part_refusal C index x) Ever (λ bytes x. SpellsPart C index x bytes) x result
+
+-- the reply to a part
+abbrev pub reply_of : PartCame → event.Reply
+reply_of came.New = event.New
+reply_of came.Old = event.Old
+reply_of came.Whole = event.Whole
+
+-- all parts that came, with this one
+abbrev pub parts_with : {S : Type 0} → PartMessage → Node S → Option (List (List ℕ))
+parts_with m x = gathered (gets_part x m.index m.payload).parts
+
+-- parts that make no machine together are refused at the last one; no pair is given such parts
+abbrev pub unfit : {S : Type 0} → Copying S → Option (List (List ℕ)) → Option Fault
+unfit C None = None
+unfit C (Some parts) = refusals.fault_if (is_none (C.assemble parts)) Malformed
+
+abbrev pub last_refusal : {S : Type 0} → Copying S → PartMessage → Node S → Option (List ℕ) → Option Fault
+last_refusal C m x None = unfit C (parts_with m x)
+last_refusal C m x (Some before) = None
+
+abbrev pub part_refusal : {S : Type 0} → Copying S → PartMessage → Node S → Option Fault
+part_refusal C m x =
+    refusals.first_of
+    (refusals.part_comes_refusal m.generation x ∷ last_refusal C m x (slice_index_or x.parts m.index None) ∷ [])
+
+-- only the last part needs memory, for the machine
+abbrev pub IsLast : {S : Type 0} → PartMessage → Node S → Type 0
+IsLast m x = (parts : List (List ℕ)) × (parts_with m x ≡ Some parts)
+
+abbrev pub GetsPart : {S : Type 0} → Copying S → Option PartMessage → Node S → Result PartCame Fault
+    → (Node S → Type 0) → Type 0
+GetsPart C None x result Is =
+    Unless (refusals.first_of (refusals.role_refusal (Joining ∷ []) x ∷ Some Malformed ∷ [])) result (Is x) ⊥
+GetsPart C (Some m) x result Is =
+    Call (part_refusal C m x) (IsLast m) (λ part x y. GotPart C m.index m.payload x (reply_of part) y) x result Is

@@ -1,3 +1,5 @@
+pub mod Kept
+pub mod Joined
 pub mod Roles
 pub mod Seats
 pub mod Due

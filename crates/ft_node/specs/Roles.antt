@@ -1,6 +1,7 @@
 -- What the fields of a node in each role say of the node of the protocol that it is.
 use Rattle.std.specs.Option.{option_map}
-use Rattle.std.specs.Prelude.{◌≡◌, ℕ, ◌<◌, ◌≤◌, true, false, Option, Some, All, length, drop, slice_index}
+use Rattle.std.specs.Prelude.{◌≡◌, ℕ, ◌<◌, ◌≤◌, true, false, Option, Some, None, All, [], length, drop, slice_index}
+use Rattle.ft_node.specs.Kept.{ImageParts}
 use Rattle.event_callbacks.specs.declared.devices.TheConstants.{PORTS}
 use Rattle.event_callbacks.specs.declared.operations.OpId.{OpId}
 use Rattle.event_callbacks.specs.declared.operations.Operation.{Operation}
@@ -10,7 +11,9 @@ use Rattle.log_buffer.specs.Log.{Log, log}
 use Rattle.log_channel.specs.Channel.{Receiving, Sending}
 use Rattle.output_rule.specs.Covering.{Covering}
 use Rattle.output_rule.specs.Notes.{index_of}
-use Rattle.pair_protocol.specs.Node.{Node, Note, Role, Primary, Alone, note_of, keys_covered}
+use Rattle.pair_protocol.specs.Copying.{Copying}
+use Rattle.pair_protocol.specs.Node.{Node, Note, Role, Primary, Backup, Joining, Draining, Alone, Spare, note_of, keys_covered}
+use Rattle.ft_node.specs.Joined.{Joined}
 
 -- only outstanding operations have notes
 abbrev pub AreOfOutstanding : {S : Type 0} → Machine S → S → Covering → Type 0
@@ -32,10 +35,23 @@ pub record Covers {S : Type 0} (M : Machine S) (c : Covering) (x : Node S) : Typ
   pub for_mark : (name : OpId) (note : Note) → note_of x.notes name ≡ Some note → note.after ≡ 0
   pub outstanding : AreOfOutstanding M x.machine c
 
--- a primary with this guest, this log, its end of the channel and its coverage; the log keeps the entries that are not
--- acknowledged
-pub record IsPrimary {S : Type 0} (M : Machine S) (s : S) (l : Log) (sending : Sending) (c : Covering) (x : Node S)
+-- a kept image is of this machine: it has the machine's parts, for the generation that it begins
+pub record IsImageOf {S : Type 0} (C : Copying S) (generation : ℕ) (kept : ImageParts) (image : Option S)
     : Type 0 where
+  pub s : S
+  pub there : image ≡ Some s
+  pub begins : kept.generation ≡ generation
+  pub parts : kept.parts ≡ C.parts s
+
+-- the image that a primary keeps, if it keeps one
+abbrev pub HasImage : {S : Type 0} → Copying S → ℕ → Option ImageParts → Option S → Type 0
+HasImage C generation None image = image ≡ None
+HasImage C generation (Some kept) image = IsImageOf C generation kept image
+
+-- a primary with this guest, this log, its end of the channel and its coverage, of whose image this is known; the log
+-- keeps the entries that are not acknowledged
+pub record IsPrimary {S : Type 0} (M : Machine S) (Keeps : Option S → Type 0) (s : S) (l : Log) (sending : Sending)
+    (c : Covering) (x : Node S) : Type 0 where
   pub role : x.role ≡ Primary
   pub up : x.running ≡ true
   pub generation : x.generation ≡ sending.generation
@@ -45,6 +61,7 @@ pub record IsPrimary {S : Type 0} (M : Machine S) (s : S) (l : Log) (sending : S
   pub entries : All IsEntry l.entries
   pub acknowledged : sending.held ≡ x.covered
   pub covers : Covers M c x
+  pub image : Keeps x.image
 
 -- a backup or a draining node, with this guest and its end of the channel; what it has not replayed is still held
 pub record IsFollower {S : Type 0} (role : Role) (s : S) (r : Receiving) (x : Node S) : Type 0 where
@@ -63,8 +80,29 @@ pub record IsAlone {S : Type 0} (s : S) (generation : ℕ) (x : Node S) : Type 0
   pub generation_is : x.generation ≡ generation
   pub machine : x.machine ≡ s
 
+-- a joining node, with the parts that came of an image for this many drives; it holds nothing yet
+pub record IsJoining {S : Type 0} (C : Copying S) (drives : ℕ) (j : Joined) (x : Node S) : Type 0 where
+  pub role : x.role ≡ Joining
+  pub up : x.running ≡ true
+  pub generation_is : x.generation ≡ j.gathering.generation
+  pub drives_are : j.gathering.drives ≡ drives
+  pub parts_are : x.parts ≡ j.gathering.slots
+  pub many : length j.gathering.slots ≡ C.part_count
+  pub start : x.start ≡ j.count
+  pub no_held : x.held ≡ []
+  pub none_replayed : x.replayed ≡ 0
+
+-- how many steps a node's machine has made; of a joining node, the machine that is copied
+abbrev pub count_of : {S : Type 0} → Machine S → Node S → Role → ℕ
+count_of M x Primary = M.count x.machine
+count_of M x Backup = M.count x.machine
+count_of M x Joining = x.start
+count_of M x Draining = M.count x.machine
+count_of M x Alone = M.count x.machine
+count_of M x Spare = M.count x.machine
+
 -- a node that halted at this count, in whatever role
 pub record IsHalted {S : Type 0} (M : Machine S) (generation count : ℕ) (x : Node S) : Type 0 where
   pub down : x.running ≡ false
   pub generation_is : x.generation ≡ generation
-  pub count_is : M.count x.machine ≡ count
+  pub count_is : count_of M x x.role ≡ count

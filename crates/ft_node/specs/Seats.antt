@@ -1,5 +1,9 @@
 -- Which node of the protocol a node is, in whatever role, and what its calls require.
-use Rattle.std.specs.Prelude.{◌≡◌, true, false, Option, Some, None, Result, Ok}
+use Rattle.std.specs.Prelude.{◌≡◌, ℕ, Bool, true, false, Option, Some, None, is_some, List, [], Result, Ok, Err}
+use Rattle.clone_state.specs.Assembly.{after_forgetting, gathered, machine_in}
+use Rattle.clone_state.specs.Copies.{refused_as}
+use Rattle.clone_state.specs.Parts.{guest_in}
+use Rattle.guest_board.specs.Guest.{Guest}
 use Rattle.guest_board.specs.Machine.{Machine}
 use Rattle.guest_board.specs.Outstanding.{IsFrugal}
 use Rattle.guest_board.specs.declared.input.Input.{Input}
@@ -8,36 +12,44 @@ use Rattle.log_buffer.specs.Log.{room_answer}
 use Rattle.log_channel.specs.Channel as channel
 use Rattle.log_entry.specs.Standing.{IsOnTrace}
 use Rattle.log_entry.specs.declared.entry.Entry.{Entry}
-use Rattle.pair_protocol.specs.Node.{Node, Primary, Backup, Draining, Alone}
+use Rattle.pair_protocol.specs.Copying.{Copying}
+use Rattle.pair_protocol.specs.Node.{Node, Primary, Backup, Joining, Draining, Alone}
 use Rattle.recorder.specs.Recording.{IsDue}
-use Rattle.ft_node.specs.Roles.{AreOfOutstanding, IsPrimary, IsFollower, IsAlone, IsHalted}
+use Rattle.ft_node.specs.Joined.{Joined}
+use Rattle.ft_node.specs.Roles.{AreOfOutstanding, HasImage, IsPrimary, IsFollower, IsJoining, IsAlone, IsHalted}
+use Rattle.ft_node.specs.declared.ran.PartCame.{PartCame}
+use Rattle.ft_node.specs.declared.ran.PartCame.TheVariants as came
 use Rattle.ft_node.specs.declared.node.Node as code
 use Rattle.ft_node.specs.declared.node.Node.TheVariants as seat
 use Rattle.pair_events.specs.declared.reply.Role as shown
 use Rattle.pair_events.specs.declared.reply.Role.TheVariants as role
 
--- the node of the protocol that a node is
-abbrev pub IsNode : {B S : Type 0} → (B → S) → Machine S → code.Node B → Node S → Type 0
-IsNode state M (seat.Primary p) x = IsPrimary M (state p.recorder.board) p.recorder.log p.sender p.coverage x
-IsNode state M (seat.Backup b) x = IsFollower Backup (state b.replayer.board) b.receiver x
-IsNode state M (seat.Draining d) x = IsFollower Draining (state d.replayer.board) d.receiver x
-IsNode state M (seat.Alone a) x = IsAlone (state a.board) a.generation x
-IsNode state M (seat.Halted h) x = IsHalted M h.generation h.count x
+-- the node of the protocol that a node is, if machines are copied so and have this many drives
+abbrev pub IsNode : {B S : Type 0} {H : Type 0} → (B → S) → Machine S → Copying S → ℕ → code.Node B H → Node S → Type 0
+IsNode state M C drives (seat.Primary p) x =
+    IsPrimary M (HasImage C p.sender.generation p.image) (state p.recorder.board) p.recorder.log p.sender p.coverage x
+IsNode state M C drives (seat.Backup b) x = IsFollower Backup (state b.replayer.board) b.receiver x
+IsNode state M C drives (seat.Joining j) x = IsJoining C drives j x
+IsNode state M C drives (seat.Draining d) x = IsFollower Draining (state d.replayer.board) d.receiver x
+IsNode state M C drives (seat.Alone a) x = IsAlone (state a.board) a.generation x
+IsNode state M C drives (seat.Halted h) x = IsHalted M h.generation h.count x
 
 -- ---- a node that takes input
 
 -- its guest
-abbrev pub board_of : {B : Type 0} → code.Node B → Option B
+abbrev pub board_of : {B : Type 0} {H : Type 0} → code.Node B H → Option B
 board_of (seat.Primary p) = Some p.recorder.board
 board_of (seat.Backup b) = None
+board_of (seat.Joining j) = None
 board_of (seat.Draining d) = None
 board_of (seat.Alone a) = Some a.board
 board_of (seat.Halted h) = None
 
 -- what its log answers to one more entry; only a primary has a log
-abbrev pub room_of : {B : Type 0} → code.Node B → Result (Unit {0}) Fault
+abbrev pub room_of : {B : Type 0} {H : Type 0} → code.Node B H → Result (Unit {0}) Fault
 room_of (seat.Primary p) = room_answer p.recorder.log
 room_of (seat.Backup b) = Ok tt
+room_of (seat.Joining j) = Ok tt
 room_of (seat.Draining d) = Ok tt
 room_of (seat.Alone a) = Ok tt
 room_of (seat.Halted h) = Ok tt
@@ -45,37 +57,53 @@ room_of (seat.Halted h) = Ok tt
 -- ---- what the calls of a node require
 
 -- nothing refuses an input: the guest awaits it, and a log has room for its entry
-pub record MayAccept {B S : Type 0} (state : B → S) (M : Machine S) (node : code.Node B) (i : Input) : Type 0 where
+pub record MayAccept {B S : Type 0} {H : Type 0} (state : B → S) (M : Machine S) (node : code.Node B H) (i : Input) : Type 0 where
   pub board : B
   pub takes : board_of node ≡ Some board
   pub due : IsDue M (state board) i
   pub room : room_of node ≡ Ok tt
 
 -- an entry is the next one of a backup's log, and an index is left for it
-abbrev pub MayHold : {B : Type 0} → code.Node B → Entry → Type 0
+abbrev pub MayHold : {B : Type 0} {H : Type 0} → code.Node B H → Entry → Type 0
 MayHold (seat.Primary p) e = ⊥
 MayHold (seat.Backup b) e = channel.MayHold b.receiver e
+MayHold (seat.Joining j) e = ⊥
 MayHold (seat.Draining d) e = ⊥
 MayHold (seat.Alone a) e = ⊥
 MayHold (seat.Halted h) e = ⊥
 
 -- a primary's coverage has room for the note of each operation, wherever the guest goes: few operations are
 -- outstanding, and no others have notes
-abbrev pub MayRun : {B S : Type 0} → (B → S) → Machine S → code.Node B → Type 0
+abbrev pub MayRun : {B S : Type 0} {H : Type 0} → (B → S) → Machine S → code.Node B H → Type 0
 MayRun state M (seat.Primary p) =
     IsFrugal M (state p.recorder.board) × AreOfOutstanding M (state p.recorder.board) p.coverage
 MayRun state M (seat.Backup b) = Unit {0}
+MayRun state M (seat.Joining j) = Unit {0}
 MayRun state M (seat.Draining d) = Unit {0}
 MayRun state M (seat.Alone a) = Unit {0}
 MayRun state M (seat.Halted h) = Unit {0}
 
 -- what a backup or a draining node holds are the next entries of a recorded run
-abbrev pub MayReplay : {B S : Type 0} → (B → S) → Machine S → code.Node B → Type 0
+abbrev pub MayReplay : {B S : Type 0} {H : Type 0} → (B → S) → Machine S → code.Node B H → Type 0
 MayReplay state M (seat.Primary p) = Unit {0}
 MayReplay state M (seat.Backup b) = IsOnTrace M (state b.replayer.board) b.receiver.entries
+MayReplay state M (seat.Joining j) = Unit {0}
 MayReplay state M (seat.Draining d) = IsOnTrace M (state d.replayer.board) d.receiver.entries
 MayReplay state M (seat.Alone a) = Unit {0}
 MayReplay state M (seat.Halted h) = Unit {0}
+
+-- ---- what a node becomes
+
+-- what a joining node becomes with the last part: a backup of this generation with the guest that the parts make, which
+-- holds nothing yet; if none is made, it is as it was without the part
+abbrev pub Becomes : {B H : Type 0} → (B → Guest) → List ℕ → Joined → Result PartCame Fault → code.Node B H → Type 0
+Becomes copied bytes j (Ok part) (seat.Backup b) =
+    (part ≡ came.Whole) × (machine_in j.gathering ≡ Some (copied b.replayer.board))
+    × (b.receiver ≡ record { generation = j.gathering.generation; held = 0; entries = [] })
+Becomes copied bytes j (Err fault) (seat.Joining k) =
+    (k ≡ record j { gathering = after_forgetting j.gathering bytes })
+    × (fault ≡ refused_as (λ parts. is_some (guest_in j.gathering.drives parts)) (gathered j.gathering.slots))
+Becomes copied bytes j _ _ = ⊥
 
 -- ---- what a node shows
 
@@ -83,6 +111,7 @@ MayReplay state M (seat.Halted h) = Unit {0}
 abbrev pub IsRole : {S : Type 0} → Node S → shown.Role → Type 0
 IsRole x role.Primary = (x.running ≡ true) × (x.role ≡ Primary)
 IsRole x role.Backup = (x.running ≡ true) × (x.role ≡ Backup)
+IsRole x role.Joining = (x.running ≡ true) × (x.role ≡ Joining)
 IsRole x role.Draining = (x.running ≡ true) × (x.role ≡ Draining)
 IsRole x role.Alone = (x.running ≡ true) × (x.role ≡ Alone)
 IsRole x role.Halted = x.running ≡ false

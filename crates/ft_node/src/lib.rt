@@ -3,17 +3,24 @@
 
 mod alone;
 mod backup;
+mod copying;
 mod due;
 mod halted;
+mod joining;
+mod kept_image;
 mod node;
+mod packets;
 mod primary;
 mod ran;
+mod takeover;
+mod taking;
 #[cfg(test)]
 mod tests;
 
 pub use alone::Alone;
 pub use backup::Backup;
 pub use halted::Halted;
+pub use joining::Joining;
 pub use node::Node;
 pub use primary::Primary;
-pub use ran::{Drained, Ran};
+pub use ran::{Drained, PartCame, Ran};

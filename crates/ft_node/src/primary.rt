@@ -1,19 +1,25 @@
 //! The primary of a generation.
-ghost use Rattle.std.specs.Prelude.{◌≡◌, ◌<◌, ◌≤◌, Ok, OnErr};
+ghost use Rattle.std.specs.Prelude.{◌≡◌, ◌<◌, ◌≤◌, ℕ, [], Ok, OnErr, slice_index};
 ghost use Rattle.event_callbacks.specs.declared.devices.TheConstants.{PORTS};
 ghost use Rattle.guest_board.specs.Lockstep.{IsInput};
 ghost use Rattle.guest_board.specs.Outstanding as outstanding;
+ghost use Rattle.i8080_words.specs.declared.limits.TheConstants.{GREATEST_NUMBER};
+ghost use Rattle.log_buffer.specs.Log as logs;
 ghost use Rattle.log_buffer.specs.Log.{next_of};
 ghost use Rattle.log_channel.specs.Packet.{packet_at};
+ghost use Rattle.output_rule.specs.Covering.{nothing_acknowledged};
+ghost use Rattle.pair_protocol.specs.Copying.{Copying};
 ghost use Rattle.pair_protocol.specs.Effects.{Took};
 ghost use Rattle.pair_protocol.specs.Node.{Node};
 ghost use Rattle.recorder.specs.Recording.{MayTake};
 ghost use Rattle.ft_node.specs.Calls as calls;
 ghost use Rattle.ft_node.specs.Noting as noting;
-ghost use Rattle.ft_node.specs.Roles.{AreOfOutstanding, IsPrimary};
+ghost use Rattle.ft_node.specs.Roles.{AreOfOutstanding, HasImage, IsPrimary};
 
+use crate::kept_image::KeptImage;
 use crate::ran::Ran;
-use event_callbacks::{OpId, Operation};
+use clone_state::Copies;
+use event_callbacks::{OpId, Operation, PORTS};
 use guest_board::{Input, Lockstep, StopReason, Stopped};
 use i8080_words::{Fault, R};
 use log_buffer::LogBuffer;
@@ -29,23 +35,50 @@ pub struct Primary<B> {
     pub(crate) recorder: Recorder<B>,
     pub(crate) sender: Sender,
     pub(crate) coverage: Coverage,
+    pub(crate) image: KeptImage,
     // The log keeps what is not acknowledged, and all three know how much is acknowledged.
     ghost first: { recorder.log.first ≡ sender.held },
     ghost acknowledged: { coverage.acknowledged ≡ sender.held },
     ghost within: { sender.held ≤ next_of recorder.log },
 }
 
-impl<B: Lockstep> Primary<B> {
+impl<B: Lockstep + Drop> Primary<B> {
+    /// The primary of a generation that begins, with a log that is still empty: what is outstanding is covered, and this
+    /// many keys of each port.
+    pub(crate) fn begin(
+        board: B,
+        log: LogBuffer,
+        generation: u32,
+        keys: [u64; PORTS],
+        image: KeptImage,
+    ) -> Primary<B>
+        requires generation { 0 < generation }
+        requires unused { log ≡ logs.log 0 [] }
+        requires keys { (port : ℕ) → slice_index keys port ≤ GREATEST_NUMBER }
+        ensures board { result.recorder.board ≡ board }
+        ensures log { result.recorder.log ≡ log }
+        ensures sender { result.sender ≡ record { generation = generation; held = 0 } }
+        ensures coverage { result.coverage ≡ nothing_acknowledged keys }
+        ensures image { result.image ≡ image }
+    {
+        Primary {
+            recorder: Recorder::new(board, log),
+            sender: Sender::new(generation),
+            coverage: Coverage::new(keys),
+            image,
+        }
+    }
+
     /// Makes at most `turns` steps, and stops after the first that gives an operation, which waits for its mark to be
     /// acknowledged.
     pub(crate) fn step(&mut self, turns: u64) -> R<Ran>
         requires few { outstanding.IsFrugal B.machine (B.state self.old.recorder.board) }
         requires notes { AreOfOutstanding B.machine (B.state self.old.recorder.board) self.old.coverage }
-        ensures answer { (x : Node B.State)
-            → IsPrimary B.machine (B.state self.old.recorder.board) self.old.recorder.log self.old.sender
+        ensures answer { (C : Copying B.State) (x : Node B.State)
+            → IsPrimary B.machine (HasImage C self.old.sender.generation self.old.image) (B.state self.old.recorder.board) self.old.recorder.log self.old.sender
             self.old.coverage x
             → calls.Steps B.machine turns x result
-            (IsPrimary B.machine (B.state self.new.recorder.board) self.new.recorder.log self.new.sender
+            (IsPrimary B.machine (HasImage C self.new.sender.generation self.new.image) (B.state self.new.recorder.board) self.new.recorder.log self.new.sender
             self.new.coverage) }
         ensures unchanged { OnErr result (self.new ≡ self.old) }
     {
@@ -64,11 +97,11 @@ impl<B: Lockstep> Primary<B> {
     /// Takes an input that nothing refuses: logs it, and forgets the operation that it completes.
     pub(crate) fn accept(&mut self, input: Input)
         requires { MayTake B.machine (B.state self.old.recorder.board) self.old.recorder.log input }
-        ensures { (x : Node B.State)
-            → IsPrimary B.machine (B.state self.old.recorder.board) self.old.recorder.log self.old.sender
+        ensures { (C : Copying B.State) (x : Node B.State)
+            → IsPrimary B.machine (HasImage C self.old.sender.generation self.old.image) (B.state self.old.recorder.board) self.old.recorder.log self.old.sender
             self.old.coverage x
             → calls.Makes x (Took B.machine input)
-            (IsPrimary B.machine (B.state self.new.recorder.board) self.new.recorder.log self.new.sender
+            (IsPrimary B.machine (HasImage C self.new.sender.generation self.new.image) (B.state self.new.recorder.board) self.new.recorder.log self.new.sender
             self.new.coverage) }
     {
         let completed = completed_by(self.recorder.board(), &input);
@@ -80,8 +113,8 @@ impl<B: Lockstep> Primary<B> {
 
     /// The packet of the entry at an index; `Unknown` if it is acknowledged or not there yet.
     pub(crate) fn packet(&self, alloc: Global, index: u64) -> R<Vec<u8>>
-        ensures { (x : Node B.State)
-            → IsPrimary B.machine (B.state self.now.recorder.board) self.now.recorder.log self.now.sender
+        ensures { (C : Copying B.State) (x : Node B.State)
+            → IsPrimary B.machine (HasImage C self.now.sender.generation self.now.image) (B.state self.now.recorder.board) self.now.recorder.log self.now.sender
             self.now.coverage x
             → calls.Sends index x result }
     {
@@ -90,27 +123,28 @@ impl<B: Lockstep> Primary<B> {
         self.sender.packet(alloc, self.recorder.log(), index)
     }
 
-    /// Takes an acknowledgement, and returns how many entries are acknowledged then.
+    /// Takes an acknowledgement, and returns how many entries are acknowledged then. The image is no longer needed.
     pub(crate) fn on_ack(&mut self, bytes: &[u8]) -> R<u64>
-        ensures answer { (x : Node B.State)
-            → IsPrimary B.machine (B.state self.old.recorder.board) self.old.recorder.log self.old.sender
+        ensures answer { (C : Copying B.State) (x : Node B.State)
+            → IsPrimary B.machine (HasImage C self.old.sender.generation self.old.image) (B.state self.old.recorder.board) self.old.recorder.log self.old.sender
             self.old.coverage x
             → calls.DeliversAcknowledgement (packet_at bytes.now) x result
-            (IsPrimary B.machine (B.state self.new.recorder.board) self.new.recorder.log self.new.sender
+            (IsPrimary B.machine (HasImage C self.new.sender.generation self.new.image) (B.state self.new.recorder.board) self.new.recorder.log self.new.sender
             self.new.coverage) }
         ensures unchanged { OnErr result (self.new ≡ self.old) }
     {
         let covered = self.sender.on_ack(self.recorder.log(), bytes)?;
         self.coverage.acknowledge(self.recorder.log(), covered);
         self.recorder.log_mut().drop_to(covered);
+        self.image.forget();
         Ok(covered)
     }
 
     /// The outstanding operation with a name, if its mark is acknowledged.
     #[tactic(auto, using(crate::proofs::PrimaryReleases::release_refused))]
     pub(crate) fn release(&self, id: OpId) -> R<Operation>
-        ensures { (x : Node B.State)
-            → IsPrimary B.machine (B.state self.now.recorder.board) self.now.recorder.log self.now.sender
+        ensures { (C : Copying B.State) (x : Node B.State)
+            → IsPrimary B.machine (HasImage C self.now.sender.generation self.now.image) (B.state self.now.recorder.board) self.now.recorder.log self.now.sender
             self.now.coverage x
             → calls.Releases B.machine id x result }
     {
@@ -122,12 +156,23 @@ impl<B: Lockstep> Primary<B> {
     /// How many keys of a port are covered.
     pub(crate) fn told(&self, port: u8) -> u64
         requires { port < PORTS }
-        ensures { (x : Node B.State)
-            → IsPrimary B.machine (B.state self.now.recorder.board) self.now.recorder.log self.now.sender
+        ensures { (C : Copying B.State) (x : Node B.State)
+            → IsPrimary B.machine (HasImage C self.now.sender.generation self.now.image) (B.state self.now.recorder.board) self.now.recorder.log self.now.sender
             self.now.coverage x
             → calls.Tells B.machine port x (Ok result) }
     {
         self.coverage.told(port)
+    }
+
+    /// The message of a part of its image; `Unknown` if it keeps none, or that has no such part.
+    pub(crate) fn part(&self, alloc: Global, index: u16) -> R<Vec<u8>>
+        ensures { (C : Copying B.State) (x : Node B.State)
+            → IsPrimary B.machine (HasImage C self.now.sender.generation self.now.image) (B.state self.now.recorder.board)
+            self.now.recorder.log self.now.sender self.now.coverage x
+            → calls.SendsPart C index x result }
+    {
+        let _generation = self.sender.generation();
+        self.image.part(alloc, index)
     }
 }
 

@@ -1,4 +1,4 @@
-//! How far a node got, and whether it is alone.
+//! How far a node got, whether it is alone, and what a part was to it.
 
 use guest_board::StopReason;
 
@@ -15,4 +15,12 @@ pub struct Ran {
 pub struct Drained {
     pub moves: u64,
     pub alone: bool,
+}
+
+/// What a part of an image was to a joining node: a new one, one that came before, or the last one that was missing.
+#[derive(Clone, Copy, Debug, PartialEq, Eq)]
+pub enum PartCame {
+    New,
+    Old,
+    Whole,
 }

@@ -1,10 +1,14 @@
-//! Nodes over a small guest. The guest keeps no operation and has no drive, so its nodes make no step and take only keys
-//! here: the other calls are tested with boards, in the crate of the world.
-use crate::{Drained, Node};
+//! Nodes over boards that have only booted: they take keys here, ask the arbiter and are copied. What needs steps is
+//! tested in the crate of the world.
+ghost use Rattle.std.specs.Prelude.{◌≡◌, IfOk, vec_len};
+ghost use Rattle.event_callbacks.specs.Keeping.{Keeps};
+ghost use Rattle.event_callbacks.specs.declared.devices.TheConstants.{SENT, SECTOR, WRITTEN};
+
+use crate::{Drained, Node, PartCame};
 use arbiter_core::{Arbiter, Won};
-use echo_guest::Echo;
-use event_callbacks::OpId;
-use guest_board::Input;
+use clone_state::Copies;
+use event_callbacks::{Callbacks, Completes, OpId, plain_completions};
+use guest_board::{Board, BoardMemory, Input, Setup};
 use i8080_words::{Fault, R};
 use log_buffer::LogBuffer;
 use log_channel::Packet;
@@ -32,13 +36,15 @@ fn first_packet(alloc: Global) -> R<Vec<u8>> {
     Ok(bytes)
 }
 
-fn primary(alloc: Global) -> R<Node<Echo>> {
-    Ok(Node::primary(Echo::new(1), LogBuffer::new(alloc, 0)?, 1))
+fn primary<B: Copies<H> + Drop, H: Drop>(alloc: Global, board: B) -> R<Node<B, H>> {
+    Ok(Node::primary(board, LogBuffer::new(alloc, 0)?, 1))
 }
 
-#[test]
-fn a_backup_holds_what_comes_next(rt: HostRuntime) -> R<()> {
-    let mut backup = Node::backup(rt.alloc(), Echo::new(1), 1);
+fn a_backup_holds_what_comes_next<B: Copies<H> + Drop, H: Drop>(
+    rt: &(impl Abort + AllocGlobal),
+    board: B,
+) -> R<()> {
+    let mut backup = Node::backup(rt.alloc(), board, 1);
     assert_eq!(rt;
         (backup.role(), backup.count(), backup.generation()),
         (Role::Backup, 0, 1)
@@ -64,9 +70,11 @@ fn a_backup_holds_what_comes_next(rt: HostRuntime) -> R<()> {
     Ok(())
 }
 
-#[test]
-fn an_entry_is_read_and_then_held(rt: HostRuntime) -> R<()> {
-    let mut backup = Node::backup(rt.alloc(), Echo::new(1), 1);
+fn an_entry_is_read_and_then_held<B: Copies<H> + Drop, H: Drop>(
+    rt: &(impl Abort + AllocGlobal),
+    board: B,
+) -> R<()> {
+    let mut backup = Node::backup(rt.alloc(), board, 1);
     let bytes = first_packet(rt.alloc())?;
     let Some(entry) = backup.next_entry(&bytes)? else {
         panic!(rt; "the first packet brings the first entry");
@@ -77,9 +85,11 @@ fn an_entry_is_read_and_then_held(rt: HostRuntime) -> R<()> {
     Ok(())
 }
 
-#[test]
-fn a_primary_takes_keys_in_their_order(rt: HostRuntime) -> R<()> {
-    let mut primary = primary(rt.alloc())?;
+fn a_primary_takes_keys_in_their_order<B: Copies<H> + Drop, H: Drop>(
+    rt: &(impl Abort + AllocGlobal),
+    board: B,
+) -> R<()> {
+    let mut primary = primary(rt.alloc(), board)?;
     assert_eq!(rt; primary.key(0, 1, 0x49), Err(Fault::WrongNumber));
     assert_eq!(rt; primary.key(0, 0, 0x48), Ok(()));
     primary.check_key(0, 1)?;
@@ -91,9 +101,12 @@ fn a_primary_takes_keys_in_their_order(rt: HostRuntime) -> R<()> {
     Ok(())
 }
 
-#[test]
-fn a_primary_answers_before_its_first_step(rt: HostRuntime) -> R<()> {
-    let mut primary = primary(rt.alloc())?;
+fn a_primary_answers_before_its_first_step<B: Copies<H> + Drop, H: Drop>(
+    rt: &(impl Abort + AllocGlobal),
+    board: B,
+    other: B,
+) -> R<()> {
+    let mut primary = primary(rt.alloc(), board)?;
     assert_eq!(rt;
         (primary.role(), primary.count(), primary.generation()),
         (Role::Primary, 0, 1)
@@ -105,16 +118,23 @@ fn a_primary_answers_before_its_first_step(rt: HostRuntime) -> R<()> {
     assert_eq!(rt; primary.place(0), Err(Fault::NotDue));
     assert_eq!(rt; primary.release(OpId::Byte(0, 1)), Err(Fault::NotDue));
     assert!(rt; primary.packet(rt.alloc(), 0).is_err());
-    let ack = Node::backup(rt.alloc(), Echo::new(1), 1).ack(rt.alloc())?;
+    assert_eq!(rt;
+        primary.send_part(rt.alloc(), 0).err(),
+        Some(Fault::Unknown)
+    );
+    let ack = Node::backup(rt.alloc(), other, 1).ack(rt.alloc())?;
     assert_eq!(rt; primary.on_ack(&ack), Ok(0));
     assert_eq!(rt; primary.told(0), Ok(0));
     Ok(())
 }
 
-#[test]
-fn the_first_that_asks_goes_on(rt: HostRuntime) -> R<()> {
-    let mut primary = primary(rt.alloc())?;
-    let mut backup = Node::backup(rt.alloc(), Echo::new(1), 1);
+fn the_first_that_asks_goes_on<B: Copies<H> + Drop, H: Drop>(
+    rt: &(impl Abort + AllocGlobal),
+    first: B,
+    second: B,
+) -> R<()> {
+    let mut primary = primary(rt.alloc(), first)?;
+    let mut backup = Node::backup(rt.alloc(), second, 1);
     let mut arbiter = Arbiter::new(rt.alloc());
     assert_eq!(rt;
         backup.replay(9),
@@ -130,9 +150,9 @@ fn the_first_that_asks_goes_on(rt: HostRuntime) -> R<()> {
     Ok(())
 }
 
-#[test]
-fn a_node_with_nothing_left_is_alone(rt: HostRuntime) -> R<()> {
-    let mut node = Node::backup(rt.alloc(), Echo::new(1), 1);
+// An alone node, which was a backup that held nothing.
+fn alone<B: Copies<H> + Drop, H: Drop>(rt: &(impl Abort + AllocGlobal), board: B) -> R<Node<B, H>> {
+    let mut node = Node::backup(rt.alloc(), board, 1);
     let mut arbiter = Arbiter::new(rt.alloc());
     assert_eq!(rt; node.suspect(1, &mut arbiter), Ok(Won));
     assert_eq!(rt;
@@ -144,5 +164,95 @@ fn a_node_with_nothing_left_is_alone(rt: HostRuntime) -> R<()> {
     );
     assert_eq!(rt; node.role(), Role::Alone);
     assert_eq!(rt; node.told(0), Ok(0));
+    Ok(node)
+}
+
+fn a_joining_node_is_the_backup_with_the_last_part<B: Copies<H> + Drop, H: Drop>(
+    rt: &(impl Abort + AllocGlobal),
+    board: B,
+    callbacks: H,
+) -> R<()> {
+    let mut node = alone(rt, board)?;
+    assert_eq!(rt; node.begin(rt.alloc()), Ok(2));
+    assert_eq!(rt; (node.role(), node.generation()), (Role::Primary, 2));
+    let mut joining = Node::joining(B::assembly(rt.alloc(), 2, 1)?, callbacks, 2, node.count());
+    for index in 0..333 {
+        let part = node.send_part(rt.alloc(), index)?;
+        assert_eq!(rt; joining.part(rt.alloc(), &part), Ok(PartCame::New));
+        assert_eq!(rt; joining.part(rt.alloc(), &part), Ok(PartCame::Old));
+    }
+    assert_eq!(rt; (joining.role(), joining.generation()), (Role::Joining, 2));
+    let mut arbiter = Arbiter::new(rt.alloc());
+    assert_eq!(rt; joining.suspect(2, &mut arbiter), Err(Fault::NotWhole));
+    let last = node.send_part(rt.alloc(), 333)?;
+    assert_eq!(rt; joining.part(rt.alloc(), &last), Ok(PartCame::Whole));
+    assert_eq!(rt; joining.role(), Role::Backup);
+    let ack = joining.ack(rt.alloc())?;
+    assert_eq!(rt; node.on_ack(&ack), Ok(0));
+    assert_eq!(rt; node.send_part(rt.alloc(), 0).err(), Some(Fault::Unknown));
     Ok(())
+}
+
+// A board that has booted with nothing in its memory, and one drive.
+fn board<T: Completes + Drop, S: Completes + Drop, W: Completes + Drop>(
+    alloc: Global,
+    callbacks: Callbacks<T, S, W>,
+) -> R<Board<T, S, W>> {
+    let setup = Setup {
+        memory: memory(alloc)?,
+        drives: 1,
+        levels: [7; 3],
+        sense: 0x00,
+    };
+    let taken = BoardMemory::of(alloc, &setup)?;
+    Ok(Board::boot_in(alloc, taken, &setup, callbacks))
+}
+
+fn memory(alloc: Global) -> R<Vec<u8>>
+    ensures { IfOk result (λ memory. vec_len memory ≡ 65536) }
+{
+    let mut memory = Vec::new(alloc);
+    memory.resize(65536, 0x00)?;
+    if memory.len() != 65536 {
+        return Err(Fault::Malformed);
+    }
+    Ok(memory)
+}
+
+fn each<T: Completes + Drop + Copy, S: Completes + Drop + Copy, W: Completes + Drop + Copy>(
+    rt: &(impl Abort + AllocGlobal),
+    sent: T,
+    sector: S,
+    written: W,
+) -> R<()>
+    requires sent { Keeps (T.may sent) (T.gives sent) SENT }
+    requires sector { Keeps (S.may sector) (S.gives sector) SECTOR }
+    requires written { Keeps (W.may written) (W.gives written) WRITTEN }
+{
+    let alloc = rt.alloc();
+    let one = board(alloc, Callbacks::of(sent, sector, written))?;
+    a_backup_holds_what_comes_next(rt, one)?;
+    let one = board(alloc, Callbacks::of(sent, sector, written))?;
+    an_entry_is_read_and_then_held(rt, one)?;
+    let one = board(alloc, Callbacks::of(sent, sector, written))?;
+    a_primary_takes_keys_in_their_order(rt, one)?;
+    let one = board(alloc, Callbacks::of(sent, sector, written))?;
+    let other = board(alloc, Callbacks::of(sent, sector, written))?;
+    a_primary_answers_before_its_first_step(rt, one, other)?;
+    let one = board(alloc, Callbacks::of(sent, sector, written))?;
+    let other = board(alloc, Callbacks::of(sent, sector, written))?;
+    the_first_that_asks_goes_on(rt, one, other)?;
+    let one = board(alloc, Callbacks::of(sent, sector, written))?;
+    let callbacks = Callbacks::of(sent, sector, written);
+    a_joining_node_is_the_backup_with_the_last_part(rt, one, callbacks)
+}
+
+#[test]
+fn nodes_do_their_part_of_each_event(rt: HostRuntime) -> R<()> {
+    each(
+        &rt,
+        plain_completions::sent,
+        plain_completions::sector,
+        plain_completions::written,
+    )
 }

@@ -6,7 +6,7 @@ use Rattle.ft_node.proofs.PrimaryInputs.{accepts}
 use Rattle.ft_node.proofs.primary.Primary.accept.Goals as goal
 
 pub returns-in-Some : goal.returns-in-Some
-returns-in-Some g c = λ x p.
+returns-in-Some g c = λ C x p.
     let M = g.B.Lockstep.machine in
     rw c.forget.ensures
     (accepts M (g.B.Lockstep.state c.args.self.now.recorder.board) (g.B.Lockstep.state c.accept.new.self.board)
@@ -16,7 +16,7 @@ returns-in-Some g c = λ x p.
     ∙ ap (λ board. completed_by M (g.B.Lockstep.state board) c.args.input) c.board.ensures))
 
 pub returns-in_default : goal.returns-in_default
-returns-in_default g c = λ x p.
+returns-in_default g c = λ C x p.
     let M = g.B.Lockstep.machine in
     accepts M (g.B.Lockstep.state c.args.self.now.recorder.board) (g.B.Lockstep.state c.accept.new.self.board)
     c.args.self.now.recorder.log c.accept.new.self.log c.args.self.now.sender c.args.self.now.coverage x c.args.input

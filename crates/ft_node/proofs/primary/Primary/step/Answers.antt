@@ -9,7 +9,7 @@ use Rattle.ft_node.proofs.PrimarySteps.{steps_made, steps_not_made}
 use Rattle.ft_node.proofs.primary.Primary.step.Goals as goal
 
 pub returns-in_err-steps-clause-answer : goal.returns-in_err-steps-clause-answer
-returns-in_err-steps-clause-answer g c = λ x p.
+returns-in_err-steps-clause-answer g c = λ C x p.
     let M = g.B.Lockstep.machine in
     let s = g.B.Lockstep.state c.args.self.now.recorder.board in
     let t = g.B.Lockstep.state c.advance.new.self.board in
@@ -32,7 +32,7 @@ note-requires g c = record {
 }
 
 pub returns-clause-answer : goal.returns-clause-answer
-returns-clause-answer g c = λ x p.
+returns-clause-answer g c = λ C x p.
     let M = g.B.Lockstep.machine in
     let s = g.B.Lockstep.state c.args.self.now.recorder.board in
     let t = g.B.Lockstep.state c.advance.new.self.board in
@@ -45,3 +45,6 @@ returns-clause-answer g c = λ x p.
     (c.count.ensures.value ∙ ap (λ board. M.count (g.B.Lockstep.state board)) c.board.ensures) c.count.ensures.within
     (c.note.ensures
     ∙ ap (noted c.args.self.now.coverage c.in_ok-steps.field-0.reason) (c.next-mark.ensures ∙ ap next_of c.log-2.ensures))
+
+pub returns-in_err-steps-clause-unchanged : goal.returns-in_err-steps-clause-unchanged
+returns-in_err-steps-clause-unchanged g c = ?

@@ -1,0 +1,103 @@
+-- An alone node that begins the next generation is its primary. Its log is empty, all that is outstanding is covered, and
+-- so are the keys that its guest has taken.
+use Rattle.std.proofs.Common.{◌≡◌, ℕ, zero, suc, ◌+◌, ◌<◌, ◌≤◌, ◌^◌, true, false, Option, Some, None, List, [], ◌∷◌, ◌++◌, length, Result, Ok, Err, refl, sym, ap, subst, ◌∙◌, arith}
+use Rattle.std.specs.Prelude.{nat_le, slice_index}
+use Rattle.std.proofs.lemmas.Bool.{le-leb, lt-leb}
+use Rattle.std.proofs.lemmas.List.{append-nil}
+use Rattle.std.proofs.lemmas.Option.{none-some}
+use Rattle.ft_node.specs.Kept.{ImageParts}
+use Rattle.event_callbacks.specs.declared.devices.TheConstants.{PORTS}
+use Rattle.guest_board.specs.Machine.{Machine}
+use Rattle.guest_trace.specs.Reach.{keys}
+use Rattle.guest_trace.specs.declared.timed.Timed.{Timed}
+use Rattle.i8080_words.specs.declared.refusal.Fault.{Fault}
+use Rattle.i8080_words.specs.declared.refusal.Fault.TheVariants.{OutOfMemory, Spent, WrongRole}
+use Rattle.log_buffer.specs.Log.{log}
+use Rattle.output_rule.specs.Covering.{nothing_acknowledged}
+use Rattle.pair_protocol.specs.Copying.{Copying}
+use Rattle.pair_protocol.specs.Node.{Node, Alone, begun}
+use Rattle.pair_protocol.specs.Refusals.{begin_pair_refusal, fault_if, first_of, last_generation, role_refusal}
+use Rattle.ft_node.specs.Calls.{BeginsPair, Begun, Call, Ever, HasTakenKeys}
+use Rattle.ft_node.specs.Roles.{Covers, HasImage, IsAlone, IsPrimary}
+
+-- the keys of both ports
+abbrev pub taken_keys : {S : Type 0} → Machine S → S → List ℕ
+taken_keys M s = M.keys s 0 ∷ M.keys s 1 ∷ []
+
+module _ {S : Type 0} (M : Machine S) (s : S) (generation : ℕ) (x : Node S) (a : IsAlone s generation x) where
+  taken_are : HasTakenKeys M x → (port : ℕ) → port < PORTS
+      → slice_index (taken_keys M s) port ≡ length (keys port (x.list ++ []))
+  taken_are has port within =
+      each port within ∙ ap (λ s. M.keys s port) (sym a.machine) ∙ has port
+      ∙ ap (λ (list : List Timed). length (keys port list)) (sym (append-nil x.list))
+    where
+      each : (port : ℕ) → port < PORTS → slice_index (taken_keys M s) port ≡ M.keys s port
+      each zero within = refl
+      each (suc zero) within = refl
+      each (suc (suc port)) within = absurd (omega arith)
+
+  covers : HasTakenKeys M x → Covers M (nothing_acknowledged (taken_keys M s)) (begun M x)
+  covers has = record {
+    acknowledged = refl;
+    waits = refl;
+    keys = taken_are has;
+    noted = λ name o found. refl;
+    for_mark = λ name note e. absurd (none-some note e);
+    outstanding = λ name index e. absurd (none-some index e);
+  }
+
+  pub is_primary : (C : Copying S) (image : ImageParts) → HasTakenKeys M x → image.generation ≡ suc generation
+      → image.parts ≡ C.parts s
+      → IsPrimary M (HasImage C (suc generation) (Some image)) s (log 0 [])
+      (record { generation = suc generation; held = 0 }) (nothing_acknowledged (taken_keys M s)) (begun M x)
+  is_primary C image has begins parts = record {
+    role = refl;
+    up = refl;
+    generation = ap suc a.generation_is;
+    machine = a.machine;
+    kept = refl;
+    within = omega arith;
+    entries = λ k e within. absurd (omega (arith, within));
+    acknowledged = refl;
+    covers = covers has;
+    image = record {
+      s = x.machine;
+      there = refl;
+      begins = begins;
+      parts = parts ∙ ap C.parts (sym a.machine);
+    };
+  }
+
+  -- only the number of the generation refuses it
+  refused_by_number : begin_pair_refusal x ≡ first_of (fault_if (nat_le last_generation generation) Spent ∷ [])
+  refused_by_number =
+      let role : role_refusal (Alone ∷ []) x ≡ None = rw (a.role, a.up) refl in
+      ap (λ r. first_of (r ∷ fault_if (nat_le last_generation x.generation) Spent ∷ [])) role
+      ∙ ap (λ g. first_of (fault_if (nat_le last_generation g) Spent ∷ [])) a.generation_is
+
+  greater : generation + 1 < 2 ^ 32 → nat_le last_generation generation ≡ false
+  unfolding last_generation
+  greater few = lt-leb _ _ (omega arith)
+
+  greatest : generation + 1 ≡ 2 ^ 32 → nat_le last_generation generation ≡ true
+  unfolding last_generation
+  greatest last = le-leb _ _ (omega arith)
+
+  module _ (Is : Node S → Type 0) where
+    pub begins : generation + 1 < 2 ^ 32 → Is (begun M x) → BeginsPair M x (Ok (suc generation)) Is
+    begins few is =
+        subst (λ r. Call {A = ℕ} r Ever (Begun M) x (Ok (suc generation)) Is)
+        (sym (refused_by_number ∙ ap (λ b. first_of (fault_if b Spent ∷ [])) (greater few)))
+        (record { y = begun M x; done = (ap suc (sym a.generation_is), refl); after = is })
+
+    pub out_of_memory : generation + 1 < 2 ^ 32 → Is x → BeginsPair M x (Err OutOfMemory) Is
+    out_of_memory few is =
+        subst (λ r. Call {A = ℕ} r Ever (Begun M) x (Err OutOfMemory) Is)
+        (sym (refused_by_number ∙ ap (λ b. first_of (fault_if b Spent ∷ [])) (greater few)))
+        (refl, (tt, is))
+
+    pub spent : generation + 1 ≡ 2 ^ 32 → Is x → BeginsPair M x (Err Spent) Is
+    spent last is =
+        subst (λ r. Call {A = ℕ} r Ever (Begun M) x (Err Spent) Is)
+        (sym (refused_by_number ∙ ap (λ b. first_of (fault_if b Spent ∷ [])) (greatest last)))
+        (refl, is)

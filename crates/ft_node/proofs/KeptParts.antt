@@ -1,0 +1,69 @@
+-- A part of the image that a primary keeps is a part of the copy of the machine.
+use Rattle.std.proofs.Common.{◌≡◌, ℕ, true, false, not, ◌||◌, Option, Some, None, List, [], ◌∷◌, Result, Ok, Err, refl, sym, ap, subst, ◌∙◌}
+use Rattle.std.specs.Prelude.{is_none, option_map, slice_get}
+use Rattle.std.specs.Global.{Vec}
+use Rattle.ft_node.specs.Kept.{ImageParts}
+use Rattle.clone_state.specs.Image.{Spells, part_bytes}
+use Rattle.guest_board.specs.Machine.{Machine}
+use Rattle.i8080_words.specs.declared.refusal.Fault.{Fault}
+use Rattle.i8080_words.specs.declared.refusal.Fault.TheVariants.{Unknown}
+use Rattle.log_buffer.specs.Log.{Log}
+use Rattle.log_channel.specs.Channel.{Sending}
+use Rattle.output_rule.specs.Covering.{Covering}
+use Rattle.pair_protocol.specs.Copying.{Copying}
+use Rattle.pair_protocol.specs.Node.{Node, Primary, acts_as}
+use Rattle.pair_protocol.specs.Refusals.{fault_if, has_part, send_part_refusal}
+use Rattle.ft_node.specs.Calls.{Ever, Gives, SendsPart, SpellsPart, Unless}
+use Rattle.ft_node.specs.Kept.{part_of}
+use Rattle.ft_node.specs.Roles.{HasImage, IsImageOf, IsPrimary}
+
+module _ {S : Type 0} (C : Copying S) (x : Node S) (index : ℕ) (result : Result (Vec ℕ) Fault) where
+  -- only the image refuses a part
+  image_refuses : x.role ≡ Primary → x.running ≡ true
+      → send_part_refusal C index x ≡ fault_if (not (has_part C x.image index)) Unknown
+  image_refuses role up =
+      let acts : not (acts_as x (Primary ∷ [])) ≡ false = rw (role, up) refl in
+      ap (λ b. fault_if (b || not (has_part C x.image index)) Unknown) acts
+
+  unknown : send_part_refusal C index x ≡ Some Unknown → result ≡ Err Unknown → SendsPart C index x result
+  unknown refuses is =
+      subst (λ r. Unless r result (Unit {0}) (Gives result (Ever x) (λ bytes. SpellsPart C index x bytes))) (sym refuses)
+      (is, tt)
+
+  spelled_part : (s : S) (generation : ℕ) (part : List ℕ) (r : Result (Vec ℕ) Fault) → x.image ≡ Some s
+      → slice_get (C.parts s) index ≡ Some part → generation ≡ x.generation
+      → Spells (Some (part_bytes generation index part)) r
+      → Gives r (Ever x) (λ bytes. SpellsPart C index x bytes)
+  spelled_part s generation part (Ok bytes) there is begins spelled = record {
+    part = part;
+    has = record { s = s; image = there; is_part = is };
+    spelled = spelled ∙ ap (λ g. part_bytes g index part) begins;
+  }
+  spelled_part s generation part (Err fault) there is begins spelled = (spelled, tt)
+
+  of_image : (s : S) (generation : ℕ) (part : Option (List ℕ)) → x.role ≡ Primary → x.running ≡ true
+      → x.image ≡ Some s → slice_get (C.parts s) index ≡ part → generation ≡ x.generation
+      → Spells (option_map (part_bytes generation index) part) result → SendsPart C index x result
+  of_image s generation None role up there is begins spelled =
+      unknown
+      (image_refuses role up ∙ ap (λ o. fault_if (not (has_part C o index)) Unknown) there
+      ∙ ap (λ (o : Option (List ℕ)). fault_if (not (not (is_none o))) Unknown) is)
+      spelled
+  of_image s generation (Some part) role up there is begins spelled =
+      subst (λ r. Unless r result (Unit {0}) (Gives result (Ever x) (λ bytes. SpellsPart C index x bytes)))
+      (sym (image_refuses role up ∙ ap (λ o. fault_if (not (has_part C o index)) Unknown) there
+      ∙ ap (λ (o : Option (List ℕ)). fault_if (not (not (is_none o))) Unknown) is))
+      (spelled_part s generation part result there is begins spelled)
+
+  -- what a primary sends of the image that it keeps
+  pub sends : (M : Machine S) (s : S) (l : Log) (sd : Sending) (c : Covering) (kept : Option ImageParts)
+      → IsPrimary M (HasImage C sd.generation kept) s l sd c x → Spells (part_of kept index) result
+      → SendsPart C index x result
+  sends M s l sd c None p spelled =
+      unknown (image_refuses p.role p.up ∙ ap (λ o. fault_if (not (has_part C o index)) Unknown) p.image) spelled
+  sends M s l sd c (Some kept) p spelled =
+      let i : IsImageOf C sd.generation kept x.image = p.image in
+      of_image i.s kept.generation (slice_get (C.parts i.s) index) p.role p.up i.there refl
+      (i.begins ∙ sym p.generation)
+      (subst (λ parts. Spells (option_map (part_bytes kept.generation index) (slice_get parts index)) result) i.parts
+      spelled)

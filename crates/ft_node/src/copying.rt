@@ -1,0 +1,147 @@
+//! A generation that begins with the copy of a machine: an alone node begins it, and a joining node is given the parts.
+ghost use Rattle.std.specs.Prelude.{◌≡◌, ◌<◌, ◌≤◌, ℕ, [], IfOk, IsOkUnless, OnErr};
+ghost use Rattle.clone_state.specs.Copies.{CopiesAs, image_parts};
+ghost use Rattle.clone_state.specs.Parts.{message_at};
+ghost use Rattle.event_callbacks.specs.declared.devices.TheConstants.{PORTS};
+ghost use Rattle.i8080_words.specs.declared.limits.TheConstants.{GREATEST_NUMBER};
+ghost use Rattle.i8080_words.specs.declared.refusal.Fault.TheVariants.{OutOfMemory};
+ghost use Rattle.log_buffer.specs.Log as logs;
+ghost use Rattle.pair_protocol.specs.Copying.{Copying};
+ghost use Rattle.pair_protocol.specs.Node as protocol;
+ghost use Rattle.ft_node.specs.Calls as calls;
+ghost use Rattle.ft_node.specs.Kept.{image_of};
+ghost use Rattle.ft_node.specs.Roles.{IsAlone, IsJoining};
+ghost use Rattle.ft_node.specs.Seats.{IsNode};
+ghost use Rattle.ft_node.specs.declared.node.Node.TheVariants as seat;
+
+use crate::alone::Alone;
+use crate::joining::Joining;
+use crate::kept_image::KeptImage;
+use crate::node::Node;
+use crate::primary::Primary;
+use crate::ran::PartCame;
+use clone_state::{Copies, Image};
+use i8080_words::{Fault, R};
+use log_buffer::LogBuffer;
+use std::alloc::Global;
+use std::mem;
+
+impl<B: Copies<H> + Drop, H: Drop> Node<B, H> {
+    /// An alone node begins the next generation as its primary, with an image of its machine and an empty log. Returns
+    /// the generation. `Spent` if that of the node is the greatest.
+    pub fn begin(&mut self, alloc: Global) -> R<u32>
+        ensures answer { (C : Copying B.State) (drives : ℕ) (x : protocol.Node B.State)
+            → CopiesAs B.state B.copied drives C.parts C.part_count C.assemble
+            → calls.HasTakenKeys B.machine x → IsNode B.state B.machine C drives self.old x
+            → calls.BeginsPair B.machine x result (IsNode B.state B.machine C drives self.new) }
+        ensures unchanged { OnErr result (self.new ≡ self.old) }
+    {
+        let halted = self.halted();
+        match mem::replace(self, Node::Halted(halted)) {
+            Node::Alone(alone) => {
+                let (result, node) = begun(alloc, alone);
+                *self = node;
+                result
+            }
+            other => {
+                *self = other;
+                Err(Fault::WrongRole)
+            }
+        }
+    }
+
+    /// The message of a part of the image that a primary keeps until the first acknowledgement. `Unknown` if there is no
+    /// such part, and at every other node.
+    pub fn send_part(&self, alloc: Global, index: u16) -> R<Vec<u8>>
+        ensures { (C : Copying B.State) (drives : ℕ) (x : protocol.Node B.State)
+            → IsNode B.state B.machine C drives self.now x → calls.SendsPart C index x result }
+    {
+        match self {
+            Node::Primary(primary) => primary.part(alloc, index),
+            _ => Err(Fault::Unknown),
+        }
+    }
+
+    /// A joining node takes the message of a part; with the last one that was missing it is the backup. `Malformed` if
+    /// the bytes spell no part, otherwise `WrongGeneration` if they spell one of another generation. With the last part
+    /// also `Malformed` if the parts fit no machine together, which those of one image do, or `OutOfMemory`.
+    pub fn part(&mut self, alloc: Global, bytes: &[u8]) -> R<PartCame>
+        ensures answer { (C : Copying B.State) (drives : ℕ) (x : protocol.Node B.State)
+            → CopiesAs B.state B.copied drives C.parts C.part_count C.assemble
+            → IsNode B.state B.machine C drives self.old x
+            → calls.GetsPart C (message_at drives bytes.now) x result (IsNode B.state B.machine C drives self.new) }
+        ensures unchanged { OnErr result (self.new ≡ self.old) }
+    {
+        let halted = self.halted();
+        match mem::replace(self, Node::Halted(halted)) {
+            Node::Joining(joining) => {
+                let (result, node) = with_part(joining, alloc, bytes);
+                *self = node;
+                result
+            }
+            other => {
+                *self = other;
+                Err(Fault::WrongRole)
+            }
+        }
+    }
+}
+
+// The node that an alone node is once it has begun the next generation; if it can't, it stays alone.
+fn begun<B: Copies<H> + Drop, H: Drop>(alloc: Global, alone: Alone<B>) -> (R<u32>, Node<B, H>)
+    ensures answer { (C : Copying B.State) (drives : ℕ) (x : protocol.Node B.State)
+        → CopiesAs B.state B.copied drives C.parts C.part_count C.assemble
+        → calls.HasTakenKeys B.machine x → IsAlone (B.state alone.board) alone.generation x
+        → calls.BeginsPair B.machine x result.0 (IsNode B.state B.machine C drives result.1) }
+    ensures unchanged { OnErr result.0 (result.1 ≡ seat.Alone alone) }
+{
+    if alone.generation == u32::MAX {
+        return (Err(Fault::Spent), Node::Alone(alone));
+    }
+    let generation = alone.generation + 1;
+    let Ok((log, image)) = log_and_image::<B, H>(alloc, &alone.board, generation) else {
+        return (Err(Fault::OutOfMemory), Node::Alone(alone));
+    };
+    let keys = [alone.board.keys(0), alone.board.keys(1)];
+    let primary = Primary::begin(alone.board, log, generation, keys, KeptImage::of(image));
+    (Ok(generation), Node::Primary(primary))
+}
+
+// All that a generation needs memory for when it begins: its log and its image.
+fn log_and_image<B: Copies<H> + Drop, H: Drop>(
+    alloc: Global,
+    board: &B,
+    generation: u32,
+) -> R<(LogBuffer, Image)>
+    requires { 0 < generation }
+    ensures log { IfOk result (λ made. made.0 ≡ logs.log 0 []) }
+    ensures image { IfOk result (λ made. image_of made.1
+        ≡ record { generation = generation; parts = image_parts (B.copied board.now) }) }
+    ensures keys { IfOk result (λ made. (port : ℕ) → port < PORTS
+        → B.machine.keys (B.state board.now) port ≤ GREATEST_NUMBER) }
+    ensures full { IsOkUnless result OutOfMemory }
+{
+    let log = LogBuffer::new(alloc, 0)?;
+    let image = board.image(alloc, generation)?;
+    Ok((log, image))
+}
+
+// The node that a joining node is once a part has come.
+fn with_part<B: Copies<H> + Drop, H: Drop>(
+    mut joining: Joining<H>,
+    alloc: Global,
+    bytes: &[u8],
+) -> (R<PartCame>, Node<B, H>)
+    ensures answer { (C : Copying B.State) (drives : ℕ) (x : protocol.Node B.State)
+        → CopiesAs B.state B.copied drives C.parts C.part_count C.assemble
+        → IsJoining C drives joining x
+        → calls.GetsPart C (message_at drives bytes.now) x result.0 (IsNode B.state B.machine C drives result.1) }
+    ensures unchanged { OnErr result.0 (result.1 ≡ seat.Joining joining) }
+{
+    match joining.gather(bytes) {
+        Err(fault) => (Err(fault), Node::Joining(joining)),
+        Ok(false) => (Ok(PartCame::Old), Node::Joining(joining)),
+        Ok(true) if !joining.is_whole() => (Ok(PartCame::New), Node::Joining(joining)),
+        Ok(true) => joining.become_backup(alloc, bytes),
+    }
+}

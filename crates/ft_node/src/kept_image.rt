@@ -1,0 +1,58 @@
+//! The image that a primary keeps.
+ghost use Rattle.std.specs.Prelude.{◌≡◌, None, Some};
+ghost use Rattle.clone_state.specs.Image.{Spells};
+ghost use Rattle.ft_node.specs.Kept.{image_of, part_of};
+
+use clone_state::Image;
+use i8080_words::{Fault, R};
+use std::alloc::Global;
+use std::marker::Model;
+
+/// The image with which a primary's generation began, until the backup has acknowledged anything; none in the first
+/// generation.
+#[derive(Drop)]
+pub(crate) struct KeptImage {
+    image: Option<Image>,
+}
+
+impl Model for KeptImage {
+    ghost use Rattle.std.specs.Prelude.{Option, option_map};
+    ghost use Rattle.ft_node.specs.Kept.{ImageParts, image_of};
+
+    ghost Value = { Option ImageParts };
+
+    ghost view = { λ kept. option_map image_of kept.image };
+}
+
+impl KeptImage {
+    /// No image.
+    pub(crate) fn none() -> KeptImage
+        ensures { result ≡ None }
+    {
+        KeptImage { image: None }
+    }
+
+    /// This image.
+    pub(crate) fn of(image: Image) -> KeptImage
+        ensures { result ≡ Some (image_of image) }
+    {
+        KeptImage { image: Some(image) }
+    }
+
+    /// Lets it go.
+    pub(crate) fn forget(&mut self)
+        ensures { self.new ≡ None }
+    {
+        self.image = None;
+    }
+
+    /// The bytes of a part in a message. `Unknown` if there is no image, or none of its parts has this index.
+    pub(crate) fn part(&self, alloc: Global, index: u16) -> R<Vec<u8>>
+        ensures { Spells (part_of self.now index) result }
+    {
+        match &self.image {
+            Some(image) => image.part(alloc, index),
+            None => Err(Fault::Unknown),
+        }
+    }
+}

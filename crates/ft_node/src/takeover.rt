@@ -1,0 +1,118 @@
+//! A node that takes over: it asks the arbiter, drains if it was a backup, and is alone.
+ghost use Rattle.std.specs.Prelude.{◌≡◌, ◌≢◌, ℕ, true, IfErr, OnErr};
+ghost use Rattle.i8080_words.specs.declared.refusal.Fault.TheVariants.{Lost};
+ghost use Rattle.pair_protocol.specs.Copying.{Copying};
+ghost use Rattle.pair_protocol.specs.Effects.{at_end};
+ghost use Rattle.pair_protocol.specs.Node as protocol;
+ghost use Rattle.pair_protocol.specs.Node.{goes_live, wins};
+ghost use Rattle.ft_node.specs.Calls as calls;
+ghost use Rattle.ft_node.specs.Roles.{IsFollower};
+ghost use Rattle.ft_node.specs.Seats.{IsNode, MayReplay};
+
+use crate::alone::Alone;
+use crate::node::Node;
+use crate::ran::Drained;
+use arbiter_core::{Arbiter, Won};
+use clone_state::Copies;
+use go_live::Draining;
+use i8080_words::{Fault, R};
+use std::mem;
+
+impl<B: Copies<H> + Drop, H: Drop> Node<B, H> {
+    /// Asks the arbiter for the generation: the first node to ask goes on alone, a backup once it is drained. `Lost` if
+    /// the other node has asked before; this one is then halted. `NotWhole` at a joining node, which may not ask.
+    /// `OutOfMemory` if the arbiter has no room.
+    pub fn suspect(&mut self, id: u64, arbiter: &mut Arbiter) -> R<Won>
+        ensures answer { (C : Copying B.State) (drives : ℕ) (x : protocol.Node B.State) → IsNode B.state B.machine C drives self.old x
+            → calls.Suspects arbiter.old id x result arbiter.new (IsNode B.state B.machine C drives self.new) }
+        ensures unchanged { IfErr result (λ fault. fault ≢ Lost → self.new ≡ self.old) }
+        ensures arbiter { OnErr result (arbiter.new ≡ arbiter.old) }
+    {
+        let generation = self.generation();
+        if let Node::Halted(_) = self {
+            return Err(Fault::WrongRole);
+        }
+        if let Node::Joining(_) = self {
+            return Err(Fault::NotWhole);
+        }
+        if arbiter.winner(generation) == Some(id) {
+            return Ok(Won);
+        }
+        match arbiter.test_and_set(generation, id) {
+            Ok(won) => {
+                self.win();
+                Ok(won)
+            }
+            Err(Fault::Lost) => {
+                self.halt();
+                Err(Fault::Lost)
+            }
+            Err(fault) => Err(fault),
+        }
+    }
+
+    /// Makes at most `turns` moves of what a node that won still holds; with nothing left the node is alone.
+    /// `OutOfMemory` comes only if no move is made.
+    pub fn drain(&mut self, turns: u64) -> R<Drained>
+        requires on_trace { MayReplay B.state B.machine self.old }
+        ensures answer { (C : Copying B.State) (drives : ℕ) (x : protocol.Node B.State) → IsNode B.state B.machine C drives self.old x
+            → calls.Drains B.machine turns x result (IsNode B.state B.machine C drives self.new) }
+        ensures unchanged { OnErr result (self.new ≡ self.old) }
+    {
+        let Node::Draining(draining) = self else {
+            return Err(Fault::WrongRole);
+        };
+        let replayed = draining.drain(turns)?;
+        if replayed.at_end {
+            self.finish();
+        }
+        Ok(Drained {
+            moves: replayed.moves,
+            alone: replayed.at_end,
+        })
+    }
+
+    // The winner of the test-and-set goes on: a primary is alone, a backup drains.
+    fn win(&mut self)
+        ensures { (C : Copying B.State) (drives : ℕ) (x : protocol.Node B.State) → x.running ≡ true → IsNode B.state B.machine C drives self.old x
+            → IsNode B.state B.machine C drives self.new (wins x) }
+    {
+        let halted = self.halted();
+        *self = match mem::replace(self, Node::Halted(halted)) {
+            Node::Primary(primary) => Node::Alone(Alone {
+                generation: primary.sender.generation(),
+                board: primary.recorder.into_board(),
+            }),
+            Node::Backup(backup) => {
+                Node::Draining(Draining::begin(backup.replayer, backup.receiver))
+            }
+            other => other,
+        };
+    }
+
+    // A node that has drained is alone.
+    fn finish(&mut self)
+        ensures { (C : Copying B.State) (drives : ℕ) (y : protocol.Node B.State) → y.role ≡ protocol.Draining → at_end y ≡ true
+            → IsNode B.state B.machine C drives self.old y → IsNode B.state B.machine C drives self.new (goes_live y) }
+    {
+        let halted = self.halted();
+        let node = mem::replace(self, Node::Halted(halted));
+        *self = match node {
+            Node::Draining(draining) => alone(draining),
+            other => other,
+        };
+    }
+}
+
+// The alone node that a drained node becomes.
+fn alone<B: Copies<H> + Drop, H: Drop>(draining: Draining<B>) -> Node<B, H>
+    ensures { (C : Copying B.State) (drives : ℕ) (y : protocol.Node B.State) → at_end y ≡ true
+        → IsFollower protocol.Draining (B.state draining.replayer.board) draining.receiver y
+        → IsNode B.state B.machine C drives result (goes_live y) }
+{
+    let generation = draining.receiver().generation();
+    match draining.finish() {
+        Ok(board) => Node::Alone(Alone { board, generation }),
+        Err((draining, _)) => Node::Draining(draining),
+    }
+}
