@@ -2,11 +2,14 @@
 -- boots and no step is counted there; nothing was sent, typed or asked; and a disk on which nothing is written has its
 -- sectors at boot. The Altair of a setup is a machine that a pair may run.
 use Rattle.std.proofs.Common.{◌≡◌, ◌∙◌, [], ◌∷◌, ◌++◌, ◌≤◌, List, None, Option, Some, ap, refl, subst, suc, sym, true, false, zero, ℕ}
-use Rattle.std.specs.Prelude.{IsSome, slice_get}
+use Rattle.std.specs.Prelude.{IsSome, IsTrue, length, slice_get}
 use Rattle.std.specs.Option.{option_map_or}
 use Rattle.arbiter_core.specs.declared.arbiter.Asking.{Asking}
+use Rattle.altair_copies.specs.Copies.{IsSetup, TheImageCopies, image_copy}
+use Rattle.disk_dcdd.specs.Address.{has_sector}
 use Rattle.disk_dcdd.specs.declared.address.SectorAddress.{SectorAddress}
 use Rattle.disk_dcdd.specs.declared.controller.TheConstants.{DRIVES}
+use Rattle.disk_dcdd.specs.declared.sector.TheConstants.{SECTOR_BYTES}
 use Rattle.guest_board.specs.Guest.{Guest, altair, guest_at_boot}
 use Rattle.guest_board.specs.Inputs.{some_altair}
 use Rattle.guest_board.specs.Machine.{Machine}
@@ -15,11 +18,11 @@ use Rattle.guest_board.specs.declared.input.Input.{Input}
 use Rattle.guest_board.specs.declared.input.Input.TheVariants.{Rx, Sector, Sent, Written}
 use Rattle.guest_board.specs.declared.setup.Setup.{Setup}
 use Rattle.guest_board.specs.MoveLaws.{guests_issue_and_complete}
-use Rattle.shared_disk.specs.Records.{HasDrives, IsUnwritten, record_at}
+use Rattle.shared_disk.specs.Records.{HasDrives, HasWholeSectors, IsUnwritten, record_at}
 use Rattle.shared_disk.specs.declared.store.Record.{Record}
 use Rattle.terminals.specs.Screen.{Screen, blank}
 use Rattle.pair_protocol.specs.Change.{AtBoot}
-use Rattle.pair_protocol.specs.Copying.{no_copies}
+use Rattle.pair_protocol.specs.Copying.{Copying, IsCopying, Makes}
 use Rattle.pair_protocol.specs.Lawful.{Lawful}
 use Rattle.pair_protocol.specs.Node.{Backup, Node, Primary, Role, first_node}
 use Rattle.altair_laws.specs.OnDisk.{StaysOnDisk}
@@ -126,10 +129,10 @@ some_of (Some a) is = (a, refl)
 some_of None is = absurd (cc)
 
 -- a disk on which nothing is written has its sectors at boot
-disk_at_boot : {B D S : Type 0} (state : B → S) (M : Machine S) (records : D → List Record) (primary backup : B)
-    (store : D) (may : MayBegin state M records primary backup store) →
-    IsDisk (machine_of M (beginning M (state primary) (records store))) may.drives (records store) []
-disk_at_boot state M records primary backup store may = record {
+disk_at_boot : {B D S : Type 0} (state : B → S) (M : Machine S) (C : Copying S) (records : D → List Record)
+    (primary backup : B) (store : D) (may : MayBegin state M C records primary backup store) →
+    IsDisk (machine_of M (beginning M C (state primary) (records store))) may.drives (records store) []
+disk_at_boot state M C records primary backup store may = record {
   there = λ address has. some_of (record_at (records store) address) (may.there address has);
   kept = λ address r at. (
     may.unwritten address r at,
@@ -138,9 +141,9 @@ disk_at_boot state M records primary backup store may = record {
 }
 
 -- the fields of a new pair show the world that it begins with
-pub shows_beginning : {B H D S : Type 0} (state : B → S) (M : Machine S) (records : D → List Record)
+pub shows_beginning : {B H D S : Type 0} (state : B → S) (M : Machine S) (C : Copying S) (records : D → List Record)
     (primary backup : B) (store disk : D) (hosts : List (Host B H)) (messages : List Message) (one two : Screen)
-    (askings : List Asking) → MayBegin state M records primary backup store →
+    (askings : List Asking) → MayBegin state M C records primary backup store →
     ((c : Course S) → state primary ≡ c.boot → state backup ≡ c.boot → M.count c.boot ≡ 0 →
     AreHosts state M hosts (opening (machine_of M c)).nodes) →
     messages ≡ [] → one ≡ blank → two ≡ blank → askings ≡ [] → disk ≡ store →
@@ -154,10 +157,10 @@ pub shows_beginning : {B H D S : Type 0} (state : B → S) (M : Machine S) (reco
       generation = 1;
       backup = 1;
     })
-    (beginning M (state primary) (records store))
-shows_beginning state M records primary backup store disk hosts messages one two askings may opened none first second
+    (beginning M C (state primary) (records store))
+shows_beginning state M C records primary backup store disk hosts messages one two askings may opened none first second
     unasked same =
-    let c = beginning M (state primary) (records store) in record {
+    let c = beginning M C (state primary) (records store) in record {
       drives = may.drives;
       machine = may.machine;
       reached = AtBoot;
@@ -168,7 +171,7 @@ shows_beginning state M records primary backup store disk hosts messages one two
             (sym (ap (λ t. t ∷ two ∷ []) first ∙ ap (λ t. blank ∷ t ∷ []) second)) blank_screens;
         winners = subst (λ list. AreWinners list []) (sym unasked) (λ generation. refl);
         disk = subst (λ d. IsDisk (machine_of M c) may.drives (records d) []) (sym same)
-            (disk_at_boot state M records primary backup store may);
+            (disk_at_boot state M C records primary backup store may);
         generation = refl;
         backup = only_backup (machine_of M c);
       };
@@ -186,8 +189,9 @@ completed_there M c s (Written number) = refl
 
 -- a machine whose operations come and go has operations that do so wherever it boots
 is_machine : {S : Type 0} (M : Machine S) (c : Course S) (drives : ℕ) → Lawful (machine_of M c) → ComesAndGoes M →
-    drives ≤ DRIVES → StaysOnDisk (machine_of M c) drives → IsMachine (machine_of M c) no_copies drives
-is_machine M c drives lawful operations within on_disk = record {
+    drives ≤ DRIVES → StaysOnDisk (machine_of M c) drives → IsCopying (machine_of M c) c.copying →
+    Makes (machine_of M c) c.copying → IsMachine (machine_of M c) c.copying drives
+is_machine M c drives lawful operations within on_disk copies makes = record {
   lawful = lawful;
   operations = record {
     comes = operations.comes;
@@ -197,24 +201,39 @@ is_machine M c drives lawful operations within on_disk = record {
   };
   drives_within = within;
   on_disk = on_disk;
-  copies = record { counted = λ moves s reaches. refl; again = λ moves s t reaches owns e. (cc) };
+  copies = copies;
+  makes = makes;
 }
 
--- two guests of one setup may begin over a disk that has its drives, and on which nothing is written
+-- a disk that has these drives, and only whole sectors, has all bytes of each of their sectors
+pub whole_at_boot : (drives : ℕ) (records : List Record) → HasDrives records drives → HasWholeSectors records →
+    (address : SectorAddress) → IsTrue (has_sector drives address) → length (bytes_in records address) ≡ SECTOR_BYTES
+whole_at_boot drives records there whole address has =
+    let r = some_of (record_at records address) (there address has) in
+    ap (λ o. length (option_map_or (λ (u : Record). u.bytes) o [])) r.1 ∙ whole address r.0 r.1
+
+-- two guests of one setup may begin over a disk that has its drives, and on which nothing is written; they are copied by
+-- their images
 pub altairs_may_begin : {B D : Type 0} (state : B → Guest) (records : D → List Record) (setup : Setup)
     (primary backup : B) (store : D) →
     ((setup : Setup) (sectors : SectorAddress → List ℕ) → Lawful (altair setup sectors)) →
     ((setup : Setup) (sectors : SectorAddress → List ℕ) → StaysOnDisk (altair setup sectors) setup.drives) →
-    setup.drives ≤ DRIVES → state primary ≡ guest_at_boot setup → state backup ≡ guest_at_boot setup →
+    TheImageCopies → IsSetup setup (bytes_in (records store)) → setup.drives ≤ DRIVES →
+    state primary ≡ guest_at_boot setup → state backup ≡ guest_at_boot setup →
     HasDrives (records store) setup.drives → IsUnwritten (records store) →
-    MayBegin state some_altair records primary backup store
-altairs_may_begin state records setup primary backup store lawful on_disk within first second there unwritten =
-    let sectors = bytes_in (records store) in record {
+    MayBegin state some_altair (image_copy (state primary).devices.disk.attached) records primary backup store
+altairs_may_begin state records setup primary backup store lawful on_disk copies is within first second there unwritten =
+    let sectors = bytes_in (records store) in
+    let copied = copies setup sectors is in record {
       drives = setup.drives;
       machine = subst
-          (λ s. IsMachine (machine_of some_altair (beginning some_altair s (records store))) no_copies setup.drives) (sym first)
-          (is_machine some_altair (beginning some_altair (guest_at_boot setup) (records store)) setup.drives
-          (lawful setup sectors) guests_issue_and_complete within (on_disk setup sectors));
+          (λ (s : Guest). IsMachine
+          (machine_of some_altair (beginning some_altair (image_copy s.devices.disk.attached) s (records store)))
+          (image_copy s.devices.disk.attached) setup.drives)
+          (sym first)
+          (is_machine some_altair
+          (beginning some_altair (image_copy setup.drives) (guest_at_boot setup) (records store)) setup.drives
+          (lawful setup sectors) guests_issue_and_complete within (on_disk setup sectors) copied.0 copied.1);
       alike = second ∙ sym first;
       there = there;
       unwritten = unwritten;

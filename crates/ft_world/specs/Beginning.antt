@@ -3,7 +3,7 @@ use Rattle.std.specs.Prelude.{◌≡◌, ℕ, List, []}
 use Rattle.std.specs.Option.{option_map_or}
 use Rattle.disk_dcdd.specs.declared.address.SectorAddress.{SectorAddress}
 use Rattle.guest_board.specs.Machine.{Machine}
-use Rattle.pair_protocol.specs.Copying.{no_copies}
+use Rattle.pair_protocol.specs.Copying.{Copying}
 use Rattle.pair_protocol.specs.World.{opening}
 use Rattle.shared_disk.specs.Records.{HasDrives, IsUnwritten, record_at}
 use Rattle.shared_disk.specs.declared.store.Record.{Record}
@@ -13,20 +13,20 @@ use Rattle.ft_world.specs.Standing.{Course, IsMachine, machine_of}
 abbrev pub bytes_in : List Record → SectorAddress → List ℕ
 bytes_in records address = option_map_or (λ (r : Record). r.bytes) (record_at records address) []
 
--- the world that a pair begins with, if its machine is in the state s; it is not copied
-abbrev pub beginning : {S : Type 0} → Machine S → S → List Record → Course S
-beginning M s records = record {
+-- the world that a pair begins with, if its machine is in the state s and is copied so
+abbrev pub beginning : {S : Type 0} → Machine S → Copying S → S → List Record → Course S
+beginning M C s records = record {
   boot = s;
   sectors = bytes_in records;
-  copying = no_copies;
+  copying = C;
   world = opening (record M { boot = s; boot_sector = bytes_in records });
 }
 
--- a pair may begin with these guests and this disk
-pub record MayBegin {B D S : Type 0} (state : B → S) (M : Machine S) (records : D → List Record) (primary backup : B)
-    (store : D) : Type 0 where
+-- a pair may begin with these guests and this disk, and its machine may be copied so
+pub record MayBegin {B D S : Type 0} (state : B → S) (M : Machine S) (C : Copying S) (records : D → List Record)
+    (primary backup : B) (store : D) : Type 0 where
   pub drives : ℕ
-  pub machine : IsMachine (machine_of M (beginning M (state primary) (records store))) no_copies drives
+  pub machine : IsMachine (machine_of M (beginning M C (state primary) (records store))) C drives
   pub alike : state backup ≡ state primary
   pub there : HasDrives (records store) drives
   pub unwritten : IsUnwritten (records store)

@@ -3,7 +3,7 @@ use Rattle.std.specs.Prelude.{ℕ, ◌≤◌, List}
 use Rattle.disk_dcdd.specs.declared.address.SectorAddress.{SectorAddress}
 use Rattle.disk_dcdd.specs.declared.controller.TheConstants.{DRIVES}
 use Rattle.guest_board.specs.Machine.{Machine}
-use Rattle.pair_protocol.specs.Copying.{Copying, IsCopying}
+use Rattle.pair_protocol.specs.Copying.{Copying, IsCopying, Makes}
 use Rattle.pair_protocol.specs.Lawful.{Lawful}
 use Rattle.altair_laws.specs.OnDisk.{StaysOnDisk}
 use Rattle.pair_protocol.specs.World.{World}
@@ -27,3 +27,4 @@ pub record IsMachine {S : Type 0} (M : Machine S) (C : Copying S) (drives : ℕ)
   pub drives_within : drives ≤ DRIVES
   pub on_disk : StaysOnDisk M drives
   pub copies : IsCopying M C
+  pub makes : Makes M C

@@ -1,14 +1,16 @@
 //! A pair of Altairs.
-ghost use Rattle.std.specs.Prelude.{◌≡◌, IfErr, IfOk, OnOk};
+ghost use Rattle.std.specs.Prelude.{◌≡◌, ◌<◌, ◌^◌, IfErr, IfOk, OnOk, length};
+ghost use Rattle.altair_copies.specs.Copies.{image_copy};
 ghost use Rattle.guest_board.specs.Guest.{guest_at_boot};
 ghost use Rattle.guest_board.specs.Inputs.{some_altair};
 ghost use Rattle.i8080_words.specs.declared.refusal.Fault.TheVariants.{OutOfMemory};
-ghost use Rattle.shared_disk.specs.Records.{HasDrives, IsUnwritten};
+ghost use Rattle.shared_disk.specs.Records.{HasDrives, HasWholeSectors, IsUnwritten};
 ghost use Rattle.ft_world.specs.Applies.{IsFaithful, Shows};
 ghost use Rattle.ft_world.specs.Beginning.{beginning};
 
 use crate::room::Room;
 use crate::world::World;
+use altair_copies::the_image_copies;
 use altair_laws::{altairs_are_lawful, altairs_stay_on_their_disks};
 use event_callbacks::{Callbacks, Completes};
 use guest_board::{Board, BoardMemory, Setup};
@@ -21,8 +23,8 @@ impl<T: Completes + Drop, S: Completes + Drop, W: Completes + Drop, D: SectorSto
     D,
     Callbacks<T, S, W>,
 > {
-    /// A pair of Altairs of this setup begins, over a disk that has the setup's drives and is unwritten. `OutOfMemory`
-    /// hands the disk's store and the closures back.
+    /// A pair of Altairs of this setup begins, over a disk that has the setup's drives and is unwritten. An Altair is
+    /// copied by its image. `OutOfMemory` hands the disk's store and the closures back.
     pub fn boot(
         alloc: Global,
         setup: &Setup,
@@ -32,14 +34,17 @@ impl<T: Completes + Drop, S: Completes + Drop, W: Completes + Drop, D: SectorSto
     ) -> Result<Self, (D, Callbacks<T, S, W>, Callbacks<T, S, W>, Fault)>
         requires drives { HasDrives (D.records store) setup.now.drives }
         requires unwritten { IsUnwritten (D.records store) }
+        requires whole { HasWholeSectors (D.records store) }
         ensures ok { IfOk result (λ world. Shows (λ board. board.guest) some_altair D.records world
-            (beginning some_altair (guest_at_boot setup.now) (D.records store))) }
+            (beginning some_altair (image_copy setup.now.drives) (guest_at_boot setup.now) (D.records store))) }
         ensures faithful { OnOk result (IsFaithful some_altair
-            (beginning some_altair (guest_at_boot setup.now) (D.records store))) }
+            (beginning some_altair (image_copy setup.now.drives) (guest_at_boot setup.now) (D.records store))) }
         ensures full { IfErr result (λ refused. refused ≡ (store, primary, backup, OutOfMemory)) }
     {
         altairs_are_lawful();
         altairs_stay_on_their_disks();
+        the_image_copies();
+        sizes(&setup.levels, setup.sense);
         let (Ok(first), Ok(second), Ok(room)) = (
             BoardMemory::of(alloc, setup),
             BoardMemory::of(alloc, setup),
@@ -52,3 +57,9 @@ impl<T: Completes + Drop, S: Completes + Drop, W: Completes + Drop, D: SectorSto
         Ok(World::begin_in(alloc, room, primary, backup, store))
     }
 }
+
+// The levels and the switches of a setup have the sizes of their types.
+fn sizes(levels: &[u8; 3], sense: u8)
+    ensures levels { length levels.now ≡ 3 }
+    ensures sense { sense < 2 ^ 8 }
+{}

@@ -1,6 +1,7 @@
 //! A pair with everything that it shares, how it begins, and the events that come to it.
 ghost use Rattle.std.specs.Prelude.{◌≡◌, ◌+◌, [], ◌∷◌, ◌++◌, length, IfErr, IfOk, OnErr, OnOk};
 ghost use Rattle.i8080_words.specs.declared.refusal.Fault.TheVariants.{OutOfMemory};
+ghost use Rattle.pair_protocol.specs.Copying.{Copying};
 ghost use Rattle.pair_protocol.specs.World.{with_host};
 ghost use Rattle.ft_world.specs.Applies.{Happens, IsFaithful, Runs, Shows, ShowsSome};
 ghost use Rattle.ft_world.specs.Applies.{failures_over, failures_told};
@@ -44,9 +45,10 @@ impl<B: Lockstep + Drop, D: SectorStore, H: Drop> Pair<B, D, H> {
         backup: B,
         store: D,
     ) -> Pair<B, D, H>
-        requires may { MayBegin B.state B.machine D.records primary backup store }
+        ghost copying: { Copying B.State }
+        requires may { MayBegin B.state B.machine copying D.records primary backup store }
         ensures { Shows B.state B.machine D.records (running_of result)
-            (beginning B.machine (B.state primary) (D.records store)) }
+            (beginning B.machine copying (B.state primary) (D.records store)) }
     {
         Pair {
             hosts: room.begin(alloc, primary, backup),

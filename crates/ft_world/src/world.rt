@@ -36,6 +36,7 @@ impl<B: Lockstep + Drop, D: SectorStore, H: Drop> World<B, D, H> {
     ghost use Rattle.std.specs.Prelude.{◌≡◌, ◌+◌, [], ◌∷◌, ◌++◌, length, IfErr, IfOk, OnErr, OnOk, option_map, slice_get};
     ghost use Rattle.disk_dcdd.specs.declared.address.SectorAddress.{SectorAddress};
     ghost use Rattle.i8080_words.specs.declared.refusal.Fault.TheVariants.{OutOfMemory};
+    ghost use Rattle.pair_protocol.specs.Copying.{Copying};
     ghost use Rattle.pair_protocol.specs.World.{accepted, terminal, winner_in, with_host};
     ghost use Rattle.pair_protocol.specs.Settled.{Settled, highest};
     ghost use Rattle.shared_disk.specs.Records.{faults_in, refusal_at};
@@ -48,14 +49,16 @@ impl<B: Lockstep + Drop, D: SectorStore, H: Drop> World<B, D, H> {
     ghost use Rattle.ft_world.specs.Words.{IsMessage};
     ghost use Rattle.ft_world.specs.declared.host.Host.TheVariants as host;
 
-    /// A pair begins: nodes 0 and 1 are primary and backup of generation 1, and both guests are in the same state.
-    /// `OutOfMemory` hands the guests and the disk's store back.
+    /// A pair begins: nodes 0 and 1 are primary and backup of generation 1, and both guests are in the same state. It
+    /// shows that world for whatever copying its machine may have. `OutOfMemory` hands the guests and the disk's store
+    /// back.
     pub fn begin(alloc: Global, primary: B, backup: B, store: D) -> Result<Self, (B, B, D, Fault)>
-        requires may { MayBegin B.state B.machine D.records primary backup store }
+        ghost copying: { Copying B.State }
+        requires may { MayBegin B.state B.machine copying D.records primary backup store }
         ensures ok { IfOk result (λ world. Shows B.state B.machine D.records world
-            (beginning B.machine (B.state primary) (D.records store))) }
+            (beginning B.machine copying (B.state primary) (D.records store))) }
         ensures faithful { OnOk result (IsFaithful B.machine
-            (beginning B.machine (B.state primary) (D.records store))) }
+            (beginning B.machine copying (B.state primary) (D.records store))) }
         ensures full { IfErr result (λ refused. refused ≡ (primary, backup, store, OutOfMemory)) }
     {
         let Ok(room) = Room::new(alloc) else {
@@ -66,10 +69,12 @@ impl<B: Lockstep + Drop, D: SectorStore, H: Drop> World<B, D, H> {
 
     // A pair begins, in memory that was allocated for it.
     pub(crate) fn begin_in(alloc: Global, room: Room<B, H>, primary: B, backup: B, store: D) -> Self
-        requires may { MayBegin B.state B.machine D.records primary backup store }
+        ghost copying: { Copying B.State }
+        requires may { MayBegin B.state B.machine copying D.records primary backup store }
         ensures shows { Shows B.state B.machine D.records result
-            (beginning B.machine (B.state primary) (D.records store)) }
-        ensures faithful { IsFaithful B.machine (beginning B.machine (B.state primary) (D.records store)) }
+            (beginning B.machine copying (B.state primary) (D.records store)) }
+        ensures faithful { IsFaithful B.machine
+            (beginning B.machine copying (B.state primary) (D.records store)) }
     {
         World {
             pair: Pair::begin(alloc, room, primary, backup, store),
