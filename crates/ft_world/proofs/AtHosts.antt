@@ -15,11 +15,10 @@ use Rattle.pair_protocol.specs.World.{World}
 use Rattle.pair_protocol.proofs.Traces.Lists.{get_set, same_or_not, get_set_other}
 use Rattle.pair_protocol.proofs.OneNode.{set_get}
 use Rattle.ft_node.specs.Calls.{Ask, SuspectsOf, Suspects, Call, Gives, Makes, Unless}
-use Rattle.ft_node.specs.Seats.{IsNode}
 use Rattle.ft_world.specs.Applies.{Shows}
 use Rattle.ft_world.specs.Lending.{HasNoNode, WithStation}
 use Rattle.ft_world.specs.Running.{Running}
-use Rattle.ft_world.specs.Shows.{Agree, AreHosts, IsHost, IsStation}
+use Rattle.ft_world.specs.Shows.{Agree, AreHosts, IsHost, IsStation, IsUncopied}
 use Rattle.ft_world.specs.Standing.{Course}
 use Rattle.ft_world.specs.declared.host.Host.{Host}
 use Rattle.ft_world.specs.declared.host.Host.TheVariants as host
@@ -202,7 +201,7 @@ module _ {B H D S : Type 0} {state : B → S} {M : Machine S} {records : D → L
   -- a node is asked
   pub asks_node : {A : Type 0} {n : ℕ} {here : Station B} {part : Node S → Option Fault} {needs : Node S → Type 0}
       {says : A → Node S → Type 0} {result : Result A Fault} → slice_get old.hosts n ≡ Some (host.Node here)
-      → ((x : Node S) → IsNode state M here.node x → Ask (part x) needs says x result)
+      → ((x : Node S) → IsUncopied state M here.node x → Ask (part x) needs says x result)
       → AsksNode c.world n part needs says result
   asks_node {A} {n} {here} {part} {needs} {says} {result} at answers = record {
     answer =

@@ -19,7 +19,7 @@ use Rattle.pair_protocol.proofs.Booted.{Drained-booted, IsBehind-booted, IsOnTra
 use Rattle.pair_protocol.proofs.Promises.NodeStands.{nodes_stand}
 use Rattle.ft_node.specs.Calls.{DrainedBy, Never, ReplayedBy, SteppedBy}
 use Rattle.ft_node.specs.Roles.{IsFollower}
-use Rattle.ft_node.specs.Seats.{IsNode, MayReplay}
+use Rattle.ft_node.specs.Seats.{MayReplay}
 use Rattle.ft_node.specs.declared.node.Node as code
 use Rattle.ft_node.specs.declared.node.Node.TheVariants as seat
 use Rattle.ft_node.specs.declared.ran.Drained.{Drained}
@@ -28,7 +28,7 @@ use Rattle.ft_world.specs.Applies.{Applies, Shows, ShowsSome}
 use Rattle.ft_world.proofs.AtHosts.{AtHost}
 use Rattle.ft_world.specs.declared.station.Station.{Station}
 use Rattle.ft_world.specs.Running.{Running}
-use Rattle.ft_world.specs.Shows.{IsHost}
+use Rattle.ft_world.specs.Shows.{IsHost, IsUncopied}
 use Rattle.ft_world.specs.Standing.{Course, machine_of}
 use Rattle.ft_world.specs.Words.{reply_of}
 use Rattle.pair_events.specs.declared.event.Event.TheVariants as event
@@ -55,10 +55,11 @@ follows {S = S} state M records old c n x role s r h there replays is =
 
 may_replay : {B H D S : Type 0} (state : B → S) (M : Machine S) (records : D → List Record) (old : Running B H D)
     (c : Course S) (n : ℕ) (x : Node S) (node : code.Node B) → Shows state M records old c →
-    slice_get c.world.nodes n ≡ Some x → IsNode state M node x → MayReplay state M node
+    slice_get c.world.nodes n ≡ Some x → IsUncopied state M node x → MayReplay state M node
 may_replay state M records old c n x (seat.Primary p) h there is = tt
 may_replay state M records old c n x (seat.Backup b) h there is =
     follows state M records old c n x Backup (state b.replayer.board) b.receiver h there (inl refl) is
+may_replay state M records old c n x (seat.Joining j) h there is = tt
 may_replay state M records old c n x (seat.Draining d) h there is =
     follows state M records old c n x Draining (state d.replayer.board) d.receiver h there (inr refl) is
 may_replay state M records old c n x (seat.Alone a) h there is = tt

@@ -30,11 +30,11 @@ use Rattle.pair_protocol.specs.Settled.{is_backup}
 use Rattle.pair_protocol.specs.World.{no_terminal, opening}
 use Rattle.pair_protocol.proofs.Traces.Lists.{same_some}
 use Rattle.ft_node.specs.Calls.{Begins}
-use Rattle.ft_node.specs.Seats.{IsNode}
 use Rattle.ft_node.specs.declared.node.Node as code
+use Rattle.ft_node.specs.Roles.{count_of}
 use Rattle.ft_world.specs.Applies.{Shows}
 use Rattle.ft_world.specs.Beginning.{MayBegin, beginning, bytes_in}
-use Rattle.ft_world.specs.Shows.{Agree, AreHosts, AreMessages, AreTerminals, AreWinners, IsDisk, IsHost, IsOnlyBackup, IsStation, IsTerminal}
+use Rattle.ft_world.specs.Shows.{Agree, AreHosts, AreMessages, AreTerminals, AreWinners, IsDisk, IsHost, IsOnlyBackup, IsStation, IsTerminal, IsUncopied}
 use Rattle.ft_world.specs.Standing.{Course, IsMachine, machine_of}
 use Rattle.ft_world.specs.declared.host.Host.{Host}
 use Rattle.ft_world.specs.declared.host.Host.TheVariants as host
@@ -57,33 +57,34 @@ first_begins M c role s from = record {
   no_held = refl;
   replayed = refl;
   no_copy = refl;
+  no_image = refl;
 }
 
 -- the node of a new station is a first node in the role in which it began, in whatever state its guest boots
 begins_as : {B S : Type 0} (state : B → S) (M : Machine S) (c : Course S) (role : Role) (s : S) (node : code.Node B) →
-    ((x : Node S) → Begins M role 1 s x → IsNode state M node x) → s ≡ c.boot →
-    IsNode state M node (first_node (machine_of M c) role)
+    ((x : Node S) → Begins M role 1 s x → IsUncopied state M node x) → s ≡ c.boot →
+    IsUncopied state M node (first_node (machine_of M c) role)
 begins_as state M c role s node begins from = begins (first_node (machine_of M c) role) (first_begins M c role s from)
 
 pub primary_station : {B S : Type 0} (state : B → S) (M : Machine S) (c : Course S) (s : S) (node : code.Node B)
-    (h : Station B) → ((x : Node S) → Begins M Primary 1 s x → IsNode state M node x) → h.node ≡ node →
-    h.inputs ≡ [] → ((x : Node S) → IsNode state M node x → h.count ≡ M.count x.machine) → s ≡ c.boot →
+    (h : Station B) → ((x : Node S) → Begins M Primary 1 s x → IsUncopied state M node x) → h.node ≡ node →
+    h.inputs ≡ [] → ((x : Node S) → IsUncopied state M node x → h.count ≡ count_of M x x.role) → s ≡ c.boot →
     IsStation state M h (first_node (machine_of M c) Primary)
 primary_station state M c s node h begins is inputs count from =
     let first = begins_as state M c Primary s node begins from in record {
-      node = subst (λ n. IsNode state M n (first_node (machine_of M c) Primary)) (sym is) first;
+      node = subst (λ n. IsUncopied state M n (first_node (machine_of M c) Primary)) (sym is) first;
       inputs = inputs;
       count = count (first_node (machine_of M c) Primary) first;
       a_node = λ e. absurd (cc);
     }
 
 pub backup_station : {B S : Type 0} (state : B → S) (M : Machine S) (c : Course S) (s : S) (node : code.Node B)
-    (h : Station B) → ((x : Node S) → Begins M Backup 1 s x → IsNode state M node x) → h.node ≡ node →
-    h.inputs ≡ [] → ((x : Node S) → IsNode state M node x → h.count ≡ M.count x.machine) → s ≡ c.boot →
+    (h : Station B) → ((x : Node S) → Begins M Backup 1 s x → IsUncopied state M node x) → h.node ≡ node →
+    h.inputs ≡ [] → ((x : Node S) → IsUncopied state M node x → h.count ≡ count_of M x x.role) → s ≡ c.boot →
     M.count c.boot ≡ 0 → IsStation state M h (first_node (machine_of M c) Backup)
 backup_station state M c s node h begins is inputs count from none =
     let first = begins_as state M c Backup s node begins from in record {
-      node = subst (λ n. IsNode state M n (first_node (machine_of M c) Backup)) (sym is) first;
+      node = subst (λ n. IsUncopied state M n (first_node (machine_of M c) Backup)) (sym is) first;
       inputs = inputs;
       count = count (first_node (machine_of M c) Backup) first ∙ none;
       a_node = λ e. absurd (cc);

@@ -8,10 +8,10 @@ use Rattle.pair_protocol.specs.Node.{Node, Backup, holds}
 use Rattle.pair_protocol.specs.Settled.{list_of, count_in}
 use Rattle.pair_protocol.proofs.Traces.Moves.{inputs_of-append}
 use Rattle.ft_node.specs.Calls.{Makes}
-use Rattle.ft_node.specs.Seats.{IsNode, MayHold}
+use Rattle.ft_node.specs.Seats.{MayHold}
 use Rattle.ft_node.specs.declared.node.Node as code
 use Rattle.ft_node.specs.declared.node.Node.TheVariants as seat
-use Rattle.ft_world.specs.Shows.{IsStation}
+use Rattle.ft_world.specs.Shows.{IsStation, IsUncopied}
 use Rattle.ft_world.specs.declared.station.Station.{Station}
 
 last_count-append : (c : ℕ) (es : List Entry) (e : Entry) → last_count c (es ++ e ∷ []) ≡ count_of e
@@ -19,7 +19,7 @@ last_count-append c [] e = refl
 last_count-append c (k ∷ es) e = last_count-append (count_of k) es e
 
 held_station : {B S : Type 0} (state : B → S) (M : Machine S) (h new : Station B) (e : Entry) (x : Node S)
-    → x.role ≡ Backup → IsStation state M h x → IsNode state M new.node (holds x e)
+    → x.role ≡ Backup → IsStation state M h x → IsUncopied state M new.node (holds x e)
     → new.inputs ≡ h.inputs ++ timed_in (timed_of e) → new.count ≡ count_of e
     → IsStation state M new (holds x e)
 held_station state M h new e x role is now same c = record {
@@ -34,15 +34,16 @@ held_station state M h new e x role is now same c = record {
 
 -- a node that may hold an entry is a backup
 backs_up : {B S : Type 0} (state : B → S) (M : Machine S) (node : code.Node B) (e : Entry) (x : Node S)
-    → MayHold node e → IsNode state M node x → x.role ≡ Backup
+    → MayHold node e → IsUncopied state M node x → x.role ≡ Backup
 backs_up state M (seat.Backup b) e x may is = is.role_is
 backs_up state M (seat.Primary p) e x may is = absurd may
+backs_up state M (seat.Joining j) e x may is = absurd may
 backs_up state M (seat.Draining d) e x may is = absurd may
 backs_up state M (seat.Alone a) e x may is = absurd may
 backs_up state M (seat.Halted h) e x may is = absurd may
 
 pub holds_on : {B S : Type 0} (state : B → S) (M : Machine S) (h new : Station B) (e : Entry) (x : Node S)
-    → MayHold h.node e → IsStation state M h x → Makes x (λ x y. y ≡ holds x e) (IsNode state M new.node)
+    → MayHold h.node e → IsStation state M h x → Makes x (λ x y. y ≡ holds x e) (IsUncopied state M new.node)
     → new.inputs ≡ h.inputs ++ timed_in (timed_of e) → new.count ≡ count_of e
     → Makes x (λ x y. y ≡ holds x e) (IsStation state M new)
 holds_on state M h new e x may is made same c = record {
@@ -50,5 +51,5 @@ holds_on state M h new e x may is made same c = record {
   done = refl;
   after =
       held_station state M h new e x (backs_up state M h.node e x may is.node) is
-      (subst (IsNode state M new.node) made.done made.after) same c;
+      (subst (IsUncopied state M new.node) made.done made.after) same c;
 }

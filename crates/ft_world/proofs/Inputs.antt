@@ -8,10 +8,10 @@ use Rattle.pair_protocol.specs.Change.{Serving}
 use Rattle.pair_protocol.specs.Effects.{Took, took}
 use Rattle.pair_protocol.specs.Node.{Node, Role, Primary, Backup, Joining, Draining, Alone, Spare}
 use Rattle.ft_node.specs.Calls.{Makes}
-use Rattle.ft_node.specs.Seats.{IsNode, MayAccept, board_of}
+use Rattle.ft_node.specs.Seats.{MayAccept, board_of}
 use Rattle.ft_node.specs.declared.node.Node as code
 use Rattle.ft_node.specs.declared.node.Node.TheVariants as seat
-use Rattle.ft_world.specs.Shows.{IsStation}
+use Rattle.ft_world.specs.Shows.{IsStation, IsUncopied}
 use Rattle.ft_world.specs.declared.station.Station.{Station}
 use Rattle.ft_world.proofs.Keeping.{machine_count, own_inputs}
 
@@ -36,7 +36,7 @@ takes M i x s counts e Spare (inl v) = (cc)
 takes M i x s counts e Spare (inr v) = (cc)
 
 took_station : {B S : Type 0} (state : B → S) (M : Machine S) (i : Input) (h new : Station B) (x y : Node S)
-    → Serving x.role → Takes M i x y → IsStation state M h x → IsNode state M new.node y
+    → Serving x.role → Takes M i x y → IsStation state M h x → IsUncopied state M new.node y
     → new.inputs ≡ h.inputs ++ timed h.count i ∷ [] → new.count ≡ h.count → IsStation state M new y
 took_station state M i h new x y serve t is now e c =
     let later : Serving y.role = subst (λ q. Serving q) (sym t.role) serve in
@@ -51,15 +51,16 @@ took_station state M i h new x y serve t is now e c =
 
 -- a node that may accept an input serves
 serves_in : {B S : Type 0} (state : B → S) (M : Machine S) (node : code.Node B) (b : B) (x : Node S)
-    → board_of node ≡ Some b → IsNode state M node x → Serving x.role
+    → board_of node ≡ Some b → IsUncopied state M node x → Serving x.role
 serves_in state M (seat.Primary p) b x is node = inl node.role
 serves_in state M (seat.Alone a) b x is node = inr node.role
 serves_in state M (seat.Backup f) b x is node = absurd cc
+serves_in state M (seat.Joining j) b x is node = absurd cc
 serves_in state M (seat.Draining d) b x is node = absurd cc
 serves_in state M (seat.Halted h) b x is node = absurd cc
 
 pub accepts : {B S : Type 0} (state : B → S) (M : Machine S) (i : Input) (h new : Station B) (x : Node S) → Counts M
-    → MayAccept state M h.node i → IsStation state M h x → Makes x (Took M i) (IsNode state M new.node)
+    → MayAccept state M h.node i → IsStation state M h x → Makes x (Took M i) (IsUncopied state M new.node)
     → new.inputs ≡ h.inputs ++ timed h.count i ∷ [] → new.count ≡ h.count → Makes x (Took M i) (IsStation state M new)
 accepts state M i h new x counts may is made e c =
     let role = serves_in state M h.node may.board x may.takes is.node in

@@ -18,7 +18,6 @@ use Rattle.shared_disk.specs.declared.store.Record.{Record}
 use Rattle.pair_protocol.specs.Node.{Joining, Node, halts, is_role}
 use Rattle.pair_protocol.specs.Refusals.{fault_if, first_of, get_refusal}
 use Rattle.ft_node.specs.Calls.{SuspectsOf, Suspects, Never, Unless}
-use Rattle.ft_node.specs.Seats.{IsNode}
 use Rattle.ft_node.specs.declared.halted.Halted.{Halted}
 use Rattle.ft_node.specs.declared.node.Node as code
 use Rattle.ft_node.specs.declared.node.Node.TheVariants as node
@@ -30,7 +29,7 @@ use Rattle.pair_protocol.specs.Effects.{IsUnder}
 use Rattle.ft_world.specs.Lending.{WithStation}
 use Rattle.ft_world.specs.Messages.{write_of}
 use Rattle.ft_world.specs.Running.{Running}
-use Rattle.ft_world.specs.Shows.{IsHost, IsStation}
+use Rattle.ft_world.specs.Shows.{IsHost, IsStation, IsUncopied}
 use Rattle.ft_world.specs.Standing.{machine_of}
 use Rattle.ft_world.specs.Staying.{DiskFails, Except, NodeHalts, Stays}
 use Rattle.ft_world.specs.declared.host.Host.{Host}
@@ -59,9 +58,10 @@ halted_where_lost (Some winner) old new n x Is d = d.3
 
 -- a node that halts has no other role
 is_halted : {B S : Type 0} (state : B → S) (M : Machine S) (k : code.Node B) (x : Node S)
-    → IsNode state M k (halts x) → (halted : Halted) × (k ≡ node.Halted halted)
+    → IsUncopied state M k (halts x) → (halted : Halted) × (k ≡ node.Halted halted)
 is_halted state M (node.Primary p) x is = let up = is.up in (cc)
 is_halted state M (node.Backup b) x is = let up = is.up in (cc)
+is_halted state M (node.Joining j) x is = let up = is.up in (cc)
 is_halted state M (node.Draining d) x is = let up = is.up in (cc)
 is_halted state M (node.Alone a) x is = let up = is.up in (cc)
 is_halted state M (node.Halted halted) x is = (halted, refl)

@@ -12,13 +12,13 @@ use Rattle.pair_protocol.specs.World.{World}
 use Rattle.pair_protocol.proofs.Traces.Moves.{runs-append}
 use Rattle.guest_board.specs.Outstanding.{IsFrugal}
 use Rattle.ft_node.specs.Roles.{AreOfOutstanding}
-use Rattle.ft_node.specs.Seats.{IsNode, MayRun}
+use Rattle.ft_node.specs.Seats.{MayRun}
 use Rattle.ft_node.specs.declared.node.Node as code
 use Rattle.ft_node.specs.declared.node.Node.TheVariants as seat
 use Rattle.pair_protocol.proofs.Promises.NodeStands.{nodes_stand}
 use Rattle.ft_world.specs.Applies.{Shows, ShowsSome}
 use Rattle.ft_world.specs.Running.{Running}
-use Rattle.ft_world.specs.Shows.{IsHost}
+use Rattle.ft_world.specs.Shows.{IsHost, IsUncopied}
 use Rattle.ft_world.specs.Standing.{Course, IsMachine, machine_of}
 use Rattle.ft_world.specs.declared.station.Station.{Station}
 use Rattle.ft_world.specs.declared.host.Host.TheVariants as host
@@ -45,7 +45,7 @@ frugal M c drives front s machine from = λ moves t runs.
 
 may_run : {B H D S : Type 0} (state : B → S) (M : Machine S) (records : D → List Record) (old : Running B H D)
     (c : Course S) (n : ℕ) (x : Node S) (node : code.Node B) → Shows state M records old c →
-    slice_get c.world.nodes n ≡ Some x → IsNode state M node x → MayRun state M node
+    slice_get c.world.nodes n ≡ Some x → IsUncopied state M node x → MayRun state M node
 may_run state M records old c n x (seat.Primary p) h there is =
     let N = machine_of M c in
     let r = serving_runs N c.copying c.world n x h.machine.lawful h.machine.copies h.reached there (inl is.role) in (
@@ -53,6 +53,7 @@ may_run state M records old c n x (seat.Primary p) h there is =
       subst (λ s. AreOfOutstanding M s p.coverage) is.machine is.covers.outstanding,
     )
 may_run state M records old c n x (seat.Backup b) h there is = tt
+may_run state M records old c n x (seat.Joining j) h there is = tt
 may_run state M records old c n x (seat.Draining d) h there is = tt
 may_run state M records old c n x (seat.Alone a) h there is = tt
 may_run state M records old c n x (seat.Halted a) h there is = tt

@@ -17,18 +17,18 @@ use Rattle.pair_protocol.specs.Effects.{Halted, Heard, NeedsMoves, after_drain}
 use Rattle.pair_protocol.specs.Settled.{list_of, count_in}
 use Rattle.pair_protocol.proofs.RowActions.{step-serves}
 use Rattle.ft_node.specs.Calls as calls
-use Rattle.ft_node.specs.Seats.{IsNode}
 use Rattle.ft_node.specs.declared.node.Node as code
 use Rattle.ft_node.specs.declared.ran.Drained.{Drained}
 use Rattle.ft_node.specs.declared.ran.Ran.{Ran}
-use Rattle.ft_world.specs.Shows.{IsStation}
+use Rattle.ft_node.specs.Roles.{count_of}
+use Rattle.ft_world.specs.Shows.{IsStation, IsUncopied}
 use Rattle.ft_world.specs.declared.station.Station.{Station}
 use Rattle.ft_world.proofs.Answering.{Retells, asked, given, handed_on, retold, unless}
 use Rattle.ft_world.proofs.Keeping.{Kept, kept_here, advances_keep, replays_keep, heard_kept, halted_kept, same_list, same_count, serving_role, machine_count, acting_role, held_count, held_inputs}
 
 -- its node only moved, and this is the count by which it settles now
 pub moves_on : {B S : Type 0} (state : B → S) (M : Machine S) (h : Station B) (node : code.Node B) (count : ℕ)
-    (x y : Node S) → IsStation state M h x → Kept x y → IsNode state M node y → count ≡ count_in M y y.role
+    (x y : Node S) → IsStation state M h x → Kept x y → IsUncopied state M node y → count ≡ count_in M y y.role
     → IsStation state M (record h { node = node; count = count }) y
 moves_on state M h node count x y i k is e = record {
   node = is;
@@ -39,20 +39,20 @@ moves_on state M h node count x y i k is e = record {
 
 -- or it made no move that changes what it settles by
 pub stays_on : {B S : Type 0} (state : B → S) (M : Machine S) (h : Station B) (node : code.Node B) (x y : Node S)
-    → IsStation state M h x → Kept x y → count_in M y x.role ≡ count_in M x x.role → IsNode state M node y
+    → IsStation state M h x → Kept x y → count_in M y x.role ≡ count_in M x x.role → IsUncopied state M node y
     → IsStation state M (record h { node = node }) y
 stays_on state M h node x y i k e is =
     moves_on state M h node h.count x y i k is (i.count ∙ sym e ∙ ap (count_in M y) (sym k.role))
 
 pub unmoved : {B S : Type 0} (state : B → S) (M : Machine S) (h : Station B) (node : code.Node B) (x : Node S)
-    → IsStation state M h x → IsNode state M node x → IsStation state M (record h { node = node }) x
+    → IsStation state M h x → IsUncopied state M node x → IsStation state M (record h { node = node }) x
 unmoved state M h node x i is = stays_on state M h node x x i (kept_here x) refl is
 
 -- whatever the call does at the node, the station's node is another one of the same inputs and count
 pub retells : {A B S : Type 0} (state : B → S) (M : Machine S) (h : Station B) (node : code.Node B) (x : Node S)
     (o : Option Fault) (needs : Node S → Type 0) (does : A → Node S → Node S → Type 0) → IsStation state M h x
     → ((v : A) (y : Node S) → o ≡ None → does v x y → Kept x y × (count_in M y x.role ≡ count_in M x x.role))
-    → Retells o needs needs does x (IsNode state M node) (IsStation state M (record h { node = node }))
+    → Retells o needs needs does x (IsUncopied state M node) (IsStation state M (record h { node = node }))
 retells state M h node x o needs does i keeps = record {
   stays = unmoved state M h node x i;
   needing = λ w. w;
@@ -62,11 +62,11 @@ retells state M h node x o needs does i keeps = record {
 -- ---- steps
 
 pub steps_on : {B S : Type 0} (state : B → S) (M : Machine S) (turns : ℕ) (h : Station B) (node : code.Node B)
-    (ran : Ran) (x : Node S) → IsStation state M h x → calls.Steps M turns x (Ok ran) (IsNode state M node)
+    (ran : Ran) (x : Node S) → IsStation state M h x → calls.Steps M turns x (Ok ran) (IsUncopied state M node)
     → calls.Steps M turns x (Ok ran) (IsStation state M (record h { node = node; count = ran.count }))
 steps_on state M turns h node ran x i d =
     given (refusals.step_refusal M turns x) (λ x. 0 < turns) (λ x. 0 < turns) (calls.SteppedBy M turns) x
-    (IsNode state M node) (IsStation state M (record h { node = node; count = ran.count })) ran (λ y none s is.
+    (IsUncopied state M node) (IsStation state M (record h { node = node; count = ran.count })) ran (λ y none s is.
     (let k = advances_keep M s.advances in
     let serve : Serving y.role =
     subst (λ q. Serving q) (sym k.role) (serving_role x (step-serves M turns x none)) in
@@ -74,18 +74,18 @@ steps_on state M turns h node ran x i d =
 
 pub steps_not : {B S : Type 0} (state : B → S) (M : Machine S) (turns : ℕ) (h : Station B) (node : code.Node B)
     (r : Result Ran Fault) (fault : Fault) (x : Node S) → IsErrAnd r (λ k. k ≡ fault) → IsStation state M h x
-    → calls.Steps M turns x (Err fault) (IsNode state M node)
+    → calls.Steps M turns x (Err fault) (IsUncopied state M node)
     → calls.Steps M turns x r (IsStation state M (record h { node = node }))
 steps_not state M turns h node r fault x at i d =
     handed_on (refusals.step_refusal M turns x) (λ x. 0 < turns) (λ x. 0 < turns) (calls.SteppedBy M turns) x
-    (IsNode state M node) (IsStation state M (record h { node = node })) r fault at (unmoved state M h node x i)
+    (IsUncopied state M node) (IsStation state M (record h { node = node })) r fault at (unmoved state M h node x i)
     (λ w. w) d
 
 -- ---- moves of a backup
 
 pub replays_on : {B S : Type 0} (state : B → S) (M : Machine S) (turns : ℕ) (h : Station B) (node : code.Node B)
     (r : Result Replayed Fault) (x : Node S) → IsStation state M h x
-    → calls.Replays M turns x r (IsNode state M node)
+    → calls.Replays M turns x r (IsUncopied state M node)
     → calls.Replays M turns x r (IsStation state M (record h { node = node }))
 replays_on state M turns h node r x i d =
     retold r (retells state M h node x (refusals.replay_refusal x) (NeedsMoves M turns) (calls.ReplayedBy M turns) i
@@ -98,7 +98,7 @@ replays_on state M turns h node r x i d =
 
 drained_station : {B S : Type 0} (state : B → S) (M : Machine S) (h : Station B) (node : code.Node B) (count : ℕ)
     (x y : Node S) (b : Bool) → IsStation state M h x → x.role ≡ Draining → Kept x y
-    → IsNode state M node (after_drain y b) → count ≡ (if b then M.count (after_drain y b).machine else h.count)
+    → IsUncopied state M node (after_drain y b) → count ≡ (if b then count_of M (after_drain y b) (after_drain y b).role else h.count)
     → IsStation state M (record h { node = node; count = count }) (after_drain y b)
 drained_station state M h node count x y true is role k now e = record {
   node = now;
@@ -112,16 +112,16 @@ drained_station state M h node count x y false is role k now e =
 
 pub drains_on : {B S : Type 0} (state : B → S) (M : Machine S) (turns : ℕ) (h : Station B) (node : code.Node B)
     (d : Drained) (count : ℕ) (x : Node S) → IsStation state M h x
-    → calls.Drains M turns x (Ok d) (IsNode state M node)
-    → ((y : Node S) → IsNode state M node y → count ≡ (if d.alone then M.count y.machine else h.count))
+    → calls.Drains M turns x (Ok d) (IsUncopied state M node)
+    → ((y : Node S) → IsUncopied state M node y → count ≡ (if d.alone then count_of M y y.role else h.count))
     → calls.Drains M turns x (Ok d) (IsStation state M (record h { node = node; count = count }))
 drains_on {B} {S} state M turns h node d count x is r counted =
     given (refusals.drain_refusal x) (NeedsMoves M turns) (NeedsMoves M turns) (calls.DrainedBy M turns) x
-    (IsNode state M node) After d (λ y none s now. (let e = s.after in
+    (IsUncopied state M node) After d (λ y none s now. (let e = s.after in
     subst (λ z. After z) (sym e)
     (drained_station state M h node count x s.z d.alone is (acting_role x Draining none)
-    (replays_keep M s.replayed.moves) (subst (λ z. IsNode state M node z) e now)
-    (counted (after_drain s.z d.alone) (subst (λ z. IsNode state M node z) e now))))) r
+    (replays_keep M s.replayed.moves) (subst (λ z. IsUncopied state M node z) e now)
+    (counted (after_drain s.z d.alone) (subst (λ z. IsUncopied state M node z) e now))))) r
   where
     After : Node S → Type 0
     After y = IsStation state M (record h { node = node; count = count }) y
@@ -129,15 +129,15 @@ drains_on {B} {S} state M turns h node d count x is r counted =
 -- ---- an acknowledgement, a halt
 
 pub hears_on : {B S : Type 0} (state : B → S) (M : Machine S) (p : Option Packet) (h : Station B) (node : code.Node B)
-    (r : Result ℕ Fault) (x : Node S) → IsStation state M h x → calls.DeliversAcknowledgement p x r (IsNode state M node)
+    (r : Result ℕ Fault) (x : Node S) → IsStation state M h x → calls.DeliversAcknowledgement p x r (IsUncopied state M node)
     → calls.DeliversAcknowledgement p x r (IsStation state M (record h { node = node }))
 hears_on {B} {S} state M p h node r x i d = go p d
   where
-    none : (o : Option Fault) → calls.Unless o r (IsNode state M node x) ⊥
+    none : (o : Option Fault) → calls.Unless o r (IsUncopied state M node x) ⊥
         → calls.Unless o r (IsStation state M (record h { node = node }) x) ⊥
     none o = unless o r _ _ ⊥ ⊥ (unmoved state M h node x i) (λ no. no)
 
-    go : (p : Option Packet) → calls.DeliversAcknowledgement p x r (IsNode state M node)
+    go : (p : Option Packet) → calls.DeliversAcknowledgement p x r (IsUncopied state M node)
         → calls.DeliversAcknowledgement p x r (IsStation state M (record h { node = node }))
     go None d = none _ d
     go (Some (Log generation index e)) d = none _ d
@@ -146,7 +146,7 @@ hears_on {B} {S} state M p h node r x i d = go p d
         (let k = heard_kept x y held 0 v s in (k, same_count M x y x.role k (ap (λ (z : Node S). z.machine) s.1))))) d
 
 pub stops_on : {B S : Type 0} (state : B → S) (M : Machine S) (h : Station B) (node : code.Node B)
-    (r : Result (Unit {0}) Fault) (x : Node S) → IsStation state M h x → calls.Stops x r (IsNode state M node)
+    (r : Result (Unit {0}) Fault) (x : Node S) → IsStation state M h x → calls.Stops x r (IsUncopied state M node)
     → calls.Stops x r (IsStation state M (record h { node = node }))
 stops_on {B} {S} state M h node r x i d = retold r
     (retells state M h node x (refusals.stop_refusal x) calls.Never (λ done. Halted) i (λ v y free s.
@@ -180,13 +180,13 @@ won_a_node Spare f s = f s
 
 pub suspects_on : {B S : Type 0} (state : B → S) (M : Machine S) (h : Station B) (node : code.Node B)
     (old new : List Asking) (n : ℕ) (r : Result Won Fault) (x : Node S) → IsStation state M h x
-    → calls.Suspects old n x r new (IsNode state M node)
+    → calls.Suspects old n x r new (IsUncopied state M node)
     → calls.Suspects old n x r new (IsStation state M (record h { node = node }))
 suspects_on {B} {S} state M h node old new n r x is d =
-    unless (refusals.suspect_refusal x) r (IsNode state M node x × (new ≡ old)) (After x × (new ≡ old))
-    (calls.SuspectsOf (winner_of old x.generation) old n x r new (IsNode state M node))
+    unless (refusals.suspect_refusal x) r (IsUncopied state M node x × (new ≡ old)) (After x × (new ≡ old))
+    (calls.SuspectsOf (winner_of old x.generation) old n x r new (IsUncopied state M node))
     (calls.SuspectsOf (winner_of old x.generation) old n x r new After) (λ p. (unmoved state M h node x is p.0, p.1))
-    (λ a. asked (winner_of old x.generation) old n x r new (IsNode state M node) After
+    (λ a. asked (winner_of old x.generation) old n x r new (IsUncopied state M node) After
     (λ p. unmoved state M h node x is p) (λ p. won p)
     (λ p. stays_on state M h node x (halts x) is halted (same_count M x (halts x) x.role halted refl) p) a) d
   where
@@ -196,7 +196,7 @@ suspects_on {B} {S} state M h node old new n r x is d =
     halted : Kept x (halts x)
     halted = record { role = refl; generation = refl; list = refl; copy = refl; start = refl; held = refl }
 
-    won : IsNode state M node (wins x) → After (wins x)
+    won : IsUncopied state M node (wins x) → After (wins x)
     won p = record {
       node = p;
       inputs = is.inputs ∙ sym (won_list x x.role);

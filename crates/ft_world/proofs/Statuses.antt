@@ -5,8 +5,9 @@ use Rattle.std.specs.Result.{result_ok}
 use Rattle.guest_board.specs.Machine.{Machine}
 use Rattle.pair_protocol.specs.Node.{Node}
 use Rattle.pair_protocol.proofs.Traces.Lists.{same_some}
-use Rattle.ft_node.specs.Seats.{IsNode, IsRole}
-use Rattle.ft_world.specs.Shows.{AreHosts, IsHost, IsStatusAt}
+use Rattle.ft_node.specs.Seats.{IsRole}
+use Rattle.ft_node.specs.Roles.{count_of}
+use Rattle.ft_world.specs.Shows.{AreHosts, IsHost, IsStatusAt, IsUncopied}
 use Rattle.ft_world.specs.declared.host.Host.{Host}
 use Rattle.ft_world.specs.declared.host.Host.TheVariants as host
 use Rattle.ft_world.specs.declared.hosts.NodeStatus.{NodeStatus}
@@ -21,9 +22,9 @@ holds_of_found P (Err fault) v e h = absurd (cc)
 pub station_shows : {B H S : Type 0} (state : B → S) (M : Machine S) (hosts : List (Host B H)) (nodes : List (Node S))
     (n : ℕ) (station : Station B) (status : NodeStatus) → AreHosts state M hosts nodes →
     slice_get hosts n ≡ Some (host.Node station) →
-    ((x : Node S) → IsNode state M station.node x → IsRole x status.role) →
-    ((x : Node S) → IsNode state M station.node x → x.generation ≡ status.generation) →
-    ((x : Node S) → IsNode state M station.node x → M.count x.machine ≡ status.count) →
+    ((x : Node S) → IsUncopied state M station.node x → IsRole x status.role) →
+    ((x : Node S) → IsUncopied state M station.node x → x.generation ≡ status.generation) →
+    ((x : Node S) → IsUncopied state M station.node x → count_of M x x.role ≡ status.count) →
     IsStatusAt M (slice_get nodes n) (Some status)
 station_shows {B} {H} state M hosts nodes n station status are at role generation count =
     let o = agree-other (IsHost {B = B} {H = H} state M) (slice_get hosts n) (slice_get nodes n) (host.Node station) at

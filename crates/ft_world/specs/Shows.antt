@@ -10,10 +10,13 @@ use Rattle.disk_dcdd.specs.Address.{has_sector}
 use Rattle.shared_disk.specs.Records.{IsAt}
 use Rattle.shared_disk.specs.declared.store.Record.{Record}
 use Rattle.terminals.specs.Screen.{Screen}
+use Rattle.pair_protocol.specs.Copying.{no_copies}
 use Rattle.pair_protocol.specs.Node.{Node, Spare}
 use Rattle.pair_protocol.specs.Settled.{list_of, count_in, is_backup}
 use Rattle.pair_protocol.specs.World as protocol
+use Rattle.ft_node.specs.Roles.{count_of}
 use Rattle.ft_node.specs.Seats.{IsNode, IsRole}
+use Rattle.ft_node.specs.declared.node.Node as code
 use Rattle.ft_world.specs.Words.{IsMessage}
 use Rattle.ft_world.specs.declared.host.Host.{Host}
 use Rattle.ft_world.specs.declared.host.Host.TheVariants as host
@@ -21,9 +24,13 @@ use Rattle.ft_world.specs.declared.hosts.NodeStatus.{NodeStatus}
 use Rattle.ft_world.specs.declared.station.Station.{Station}
 use Rattle.ft_world.specs.declared.message.Message.{Message}
 
+-- the node of the protocol that a node is; no machine of a running world is copied yet
+abbrev pub IsUncopied : {B S : Type 0} → (B → S) → Machine S → code.Node B → Node S → Type 0
+IsUncopied state M node x = IsNode state M no_copies 0 node x
+
 -- a node with its list of inputs and its count, by which it settles
 pub record IsStation {B S : Type 0} (state : B → S) (M : Machine S) (h : Station B) (x : Node S) : Type 0 where
-  pub node : IsNode state M h.node x
+  pub node : IsUncopied state M h.node x
   pub inputs : h.inputs ≡ list_of x x.role
   pub count : h.count ≡ count_in M x x.role
   pub a_node : x.role ≡ Spare → ⊥
@@ -80,7 +87,7 @@ IsOnlyBackup {S} nodes generation backup =
 pub record IsStatus {S : Type 0} (M : Machine S) (x : Node S) (status : NodeStatus) : Type 0 where
   pub role : IsRole x status.role
   pub generation : status.generation ≡ x.generation
-  pub count : status.count ≡ M.count x.machine
+  pub count : status.count ≡ count_of M x x.role
   pub a_node : x.role ≡ Spare → ⊥
 
 abbrev pub IsStatusAt : {S : Type 0} → Machine S → Option (Node S) → Option NodeStatus → Type 0

@@ -9,14 +9,14 @@ ghost use Rattle.pair_events.specs.declared.event.Event.TheVariants as happens;
 use crate::message::Message;
 use crate::pair::Pair;
 use crate::{devices, hosts, messages};
+use clone_state::Copies;
 use disk_dcdd::{SECTORS, SectorAddress};
 use event_callbacks::{OpId, PORTS};
-use guest_board::Lockstep;
 use i8080_words::{Fault, R};
 use pair_events::Reply;
 use shared_disk::SectorStore;
 
-impl<B: Lockstep + Drop, D: SectorStore, H: Drop> Pair<B, D, H> {
+impl<B: Copies + Drop, D: SectorStore, H: Drop> Pair<B, D, H> {
     /// A byte is typed at the terminal of a port.
     pub(crate) fn type_byte(&mut self, port: u8, byte: u8) -> R<Reply>
         ensures row { Happens B.state B.machine D.records (running_of self.old) (happens.TypeByte port byte) result

@@ -8,16 +8,17 @@ ghost use Rattle.ft_world.specs.contracts.station.Station as the_station;
 ghost use Rattle.ft_world.specs.declared.host.Host.TheVariants as host;
 
 use crate::station::Station;
+use clone_state::Copies;
 use i8080_words::{Fault, R};
 
 /// A host: a node of the pair, or one that has no role yet, with the resources for a machine that is copied there.
 #[derive(Drop)]
-pub enum Host<B, H> {
+pub enum Host<B: Copies, H> {
     Node(Station<B>),
     Spare(H),
 }
 
-impl<B: Drop, H: Drop> Host<B, H> {
+impl<B: Copies + Drop, H: Drop> Host<B, H> {
     // The station, if this is a node; `Unknown` if it is a spare host.
     pub(crate) fn station_mut(&mut self) -> R<&mut Station<B>>
         ensures* lends { sem 𝓛 (LendsIfOk (the_host.the_row B.row H.row) (the_station.the_row B.row) self.entry result

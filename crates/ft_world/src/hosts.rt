@@ -10,7 +10,7 @@ ghost use Rattle.ft_world.specs.declared.host.Host.TheVariants as host;
 
 use crate::host::Host;
 use crate::station::Station;
-use guest_board::Lockstep;
+use clone_state::Copies;
 use guest_trace::Timed;
 use i8080_words::{Fault, R};
 use pair_events::Role;
@@ -26,7 +26,7 @@ pub struct NodeStatus {
 }
 
 /// The station of a node, for an event that comes to it. `Unknown` if no node has this number.
-pub(crate) fn station_mut<B: Lockstep + Drop, H: Drop>(
+pub(crate) fn station_mut<B: Copies + Drop, H: Drop>(
     hosts: &mut Vec<Host<B, H>>,
     node: u64,
 ) -> R<&mut Station<B>>
@@ -42,7 +42,7 @@ pub(crate) fn station_mut<B: Lockstep + Drop, H: Drop>(
 }
 
 /// The station of a node, to look at. `Unknown` if no node has this number.
-pub(crate) fn station<B: Lockstep + Drop, H: Drop>(
+pub(crate) fn station<B: Copies + Drop, H: Drop>(
     hosts: &Vec<Host<B, H>>,
     node: u64,
 ) -> R<&Station<B>>
@@ -57,7 +57,7 @@ pub(crate) fn station<B: Lockstep + Drop, H: Drop>(
 }
 
 /// What a node shows of itself; `None` if no node has this number.
-pub(crate) fn status<B: Lockstep + Drop, H: Drop>(
+pub(crate) fn status<B: Copies + Drop, H: Drop>(
     hosts: &Vec<Host<B, H>>,
     node: u64,
 ) -> Option<NodeStatus>
@@ -73,7 +73,7 @@ pub(crate) fn status<B: Lockstep + Drop, H: Drop>(
 }
 
 /// The inputs of a node, and the count up to which they settle it; no input and 0 if no node has this number.
-pub(crate) fn settled<B: Lockstep + Drop, H: Drop>(
+pub(crate) fn settled<B: Copies + Drop, H: Drop>(
     hosts: &Vec<Host<B, H>>,
     node: u64,
 ) -> (&[Timed], u64)

@@ -8,13 +8,13 @@ ghost use Rattle.pair_events.specs.declared.event.Event.TheVariants as happens;
 use crate::message::Message;
 use crate::pair::Pair;
 use crate::{devices, hosts, messages};
-use guest_board::Lockstep;
+use clone_state::Copies;
 use i8080_words::{Fault, R};
 use pair_events::Reply;
 use shared_disk::SectorStore;
 use std::alloc::Global;
 
-impl<B: Lockstep + Drop, D: SectorStore, H: Drop> Pair<B, D, H> {
+impl<B: Copies + Drop, D: SectorStore, H: Drop> Pair<B, D, H> {
     /// The machine of a primary or alone node makes at most this many steps.
     pub(crate) fn step(&mut self, node: u64, turns: u64) -> R<Reply>
         requires shown { ShowsSome B.state B.machine D.records (running_of self.old) }

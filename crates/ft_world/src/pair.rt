@@ -15,8 +15,8 @@ use crate::host::Host;
 use crate::message::Message;
 use crate::room::Room;
 use arbiter_core::Arbiter;
+use clone_state::Copies;
 use event_callbacks::PORTS;
-use guest_board::Lockstep;
 use i8080_words::{Fault, R};
 use pair_events::{Event, Reply};
 use shared_disk::{SectorStore, SharedDisk};
@@ -26,7 +26,7 @@ use terminals::Terminal;
 /// The hosts, every message ever sent, a terminal at each port, the arbiter and the disk; also the highest generation,
 /// and the number of the node that is or is to be its backup.
 #[derive(Drop)]
-pub(crate) struct Pair<B: Lockstep + Drop, D: SectorStore, H: Drop> {
+pub(crate) struct Pair<B: Copies + Drop, D: SectorStore, H: Drop> {
     pub(crate) hosts: Vec<Host<B, H>>,
     pub(crate) messages: Vec<Message>,
     pub(crate) terminals: [Terminal; PORTS],
@@ -36,7 +36,7 @@ pub(crate) struct Pair<B: Lockstep + Drop, D: SectorStore, H: Drop> {
     pub(crate) backup: usize,
 }
 
-impl<B: Lockstep + Drop, D: SectorStore, H: Drop> Pair<B, D, H> {
+impl<B: Copies + Drop, D: SectorStore, H: Drop> Pair<B, D, H> {
     /// A pair with these guests and this disk. It allocates no further memory.
     pub(crate) fn begin(
         alloc: Global,

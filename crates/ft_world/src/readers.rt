@@ -14,13 +14,13 @@ use crate::hosts::NodeStatus;
 use crate::message::Message;
 use crate::pair::Pair;
 use crate::{devices, hosts};
+use clone_state::Copies;
 use disk_dcdd::SectorAddress;
-use guest_board::Lockstep;
 use guest_trace::Timed;
 use i8080_words::R;
 use shared_disk::{SectorRead, SectorStore};
 
-impl<B: Lockstep + Drop, D: SectorStore, H: Drop> Pair<B, D, H> {
+impl<B: Copies + Drop, D: SectorStore, H: Drop> Pair<B, D, H> {
     /// The bytes that the terminal of a port has accepted; empty if there is no such port.
     pub(crate) fn accepted(&self, port: u8) -> &[u8]
         ensures { (c : Course B.State) → Shows B.state B.machine D.records (running_of self.now) c

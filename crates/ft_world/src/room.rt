@@ -8,8 +8,8 @@ ghost use Rattle.ft_world.specs.Standing.{Course, machine_of};
 
 use crate::host::Host;
 use crate::station::Station;
+use clone_state::Copies;
 use ft_node::Node;
-use guest_board::Lockstep;
 use i8080_words::R;
 use log_buffer::LogBuffer;
 use std::alloc::Global;
@@ -24,7 +24,7 @@ pub(crate) struct Room<B, H> {
     ghost unused: { log ≡ logs.log 0 [] },
 }
 
-impl<B: Lockstep + Drop, H: Drop> Room<B, H> {
+impl<B: Copies + Drop, H: Drop> Room<B, H> {
     /// Allocates that memory.
     pub(crate) fn new(alloc: Global) -> R<Room<B, H>>
         ensures { IsOkUnless result OutOfMemory }

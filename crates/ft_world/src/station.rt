@@ -10,14 +10,16 @@ ghost use Rattle.pair_protocol.specs.Effects.{Took, NeedsEntry};
 ghost use Rattle.pair_protocol.specs.Node as protocol;
 ghost use Rattle.pair_protocol.specs.Refusals as refusals;
 ghost use Rattle.ft_node.specs.Calls as calls;
-ghost use Rattle.ft_node.specs.Seats.{IsNode, MayAccept, MayReplay, MayRun};
-ghost use Rattle.ft_world.specs.Shows.{IsStation};
+ghost use Rattle.ft_node.specs.Roles.{count_of};
+ghost use Rattle.ft_node.specs.Seats.{MayAccept, MayReplay, MayRun};
+ghost use Rattle.ft_world.specs.Shows.{IsStation, IsUncopied};
 
 use crate::input_list::Inputs;
 use arbiter_core::{Arbiter, Won};
+use clone_state::Copies;
 use disk_dcdd::{SECTOR_BYTES, SectorAddress};
 use ft_node::{Drained, Node, Ran};
-use guest_board::{Input, Lockstep};
+use guest_board::Input;
 use i8080_words::R;
 use replayer::Replayed;
 use std::alloc::Global;
@@ -25,19 +27,19 @@ use std::alloc::Global;
 /// A node with the list of inputs that its machine has taken or is to take, and the count up to which they settle it.
 /// No node reads either.
 #[derive(Drop)]
-pub struct Station<B> {
+pub struct Station<B: Copies> {
     pub(crate) node: Node<B>,
     pub(crate) inputs: Inputs,
     pub(crate) count: u64,
 }
 
-impl<B: Lockstep + Drop> Station<B> {
+impl<B: Copies + Drop> Station<B> {
     // A node that begins, with no inputs yet, settled at the count of its machine.
     pub(crate) fn new(alloc: Global, node: Node<B>) -> Station<B>
         ensures node { result.node ≡ node }
         ensures inputs { result.inputs ≡ [] }
-        ensures count { (x : protocol.Node B.State) → IsNode B.state B.machine node x
-            → result.count ≡ B.machine.count x.machine }
+        ensures count { (x : protocol.Node B.State) → IsUncopied B.state B.machine node x
+            → result.count ≡ count_of B.machine x x.role }
     {
         let count = node.count();
         Station {
@@ -49,8 +51,8 @@ impl<B: Lockstep + Drop> Station<B> {
 
     // The count by which a node settles after a drain: its machine's if it is alone now, and the same as before if not.
     fn settled_count(&self, alone: bool) -> u64
-        ensures { (x : protocol.Node B.State) → IsNode B.state B.machine self.now.node x
-            → result ≡ (if alone then B.machine.count x.machine else self.now.count) }
+        ensures { (x : protocol.Node B.State) → IsUncopied B.state B.machine self.now.node x
+            → result ≡ (if alone then count_of B.machine x x.role else self.now.count) }
     {
         if alone { self.node.count() } else { self.count }
     }

@@ -4,8 +4,8 @@ use crate::hosts::NodeStatus;
 use crate::message::Message;
 use crate::pair::Pair;
 use crate::room::Room;
+use clone_state::Copies;
 use disk_dcdd::SectorAddress;
-use guest_board::Lockstep;
 use guest_trace::Timed;
 use i8080_words::{Fault, R};
 use pair_events::{Event, Reply};
@@ -16,11 +16,11 @@ use std::marker::Model;
 /// A pair of nodes with everything that they share: every message ever sent, a terminal at each port, the arbiter, the
 /// disk.
 #[derive(Drop)]
-pub struct World<B: Lockstep + Drop, D: SectorStore, H: Drop> {
+pub struct World<B: Copies + Drop, D: SectorStore, H: Drop> {
     pair: Pair<B, D, H>,
 }
 
-impl<B: Lockstep + Drop, D: SectorStore, H: Drop> Model for World<B, D, H> {
+impl<B: Copies + Drop, D: SectorStore, H: Drop> Model for World<B, D, H> {
     ghost use Rattle.ft_world.specs.Running.{Running};
     ghost use Rattle.ft_world.specs.Applies.{ShowsSome};
     ghost use Rattle.ft_world.specs.Pairs.{running_of};
@@ -32,7 +32,7 @@ impl<B: Lockstep + Drop, D: SectorStore, H: Drop> Model for World<B, D, H> {
     ghost invariant = { λ w. ShowsSome B.state B.machine D.records (running_of w.pair) };
 }
 
-impl<B: Lockstep + Drop, D: SectorStore, H: Drop> World<B, D, H> {
+impl<B: Copies + Drop, D: SectorStore, H: Drop> World<B, D, H> {
     ghost use Rattle.std.specs.Prelude.{◌≡◌, ◌+◌, [], ◌∷◌, ◌++◌, length, IfErr, IfOk, OnErr, OnOk, option_map, slice_get};
     ghost use Rattle.disk_dcdd.specs.declared.address.SectorAddress.{SectorAddress};
     ghost use Rattle.i8080_words.specs.declared.refusal.Fault.TheVariants.{OutOfMemory};
