@@ -1,5 +1,6 @@
 -- What follows from a row at a world that is shown: the world after it is reached by actions, so it is faithful, and
 -- what was settled grows. So an event applies if its row holds and the fields show the world after it.
+use Rattle.guest_board.specs.Guest.{Guest}
 use Rattle.std.proofs.Common.{◌≡◌, Bool, Err, List, None, Ok, Some, ap, false, refl, subst, sym, true}
 use Rattle.std.specs.Prelude.{Result}
 use Rattle.std.specs.Result.{IsErrAnd}
@@ -23,20 +24,20 @@ use Rattle.pair_events.specs.declared.event.Event.{Event}
 use Rattle.pair_events.specs.declared.reply.Reply.{Reply}
 
 -- a world that is shown is faithful, since actions reach it
-pub shown_is_faithful : {B H D S : Type 0} (state : B → S) (M : Machine S) (records : D → List Record)
-    (v : Running B H D) (c : Course S) → Shows state M records v c → IsFaithful M c
-shown_is_faithful state M records v c h =
+pub shown_is_faithful : {B H D S : Type 0} (state : B → S) (copied : B → Guest) (M : Machine S) (records : D → List Record)
+    (v : Running B H D) (c : Course S) → Shows state copied M records v c → IsFaithful M c
+shown_is_faithful state copied M records v c h =
     let N = machine_of M c in
     always_faithful N c.copying h.machine.lawful h.machine.copies c.world h.reached
 
 -- an event applies if its row holds and the fields show the world after it
-pub applies : {B H D S : Type 0} (state : B → S) (M : Machine S) (records : D → List Record) (old : Running B H D)
+pub applies : {B H D S : Type 0} (state : B → S) (copied : B → Guest) (M : Machine S) (records : D → List Record) (old : Running B H D)
     (c : Course S) (e : Event) (answer : Result Reply Fault) (after : World S) (new : Running B H D) →
-    (h : Shows state M records old c) →
+    (h : Shows state copied M records old c) →
     Row (machine_of M c) c.copying c.world (event_of e) (answer_of answer) after →
     ShowsParts state M records h.drives new (record c { world = after }) →
-    Applies state M records c e answer new
-applies state M records old c e answer after new h row parts =
+    Applies state copied M records c e answer new
+applies state copied M records old c e answer after new h row parts =
     let N = machine_of M c in
     let reached : Reached N c.copying after =
     changes_reach N c.copying c.world after h.reached (row_changes N c.copying c.world after _ _ row) in
@@ -50,36 +51,36 @@ applies state M records old c e answer after new h row parts =
 
 -- An event that is refused, and leaves the world and the fields as they were.
 
-pub unchanged : {B H D S : Type 0} (state : B → S) (M : Machine S) (records : D → List Record)
-    (old new : Running B H D) (c : Course S) (e : Event) (fault : Fault) → (h : Shows state M records old c) →
+pub unchanged : {B H D S : Type 0} (state : B → S) (copied : B → Guest) (M : Machine S) (records : D → List Record)
+    (old new : Running B H D) (c : Course S) (e : Event) (fault : Fault) → (h : Shows state copied M records old c) →
     ShowsParts state M records h.drives new c →
     Row (machine_of M c) c.copying c.world (event_of e) (Refused fault) c.world →
-    Applies state M records c e (Err fault) new
-unchanged state M records old new c e fault h parts row =
-    applies state M records old c e (Err fault) c.world new h row parts
+    Applies state copied M records c e (Err fault) new
+unchanged state copied M records old new c e fault h parts row =
+    applies state copied M records old c e (Err fault) c.world new h row parts
 
-same_world : {B H D S : Type 0} (state : B → S) (M : Machine S) (records : D → List Record) (old new : Running B H D)
-    (c : Course S) (e : Event) (fault : Fault) → (h : Shows state M records old c) → new ≡ old →
+same_world : {B H D S : Type 0} (state : B → S) (copied : B → Guest) (M : Machine S) (records : D → List Record) (old new : Running B H D)
+    (c : Course S) (e : Event) (fault : Fault) → (h : Shows state copied M records old c) → new ≡ old →
     Row (machine_of M c) c.copying c.world (event_of e) (Refused fault) c.world →
-    Applies state M records c e (Err fault) new
-same_world state M records old new c e fault h same row =
-    unchanged state M records old new c e fault h
+    Applies state copied M records c e (Err fault) new
+same_world state copied M records old new c e fault h same row =
+    unchanged state copied M records old new c e fault h
     (subst (λ v. ShowsParts state M records h.drives v c) (sym same) h.parts) row
 
-pub refuses : {B H D S : Type 0} (state : B → S) (M : Machine S) (records : D → List Record) (old new : Running B H D)
-    (c : Course S) (e : Event) (fault : Fault) → Shows state M records old c → new ≡ old →
+pub refuses : {B H D S : Type 0} (state : B → S) (copied : B → Guest) (M : Machine S) (records : D → List Record) (old new : Running B H D)
+    (c : Course S) (e : Event) (fault : Fault) → Shows state copied M records old c → new ≡ old →
     refusal (machine_of M c) c.copying c.world (event_of e) ≡ Some fault →
-    Leaves c.world (event_of e) fault c.world → Applies state M records c e (Err fault) new
-refuses state M records old new c e fault h same because leaves =
-    same_world state M records old new c e fault h same (Refuses because leaves)
+    Leaves c.world (event_of e) fault c.world → Applies state copied M records c e (Err fault) new
+refuses state copied M records old new c e fault h same because leaves =
+    same_world state copied M records old new c e fault h same (Refuses because leaves)
 
-pub needs_memory : {B H D S : Type 0} (state : B → S) (M : Machine S) (records : D → List Record)
-    (old new : Running B H D) (c : Course S) (e : Event) (fault : Fault) → Shows state M records old c → new ≡ old →
+pub needs_memory : {B H D S : Type 0} (state : B → S) (copied : B → Guest) (M : Machine S) (records : D → List Record)
+    (old new : Running B H D) (c : Course S) (e : Event) (fault : Fault) → Shows state copied M records old c → new ≡ old →
     refusal (machine_of M c) c.copying c.world (event_of e) ≡ None →
-    MayNeedMemory (machine_of M c) c.world (event_of e) → fault ≡ OutOfMemory → Applies state M records c e (Err fault) new
-needs_memory state M records old new c e fault h same free takes needs =
-    subst (λ f. Applies state M records c e (Err f) new) (sym needs)
-    (same_world state M records old new c e OutOfMemory h same (NeedsMemory free takes))
+    MayNeedMemory (machine_of M c) c.world (event_of e) → fault ≡ OutOfMemory → Applies state copied M records c e (Err fault) new
+needs_memory state copied M records old new c e fault h same free takes needs =
+    subst (λ f. Applies state copied M records c e (Err f) new) (sym needs)
+    (same_world state copied M records old new c e OutOfMemory h same (NeedsMemory free takes))
 
 -- a refusal that applies, and one that does not
 pub stands : (b : Bool) (fault : Fault) → b ≡ true → fault_if b fault ≡ Some fault
@@ -89,11 +90,11 @@ pub stands_not : (b : Bool) (fault : Fault) → b ≡ false → fault_if b fault
 stands_not b fault e = ap (λ b. fault_if b fault) e
 
 -- what is shown goes on from event to event
-pub goes_on : {B H D S : Type 0} (state : B → S) (M : Machine S) (records : D → List Record) (old new : Running B H D)
-    (e : Event) (answer : Result Reply Fault) → ShowsSome state M records old →
-    ((c : Course S) → Shows state M records old c → Applies state M records c e answer new) →
-    ShowsSome state M records new
-goes_on state M records old new e answer some does =
+pub goes_on : {B H D S : Type 0} (state : B → S) (copied : B → Guest) (M : Machine S) (records : D → List Record) (old new : Running B H D)
+    (e : Event) (answer : Result Reply Fault) → ShowsSome state copied M records old →
+    ((c : Course S) → Shows state copied M records old c → Applies state copied M records c e answer new) →
+    ShowsSome state copied M records new
+goes_on state copied M records old new e answer some does =
     let a = does some.course some.shows in
     record { course = record some.course { world = a.after }; shows = a.shows }
 
@@ -103,8 +104,8 @@ handed_on (Ok x) fault h = absurd h
 handed_on (Err e) fault h = ap Err h
 
 -- the fault that a call hands on is the event's answer
-pub hands_on : {B H D S : Type 0} {state : B → S} {M : Machine S} {records : D → List Record} {c : Course S}
+pub hands_on : {B H D S : Type 0} {state : B → S} {copied : B → Guest} {M : Machine S} {records : D → List Record} {c : Course S}
     {e : Event} {new : Running B H D} (r : Result Reply Fault) (fault : Fault) → IsErrAnd r (λ k. k ≡ fault) →
-    Applies state M records c e (Err fault) new → Applies state M records c e r new
+    Applies state copied M records c e (Err fault) new → Applies state copied M records c e r new
 hands_on {state = state} {M} {records} {c} {e} {new} r fault h a =
-    subst (λ r. Applies state M records c e r new) (sym (handed_on r fault h)) a
+    subst (λ r. Applies state copied M records c e r new) (sym (handed_on r fault h)) a

@@ -1,5 +1,6 @@
 -- A write arrives at the disk: the record of its sector is the greatest that arrived there, and every other sector
 -- keeps its record. A write that was released is to a sector of the disk, so only the device itself can fail.
+use Rattle.guest_board.specs.Guest.{Guest}
 use Rattle.std.proofs.Common.{◌≡◌, [], ◌∷◌, ◌++◌, ◌∙◌, Bool, Err, List, None, Ok, Some, ap, cond, false, inl, inr, refl, subst, sym, true, ℕ}
 use Rattle.std.specs.Option.{option_and_then, option_map_or}
 use Rattle.std.specs.Prelude.{if◌then◌else◌, Option, Result, is_some, nat_lt, slice_get}
@@ -146,11 +147,11 @@ brings_none (Some (message.Written n)) q a e = absurd a
 brings_none (Some (message.Sector r)) (Some (world.SectorRead ad n bs)) a e = refl
 brings_none (Some (message.Sector r)) q a e = absurd a
 
-pub puts_unknown : {B H D S : Type 0} (state : B → S) (M : Machine S) (records : D → List Record)
+pub puts_unknown : {B H D S : Type 0} (state : B → S) (copied : B → Guest) (M : Machine S) (records : D → List Record)
     (old : Running B H D) (c : Course S) (m : ℕ) → option_and_then write_of (slice_get old.messages m) ≡ None →
-    Shows state M records old c → Applies state M records c (event.Put m) (Err Unknown) old
-puts_unknown state M records old c m brings h =
-    refuses state M records old old c (event.Put m) Unknown h refl
+    Shows state copied M records old c → Applies state copied M records c (event.Put m) (Err Unknown) old
+puts_unknown state copied M records old c m brings h =
+    refuses state copied M records old old c (event.Put m) Unknown h refl
     (brings_none (slice_get old.messages m) (slice_get c.world.messages m) (h.parts.messages.each m) brings) refl
 
 -- the disk fails, or is out of memory for its answer
@@ -158,19 +159,19 @@ pub not_put : (rs : List Record) (a : SectorAddress) (met : Record) (fault : Fau
     fault ≡ refusal_at rs a → fault ≡ DeviceFault
 not_put rs a met fault at e = e ∙ ap (λ (o : Option Record). if is_some o then DeviceFault else Unknown) at
 
-pub puts_applies : {B H D S : Type 0} (state : B → S) (M : Machine S) (records : D → List Record)
+pub puts_applies : {B H D S : Type 0} (state : B → S) (copied : B → Guest) (M : Machine S) (records : D → List Record)
     (old : Running B H D) (c : Course S) (m : ℕ) (write : SectorWrite) (answer : Result Reply Fault)
     (ms : List Message) (disk : D) → option_and_then write_of (slice_get old.messages m) ≡ Some write →
-    Shows state M records old c →
+    Shows state copied M records old c →
     PutsWrite old.messages (records old.disk) write answer ms (records disk) →
-    Applies state M records c (event.Put m) answer (record old { messages = ms; disk = disk })
-puts_applies state M records old c m write (Ok r) ms disk brings h (said, sends, after) =
+    Applies state copied M records c (event.Put m) answer (record old { messages = ms; disk = disk })
+puts_applies state copied M records old c m write (Ok r) ms disk brings h (said, sends, after) =
     let N = machine_of M c in
     let there = brings_write (slice_get old.messages m) (slice_get c.world.messages m) write
     (h.parts.messages.each m) brings in
     let on_disk = writes_on_disk N c.copying h.drives m c.world write h.machine h.reached there in
     let met = h.parts.disk.there (address_of write) on_disk in
-    applies state M records old c (event.Put m) (Ok r) (with_put c.world write)
+    applies state copied M records old c (event.Put m) (Ok r) (with_put c.world write)
     (record old { messages = ms; disk = disk }) h
     (Accepts (ap write_refusal there) (record {
       write = write;
@@ -190,7 +191,7 @@ puts_applies state M records old c m write (Ok r) ms disk brings h (said, sends,
       generation = h.parts.generation;
       backup = h.parts.backup;
     })
-puts_applies state M records old c m write (Err fault) ms disk brings h (why, same, kept) =
+puts_applies state copied M records old c m write (Err fault) ms disk brings h (why, same, kept) =
     let N = machine_of M c in
     let there = brings_write (slice_get old.messages m) (slice_get c.world.messages m) write
     (h.parts.messages.each m) brings in
@@ -203,7 +204,7 @@ puts_applies state M records old c m write (Err fault) ms disk brings h (why, sa
       | inr is ↦ subst refused (sym (not_put (records old.disk) (address_of write) met.0 fault met.1 is))
           (DeviceFails free refl)
     ] in
-    unchanged state M records old (record old { messages = ms; disk = disk }) c (event.Put m) fault h
+    unchanged state copied M records old (record old { messages = ms; disk = disk }) c (event.Put m) fault h
     (record {
       hosts = h.parts.hosts;
       messages = subst (λ l. AreMessages l c.world.messages) (sym same) h.parts.messages;

@@ -1,6 +1,7 @@
 -- A log entry arrives at a backup, and an acknowledgement at a primary. The bytes of a message spell one packet, so
 -- what the node does with that packet is what the row says of the entry, or of the acknowledgement, that was sent; a
 -- message of another kind brings neither, and is unknown.
+use Rattle.guest_board.specs.Guest.{Guest}
 use Rattle.std.proofs.Common.{◌≡◌, Bool, Err, List, None, Ok, Some, ap, cond, false, refl, subst, true, ℕ}
 use Rattle.std.specs.Option.{option_and_then}
 use Rattle.std.specs.Prelude.{Option, Result, slice_get}
@@ -77,11 +78,11 @@ no_entry (Some (message.Written n)) q here a e = absurd a
 no_entry (Some (message.Sector r)) (Some (world.SectorRead ad n bs)) here a e = refl
 no_entry (Some (message.Sector r)) q here a e = absurd a
 
-pub delivers_unknown : {B H D S : Type 0} (state : B → S) (M : Machine S) (records : D → List Record)
+pub delivers_unknown : {B H D S : Type 0} (state : B → S) (copied : B → Guest) (M : Machine S) (records : D → List Record)
     (old : Running B H D) (c : Course S) (m n : ℕ) → option_and_then log_of (slice_get old.messages m) ≡ None →
-    Shows state M records old c → Applies state M records c (event.DeliverLog m n) (Err Unknown) old
-delivers_unknown state M records old c m n brings h =
-    refuses state M records old old c (event.DeliverLog m n) Unknown h refl
+    Shows state copied M records old c → Applies state copied M records c (event.DeliverLog m n) (Err Unknown) old
+delivers_unknown state copied M records old c m n brings h =
+    refuses state copied M records old old c (event.DeliverLog m n) Unknown h refl
     (no_entry (slice_get old.messages m) (slice_get c.world.messages m) (slice_get c.world.nodes n)
     (h.parts.messages.each m) brings) refl
 
@@ -95,26 +96,26 @@ new_or_old : (new : Bool) → reply_of (cond new reply.New reply.Old) ≡ cond n
 new_or_old true = refl
 new_or_old false = refl
 
-pub delivers_refused : {B H D S : Type 0} (state : B → S) (M : Machine S) (records : D → List Record)
+pub delivers_refused : {B H D S : Type 0} (state : B → S) (copied : B → Guest) (M : Machine S) (records : D → List Record)
     (old : Running B H D) (c : Course S) (m n : ℕ) (bytes : List ℕ) (fault : Fault) (hosts : List (Host B H)) →
-    option_and_then log_of (slice_get old.messages m) ≡ Some bytes → Shows state M records old c →
+    option_and_then log_of (slice_get old.messages m) ≡ Some bytes → (h : Shows state copied M records old c) →
     ((generation index : ℕ) (e : Entry) → packet_at bytes ≡ Some (packet.Log generation index e) →
-    AtHost state M c.world n (deliver_log_refusal generation) (NeedsEntry index) (Held index e) (Err fault) hosts) →
-    Applies state M records c (event.DeliverLog m n) (Err fault) (record old { hosts = hosts })
-delivers_refused state M records old c m n bytes fault hosts brings h at =
+    AtHost state M c.copying h.drives c.world n (deliver_log_refusal generation) (NeedsEntry index) (Held index e) (Err fault) hosts) →
+    Applies state copied M records c (event.DeliverLog m n) (Err fault) (record old { hosts = hosts })
+delivers_refused state copied M records old c m n bytes fault hosts brings h at =
     let b = brings_entry (slice_get old.messages m) (slice_get c.world.messages m) bytes
     (h.parts.messages.each m) brings in
     node_refused h (event.DeliverLog m n) fault hosts (ap (λ q. at_log_entry (slice_get c.world.nodes n) q) b.message)
     (λ s. record { generation = b.generation; index = b.index; e = b.e; message = b.message; next = s }) refl
     (at b.generation b.index b.e b.spelled)
 
-pub delivers_applies : {B H D S : Type 0} (state : B → S) (M : Machine S) (records : D → List Record)
+pub delivers_applies : {B H D S : Type 0} (state : B → S) (copied : B → Guest) (M : Machine S) (records : D → List Record)
     (old : Running B H D) (c : Course S) (m n : ℕ) (bytes : List ℕ) (new : Bool) (hosts : List (Host B H)) →
-    option_and_then log_of (slice_get old.messages m) ≡ Some bytes → Shows state M records old c →
+    option_and_then log_of (slice_get old.messages m) ≡ Some bytes → (h : Shows state copied M records old c) →
     ((generation index : ℕ) (e : Entry) → packet_at bytes ≡ Some (packet.Log generation index e) →
-    AtHost state M c.world n (deliver_log_refusal generation) (NeedsEntry index) (Held index e) (Ok new) hosts) →
-    Applies state M records c (event.DeliverLog m n) (Ok (cond new reply.New reply.Old)) (record old { hosts = hosts })
-delivers_applies state M records old c m n bytes new hosts brings h at =
+    AtHost state M c.copying h.drives c.world n (deliver_log_refusal generation) (NeedsEntry index) (Held index e) (Ok new) hosts) →
+    Applies state copied M records c (event.DeliverLog m n) (Ok (cond new reply.New reply.Old)) (record old { hosts = hosts })
+delivers_applies state copied M records old c m n bytes new hosts brings h at =
     let b = brings_entry (slice_get old.messages m) (slice_get c.world.messages m) bytes
     (h.parts.messages.each m) brings in
     node_applies h (event.DeliverLog m n) (cond new reply.New reply.Old) hosts
@@ -172,11 +173,11 @@ no_acknowledgement (Some (message.Written n)) q here a e = absurd a
 no_acknowledgement (Some (message.Sector r)) (Some (world.SectorRead ad n bs)) here a e = refl
 no_acknowledgement (Some (message.Sector r)) q here a e = absurd a
 
-pub hears_unknown : {B H D S : Type 0} (state : B → S) (M : Machine S) (records : D → List Record)
+pub hears_unknown : {B H D S : Type 0} (state : B → S) (copied : B → Guest) (M : Machine S) (records : D → List Record)
     (old : Running B H D) (c : Course S) (m n : ℕ) → option_and_then ack_of (slice_get old.messages m) ≡ None →
-    Shows state M records old c → Applies state M records c (event.DeliverAcknowledgement m n) (Err Unknown) old
-hears_unknown state M records old c m n brings h =
-    refuses state M records old old c (event.DeliverAcknowledgement m n) Unknown h refl
+    Shows state copied M records old c → Applies state copied M records c (event.DeliverAcknowledgement m n) (Err Unknown) old
+hears_unknown state copied M records old c m n brings h =
+    refuses state copied M records old old c (event.DeliverAcknowledgement m n) Unknown h refl
     (no_acknowledgement (slice_get old.messages m) (slice_get c.world.messages m) (slice_get c.world.nodes n)
     (h.parts.messages.each m) brings) refl
 
@@ -185,27 +186,27 @@ pub spelled_ack : {S : Type 0} {generation held : ℕ} (bytes : List ℕ) (x : N
     DeliversAcknowledgement (packet_at bytes) x r Is → Call (deliver_acknowledgement_refusal generation held x) Never (Heard held 0) x r Is
 spelled_ack bytes x r Is spelled d = subst (λ p. DeliversAcknowledgement p x r Is) spelled d
 
-pub hears_refused : {B H D S : Type 0} (state : B → S) (M : Machine S) (records : D → List Record)
+pub hears_refused : {B H D S : Type 0} (state : B → S) (copied : B → Guest) (M : Machine S) (records : D → List Record)
     (old : Running B H D) (c : Course S) (m n : ℕ) (bytes : List ℕ) (fault : Fault) (hosts : List (Host B H)) →
-    option_and_then ack_of (slice_get old.messages m) ≡ Some bytes → Shows state M records old c →
+    option_and_then ack_of (slice_get old.messages m) ≡ Some bytes → (h : Shows state copied M records old c) →
     ((generation held : ℕ) → packet_at bytes ≡ Some (packet.Ack generation held) →
-    AtHost state M c.world n (deliver_acknowledgement_refusal generation held) Never (Heard held 0) (Err fault) hosts) →
-    Applies state M records c (event.DeliverAcknowledgement m n) (Err fault) (record old { hosts = hosts })
-hears_refused state M records old c m n bytes fault hosts brings h at =
+    AtHost state M c.copying h.drives c.world n (deliver_acknowledgement_refusal generation held) Never (Heard held 0) (Err fault) hosts) →
+    Applies state copied M records c (event.DeliverAcknowledgement m n) (Err fault) (record old { hosts = hosts })
+hears_refused state copied M records old c m n bytes fault hosts brings h at =
     let b = brings_acknowledgement (slice_get old.messages m) (slice_get c.world.messages m) bytes
     (h.parts.messages.each m) brings in
     node_refused h (event.DeliverAcknowledgement m n) fault hosts
     (ap (λ q. at_acknowledgement (slice_get c.world.nodes n) q) b.message) (λ never. absurd never.said) refl
     (at b.generation b.held b.spelled)
 
-pub hears_applies : {B H D S : Type 0} (state : B → S) (M : Machine S) (records : D → List Record)
+pub hears_applies : {B H D S : Type 0} (state : B → S) (copied : B → Guest) (M : Machine S) (records : D → List Record)
     (old : Running B H D) (c : Course S) (m n : ℕ) (bytes : List ℕ) (covered : ℕ) (hosts : List (Host B H)) →
-    option_and_then ack_of (slice_get old.messages m) ≡ Some bytes → Shows state M records old c →
+    option_and_then ack_of (slice_get old.messages m) ≡ Some bytes → (h : Shows state copied M records old c) →
     ((generation held : ℕ) → packet_at bytes ≡ Some (packet.Ack generation held) →
-    AtHost state M c.world n (deliver_acknowledgement_refusal generation held) Never (Heard held 0) (Ok covered) hosts) →
-    Applies state M records c (event.DeliverAcknowledgement m n) (Ok (reply.Held covered))
+    AtHost state M c.copying h.drives c.world n (deliver_acknowledgement_refusal generation held) Never (Heard held 0) (Ok covered) hosts) →
+    Applies state copied M records c (event.DeliverAcknowledgement m n) (Ok (reply.Held covered))
     (record old { hosts = hosts })
-hears_applies state M records old c m n bytes covered hosts brings h at =
+hears_applies state copied M records old c m n bytes covered hosts brings h at =
     let b = brings_acknowledgement (slice_get old.messages m) (slice_get c.world.messages m) bytes
     (h.parts.messages.each m) brings in
     node_applies h (event.DeliverAcknowledgement m n) (reply.Held covered) hosts

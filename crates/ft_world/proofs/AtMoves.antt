@@ -2,6 +2,7 @@
 -- recorded run, as at every node of a world that actions reach; so its calls may be made. Its moves keep its generation
 -- and its role, and a machine that begins elsewhere makes the same moves. A drained node is alone, and was no backup
 -- before.
+use Rattle.guest_board.specs.Guest.{Guest}
 use Rattle.std.proofs.Common.{◌≡◌, Bool, Err, List, Ok, Some, cond, drop, false, inl, inr, refl, subst, sym, true, ℕ}
 use Rattle.std.specs.Prelude.{slice_get, ◌<◌}
 use Rattle.guest_board.specs.Machine.{Machine}
@@ -28,7 +29,7 @@ use Rattle.ft_world.specs.Applies.{Applies, Shows, ShowsSome}
 use Rattle.ft_world.proofs.AtHosts.{AtHost}
 use Rattle.ft_world.specs.declared.station.Station.{Station}
 use Rattle.ft_world.specs.Running.{Running}
-use Rattle.ft_world.specs.Shows.{IsHost, IsUncopied}
+use Rattle.ft_world.specs.Shows.{IsHost, IsNode}
 use Rattle.ft_world.specs.Standing.{Course, machine_of}
 use Rattle.ft_world.specs.Words.{reply_of}
 use Rattle.pair_events.specs.declared.event.Event.TheVariants as event
@@ -42,10 +43,10 @@ use Rattle.ft_world.proofs.Keeping.{acting_role, advances_keep, drained_stays, h
 -- ---- what the calls require
 
 -- what a follower holds and has not replayed are the next entries of a recorded run
-follows : {B H D S : Type 0} (state : B → S) (M : Machine S) (records : D → List Record) (old : Running B H D)
-    (c : Course S) (n : ℕ) (x : Node S) (role : Role) (s : S) (r : Receiving) → Shows state M records old c →
+follows : {B H D S : Type 0} (state : B → S) (copied : B → Guest) (M : Machine S) (records : D → List Record) (old : Running B H D)
+    (c : Course S) (n : ℕ) (x : Node S) (role : Role) (s : S) (r : Receiving) → Shows state copied M records old c →
     slice_get c.world.nodes n ≡ Some x → Replaying role → IsFollower role s r x → IsOnTrace M s r.entries
-follows {S = S} state M records old c n x role s r h there replays is =
+follows {S = S} state copied M records old c n x role s r h there replays is =
     let N : Machine S = machine_of M c in
     let stands = nodes_stand N c.copying h.machine.lawful h.machine.copies c.world h.reached n x there in
     let here : IsOnTrace M x.machine (drop x.replayed x.held) =
@@ -53,44 +54,44 @@ follows {S = S} state M records old c n x role s r h there replays is =
     (stands.on_trace (subst (λ q. Replaying q) (sym is.role_is) replays)) in
     subst (λ es. IsOnTrace M s es) (sym is.left) (subst (λ t. IsOnTrace M t (drop x.replayed x.held)) is.machine here)
 
-may_replay : {B H D S : Type 0} (state : B → S) (M : Machine S) (records : D → List Record) (old : Running B H D)
-    (c : Course S) (n : ℕ) (x : Node S) (node : code.Node B) → Shows state M records old c →
-    slice_get c.world.nodes n ≡ Some x → IsUncopied state M node x → MayReplay state M node
-may_replay state M records old c n x (seat.Primary p) h there is = tt
-may_replay state M records old c n x (seat.Backup b) h there is =
-    follows state M records old c n x Backup (state b.replayer.board) b.receiver h there (inl refl) is
-may_replay state M records old c n x (seat.Joining j) h there is = tt
-may_replay state M records old c n x (seat.Draining d) h there is =
-    follows state M records old c n x Draining (state d.replayer.board) d.receiver h there (inr refl) is
-may_replay state M records old c n x (seat.Alone a) h there is = tt
-may_replay state M records old c n x (seat.Halted a) h there is = tt
+may_replay : {B H D S : Type 0} (state : B → S) (copied : B → Guest) (M : Machine S) (records : D → List Record) (old : Running B H D)
+    (c : Course S) (n : ℕ) (x : Node S) (node : code.Node B H) → (h : Shows state copied M records old c) →
+    slice_get c.world.nodes n ≡ Some x → IsNode state M c.copying h.drives node x → MayReplay state M node
+may_replay state copied M records old c n x (seat.Primary p) h there is = tt
+may_replay state copied M records old c n x (seat.Backup b) h there is =
+    follows state copied M records old c n x Backup (state b.replayer.board) b.receiver h there (inl refl) is
+may_replay state copied M records old c n x (seat.Joining j) h there is = tt
+may_replay state copied M records old c n x (seat.Draining d) h there is =
+    follows state copied M records old c n x Draining (state d.replayer.board) d.receiver h there (inr refl) is
+may_replay state copied M records old c n x (seat.Alone a) h there is = tt
+may_replay state copied M records old c n x (seat.Halted a) h there is = tt
 
-pub station_may_replay : {B H D S : Type 0} (state : B → S) (M : Machine S) (records : D → List Record)
-    (old : Running B H D) (n : ℕ) (station : Station B) → ShowsSome state M records old →
+pub station_may_replay : {B H D S : Type 0} (state : B → S) (copied : B → Guest) (M : Machine S) (records : D → List Record)
+    (old : Running B H D) (n : ℕ) (station : Station B H) → ShowsSome state copied M records old →
     slice_get old.hosts n ≡ Some (host.Node station) → MayReplay state M station.node
-station_may_replay state M records old n station some at =
+station_may_replay state copied M records old n station some at =
     let c = some.course in
-    let x = agree-other (IsHost state M) (slice_get old.hosts n) (slice_get c.world.nodes n) (host.Node station) at
+    let x = agree-other (IsHost state M c.copying some.shows.drives) (slice_get old.hosts n) (slice_get c.world.nodes n) (host.Node station) at
     (some.shows.parts.hosts n) in
-    may_replay state M records old c n x.0 station.node some.shows x.1 x.2.node
+    may_replay state copied M records old c n x.0 station.node some.shows x.1 x.2.node
 
 -- ---- the machine of a node makes steps
 
-pub steps_refused : {B H D S : Type 0} (state : B → S) (M : Machine S) (records : D → List Record)
+pub steps_refused : {B H D S : Type 0} (state : B → S) (copied : B → Guest) (M : Machine S) (records : D → List Record)
     (old : Running B H D) (c : Course S) (n turns : ℕ) (fault : Fault) (hosts : List (Host B H)) →
-    Shows state M records old c →
-    AtHost state M c.world n (step_refusal M turns) (λ x. 0 < turns) (SteppedBy M turns) (Err fault) hosts →
-    Applies state M records c (event.Step n turns) (Err fault) (record old { hosts = hosts })
-steps_refused state M records old c n turns fault hosts h a =
+    (h : Shows state copied M records old c) →
+    AtHost state M c.copying h.drives c.world n (step_refusal M turns) (λ x. 0 < turns) (SteppedBy M turns) (Err fault) hosts →
+    Applies state copied M records c (event.Step n turns) (Err fault) (record old { hosts = hosts })
+steps_refused state copied M records old c n turns fault hosts h a =
     node_refused h (event.Step n turns) fault hosts refl (λ s. s.said) refl a
 
-pub steps_applies : {B H D S : Type 0} (state : B → S) (M : Machine S) (records : D → List Record)
+pub steps_applies : {B H D S : Type 0} (state : B → S) (copied : B → Guest) (M : Machine S) (records : D → List Record)
     (old : Running B H D) (c : Course S) (n turns : ℕ) (ran : Ran) (hosts : List (Host B H)) →
-    Shows state M records old c →
-    AtHost state M c.world n (step_refusal M turns) (λ x. 0 < turns) (SteppedBy M turns) (Ok ran) hosts →
-    Applies state M records c (event.Step n turns) (Ok (reply.Ran ran.steps ran.count ran.why))
+    (h : Shows state copied M records old c) →
+    AtHost state M c.copying h.drives c.world n (step_refusal M turns) (λ x. 0 < turns) (SteppedBy M turns) (Ok ran) hosts →
+    Applies state copied M records c (event.Step n turns) (Ok (reply.Ran ran.steps ran.count ran.why))
     (record old { hosts = hosts })
-steps_applies state M records old c n turns ran hosts h a =
+steps_applies state copied M records old c n turns ran hosts h a =
     node_applies h (event.Step n turns) (reply.Ran ran.steps ran.count ran.why) hosts refl
     (λ x y free s. kept_stays (advances_keep M s.advances))
     (λ new at. record {
@@ -109,21 +110,21 @@ steps_first : {S : Type 0} (M : Machine S) (c : Course S) (n turns : ℕ) → Of
 steps_first M c n turns s =
     record { x = s.x; there = s.there; said = (s.said.0, IsBehind-booted M c.boot c.sectors s.x s.said.1) }
 
-pub replays_refused : {B H D S : Type 0} (state : B → S) (M : Machine S) (records : D → List Record)
+pub replays_refused : {B H D S : Type 0} (state : B → S) (copied : B → Guest) (M : Machine S) (records : D → List Record)
     (old : Running B H D) (c : Course S) (n turns : ℕ) (fault : Fault) (hosts : List (Host B H)) →
-    Shows state M records old c →
-    AtHost state M c.world n replay_refusal (NeedsMoves M turns) (ReplayedBy M turns) (Err fault) hosts →
-    Applies state M records c (event.Replay n turns) (Err fault) (record old { hosts = hosts })
-replays_refused state M records old c n turns fault hosts h a =
+    (h : Shows state copied M records old c) →
+    AtHost state M c.copying h.drives c.world n replay_refusal (NeedsMoves M turns) (ReplayedBy M turns) (Err fault) hosts →
+    Applies state copied M records c (event.Replay n turns) (Err fault) (record old { hosts = hosts })
+replays_refused state copied M records old c n turns fault hosts h a =
     node_refused h (event.Replay n turns) fault hosts refl (steps_first M c n turns) refl a
 
-pub replays_applies : {B H D S : Type 0} (state : B → S) (M : Machine S) (records : D → List Record)
+pub replays_applies : {B H D S : Type 0} (state : B → S) (copied : B → Guest) (M : Machine S) (records : D → List Record)
     (old : Running B H D) (c : Course S) (n turns : ℕ) (r : Replayed) (hosts : List (Host B H)) →
-    Shows state M records old c →
-    AtHost state M c.world n replay_refusal (NeedsMoves M turns) (ReplayedBy M turns) (Ok r) hosts →
-    Applies state M records c (event.Replay n turns) (Ok (reply.Moved r.moves r.at_end))
+    (h : Shows state copied M records old c) →
+    AtHost state M c.copying h.drives c.world n replay_refusal (NeedsMoves M turns) (ReplayedBy M turns) (Ok r) hosts →
+    Applies state copied M records c (event.Replay n turns) (Ok (reply.Moved r.moves r.at_end))
     (record old { hosts = hosts })
-replays_applies state M records old c n turns r hosts h a =
+replays_applies state copied M records old c n turns r hosts h a =
     node_applies h (event.Replay n turns) (reply.Moved r.moves r.at_end) hosts refl
     (λ x y free s. kept_stays (replays_keep M s.moves))
     (λ new at. record {
@@ -135,12 +136,12 @@ replays_applies state M records old c n turns r hosts h a =
 
 -- ---- a node that won drains
 
-pub drains_refused : {B H D S : Type 0} (state : B → S) (M : Machine S) (records : D → List Record)
+pub drains_refused : {B H D S : Type 0} (state : B → S) (copied : B → Guest) (M : Machine S) (records : D → List Record)
     (old : Running B H D) (c : Course S) (n turns : ℕ) (fault : Fault) (hosts : List (Host B H)) →
-    Shows state M records old c →
-    AtHost state M c.world n drain_refusal (NeedsMoves M turns) (DrainedBy M turns) (Err fault) hosts →
-    Applies state M records c (event.Drain n turns) (Err fault) (record old { hosts = hosts })
-drains_refused state M records old c n turns fault hosts h a =
+    (h : Shows state copied M records old c) →
+    AtHost state M c.copying h.drives c.world n drain_refusal (NeedsMoves M turns) (DrainedBy M turns) (Err fault) hosts →
+    Applies state copied M records c (event.Drain n turns) (Err fault) (record old { hosts = hosts })
+drains_refused state copied M records old c n turns fault hosts h a =
     node_refused h (event.Drain n turns) fault hosts refl (steps_first M c n turns) refl a
 
 drained_reply : (moves : ℕ) (b : Bool) →
@@ -148,13 +149,13 @@ drained_reply : (moves : ℕ) (b : Bool) →
 drained_reply moves true = refl
 drained_reply moves false = refl
 
-pub drains_applies : {B H D S : Type 0} (state : B → S) (M : Machine S) (records : D → List Record)
+pub drains_applies : {B H D S : Type 0} (state : B → S) (copied : B → Guest) (M : Machine S) (records : D → List Record)
     (old : Running B H D) (c : Course S) (n turns : ℕ) (d : Drained) (hosts : List (Host B H)) →
-    Shows state M records old c →
-    AtHost state M c.world n drain_refusal (NeedsMoves M turns) (DrainedBy M turns) (Ok d) hosts →
-    Applies state M records c (event.Drain n turns)
+    (h : Shows state copied M records old c) →
+    AtHost state M c.copying h.drives c.world n drain_refusal (NeedsMoves M turns) (DrainedBy M turns) (Ok d) hosts →
+    Applies state copied M records c (event.Drain n turns)
     (Ok (cond d.alone (reply.MovedAlone d.moves) (reply.Moved d.moves false))) (record old { hosts = hosts })
-drains_applies state M records old c n turns d hosts h a =
+drains_applies state copied M records old c n turns d hosts h a =
     node_applies h (event.Drain n turns) (cond d.alone (reply.MovedAlone d.moves) (reply.Moved d.moves false)) hosts refl
     (λ x y free s. drained_stays (acting_role x Draining free) s)
     (λ new at. record {
@@ -166,18 +167,18 @@ drains_applies state M records old c n turns d hosts h a =
 
 -- ---- a node halts
 
-pub stops_refused : {B H D S : Type 0} (state : B → S) (M : Machine S) (records : D → List Record)
+pub stops_refused : {B H D S : Type 0} (state : B → S) (copied : B → Guest) (M : Machine S) (records : D → List Record)
     (old : Running B H D) (c : Course S) (n : ℕ) (fault : Fault) (hosts : List (Host B H)) →
-    Shows state M records old c →
-    AtHost {A = Unit {0}} state M c.world n stop_refusal Never (λ done. Halted) (Err fault) hosts →
-    Applies state M records c (event.Stop n) (Err fault) (record old { hosts = hosts })
-stops_refused state M records old c n fault hosts h a =
+    (h : Shows state copied M records old c) →
+    AtHost {A = Unit {0}} state M c.copying h.drives c.world n stop_refusal Never (λ done. Halted) (Err fault) hosts →
+    Applies state copied M records c (event.Stop n) (Err fault) (record old { hosts = hosts })
+stops_refused state copied M records old c n fault hosts h a =
     node_refused h (event.Stop n) fault hosts refl (λ never. absurd never.said) refl a
 
-pub stops_applies : {B H D S : Type 0} (state : B → S) (M : Machine S) (records : D → List Record)
-    (old : Running B H D) (c : Course S) (n : ℕ) (hosts : List (Host B H)) → Shows state M records old c →
-    AtHost {A = Unit {0}} state M c.world n stop_refusal Never (λ done. Halted) (Ok tt) hosts →
-    Applies state M records c (event.Stop n) (Ok reply.Stopped) (record old { hosts = hosts })
-stops_applies state M records old c n hosts h a =
+pub stops_applies : {B H D S : Type 0} (state : B → S) (copied : B → Guest) (M : Machine S) (records : D → List Record)
+    (old : Running B H D) (c : Course S) (n : ℕ) (hosts : List (Host B H)) → (h : Shows state copied M records old c) →
+    AtHost {A = Unit {0}} state M c.copying h.drives c.world n stop_refusal Never (λ done. Halted) (Ok tt) hosts →
+    Applies state copied M records c (event.Stop n) (Ok reply.Stopped) (record old { hosts = hosts })
+stops_applies state copied M records old c n hosts h a =
     node_applies h (event.Stop n) reply.Stopped hosts refl (λ x y free s. kept_stays (halted_kept x y s))
     (λ new at. record { at = at; reply = refl }) a

@@ -1,5 +1,6 @@
 -- One node becomes another of the same generation, which is a backup exactly if it was one before; so the highest
 -- generation stays, and so does the only node that may be its backup.
+use Rattle.guest_board.specs.Guest.{Guest}
 use Rattle.std.proofs.Common.{◌≡◌, [], ◌∷◌, ◌∙◌, List, Some, ap, inl, inr, refl, suc, sym, zero, ℕ}
 use Rattle.std.specs.Prelude.{max, slice_get, slice_set, ◌⊎◌}
 use Rattle.guest_board.specs.Machine.{Machine}
@@ -45,7 +46,7 @@ backup_set {S} nodes n x y generation backup there g b only k z here is role =
 
 pub with_hosts : {B H D S : Type 0} (state : B → S) (M : Machine S) (records : D → List Record) (drives : ℕ)
     (old : Running B H D) (c : Course S) (hosts : List (Host B H)) → ShowsParts state M records drives old c →
-    AreHosts state M hosts c.world.nodes → ShowsParts state M records drives (record old { hosts = hosts }) c
+    AreHosts state M c.copying drives hosts c.world.nodes → ShowsParts state M records drives (record old { hosts = hosts }) c
 with_hosts state M records drives old c hosts p are = record {
   hosts = are;
   messages = p.messages;
@@ -59,7 +60,7 @@ with_hosts state M records drives old c hosts p are = record {
 pub with_one_host : {B H D S : Type 0} (state : B → S) (M : Machine S) (records : D → List Record) (drives : ℕ)
     (old : Running B H D) (c : Course S) (hosts : List (Host B H)) (n : ℕ) (x y : Node S) →
     ShowsParts state M records drives old c → slice_get c.world.nodes n ≡ Some x → y.generation ≡ x.generation →
-    is_backup y.role ≡ is_backup x.role → AreHosts state M hosts (slice_set c.world.nodes n y) →
+    is_backup y.role ≡ is_backup x.role → AreHosts state M c.copying drives hosts (slice_set c.world.nodes n y) →
     ShowsParts state M records drives (record old { hosts = hosts }) (record c { world = with_node c.world n y })
 with_one_host state M records drives old c hosts n x y p there g b are = record {
   hosts = are;

@@ -1,5 +1,6 @@
 -- An event that comes to one node: its row follows from what it does at that node, since every other node stays, the
 -- node keeps its generation, and it is a backup afterwards exactly if it was one before.
+use Rattle.guest_board.specs.Guest.{Guest}
 use Rattle.std.proofs.Common.{◌≡◌, ◌∷◌, ◌∙◌, [], Err, List, None, Ok, Some, ap, inl, inr, refl, subst, sym, ℕ}
 use Rattle.std.specs.Prelude.{Option, slice_get, ◌⊎◌}
 use Rattle.guest_board.specs.Machine.{Machine}
@@ -51,23 +52,23 @@ elsewhere_of also at = record { x = at.x; there = at.there; said = also at.x at.
 
 -- ---- an event that changes a node
 
-module _ {B H D S : Type 0} {state : B → S} {M : Machine S} {records : D → List Record} {old : Running B H D}
-    {c : Course S} (h : Shows state M records old c) where
+module _ {B H D S : Type 0} {state : B → S} {copied : B → Guest} {M : Machine S} {records : D → List Record} {old : Running B H D}
+    {c : Course S} (h : Shows state copied M records old c) where
   pub node_applies : {A : Type 0} (e : Event) (r : Reply) {n : ℕ} {part : Node S → Option Fault}
       {needs : Node S → Type 0} {does : A → Node S → Node S → Type 0} {value : A} (hosts : List (Host B H)) →
       refusal (machine_of M c) c.copying c.world (event_of e) ≡ at_node (slice_get c.world.nodes n) part →
       ((x y : Node S) → part x ≡ None → does value x y → Stays x y) →
       ((new : World S) → AtNode c.world n (does value) new →
       Does (machine_of M c) c.copying c.world (event_of e) (reply_of r) new) →
-      AtHost state M c.world n part needs does (Ok value) hosts →
-      Applies state M records c e (Ok r) (record old { hosts = hosts })
+      AtHost state M c.copying h.drives c.world n part needs does (Ok value) hosts →
+      Applies state copied M records c e (Ok r) (record old { hosts = hosts })
   node_applies e r {n} {part} {needs} {does} {value} hosts free stays row a =
-      let k = call_done (at_node (slice_get c.world.nodes n) part) value (AreHosts state M hosts c.world.nodes)
-      (OfNode c.world n needs × AreHosts state M hosts c.world.nodes) (λ v. Becomes state M c.world.nodes n hosts (does v)) a.answer in
+      let k = call_done (at_node (slice_get c.world.nodes n) part) value (AreHosts state M c.copying h.drives hosts c.world.nodes)
+      (OfNode c.world n needs × AreHosts state M c.copying h.drives hosts c.world.nodes) (λ v. Becomes state M c.copying h.drives c.world.nodes n hosts (does v)) a.answer in
       let x = k.1.x in
       let y = k.1.y in
       let same = stays x y (node-passed (slice_get c.world.nodes n) x part k.1.there k.0).1 k.1.done in
-      applies state M records old c e (Ok r) (with_node c.world n y) (record old { hosts = hosts }) h
+      applies state copied M records old c e (Ok r) (with_node c.world n y) (record old { hosts = hosts }) h
       (Accepts (free ∙ k.0)
       (row (with_node c.world n y) (record { x = x; there = k.1.there; y = y; done = k.1.done; after = refl })))
       (with_one_host state M records h.drives old c hosts n x y h.parts k.1.there same.generation same.backup k.1.after)
@@ -78,15 +79,15 @@ module _ {B H D S : Type 0} {state : B → S} {M : Machine S} {records : D → L
       refusal (machine_of M c) c.copying c.world (event_of e) ≡ at_node (slice_get c.world.nodes n) part →
       (OfNode c.world n needs → MayNeedMemory (machine_of M c) c.world (event_of e)) →
       Leaves c.world (event_of e) fault c.world →
-      AtHost state M c.world n part needs does (Err fault) hosts →
-      Applies state M records c e (Err fault) (record old { hosts = hosts })
+      AtHost state M c.copying h.drives c.world n part needs does (Err fault) hosts →
+      Applies state copied M records c e (Err fault) (record old { hosts = hosts })
   node_refused {A} e {n} {part} {needs} {does} fault hosts free takes leaves a =
-      elim (call_refused A (at_node (slice_get c.world.nodes n) part) fault (AreHosts state M hosts c.world.nodes)
-      (OfNode c.world n needs × AreHosts state M hosts c.world.nodes)
-      (λ v. Becomes state M c.world.nodes n hosts (does v)) a.answer) [
-        | inl k ↦ unchanged state M records old (record old { hosts = hosts }) c e fault h
+      elim (call_refused A (at_node (slice_get c.world.nodes n) part) fault (AreHosts state M c.copying h.drives hosts c.world.nodes)
+      (OfNode c.world n needs × AreHosts state M c.copying h.drives hosts c.world.nodes)
+      (λ v. Becomes state M c.copying h.drives c.world.nodes n hosts (does v)) a.answer) [
+        | inl k ↦ unchanged state copied M records old (record old { hosts = hosts }) c e fault h
             (with_hosts state M records h.drives old c hosts h.parts k.1) (Refuses (free ∙ k.0) leaves)
-        | inr k ↦ unchanged state M records old (record old { hosts = hosts }) c e fault h
+        | inr k ↦ unchanged state copied M records old (record old { hosts = hosts }) c e fault h
             (with_hosts state M records h.drives old c hosts h.parts k.2.1)
             (subst (λ f. Row (machine_of M c) c.copying c.world (event_of e) (Refused f) c.world)
             (sym k.1) (NeedsMemory (free ∙ k.0) (takes k.2.0)))
@@ -99,12 +100,12 @@ module _ {B H D S : Type 0} {state : B → S} {M : Machine S} {records : D → L
       refusal (machine_of M c) c.copying c.world (event_of e) ≡ at_node (slice_get c.world.nodes n) part →
       (OfNode c.world n needs → MayNeedMemory (machine_of M c) c.world (event_of e)) →
       Leaves c.world (event_of e) fault c.world → AsksNode c.world n part needs says (Err fault) →
-      Applies state M records c e (Err fault) old
+      Applies state copied M records c e (Err fault) old
   asks_refused {A} e {n} {part} {needs} {says} fault free takes leaves a =
       elim (call_refused A (at_node (slice_get c.world.nodes n) part) fault (Unit {0}) (OfNode c.world n needs)
       (λ v. OfNode c.world n (says v)) a.answer) [
-        | inl k ↦ refuses state M records old old c e fault h refl (free ∙ k.0) leaves
-        | inr k ↦ needs_memory state M records old old c e fault h refl (free ∙ k.0) (takes k.2) k.1
+        | inl k ↦ refuses state copied M records old old c e fault h refl (free ∙ k.0) leaves
+        | inr k ↦ needs_memory state copied M records old old c e fault h refl (free ∙ k.0) (takes k.2) k.1
       ]
 
 pub node_asked : {A S : Type 0} (w : World S) (n : ℕ) (part : Node S → Option Fault) {needs : Node S → Type 0}

@@ -1,5 +1,6 @@
 -- Events at a terminal: a byte is typed there, a byte arrives, or the terminal is told how many keys are covered. The
 -- screen of a port has what the arrivals of the terminal gave, so one more byte leaves both alike.
+use Rattle.guest_board.specs.Guest.{Guest}
 use Rattle.std.proofs.Common.{◌≡◌, ◌+◌, ◌<◌, ◌≤◌, [], ◌∷◌, ◌++◌, ◌∙◌, Bool, Err, List, None, Ok, Some, ap, arith, cond, false, inl, inr, length, refl, subst, sym, true, ℕ}
 use Rattle.std.specs.Option.{option_and_then}
 use Rattle.std.specs.Prelude.{Option, Result, nat_le, nat_lt, slice_get, slice_set, ◌==◌}
@@ -66,12 +67,12 @@ port_missing w port e high =
     (le-leb (length w.terminals) port (subst (λ n. n ≤ port) (sym e) high))
 
 -- the terminals change, and nothing else
-pub with_screens : {B H D S : Type 0} (state : B → S) (M : Machine S) (records : D → List Record) (drives : ℕ)
+pub with_screens : {B H D S : Type 0} (state : B → S) (copied : B → Guest) (M : Machine S) (records : D → List Record) (drives : ℕ)
     (old : Running B H D) (c : Course S) (screens : List Screen) (ts : List world.Terminal) →
     ShowsParts state M records drives old c → AreTerminals screens ts →
     ShowsParts state M records drives (record old { terminals = screens })
     (record c { world = record c.world { terminals = ts } })
-with_screens state M records drives old c screens ts p are = record {
+with_screens state copied M records drives old c screens ts p are = record {
   hosts = p.hosts;
   messages = p.messages;
   terminals = are;
@@ -87,32 +88,32 @@ key_is : (s : Screen) (t : world.Terminal) (byte : ℕ) → IsTerminal s t →
     IsTerminal (after_key s byte) (record t { typed = t.typed ++ byte ∷ [] })
 key_is s t byte i = record { accepted = i.accepted; typed = ap (λ l. l ++ byte ∷ []) i.typed; told = i.told }
 
-pub types_applies : {B H D S : Type 0} (state : B → S) (M : Machine S) (records : D → List Record)
+pub types_applies : {B H D S : Type 0} (state : B → S) (copied : B → Guest) (M : Machine S) (records : D → List Record)
     (old : Running B H D) (c : Course S) (port byte : ℕ) (answer : Result Reply Fault) (screens : List Screen) →
-    Shows state M records old c → Types old.terminals port byte answer screens →
-    Applies state M records c (event.TypeByte port byte) answer (record old { terminals = screens })
-types_applies state M records old c port byte (Ok r) screens h (low, said, after) =
+    Shows state copied M records old c → Types old.terminals port byte answer screens →
+    Applies state copied M records c (event.TypeByte port byte) answer (record old { terminals = screens })
+types_applies state copied M records old c port byte (Ok r) screens h (low, said, after) =
     let ts = c.world.terminals in
     let i = screen_is old.terminals ts port h.parts.terminals low in
     let are = terminals_set old.terminals ts port (after_key (screen_in old.terminals port) byte)
     (record (terminal_in ts port) { typed = (terminal_in ts port).typed ++ byte ∷ [] }) h.parts.terminals
     (key_is (screen_in old.terminals port) (terminal_in ts port) byte i) in
-    applies state M records old c (event.TypeByte port byte) (Ok r) (with_key c.world port byte)
+    applies state copied M records old c (event.TypeByte port byte) (Ok r) (with_key c.world port byte)
     (record old { terminals = screens }) h
     (Accepts (port_there c.world port h.parts.terminals.count low) (record {
       reply = ap reply_of said ∙ ap (λ l. protocol.TypedAt (length l)) i.typed;
       after = refl;
     }))
-    (with_screens state M records h.drives old c screens (with_key c.world port byte).terminals h.parts
+    (with_screens state copied M records h.drives old c screens (with_key c.world port byte).terminals h.parts
     (subst (λ l. AreTerminals l (with_key c.world port byte).terminals) (sym after) are))
-types_applies state M records old c port byte (Err fault) screens h (inl (is, high), same) =
-    subst (λ f. Applies state M records c (event.TypeByte port byte) (Err f) (record old { terminals = screens }))
+types_applies state copied M records old c port byte (Err fault) screens h (inl (is, high), same) =
+    subst (λ f. Applies state copied M records c (event.TypeByte port byte) (Err f) (record old { terminals = screens }))
     (sym is)
-    (refuses state M records old (record old { terminals = screens }) c (event.TypeByte port byte) Unknown h
+    (refuses state copied M records old (record old { terminals = screens }) c (event.TypeByte port byte) Unknown h
     (ap (λ l. record old { terminals = l }) same)
     (port_missing c.world port h.parts.terminals.count high) refl)
-types_applies state M records old c port byte (Err fault) screens h (inr (is, low), same) =
-    needs_memory state M records old (record old { terminals = screens }) c (event.TypeByte port byte) fault h
+types_applies state copied M records old c port byte (Err fault) screens h (inr (is, low), same) =
+    needs_memory state copied M records old (record old { terminals = screens }) c (event.TypeByte port byte) fault h
     (ap (λ l. record old { terminals = l }) same) (port_there c.world port h.parts.terminals.count low) tt is
 
 -- A byte arrives.
@@ -180,12 +181,12 @@ reply_if : (b : Bool) →
 reply_if true = refl
 reply_if false = refl
 
-pub arrives_applies : {B H D S : Type 0} (state : B → S) (M : Machine S) (records : D → List Record)
+pub arrives_applies : {B H D S : Type 0} (state : B → S) (copied : B → Guest) (M : Machine S) (records : D → List Record)
     (old : Running B H D) (c : Course S) (m port number byte : ℕ) (answer : Result Reply Fault) (screens : List Screen) →
     option_and_then byte_of (slice_get old.messages m) ≡ Some (port, number, byte) →
-    Shows state M records old c → Arrives old.terminals port number byte answer screens →
-    Applies state M records c (event.Arrive m) answer (record old { terminals = screens })
-arrives_applies state M records old c m port number byte (Ok r) screens brings h (inl (low, said, after)) =
+    Shows state copied M records old c → Arrives old.terminals port number byte answer screens →
+    Applies state copied M records c (event.Arrive m) answer (record old { terminals = screens })
+arrives_applies state copied M records old c m port number byte (Ok r) screens brings h (inl (low, said, after)) =
     let ts = c.world.terminals in
     let t = terminal_in ts port in
     let s = screen_in old.terminals port in
@@ -197,7 +198,7 @@ arrives_applies state M records old c m port number byte (Ok r) screens brings h
     (record t { arrivals = t.arrivals ++ a ∷ [] }) h.parts.terminals (arrival_is s t number byte i) in
     let now = terminal-set ts port (record t { arrivals = t.arrivals ++ a ∷ [] })
     (subst (λ n. port < n) (sym h.parts.terminals.count) low) in
-    applies state M records old c (event.Arrive m) (Ok r) (with_arrival c.world port a)
+    applies state copied M records old c (event.Arrive m) (Ok r) (with_arrival c.world port a)
     (record old { terminals = screens }) h
     (Accepts (ap byte_refusal there) (record {
       port = port;
@@ -212,9 +213,9 @@ arrives_applies state M records old c m port number byte (Ok r) screens brings h
           protocol.Accepted protocol.Dropped) (sym now);
       after = refl;
     }))
-    (with_screens state M records h.drives old c screens (with_arrival c.world port a).terminals h.parts
+    (with_screens state copied M records h.drives old c screens (with_arrival c.world port a).terminals h.parts
     (subst (λ l. AreTerminals l (with_arrival c.world port a).terminals) (sym after) are))
-arrives_applies state M records old c m port number byte (Ok r) screens brings h (inr (high, said, after)) =
+arrives_applies state copied M records old c m port number byte (Ok r) screens brings h (inr (high, said, after)) =
     let ts = c.world.terminals in
     let t = terminal_in ts port in
     let a : world.Arrival = record { number = number; byte = byte } in
@@ -223,7 +224,7 @@ arrives_applies state M records old c m port number byte (Ok r) screens brings h
     let same : slice_set ts port (record t { arrivals = t.arrivals ++ a ∷ [] }) ≡ ts =
     set_past ts port (record t { arrivals = t.arrivals ++ a ∷ [] })
     (subst (λ n. n ≤ port) (sym h.parts.terminals.count) high) in
-    applies state M records old c (event.Arrive m) (Ok r) (with_arrival c.world port a)
+    applies state copied M records old c (event.Arrive m) (Ok r) (with_arrival c.world port a)
     (record old { terminals = screens }) h
     (Accepts (ap byte_refusal there) (record {
       port = port;
@@ -237,20 +238,20 @@ arrives_applies state M records old c m port number byte (Ok r) screens brings h
           protocol.Accepted protocol.Dropped) (sym same);
       after = refl;
     }))
-    (with_screens state M records h.drives old c screens (with_arrival c.world port a).terminals h.parts
+    (with_screens state copied M records h.drives old c screens (with_arrival c.world port a).terminals h.parts
     (subst (λ us. AreTerminals screens us) (sym same)
     (subst (λ l. AreTerminals l ts) (sym after) h.parts.terminals)))
-arrives_applies state M records old c m port number byte (Err fault) screens brings h (is, same) =
-    needs_memory state M records old (record old { terminals = screens }) c (event.Arrive m) fault h
+arrives_applies state copied M records old c m port number byte (Err fault) screens brings h (is, same) =
+    needs_memory state copied M records old (record old { terminals = screens }) c (event.Arrive m) fault h
     (ap (λ l. record old { terminals = l }) same)
     (ap byte_refusal
     (released (slice_get old.messages m) (slice_get c.world.messages m) port number byte
     (h.parts.messages.each m) brings))
     tt is
 
-pub arrives_unknown : {B H D S : Type 0} (state : B → S) (M : Machine S) (records : D → List Record)
+pub arrives_unknown : {B H D S : Type 0} (state : B → S) (copied : B → Guest) (M : Machine S) (records : D → List Record)
     (old : Running B H D) (c : Course S) (m : ℕ) → option_and_then byte_of (slice_get old.messages m) ≡ None →
-    Shows state M records old c → Applies state M records c (event.Arrive m) (Err Unknown) old
-arrives_unknown state M records old c m brings h =
-    refuses state M records old old c (event.Arrive m) Unknown h refl
+    Shows state copied M records old c → Applies state copied M records c (event.Arrive m) (Err Unknown) old
+arrives_unknown state copied M records old c m brings h =
+    refuses state copied M records old old c (event.Arrive m) Unknown h refl
     (not_released (slice_get old.messages m) (slice_get c.world.messages m) (h.parts.messages.each m) brings) refl

@@ -34,7 +34,7 @@ use Rattle.ft_node.specs.declared.node.Node as code
 use Rattle.ft_node.specs.Roles.{count_of}
 use Rattle.ft_world.specs.Applies.{Shows}
 use Rattle.ft_world.specs.Beginning.{MayBegin, beginning, bytes_in}
-use Rattle.ft_world.specs.Shows.{Agree, AreHosts, AreMessages, AreTerminals, AreWinners, IsDisk, IsHost, IsOnlyBackup, IsStation, IsTerminal, IsUncopied}
+use Rattle.ft_world.specs.Shows.{Agree, AreHosts, AreMessages, AreTerminals, AreWinners, IsDisk, IsHost, IsOnlyBackup, IsStation, IsTerminal, IsNode}
 use Rattle.ft_world.specs.Standing.{Course, IsMachine, machine_of}
 use Rattle.ft_world.specs.declared.host.Host.{Host}
 use Rattle.ft_world.specs.declared.host.Host.TheVariants as host
@@ -61,48 +61,48 @@ first_begins M c role s from = record {
 }
 
 -- the node of a new station is a first node in the role in which it began, in whatever state its guest boots
-begins_as : {B S : Type 0} (state : B → S) (M : Machine S) (c : Course S) (role : Role) (s : S) (node : code.Node B) →
-    ((x : Node S) → Begins M role 1 s x → IsUncopied state M node x) → s ≡ c.boot →
-    IsUncopied state M node (first_node (machine_of M c) role)
-begins_as state M c role s node begins from = begins (first_node (machine_of M c) role) (first_begins M c role s from)
+begins_as : {B H S : Type 0} (state : B → S) (M : Machine S) (C : Copying S) (drives : ℕ) (c : Course S) (role : Role) (s : S) (node : code.Node B H) →
+    ((x : Node S) → Begins M role 1 s x → IsNode state M C drives node x) → s ≡ c.boot →
+    IsNode state M C drives node (first_node (machine_of M c) role)
+begins_as state M C drives c role s node begins from = begins (first_node (machine_of M c) role) (first_begins M c role s from)
 
-pub primary_station : {B S : Type 0} (state : B → S) (M : Machine S) (c : Course S) (s : S) (node : code.Node B)
-    (h : Station B) → ((x : Node S) → Begins M Primary 1 s x → IsUncopied state M node x) → h.node ≡ node →
-    h.inputs ≡ [] → ((x : Node S) → IsUncopied state M node x → h.count ≡ count_of M x x.role) → s ≡ c.boot →
-    IsStation state M h (first_node (machine_of M c) Primary)
-primary_station state M c s node h begins is inputs count from =
-    let first = begins_as state M c Primary s node begins from in record {
-      node = subst (λ n. IsUncopied state M n (first_node (machine_of M c) Primary)) (sym is) first;
+pub primary_station : {B H S : Type 0} (state : B → S) (M : Machine S) (C : Copying S) (drives : ℕ) (c : Course S) (s : S) (node : code.Node B H)
+    (h : Station B H) → ((x : Node S) → Begins M Primary 1 s x → IsNode state M C drives node x) → h.node ≡ node →
+    h.inputs ≡ [] → ((x : Node S) → IsNode state M C drives node x → h.count ≡ count_of M x x.role) → s ≡ c.boot →
+    IsStation state M C drives h (first_node (machine_of M c) Primary)
+primary_station state M C drives c s node h begins is inputs count from =
+    let first = begins_as state M C drives c Primary s node begins from in record {
+      node = subst (λ n. IsNode state M C drives n (first_node (machine_of M c) Primary)) (sym is) first;
       inputs = inputs;
       count = count (first_node (machine_of M c) Primary) first;
       a_node = λ e. absurd (cc);
     }
 
-pub backup_station : {B S : Type 0} (state : B → S) (M : Machine S) (c : Course S) (s : S) (node : code.Node B)
-    (h : Station B) → ((x : Node S) → Begins M Backup 1 s x → IsUncopied state M node x) → h.node ≡ node →
-    h.inputs ≡ [] → ((x : Node S) → IsUncopied state M node x → h.count ≡ count_of M x x.role) → s ≡ c.boot →
-    M.count c.boot ≡ 0 → IsStation state M h (first_node (machine_of M c) Backup)
-backup_station state M c s node h begins is inputs count from none =
-    let first = begins_as state M c Backup s node begins from in record {
-      node = subst (λ n. IsUncopied state M n (first_node (machine_of M c) Backup)) (sym is) first;
+pub backup_station : {B H S : Type 0} (state : B → S) (M : Machine S) (C : Copying S) (drives : ℕ) (c : Course S) (s : S) (node : code.Node B H)
+    (h : Station B H) → ((x : Node S) → Begins M Backup 1 s x → IsNode state M C drives node x) → h.node ≡ node →
+    h.inputs ≡ [] → ((x : Node S) → IsNode state M C drives node x → h.count ≡ count_of M x x.role) → s ≡ c.boot →
+    M.count c.boot ≡ 0 → IsStation state M C drives h (first_node (machine_of M c) Backup)
+backup_station state M C drives c s node h begins is inputs count from none =
+    let first = begins_as state M C drives c Backup s node begins from in record {
+      node = subst (λ n. IsNode state M C drives n (first_node (machine_of M c) Backup)) (sym is) first;
       inputs = inputs;
       count = count (first_node (machine_of M c) Backup) first ∙ none;
       a_node = λ e. absurd (cc);
     }
 
 -- the hosts of a new pair are one of each role
-pub two_hosts : {B H S : Type 0} (state : B → S) (M : Machine S) (c : Course S) (none one two : List (Host B H))
-    (primary backup : Station B) → none ≡ [] → one ≡ none ++ host.Node primary ∷ [] →
-    two ≡ one ++ host.Node backup ∷ [] → IsStation state M primary (first_node (machine_of M c) Primary) →
-    IsStation state M backup (first_node (machine_of M c) Backup) →
-    AreHosts state M two (opening (machine_of M c)).nodes
-two_hosts {B} {H} {S} state M c none one two primary backup empty first second p b =
-    subst (λ hosts. AreHosts state M hosts (opening (machine_of M c)).nodes)
+pub two_hosts : {B H S : Type 0} (state : B → S) (M : Machine S) (C : Copying S) (drives : ℕ) (c : Course S) (none one two : List (Host B H))
+    (primary backup : Station B H) → none ≡ [] → one ≡ none ++ host.Node primary ∷ [] →
+    two ≡ one ++ host.Node backup ∷ [] → IsStation state M C drives primary (first_node (machine_of M c) Primary) →
+    IsStation state M C drives backup (first_node (machine_of M c) Backup) →
+    AreHosts state M C drives two (opening (machine_of M c)).nodes
+two_hosts {B} {H} {S} state M C drives c none one two primary backup empty first second p b =
+    subst (λ hosts. AreHosts state M C drives hosts (opening (machine_of M c)).nodes)
     (sym (second ∙ ap (λ hosts. hosts ++ host.Node backup ∷ []) (first
     ∙ ap (λ hosts. hosts ++ host.Node primary ∷ []) empty)))
-    (agree-push (IsHost {H = H} state M) (host.Node primary ∷ []) (first_node (machine_of M c) Primary ∷ [])
+    (agree-push (IsHost {H = H} state M C drives) (host.Node primary ∷ []) (first_node (machine_of M c) Primary ∷ [])
     (host.Node backup) (first_node (machine_of M c) Backup) b
-    (agree-push (IsHost {H = H} state M) [] [] (host.Node primary) (first_node (machine_of M c) Primary) p (λ n. tt)))
+    (agree-push (IsHost {H = H} state M C drives) [] [] (host.Node primary) (first_node (machine_of M c) Primary) p (λ n. tt)))
 
 only_backup : {S : Type 0} (M : Machine S) → IsOnlyBackup (opening M).nodes 1 1
 only_backup M zero x here is role =
@@ -130,10 +130,10 @@ some_of (Some a) is = (a, refl)
 some_of None is = absurd (cc)
 
 -- a disk on which nothing is written has its sectors at boot
-disk_at_boot : {B D S : Type 0} (state : B → S) (M : Machine S) (C : Copying S) (records : D → List Record)
-    (primary backup : B) (store : D) (may : MayBegin state M C records primary backup store) →
+disk_at_boot : {B H D S : Type 0} (state : B → S) (copied : B → Guest) (M : Machine S) (C : Copying S) (records : D → List Record)
+    (primary backup : B) (store : D) (may : MayBegin state copied M C records primary backup store) →
     IsDisk (machine_of M (beginning M C (state primary) (records store))) may.drives (records store) []
-disk_at_boot state M C records primary backup store may = record {
+disk_at_boot state copied M C records primary backup store may = record {
   there = λ address has. some_of (record_at (records store) address) (may.there address has);
   kept = λ address r at. (
     may.unwritten address r at,
@@ -142,13 +142,13 @@ disk_at_boot state M C records primary backup store may = record {
 }
 
 -- the fields of a new pair show the world that it begins with
-pub shows_beginning : {B H D S : Type 0} (state : B → S) (M : Machine S) (C : Copying S) (records : D → List Record)
+pub shows_beginning : {B H D S : Type 0} (state : B → S) (copied : B → Guest) (M : Machine S) (C : Copying S) (records : D → List Record)
     (primary backup : B) (store disk : D) (hosts : List (Host B H)) (messages : List Message) (one two : Screen)
-    (askings : List Asking) → MayBegin state M C records primary backup store →
+    (askings : List Asking) → MayBegin state copied M C records primary backup store →
     ((c : Course S) → state primary ≡ c.boot → state backup ≡ c.boot → M.count c.boot ≡ 0 →
-    AreHosts state M hosts (opening (machine_of M c)).nodes) →
+    AreHosts state M C drives hosts (opening (machine_of M c)).nodes) →
     messages ≡ [] → one ≡ blank → two ≡ blank → askings ≡ [] → disk ≡ store →
-    Shows state M records
+    Shows state copied M records
     (record {
       hosts = hosts;
       messages = messages;
@@ -159,7 +159,7 @@ pub shows_beginning : {B H D S : Type 0} (state : B → S) (M : Machine S) (C : 
       backup = 1;
     })
     (beginning M C (state primary) (records store))
-shows_beginning state M C records primary backup store disk hosts messages one two askings may opened none first second
+shows_beginning state copied M C records primary backup store disk hosts messages one two askings may opened none first second
     unasked same =
     let c = beginning M C (state primary) (records store) in record {
       drives = may.drives;
@@ -172,7 +172,7 @@ shows_beginning state M C records primary backup store disk hosts messages one t
             (sym (ap (λ t. t ∷ two ∷ []) first ∙ ap (λ t. blank ∷ t ∷ []) second)) blank_screens;
         winners = subst (λ list. AreWinners list []) (sym unasked) (λ generation. refl);
         disk = subst (λ d. IsDisk (machine_of M c) may.drives (records d) []) (sym same)
-            (disk_at_boot state M C records primary backup store may);
+            (disk_at_boot state copied M C records primary backup store may);
         generation = refl;
         backup = only_backup (machine_of M c);
       };
@@ -215,7 +215,7 @@ whole_at_boot drives records there whole address has =
 
 -- two guests of one setup may begin over a disk that has its drives, and on which nothing is written; they are copied by
 -- their images
-pub altairs_may_begin : {B D : Type 0} (state : B → Guest) (records : D → List Record) (setup : Setup)
+pub altairs_may_begin : {B H D : Type 0} (state : B → Guest) (records : D → List Record) (setup : Setup)
     (primary backup : B) (store : D) →
     ((setup : Setup) (sectors : SectorAddress → List ℕ) → Lawful (altair setup sectors)) →
     ((setup : Setup) (sectors : SectorAddress → List ℕ) → StaysOnDisk (altair setup sectors) setup.drives) →

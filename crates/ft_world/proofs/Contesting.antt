@@ -1,6 +1,7 @@
 -- A node asks the arbiter. If the node itself does not refuse, the world's answer is the arbiter's: the first node to
 -- ask for a generation has won it, a winner that asks again changes nothing, and any other node has lost, and is
 -- halted.
+use Rattle.guest_board.specs.Guest.{Guest}
 use Rattle.std.proofs.Common.{◌≡◌, [], ◌∷◌, ◌∙◌, ◌⊎◌, Bool, Err, List, None, Ok, Some, ap, eq-eqb, false, inl, inr, ne_eqb, not, refl, subst, sym, true, ℕ}
 use Rattle.std.specs.Prelude.{if◌then◌else◌, Option, slice_get, slice_set}
 use Rattle.arbiter_core.specs.Winners.{after_asking, winner_of}
@@ -94,15 +95,15 @@ left {S} w n (Some y) x at e =
 -- ---- the node asks
 
 -- it is refused, and nothing changes
-stays : {B H D S : Type 0} (state : B → S) (M : Machine S) (records : D → List Record) (old : Running B H D)
+stays : {B H D S : Type 0} (state : B → S) (copied : B → Guest) (M : Machine S) (records : D → List Record) (old : Running B H D)
     (c : Course S) (n : ℕ) (fault : Fault) (hosts : List (Host B H)) (askings : List Asking) →
-    Shows state M records old c → AreHosts state M hosts c.world.nodes → askings ≡ old.askings →
+    (h : Shows state copied M records old c) → AreHosts state M c.copying h.drives hosts c.world.nodes → askings ≡ old.askings →
     Row (machine_of M c) c.copying c.world (protocol.Suspect n) (protocol.Refused fault) c.world →
-    Applies state M records c (event.Suspect n) (Err fault) (record old { hosts = hosts; askings = askings })
-stays state M records old c n fault hosts askings h are same row =
-    subst (λ l. Applies state M records c (event.Suspect n) (Err fault) (record old { hosts = hosts; askings = l }))
+    Applies state copied M records c (event.Suspect n) (Err fault) (record old { hosts = hosts; askings = askings })
+stays state copied M records old c n fault hosts askings h are same row =
+    subst (λ l. Applies state copied M records c (event.Suspect n) (Err fault) (record old { hosts = hosts; askings = l }))
     (sym same)
-    (unchanged state M records old (record old { hosts = hosts }) c (event.Suspect n) fault h
+    (unchanged state copied M records old (record old { hosts = hosts }) c (event.Suspect n) fault h
     (with_hosts state M records h.drives old c hosts h.parts are) row)
 
 -- its own number is not another's
@@ -113,17 +114,17 @@ is_another : (winner n : ℕ) → (winner ≡ n → ⊥) → fault_if (is_other 
 is_another winner n e = ap (λ b. fault_if (not b) Lost) (ne_eqb winner n e)
 
 -- it has won, or had won before
-wins_it : {B H D S : Type 0} (state : B → S) (M : Machine S) (records : D → List Record) (old : Running B H D)
+wins_it : {B H D S : Type 0} (state : B → S) (copied : B → Guest) (M : Machine S) (records : D → List Record) (old : Running B H D)
     (c : Course S) (n : ℕ) (won : Won) (hosts : List (Host B H)) (askings : List Asking) (x : Node S)
-    (winner : Option ℕ) → Shows state M records old c → slice_get c.world.nodes n ≡ Some x →
+    (winner : Option ℕ) → (h : Shows state copied M records old c) → slice_get c.world.nodes n ≡ Some x →
     winner_of old.askings x.generation ≡ winner →
     refusal (machine_of M c) c.copying c.world (protocol.Suspect n) ≡ fault_if (is_other winner n) Lost →
-    SuspectsOf winner old.askings n x (Ok won) askings (λ y. AreHosts state M hosts (slice_set c.world.nodes n y)) →
-    Applies state M records c (event.Suspect n) (Ok reply.Won) (record old { hosts = hosts; askings = askings })
-wins_it state M records old c n won hosts askings x None h there is free (asked, are) =
-    subst (λ l. Applies state M records c (event.Suspect n) (Ok reply.Won) (record old { hosts = hosts; askings = l }))
+    SuspectsOf winner old.askings n x (Ok won) askings (λ y. AreHosts state M c.copying h.drives hosts (slice_set c.world.nodes n y)) →
+    Applies state copied M records c (event.Suspect n) (Ok reply.Won) (record old { hosts = hosts; askings = askings })
+wins_it state copied M records old c n won hosts askings x None h there is free (asked, are) =
+    subst (λ l. Applies state copied M records c (event.Suspect n) (Ok reply.Won) (record old { hosts = hosts; askings = l }))
     (sym asked)
-    (applies state M records old c (event.Suspect n) (Ok reply.Won) (with_winner c.world n x)
+    (applies state copied M records old c (event.Suspect n) (Ok reply.Won) (with_winner c.world n x)
     (record old { hosts = hosts; askings = after_asking old.askings x.generation n }) h
     (Accepts free
     (record {
@@ -133,10 +134,10 @@ wins_it state M records old c n won hosts askings x None h there is free (asked,
       after = inl (sym (h.parts.winners x.generation) ∙ is, refl);
     }))
     (with_one_winner state M records h.drives old c hosts n x h.parts there is are))
-wins_it state M records old c n won hosts askings x (Some winner) h there is free (own, same, are) =
-    subst (λ l. Applies state M records c (event.Suspect n) (Ok reply.Won) (record old { hosts = hosts; askings = l }))
+wins_it state copied M records old c n won hosts askings x (Some winner) h there is free (own, same, are) =
+    subst (λ l. Applies state copied M records c (event.Suspect n) (Ok reply.Won) (record old { hosts = hosts; askings = l }))
     (sym same)
-    (applies state M records old c (event.Suspect n) (Ok reply.Won) c.world (record old { hosts = hosts }) h
+    (applies state copied M records old c (event.Suspect n) (Ok reply.Won) c.world (record old { hosts = hosts }) h
     (Accepts (free ∙ not_other winner n own)
     (record {
       x = x;
@@ -145,29 +146,29 @@ wins_it state M records old c n won hosts askings x (Some winner) h there is fre
       after = inr (sym (h.parts.winners x.generation) ∙ is ∙ ap Some own, refl);
     }))
     (with_hosts state M records h.drives old c hosts h.parts
-    (subst (AreHosts state M hosts) (set_get c.world.nodes n x there) are)))
+    (subst (AreHosts state M c.copying h.drives hosts) (set_get c.world.nodes n x there) are)))
 
 -- it is out of memory, or it has lost and is halted
-loses_it : {B H D S : Type 0} (state : B → S) (M : Machine S) (records : D → List Record) (old : Running B H D)
+loses_it : {B H D S : Type 0} (state : B → S) (copied : B → Guest) (M : Machine S) (records : D → List Record) (old : Running B H D)
     (c : Course S) (n : ℕ) (fault : Fault) (hosts : List (Host B H)) (askings : List Asking) (x : Node S)
-    (winner : Option ℕ) → Shows state M records old c → slice_get c.world.nodes n ≡ Some x →
+    (winner : Option ℕ) → (h : Shows state copied M records old c) → slice_get c.world.nodes n ≡ Some x →
     winner_of old.askings x.generation ≡ winner →
     refusal (machine_of M c) c.copying c.world (protocol.Suspect n) ≡ fault_if (is_other winner n) Lost →
-    SuspectsOf winner old.askings n x (Err fault) askings (λ y. AreHosts state M hosts (slice_set c.world.nodes n y)) →
-    Applies state M records c (event.Suspect n) (Err fault) (record old { hosts = hosts; askings = askings })
-loses_it state M records old c n fault hosts askings x None h there is free (needs, same, are) =
-    stays state M records old c n fault hosts askings h
-    (subst (AreHosts state M hosts) (set_get c.world.nodes n x there) are) same
+    SuspectsOf winner old.askings n x (Err fault) askings (λ y. AreHosts state M c.copying h.drives hosts (slice_set c.world.nodes n y)) →
+    Applies state copied M records c (event.Suspect n) (Err fault) (record old { hosts = hosts; askings = askings })
+loses_it state copied M records old c n fault hosts askings x None h there is free (needs, same, are) =
+    stays state copied M records old c n fault hosts askings h
+    (subst (AreHosts state M c.copying h.drives hosts) (set_get c.world.nodes n x there) are) same
     (subst (λ f. Row (machine_of M c) c.copying c.world (protocol.Suspect n) (protocol.Refused f) c.world) (sym needs)
     (NeedsMemory free
     (record { x = x; there = there; said = sym (h.parts.winners x.generation) ∙ is })))
-loses_it state M records old c n fault hosts askings x (Some winner) h there is free (other, lost, same, are) =
+loses_it state copied M records old c n fault hosts askings x (Some winner) h there is free (other, lost, same, are) =
     subst
-    (λ l. Applies state M records c (event.Suspect n) (Err fault) (record old { hosts = hosts; askings = l }))
+    (λ l. Applies state copied M records c (event.Suspect n) (Err fault) (record old { hosts = hosts; askings = l }))
     (sym same)
     (subst
-    (λ f. Applies state M records c (event.Suspect n) (Err f) (record old { hosts = hosts })) (sym lost)
-    (applies state M records old c (event.Suspect n) (Err Lost) (with_node c.world n (halts x))
+    (λ f. Applies state copied M records c (event.Suspect n) (Err f) (record old { hosts = hosts })) (sym lost)
+    (applies state copied M records old c (event.Suspect n) (Err Lost) (with_node c.world n (halts x))
     (record old { hosts = hosts }) h
     (Refuses (free ∙ is_another winner n other) (record { x = x; there = there; y = halts x; done = refl; after = refl }))
     (with_one_host state M records h.drives old c hosts n x (halts x) h.parts there refl refl are)))
@@ -189,32 +190,32 @@ asked_first : {S : Type 0} (w : World S) (n : ℕ) (x : Node S) (winner : Option
     fault_if (is_other (winner_in w.winners x.generation) n) Lost ≡ fault_if (is_other winner n) Lost
 asked_first w n x winner e = ap (λ o. fault_if (is_other o n) Lost) (sym e)
 
-pub suspects_applies : {B H D S : Type 0} (state : B → S) (M : Machine S) (records : D → List Record)
+pub suspects_applies : {B H D S : Type 0} (state : B → S) (copied : B → Guest) (M : Machine S) (records : D → List Record)
     (old : Running B H D) (c : Course S) (n : ℕ) (won : Won) (hosts : List (Host B H)) (askings : List Asking) →
-    Shows state M records old c → AsksHost state M c.world.nodes n old.askings (Ok won) hosts askings →
-    Applies state M records c (event.Suspect n) (Ok reply.Won) (record old { hosts = hosts; askings = askings })
-suspects_applies state M records old c n won hosts askings h a =
+    (h : Shows state copied M records old c) → AsksHost state M c.copying h.drives c.world.nodes n old.askings (Ok won) hosts askings →
+    Applies state copied M records c (event.Suspect n) (Ok reply.Won) (record old { hosts = hosts; askings = askings })
+suspects_applies state copied M records old c n won hosts askings h a =
     let here = slice_get c.world.nodes n in
     let k = not_refused (at_node here suspect_refusal) won
-    (AreHosts state M hosts c.world.nodes × (askings ≡ old.askings))
-    (Asked state M c.world.nodes n old.askings (Ok won) hosts askings) a in
+    (AreHosts state M c.copying h.drives hosts c.world.nodes × (askings ≡ old.askings))
+    (Asked state M c.copying h.drives c.world.nodes n old.askings (Ok won) hosts askings) a in
     let x = k.1.x in
     let winner = winner_of old.askings x.generation in
-    wins_it state M records old c n won hosts askings x winner h k.1.there refl
+    wins_it state copied M records old c n won hosts askings x winner h k.1.there refl
     (left c.world n here x k.1.there k.0 ∙ asked_first c.world n x winner (h.parts.winners x.generation)) k.1.answer
 
-pub suspects_refused : {B H D S : Type 0} (state : B → S) (M : Machine S) (records : D → List Record)
+pub suspects_refused : {B H D S : Type 0} (state : B → S) (copied : B → Guest) (M : Machine S) (records : D → List Record)
     (old : Running B H D) (c : Course S) (n : ℕ) (fault : Fault) (hosts : List (Host B H)) (askings : List Asking) →
-    Shows state M records old c → AsksHost state M c.world.nodes n old.askings (Err fault) hosts askings →
-    Applies state M records c (event.Suspect n) (Err fault) (record old { hosts = hosts; askings = askings })
-suspects_refused state M records old c n fault hosts askings h a =
+    (h : Shows state copied M records old c) → AsksHost state M c.copying h.drives c.world.nodes n old.askings (Err fault) hosts askings →
+    Applies state copied M records c (event.Suspect n) (Err fault) (record old { hosts = hosts; askings = askings })
+suspects_refused state copied M records old c n fault hosts askings h a =
     let here = slice_get c.world.nodes n in
     elim (refused_or Won (at_node here suspect_refusal) fault
-    (AreHosts state M hosts c.world.nodes × (askings ≡ old.askings))
-    (Asked state M c.world.nodes n old.askings (Err fault) hosts askings) a) [
+    (AreHosts state M c.copying h.drives hosts c.world.nodes × (askings ≡ old.askings))
+    (Asked state M c.copying h.drives c.world.nodes n old.askings (Err fault) hosts askings) a) [
       | inl p ↦ (let r = refused_first c.world n here fault p.0 in
-          stays state M records old c n fault hosts askings h p.1.0 p.1.1 (Refuses r.0 r.1))
-      | inr p ↦ loses_it state M records old c n fault hosts askings p.1.x
+          stays state copied M records old c n fault hosts askings h p.1.0 p.1.1 (Refuses r.0 r.1))
+      | inr p ↦ loses_it state copied M records old c n fault hosts askings p.1.x
           (winner_of old.askings p.1.x.generation) h p.1.there refl
           (left c.world n here p.1.x p.1.there p.0
           ∙ asked_first c.world n p.1.x (winner_of old.askings p.1.x.generation) (h.parts.winners p.1.x.generation))

@@ -1,5 +1,6 @@
 -- The disk's answers arrive at a node: a write is done, or a sector was read. The message brings the same as in the
 -- world that is shown, so the event is refused alike, as the node refuses the input.
+use Rattle.guest_board.specs.Guest.{Guest}
 use Rattle.std.proofs.Common.{◌≡◌, ◌∙◌, Err, List, None, Ok, Some, ap, refl, ℕ}
 use Rattle.std.specs.Option.{option_and_then}
 use Rattle.std.specs.Prelude.{Option, slice_get}
@@ -62,20 +63,20 @@ none_done M here (Some (message.Write write)) q a e = absurd a
 none_done M here (Some (message.Sector r)) (Some (world.SectorRead ad n bs)) a e = refl
 none_done M here (Some (message.Sector r)) q a e = absurd a
 
-pub done_unknown : {B H D S : Type 0} (state : B → S) (M : Machine S) (records : D → List Record)
+pub done_unknown : {B H D S : Type 0} (state : B → S) (copied : B → Guest) (M : Machine S) (records : D → List Record)
     (old : Running B H D) (c : Course S) (m n : ℕ) → option_and_then written_of (slice_get old.messages m) ≡ None →
-    Shows state M records old c → Applies state M records c (event.PutReply m n) (Err Unknown) old
-done_unknown state M records old c m n brings h =
-    refuses state M records old old c (event.PutReply m n) Unknown h refl
+    Shows state copied M records old c → Applies state copied M records c (event.PutReply m n) (Err Unknown) old
+done_unknown state copied M records old c m n brings h =
+    refuses state copied M records old old c (event.PutReply m n) Unknown h refl
     (none_done (machine_of M c) (slice_get c.world.nodes n) (slice_get old.messages m) (slice_get c.world.messages m)
     (h.parts.messages.each m) brings)
     refl
 
 -- the message is the world's
-done_there : {B H D S : Type 0} (state : B → S) (M : Machine S) (records : D → List Record) (old : Running B H D)
+done_there : {B H D S : Type 0} (state : B → S) (copied : B → Guest) (M : Machine S) (records : D → List Record) (old : Running B H D)
     (c : Course S) (m number : ℕ) → option_and_then written_of (slice_get old.messages m) ≡ Some number →
-    Shows state M records old c → slice_get c.world.messages m ≡ Some (world.WriteDone number)
-done_there state M records old c m number brings h =
+    Shows state copied M records old c → slice_get c.world.messages m ≡ Some (world.WriteDone number)
+done_there state copied M records old c m number brings h =
     brings_done (slice_get old.messages m) (slice_get c.world.messages m) number (h.parts.messages.each m) brings
 
 done_free : {S : Type 0} (M : Machine S) (c : Course S) (m n number : ℕ) →
@@ -84,23 +85,23 @@ done_free : {S : Type 0} (M : Machine S) (c : Course S) (m n number : ℕ) →
     ≡ at_node (slice_get c.world.nodes n) (put_reply_refusal M number)
 done_free M c m n number there = ap (λ q. at_write_done (machine_of M c) (slice_get c.world.nodes n) q) there
 
-pub done_refused : {B H D S : Type 0} (state : B → S) (M : Machine S) (records : D → List Record)
+pub done_refused : {B H D S : Type 0} (state : B → S) (copied : B → Guest) (M : Machine S) (records : D → List Record)
     (old : Running B H D) (c : Course S) (m n number : ℕ) (fault : Fault) (hosts : List (Host B H)) →
-    option_and_then written_of (slice_get old.messages m) ≡ Some number → Shows state M records old c →
-    AtHost {A = Unit {0}} state M c.world n (put_reply_refusal M number) Ever (λ done. Took M (input.Written number)) (Err fault) hosts →
-    Applies state M records c (event.PutReply m n) (Err fault) (record old { hosts = hosts })
-done_refused state M records old c m n number fault hosts brings h a =
+    option_and_then written_of (slice_get old.messages m) ≡ Some number → (h : Shows state copied M records old c) →
+    AtHost {A = Unit {0}} state M c.copying h.drives c.world n (put_reply_refusal M number) Ever (λ done. Took M (input.Written number)) (Err fault) hosts →
+    Applies state copied M records c (event.PutReply m n) (Err fault) (record old { hosts = hosts })
+done_refused state copied M records old c m n number fault hosts brings h a =
     node_refused h (event.PutReply m n) fault hosts
-    (done_free M c m n number (done_there state M records old c m number brings h)) (λ s. tt) refl a
+    (done_free M c m n number (done_there state copied M records old c m number brings h)) (λ s. tt) refl a
 
-pub done_applies : {B H D S : Type 0} (state : B → S) (M : Machine S) (records : D → List Record)
+pub done_applies : {B H D S : Type 0} (state : B → S) (copied : B → Guest) (M : Machine S) (records : D → List Record)
     (old : Running B H D) (c : Course S) (m n number : ℕ) (hosts : List (Host B H)) →
-    option_and_then written_of (slice_get old.messages m) ≡ Some number → Shows state M records old c →
-    AtHost {A = Unit {0}} state M c.world n (put_reply_refusal M number) Ever (λ done. Took M (input.Written number)) (Ok tt) hosts →
-    Applies state M records c (event.PutReply m n) (Ok reply.Taken) (record old { hosts = hosts })
-done_applies state M records old c m n number hosts brings h a =
-    let there = done_there state M records old c m number brings h in
-    input_applies state M records old c (event.PutReply m n) n (put_reply_refusal M number) (input.Written number) hosts h
+    option_and_then written_of (slice_get old.messages m) ≡ Some number → (h : Shows state copied M records old c) →
+    AtHost {A = Unit {0}} state M c.copying h.drives c.world n (put_reply_refusal M number) Ever (λ done. Took M (input.Written number)) (Ok tt) hosts →
+    Applies state copied M records c (event.PutReply m n) (Ok reply.Taken) (record old { hosts = hosts })
+done_applies state copied M records old c m n number hosts brings h a =
+    let there = done_there state copied M records old c m number brings h in
+    input_applies state copied M records old c (event.PutReply m n) n (put_reply_refusal M number) (input.Written number) hosts h
     (done_free M c m n number there)
     (λ new takes. record { number = number; message = there; input = takes }) a
 
@@ -137,20 +138,20 @@ none_read M here (Some (message.Write write)) q a e = absurd a
 none_read M here (Some (message.Written k)) (Some (world.WriteDone d)) a e = refl
 none_read M here (Some (message.Written k)) q a e = absurd a
 
-pub read_unknown : {B H D S : Type 0} (state : B → S) (M : Machine S) (records : D → List Record)
+pub read_unknown : {B H D S : Type 0} (state : B → S) (copied : B → Guest) (M : Machine S) (records : D → List Record)
     (old : Running B H D) (c : Course S) (m n : ℕ) → option_and_then sector_of (slice_get old.messages m) ≡ None →
-    Shows state M records old c → Applies state M records c (event.GetReply m n) (Err Unknown) old
-read_unknown state M records old c m n brings h =
-    refuses state M records old old c (event.GetReply m n) Unknown h refl
+    Shows state copied M records old c → Applies state copied M records c (event.GetReply m n) (Err Unknown) old
+read_unknown state copied M records old c m n brings h =
+    refuses state copied M records old old c (event.GetReply m n) Unknown h refl
     (none_read (machine_of M c) (slice_get c.world.nodes n) (slice_get old.messages m) (slice_get c.world.messages m)
     (h.parts.messages.each m) brings)
     refl
 
-read_there : {B H D S : Type 0} (state : B → S) (M : Machine S) (records : D → List Record) (old : Running B H D)
+read_there : {B H D S : Type 0} (state : B → S) (copied : B → Guest) (M : Machine S) (records : D → List Record) (old : Running B H D)
     (c : Course S) (m : ℕ) (read : SectorRead) → option_and_then sector_of (slice_get old.messages m) ≡ Some read →
-    Shows state M records old c →
+    Shows state copied M records old c →
     slice_get c.world.messages m ≡ Some (world.SectorRead (read_address read) read.number read.bytes)
-read_there state M records old c m read brings h =
+read_there state copied M records old c m read brings h =
     brings_read (slice_get old.messages m) (slice_get c.world.messages m) read (h.parts.messages.each m) brings
 
 read_free : {S : Type 0} (M : Machine S) (c : Course S) (m n : ℕ) (read : SectorRead) →
@@ -159,25 +160,25 @@ read_free : {S : Type 0} (M : Machine S) (c : Course S) (m n : ℕ) (read : Sect
     ≡ at_node (slice_get c.world.nodes n) (get_reply_refusal M (read_address read) read.number read.bytes)
 read_free M c m n read there = ap (λ q. at_sector_read (machine_of M c) (slice_get c.world.nodes n) q) there
 
-pub read_refused : {B H D S : Type 0} (state : B → S) (M : Machine S) (records : D → List Record)
+pub read_refused : {B H D S : Type 0} (state : B → S) (copied : B → Guest) (M : Machine S) (records : D → List Record)
     (old : Running B H D) (c : Course S) (m n : ℕ) (read : SectorRead) (fault : Fault) (hosts : List (Host B H)) →
-    option_and_then sector_of (slice_get old.messages m) ≡ Some read → Shows state M records old c →
-    AtHost {A = Unit {0}} state M c.world n (get_reply_refusal M (read_address read) read.number read.bytes) Ever
+    option_and_then sector_of (slice_get old.messages m) ≡ Some read → (h : Shows state copied M records old c) →
+    AtHost {A = Unit {0}} state M c.copying h.drives c.world n (get_reply_refusal M (read_address read) read.number read.bytes) Ever
     (λ done. Took M (input.Sector read.drive read.sector read.number read.bytes)) (Err fault) hosts →
-    Applies state M records c (event.GetReply m n) (Err fault) (record old { hosts = hosts })
-read_refused state M records old c m n read fault hosts brings h a =
+    Applies state copied M records c (event.GetReply m n) (Err fault) (record old { hosts = hosts })
+read_refused state copied M records old c m n read fault hosts brings h a =
     node_refused h (event.GetReply m n) fault hosts
-    (read_free M c m n read (read_there state M records old c m read brings h)) (λ s. tt) refl a
+    (read_free M c m n read (read_there state copied M records old c m read brings h)) (λ s. tt) refl a
 
-pub read_applies : {B H D S : Type 0} (state : B → S) (M : Machine S) (records : D → List Record)
+pub read_applies : {B H D S : Type 0} (state : B → S) (copied : B → Guest) (M : Machine S) (records : D → List Record)
     (old : Running B H D) (c : Course S) (m n : ℕ) (read : SectorRead) (hosts : List (Host B H)) →
-    option_and_then sector_of (slice_get old.messages m) ≡ Some read → Shows state M records old c →
-    AtHost {A = Unit {0}} state M c.world n (get_reply_refusal M (read_address read) read.number read.bytes) Ever
+    option_and_then sector_of (slice_get old.messages m) ≡ Some read → (h : Shows state copied M records old c) →
+    AtHost {A = Unit {0}} state M c.copying h.drives c.world n (get_reply_refusal M (read_address read) read.number read.bytes) Ever
     (λ done. Took M (input.Sector read.drive read.sector read.number read.bytes)) (Ok tt) hosts →
-    Applies state M records c (event.GetReply m n) (Ok reply.Taken) (record old { hosts = hosts })
-read_applies state M records old c m n read hosts brings h a =
-    let there = read_there state M records old c m read brings h in
-    input_applies state M records old c (event.GetReply m n) n
+    Applies state copied M records c (event.GetReply m n) (Ok reply.Taken) (record old { hosts = hosts })
+read_applies state copied M records old c m n read hosts brings h a =
+    let there = read_there state copied M records old c m read brings h in
+    input_applies state copied M records old c (event.GetReply m n) n
     (get_reply_refusal M (read_address read) read.number read.bytes)
     (input.Sector read.drive read.sector read.number read.bytes) hosts h (read_free M c m n read there)
     (λ new takes. record {

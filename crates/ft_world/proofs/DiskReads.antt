@@ -1,5 +1,6 @@
 -- A sector is read at the track of the selected drive's head, by a node that serves. Its machine was run from boot, so
 -- it is a sector of the disk; what is read is what the writes that arrived have left there.
+use Rattle.guest_board.specs.Guest.{Guest}
 use Rattle.std.proofs.Common.{◌≡◌, ◌<◌, ◌+◌, ◌≤◌, [], ◌∷◌, ◌∙◌, Bool, Err, List, None, Ok, Some, ap, arith, cond, false, inl, inr, ltb-true, not, refl, subst, sym, true, ℕ}
 use Rattle.std.specs.Option.{option_map}
 use Rattle.std.specs.Prelude.{IsTrue, Option, Result, is_none, nat_le, nat_lt, slice_get}
@@ -59,19 +60,19 @@ is_sector sector None low =
 is_sector sector (Some fault) low =
     ap (λ p. first_of (p ∷ Some fault ∷ [])) (stands_not (nat_le 32 sector) Unknown (lt-leb 32 sector low))
 
-pub gets_unknown : {B H D S : Type 0} (state : B → S) (M : Machine S) (records : D → List Record)
-    (old : Running B H D) (c : Course S) (n sector : ℕ) → Shows state M records old c → SECTORS ≤ sector →
-    Applies state M records c (event.Get n sector) (Err Unknown) old
-gets_unknown state M records old c n sector h high =
-    refuses state M records old old c (event.Get n sector) Unknown h refl
+pub gets_unknown : {B H D S : Type 0} (state : B → S) (copied : B → Guest) (M : Machine S) (records : D → List Record)
+    (old : Running B H D) (c : Course S) (n sector : ℕ) → Shows state copied M records old c → SECTORS ≤ sector →
+    Applies state copied M records c (event.Get n sector) (Err Unknown) old
+gets_unknown state copied M records old c n sector h high =
+    refuses state copied M records old old c (event.Get n sector) Unknown h refl
     (no_sector_first sector (at_node (slice_get c.world.nodes n) (get_refusal (machine_of M c))) high) refl
 
-pub gets_refused : {B H D S : Type 0} (state : B → S) (M : Machine S) (records : D → List Record)
-    (old : Running B H D) (c : Course S) (n sector : ℕ) (fault : Fault) → Shows state M records old c →
+pub gets_refused : {B H D S : Type 0} (state : B → S) (copied : B → Guest) (M : Machine S) (records : D → List Record)
+    (old : Running B H D) (c : Course S) (n sector : ℕ) (fault : Fault) → Shows state copied M records old c →
     sector < SECTORS →
     AsksNode c.world n (get_refusal M) Never (IsUnder M sector) (Err fault) →
-    Applies state M records c (event.Get n sector) (Err fault) old
-gets_refused state M records old c n sector fault h low a =
+    Applies state copied M records c (event.Get n sector) (Err fault) old
+gets_refused state copied M records old c n sector fault h low a =
     asks_refused h (event.Get n sector) fault
     (is_sector sector (at_node (slice_get c.world.nodes n) (get_refusal M)) low) (λ never. absurd never.said) refl a
 
@@ -129,11 +130,11 @@ pub record StandsAt {S : Type 0} (N : Machine S) (drives : ℕ) (w : World S) (n
   pub there : IsTrue (has_sector drives address)
   pub free : first_of (no_sector sector ∷ at_node (slice_get w.nodes n) (get_refusal N) ∷ []) ≡ None
 
-pub stands_at : {B H D S : Type 0} (state : B → S) (M : Machine S) (records : D → List Record) (old : Running B H D)
-    (c : Course S) (n sector : ℕ) (address : SectorAddress) → (h : Shows state M records old c) → sector < SECTORS →
+pub stands_at : {B H D S : Type 0} (state : B → S) (copied : B → Guest) (M : Machine S) (records : D → List Record) (old : Running B H D)
+    (c : Course S) (n sector : ℕ) (address : SectorAddress) → (h : Shows state copied M records old c) → sector < SECTORS →
     AsksNode c.world n (get_refusal M) Never (IsUnder M sector) (Ok address) →
     StandsAt (machine_of M c) h.drives c.world n sector address
-stands_at state M records old c n sector address h low a =
+stands_at state copied M records old c n sector address h low a =
     let N = machine_of M c in
     let o = at_node (slice_get c.world.nodes n) (get_refusal N) in
     let k = node_asked c.world n (get_refusal M) address a in
@@ -154,15 +155,15 @@ stands_at state M records old c n sector address h low a =
       free = is_sector sector o low ∙ k.0;
     }
 
-pub gets_applies : {B H D S : Type 0} (state : B → S) (M : Machine S) (records : D → List Record)
+pub gets_applies : {B H D S : Type 0} (state : B → S) (copied : B → Guest) (M : Machine S) (records : D → List Record)
     (old : Running B H D) (c : Course S) (n sector : ℕ) (address : SectorAddress) (answer : Result Reply Fault)
-    (ms : List Message) (disk : D) → Shows state M records old c → sector < SECTORS →
+    (ms : List Message) (disk : D) → Shows state copied M records old c → sector < SECTORS →
     AsksNode c.world n (get_refusal M) Never (IsUnder M sector) (Ok address) →
     GetsSector old.messages (records old.disk) address answer ms (records disk) →
-    Applies state M records c (event.Get n sector) answer (record old { messages = ms; disk = disk })
-gets_applies state M records old c n sector address (Ok r) ms disk h low a (read, is_read, said, sends, after) =
+    Applies state copied M records c (event.Get n sector) answer (record old { messages = ms; disk = disk })
+gets_applies state copied M records old c n sector address (Ok r) ms disk h low a (read, is_read, said, sends, after) =
     let N = machine_of M c in
-    let s = stands_at state M records old c n sector address h low a in
+    let s = stands_at state copied M records old c n sector address h low a in
     let met = h.parts.disk.there address s.there in
     let kept = h.parts.disk.kept address met.0 met.1 in
     let place = place_within h.drives address h.machine.drives_within s.there in
@@ -175,7 +176,7 @@ gets_applies state M records old c n sector address (Ok r) ms disk h low a (read
     (sent.SectorRead address (sector_record N c.world.puts address).number
     (sector_record N c.world.puts address).bytes))
     (read_is (records old.disk) address met.0 read met.1 is_read) message_is in
-    applies state M records old c (event.Get n sector) (Ok r) (with_read N c.world address)
+    applies state copied M records old c (event.Get n sector) (Ok r) (with_read N c.world address)
     (record old { messages = ms; disk = disk }) h
     (Accepts s.free (record {
       address = address;
@@ -195,16 +196,16 @@ gets_applies state M records old c n sector address (Ok r) ms disk h low a (read
       generation = h.parts.generation;
       backup = h.parts.backup;
     })
-gets_applies state M records old c n sector address (Err fault) ms disk h low a (why, same, after) =
+gets_applies state copied M records old c n sector address (Err fault) ms disk h low a (why, same, after) =
     let N = machine_of M c in
-    let s = stands_at state M records old c n sector address h low a in
+    let s = stands_at state copied M records old c n sector address h low a in
     let met = h.parts.disk.there address s.there in
     let refused = λ (f : Fault). Row N c.copying c.world (protocol.Get n sector) (protocol.Refused f) c.world in
     let row : refused fault = elim why [
       | inl is ↦ subst refused (sym is) (NeedsMemory s.free tt)
       | inr is ↦ subst refused (sym (not_put (records old.disk) address met.0 fault met.1 is)) (DeviceFails s.free refl)
     ] in
-    unchanged state M records old (record old { messages = ms; disk = disk }) c (event.Get n sector) fault h
+    unchanged state copied M records old (record old { messages = ms; disk = disk }) c (event.Get n sector) fault h
     (record {
       hosts = h.parts.hosts;
       messages = subst (λ l. AreMessages l c.world.messages) (sym same) h.parts.messages;
@@ -218,13 +219,13 @@ gets_applies state M records old c n sector address (Err fault) ms disk h low a 
 
 -- A sector is only looked at: the disk has the same records, so the same worlds are shown.
 
-pub same_shown : {B H D S : Type 0} (state : B → S) (M : Machine S) (records : D → List Record)
-    (old new : Running B H D) → ShowsSome state M records old → records new.disk ≡ records old.disk →
-    new ≡ record old { disk = new.disk } → ShowsSome state M records new
-same_shown state M records old new some kept others =
+pub same_shown : {B H D S : Type 0} (state : B → S) (copied : B → Guest) (M : Machine S) (records : D → List Record)
+    (old new : Running B H D) → ShowsSome state copied M records old → records new.disk ≡ records old.disk →
+    new ≡ record old { disk = new.disk } → ShowsSome state copied M records new
+same_shown state copied M records old new some kept others =
     let h = some.shows in
     let p = h.parts in
-    subst (ShowsSome state M records) (sym others) (record {
+    subst (ShowsSome state copied M records) (sym others) (record {
       course = some.course;
       shows = record {
         drives = h.drives;

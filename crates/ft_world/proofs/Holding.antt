@@ -1,5 +1,6 @@
 -- A station holds the next entry of the log: the input of the entry is appended to its inputs, and it settles up to the
 -- count of the entry.
+use Rattle.pair_protocol.specs.Copying.{Copying}
 use Rattle.std.proofs.Common.{◌≡◌, ◌∙◌, [], ◌∷◌, ◌++◌, append-nil, append_assoc, List, ℕ, ap, refl, subst, sym}
 use Rattle.guest_board.specs.Machine.{Machine}
 use Rattle.log_entry.specs.Entries.{count_of, inputs_of, last_count, timed_in, timed_of}
@@ -11,18 +12,18 @@ use Rattle.ft_node.specs.Calls.{Makes}
 use Rattle.ft_node.specs.Seats.{MayHold}
 use Rattle.ft_node.specs.declared.node.Node as code
 use Rattle.ft_node.specs.declared.node.Node.TheVariants as seat
-use Rattle.ft_world.specs.Shows.{IsStation, IsUncopied}
+use Rattle.ft_world.specs.Shows.{IsStation, IsNode}
 use Rattle.ft_world.specs.declared.station.Station.{Station}
 
 last_count-append : (c : ℕ) (es : List Entry) (e : Entry) → last_count c (es ++ e ∷ []) ≡ count_of e
 last_count-append c [] e = refl
 last_count-append c (k ∷ es) e = last_count-append (count_of k) es e
 
-held_station : {B S : Type 0} (state : B → S) (M : Machine S) (h new : Station B) (e : Entry) (x : Node S)
-    → x.role ≡ Backup → IsStation state M h x → IsUncopied state M new.node (holds x e)
+held_station : {B H S : Type 0} (state : B → S) (M : Machine S) (C : Copying S) (drives : ℕ) (h new : Station B H) (e : Entry) (x : Node S)
+    → x.role ≡ Backup → IsStation state M C drives h x → IsNode state M C drives new.node (holds x e)
     → new.inputs ≡ h.inputs ++ timed_in (timed_of e) → new.count ≡ count_of e
-    → IsStation state M new (holds x e)
-held_station state M h new e x role is now same c = record {
+    → IsStation state M C drives new (holds x e)
+held_station state M C drives h new e x role is now same c = record {
   node = now;
   inputs = same ∙ ap (λ ts. ts ++ timed_in (timed_of e)) (is.inputs ∙ ap (list_of x) role)
       ∙ append_assoc x.copy (inputs_of x.held) (timed_in (timed_of e))
@@ -33,23 +34,23 @@ held_station state M h new e x role is now same c = record {
 }
 
 -- a node that may hold an entry is a backup
-backs_up : {B S : Type 0} (state : B → S) (M : Machine S) (node : code.Node B) (e : Entry) (x : Node S)
-    → MayHold node e → IsUncopied state M node x → x.role ≡ Backup
-backs_up state M (seat.Backup b) e x may is = is.role_is
-backs_up state M (seat.Primary p) e x may is = absurd may
-backs_up state M (seat.Joining j) e x may is = absurd may
-backs_up state M (seat.Draining d) e x may is = absurd may
-backs_up state M (seat.Alone a) e x may is = absurd may
-backs_up state M (seat.Halted h) e x may is = absurd may
+backs_up : {B H S : Type 0} (state : B → S) (M : Machine S) (C : Copying S) (drives : ℕ) (node : code.Node B H) (e : Entry) (x : Node S)
+    → MayHold node e → IsNode state M C drives node x → x.role ≡ Backup
+backs_up state M C drives (seat.Backup b) e x may is = is.role_is
+backs_up state M C drives (seat.Primary p) e x may is = absurd may
+backs_up state M C drives (seat.Joining j) e x may is = absurd may
+backs_up state M C drives (seat.Draining d) e x may is = absurd may
+backs_up state M C drives (seat.Alone a) e x may is = absurd may
+backs_up state M C drives (seat.Halted h) e x may is = absurd may
 
-pub holds_on : {B S : Type 0} (state : B → S) (M : Machine S) (h new : Station B) (e : Entry) (x : Node S)
-    → MayHold h.node e → IsStation state M h x → Makes x (λ x y. y ≡ holds x e) (IsUncopied state M new.node)
+pub holds_on : {B H S : Type 0} (state : B → S) (M : Machine S) (C : Copying S) (drives : ℕ) (h new : Station B H) (e : Entry) (x : Node S)
+    → MayHold h.node e → IsStation state M C drives h x → Makes x (λ x y. y ≡ holds x e) (IsNode state M C drives new.node)
     → new.inputs ≡ h.inputs ++ timed_in (timed_of e) → new.count ≡ count_of e
-    → Makes x (λ x y. y ≡ holds x e) (IsStation state M new)
-holds_on state M h new e x may is made same c = record {
+    → Makes x (λ x y. y ≡ holds x e) (IsStation state M C drives new)
+holds_on state M C drives h new e x may is made same c = record {
   y = holds x e;
   done = refl;
   after =
-      held_station state M h new e x (backs_up state M h.node e x may is.node) is
-      (subst (IsUncopied state M new.node) made.done made.after) same c;
+      held_station state M C drives h new e x (backs_up state M C drives h.node e x may is.node) is
+      (subst (IsNode state M C drives new.node) made.done made.after) same c;
 }

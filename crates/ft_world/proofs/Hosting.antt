@@ -1,4 +1,5 @@
 -- A spare host comes: it has generation 0 and no role, so it is neither of the highest generation nor its backup.
+use Rattle.guest_board.specs.Guest.{Guest}
 use Rattle.std.proofs.Common.{◌≡◌, [], ◌∷◌, ◌++◌, ◌∙◌, Err, List, Ok, Some, ap, false, inl, inr, refl, subst, suc, sym, true, zero, ℕ}
 use Rattle.std.specs.Prelude.{max, OnErr, OnOk, Result, slice_get, ◌⊎◌}
 use Rattle.guest_board.specs.Machine.{Machine}
@@ -36,16 +37,16 @@ backup_push {S} nodes x generation backup none only k z here is role = elim (pus
       (let e : is_backup x.role ≡ true = ap (λ (u : Node S). is_backup u.role) (sym same) ∙ role in (cc))
 ]
 
-pub host_comes : {B H D S : Type 0} (state : B → S) (M : Machine S) (records : D → List Record) (old : Running B H D)
-    (c : Course S) (resources : H) → Shows state M records old c →
-    Shows state M records (record old { hosts = old.hosts ++ host.Spare resources ∷ [] })
+pub host_comes : {B H D S : Type 0} (state : B → S) (copied : B → Guest) (M : Machine S) (records : D → List Record) (old : Running B H D)
+    (c : Course S) (resources : H) → (h : Shows state copied M records old c) →
+    Shows state copied M records (record old { hosts = old.hosts ++ host.Spare resources ∷ [] })
     (record c { world = with_host (machine_of M c) c.world })
-host_comes state M records old c resources h = record {
+host_comes state copied M records old c resources h = record {
   drives = h.drives;
   machine = h.machine;
   reached = After h.reached HostComes;
   parts = record {
-    hosts = agree-push (IsHost state M) old.hosts c.world.nodes (host.Spare resources) (spare (machine_of M c)) refl
+    hosts = agree-push (IsHost state M c.copying h.drives) old.hosts c.world.nodes (host.Spare resources) (spare (machine_of M c)) refl
         h.parts.hosts;
     messages = h.parts.messages;
     terminals = h.parts.terminals;
@@ -56,14 +57,14 @@ host_comes state M records old c resources h = record {
   };
 }
 
-pub hosts_go_on : {B H D S E : Type 0} (state : B → S) (M : Machine S) (records : D → List Record)
-    (old new : Running B H D) (answer : Result ℕ E) → ShowsSome state M records old →
+pub hosts_go_on : {B H D S E : Type 0} (state : B → S) (copied : B → Guest) (M : Machine S) (records : D → List Record)
+    (old new : Running B H D) (answer : Result ℕ E) → ShowsSome state copied M records old →
     OnOk answer
-    ((c : Course S) → Shows state M records old c →
-    Shows state M records new (record c { world = with_host (machine_of M c) c.world })) →
-    OnErr answer (new ≡ old) → ShowsSome state M records new
-hosts_go_on state M records old new (Ok n) some shows same = record {
+    ((c : Course S) → Shows state copied M records old c →
+    Shows state copied M records new (record c { world = with_host (machine_of M c) c.world })) →
+    OnErr answer (new ≡ old) → ShowsSome state copied M records new
+hosts_go_on state copied M records old new (Ok n) some shows same = record {
   course = record some.course { world = with_host (machine_of M some.course) some.course.world };
   shows = shows some.course some.shows;
 }
-hosts_go_on state M records old new (Err e) some shows same = subst (ShowsSome state M records) (sym same) some
+hosts_go_on state copied M records old new (Err e) some shows same = subst (ShowsSome state copied M records) (sym same) some

@@ -1,4 +1,5 @@
 -- A station takes an input: the input is appended to its inputs, at the count of its machine.
+use Rattle.pair_protocol.specs.Copying.{Copying}
 use Rattle.std.proofs.Common.{◌≡◌, ◌∙◌, [], ◌∷◌, ◌++◌, Some, ap, inl, inr, refl, subst, sym}
 use Rattle.guest_board.specs.Machine.{Machine}
 use Rattle.guest_board.specs.declared.input.Input.{Input}
@@ -11,7 +12,7 @@ use Rattle.ft_node.specs.Calls.{Makes}
 use Rattle.ft_node.specs.Seats.{MayAccept, board_of}
 use Rattle.ft_node.specs.declared.node.Node as code
 use Rattle.ft_node.specs.declared.node.Node.TheVariants as seat
-use Rattle.ft_world.specs.Shows.{IsStation, IsUncopied}
+use Rattle.ft_world.specs.Shows.{IsStation, IsNode}
 use Rattle.ft_world.specs.declared.station.Station.{Station}
 use Rattle.ft_world.proofs.Keeping.{machine_count, own_inputs}
 
@@ -35,10 +36,10 @@ takes M i x s counts e Draining (inr v) = (cc)
 takes M i x s counts e Spare (inl v) = (cc)
 takes M i x s counts e Spare (inr v) = (cc)
 
-took_station : {B S : Type 0} (state : B → S) (M : Machine S) (i : Input) (h new : Station B) (x y : Node S)
-    → Serving x.role → Takes M i x y → IsStation state M h x → IsUncopied state M new.node y
-    → new.inputs ≡ h.inputs ++ timed h.count i ∷ [] → new.count ≡ h.count → IsStation state M new y
-took_station state M i h new x y serve t is now e c =
+took_station : {B H S : Type 0} (state : B → S) (M : Machine S) (C : Copying S) (drives : ℕ) (i : Input) (h new : Station B H) (x y : Node S)
+    → Serving x.role → Takes M i x y → IsStation state M C drives h x → IsNode state M C drives new.node y
+    → new.inputs ≡ h.inputs ++ timed h.count i ∷ [] → new.count ≡ h.count → IsStation state M C drives new y
+took_station state M C drives i h new x y serve t is now e c =
     let later : Serving y.role = subst (λ q. Serving q) (sym t.role) serve in
     let count : h.count ≡ M.count x.machine = is.count ∙ machine_count M x serve in
     record {
@@ -50,25 +51,25 @@ took_station state M i h new x y serve t is now e c =
     }
 
 -- a node that may accept an input serves
-serves_in : {B S : Type 0} (state : B → S) (M : Machine S) (node : code.Node B) (b : B) (x : Node S)
-    → board_of node ≡ Some b → IsUncopied state M node x → Serving x.role
-serves_in state M (seat.Primary p) b x is node = inl node.role
-serves_in state M (seat.Alone a) b x is node = inr node.role
-serves_in state M (seat.Backup f) b x is node = absurd cc
-serves_in state M (seat.Joining j) b x is node = absurd cc
-serves_in state M (seat.Draining d) b x is node = absurd cc
-serves_in state M (seat.Halted h) b x is node = absurd cc
+serves_in : {B H S : Type 0} (state : B → S) (M : Machine S) (C : Copying S) (drives : ℕ) (node : code.Node B H) (b : B) (x : Node S)
+    → board_of node ≡ Some b → IsNode state M C drives node x → Serving x.role
+serves_in state M C drives (seat.Primary p) b x is node = inl node.role
+serves_in state M C drives (seat.Alone a) b x is node = inr node.role
+serves_in state M C drives (seat.Backup f) b x is node = absurd cc
+serves_in state M C drives (seat.Joining j) b x is node = absurd cc
+serves_in state M C drives (seat.Draining d) b x is node = absurd cc
+serves_in state M C drives (seat.Halted h) b x is node = absurd cc
 
-pub accepts : {B S : Type 0} (state : B → S) (M : Machine S) (i : Input) (h new : Station B) (x : Node S) → Counts M
-    → MayAccept state M h.node i → IsStation state M h x → Makes x (Took M i) (IsUncopied state M new.node)
-    → new.inputs ≡ h.inputs ++ timed h.count i ∷ [] → new.count ≡ h.count → Makes x (Took M i) (IsStation state M new)
-accepts state M i h new x counts may is made e c =
-    let role = serves_in state M h.node may.board x may.takes is.node in
+pub accepts : {B H S : Type 0} (state : B → S) (M : Machine S) (C : Copying S) (drives : ℕ) (i : Input) (h new : Station B H) (x : Node S) → Counts M
+    → MayAccept state M h.node i → IsStation state M C drives h x → Makes x (Took M i) (IsNode state M C drives new.node)
+    → new.inputs ≡ h.inputs ++ timed h.count i ∷ [] → new.count ≡ h.count → Makes x (Took M i) (IsStation state M C drives new)
+accepts state M C drives i h new x counts may is made e c =
+    let role = serves_in state M C drives h.node may.board x may.takes is.node in
     let t = made.done in
     record {
       y = made.y;
       done = t;
       after =
-          took_station state M i h new x made.y role
+          took_station state M C drives i h new x made.y role
           (subst (Takes M i x) (sym t.after) (takes M i x t.s counts t.takes x.role role)) is made.after e c;
     }

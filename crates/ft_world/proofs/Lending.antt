@@ -22,7 +22,7 @@ spares_set {B} {H} (x ∷ hosts) (suc n) here new there same =
 
 module _ {B H : Type 0} (hosts : List (Host B H)) (n : ℕ) (here : Host B H) (there : slice_get hosts n ≡ Some here)
   where
-    pub put_back : (r : Result (MutBor (Station B)) Fault) (station : Station B) → IsOk r
+    pub put_back : (r : Result (MutBor (Station B H)) Fault) (station : Station B H) → IsOk r
         → IfOk r (λ lent. here ≡ host.Node lent.now) → WithStation hosts n station (slice_set hosts n (host.Node station))
     put_back (Ok lent) station ok is = record {
       put = refl;
@@ -31,16 +31,16 @@ module _ {B H : Type 0} (hosts : List (Host B H)) (n : ℕ) (here : Host B H) (t
     }
     put_back (Err fault) station ok is = absurd (cc)
 
-    pub not_lent : (r : Result (MutBor (Station B)) Fault) → OnErr r (slice_set hosts n here ≡ hosts)
+    pub not_lent : (r : Result (MutBor (Station B H)) Fault) → OnErr r (slice_set hosts n here ≡ hosts)
     not_lent (Ok lent) = tt
     not_lent (Err fault) = set_get hosts n here there
 
-    pub found_there : (r : Result (MutBor (Station B)) Fault) → IfOk r (λ lent. here ≡ host.Node lent.now)
+    pub found_there : (r : Result (MutBor (Station B H)) Fault) → IfOk r (λ lent. here ≡ host.Node lent.now)
         → IfOk r (λ lent. slice_get hosts n ≡ Some (host.Node lent.now))
     found_there (Ok lent) is = there ∙ ap Some is
     found_there (Err fault) is = tt
 
-    pub absent_there : (r : Result (MutBor (Station B)) Fault) → IfErr r (λ fault. (fault ≡ Unknown) × IsSpare here)
+    pub absent_there : (r : Result (MutBor (Station B H)) Fault) → IfErr r (λ fault. (fault ≡ Unknown) × IsSpare here)
         → IfErr r (λ fault. (fault ≡ Unknown) × HasNoNode hosts n)
     absent_there (Ok lent) is = tt
     absent_there (Err fault) is = (is.0, go here is.1 there)

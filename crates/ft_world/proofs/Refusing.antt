@@ -1,5 +1,7 @@
 -- What a refused event leaves if that is not just what was there: a node that lost is halted, and a disk that failed
 -- has the same records.
+use Rattle.pair_protocol.specs.Copying.{Copying}
+use Rattle.guest_board.specs.Guest.{Guest}
 use Rattle.std.proofs.Common.{◌≡◌, ◌∷◌, ◌<◌, ◌∙◌, ◌≢◌, [], Bool, Err, List, None, Ok, Option, Result, Some, ap, false, inl, inr, not, refl, subst, sym, true, ℕ}
 use Rattle.std.specs.Prelude.{IfErr, slice_get, slice_set, ◌⊎◌}
 use Rattle.std.specs.Option.{option_and_then}
@@ -29,7 +31,7 @@ use Rattle.pair_protocol.specs.Effects.{IsUnder}
 use Rattle.ft_world.specs.Lending.{WithStation}
 use Rattle.ft_world.specs.Messages.{write_of}
 use Rattle.ft_world.specs.Running.{Running}
-use Rattle.ft_world.specs.Shows.{IsHost, IsStation, IsUncopied}
+use Rattle.ft_world.specs.Shows.{IsHost, IsStation, IsNode}
 use Rattle.ft_world.specs.Standing.{machine_of}
 use Rattle.ft_world.specs.Staying.{DiskFails, Except, NodeHalts, Stays}
 use Rattle.ft_world.specs.declared.host.Host.{Host}
@@ -57,31 +59,33 @@ halted_where_lost None old new n x Is d = let no = d.0 in (cc)
 halted_where_lost (Some winner) old new n x Is d = d.3
 
 -- a node that halts has no other role
-is_halted : {B S : Type 0} (state : B → S) (M : Machine S) (k : code.Node B) (x : Node S)
-    → IsUncopied state M k (halts x) → (halted : Halted) × (k ≡ node.Halted halted)
-is_halted state M (node.Primary p) x is = let up = is.up in (cc)
-is_halted state M (node.Backup b) x is = let up = is.up in (cc)
-is_halted state M (node.Joining j) x is = let up = is.up in (cc)
-is_halted state M (node.Draining d) x is = let up = is.up in (cc)
-is_halted state M (node.Alone a) x is = let up = is.up in (cc)
-is_halted state M (node.Halted halted) x is = (halted, refl)
+is_halted : {B H S : Type 0} (state : B → S) (M : Machine S) (C : Copying S) (drives : ℕ) (k : code.Node B H) (x : Node S)
+    → IsNode state M C drives k (halts x) → (halted : Halted) × (k ≡ node.Halted halted)
+is_halted state M C drives (node.Primary p) x is = let up = is.up in (cc)
+is_halted state M C drives (node.Backup b) x is = let up = is.up in (cc)
+is_halted state M C drives (node.Joining j) x is = let up = is.up in (cc)
+is_halted state M C drives (node.Draining d) x is = let up = is.up in (cc)
+is_halted state M C drives (node.Alone a) x is = let up = is.up in (cc)
+is_halted state M C drives (node.Halted halted) x is = (halted, refl)
 
-suspect_leaves : {B H D S : Type 0} (state : B → S) (M : Machine S) (records : D → List Record) (old : Running B H D)
-    (n : ℕ) (here s : Station B) (hosts : List (Host B H)) (askings : List Asking) (fault : Fault)
-    → ShowsSome state M records old → slice_get old.hosts n ≡ Some (host.Node here) → WithStation old.hosts n s hosts
-    → ((x : Node S) → IsStation state M here x → Suspects old.askings n x (Err fault) askings (IsStation state M s))
+suspect_leaves : {B H D S : Type 0} (state : B → S) (copied : B → Guest) (M : Machine S) (records : D → List Record) (old : Running B H D)
+    (n : ℕ) (here s : Station B H) (hosts : List (Host B H)) (askings : List Asking) (fault : Fault)
+    → ShowsSome state copied M records old → slice_get old.hosts n ≡ Some (host.Node here) → WithStation old.hosts n s hosts
+    → ((C : Copying S) (drives : ℕ) (x : Node S) → IsStation state M C drives here x → Suspects old.askings n x (Err fault) askings (IsStation state M C drives s))
     → s ≡ record here { node = s.node } → (fault ≢ Lost → s ≡ here)
     → Except Lost fault (NodeHalts n old (record old { hosts = hosts })) (record old { hosts = hosts } ≡ old)
-suspect_leaves state M records old n here s hosts askings fault some at w asks beside same = (
+suspect_leaves state copied M records old n here s hosts askings fault some at w asks beside same = (
   (λ lost.
-      let x = agree-other (IsHost state M) (slice_get old.hosts n) (slice_get some.course.world.nodes n) (host.Node here)
+      let C = some.course.copying in
+      let drives = some.shows.drives in
+      let x = agree-other (IsHost state M C drives) (slice_get old.hosts n) (slice_get some.course.world.nodes n) (host.Node here)
       at (some.shows.parts.hosts n) in
       let asked = asked_where_lost (not x.0.running) (is_role x.0.role Joining)
-      (IsStation state M s x.0 × (askings ≡ old.askings))
-      (SuspectsOf (winner_of old.askings x.0.generation) old.askings n x.0 (Err Lost) askings (IsStation state M s))
-      (subst (λ f. Suspects old.askings n x.0 (Err f) askings (IsStation state M s)) lost (asks x.0 x.2)) in
-      let halted = is_halted state M s.node x.0
-      (halted_where_lost (winner_of old.askings x.0.generation) old.askings askings n x.0 (IsStation state M s) asked).node
+      (IsStation state M C drives s x.0 × (askings ≡ old.askings))
+      (SuspectsOf (winner_of old.askings x.0.generation) old.askings n x.0 (Err Lost) askings (IsStation state M C drives s))
+      (subst (λ f. Suspects old.askings n x.0 (Err f) askings (IsStation state M C drives s)) lost (asks C drives x.0 x.2)) in
+      let halted = is_halted state M C drives s.node x.0
+      (halted_where_lost (winner_of old.askings x.0.generation) old.askings askings n x.0 (IsStation state M C drives s) asked).node
       in
       record {
         before = here;
@@ -93,19 +97,19 @@ suspect_leaves state M records old n here s hosts askings fault some at w asks b
   (λ other. ap (λ hs. record old { hosts = hs }) (w.same (at ∙ ap (λ k. Some (host.Node k)) (sym (same other))))),
 )
 
-pub suspect_stays : {B H D S : Type 0} (state : B → S) (M : Machine S) (records : D → List Record)
-    (old : Running B H D) (n : ℕ) (here s : Station B) (hosts : List (Host B H)) (askings : List Asking)
-    (r : Result Reply Fault) (fault : Fault) → ShowsSome state M records old
+pub suspect_stays : {B H D S : Type 0} (state : B → S) (copied : B → Guest) (M : Machine S) (records : D → List Record)
+    (old : Running B H D) (n : ℕ) (here s : Station B H) (hosts : List (Host B H)) (askings : List Asking)
+    (r : Result Reply Fault) (fault : Fault) → ShowsSome state copied M records old
     → slice_get old.hosts n ≡ Some (host.Node here) → WithStation old.hosts n s hosts
-    → ((x : Node S) → IsStation state M here x → Suspects old.askings n x (Err fault) askings (IsStation state M s))
+    → ((C : Copying S) (drives : ℕ) (x : Node S) → IsStation state M C drives here x → Suspects old.askings n x (Err fault) askings (IsStation state M C drives s))
     → s ≡ record here { node = s.node } → (fault ≢ Lost → s ≡ here) → askings ≡ old.askings
     → IsErrAnd r (λ k. k ≡ fault)
     → IfErr r (λ k. Stays records (event.Suspect n) k old (record old { hosts = hosts; askings = askings }))
-suspect_stays state M records old n here s hosts askings (Ok reply) fault some at w asks beside same asked is = tt
-suspect_stays state M records old n here s hosts askings (Err k) fault some at w asks beside same asked is =
+suspect_stays state copied M records old n here s hosts askings (Ok reply) fault some at w asks beside same asked is = tt
+suspect_stays state copied M records old n here s hosts askings (Err k) fault some at w asks beside same asked is =
     subst (λ f. Stays records (event.Suspect n) f old (record old { hosts = hosts; askings = askings })) (sym is)
     (subst (λ l. Stays records (event.Suspect n) fault old (record old { hosts = hosts; askings = l })) (sym asked)
-    (suspect_leaves state M records old n here s hosts askings fault some at w asks beside same))
+    (suspect_leaves state copied M records old n here s hosts askings fault some at w asks beside same))
 
 -- ---- a disk that fails
 
@@ -123,14 +127,14 @@ disk_leaves records old ms disk fault why same kept untouched = (
 )
 
 -- what is written is to a sector of the disk, so nothing but the device refuses it
-pub put_stays : {B H D S : Type 0} (state : B → S) (M : Machine S) (records : D → List Record) (old : Running B H D)
+pub put_stays : {B H D S : Type 0} (state : B → S) (copied : B → Guest) (M : Machine S) (records : D → List Record) (old : Running B H D)
     (m : ℕ) (write : SectorWrite) (r : Result Reply Fault) (ms : List Message) (disk : D)
-    → ShowsSome state M records old → option_and_then write_of (slice_get old.messages m) ≡ Some write
+    → ShowsSome state copied M records old → option_and_then write_of (slice_get old.messages m) ≡ Some write
     → PutsWrite old.messages (records old.disk) write r ms (records disk)
     → IfErr r (λ fault. fault ≡ OutOfMemory → disk ≡ old.disk)
     → IfErr r (λ fault. Stays records (event.Put m) fault old (record old { messages = ms; disk = disk }))
-put_stays state M records old m write (Ok reply) ms disk some brings row untouched = tt
-put_stays state M records old m write (Err fault) ms disk some brings (why, same, kept) untouched =
+put_stays state copied M records old m write (Ok reply) ms disk some brings row untouched = tt
+put_stays state copied M records old m write (Err fault) ms disk some brings (why, same, kept) untouched =
     let c = some.course in
     let h = some.shows in
     let N = machine_of M c in
@@ -143,17 +147,17 @@ put_stays state M records old m write (Err fault) ms disk some brings (why, same
     ]) same kept untouched
 
 -- what is read is a sector of the disk too
-pub get_stays : {B H D S : Type 0} (state : B → S) (M : Machine S) (records : D → List Record) (old : Running B H D)
+pub get_stays : {B H D S : Type 0} (state : B → S) (copied : B → Guest) (M : Machine S) (records : D → List Record) (old : Running B H D)
     (n sector : ℕ) (address : SectorAddress) (r : Result Reply Fault) (ms : List Message) (disk : D)
-    → (some : ShowsSome state M records old) → sector < SECTORS
+    → (some : ShowsSome state copied M records old) → sector < SECTORS
     → AsksNode some.course.world n (get_refusal M) Never (IsUnder M sector) (Ok address)
     → GetsSector old.messages (records old.disk) address r ms (records disk)
     → IfErr r (λ fault. fault ≡ OutOfMemory → disk ≡ old.disk)
     → IfErr r (λ fault. Stays records (event.Get n sector) fault old (record old { messages = ms; disk = disk }))
-get_stays state M records old n sector address (Ok reply) ms disk some low at row untouched = tt
-get_stays state M records old n sector address (Err fault) ms disk some low at (why, same, kept) untouched =
+get_stays state copied M records old n sector address (Ok reply) ms disk some low at row untouched = tt
+get_stays state copied M records old n sector address (Err fault) ms disk some low at (why, same, kept) untouched =
     let h = some.shows in
-    let met = h.parts.disk.there address (stands_at state M records old some.course n sector address h low at).there in
+    let met = h.parts.disk.there address (stands_at state copied M records old some.course n sector address h low at).there in
     disk_leaves records old ms disk fault (elim why [
       | inl is ↦ inl is
       | inr is ↦ inr (not_put (records old.disk) address met.0 fault met.1 is)

@@ -1,6 +1,7 @@
 -- Events happen one after another: one more row after other rows makes rows again, by which what is settled grows, and
 -- the world after them is shown and faithful, as that row says. So a loop over events keeps the run of those that have
 -- happened.
+use Rattle.guest_board.specs.Guest.{Guest}
 use Rattle.std.proofs.Common.{◌≡◌, ◌<◌, ◌+◌, ◌∷◌, ◌++◌, ◌∙◌, [], Err, List, Ok, ap, get_or, length, refl, subst, sym}
 use Rattle.std.proofs.Common.{take, ℕ}
 use Rattle.std.specs.Prelude.{IfOk, OnErr, Result, map}
@@ -30,9 +31,9 @@ rows_then M C w mid new events replies e r (First {mid = v} {events = es} {repli
     First first (rows_then M C v mid new es rs e r rest row)
 
 -- no event has happened yet
-pub runs_begin : {B H D S : Type 0} (state : B → S) (M : Machine S) (records : D → List Record) (v : Running B H D)
-    (c : Course S) → Shows state M records v c → Runs state M records c [] [] v
-runs_begin state M records v c h =
+pub runs_begin : {B H D S : Type 0} (state : B → S) (copied : B → Guest) (M : Machine S) (records : D → List Record) (v : Running B H D)
+    (c : Course S) → Shows state copied M records v c → Runs state copied M records c [] [] v
+runs_begin state copied M records v c h =
     let N = machine_of M c in
     record {
       after = c.world;
@@ -44,12 +45,12 @@ runs_begin state M records v c h =
     }
 
 -- one more event has happened
-runs_then : {B H D S : Type 0} (state : B → S) (M : Machine S) (records : D → List Record)
+runs_then : {B H D S : Type 0} (state : B → S) (copied : B → Guest) (M : Machine S) (records : D → List Record)
     (start old new : Running B H D) (c : Course S) (events : List Event) (answers : List (Result Reply Fault))
-    (e : Event) (answer : Result Reply Fault) → Shows state M records start c →
-    Runs state M records c events answers old → Happens state M records old e answer new →
-    Runs state M records c (events ++ e ∷ []) (answers ++ answer ∷ []) new
-runs_then {S = S} state M records start old new c events answers e answer h so_far happens = record {
+    (e : Event) (answer : Result Reply Fault) → Shows state copied M records start c →
+    Runs state copied M records c events answers old → Happens state copied M records old e answer new →
+    Runs state copied M records c (events ++ e ∷ []) (answers ++ answer ∷ []) new
+runs_then {S = S} state copied M records start old new c events answers e answer h so_far happens = record {
   after = a.after;
   rows = rows;
   each = length-append answers (answer ∷ []) ∙ ap (λ n. n + 1) so_far.each ∙ sym (length-append events (e ∷ []));
@@ -62,7 +63,7 @@ runs_then {S = S} state M records start old new c events answers e answer h so_f
     N : Machine S
     N = machine_of M c
 
-    a : Applies state M records (record c { world = so_far.after }) e answer new
+    a : Applies state copied M records (record c { world = so_far.after }) e answer new
     a = happens (record c { world = so_far.after }) so_far.shows
 
     rows : Rows N c.copying c.world (map event_of (events ++ e ∷ [])) (map answer_of (answers ++ answer ∷ [])) a.after
@@ -74,24 +75,24 @@ runs_then {S = S} state M records start old new c events answers e answer h so_f
         (answer_of answer) so_far.rows a.row))
 
 -- the event at a place in a list has happened after those before it
-pub runs_on : {B H D S : Type 0} (state : B → S) (M : Machine S) (records : D → List Record)
+pub runs_on : {B H D S : Type 0} (state : B → S) (copied : B → Guest) (M : Machine S) (records : D → List Record)
     (start old new : Running B H D) (c : Course S) (events : List Event) (k : ℕ) (d : Event)
-    (answers after : List (Result Reply Fault)) (answer : Result Reply Fault) → Shows state M records start c →
-    k < length events → after ≡ answers ++ answer ∷ [] → Runs state M records c (take k events) answers old →
-    Happens state M records old (get_or events k d) answer new → Runs state M records c (take (k + 1) events) after new
-runs_on state M records start old new c events k d answers after answer h low is so_far happens =
-    subst (λ l. Runs state M records c (take (k + 1) events) l new) (sym is)
-    (subst (λ l. Runs state M records c l (answers ++ answer ∷ []) new) (sym (take_more events k d low))
-    (runs_then state M records start old new c (take k events) answers (get_or events k d) answer h so_far happens))
+    (answers after : List (Result Reply Fault)) (answer : Result Reply Fault) → Shows state copied M records start c →
+    k < length events → after ≡ answers ++ answer ∷ [] → Runs state copied M records c (take k events) answers old →
+    Happens state copied M records old (get_or events k d) answer new → Runs state copied M records c (take (k + 1) events) after new
+runs_on state copied M records start old new c events k d answers after answer h low is so_far happens =
+    subst (λ l. Runs state copied M records c (take (k + 1) events) l new) (sym is)
+    (subst (λ l. Runs state copied M records c l (answers ++ answer ∷ []) new) (sym (take_more events k d low))
+    (runs_then state copied M records start old new c (take k events) answers (get_or events k d) answer h so_far happens))
 
 -- some world is shown after a run
-pub runs_go_on : {B H D S A : Type 0} (state : B → S) (M : Machine S) (records : D → List Record)
+pub runs_go_on : {B H D S A : Type 0} (state : B → S) (copied : B → Guest) (M : Machine S) (records : D → List Record)
     (old new : Running B H D) (events : List Event) (answers : A → List (Result Reply Fault))
-    (result : Result A Fault) → ShowsSome state M records old →
-    IfOk result (λ r. (c : Course S) → Shows state M records old c → Runs state M records c events (answers r) new) →
-    OnErr result (new ≡ old) → ShowsSome state M records new
-runs_go_on state M records old new events answers (Ok r) some runs same =
+    (result : Result A Fault) → ShowsSome state copied M records old →
+    IfOk result (λ r. (c : Course S) → Shows state copied M records old c → Runs state copied M records c events (answers r) new) →
+    OnErr result (new ≡ old) → ShowsSome state copied M records new
+runs_go_on state copied M records old new events answers (Ok r) some runs same =
     let a = runs some.course some.shows in
     record { course = record some.course { world = a.after }; shows = a.shows }
-runs_go_on state M records old new events answers (Err fault) some runs same =
-    subst (ShowsSome state M records) (sym same) some
+runs_go_on state copied M records old new events answers (Err fault) some runs same =
+    subst (ShowsSome state copied M records) (sym same) some

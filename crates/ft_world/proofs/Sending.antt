@@ -1,5 +1,6 @@
 -- A message is sent: one more is appended, here and in the world that is shown. What a node is asked for is refused as
 -- its part says, or is what the node has.
+use Rattle.guest_board.specs.Guest.{Guest}
 use Rattle.std.proofs.Common.{◌≡◌, ◌+◌, [], ◌∷◌, ◌++◌, ◌∙◌, Err, List, None, Ok, ap, length, refl, subst, sym, ℕ}
 use Rattle.std.specs.Prelude.{Result}
 use Rattle.std.specs.Global.{Vec}
@@ -41,12 +42,12 @@ messages_push ms ss m s h i = record {
 }
 
 -- the messages change, and nothing else
-pub with_messages : {B H D S : Type 0} (state : B → S) (M : Machine S) (records : D → List Record) (drives : ℕ)
+pub with_messages : {B H D S : Type 0} (state : B → S) (copied : B → Guest) (M : Machine S) (records : D → List Record) (drives : ℕ)
     (old : Running B H D) (c : Course S) (ms : List Message) (ss : List sent.Message) →
     ShowsParts state M records drives old c → AreMessages ms ss →
     ShowsParts state M records drives (record old { messages = ms })
     (record c { world = record c.world { messages = ss } })
-with_messages state M records drives old c ms ss p are = record {
+with_messages state copied M records drives old c ms ss p are = record {
   hosts = p.hosts;
   messages = are;
   terminals = p.terminals;
@@ -57,46 +58,46 @@ with_messages state M records drives old c ms ss p are = record {
 }
 
 -- an event that sends a message
-pub says_applies : {B H D S : Type 0} (state : B → S) (M : Machine S) (records : D → List Record) (old : Running B H D)
+pub says_applies : {B H D S : Type 0} (state : B → S) (copied : B → Guest) (M : Machine S) (records : D → List Record) (old : Running B H D)
     (c : Course S) (e : Event) (m : Message) (s : sent.Message) (answer : Result Reply Fault) (ms : List Message) →
-    Shows state M records old c → IsMessage m s → refusal (machine_of M c) c.copying c.world (event_of e) ≡ None →
+    Shows state copied M records old c → IsMessage m s → refusal (machine_of M c) c.copying c.world (event_of e) ≡ None →
     MayNeedMemory (machine_of M c) c.world (event_of e) →
     Does (machine_of M c) c.copying c.world (event_of e) (protocol.MessageIs (length c.world.messages))
     (with_message c.world s) →
-    Says old.messages m answer ms → Applies state M records c e answer (record old { messages = ms })
-says_applies state M records old c e m s (Ok r) ms h i free takes does (said, after) =
+    Says old.messages m answer ms → Applies state copied M records c e answer (record old { messages = ms })
+says_applies state copied M records old c e m s (Ok r) ms h i free takes does (said, after) =
     let is : reply_of r ≡ protocol.MessageIs (length c.world.messages) =
     ap reply_of said ∙ ap protocol.MessageIs h.parts.messages.count in
-    applies state M records old c e (Ok r) (with_message c.world s) (record old { messages = ms }) h
+    applies state copied M records old c e (Ok r) (with_message c.world s) (record old { messages = ms }) h
     (Accepts free
     (subst (λ q. Does (machine_of M c) c.copying c.world (event_of e) q (with_message c.world s)) (sym is) does))
-    (with_messages state M records h.drives old c ms (c.world.messages ++ s ∷ []) h.parts
+    (with_messages state copied M records h.drives old c ms (c.world.messages ++ s ∷ []) h.parts
     (subst (λ l. AreMessages l (c.world.messages ++ s ∷ [])) (sym after)
     (messages_push old.messages c.world.messages m s h.parts.messages i)))
-says_applies state M records old c e m s (Err fault) ms h i free takes does (is, same) =
-    needs_memory state M records old (record old { messages = ms }) c e fault h
+says_applies state copied M records old c e m s (Err fault) ms h i free takes does (is, same) =
+    needs_memory state copied M records old (record old { messages = ms }) c e fault h
     (ap (λ l. record old { messages = l }) same) free takes is
 
 -- A primary sends an entry of its log.
 
-pub sends_refused : {B H D S : Type 0} (state : B → S) (M : Machine S) (records : D → List Record)
-    (old : Running B H D) (c : Course S) (n index : ℕ) (fault : Fault) → Shows state M records old c →
+pub sends_refused : {B H D S : Type 0} (state : B → S) (copied : B → Guest) (M : Machine S) (records : D → List Record)
+    (old : Running B H D) (c : Course S) (n index : ℕ) (fault : Fault) → Shows state copied M records old c →
     AsksNode c.world n (send_refusal index) Ever (λ bytes x. SendsEntry index x bytes) (Err fault) →
-    Applies state M records c (event.Send n index) (Err fault) old
-sends_refused state M records old c n index fault h a =
+    Applies state copied M records c (event.Send n index) (Err fault) old
+sends_refused state copied M records old c n index fault h a =
     asks_refused h (event.Send n index) fault refl (λ s. tt) refl a
 
-pub sends_applies : {B H D S : Type 0} (state : B → S) (M : Machine S) (records : D → List Record)
+pub sends_applies : {B H D S : Type 0} (state : B → S) (copied : B → Guest) (M : Machine S) (records : D → List Record)
     (old : Running B H D) (c : Course S) (n index : ℕ) (bytes : Vec ℕ) (answer : Result Reply Fault)
-    (ms : List Message) → Shows state M records old c →
+    (ms : List Message) → Shows state copied M records old c →
     AsksNode c.world n (send_refusal index) Ever (λ bytes x. SendsEntry index x bytes) (Ok bytes) →
     Says old.messages (message.Log bytes) answer ms →
-    Applies state M records c (event.Send n index) answer (record old { messages = ms })
-sends_applies state M records old c n index bytes answer ms h a said =
+    Applies state copied M records c (event.Send n index) answer (record old { messages = ms })
+sends_applies state copied M records old c n index bytes answer ms h a said =
     let k = node_asked c.world n (send_refusal index) bytes a in
     let x = k.1.x in
     let s = k.1.said in
-    says_applies state M records old c (event.Send n index) (message.Log bytes)
+    says_applies state copied M records old c (event.Send n index) (message.Log bytes)
     (sent.LogEntry x.generation index s.e) answer ms h
     (is_only bytes.items (packet.Log x.generation index s.e) s.spelled.0 s.spelled.1) k.0 tt
     (record {
@@ -112,22 +113,22 @@ sends_applies state M records old c n index bytes answer ms h a said =
 abbrev pub SpellsHeld : {S : Type 0} → Vec ℕ → Node S → Type 0
 SpellsHeld bytes x = IsSpelled (packet.Ack x.generation (length x.held)) bytes
 
-pub acknowledges_refused : {B H D S : Type 0} (state : B → S) (M : Machine S) (records : D → List Record)
-    (old : Running B H D) (c : Course S) (n : ℕ) (fault : Fault) → Shows state M records old c →
+pub acknowledges_refused : {B H D S : Type 0} (state : B → S) (copied : B → Guest) (M : Machine S) (records : D → List Record)
+    (old : Running B H D) (c : Course S) (n : ℕ) (fault : Fault) → Shows state copied M records old c →
     AsksNode c.world n acknowledge_refusal Ever SpellsHeld (Err fault) →
-    Applies state M records c (event.Acknowledge n) (Err fault) old
-acknowledges_refused state M records old c n fault h a =
+    Applies state copied M records c (event.Acknowledge n) (Err fault) old
+acknowledges_refused state copied M records old c n fault h a =
     asks_refused h (event.Acknowledge n) fault refl (λ s. tt) refl a
 
-pub acknowledges_applies : {B H D S : Type 0} (state : B → S) (M : Machine S) (records : D → List Record)
+pub acknowledges_applies : {B H D S : Type 0} (state : B → S) (copied : B → Guest) (M : Machine S) (records : D → List Record)
     (old : Running B H D) (c : Course S) (n : ℕ) (bytes : Vec ℕ) (answer : Result Reply Fault) (ms : List Message) →
-    Shows state M records old c → AsksNode c.world n acknowledge_refusal Ever SpellsHeld (Ok bytes) →
+    Shows state copied M records old c → AsksNode c.world n acknowledge_refusal Ever SpellsHeld (Ok bytes) →
     Says old.messages (message.Ack bytes) answer ms →
-    Applies state M records c (event.Acknowledge n) answer (record old { messages = ms })
-acknowledges_applies state M records old c n bytes answer ms h a said =
+    Applies state copied M records c (event.Acknowledge n) answer (record old { messages = ms })
+acknowledges_applies state copied M records old c n bytes answer ms h a said =
     let k = node_asked c.world n acknowledge_refusal bytes a in
     let x = k.1.x in
-    says_applies state M records old c (event.Acknowledge n) (message.Ack bytes)
+    says_applies state copied M records old c (event.Acknowledge n) (message.Ack bytes)
     (sent.Acknowledgement x.generation (length x.held) 0) answer ms h
     (is_only bytes.items (packet.Ack x.generation (length x.held)) k.1.said.0 k.1.said.1, refl) k.0 tt
     (record {

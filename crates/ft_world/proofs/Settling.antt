@@ -1,5 +1,7 @@
 -- The node that settles is the winner of the highest generation, or its backup if nobody has won; its host has the list
 -- and the count.
+use Rattle.pair_protocol.specs.Copying.{Copying}
+use Rattle.guest_board.specs.Guest.{Guest}
 use Rattle.std.proofs.Common.{◌≡◌, ◌∙◌, List, None, Some, ap, inl, inr, refl, subst, sym, ℕ}
 use Rattle.std.specs.Prelude.{Option, slice_get, unwrap_or}
 use Rattle.arbiter_core.specs.Winners.{winner_of}
@@ -28,26 +30,26 @@ count_same M c x Alone = refl
 count_same M c x Spare = refl
 
 -- the host of a node that has a role is a station with its list and its count
-at_station : {B H S : Type 0} (state : B → S) (M : Machine S) (here : Option (Host B H)) (there : Option (Node S))
-    (x : Node S) (list : List Timed) (count : ℕ) → Agree (IsHost state M) here there → there ≡ Some x →
+at_station : {B H S : Type 0} (state : B → S) (M : Machine S) (C : Copying S) (drives : ℕ) (here : Option (Host B H)) (there : Option (Node S))
+    (x : Node S) (list : List Timed) (count : ℕ) → Agree (IsHost state M C drives) here there → there ≡ Some x →
     (x.role ≡ Spare → ⊥) →
-    ((station : Station B) → here ≡ Some (host.Node station) →
+    ((station : Station B H) → here ≡ Some (host.Node station) →
     (list ≡ station.inputs) × (count ≡ station.count)) →
     (list_of x x.role ≡ list) × (count_in M x x.role ≡ count)
-at_station {B} {H} state M (Some (host.Node station)) there x list count agree e a_node tells =
-    let is = subst (λ q. Agree (IsHost {B = B} {H = H} state M) (Some (host.Node station)) q) e agree in
+at_station {B} {H} state M C drives (Some (host.Node station)) there x list count agree e a_node tells =
+    let is = subst (λ q. Agree (IsHost {B = B} {H = H} state M C drives) (Some (host.Node station)) q) e agree in
     let told = tells station refl in
     (sym is.inputs ∙ sym told.0, sym is.count ∙ sym told.1)
-at_station {B} {H} state M (Some (host.Spare resources)) there x list count agree e a_node tells =
-    absurd (a_node (subst (λ q. Agree (IsHost {B = B} {H = H} state M) (Some (host.Spare resources)) q) e agree))
-at_station {B} {H} state M None there x list count agree e a_node tells =
-    absurd (subst (λ q. Agree (IsHost {B = B} {H = H} state M) None q) e agree)
+at_station {B} {H} state M C drives (Some (host.Spare resources)) there x list count agree e a_node tells =
+    absurd (a_node (subst (λ q. Agree (IsHost {B = B} {H = H} state M C drives) (Some (host.Spare resources)) q) e agree))
+at_station {B} {H} state M C drives None there x list count agree e a_node tells =
+    absurd (subst (λ q. Agree (IsHost {B = B} {H = H} state M C drives) None q) e agree)
 
 -- it is the node that the code finds
-who_settles : {B H D S : Type 0} (state : B → S) (M : Machine S) (records : D → List Record) (old : Running B H D)
-    (c : Course S) (node n : ℕ) (x : Node S) → Shows state M records old c → Settles c.world n x →
+who_settles : {B H D S : Type 0} (state : B → S) (copied : B → Guest) (M : Machine S) (records : D → List Record) (old : Running B H D)
+    (c : Course S) (node n : ℕ) (x : Node S) → Shows state copied M records old c → Settles c.world n x →
     node ≡ unwrap_or (winner_of old.askings old.generation) old.backup → node ≡ n
-who_settles state M records old c node n x h s found =
+who_settles state copied M records old c node n x h s found =
     let same : x.generation ≡ old.generation = s.highest_is ∙ sym h.parts.generation in
     elim s.who [
       | inl won ↦ found ∙ ap (λ o. unwrap_or o old.backup)
@@ -57,17 +59,17 @@ who_settles state M records old c node n x h s found =
           ∙ sym (h.parts.backup n x s.there same none.1)
     ]
 
-pub settled_is : {B H D S : Type 0} (state : B → S) (M : Machine S) (records : D → List Record) (old : Running B H D)
-    (c : Course S) (node : ℕ) (list : List Timed) (count : ℕ) → Shows state M records old c →
+pub settled_is : {B H D S : Type 0} (state : B → S) (copied : B → Guest) (M : Machine S) (records : D → List Record) (old : Running B H D)
+    (c : Course S) (node : ℕ) (list : List Timed) (count : ℕ) → Shows state copied M records old c →
     node ≡ unwrap_or (winner_of old.askings old.generation) old.backup →
-    ((station : Station B) → slice_get old.hosts node ≡ Some (host.Node station) →
+    ((station : Station B H) → slice_get old.hosts node ≡ Some (host.Node station) →
     (list ≡ station.inputs) × (count ≡ station.count)) →
     Settled (machine_of M c) c.world list count
-settled_is {B} state M records old c node list count h found tells =
+settled_is {B} state copied M records old c node list count h found tells =
     let N = machine_of M c in
     let f = (always_faithful N c.copying h.machine.lawful h.machine.copies c.world h.reached).settled in
-    let same = who_settles state M records old c node f.n f.x h f.settles found in
-    let here = at_station state M (slice_get old.hosts f.n) (slice_get c.world.nodes f.n) f.x list count
+    let same = who_settles state copied M records old c node f.n f.x h f.settles found in
+    let here = at_station state M c.copying h.drives (slice_get old.hosts f.n) (slice_get c.world.nodes f.n) f.x list count
     (h.parts.hosts f.n) f.settles.there f.settles.a_node
     (λ station e. tells station (subst (λ k. slice_get old.hosts k ≡ Some (host.Node station)) (sym same) e)) in
     record {

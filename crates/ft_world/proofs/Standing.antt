@@ -1,5 +1,6 @@
 -- What the calls of the hosts require: a primary's machine was run from boot, so few of its operations are outstanding,
 -- wherever it goes. A machine that begins elsewhere runs alike.
+use Rattle.guest_board.specs.Guest.{Guest}
 use Rattle.std.proofs.Common.{◌≡◌, ◌++◌, [], ◌∷◌, List, Some, inl, subst, ℕ}
 use Rattle.std.specs.Prelude.{slice_get}
 use Rattle.guest_board.specs.Machine.{Do, Machine, Move, Runs, Take}
@@ -18,7 +19,7 @@ use Rattle.ft_node.specs.declared.node.Node.TheVariants as seat
 use Rattle.pair_protocol.proofs.Promises.NodeStands.{nodes_stand}
 use Rattle.ft_world.specs.Applies.{Shows, ShowsSome}
 use Rattle.ft_world.specs.Running.{Running}
-use Rattle.ft_world.specs.Shows.{IsHost, IsUncopied}
+use Rattle.ft_world.specs.Shows.{IsHost, IsNode}
 use Rattle.ft_world.specs.Standing.{Course, IsMachine, machine_of}
 use Rattle.ft_world.specs.declared.station.Station.{Station}
 use Rattle.ft_world.specs.declared.host.Host.TheVariants as host
@@ -43,26 +44,26 @@ frugal M c drives front s machine from = λ moves t runs.
     (runs-append (machine_of M c) c.boot s t front moves from (runs_same M c s t moves runs)) in
     record { names = few.names; few = few.few; all = few.all }
 
-may_run : {B H D S : Type 0} (state : B → S) (M : Machine S) (records : D → List Record) (old : Running B H D)
-    (c : Course S) (n : ℕ) (x : Node S) (node : code.Node B) → Shows state M records old c →
-    slice_get c.world.nodes n ≡ Some x → IsUncopied state M node x → MayRun state M node
-may_run state M records old c n x (seat.Primary p) h there is =
+may_run : {B H D S : Type 0} (state : B → S) (copied : B → Guest) (M : Machine S) (records : D → List Record) (old : Running B H D)
+    (c : Course S) (n : ℕ) (x : Node S) (node : code.Node B H) → (h : Shows state copied M records old c) →
+    slice_get c.world.nodes n ≡ Some x → IsNode state M c.copying h.drives node x → MayRun state M node
+may_run state copied M records old c n x (seat.Primary p) h there is =
     let N = machine_of M c in
     let r = serving_runs N c.copying c.world n x h.machine.lawful h.machine.copies h.reached there (inl is.role) in (
       subst (λ s. IsFrugal M s) is.machine (frugal M c h.drives r.0 x.machine h.machine r.1),
       subst (λ s. AreOfOutstanding M s p.coverage) is.machine is.covers.outstanding,
     )
-may_run state M records old c n x (seat.Backup b) h there is = tt
-may_run state M records old c n x (seat.Joining j) h there is = tt
-may_run state M records old c n x (seat.Draining d) h there is = tt
-may_run state M records old c n x (seat.Alone a) h there is = tt
-may_run state M records old c n x (seat.Halted a) h there is = tt
+may_run state copied M records old c n x (seat.Backup b) h there is = tt
+may_run state copied M records old c n x (seat.Joining j) h there is = tt
+may_run state copied M records old c n x (seat.Draining d) h there is = tt
+may_run state copied M records old c n x (seat.Alone a) h there is = tt
+may_run state copied M records old c n x (seat.Halted a) h there is = tt
 
-pub station_may_run : {B H D S : Type 0} (state : B → S) (M : Machine S) (records : D → List Record)
-    (old : Running B H D) (n : ℕ) (station : Station B) → ShowsSome state M records old →
+pub station_may_run : {B H D S : Type 0} (state : B → S) (copied : B → Guest) (M : Machine S) (records : D → List Record)
+    (old : Running B H D) (n : ℕ) (station : Station B H) → ShowsSome state copied M records old →
     slice_get old.hosts n ≡ Some (host.Node station) → MayRun state M station.node
-station_may_run state M records old n station some at =
+station_may_run state copied M records old n station some at =
     let c = some.course in
-    let x = agree-other (IsHost state M) (slice_get old.hosts n) (slice_get c.world.nodes n) (host.Node station) at
+    let x = agree-other (IsHost state M c.copying some.shows.drives) (slice_get old.hosts n) (slice_get c.world.nodes n) (host.Node station) at
     (some.shows.parts.hosts n) in
-    may_run state M records old c n x.0 station.node some.shows x.1 x.2.node
+    may_run state copied M records old c n x.0 station.node some.shows x.1 x.2.node

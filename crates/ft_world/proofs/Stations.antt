@@ -1,4 +1,5 @@
 -- A station's node moves, and its inputs and its count follow.
+use Rattle.pair_protocol.specs.Copying.{Copying}
 use Rattle.std.proofs.Common.{◌≡◌, ◌∙◌, ℕ, Bool, List, Err, None, Ok, Option, Result, Some, ap, false, refl, subst, sym, true}
 use Rattle.std.specs.Prelude.{if◌then◌else◌, ◌<◌}
 use Rattle.std.specs.Result.{IsErrAnd}
@@ -21,16 +22,16 @@ use Rattle.ft_node.specs.declared.node.Node as code
 use Rattle.ft_node.specs.declared.ran.Drained.{Drained}
 use Rattle.ft_node.specs.declared.ran.Ran.{Ran}
 use Rattle.ft_node.specs.Roles.{count_of}
-use Rattle.ft_world.specs.Shows.{IsStation, IsUncopied}
+use Rattle.ft_world.specs.Shows.{IsStation, IsNode}
 use Rattle.ft_world.specs.declared.station.Station.{Station}
 use Rattle.ft_world.proofs.Answering.{Retells, asked, given, handed_on, retold, unless}
 use Rattle.ft_world.proofs.Keeping.{Kept, kept_here, advances_keep, replays_keep, heard_kept, halted_kept, same_list, same_count, serving_role, machine_count, acting_role, held_count, held_inputs}
 
 -- its node only moved, and this is the count by which it settles now
-pub moves_on : {B S : Type 0} (state : B → S) (M : Machine S) (h : Station B) (node : code.Node B) (count : ℕ)
-    (x y : Node S) → IsStation state M h x → Kept x y → IsUncopied state M node y → count ≡ count_in M y y.role
-    → IsStation state M (record h { node = node; count = count }) y
-moves_on state M h node count x y i k is e = record {
+pub moves_on : {B H S : Type 0} (state : B → S) (M : Machine S) (C : Copying S) (drives : ℕ) (h : Station B H) (node : code.Node B H) (count : ℕ)
+    (x y : Node S) → IsStation state M C drives h x → Kept x y → IsNode state M C drives node y → count ≡ count_in M y y.role
+    → IsStation state M C drives (record h { node = node; count = count }) y
+moves_on state M C drives h node count x y i k is e = record {
   node = is;
   inputs = i.inputs ∙ sym (same_list x y x.role k) ∙ ap (list_of y) (sym k.role);
   count = e;
@@ -38,57 +39,57 @@ moves_on state M h node count x y i k is e = record {
 }
 
 -- or it made no move that changes what it settles by
-pub stays_on : {B S : Type 0} (state : B → S) (M : Machine S) (h : Station B) (node : code.Node B) (x y : Node S)
-    → IsStation state M h x → Kept x y → count_in M y x.role ≡ count_in M x x.role → IsUncopied state M node y
-    → IsStation state M (record h { node = node }) y
-stays_on state M h node x y i k e is =
-    moves_on state M h node h.count x y i k is (i.count ∙ sym e ∙ ap (count_in M y) (sym k.role))
+pub stays_on : {B H S : Type 0} (state : B → S) (M : Machine S) (C : Copying S) (drives : ℕ) (h : Station B H) (node : code.Node B H) (x y : Node S)
+    → IsStation state M C drives h x → Kept x y → count_in M y x.role ≡ count_in M x x.role → IsNode state M C drives node y
+    → IsStation state M C drives (record h { node = node }) y
+stays_on state M C drives h node x y i k e is =
+    moves_on state M C drives h node h.count x y i k is (i.count ∙ sym e ∙ ap (count_in M y) (sym k.role))
 
-pub unmoved : {B S : Type 0} (state : B → S) (M : Machine S) (h : Station B) (node : code.Node B) (x : Node S)
-    → IsStation state M h x → IsUncopied state M node x → IsStation state M (record h { node = node }) x
-unmoved state M h node x i is = stays_on state M h node x x i (kept_here x) refl is
+pub unmoved : {B H S : Type 0} (state : B → S) (M : Machine S) (C : Copying S) (drives : ℕ) (h : Station B H) (node : code.Node B H) (x : Node S)
+    → IsStation state M C drives h x → IsNode state M C drives node x → IsStation state M C drives (record h { node = node }) x
+unmoved state M C drives h node x i is = stays_on state M C drives h node x x i (kept_here x) refl is
 
 -- whatever the call does at the node, the station's node is another one of the same inputs and count
-pub retells : {A B S : Type 0} (state : B → S) (M : Machine S) (h : Station B) (node : code.Node B) (x : Node S)
-    (o : Option Fault) (needs : Node S → Type 0) (does : A → Node S → Node S → Type 0) → IsStation state M h x
+pub retells : {A B S : Type 0} (state : B → S) (M : Machine S) (C : Copying S) (drives : ℕ) (h : Station B H) (node : code.Node B H) (x : Node S)
+    (o : Option Fault) (needs : Node S → Type 0) (does : A → Node S → Node S → Type 0) → IsStation state M C drives h x
     → ((v : A) (y : Node S) → o ≡ None → does v x y → Kept x y × (count_in M y x.role ≡ count_in M x x.role))
-    → Retells o needs needs does x (IsUncopied state M node) (IsStation state M (record h { node = node }))
-retells state M h node x o needs does i keeps = record {
-  stays = unmoved state M h node x i;
+    → Retells o needs needs does x (IsNode state M C drives node) (IsStation state M C drives (record h { node = node }))
+retells state M C drives h node x o needs does i keeps = record {
+  stays = unmoved state M C drives h node x i;
   needing = λ w. w;
-  becomes = λ v y none does is. (let k = keeps v y none does in stays_on state M h node x y i k.0 k.1 is);
+  becomes = λ v y none does is. (let k = keeps v y none does in stays_on state M C drives h node x y i k.0 k.1 is);
 }
 
 -- ---- steps
 
-pub steps_on : {B S : Type 0} (state : B → S) (M : Machine S) (turns : ℕ) (h : Station B) (node : code.Node B)
-    (ran : Ran) (x : Node S) → IsStation state M h x → calls.Steps M turns x (Ok ran) (IsUncopied state M node)
-    → calls.Steps M turns x (Ok ran) (IsStation state M (record h { node = node; count = ran.count }))
-steps_on state M turns h node ran x i d =
+pub steps_on : {B H S : Type 0} (state : B → S) (M : Machine S) (C : Copying S) (drives : ℕ) (turns : ℕ) (h : Station B H) (node : code.Node B H)
+    (ran : Ran) (x : Node S) → IsStation state M C drives h x → calls.Steps M turns x (Ok ran) (IsNode state M C drives node)
+    → calls.Steps M turns x (Ok ran) (IsStation state M C drives (record h { node = node; count = ran.count }))
+steps_on state M C drives turns h node ran x i d =
     given (refusals.step_refusal M turns x) (λ x. 0 < turns) (λ x. 0 < turns) (calls.SteppedBy M turns) x
-    (IsUncopied state M node) (IsStation state M (record h { node = node; count = ran.count })) ran (λ y none s is.
+    (IsNode state M C drives node) (IsStation state M C drives (record h { node = node; count = ran.count })) ran (λ y none s is.
     (let k = advances_keep M s.advances in
     let serve : Serving y.role =
     subst (λ q. Serving q) (sym k.role) (serving_role x (step-serves M turns x none)) in
-    moves_on state M h node ran.count x y i k is (s.counted ∙ sym (machine_count M y serve)))) d
+    moves_on state M C drives h node ran.count x y i k is (s.counted ∙ sym (machine_count M y serve)))) d
 
-pub steps_not : {B S : Type 0} (state : B → S) (M : Machine S) (turns : ℕ) (h : Station B) (node : code.Node B)
-    (r : Result Ran Fault) (fault : Fault) (x : Node S) → IsErrAnd r (λ k. k ≡ fault) → IsStation state M h x
-    → calls.Steps M turns x (Err fault) (IsUncopied state M node)
-    → calls.Steps M turns x r (IsStation state M (record h { node = node }))
-steps_not state M turns h node r fault x at i d =
+pub steps_not : {B H S : Type 0} (state : B → S) (M : Machine S) (C : Copying S) (drives : ℕ) (turns : ℕ) (h : Station B H) (node : code.Node B H)
+    (r : Result Ran Fault) (fault : Fault) (x : Node S) → IsErrAnd r (λ k. k ≡ fault) → IsStation state M C drives h x
+    → calls.Steps M turns x (Err fault) (IsNode state M C drives node)
+    → calls.Steps M turns x r (IsStation state M C drives (record h { node = node }))
+steps_not state M C drives turns h node r fault x at i d =
     handed_on (refusals.step_refusal M turns x) (λ x. 0 < turns) (λ x. 0 < turns) (calls.SteppedBy M turns) x
-    (IsUncopied state M node) (IsStation state M (record h { node = node })) r fault at (unmoved state M h node x i)
+    (IsNode state M C drives node) (IsStation state M C drives (record h { node = node })) r fault at (unmoved state M C drives h node x i)
     (λ w. w) d
 
 -- ---- moves of a backup
 
-pub replays_on : {B S : Type 0} (state : B → S) (M : Machine S) (turns : ℕ) (h : Station B) (node : code.Node B)
-    (r : Result Replayed Fault) (x : Node S) → IsStation state M h x
-    → calls.Replays M turns x r (IsUncopied state M node)
-    → calls.Replays M turns x r (IsStation state M (record h { node = node }))
-replays_on state M turns h node r x i d =
-    retold r (retells state M h node x (refusals.replay_refusal x) (NeedsMoves M turns) (calls.ReplayedBy M turns) i
+pub replays_on : {B H S : Type 0} (state : B → S) (M : Machine S) (C : Copying S) (drives : ℕ) (turns : ℕ) (h : Station B H) (node : code.Node B H)
+    (r : Result Replayed Fault) (x : Node S) → IsStation state M C drives h x
+    → calls.Replays M turns x r (IsNode state M C drives node)
+    → calls.Replays M turns x r (IsStation state M C drives (record h { node = node }))
+replays_on state M C drives turns h node r x i d =
+    retold r (retells state M C drives h node x (refusals.replay_refusal x) (NeedsMoves M turns) (calls.ReplayedBy M turns) i
     (λ v y none s.
     (let k = replays_keep M s.moves in
     let role = acting_role x Backup none in
@@ -96,60 +97,60 @@ replays_on state M turns h node r x i d =
 
 -- ---- moves of a draining node
 
-drained_station : {B S : Type 0} (state : B → S) (M : Machine S) (h : Station B) (node : code.Node B) (count : ℕ)
-    (x y : Node S) (b : Bool) → IsStation state M h x → x.role ≡ Draining → Kept x y
-    → IsUncopied state M node (after_drain y b) → count ≡ (if b then count_of M (after_drain y b) (after_drain y b).role else h.count)
-    → IsStation state M (record h { node = node; count = count }) (after_drain y b)
-drained_station state M h node count x y true is role k now e = record {
+drained_station : {B H S : Type 0} (state : B → S) (M : Machine S) (C : Copying S) (drives : ℕ) (h : Station B H) (node : code.Node B H) (count : ℕ)
+    (x y : Node S) (b : Bool) → IsStation state M C drives h x → x.role ≡ Draining → Kept x y
+    → IsNode state M C drives node (after_drain y b) → count ≡ (if b then count_of M (after_drain y b) (after_drain y b).role else h.count)
+    → IsStation state M C drives (record h { node = node; count = count }) (after_drain y b)
+drained_station state M C drives h node count x y true is role k now e = record {
   node = now;
   inputs = is.inputs ∙ ap (list_of x) role ∙ sym (held_inputs x y k);
   count = e;
   a_node = λ s. (cc);
 }
-drained_station state M h node count x y false is role k now e =
-    moves_on state M h node count x y is k now
+drained_station state M C drives h node count x y false is role k now e =
+    moves_on state M C drives h node count x y is k now
     (e ∙ is.count ∙ ap (count_in M x) role ∙ sym (held_count x y k) ∙ sym (ap (count_in M y) (k.role ∙ role)))
 
-pub drains_on : {B S : Type 0} (state : B → S) (M : Machine S) (turns : ℕ) (h : Station B) (node : code.Node B)
-    (d : Drained) (count : ℕ) (x : Node S) → IsStation state M h x
-    → calls.Drains M turns x (Ok d) (IsUncopied state M node)
-    → ((y : Node S) → IsUncopied state M node y → count ≡ (if d.alone then count_of M y y.role else h.count))
-    → calls.Drains M turns x (Ok d) (IsStation state M (record h { node = node; count = count }))
-drains_on {B} {S} state M turns h node d count x is r counted =
+pub drains_on : {B H S : Type 0} (state : B → S) (M : Machine S) (C : Copying S) (drives : ℕ) (turns : ℕ) (h : Station B H) (node : code.Node B H)
+    (d : Drained) (count : ℕ) (x : Node S) → IsStation state M C drives h x
+    → calls.Drains M turns x (Ok d) (IsNode state M C drives node)
+    → ((y : Node S) → IsNode state M C drives node y → count ≡ (if d.alone then count_of M y y.role else h.count))
+    → calls.Drains M turns x (Ok d) (IsStation state M C drives (record h { node = node; count = count }))
+drains_on {B} {S} state M C drives turns h node d count x is r counted =
     given (refusals.drain_refusal x) (NeedsMoves M turns) (NeedsMoves M turns) (calls.DrainedBy M turns) x
-    (IsUncopied state M node) After d (λ y none s now. (let e = s.after in
+    (IsNode state M C drives node) After d (λ y none s now. (let e = s.after in
     subst (λ z. After z) (sym e)
-    (drained_station state M h node count x s.z d.alone is (acting_role x Draining none)
-    (replays_keep M s.replayed.moves) (subst (λ z. IsUncopied state M node z) e now)
-    (counted (after_drain s.z d.alone) (subst (λ z. IsUncopied state M node z) e now))))) r
+    (drained_station state M C drives h node count x s.z d.alone is (acting_role x Draining none)
+    (replays_keep M s.replayed.moves) (subst (λ z. IsNode state M C drives node z) e now)
+    (counted (after_drain s.z d.alone) (subst (λ z. IsNode state M C drives node z) e now))))) r
   where
     After : Node S → Type 0
-    After y = IsStation state M (record h { node = node; count = count }) y
+    After y = IsStation state M C drives (record h { node = node; count = count }) y
 
 -- ---- an acknowledgement, a halt
 
-pub hears_on : {B S : Type 0} (state : B → S) (M : Machine S) (p : Option Packet) (h : Station B) (node : code.Node B)
-    (r : Result ℕ Fault) (x : Node S) → IsStation state M h x → calls.DeliversAcknowledgement p x r (IsUncopied state M node)
-    → calls.DeliversAcknowledgement p x r (IsStation state M (record h { node = node }))
-hears_on {B} {S} state M p h node r x i d = go p d
+pub hears_on : {B H S : Type 0} (state : B → S) (M : Machine S) (C : Copying S) (drives : ℕ) (p : Option Packet) (h : Station B H) (node : code.Node B H)
+    (r : Result ℕ Fault) (x : Node S) → IsStation state M C drives h x → calls.DeliversAcknowledgement p x r (IsNode state M C drives node)
+    → calls.DeliversAcknowledgement p x r (IsStation state M C drives (record h { node = node }))
+hears_on {B} {S} state M C drives p h node r x i d = go p d
   where
-    none : (o : Option Fault) → calls.Unless o r (IsUncopied state M node x) ⊥
-        → calls.Unless o r (IsStation state M (record h { node = node }) x) ⊥
-    none o = unless o r _ _ ⊥ ⊥ (unmoved state M h node x i) (λ no. no)
+    none : (o : Option Fault) → calls.Unless o r (IsNode state M C drives node x) ⊥
+        → calls.Unless o r (IsStation state M C drives (record h { node = node }) x) ⊥
+    none o = unless o r _ _ ⊥ ⊥ (unmoved state M C drives h node x i) (λ no. no)
 
-    go : (p : Option Packet) → calls.DeliversAcknowledgement p x r (IsUncopied state M node)
-        → calls.DeliversAcknowledgement p x r (IsStation state M (record h { node = node }))
+    go : (p : Option Packet) → calls.DeliversAcknowledgement p x r (IsNode state M C drives node)
+        → calls.DeliversAcknowledgement p x r (IsStation state M C drives (record h { node = node }))
     go None d = none _ d
     go (Some (Log generation index e)) d = none _ d
-    go (Some (Ack generation held)) d = retold r (retells state M h node x
+    go (Some (Ack generation held)) d = retold r (retells state M C drives h node x
         (refusals.deliver_acknowledgement_refusal generation held x) calls.Never (Heard held 0) i (λ v y free s.
         (let k = heard_kept x y held 0 v s in (k, same_count M x y x.role k (ap (λ (z : Node S). z.machine) s.1))))) d
 
-pub stops_on : {B S : Type 0} (state : B → S) (M : Machine S) (h : Station B) (node : code.Node B)
-    (r : Result (Unit {0}) Fault) (x : Node S) → IsStation state M h x → calls.Stops x r (IsUncopied state M node)
-    → calls.Stops x r (IsStation state M (record h { node = node }))
-stops_on {B} {S} state M h node r x i d = retold r
-    (retells state M h node x (refusals.stop_refusal x) calls.Never (λ done. Halted) i (λ v y free s.
+pub stops_on : {B H S : Type 0} (state : B → S) (M : Machine S) (C : Copying S) (drives : ℕ) (h : Station B H) (node : code.Node B H)
+    (r : Result (Unit {0}) Fault) (x : Node S) → IsStation state M C drives h x → calls.Stops x r (IsNode state M C drives node)
+    → calls.Stops x r (IsStation state M C drives (record h { node = node }))
+stops_on {B} {S} state M C drives h node r x i d = retold r
+    (retells state M C drives h node x (refusals.stop_refusal x) calls.Never (λ done. Halted) i (λ v y free s.
     (let k = halted_kept x y s in (k, same_count M x y x.role k (ap (λ (z : Node S). z.machine) s))))) d
 
 -- ---- a node asks the arbiter
@@ -178,25 +179,25 @@ won_a_node Draining f s = (cc)
 won_a_node Alone f s = (cc)
 won_a_node Spare f s = f s
 
-pub suspects_on : {B S : Type 0} (state : B → S) (M : Machine S) (h : Station B) (node : code.Node B)
-    (old new : List Asking) (n : ℕ) (r : Result Won Fault) (x : Node S) → IsStation state M h x
-    → calls.Suspects old n x r new (IsUncopied state M node)
-    → calls.Suspects old n x r new (IsStation state M (record h { node = node }))
-suspects_on {B} {S} state M h node old new n r x is d =
-    unless (refusals.suspect_refusal x) r (IsUncopied state M node x × (new ≡ old)) (After x × (new ≡ old))
-    (calls.SuspectsOf (winner_of old x.generation) old n x r new (IsUncopied state M node))
-    (calls.SuspectsOf (winner_of old x.generation) old n x r new After) (λ p. (unmoved state M h node x is p.0, p.1))
-    (λ a. asked (winner_of old x.generation) old n x r new (IsUncopied state M node) After
-    (λ p. unmoved state M h node x is p) (λ p. won p)
-    (λ p. stays_on state M h node x (halts x) is halted (same_count M x (halts x) x.role halted refl) p) a) d
+pub suspects_on : {B H S : Type 0} (state : B → S) (M : Machine S) (C : Copying S) (drives : ℕ) (h : Station B H) (node : code.Node B H)
+    (old new : List Asking) (n : ℕ) (r : Result Won Fault) (x : Node S) → IsStation state M C drives h x
+    → calls.Suspects old n x r new (IsNode state M C drives node)
+    → calls.Suspects old n x r new (IsStation state M C drives (record h { node = node }))
+suspects_on {B} {S} state M C drives h node old new n r x is d =
+    unless (refusals.suspect_refusal x) r (IsNode state M C drives node x × (new ≡ old)) (After x × (new ≡ old))
+    (calls.SuspectsOf (winner_of old x.generation) old n x r new (IsNode state M C drives node))
+    (calls.SuspectsOf (winner_of old x.generation) old n x r new After) (λ p. (unmoved state M C drives h node x is p.0, p.1))
+    (λ a. asked (winner_of old x.generation) old n x r new (IsNode state M C drives node) After
+    (λ p. unmoved state M C drives h node x is p) (λ p. won p)
+    (λ p. stays_on state M C drives h node x (halts x) is halted (same_count M x (halts x) x.role halted refl) p) a) d
   where
     After : Node S → Type 0
-    After y = IsStation state M (record h { node = node }) y
+    After y = IsStation state M C drives (record h { node = node }) y
 
     halted : Kept x (halts x)
     halted = record { role = refl; generation = refl; list = refl; copy = refl; start = refl; held = refl }
 
-    won : IsUncopied state M node (wins x) → After (wins x)
+    won : IsNode state M C drives node (wins x) → After (wins x)
     won p = record {
       node = p;
       inputs = is.inputs ∙ sym (won_list x x.role);

@@ -1,4 +1,5 @@
 -- What a station shows of its node is what the node of the world has at that number.
+use Rattle.pair_protocol.specs.Copying.{Copying}
 use Rattle.std.proofs.Common.{◌≡◌, Err, IfOk, List, Ok, Result, Some, refl, subst, sym, ℕ}
 use Rattle.std.specs.Prelude.{slice_get}
 use Rattle.std.specs.Result.{result_ok}
@@ -7,7 +8,7 @@ use Rattle.pair_protocol.specs.Node.{Node}
 use Rattle.pair_protocol.proofs.Traces.Lists.{same_some}
 use Rattle.ft_node.specs.Seats.{IsRole}
 use Rattle.ft_node.specs.Roles.{count_of}
-use Rattle.ft_world.specs.Shows.{AreHosts, IsHost, IsStatusAt, IsUncopied}
+use Rattle.ft_world.specs.Shows.{AreHosts, IsHost, IsStatusAt, IsNode}
 use Rattle.ft_world.specs.declared.host.Host.{Host}
 use Rattle.ft_world.specs.declared.host.Host.TheVariants as host
 use Rattle.ft_world.specs.declared.hosts.NodeStatus.{NodeStatus}
@@ -19,15 +20,15 @@ pub holds_of_found : {A E : Type 0} (P : A → Type 0) (r : Result A E) (v : A) 
 holds_of_found P (Ok a) v e h = subst P (sym (same_some v a (Some v) refl e)) h
 holds_of_found P (Err fault) v e h = absurd (cc)
 
-pub station_shows : {B H S : Type 0} (state : B → S) (M : Machine S) (hosts : List (Host B H)) (nodes : List (Node S))
-    (n : ℕ) (station : Station B) (status : NodeStatus) → AreHosts state M hosts nodes →
+pub station_shows : {B H S : Type 0} (state : B → S) (M : Machine S) (C : Copying S) (drives : ℕ) (hosts : List (Host B H)) (nodes : List (Node S))
+    (n : ℕ) (station : Station B H) (status : NodeStatus) → AreHosts state M C drives hosts nodes →
     slice_get hosts n ≡ Some (host.Node station) →
-    ((x : Node S) → IsUncopied state M station.node x → IsRole x status.role) →
-    ((x : Node S) → IsUncopied state M station.node x → x.generation ≡ status.generation) →
-    ((x : Node S) → IsUncopied state M station.node x → count_of M x x.role ≡ status.count) →
+    ((x : Node S) → IsNode state M C drives station.node x → IsRole x status.role) →
+    ((x : Node S) → IsNode state M C drives station.node x → x.generation ≡ status.generation) →
+    ((x : Node S) → IsNode state M C drives station.node x → count_of M x x.role ≡ status.count) →
     IsStatusAt M (slice_get nodes n) (Some status)
-station_shows {B} {H} state M hosts nodes n station status are at role generation count =
-    let o = agree-other (IsHost {B = B} {H = H} state M) (slice_get hosts n) (slice_get nodes n) (host.Node station) at
+station_shows {B} {H} state M C drives hosts nodes n station status are at role generation count =
+    let o = agree-other (IsHost {B = B} {H = H} state M C drives) (slice_get hosts n) (slice_get nodes n) (host.Node station) at
     (are n) in
     let is = o.2 in
     subst (λ here. IsStatusAt M here (Some status)) (sym o.1)

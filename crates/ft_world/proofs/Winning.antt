@@ -1,5 +1,6 @@
 -- One more winner, here and in the world: the asking that the arbiter keeps is for a generation that nobody had won.
 -- The node that won is of the same generation as before, and is a backup only if it was one.
+use Rattle.guest_board.specs.Guest.{Guest}
 use Rattle.std.proofs.Common.{◌≡◌, [], ◌∷◌, ◌++◌, ◌∙◌, Bool, List, None, Some, ap, cond, eq-eqb, eqb-true, false, find, inl, inr, is_some, ne_eqb, refl, subst, sym, true, ℕ}
 use Rattle.std.specs.Prelude.{if◌then◌else◌, Option, slice_get, slice_set, ◌==◌}
 use Rattle.std.specs.Option.{option_map}
@@ -86,7 +87,7 @@ only_backup {S} nodes n x generation backup there only k z here is role =
 pub with_one_winner : {B H D S : Type 0} (state : B → S) (M : Machine S) (records : D → List Record) (drives : ℕ)
     (old : Running B H D) (c : Course S) (hosts : List (Host B H)) (n : ℕ) (x : Node S) →
     ShowsParts state M records drives old c → slice_get c.world.nodes n ≡ Some x →
-    winner_of old.askings x.generation ≡ None → AreHosts state M hosts (slice_set c.world.nodes n (wins x)) →
+    winner_of old.askings x.generation ≡ None → AreHosts state M c.copying drives hosts (slice_set c.world.nodes n (wins x)) →
     ShowsParts state M records drives
     (record old { hosts = hosts; askings = after_asking old.askings x.generation n })
     (record c { world = with_winner c.world n x })

@@ -1,6 +1,8 @@
 -- What a running world stands for, and what an event does to it.
+use Rattle.guest_board.specs.Guest.{Guest}
 use Rattle.std.specs.Prelude.{◌≡◌, ℕ, ◌+◌, List, [], ◌∷◌, Result, length, map}
 use Rattle.disk_dcdd.specs.declared.address.SectorAddress.{SectorAddress}
+use Rattle.clone_state.specs.Copies.{CopiesAs}
 use Rattle.guest_board.specs.Machine.{Machine}
 use Rattle.i8080_words.specs.declared.refusal.Fault.{Fault}
 use Rattle.shared_disk.specs.Records.{faults_in}
@@ -26,7 +28,7 @@ use Rattle.ft_world.specs.Running.{Running}
 -- the only node that may be its backup
 pub record ShowsParts {B H D S : Type 0} (state : B → S) (M : Machine S) (records : D → List Record) (drives : ℕ)
     (v : Running B H D) (c : Course S) : Type 0 where
-  pub hosts : AreHosts state M v.hosts c.world.nodes
+  pub hosts : AreHosts state M c.copying drives v.hosts c.world.nodes
   pub messages : AreMessages v.messages c.world.messages
   pub terminals : AreTerminals v.terminals c.world.terminals
   pub winners : AreWinners v.askings c.world.winners
@@ -35,33 +37,34 @@ pub record ShowsParts {B H D S : Type 0} (state : B → S) (M : Machine S) (reco
   pub backup : IsOnlyBackup c.world.nodes v.generation v.backup
 
 -- a world of the protocol that a pair of such machines reaches, and that the running world shows
-pub record Shows {B H D S : Type 0} (state : B → S) (M : Machine S) (records : D → List Record) (v : Running B H D)
-    (c : Course S) : Type 0 where
+pub record Shows {B H D S : Type 0} (state : B → S) (copied : B → Guest) (M : Machine S) (records : D → List Record)
+    (v : Running B H D) (c : Course S) : Type 0 where
   pub drives : ℕ
   pub machine : IsMachine (machine_of M c) c.copying drives
+  pub copies_as : CopiesAs state copied drives c.copying.parts c.copying.part_count c.copying.assemble
   pub reached : Reached (machine_of M c) c.copying c.world
   pub parts : ShowsParts state M records drives v c
 
 -- some such world is shown
-pub record ShowsSome {B H D S : Type 0} (state : B → S) (M : Machine S) (records : D → List Record)
-    (v : Running B H D) : Type 0 where
+pub record ShowsSome {B H D S : Type 0} (state : B → S) (copied : B → Guest) (M : Machine S)
+    (records : D → List Record) (v : Running B H D) : Type 0 where
   pub course : Course S
-  pub shows : Shows state M records v course
+  pub shows : Shows state copied M records v course
 
 -- an event's row: its answer, and the world that is shown after it; that world is faithful, and what was settled grows
-pub record Applies {B H D S : Type 0} (state : B → S) (M : Machine S) (records : D → List Record) (c : Course S)
-    (e : Event) (answer : Result Reply Fault) (new : Running B H D) : Type 0 where
+pub record Applies {B H D S : Type 0} (state : B → S) (copied : B → Guest) (M : Machine S)
+    (records : D → List Record) (c : Course S) (e : Event) (answer : Result Reply Fault) (new : Running B H D) : Type 0 where
   pub after : World S
   pub row : Row (machine_of M c) c.copying c.world (event_of e) (answer_of answer) after
-  pub shows : Shows state M records new (record c { world = after })
+  pub shows : Shows state copied M records new (record c { world = after })
   pub faithful : Faithful (machine_of M c) after
   pub grows : Grows (machine_of M c) c.world after
 
 -- an event happens: it applies at whatever world is shown
-abbrev pub Happens : {B H D S : Type 0} → (B → S) → Machine S → (D → List Record) → Running B H D → Event
-    → Result Reply Fault → Running B H D → Type 0
-Happens {S = S} state M records old e answer new =
-    (c : Course S) → Shows state M records old c → Applies state M records c e answer new
+abbrev pub Happens : {B H D S : Type 0} → (B → S) → (B → Guest) → Machine S → (D → List Record) → Running B H D
+    → Event → Result Reply Fault → Running B H D → Type 0
+Happens {S = S} state copied M records old e answer new =
+    (c : Course S) → Shows state copied M records old c → Applies state copied M records c e answer new
 
 -- the world of a course is faithful
 abbrev pub IsFaithful : {S : Type 0} → Machine S → Course S → Type 0
@@ -88,12 +91,12 @@ pub data Rows {S : Type 0} (M : Machine S) (C : Copying S) : World S → List pr
 
 -- a run: one answer for each event, each of them the event's row; the world after it is shown, it is faithful, and what
 -- was settled before the run grows
-pub record Runs {B H D S : Type 0} (state : B → S) (M : Machine S) (records : D → List Record) (c : Course S)
-    (events : List Event) (answers : List (Result Reply Fault)) (new : Running B H D) : Type 0 where
+pub record Runs {B H D S : Type 0} (state : B → S) (copied : B → Guest) (M : Machine S)
+    (records : D → List Record) (c : Course S) (events : List Event) (answers : List (Result Reply Fault)) (new : Running B H D) : Type 0 where
   pub after : World S
   pub rows : Rows (machine_of M c) c.copying c.world (map event_of events) (map answer_of answers) after
   pub each : length answers ≡ length events
-  pub shows : Shows state M records new (record c { world = after })
+  pub shows : Shows state copied M records new (record c { world = after })
   pub faithful : Faithful (machine_of M c) after
   pub grows : Grows (machine_of M c) c.world after
 

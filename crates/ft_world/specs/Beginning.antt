@@ -1,7 +1,9 @@
 -- How a pair begins: both guests are in the same state, and the disk has each sector of its drives, none written yet.
+use Rattle.guest_board.specs.Guest.{Guest}
 use Rattle.std.specs.Prelude.{◌≡◌, ℕ, List, []}
 use Rattle.std.specs.Option.{option_map_or}
 use Rattle.disk_dcdd.specs.declared.address.SectorAddress.{SectorAddress}
+use Rattle.clone_state.specs.Copies.{CopiesAs}
 use Rattle.guest_board.specs.Machine.{Machine}
 use Rattle.pair_protocol.specs.Copying.{Copying}
 use Rattle.pair_protocol.specs.World.{opening}
@@ -23,10 +25,11 @@ beginning M C s records = record {
 }
 
 -- a pair may begin with these guests and this disk, and its machine may be copied so
-pub record MayBegin {B D S : Type 0} (state : B → S) (M : Machine S) (C : Copying S) (records : D → List Record)
-    (primary backup : B) (store : D) : Type 0 where
+pub record MayBegin {B D S : Type 0} (state : B → S) (copied : B → Guest) (M : Machine S) (C : Copying S)
+    (records : D → List Record) (primary backup : B) (store : D) : Type 0 where
   pub drives : ℕ
   pub machine : IsMachine (machine_of M (beginning M C (state primary) (records store))) C drives
+  pub copies_as : CopiesAs state copied drives C.parts C.part_count C.assemble
   pub alike : state backup ≡ state primary
   pub there : HasDrives (records store) drives
   pub unwritten : IsUnwritten (records store)

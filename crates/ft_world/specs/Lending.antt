@@ -21,11 +21,11 @@ IsSpare (host.Spare resources) = Unit {0}
 
 -- no node has this number
 abbrev pub HasNoNode : {B H : Type 0} → List (Host B H) → ℕ → Type 0
-HasNoNode {B} hosts n = (station : Station B) → slice_get hosts n ≡ Some (host.Node station) → ⊥
+HasNoNode {B} {H} hosts n = (station : Station B H) → slice_get hosts n ≡ Some (host.Node station) → ⊥
 
 -- the hosts after the station of a node was lent and became this one: each spare host is as it was, and so is every
 -- host if the station is
-pub record WithStation {B H : Type 0} (old : List (Host B H)) (n : ℕ) (station : Station B) (new : List (Host B H))
+pub record WithStation {B H : Type 0} (old : List (Host B H)) (n : ℕ) (station : Station B H) (new : List (Host B H))
     : Type 0 where
   pub put : new ≡ slice_set old n (host.Node station)
   pub spares : SpareHostsStay old new

@@ -10,13 +10,12 @@ use Rattle.disk_dcdd.specs.Address.{has_sector}
 use Rattle.shared_disk.specs.Records.{IsAt}
 use Rattle.shared_disk.specs.declared.store.Record.{Record}
 use Rattle.terminals.specs.Screen.{Screen}
-use Rattle.pair_protocol.specs.Copying.{no_copies}
+use Rattle.pair_protocol.specs.Copying.{Copying}
 use Rattle.pair_protocol.specs.Node.{Node, Spare}
 use Rattle.pair_protocol.specs.Settled.{list_of, count_in, is_backup}
 use Rattle.pair_protocol.specs.World as protocol
 use Rattle.ft_node.specs.Roles.{count_of}
 use Rattle.ft_node.specs.Seats.{IsNode, IsRole}
-use Rattle.ft_node.specs.declared.node.Node as code
 use Rattle.ft_world.specs.Words.{IsMessage}
 use Rattle.ft_world.specs.declared.host.Host.{Host}
 use Rattle.ft_world.specs.declared.host.Host.TheVariants as host
@@ -24,21 +23,18 @@ use Rattle.ft_world.specs.declared.hosts.NodeStatus.{NodeStatus}
 use Rattle.ft_world.specs.declared.station.Station.{Station}
 use Rattle.ft_world.specs.declared.message.Message.{Message}
 
--- the node of the protocol that a node is; no machine of a running world is copied yet
-abbrev pub IsUncopied : {B S : Type 0} → (B → S) → Machine S → code.Node B → Node S → Type 0
-IsUncopied state M node x = IsNode state M no_copies 0 node x
-
 -- a node with its list of inputs and its count, by which it settles
-pub record IsStation {B S : Type 0} (state : B → S) (M : Machine S) (h : Station B) (x : Node S) : Type 0 where
-  pub node : IsUncopied state M h.node x
+pub record IsStation {B H S : Type 0} (state : B → S) (M : Machine S) (C : Copying S) (drives : ℕ) (h : Station B H)
+    (x : Node S) : Type 0 where
+  pub node : IsNode state M C drives h.node x
   pub inputs : h.inputs ≡ list_of x x.role
   pub count : h.count ≡ count_in M x x.role
   pub a_node : x.role ≡ Spare → ⊥
 
 -- a host: a node, or one that has no role yet
-abbrev pub IsHost : {B H S : Type 0} → (B → S) → Machine S → Host B H → Node S → Type 0
-IsHost state M (host.Node h) x = IsStation state M h x
-IsHost state M (host.Spare resources) x = x.role ≡ Spare
+abbrev pub IsHost : {B H S : Type 0} → (B → S) → Machine S → Copying S → ℕ → Host B H → Node S → Type 0
+IsHost state M C drives (host.Node h) x = IsStation state M C drives h x
+IsHost state M C drives (host.Spare resources) x = x.role ≡ Spare
 
 -- two lists agree place by place
 abbrev pub Agree : {A B : Type 0} → (A → B → Type 0) → Option A → Option B → Type 0
@@ -46,8 +42,9 @@ Agree P (Some a) (Some b) = P a b
 Agree P None None = Unit {0}
 Agree P _ _ = ⊥
 
-abbrev pub AreHosts : {B H S : Type 0} → (B → S) → Machine S → List (Host B H) → List (Node S) → Type 0
-AreHosts state M hosts nodes = (n : ℕ) → Agree (IsHost state M) (slice_get hosts n) (slice_get nodes n)
+abbrev pub AreHosts : {B H S : Type 0} → (B → S) → Machine S → Copying S → ℕ → List (Host B H) → List (Node S)
+    → Type 0
+AreHosts state M C drives hosts nodes = (n : ℕ) → Agree (IsHost state M C drives) (slice_get hosts n) (slice_get nodes n)
 
 pub record AreMessages (messages : List Message) (sent : List protocol.Message) : Type 0 where
   pub count : length messages ≡ length sent

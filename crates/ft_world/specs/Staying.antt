@@ -23,7 +23,7 @@ SpareHostsStay old new = map spare_of new ≡ map spare_of old
 
 -- the node of a number is halted, with the same inputs and the same count; everything else is as it was
 pub record NodeHalts {B H D : Type 0} (n : ℕ) (old new : Running B H D) : Type 0 where
-  pub before : Station B
+  pub before : Station B H
   pub there : slice_get old.hosts n ≡ Some (host.Node before)
   pub halted : Halted
   pub rest : new ≡ record old {

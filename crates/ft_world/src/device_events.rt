@@ -16,10 +16,10 @@ use i8080_words::{Fault, R};
 use pair_events::Reply;
 use shared_disk::SectorStore;
 
-impl<B: Copies + Drop, D: SectorStore, H: Drop> Pair<B, D, H> {
+impl<B: Copies<H> + Drop, D: SectorStore, H: Drop> Pair<B, D, H> {
     /// A byte is typed at the terminal of a port.
     pub(crate) fn type_byte(&mut self, port: u8, byte: u8) -> R<Reply>
-        ensures row { Happens B.state B.machine D.records (running_of self.old) (happens.TypeByte port byte) result
+        ensures row { Happens B.state B.copied B.machine D.records (running_of self.old) (happens.TypeByte port byte) result
             (running_of self.new) }
         ensures disk { self.new.disk ≡ self.old.disk }
         ensures unchanged { OnErr result (running_of self.new ≡ running_of self.old) }
@@ -30,7 +30,7 @@ impl<B: Copies + Drop, D: SectorStore, H: Drop> Pair<B, D, H> {
 
     /// A node sends an outstanding operation to its device.
     pub(crate) fn release(&mut self, node: u64, id: OpId) -> R<Reply>
-        ensures row { Happens B.state B.machine D.records (running_of self.old) (happens.Release node id) result
+        ensures row { Happens B.state B.copied B.machine D.records (running_of self.old) (happens.Release node id) result
             (running_of self.new) }
         ensures disk { self.new.disk ≡ self.old.disk }
         ensures unchanged { OnErr result (running_of self.new ≡ running_of self.old) }
@@ -44,7 +44,7 @@ impl<B: Copies + Drop, D: SectorStore, H: Drop> Pair<B, D, H> {
 
     /// A released byte arrives at its terminal.
     pub(crate) fn arrive(&mut self, message: u64) -> R<Reply>
-        ensures row { Happens B.state B.machine D.records (running_of self.old) (happens.Arrive message) result
+        ensures row { Happens B.state B.copied B.machine D.records (running_of self.old) (happens.Arrive message) result
             (running_of self.new) }
         ensures disk { self.new.disk ≡ self.old.disk }
         ensures unchanged { OnErr result (running_of self.new ≡ running_of self.old) }
@@ -58,8 +58,8 @@ impl<B: Copies + Drop, D: SectorStore, H: Drop> Pair<B, D, H> {
 
     /// A node hears that the terminal of a port has accepted the byte with a number.
     pub(crate) fn tell_sent(&mut self, node: u64, port: u8, number: u64) -> R<Reply>
-        requires shown { ShowsSome B.state B.machine D.records (running_of self.old) }
-        ensures row { Happens B.state B.machine D.records (running_of self.old) (happens.TellSent node port number)
+        requires shown { ShowsSome B.state B.copied B.machine D.records (running_of self.old) }
+        ensures row { Happens B.state B.copied B.machine D.records (running_of self.old) (happens.TellSent node port number)
             result (running_of self.new) }
         ensures disk { self.new.disk ≡ self.old.disk }
         ensures unchanged { OnErr result (running_of self.new ≡ running_of self.old) }
@@ -73,7 +73,7 @@ impl<B: Copies + Drop, D: SectorStore, H: Drop> Pair<B, D, H> {
 
     /// The terminal of a port is told how many of its keys a node has covered.
     pub(crate) fn tell(&mut self, node: u64, port: u8) -> R<Reply>
-        ensures row { Happens B.state B.machine D.records (running_of self.old) (happens.Told node port) result
+        ensures row { Happens B.state B.copied B.machine D.records (running_of self.old) (happens.Told node port) result
             (running_of self.new) }
         ensures disk { self.new.disk ≡ self.old.disk }
         ensures unchanged { OnErr result (running_of self.new ≡ running_of self.old) }
@@ -90,8 +90,8 @@ impl<B: Copies + Drop, D: SectorStore, H: Drop> Pair<B, D, H> {
 
     /// A released write arrives at the shared disk.
     pub(crate) fn put(&mut self, message: u64) -> R<Reply>
-        requires shown { ShowsSome B.state B.machine D.records (running_of self.old) }
-        ensures row { Happens B.state B.machine D.records (running_of self.old) (happens.Put message) result
+        requires shown { ShowsSome B.state B.copied B.machine D.records (running_of self.old) }
+        ensures row { Happens B.state B.copied B.machine D.records (running_of self.old) (happens.Put message) result
             (running_of self.new) }
         ensures counted { D.failures self.new.disk ≡ D.failures self.old.disk + faults_in result }
         ensures unchanged { IfErr result (λ fault. Stays D.records (happens.Put message) fault (running_of self.old)
@@ -106,8 +106,8 @@ impl<B: Copies + Drop, D: SectorStore, H: Drop> Pair<B, D, H> {
 
     /// The disk's answer to a write arrives at a node.
     pub(crate) fn put_reply(&mut self, message: u64, node: u64) -> R<Reply>
-        requires shown { ShowsSome B.state B.machine D.records (running_of self.old) }
-        ensures row { Happens B.state B.machine D.records (running_of self.old) (happens.PutReply message node) result
+        requires shown { ShowsSome B.state B.copied B.machine D.records (running_of self.old) }
+        ensures row { Happens B.state B.copied B.machine D.records (running_of self.old) (happens.PutReply message node) result
             (running_of self.new) }
         ensures disk { self.new.disk ≡ self.old.disk }
         ensures unchanged { OnErr result (running_of self.new ≡ running_of self.old) }
@@ -123,8 +123,8 @@ impl<B: Copies + Drop, D: SectorStore, H: Drop> Pair<B, D, H> {
 
     /// A node reads a sector of its selected drive.
     pub(crate) fn get(&mut self, node: u64, sector: u8) -> R<Reply>
-        requires shown { ShowsSome B.state B.machine D.records (running_of self.old) }
-        ensures row { Happens B.state B.machine D.records (running_of self.old) (happens.Get node sector) result
+        requires shown { ShowsSome B.state B.copied B.machine D.records (running_of self.old) }
+        ensures row { Happens B.state B.copied B.machine D.records (running_of self.old) (happens.Get node sector) result
             (running_of self.new) }
         ensures counted { D.failures self.new.disk ≡ D.failures self.old.disk + faults_in result }
         ensures unchanged { IfErr result (λ fault. Stays D.records (happens.Get node sector) fault (running_of self.old)
@@ -141,8 +141,8 @@ impl<B: Copies + Drop, D: SectorStore, H: Drop> Pair<B, D, H> {
 
     /// A sector that was read arrives at a node.
     pub(crate) fn get_reply(&mut self, message: u64, node: u64) -> R<Reply>
-        requires shown { ShowsSome B.state B.machine D.records (running_of self.old) }
-        ensures row { Happens B.state B.machine D.records (running_of self.old) (happens.GetReply message node) result
+        requires shown { ShowsSome B.state B.copied B.machine D.records (running_of self.old) }
+        ensures row { Happens B.state B.copied B.machine D.records (running_of self.old) (happens.GetReply message node) result
             (running_of self.new) }
         ensures disk { self.new.disk ≡ self.old.disk }
         ensures unchanged { OnErr result (running_of self.new ≡ running_of self.old) }

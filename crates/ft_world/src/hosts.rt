@@ -1,4 +1,5 @@
 //! The hosts of a pair, by their numbers.
+ghost use Rattle.pair_protocol.specs.Copying.{Copying};
 ghost use Rattle.std.specs.Prelude.{◌≡◌, IfErr, IfOk, List, Some, slice_get};
 ghost use Rattle.std.specs.Borrow.{LendsSoOk, sem};
 ghost use Rattle.i8080_words.specs.declared.refusal.Fault.TheVariants.{Unknown};
@@ -26,10 +27,10 @@ pub struct NodeStatus {
 }
 
 /// The station of a node, for an event that comes to it. `Unknown` if no node has this number.
-pub(crate) fn station_mut<B: Copies + Drop, H: Drop>(
+pub(crate) fn station_mut<B: Copies<H> + Drop, H: Drop>(
     hosts: &mut Vec<Host<B, H>>,
     node: u64,
-) -> R<&mut Station<B>>
+) -> R<&mut Station<B, H>>
     ensures* lends { sem 𝓛 (LendsSoOk (hosts_row B.row H.row) (the_station.the_row B.row) hosts.entry result
         (λ new station. WithStation hosts.old.items node station new.items) (λ new. new.items ≡ hosts.old.items)) }
     ensures found { IfOk result (λ station. slice_get hosts.old.items node ≡ Some (host.Node station.now)) }
@@ -42,10 +43,10 @@ pub(crate) fn station_mut<B: Copies + Drop, H: Drop>(
 }
 
 /// The station of a node, to look at. `Unknown` if no node has this number.
-pub(crate) fn station<B: Copies + Drop, H: Drop>(
+pub(crate) fn station<B: Copies<H> + Drop, H: Drop>(
     hosts: &Vec<Host<B, H>>,
     node: u64,
-) -> R<&Station<B>>
+) -> R<&Station<B, H>>
     ensures found { IfOk result (λ station. slice_get hosts.now.items node ≡ Some (host.Node station.now)) }
     ensures absent { IfErr result (λ fault. (fault ≡ Unknown) × HasNoNode hosts.now.items node) }
 {
@@ -57,11 +58,11 @@ pub(crate) fn station<B: Copies + Drop, H: Drop>(
 }
 
 /// What a node shows of itself; `None` if no node has this number.
-pub(crate) fn status<B: Copies + Drop, H: Drop>(
+pub(crate) fn status<B: Copies<H> + Drop, H: Drop>(
     hosts: &Vec<Host<B, H>>,
     node: u64,
 ) -> Option<NodeStatus>
-    ensures { (nodes : List (protocol.Node B.State)) → AreHosts B.state B.machine hosts.now.items nodes
+    ensures { (C : Copying B.State) (drives : ℕ) (nodes : List (protocol.Node B.State)) → AreHosts B.state B.machine C drives hosts.now.items nodes
         → IsStatusAt B.machine (slice_get nodes node) result }
 {
     let station = station(hosts, node).ok()?;
@@ -73,7 +74,7 @@ pub(crate) fn status<B: Copies + Drop, H: Drop>(
 }
 
 /// The inputs of a node, and the count up to which they settle it; no input and 0 if no node has this number.
-pub(crate) fn settled<B: Copies + Drop, H: Drop>(
+pub(crate) fn settled<B: Copies<H> + Drop, H: Drop>(
     hosts: &Vec<Host<B, H>>,
     node: u64,
 ) -> (&[Timed], u64)

@@ -14,11 +14,11 @@ use pair_events::Reply;
 use shared_disk::SectorStore;
 use std::alloc::Global;
 
-impl<B: Copies + Drop, D: SectorStore, H: Drop> Pair<B, D, H> {
+impl<B: Copies<H> + Drop, D: SectorStore, H: Drop> Pair<B, D, H> {
     /// The machine of a primary or alone node makes at most this many steps.
     pub(crate) fn step(&mut self, node: u64, turns: u64) -> R<Reply>
-        requires shown { ShowsSome B.state B.machine D.records (running_of self.old) }
-        ensures row { Happens B.state B.machine D.records (running_of self.old) (happens.Step node turns) result
+        requires shown { ShowsSome B.state B.copied B.machine D.records (running_of self.old) }
+        ensures row { Happens B.state B.copied B.machine D.records (running_of self.old) (happens.Step node turns) result
             (running_of self.new) }
         ensures disk { self.new.disk ≡ self.old.disk }
         ensures unchanged { OnErr result (running_of self.new ≡ running_of self.old) }
@@ -35,8 +35,8 @@ impl<B: Copies + Drop, D: SectorStore, H: Drop> Pair<B, D, H> {
 
     /// A node takes the key at an index from the terminal of a port.
     pub(crate) fn take_key(&mut self, node: u64, port: u8, index: u64) -> R<Reply>
-        requires shown { ShowsSome B.state B.machine D.records (running_of self.old) }
-        ensures row { Happens B.state B.machine D.records (running_of self.old) (happens.TakeKey node port index) result
+        requires shown { ShowsSome B.state B.copied B.machine D.records (running_of self.old) }
+        ensures row { Happens B.state B.copied B.machine D.records (running_of self.old) (happens.TakeKey node port index) result
             (running_of self.new) }
         ensures disk { self.new.disk ≡ self.old.disk }
         ensures unchanged { OnErr result (running_of self.new ≡ running_of self.old) }
@@ -50,7 +50,7 @@ impl<B: Copies + Drop, D: SectorStore, H: Drop> Pair<B, D, H> {
 
     /// A primary sends an entry of its log.
     pub(crate) fn send(&mut self, alloc: Global, node: u64, index: u64) -> R<Reply>
-        ensures row { Happens B.state B.machine D.records (running_of self.old) (happens.Send node index) result
+        ensures row { Happens B.state B.copied B.machine D.records (running_of self.old) (happens.Send node index) result
             (running_of self.new) }
         ensures disk { self.new.disk ≡ self.old.disk }
         ensures unchanged { OnErr result (running_of self.new ≡ running_of self.old) }
@@ -63,7 +63,7 @@ impl<B: Copies + Drop, D: SectorStore, H: Drop> Pair<B, D, H> {
 
     /// A log entry arrives at a backup.
     pub(crate) fn deliver_log(&mut self, message: u64, node: u64) -> R<Reply>
-        ensures row { Happens B.state B.machine D.records (running_of self.old) (happens.DeliverLog message node) result
+        ensures row { Happens B.state B.copied B.machine D.records (running_of self.old) (happens.DeliverLog message node) result
             (running_of self.new) }
         ensures disk { self.new.disk ≡ self.old.disk }
         ensures unchanged { OnErr result (running_of self.new ≡ running_of self.old) }
@@ -82,7 +82,7 @@ impl<B: Copies + Drop, D: SectorStore, H: Drop> Pair<B, D, H> {
 
     /// A backup sends an acknowledgement of all that it holds.
     pub(crate) fn acknowledge(&mut self, alloc: Global, node: u64) -> R<Reply>
-        ensures row { Happens B.state B.machine D.records (running_of self.old) (happens.Acknowledge node) result
+        ensures row { Happens B.state B.copied B.machine D.records (running_of self.old) (happens.Acknowledge node) result
             (running_of self.new) }
         ensures disk { self.new.disk ≡ self.old.disk }
         ensures unchanged { OnErr result (running_of self.new ≡ running_of self.old) }
@@ -95,7 +95,7 @@ impl<B: Copies + Drop, D: SectorStore, H: Drop> Pair<B, D, H> {
 
     /// An acknowledgement arrives at a primary.
     pub(crate) fn deliver_acknowledgement(&mut self, message: u64, node: u64) -> R<Reply>
-        ensures row { Happens B.state B.machine D.records (running_of self.old)
+        ensures row { Happens B.state B.copied B.machine D.records (running_of self.old)
             (happens.DeliverAcknowledgement message node) result (running_of self.new) }
         ensures disk { self.new.disk ≡ self.old.disk }
         ensures unchanged { OnErr result (running_of self.new ≡ running_of self.old) }
@@ -111,8 +111,8 @@ impl<B: Copies + Drop, D: SectorStore, H: Drop> Pair<B, D, H> {
 
     /// A backup makes at most this many moves of what it holds.
     pub(crate) fn replay(&mut self, node: u64, turns: u64) -> R<Reply>
-        requires shown { ShowsSome B.state B.machine D.records (running_of self.old) }
-        ensures row { Happens B.state B.machine D.records (running_of self.old) (happens.Replay node turns) result
+        requires shown { ShowsSome B.state B.copied B.machine D.records (running_of self.old) }
+        ensures row { Happens B.state B.copied B.machine D.records (running_of self.old) (happens.Replay node turns) result
             (running_of self.new) }
         ensures disk { self.new.disk ≡ self.old.disk }
         ensures unchanged { OnErr result (running_of self.new ≡ running_of self.old) }
@@ -128,8 +128,8 @@ impl<B: Copies + Drop, D: SectorStore, H: Drop> Pair<B, D, H> {
 
     /// A node asks the arbiter for its generation.
     pub(crate) fn suspect(&mut self, node: u64) -> R<Reply>
-        requires shown { ShowsSome B.state B.machine D.records (running_of self.old) }
-        ensures row { Happens B.state B.machine D.records (running_of self.old) (happens.Suspect node) result
+        requires shown { ShowsSome B.state B.copied B.machine D.records (running_of self.old) }
+        ensures row { Happens B.state B.copied B.machine D.records (running_of self.old) (happens.Suspect node) result
             (running_of self.new) }
         ensures disk { self.new.disk ≡ self.old.disk }
         ensures unchanged { IfErr result (λ fault. Stays D.records (happens.Suspect node) fault (running_of self.old)
@@ -143,8 +143,8 @@ impl<B: Copies + Drop, D: SectorStore, H: Drop> Pair<B, D, H> {
 
     /// A node that won makes at most this many moves of what it still holds.
     pub(crate) fn drain(&mut self, node: u64, turns: u64) -> R<Reply>
-        requires shown { ShowsSome B.state B.machine D.records (running_of self.old) }
-        ensures row { Happens B.state B.machine D.records (running_of self.old) (happens.Drain node turns) result
+        requires shown { ShowsSome B.state B.copied B.machine D.records (running_of self.old) }
+        ensures row { Happens B.state B.copied B.machine D.records (running_of self.old) (happens.Drain node turns) result
             (running_of self.new) }
         ensures disk { self.new.disk ≡ self.old.disk }
         ensures unchanged { OnErr result (running_of self.new ≡ running_of self.old) }
@@ -165,7 +165,7 @@ impl<B: Copies + Drop, D: SectorStore, H: Drop> Pair<B, D, H> {
 
     /// A node halts.
     pub(crate) fn stop(&mut self, node: u64) -> R<Reply>
-        ensures row { Happens B.state B.machine D.records (running_of self.old) (happens.Stop node) result
+        ensures row { Happens B.state B.copied B.machine D.records (running_of self.old) (happens.Stop node) result
             (running_of self.new) }
         ensures disk { self.new.disk ≡ self.old.disk }
         ensures unchanged { OnErr result (running_of self.new ≡ running_of self.old) }

@@ -26,7 +26,7 @@ use terminals::Terminal;
 /// The hosts, every message ever sent, a terminal at each port, the arbiter and the disk; also the highest generation,
 /// and the number of the node that is or is to be its backup.
 #[derive(Drop)]
-pub(crate) struct Pair<B: Copies + Drop, D: SectorStore, H: Drop> {
+pub(crate) struct Pair<B: Copies<H> + Drop, D: SectorStore, H: Drop> {
     pub(crate) hosts: Vec<Host<B, H>>,
     pub(crate) messages: Vec<Message>,
     pub(crate) terminals: [Terminal; PORTS],
@@ -36,7 +36,7 @@ pub(crate) struct Pair<B: Copies + Drop, D: SectorStore, H: Drop> {
     pub(crate) backup: usize,
 }
 
-impl<B: Copies + Drop, D: SectorStore, H: Drop> Pair<B, D, H> {
+impl<B: Copies<H> + Drop, D: SectorStore, H: Drop> Pair<B, D, H> {
     /// A pair with these guests and this disk. It allocates no further memory.
     pub(crate) fn begin(
         alloc: Global,
@@ -46,8 +46,8 @@ impl<B: Copies + Drop, D: SectorStore, H: Drop> Pair<B, D, H> {
         store: D,
     ) -> Pair<B, D, H>
         ghost copying: { Copying B.State }
-        requires may { MayBegin B.state B.machine copying D.records primary backup store }
-        ensures { Shows B.state B.machine D.records (running_of result)
+        requires may { MayBegin B.state B.copied B.machine copying D.records primary backup store }
+        ensures { Shows B.state B.copied B.machine D.records (running_of result)
             (beginning B.machine copying (B.state primary) (D.records store)) }
     {
         Pair {
@@ -63,8 +63,8 @@ impl<B: Copies + Drop, D: SectorStore, H: Drop> Pair<B, D, H> {
 
     /// An event happens.
     pub(crate) fn apply(&mut self, alloc: Global, event: Event) -> R<Reply>
-        requires shown { ShowsSome B.state B.machine D.records (running_of self.old) }
-        ensures row { Happens B.state B.machine D.records (running_of self.old) event result (running_of self.new) }
+        requires shown { ShowsSome B.state B.copied B.machine D.records (running_of self.old) }
+        ensures row { Happens B.state B.copied B.machine D.records (running_of self.old) event result (running_of self.new) }
         ensures counted { D.failures self.new.disk ≡ D.failures self.old.disk + failures_told event result }
         ensures unchanged { IfErr result (λ fault. Stays D.records event fault (running_of self.old)
             (running_of self.new)) }
@@ -97,10 +97,10 @@ impl<B: Copies + Drop, D: SectorStore, H: Drop> Pair<B, D, H> {
 
     /// Events happen, one after another. Room for the answers is reserved before the first one happens.
     pub(crate) fn run(&mut self, alloc: Global, events: &[Event]) -> R<Vec<R<Reply>>>
-        requires shown { ShowsSome B.state B.machine D.records (running_of self.old) }
+        requires shown { ShowsSome B.state B.copied B.machine D.records (running_of self.old) }
         ensures ok { IfOk result (λ answers. (c : Course B.State)
-            → Shows B.state B.machine D.records (running_of self.old) c
-            → Runs B.state B.machine D.records c events.now answers.items (running_of self.new)) }
+            → Shows B.state B.copied B.machine D.records (running_of self.old) c
+            → Runs B.state B.copied B.machine D.records c events.now answers.items (running_of self.new)) }
         ensures counted { IfOk result (λ answers. D.failures self.new.disk
             ≡ D.failures self.old.disk + failures_over events.now answers.items) }
         ensures spares { SpareHostsStay self.old.hosts.items self.new.hosts.items }
@@ -120,11 +120,11 @@ impl<B: Copies + Drop, D: SectorStore, H: Drop> Pair<B, D, H> {
 
     /// A host without a role comes; returns its number. `OutOfMemory` hands its resources back.
     pub(crate) fn host(&mut self, resources: H) -> Result<u64, (H, Fault)>
-        ensures ok { OnOk result ((c : Course B.State) → Shows B.state B.machine D.records (running_of self.old) c
-            → Shows B.state B.machine D.records (running_of self.new)
+        ensures ok { OnOk result ((c : Course B.State) → Shows B.state B.copied B.machine D.records (running_of self.old) c
+            → Shows B.state B.copied B.machine D.records (running_of self.new)
             (record c { world = with_host (machine_of B.machine c) c.world })) }
         ensures faithful { OnOk result ((c : Course B.State)
-            → Shows B.state B.machine D.records (running_of self.old) c
+            → Shows B.state B.copied B.machine D.records (running_of self.old) c
             → IsFaithful B.machine (record c { world = with_host (machine_of B.machine c) c.world })) }
         ensures others { OnOk result (running_of self.new
             ≡ record (running_of self.old) { hosts = self.old.hosts.items ++ host.Spare resources ∷ [] }) }

@@ -20,10 +20,10 @@ use guest_trace::Timed;
 use i8080_words::R;
 use shared_disk::{SectorRead, SectorStore};
 
-impl<B: Copies + Drop, D: SectorStore, H: Drop> Pair<B, D, H> {
+impl<B: Copies<H> + Drop, D: SectorStore, H: Drop> Pair<B, D, H> {
     /// The bytes that the terminal of a port has accepted; empty if there is no such port.
     pub(crate) fn accepted(&self, port: u8) -> &[u8]
-        ensures { (c : Course B.State) → Shows B.state B.machine D.records (running_of self.now) c
+        ensures { (c : Course B.State) → Shows B.state B.copied B.machine D.records (running_of self.now) c
             → result.now ≡ accepted c.world port }
     {
         devices::accepted(&self.terminals, port)
@@ -31,7 +31,7 @@ impl<B: Copies + Drop, D: SectorStore, H: Drop> Pair<B, D, H> {
 
     /// How many of its keys the terminal of a port was told are covered; 0 if there is no such port.
     pub(crate) fn told(&self, port: u8) -> u64
-        ensures { (c : Course B.State) → Shows B.state B.machine D.records (running_of self.now) c
+        ensures { (c : Course B.State) → Shows B.state B.copied B.machine D.records (running_of self.now) c
             → result ≡ (terminal c.world port).told }
     {
         devices::told(&self.terminals, port)
@@ -40,7 +40,7 @@ impl<B: Copies + Drop, D: SectorStore, H: Drop> Pair<B, D, H> {
     /// What a sector of the disk has.
     pub(crate) fn sector(&mut self, address: SectorAddress) -> R<SectorRead>
         ensures ok { IfOk result (λ read. (c : Course B.State)
-            → Shows B.state B.machine D.records (running_of self.old) c
+            → Shows B.state B.copied B.machine D.records (running_of self.old) c
             → IsSectorOf (machine_of B.machine c) c.world address read) }
         ensures refused { IfErr result (λ fault. fault ≡ refusal_at (D.records self.old.disk) address) }
         ensures kept { D.records self.new.disk ≡ D.records self.old.disk }
@@ -52,7 +52,7 @@ impl<B: Copies + Drop, D: SectorStore, H: Drop> Pair<B, D, H> {
 
     /// What a node shows of itself; `None` if no node has this number.
     pub(crate) fn node(&self, node: u64) -> Option<NodeStatus>
-        ensures { (c : Course B.State) → Shows B.state B.machine D.records (running_of self.now) c
+        ensures { (c : Course B.State) → Shows B.state B.copied B.machine D.records (running_of self.now) c
             → IsStatusAt B.machine (slice_get c.world.nodes node) result }
     {
         hosts::status(&self.hosts, node)
@@ -60,7 +60,7 @@ impl<B: Copies + Drop, D: SectorStore, H: Drop> Pair<B, D, H> {
 
     /// The message of this number, if it was sent.
     pub(crate) fn message(&self, message: u64) -> Option<&Message>
-        ensures { (c : Course B.State) → Shows B.state B.machine D.records (running_of self.now) c
+        ensures { (c : Course B.State) → Shows B.state B.copied B.machine D.records (running_of self.now) c
             → Agree IsMessage (option_map (λ found. found.now) result) (slice_get c.world.messages message) }
     {
         self.messages.get(message as usize)
@@ -68,7 +68,7 @@ impl<B: Copies + Drop, D: SectorStore, H: Drop> Pair<B, D, H> {
 
     /// The node that has won a generation.
     pub(crate) fn winner(&self, generation: u32) -> Option<u64>
-        ensures { (c : Course B.State) → Shows B.state B.machine D.records (running_of self.now) c
+        ensures { (c : Course B.State) → Shows B.state B.copied B.machine D.records (running_of self.now) c
             → result ≡ winner_in c.world.winners generation }
     {
         self.arbiter.winner(generation)
@@ -76,7 +76,7 @@ impl<B: Copies + Drop, D: SectorStore, H: Drop> Pair<B, D, H> {
 
     /// The inputs that are settled, and the count up to which they are settled.
     pub(crate) fn settled(&self) -> (&[Timed], u64)
-        ensures { (c : Course B.State) → Shows B.state B.machine D.records (running_of self.now) c
+        ensures { (c : Course B.State) → Shows B.state B.copied B.machine D.records (running_of self.now) c
             → Settled (machine_of B.machine c) c.world result.0.now result.1 }
     {
         let winner = self.arbiter.winner(self.generation);

@@ -24,7 +24,7 @@ pub(crate) struct Room<B, H> {
     ghost unused: { log ≡ logs.log 0 [] },
 }
 
-impl<B: Copies + Drop, H: Drop> Room<B, H> {
+impl<B: Copies<H> + Drop, H: Drop> Room<B, H> {
     /// Allocates that memory.
     pub(crate) fn new(alloc: Global) -> R<Room<B, H>>
         ensures { IsOkUnless result OutOfMemory }
@@ -38,7 +38,7 @@ impl<B: Copies + Drop, H: Drop> Room<B, H> {
     pub(crate) fn begin(self, alloc: Global, primary: B, backup: B) -> Vec<Host<B, H>>
         ensures { (c : Course B.State) → B.state primary ≡ c.boot → B.state backup ≡ c.boot
             → B.machine.count c.boot ≡ 0
-            → AreHosts B.state B.machine result.items (opening (machine_of B.machine c)).nodes }
+            → AreHosts B.state B.machine C drives result.items (opening (machine_of B.machine c)).nodes }
     {
         let Room { mut hosts, log } = self;
         hosts.push_reserved(Host::Node(Station::new(alloc, Node::primary(primary, log, 1))));

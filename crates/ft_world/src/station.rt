@@ -1,4 +1,5 @@
 //! A node with its list of inputs, and what an event does there.
+ghost use Rattle.pair_protocol.specs.Copying.{Copying};
 ghost use Rattle.std.specs.Prelude.{◌≡◌, ◌≢◌, ◌<◌, [], None, if◌then◌else◌, IfErr, OnErr};
 ghost use Rattle.disk_dcdd.specs.declared.controller.TheConstants.{DRIVES};
 ghost use Rattle.disk_dcdd.specs.declared.sector.TheConstants.{SECTORS};
@@ -12,7 +13,7 @@ ghost use Rattle.pair_protocol.specs.Refusals as refusals;
 ghost use Rattle.ft_node.specs.Calls as calls;
 ghost use Rattle.ft_node.specs.Roles.{count_of};
 ghost use Rattle.ft_node.specs.Seats.{MayAccept, MayReplay, MayRun};
-ghost use Rattle.ft_world.specs.Shows.{IsStation, IsUncopied};
+ghost use Rattle.ft_world.specs.Shows.{IsStation};
 
 use crate::input_list::Inputs;
 use arbiter_core::{Arbiter, Won};
@@ -27,18 +28,18 @@ use std::alloc::Global;
 /// A node with the list of inputs that its machine has taken or is to take, and the count up to which they settle it.
 /// No node reads either.
 #[derive(Drop)]
-pub struct Station<B: Copies> {
-    pub(crate) node: Node<B>,
+pub struct Station<B, H> {
+    pub(crate) node: Node<B, H>,
     pub(crate) inputs: Inputs,
     pub(crate) count: u64,
 }
 
-impl<B: Copies + Drop> Station<B> {
+impl<B: Copies<H> + Drop> Station<B, H> {
     // A node that begins, with no inputs yet, settled at the count of its machine.
-    pub(crate) fn new(alloc: Global, node: Node<B>) -> Station<B>
+    pub(crate) fn new(alloc: Global, node: Node<B, H>) -> Station<B, H>
         ensures node { result.node ≡ node }
         ensures inputs { result.inputs ≡ [] }
-        ensures count { (x : protocol.Node B.State) → IsUncopied B.state B.machine node x
+        ensures count { (C : Copying B.State) (drives : ℕ) (x : protocol.Node B.State) → IsNode B.state B.machine C drives node x
             → result.count ≡ count_of B.machine x x.role }
     {
         let count = node.count();
@@ -51,7 +52,7 @@ impl<B: Copies + Drop> Station<B> {
 
     // The count by which a node settles after a drain: its machine's if it is alone now, and the same as before if not.
     fn settled_count(&self, alone: bool) -> u64
-        ensures { (x : protocol.Node B.State) → IsUncopied B.state B.machine self.now.node x
+        ensures { (C : Copying B.State) (drives : ℕ) (x : protocol.Node B.State) → IsNode B.state B.machine C drives self.now.node x
             → result ≡ (if alone then count_of B.machine x x.role else self.now.count) }
     {
         if alone { self.node.count() } else { self.count }
@@ -60,8 +61,8 @@ impl<B: Copies + Drop> Station<B> {
     /// The machine of a node makes at most `turns` steps, up to the first that gives an operation.
     pub(crate) fn step(&mut self, turns: u64) -> R<Ran>
         requires few { MayRun B.state B.machine self.old.node }
-        ensures answer { (x : protocol.Node B.State) → IsStation B.state B.machine self.old x
-            → calls.Steps B.machine turns x result (IsStation B.state B.machine self.new) }
+        ensures answer { (C : Copying B.State) (drives : ℕ) (x : protocol.Node B.State) → IsStation B.state B.machine C drives self.old x
+            → calls.Steps B.machine turns x result (IsStation B.state B.machine C drives self.new) }
         ensures unchanged { OnErr result (self.new ≡ self.old) }
     {
         let ran = self.node.step(turns)?;
@@ -72,9 +73,9 @@ impl<B: Copies + Drop> Station<B> {
     // A node takes an input that nothing refuses, once it is appended to the inputs. `OutOfMemory` if they have no room.
     fn accept(&mut self, input: Input) -> R<()>
         requires { MayAccept B.state B.machine self.old.node input }
-        ensures answer { (x : protocol.Node B.State) → IsStation B.state B.machine self.old x
+        ensures answer { (C : Copying B.State) (drives : ℕ) (x : protocol.Node B.State) → IsStation B.state B.machine C drives self.old x
             → calls.Call None calls.Ever (λ done. Took B.machine input) x result
-            (IsStation B.state B.machine self.new) }
+            (IsStation B.state B.machine C drives self.new) }
         ensures unchanged { OnErr result (self.new ≡ self.old) }
     {
         self.inputs.push(self.count, &input)?;
@@ -85,9 +86,9 @@ impl<B: Copies + Drop> Station<B> {
     /// A node takes the key that was typed at an index, from 0.
     pub(crate) fn take_key(&mut self, port: u8, index: u64, byte: u8) -> R<()>
         requires port { port < PORTS }
-        ensures answer { (x : protocol.Node B.State) → IsStation B.state B.machine self.old x
+        ensures answer { (C : Copying B.State) (drives : ℕ) (x : protocol.Node B.State) → IsStation B.state B.machine C drives self.old x
             → calls.Call (refusals.take_key_refusal B.machine port index x) calls.Ever
-            (λ done. Took B.machine (input.Rx port byte)) x result (IsStation B.state B.machine self.new) }
+            (λ done. Took B.machine (input.Rx port byte)) x result (IsStation B.state B.machine C drives self.new) }
         ensures unchanged { OnErr result (self.new ≡ self.old) }
     {
         self.node.check_key(port, index)?;
@@ -97,9 +98,9 @@ impl<B: Copies + Drop> Station<B> {
     /// A node takes the acceptance of the byte with a number, from 1.
     pub(crate) fn tell_sent(&mut self, port: u8, number: u64) -> R<()>
         requires port { port < PORTS }
-        ensures answer { (x : protocol.Node B.State) → IsStation B.state B.machine self.old x
+        ensures answer { (C : Copying B.State) (drives : ℕ) (x : protocol.Node B.State) → IsStation B.state B.machine C drives self.old x
             → calls.Call (refusals.tell_sent_refusal B.machine port number x) calls.Ever
-            (λ done. Took B.machine (input.Sent port)) x result (IsStation B.state B.machine self.new) }
+            (λ done. Took B.machine (input.Sent port)) x result (IsStation B.state B.machine C drives self.new) }
         ensures unchanged { OnErr result (self.new ≡ self.old) }
     {
         self.node.check_sent(port, number)?;
@@ -108,9 +109,9 @@ impl<B: Copies + Drop> Station<B> {
 
     /// A node takes the completion of the write with a number.
     pub(crate) fn put_reply(&mut self, number: u64) -> R<()>
-        ensures answer { (x : protocol.Node B.State) → IsStation B.state B.machine self.old x
+        ensures answer { (C : Copying B.State) (drives : ℕ) (x : protocol.Node B.State) → IsStation B.state B.machine C drives self.old x
             → calls.Call (refusals.put_reply_refusal B.machine number x) calls.Ever
-            (λ done. Took B.machine (input.Written number)) x result (IsStation B.state B.machine self.new) }
+            (λ done. Took B.machine (input.Written number)) x result (IsStation B.state B.machine C drives self.new) }
         ensures unchanged { OnErr result (self.new ≡ self.old) }
     {
         self.node.check_done(number)?;
@@ -126,10 +127,10 @@ impl<B: Copies + Drop> Station<B> {
     ) -> R<()>
         requires drive { address.drive < DRIVES }
         requires sector { address.sector < SECTORS }
-        ensures answer { (x : protocol.Node B.State) → IsStation B.state B.machine self.old x
+        ensures answer { (C : Copying B.State) (drives : ℕ) (x : protocol.Node B.State) → IsStation B.state B.machine C drives self.old x
             → calls.Call (refusals.get_reply_refusal B.machine address number bytes x) calls.Ever
             (λ done. Took B.machine (input.Sector address.drive address.sector number bytes)) x result
-            (IsStation B.state B.machine self.new) }
+            (IsStation B.state B.machine C drives self.new) }
         ensures unchanged { OnErr result (self.new ≡ self.old) }
     {
         self.node.check_under(address, number, bytes)?;
@@ -144,8 +145,8 @@ impl<B: Copies + Drop> Station<B> {
     /// A node takes a packet of the log: true if its entry is the next one, and is now held; a repeat, or one past a
     /// gap, is false.
     pub(crate) fn deliver_log(&mut self, bytes: &[u8]) -> R<bool>
-        ensures answer { (x : protocol.Node B.State) → IsStation B.state B.machine self.old x
-            → calls.DeliversLog NeedsEntry (packet_at bytes.now) x result (IsStation B.state B.machine self.new) }
+        ensures answer { (C : Copying B.State) (drives : ℕ) (x : protocol.Node B.State) → IsStation B.state B.machine C drives self.old x
+            → calls.DeliversLog NeedsEntry (packet_at bytes.now) x result (IsStation B.state B.machine C drives self.new) }
         ensures unchanged { OnErr result (self.new ≡ self.old) }
     {
         let Some(entry) = self.node.next_entry(bytes)? else {
@@ -167,8 +168,8 @@ impl<B: Copies + Drop> Station<B> {
 
     /// A node takes an acknowledgement, and returns how many entries are acknowledged then.
     pub(crate) fn deliver_acknowledgement(&mut self, bytes: &[u8]) -> R<u64>
-        ensures answer { (x : protocol.Node B.State) → IsStation B.state B.machine self.old x
-            → calls.DeliversAcknowledgement (packet_at bytes.now) x result (IsStation B.state B.machine self.new) }
+        ensures answer { (C : Copying B.State) (drives : ℕ) (x : protocol.Node B.State) → IsStation B.state B.machine C drives self.old x
+            → calls.DeliversAcknowledgement (packet_at bytes.now) x result (IsStation B.state B.machine C drives self.new) }
         ensures unchanged { OnErr result (self.new ≡ self.old) }
     {
         self.node.on_ack(bytes)
@@ -177,8 +178,8 @@ impl<B: Copies + Drop> Station<B> {
     /// A backup makes at most `turns` moves of what it holds.
     pub(crate) fn replay(&mut self, turns: u64) -> R<Replayed>
         requires on_trace { MayReplay B.state B.machine self.old.node }
-        ensures answer { (x : protocol.Node B.State) → IsStation B.state B.machine self.old x
-            → calls.Replays B.machine turns x result (IsStation B.state B.machine self.new) }
+        ensures answer { (C : Copying B.State) (drives : ℕ) (x : protocol.Node B.State) → IsStation B.state B.machine C drives self.old x
+            → calls.Replays B.machine turns x result (IsStation B.state B.machine C drives self.new) }
         ensures unchanged { OnErr result (self.new ≡ self.old) }
     {
         self.node.replay(turns)
@@ -187,8 +188,8 @@ impl<B: Copies + Drop> Station<B> {
     /// A node that won makes at most `turns` moves of what it still holds; with nothing left it is alone.
     pub(crate) fn drain(&mut self, turns: u64) -> R<Drained>
         requires on_trace { MayReplay B.state B.machine self.old.node }
-        ensures answer { (x : protocol.Node B.State) → IsStation B.state B.machine self.old x
-            → calls.Drains B.machine turns x result (IsStation B.state B.machine self.new) }
+        ensures answer { (C : Copying B.State) (drives : ℕ) (x : protocol.Node B.State) → IsStation B.state B.machine C drives self.old x
+            → calls.Drains B.machine turns x result (IsStation B.state B.machine C drives self.new) }
         ensures unchanged { OnErr result (self.new ≡ self.old) }
     {
         let drained = self.node.drain(turns)?;
@@ -198,8 +199,8 @@ impl<B: Copies + Drop> Station<B> {
 
     /// A node halts.
     pub(crate) fn stop(&mut self) -> R<()>
-        ensures answer { (x : protocol.Node B.State) → IsStation B.state B.machine self.old x
-            → calls.Stops x result (IsStation B.state B.machine self.new) }
+        ensures answer { (C : Copying B.State) (drives : ℕ) (x : protocol.Node B.State) → IsStation B.state B.machine C drives self.old x
+            → calls.Stops x result (IsStation B.state B.machine C drives self.new) }
         ensures unchanged { OnErr result (self.new ≡ self.old) }
     {
         self.node.stop()
@@ -207,8 +208,8 @@ impl<B: Copies + Drop> Station<B> {
 
     /// Asks the arbiter for the generation: the first node to ask goes on alone, a backup once it is drained.
     pub(crate) fn suspect(&mut self, id: u64, arbiter: &mut Arbiter) -> R<Won>
-        ensures answer { (x : protocol.Node B.State) → IsStation B.state B.machine self.old x
-            → calls.Suspects arbiter.old id x result arbiter.new (IsStation B.state B.machine self.new) }
+        ensures answer { (C : Copying B.State) (drives : ℕ) (x : protocol.Node B.State) → IsStation B.state B.machine C drives self.old x
+            → calls.Suspects arbiter.old id x result arbiter.new (IsStation B.state B.machine C drives self.new) }
         ensures beside { self.new ≡ record self.old { node = self.new.node } }
         ensures unchanged { IfErr result (λ fault. fault ≢ Lost → self.new ≡ self.old) }
         ensures arbiter { OnErr result (arbiter.new ≡ arbiter.old) }

@@ -16,11 +16,11 @@ use std::marker::Model;
 /// A pair of nodes with everything that they share: every message ever sent, a terminal at each port, the arbiter, the
 /// disk.
 #[derive(Drop)]
-pub struct World<B: Copies + Drop, D: SectorStore, H: Drop> {
+pub struct World<B: Copies<H> + Drop, D: SectorStore, H: Drop> {
     pair: Pair<B, D, H>,
 }
 
-impl<B: Copies + Drop, D: SectorStore, H: Drop> Model for World<B, D, H> {
+impl<B: Copies<H> + Drop, D: SectorStore, H: Drop> Model for World<B, D, H> {
     ghost use Rattle.ft_world.specs.Running.{Running};
     ghost use Rattle.ft_world.specs.Applies.{ShowsSome};
     ghost use Rattle.ft_world.specs.Pairs.{running_of};
@@ -29,10 +29,10 @@ impl<B: Copies + Drop, D: SectorStore, H: Drop> Model for World<B, D, H> {
 
     ghost view = { λ w. running_of w.pair };
 
-    ghost invariant = { λ w. ShowsSome B.state B.machine D.records (running_of w.pair) };
+    ghost invariant = { λ w. ShowsSome B.state B.copied B.machine D.records (running_of w.pair) };
 }
 
-impl<B: Copies + Drop, D: SectorStore, H: Drop> World<B, D, H> {
+impl<B: Copies<H> + Drop, D: SectorStore, H: Drop> World<B, D, H> {
     ghost use Rattle.std.specs.Prelude.{◌≡◌, ◌+◌, [], ◌∷◌, ◌++◌, length, IfErr, IfOk, OnErr, OnOk, option_map, slice_get};
     ghost use Rattle.disk_dcdd.specs.declared.address.SectorAddress.{SectorAddress};
     ghost use Rattle.i8080_words.specs.declared.refusal.Fault.TheVariants.{OutOfMemory};
@@ -54,8 +54,8 @@ impl<B: Copies + Drop, D: SectorStore, H: Drop> World<B, D, H> {
     /// back.
     pub fn begin(alloc: Global, primary: B, backup: B, store: D) -> Result<Self, (B, B, D, Fault)>
         ghost copying: { Copying B.State }
-        requires may { MayBegin B.state B.machine copying D.records primary backup store }
-        ensures ok { IfOk result (λ world. Shows B.state B.machine D.records world
+        requires may { MayBegin B.state B.copied B.machine copying D.records primary backup store }
+        ensures ok { IfOk result (λ world. Shows B.state B.copied B.machine D.records world
             (beginning B.machine copying (B.state primary) (D.records store))) }
         ensures faithful { OnOk result (IsFaithful B.machine
             (beginning B.machine copying (B.state primary) (D.records store))) }
@@ -70,8 +70,8 @@ impl<B: Copies + Drop, D: SectorStore, H: Drop> World<B, D, H> {
     // A pair begins, in memory that was allocated for it.
     pub(crate) fn begin_in(alloc: Global, room: Room<B, H>, primary: B, backup: B, store: D) -> Self
         ghost copying: { Copying B.State }
-        requires may { MayBegin B.state B.machine copying D.records primary backup store }
-        ensures shows { Shows B.state B.machine D.records result
+        requires may { MayBegin B.state B.copied B.machine copying D.records primary backup store }
+        ensures shows { Shows B.state B.copied B.machine D.records result
             (beginning B.machine copying (B.state primary) (D.records store)) }
         ensures faithful { IsFaithful B.machine
             (beginning B.machine copying (B.state primary) (D.records store)) }
@@ -85,7 +85,7 @@ impl<B: Copies + Drop, D: SectorStore, H: Drop> World<B, D, H> {
     /// the protocol this one showed. A refused event leaves everything as it was, except that a node that asked the
     /// arbiter and lost is halted, and that a disk that failed may have counted the failure.
     pub fn apply(&mut self, alloc: Global, event: Event) -> R<Reply>
-        ensures row { Happens B.state B.machine D.records self.old event result self.new }
+        ensures row { Happens B.state B.copied B.machine D.records self.old event result self.new }
         ensures counted { D.failures self.new.disk ≡ D.failures self.old.disk + failures_told event result }
         ensures unchanged { IfErr result (λ fault. Stays D.records event fault self.old self.new) }
         ensures spares { SpareHostsStay self.old.hosts self.new.hosts }
@@ -96,8 +96,8 @@ impl<B: Copies + Drop, D: SectorStore, H: Drop> World<B, D, H> {
     /// Events happen, one after another, each as by `apply`, and each is answered. `OutOfMemory` if there is no room
     /// for the answers; then none has happened.
     pub fn run(&mut self, alloc: Global, events: &[Event]) -> R<Vec<R<Reply>>>
-        ensures ok { IfOk result (λ answers. (c : Course B.State) → Shows B.state B.machine D.records self.old c
-            → Runs B.state B.machine D.records c events.now answers.items self.new) }
+        ensures ok { IfOk result (λ answers. (c : Course B.State) → Shows B.state B.copied B.machine D.records self.old c
+            → Runs B.state B.copied B.machine D.records c events.now answers.items self.new) }
         ensures counted { IfOk result (λ answers. D.failures self.new.disk
             ≡ D.failures self.old.disk + failures_over events.now answers.items) }
         ensures spares { SpareHostsStay self.old.hosts self.new.hosts }
@@ -109,10 +109,10 @@ impl<B: Copies + Drop, D: SectorStore, H: Drop> World<B, D, H> {
 
     /// A host without a role comes; returns its number. `OutOfMemory` hands its resources back.
     pub fn host(&mut self, resources: H) -> Result<u64, (H, Fault)>
-        ensures ok { OnOk result ((c : Course B.State) → Shows B.state B.machine D.records self.old c
-            → Shows B.state B.machine D.records self.new
+        ensures ok { OnOk result ((c : Course B.State) → Shows B.state B.copied B.machine D.records self.old c
+            → Shows B.state B.copied B.machine D.records self.new
             (record c { world = with_host (machine_of B.machine c) c.world })) }
-        ensures faithful { OnOk result ((c : Course B.State) → Shows B.state B.machine D.records self.old c
+        ensures faithful { OnOk result ((c : Course B.State) → Shows B.state B.copied B.machine D.records self.old c
             → IsFaithful B.machine (record c { world = with_host (machine_of B.machine c) c.world })) }
         ensures others { OnOk result (self.new
             ≡ record self.old { hosts = self.old.hosts ++ host.Spare resources ∷ [] }) }
@@ -125,14 +125,14 @@ impl<B: Copies + Drop, D: SectorStore, H: Drop> World<B, D, H> {
 
     /// The bytes that the terminal of a port has accepted, in order; empty if there is no such port.
     pub fn accepted(&self, port: u8) -> &[u8]
-        ensures { (c : Course B.State) → Shows B.state B.machine D.records self.now c → result.now ≡ accepted c.world port }
+        ensures { (c : Course B.State) → Shows B.state B.copied B.machine D.records self.now c → result.now ≡ accepted c.world port }
     {
         self.pair.accepted(port)
     }
 
     /// How many of its keys the terminal of a port was told are covered; 0 if there is no such port.
     pub fn terminal_told(&self, port: u8) -> u64
-        ensures { (c : Course B.State) → Shows B.state B.machine D.records self.now c
+        ensures { (c : Course B.State) → Shows B.state B.copied B.machine D.records self.now c
             → result ≡ (terminal c.world port).told }
     {
         self.pair.told(port)
@@ -140,7 +140,7 @@ impl<B: Copies + Drop, D: SectorStore, H: Drop> World<B, D, H> {
 
     /// What a sector of the disk has. `Unknown` if no drive has it; `DeviceFault` if the device failed.
     pub fn sector(&mut self, address: SectorAddress) -> R<SectorRead>
-        ensures ok { IfOk result (λ read. (c : Course B.State) → Shows B.state B.machine D.records self.old c
+        ensures ok { IfOk result (λ read. (c : Course B.State) → Shows B.state B.copied B.machine D.records self.old c
             → IsSectorOf (machine_of B.machine c) c.world address read) }
         ensures refused { IfErr result (λ fault. fault ≡ refusal_at (D.records self.old.disk) address) }
         ensures kept { D.records self.new.disk ≡ D.records self.old.disk }
@@ -152,7 +152,7 @@ impl<B: Copies + Drop, D: SectorStore, H: Drop> World<B, D, H> {
 
     /// The role, the generation and the count of a node; `None` if no node has this number.
     pub fn node(&self, node: u64) -> Option<NodeStatus>
-        ensures { (c : Course B.State) → Shows B.state B.machine D.records self.now c
+        ensures { (c : Course B.State) → Shows B.state B.copied B.machine D.records self.now c
             → IsStatusAt B.machine (slice_get c.world.nodes node) result }
     {
         self.pair.node(node)
@@ -160,7 +160,7 @@ impl<B: Copies + Drop, D: SectorStore, H: Drop> World<B, D, H> {
 
     /// The message of this number, if it was sent.
     pub fn message(&self, message: u64) -> Option<&Message>
-        ensures { (c : Course B.State) → Shows B.state B.machine D.records self.now c
+        ensures { (c : Course B.State) → Shows B.state B.copied B.machine D.records self.now c
             → Agree IsMessage (option_map (λ found. found.now) result) (slice_get c.world.messages message) }
     {
         self.pair.message(message)
@@ -168,7 +168,7 @@ impl<B: Copies + Drop, D: SectorStore, H: Drop> World<B, D, H> {
 
     /// The node that has won a generation, if one has.
     pub fn winner(&self, generation: u32) -> Option<u64>
-        ensures { (c : Course B.State) → Shows B.state B.machine D.records self.now c
+        ensures { (c : Course B.State) → Shows B.state B.copied B.machine D.records self.now c
             → result ≡ winner_in c.world.winners generation }
     {
         self.pair.winner(generation)
@@ -177,7 +177,7 @@ impl<B: Copies + Drop, D: SectorStore, H: Drop> World<B, D, H> {
     /// The inputs that are settled, and the count up to which they are settled: those of the winner of the highest
     /// generation, or of its backup if nobody has won.
     pub fn settled(&self) -> (&[Timed], u64)
-        ensures { (c : Course B.State) → Shows B.state B.machine D.records self.now c
+        ensures { (c : Course B.State) → Shows B.state B.copied B.machine D.records self.now c
             → Settled (machine_of B.machine c) c.world result.0.now result.1 }
     {
         self.pair.settled()
@@ -185,7 +185,7 @@ impl<B: Copies + Drop, D: SectorStore, H: Drop> World<B, D, H> {
 
     /// The highest generation.
     pub fn generation(&self) -> u32
-        ensures { (c : Course B.State) → Shows B.state B.machine D.records self.now c
+        ensures { (c : Course B.State) → Shows B.state B.copied B.machine D.records self.now c
             → result ≡ highest c.world.nodes }
     {
         self.pair.generation

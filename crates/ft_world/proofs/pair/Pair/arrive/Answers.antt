@@ -10,13 +10,13 @@ use Rattle.ft_world.proofs.pair.Pair.arrive.Goals as goal
 pub returns-in_default-clause-row : goal.returns-in_default-clause-row
 returns-in_default-clause-row g c = λ course h.
     let e : option_and_then byte_of (slice_get c.args.self.now.messages.items c.args.message) ≡ None = (cc) in
-    arrives_unknown g.B.Lockstep.state g.B.Lockstep.machine g.D.SectorStore.records (running_of c.args.self.now) course
+    arrives_unknown g.B.Lockstep.state g.B.Copies.copied g.B.Lockstep.machine g.D.SectorStore.records (running_of c.args.self.now) course
     c.args.message e h
 
 pub returns-clause-row : goal.returns-clause-row
 returns-clause-row g c = λ course h.
     let e : option_and_then byte_of (slice_get c.args.self.now.messages.items c.args.message)
     ≡ Some (c.in-Some.port, c.in-Some.number, c.in-Some.byte) = (cc) in
-    arrives_applies g.B.Lockstep.state g.B.Lockstep.machine g.D.SectorStore.records (running_of c.args.self.now) course
+    arrives_applies g.B.Lockstep.state g.B.Copies.copied g.B.Lockstep.machine g.D.SectorStore.records (running_of c.args.self.now) course
     c.args.message c.in-Some.port c.in-Some.number c.in-Some.byte c.arrive.result c.arrive.new.terminals e h
     c.arrive.ensures

@@ -13,14 +13,14 @@ use Rattle.ft_world.proofs.pair.Pair.deliver_acknowledgement.Goals as goal
 pub returns-in_default-clause-row : goal.returns-in_default-clause-row
 returns-in_default-clause-row g c = λ course h.
     let brings : option_and_then ack_of (slice_get c.args.self.now.messages.items c.args.message) ≡ None = sym c.in_default.ensures in
-    hears_unknown g.B.Lockstep.state g.B.Lockstep.machine g.D.SectorStore.records (running_of c.args.self.now) course
+    hears_unknown g.B.Lockstep.state g.B.Copies.copied g.B.Lockstep.machine g.D.SectorStore.records (running_of c.args.self.now) course
     c.args.message c.args.node brings h
 
 pub returns-in_err-station-clause-row : goal.returns-in_err-station-clause-row
 returns-in_err-station-clause-row g c = λ course h.
     let brings : option_and_then ack_of (slice_get c.args.self.now.messages.items c.args.message) ≡ Some c.in-Some.packet.now = sym c.in-Some.ensures in
     hands_on c.from_residual.result c.in_err-station.field-0.0 c.from_residual.ensures.1
-    (hears_refused g.B.Lockstep.state g.B.Lockstep.machine g.D.SectorStore.records (running_of c.args.self.now) course
+    (hears_refused g.B.Lockstep.state g.B.Copies.copied g.B.Lockstep.machine g.D.SectorStore.records (running_of c.args.self.now) course
     c.args.message c.args.node c.in-Some.packet.now c.in_err-station.field-0.0
     c.station_mut.follows.lender-at-none.items brings h
     (λ generation held spelled. no_call h c.in_err-station.ensures.absent.0 c.in_err-station.ensures.absent.1
@@ -30,7 +30,7 @@ pub returns-in_err-held-clause-row : goal.returns-in_err-held-clause-row
 returns-in_err-held-clause-row g c = λ course h.
     let brings : option_and_then ack_of (slice_get c.args.self.now.messages.items c.args.message) ≡ Some c.in-Some.packet.now = sym c.in-Some.ensures in
     hands_on c.from_residual-in_err-held.result c.in_err-held.field-0.0 c.from_residual-in_err-held.ensures.1
-    (hears_refused g.B.Lockstep.state g.B.Lockstep.machine g.D.SectorStore.records (running_of c.args.self.now) course
+    (hears_refused g.B.Lockstep.state g.B.Copies.copied g.B.Lockstep.machine g.D.SectorStore.records (running_of c.args.self.now) course
     c.args.message c.args.node c.in-Some.packet.now c.in_err-held.field-0.0
     (c.station_mut.follows.lender c.deliver_acknowledgement.new.self).items brings h
     (λ generation held spelled. at_host h c.in_ok-station.ensures.found
@@ -41,7 +41,7 @@ returns-in_err-held-clause-row g c = λ course h.
 pub returns-clause-row : goal.returns-clause-row
 returns-clause-row g c = λ course h.
     let brings : option_and_then ack_of (slice_get c.args.self.now.messages.items c.args.message) ≡ Some c.in-Some.packet.now = sym c.in-Some.ensures in
-    hears_applies g.B.Lockstep.state g.B.Lockstep.machine g.D.SectorStore.records (running_of c.args.self.now) course
+    hears_applies g.B.Lockstep.state g.B.Copies.copied g.B.Lockstep.machine g.D.SectorStore.records (running_of c.args.self.now) course
     c.args.message c.args.node c.in-Some.packet.now c.in_ok-held.held
     (c.station_mut.follows.lender c.deliver_acknowledgement.new.self).items brings h
     (λ generation held spelled. at_host h c.in_ok-station.ensures.found

@@ -16,14 +16,14 @@ use Rattle.ft_world.proofs.pair.Pair.deliver_log.Goals as goal
 pub returns-in_default-clause-row : goal.returns-in_default-clause-row
 returns-in_default-clause-row g c = λ course h.
     let brings : option_and_then log_of (slice_get c.args.self.now.messages.items c.args.message) ≡ None = sym c.in_default.ensures in
-    delivers_unknown g.B.Lockstep.state g.B.Lockstep.machine g.D.SectorStore.records (running_of c.args.self.now)
+    delivers_unknown g.B.Lockstep.state g.B.Copies.copied g.B.Lockstep.machine g.D.SectorStore.records (running_of c.args.self.now)
     course c.args.message c.args.node brings h
 
 pub returns-in_err-station-clause-row : goal.returns-in_err-station-clause-row
 returns-in_err-station-clause-row g c = λ course h.
     let brings : option_and_then log_of (slice_get c.args.self.now.messages.items c.args.message) ≡ Some c.in-Some.packet.now = sym c.in-Some.ensures in
     hands_on c.from_residual.result c.in_err-station.field-0.0 c.from_residual.ensures.1
-    (delivers_refused g.B.Lockstep.state g.B.Lockstep.machine g.D.SectorStore.records (running_of c.args.self.now)
+    (delivers_refused g.B.Lockstep.state g.B.Copies.copied g.B.Lockstep.machine g.D.SectorStore.records (running_of c.args.self.now)
     course c.args.message c.args.node c.in-Some.packet.now c.in_err-station.field-0.0
     c.station_mut.follows.lender-at-none.items brings h
     (λ generation index e spelled. no_call h c.in_err-station.ensures.absent.0 c.in_err-station.ensures.absent.1
@@ -33,7 +33,7 @@ pub returns-in_err-deliver_log-clause-row : goal.returns-in_err-deliver_log-clau
 returns-in_err-deliver_log-clause-row g c = λ course h.
     let brings : option_and_then log_of (slice_get c.args.self.now.messages.items c.args.message) ≡ Some c.in-Some.packet.now = sym c.in-Some.ensures in
     hands_on c.from_residual-in_err-deliver_log.result c.in_err-deliver_log.field-0.0 c.from_residual-in_err-deliver_log.ensures.1
-    (delivers_refused g.B.Lockstep.state g.B.Lockstep.machine g.D.SectorStore.records (running_of c.args.self.now)
+    (delivers_refused g.B.Lockstep.state g.B.Copies.copied g.B.Lockstep.machine g.D.SectorStore.records (running_of c.args.self.now)
     course c.args.message c.args.node c.in-Some.packet.now c.in_err-deliver_log.field-0.0
     (c.station_mut.follows.lender c.deliver_log.new.self).items brings h
     (λ generation index e spelled. at_host h c.in_ok-station.ensures.found
@@ -45,10 +45,10 @@ pub returns-then-branch-clause-row : goal.returns-then-branch-clause-row
 returns-then-branch-clause-row g c = λ course h.
     let brings : option_and_then log_of (slice_get c.args.self.now.messages.items c.args.message) ≡ Some c.in-Some.packet.now = sym c.in-Some.ensures in
     subst
-    (λ b. Applies g.B.Lockstep.state g.B.Lockstep.machine g.D.SectorStore.records course
+    (λ b. Applies g.B.Lockstep.state g.B.Copies.copied g.B.Lockstep.machine g.D.SectorStore.records course
     (event.DeliverLog c.args.message c.args.node) (Ok (cond b reply.New reply.Old))
     (record (running_of c.args.self.now) { hosts = (c.station_mut.follows.lender c.deliver_log.new.self).items })) c.if-branch.true
-    (delivers_applies g.B.Lockstep.state g.B.Lockstep.machine g.D.SectorStore.records (running_of c.args.self.now)
+    (delivers_applies g.B.Lockstep.state g.B.Copies.copied g.B.Lockstep.machine g.D.SectorStore.records (running_of c.args.self.now)
     course c.args.message c.args.node c.in-Some.packet.now c.in_ok-deliver_log.field-0
     (c.station_mut.follows.lender c.deliver_log.new.self).items brings h
     (λ generation index e spelled. at_host h c.in_ok-station.ensures.found
@@ -60,10 +60,10 @@ pub returns-else-branch-clause-row : goal.returns-else-branch-clause-row
 returns-else-branch-clause-row g c = λ course h.
     let brings : option_and_then log_of (slice_get c.args.self.now.messages.items c.args.message) ≡ Some c.in-Some.packet.now = sym c.in-Some.ensures in
     subst
-    (λ b. Applies g.B.Lockstep.state g.B.Lockstep.machine g.D.SectorStore.records course
+    (λ b. Applies g.B.Lockstep.state g.B.Copies.copied g.B.Lockstep.machine g.D.SectorStore.records course
     (event.DeliverLog c.args.message c.args.node) (Ok (cond b reply.New reply.Old))
     (record (running_of c.args.self.now) { hosts = (c.station_mut.follows.lender c.deliver_log.new.self).items })) c.if-branch.false
-    (delivers_applies g.B.Lockstep.state g.B.Lockstep.machine g.D.SectorStore.records (running_of c.args.self.now)
+    (delivers_applies g.B.Lockstep.state g.B.Copies.copied g.B.Lockstep.machine g.D.SectorStore.records (running_of c.args.self.now)
     course c.args.message c.args.node c.in-Some.packet.now c.in_ok-deliver_log.field-0
     (c.station_mut.follows.lender c.deliver_log.new.self).items brings h
     (λ generation index e spelled. at_host h c.in_ok-station.ensures.found

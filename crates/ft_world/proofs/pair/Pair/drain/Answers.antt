@@ -13,14 +13,14 @@ pub drain-requires : goal.drain-requires
 drain-requires g c =
     record {
       on_trace =
-          station_may_replay g.B.Lockstep.state g.B.Lockstep.machine g.D.SectorStore.records (running_of c.args.self.now)
+          station_may_replay g.B.Lockstep.state g.B.Copies.copied g.B.Lockstep.machine g.D.SectorStore.records (running_of c.args.self.now)
           c.args.node c.in_ok-station.station.now c.requires.shown c.in_ok-station.ensures.found;
     }
 
 pub returns-in_err-station-clause-row : goal.returns-in_err-station-clause-row
 returns-in_err-station-clause-row g c = λ course h.
     hands_on c.from_residual.result c.in_err-station.field-0.0 c.from_residual.ensures.1
-    (drains_refused g.B.Lockstep.state g.B.Lockstep.machine g.D.SectorStore.records (running_of c.args.self.now)
+    (drains_refused g.B.Lockstep.state g.B.Copies.copied g.B.Lockstep.machine g.D.SectorStore.records (running_of c.args.self.now)
     course c.args.node c.args.turns c.in_err-station.field-0.0 c.station_mut.follows.lender-at-none.items h
     (no_call h c.in_err-station.ensures.absent.0 c.in_err-station.ensures.absent.1
     (rw c.in_err-station.was at c.station_mut.follows.holds-at-none)))
@@ -28,7 +28,7 @@ returns-in_err-station-clause-row g c = λ course h.
 pub returns-in_err-drained-clause-row : goal.returns-in_err-drained-clause-row
 returns-in_err-drained-clause-row g c = λ course h.
     hands_on c.from_residual-in_err-drained.result c.in_err-drained.field-0.0 c.from_residual-in_err-drained.ensures.1
-    (drains_refused g.B.Lockstep.state g.B.Lockstep.machine g.D.SectorStore.records (running_of c.args.self.now)
+    (drains_refused g.B.Lockstep.state g.B.Copies.copied g.B.Lockstep.machine g.D.SectorStore.records (running_of c.args.self.now)
     course c.args.node c.args.turns c.in_err-drained.field-0.0 (c.station_mut.follows.lender c.drain.new.self).items h
     (at_host h c.in_ok-station.ensures.found
     (c.station_mut.follows.holds c.drain.new.self (ap is_ok c.in_ok-station.was)) c.in_err-drained.ensures.answer))
@@ -37,10 +37,10 @@ pub returns-then-drained-clause-row : goal.returns-then-drained-clause-row
 returns-then-drained-clause-row g c = λ course h.
     let d = c.in_ok-drained.drained in
     subst
-    (λ b. Applies g.B.Lockstep.state g.B.Lockstep.machine g.D.SectorStore.records course
+    (λ b. Applies g.B.Lockstep.state g.B.Copies.copied g.B.Lockstep.machine g.D.SectorStore.records course
     (event.Drain c.args.node c.args.turns) (Ok (cond b (reply.MovedAlone d.moves) (reply.Moved d.moves false)))
     (record (running_of c.args.self.now) { hosts = (c.station_mut.follows.lender c.drain.new.self).items })) c.if-drained.true
-    (drains_applies g.B.Lockstep.state g.B.Lockstep.machine g.D.SectorStore.records (running_of c.args.self.now)
+    (drains_applies g.B.Lockstep.state g.B.Copies.copied g.B.Lockstep.machine g.D.SectorStore.records (running_of c.args.self.now)
     course c.args.node c.args.turns d (c.station_mut.follows.lender c.drain.new.self).items h
     (at_host h c.in_ok-station.ensures.found
     (c.station_mut.follows.holds c.drain.new.self (ap is_ok c.in_ok-station.was)) c.in_ok-drained.ensures.answer))
@@ -49,10 +49,10 @@ pub returns-else-drained-clause-row : goal.returns-else-drained-clause-row
 returns-else-drained-clause-row g c = λ course h.
     let d = c.in_ok-drained.drained in
     subst
-    (λ b. Applies g.B.Lockstep.state g.B.Lockstep.machine g.D.SectorStore.records course
+    (λ b. Applies g.B.Lockstep.state g.B.Copies.copied g.B.Lockstep.machine g.D.SectorStore.records course
     (event.Drain c.args.node c.args.turns) (Ok (cond b (reply.MovedAlone d.moves) (reply.Moved d.moves false)))
     (record (running_of c.args.self.now) { hosts = (c.station_mut.follows.lender c.drain.new.self).items })) c.if-drained.false
-    (drains_applies g.B.Lockstep.state g.B.Lockstep.machine g.D.SectorStore.records (running_of c.args.self.now)
+    (drains_applies g.B.Lockstep.state g.B.Copies.copied g.B.Lockstep.machine g.D.SectorStore.records (running_of c.args.self.now)
     course c.args.node c.args.turns d (c.station_mut.follows.lender c.drain.new.self).items h
     (at_host h c.in_ok-station.ensures.found
     (c.station_mut.follows.holds c.drain.new.self (ap is_ok c.in_ok-station.was)) c.in_ok-drained.ensures.answer))

@@ -12,14 +12,14 @@ use Rattle.ft_world.proofs.pair.Pair.get_reply.Goals as goal
 pub returns-in_default-clause-row : goal.returns-in_default-clause-row
 returns-in_default-clause-row g c = λ course h.
     let brings : option_and_then sector_of (slice_get c.args.self.now.messages.items c.args.message) ≡ None = (cc) in
-    read_unknown g.B.Lockstep.state g.B.Lockstep.machine g.D.SectorStore.records (running_of c.args.self.now) course
+    read_unknown g.B.Lockstep.state g.B.Copies.copied g.B.Lockstep.machine g.D.SectorStore.records (running_of c.args.self.now) course
     c.args.message c.args.node brings h
 
 pub returns-in_err-station-clause-row : goal.returns-in_err-station-clause-row
 returns-in_err-station-clause-row g c = λ course h.
     let brings : option_and_then sector_of (slice_get c.args.self.now.messages.items c.args.message) ≡ Some c.in-Some.read = (cc) in
     hands_on c.from_residual.result c.in_err-station.field-0.0 c.from_residual.ensures.1
-    (read_refused g.B.Lockstep.state g.B.Lockstep.machine g.D.SectorStore.records (running_of c.args.self.now) course
+    (read_refused g.B.Lockstep.state g.B.Copies.copied g.B.Lockstep.machine g.D.SectorStore.records (running_of c.args.self.now) course
     c.args.message c.args.node c.in-Some.read c.in_err-station.field-0.0 c.station_mut.follows.lender-at-none.items
     brings h
     (no_call h c.in_err-station.ensures.absent.0 c.in_err-station.ensures.absent.1
@@ -29,7 +29,7 @@ pub returns-in_err-get_reply-clause-row : goal.returns-in_err-get_reply-clause-r
 returns-in_err-get_reply-clause-row g c = λ course h.
     let brings : option_and_then sector_of (slice_get c.args.self.now.messages.items c.args.message) ≡ Some c.in-Some.read = (cc) in
     hands_on c.from_residual-in_err-get_reply.result c.in_err-get_reply.field-0.0 c.from_residual-in_err-get_reply.ensures.1
-    (read_refused g.B.Lockstep.state g.B.Lockstep.machine g.D.SectorStore.records (running_of c.args.self.now) course
+    (read_refused g.B.Lockstep.state g.B.Copies.copied g.B.Lockstep.machine g.D.SectorStore.records (running_of c.args.self.now) course
     c.args.message c.args.node c.in-Some.read c.in_err-get_reply.field-0.0
     (c.station_mut.follows.lender c.get_reply.new.self).items brings h
     (at_host h c.in_ok-station.ensures.found
@@ -38,7 +38,7 @@ returns-in_err-get_reply-clause-row g c = λ course h.
 pub returns-clause-row : goal.returns-clause-row
 returns-clause-row g c = λ course h.
     let brings : option_and_then sector_of (slice_get c.args.self.now.messages.items c.args.message) ≡ Some c.in-Some.read = (cc) in
-    read_applies g.B.Lockstep.state g.B.Lockstep.machine g.D.SectorStore.records (running_of c.args.self.now) course
+    read_applies g.B.Lockstep.state g.B.Copies.copied g.B.Lockstep.machine g.D.SectorStore.records (running_of c.args.self.now) course
     c.args.message c.args.node c.in-Some.read (c.station_mut.follows.lender c.get_reply.new.self).items brings h
     (at_host h c.in_ok-station.ensures.found
     (c.station_mut.follows.holds c.get_reply.new.self (ap is_ok c.in_ok-station.was)) c.in_ok-get_reply.ensures.answer)

@@ -14,18 +14,18 @@ returns-clause-ok g c = λ course h.
     let e : c.push.new.self.items ≡ c.args.self.now.hosts.items ++ host.Spare c.args.resources ∷ [] =
     cc (c.in-Ok-push.ensures.items, c.reserve.ensures.items, c.in-Ok.ensures.items) in
     subst
-    (λ hs. Shows g.B.Lockstep.state g.B.Lockstep.machine g.D.SectorStore.records
+    (λ hs. Shows g.B.Lockstep.state g.B.Copies.copied g.B.Lockstep.machine g.D.SectorStore.records
     (record (running_of c.args.self.now) { hosts = hs })
     (record course { world = with_host (machine_of g.B.Lockstep.machine course) course.world })) (sym e)
-    (host_comes g.B.Lockstep.state g.B.Lockstep.machine g.D.SectorStore.records (running_of c.args.self.now) course
+    (host_comes g.B.Lockstep.state g.B.Copies.copied g.B.Lockstep.machine g.D.SectorStore.records (running_of c.args.self.now) course
     c.args.resources h)
 
 pub returns-clause-faithful : goal.returns-clause-faithful
 returns-clause-faithful g c = λ course h.
-    shown_is_faithful g.B.Lockstep.state g.B.Lockstep.machine g.D.SectorStore.records
+    shown_is_faithful g.B.Lockstep.state g.B.Copies.copied g.B.Lockstep.machine g.D.SectorStore.records
     (record (running_of c.args.self.now) { hosts = c.args.self.now.hosts.items ++ host.Spare c.args.resources ∷ [] })
     (record course { world = with_host (machine_of g.B.Lockstep.machine course) course.world })
-    (host_comes g.B.Lockstep.state g.B.Lockstep.machine g.D.SectorStore.records (running_of c.args.self.now) course
+    (host_comes g.B.Lockstep.state g.B.Copies.copied g.B.Lockstep.machine g.D.SectorStore.records (running_of c.args.self.now) course
     c.args.resources h)
 
 pub returns-clause-others : goal.returns-clause-others

@@ -11,20 +11,20 @@ use Rattle.ft_world.proofs.pair.Pair.put.Goals as goal
 pub returns-in_default-clause-row : goal.returns-in_default-clause-row
 returns-in_default-clause-row g c = λ course h.
     let e : option_and_then write_of (slice_get c.args.self.now.messages.items c.args.message) ≡ None = (cc) in
-    puts_unknown g.B.Lockstep.state g.B.Lockstep.machine g.D.SectorStore.records (running_of c.args.self.now) course
+    puts_unknown g.B.Lockstep.state g.B.Copies.copied g.B.Lockstep.machine g.D.SectorStore.records (running_of c.args.self.now) course
     c.args.message e h
 
 pub returns-clause-row : goal.returns-clause-row
 returns-clause-row g c = λ course h.
     let e : option_and_then write_of (slice_get c.args.self.now.messages.items c.args.message)
     ≡ Some c.in-Some.write = (cc) in
-    puts_applies g.B.Lockstep.state g.B.Lockstep.machine g.D.SectorStore.records (running_of c.args.self.now) course
+    puts_applies g.B.Lockstep.state g.B.Copies.copied g.B.Lockstep.machine g.D.SectorStore.records (running_of c.args.self.now) course
     c.args.message c.in-Some.write c.put.result c.put.new.messages.items c.put.new.disk e h c.put.ensures.row
 
 pub returns-clause-unchanged : goal.returns-clause-unchanged
 returns-clause-unchanged g c =
     let e : option_and_then write_of (slice_get c.args.self.now.messages.items c.args.message)
     ≡ Some c.in-Some.write = (cc) in
-    put_stays g.B.Lockstep.state g.B.Lockstep.machine g.D.SectorStore.records (running_of c.args.self.now)
+    put_stays g.B.Lockstep.state g.B.Copies.copied g.B.Lockstep.machine g.D.SectorStore.records (running_of c.args.self.now)
     c.args.message c.in-Some.write c.put.result c.put.new.messages.items c.put.new.disk c.requires.shown e
     c.put.ensures.row c.put.ensures.untouched

@@ -10,13 +10,13 @@ use Rattle.ft_world.proofs.pair.Pair.release.Goals as goal
 pub returns-in_err-check_device-clause-row : goal.returns-in_err-check_device-clause-row
 returns-in_err-check_device-clause-row g c = λ course h.
     hands_on c.from_residual.result c.in_err-check_device.field-0.0 c.from_residual.ensures.1
-    (releases_nowhere g.B.Lockstep.state g.B.Lockstep.machine g.D.SectorStore.records (running_of c.args.self.now)
+    (releases_nowhere g.B.Lockstep.state g.B.Copies.copied g.B.Lockstep.machine g.D.SectorStore.records (running_of c.args.self.now)
     course c.args.node c.args.id c.in_err-check_device.field-0.0 h c.in_err-check_device.ensures)
 
 pub returns-in_err-station-clause-row : goal.returns-in_err-station-clause-row
 returns-in_err-station-clause-row g c = λ course h.
     hands_on c.from_residual-in_err-station.result c.in_err-station.field-0.0 c.from_residual-in_err-station.ensures.1
-    (releases_refused g.B.Lockstep.state g.B.Lockstep.machine g.D.SectorStore.records (running_of c.args.self.now)
+    (releases_refused g.B.Lockstep.state g.B.Copies.copied g.B.Lockstep.machine g.D.SectorStore.records (running_of c.args.self.now)
     course c.args.node c.args.id c.in_ok-check_device.field-0 c.in_err-station.field-0.0 h
     c.in_ok-check_device.ensures
     (asks_nobody h c.in_err-station.ensures.absent.0 c.in_err-station.ensures.absent.1))
@@ -25,14 +25,14 @@ pub returns-in_err-operation-clause-row : goal.returns-in_err-operation-clause-r
 returns-in_err-operation-clause-row g c = λ course h.
     hands_on c.from_residual-in_err-operation.result c.in_err-operation.field-0.0
     c.from_residual-in_err-operation.ensures.1
-    (releases_refused g.B.Lockstep.state g.B.Lockstep.machine g.D.SectorStore.records (running_of c.args.self.now)
+    (releases_refused g.B.Lockstep.state g.B.Copies.copied g.B.Lockstep.machine g.D.SectorStore.records (running_of c.args.self.now)
     course c.args.node c.args.id c.in_ok-check_device.field-0 c.in_err-operation.field-0.0 h
     c.in_ok-check_device.ensures
     (asks_node h c.in_ok-station.ensures.found c.in_err-operation.ensures))
 
 pub returns-clause-row : goal.returns-clause-row
 returns-clause-row g c = λ course h.
-    releases_applies g.B.Lockstep.state g.B.Lockstep.machine g.D.SectorStore.records (running_of c.args.self.now)
+    releases_applies g.B.Lockstep.state g.B.Copies.copied g.B.Lockstep.machine g.D.SectorStore.records (running_of c.args.self.now)
     course c.args.node c.args.id c.in_ok-check_device.field-0 c.in_ok-operation.operation c.say.result
     c.say.new.messages.items h c.in_ok-check_device.ensures
     (asks_node h c.in_ok-station.ensures.found c.in_ok-operation.ensures)

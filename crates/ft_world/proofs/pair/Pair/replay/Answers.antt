@@ -10,14 +10,14 @@ pub replay-requires : goal.replay-requires
 replay-requires g c =
     record {
       on_trace =
-          station_may_replay g.B.Lockstep.state g.B.Lockstep.machine g.D.SectorStore.records (running_of c.args.self.now)
+          station_may_replay g.B.Lockstep.state g.B.Copies.copied g.B.Lockstep.machine g.D.SectorStore.records (running_of c.args.self.now)
           c.args.node c.in_ok-station.station.now c.requires.shown c.in_ok-station.ensures.found;
     }
 
 pub returns-in_err-station-clause-row : goal.returns-in_err-station-clause-row
 returns-in_err-station-clause-row g c = λ course h.
     hands_on c.from_residual.result c.in_err-station.field-0.0 c.from_residual.ensures.1
-    (replays_refused g.B.Lockstep.state g.B.Lockstep.machine g.D.SectorStore.records (running_of c.args.self.now)
+    (replays_refused g.B.Lockstep.state g.B.Copies.copied g.B.Lockstep.machine g.D.SectorStore.records (running_of c.args.self.now)
     course c.args.node c.args.turns c.in_err-station.field-0.0 c.station_mut.follows.lender-at-none.items h
     (no_call h c.in_err-station.ensures.absent.0 c.in_err-station.ensures.absent.1
     (rw c.in_err-station.was at c.station_mut.follows.holds-at-none)))
@@ -26,7 +26,7 @@ pub returns-in_err-replayed-clause-row : goal.returns-in_err-replayed-clause-row
 returns-in_err-replayed-clause-row g c = λ course h.
     hands_on c.from_residual-in_err-replayed.result c.in_err-replayed.field-0.0
     c.from_residual-in_err-replayed.ensures.1
-    (replays_refused g.B.Lockstep.state g.B.Lockstep.machine g.D.SectorStore.records (running_of c.args.self.now)
+    (replays_refused g.B.Lockstep.state g.B.Copies.copied g.B.Lockstep.machine g.D.SectorStore.records (running_of c.args.self.now)
     course c.args.node c.args.turns c.in_err-replayed.field-0.0 (c.station_mut.follows.lender c.replay.new.self).items
     h
     (at_host h c.in_ok-station.ensures.found
@@ -34,7 +34,7 @@ returns-in_err-replayed-clause-row g c = λ course h.
 
 pub returns-clause-row : goal.returns-clause-row
 returns-clause-row g c = λ course h.
-    replays_applies g.B.Lockstep.state g.B.Lockstep.machine g.D.SectorStore.records (running_of c.args.self.now)
+    replays_applies g.B.Lockstep.state g.B.Copies.copied g.B.Lockstep.machine g.D.SectorStore.records (running_of c.args.self.now)
     course c.args.node c.args.turns c.in_ok-replayed.replayed (c.station_mut.follows.lender c.replay.new.self).items h
     (at_host h c.in_ok-station.ensures.found
     (c.station_mut.follows.holds c.replay.new.self (ap is_ok c.in_ok-station.was)) c.in_ok-replayed.ensures.answer)

@@ -14,10 +14,10 @@ loop-event-init g c = record {
   shown = c.requires.shown;
   runs = λ course h.
       subst
-      (λ answers. Runs g.B.Lockstep.state g.B.Lockstep.machine g.D.SectorStore.records course [] answers
+      (λ answers. Runs g.B.Lockstep.state g.B.Copies.copied g.B.Lockstep.machine g.D.SectorStore.records course [] answers
       (running_of c.args.self.now))
       (sym c.in_ok-answers.ensures.items)
-      (runs_begin g.B.Lockstep.state g.B.Lockstep.machine g.D.SectorStore.records (running_of c.args.self.now) course
+      (runs_begin g.B.Lockstep.state g.B.Copies.copied g.B.Lockstep.machine g.D.SectorStore.records (running_of c.args.self.now) course
       h);
   counted = omega arith;
   spares = refl;
@@ -27,12 +27,12 @@ loop-event-init g c = record {
 
 pub loop-event-preserved : goal.loop-event-preserved
 loop-event-preserved g c = record {
-  shown = goes_on g.B.Lockstep.state g.B.Lockstep.machine g.D.SectorStore.records (running_of c.loop-event.self)
+  shown = goes_on g.B.Lockstep.state g.B.Copies.copied g.B.Lockstep.machine g.D.SectorStore.records (running_of c.loop-event.self)
       (running_of c.apply-answer.new.self)
       (get_or c.args.events.now c.loop-event.event-index (event.Step 0 0)) c.apply-answer.result
       c.loop-event.invariant.shown c.apply-answer.ensures.row;
   runs = λ course h.
-      runs_on g.B.Lockstep.state g.B.Lockstep.machine g.D.SectorStore.records (running_of c.args.self.now)
+      runs_on g.B.Lockstep.state g.B.Copies.copied g.B.Lockstep.machine g.D.SectorStore.records (running_of c.args.self.now)
       (running_of c.loop-event.self) (running_of c.apply-answer.new.self) course c.args.events.now
       c.loop-event.event-index (event.Step 0 0) c.loop-event.answers.items c.push.new.self.items
       c.apply-answer.result h c.loop-event-test.true
@@ -50,7 +50,7 @@ loop-event-preserved g c = record {
 pub returns-clause-ok : goal.returns-clause-ok
 returns-clause-ok g c = λ course h.
     subst
-    (λ events. Runs g.B.Lockstep.state g.B.Lockstep.machine g.D.SectorStore.records course events
+    (λ events. Runs g.B.Lockstep.state g.B.Copies.copied g.B.Lockstep.machine g.D.SectorStore.records course events
     c.loop-event.answers.items (running_of c.loop-event.self))
     (take_all c.loop-event.event-index c.args.events.now c.loop-event-test.false)
     (c.loop-event.invariant.runs course h)

@@ -9,10 +9,10 @@ use Rattle.ft_world.proofs.pair.Pair.run.Given as goal
 
 abbrev pub invariant-loop-event : goal.invariant-loop-event
 invariant-loop-event g l = record {
-  shown : ShowsSome g.B.Lockstep.state g.B.Lockstep.machine g.D.SectorStore.records (running_of l.self);
+  shown : ShowsSome g.B.Lockstep.state g.B.Copies.copied g.B.Lockstep.machine g.D.SectorStore.records (running_of l.self);
   runs : (c : Course g.B.Lockstep.State)
-      → Shows g.B.Lockstep.state g.B.Lockstep.machine g.D.SectorStore.records (running_of l.fn.self) c
-      → Runs g.B.Lockstep.state g.B.Lockstep.machine g.D.SectorStore.records c (take l.event-index l.fn.events)
+      → Shows g.B.Lockstep.state g.B.Copies.copied g.B.Lockstep.machine g.D.SectorStore.records (running_of l.fn.self) c
+      → Runs g.B.Lockstep.state g.B.Copies.copied g.B.Lockstep.machine g.D.SectorStore.records c (take l.event-index l.fn.events)
       l.answers.items (running_of l.self);
   counted : g.D.SectorStore.failures l.self.disk
       ≡ g.D.SectorStore.failures l.fn.self.disk + failures_over (take l.event-index l.fn.events) l.answers.items;

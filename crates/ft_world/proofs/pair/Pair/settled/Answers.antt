@@ -10,5 +10,5 @@ pub returns : goal.returns
 returns g c = λ course h.
     let found : c.unwrap_or-node.result
     ≡ unwrap_or (winner_of c.args.self.now.arbiter c.args.self.now.generation) c.args.self.now.backup = (cc) in
-    settled_is g.B.Lockstep.state g.B.Lockstep.machine g.D.SectorStore.records (running_of c.args.self.now) course
+    settled_is g.B.Lockstep.state g.B.Copies.copied g.B.Lockstep.machine g.D.SectorStore.records (running_of c.args.self.now) course
     c.unwrap_or-node.result c.settled.result.0.now c.settled.result.1 h found c.settled.ensures

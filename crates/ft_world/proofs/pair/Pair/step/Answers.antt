@@ -11,14 +11,14 @@ pub step-requires : goal.step-requires
 step-requires g c =
     record {
       few =
-          station_may_run g.B.Lockstep.state g.B.Lockstep.machine g.D.SectorStore.records (running_of c.args.self.now)
+          station_may_run g.B.Lockstep.state g.B.Copies.copied g.B.Lockstep.machine g.D.SectorStore.records (running_of c.args.self.now)
           c.args.node c.in_ok-station.station.now c.requires.shown c.in_ok-station.ensures.found;
     }
 
 pub returns-in_err-station-clause-row : goal.returns-in_err-station-clause-row
 returns-in_err-station-clause-row g c = λ course h.
     hands_on c.from_residual.result c.in_err-station.field-0.0 c.from_residual.ensures.1
-    (steps_refused g.B.Lockstep.state g.B.Lockstep.machine g.D.SectorStore.records (running_of c.args.self.now) course
+    (steps_refused g.B.Lockstep.state g.B.Copies.copied g.B.Lockstep.machine g.D.SectorStore.records (running_of c.args.self.now) course
     c.args.node c.args.turns c.in_err-station.field-0.0 c.station_mut.follows.lender-at-none.items h
     (no_call h c.in_err-station.ensures.absent.0 c.in_err-station.ensures.absent.1
     (rw c.in_err-station.was at c.station_mut.follows.holds-at-none)))
@@ -26,14 +26,14 @@ returns-in_err-station-clause-row g c = λ course h.
 pub returns-in_err-ran-clause-row : goal.returns-in_err-ran-clause-row
 returns-in_err-ran-clause-row g c = λ course h.
     hands_on c.from_residual-in_err-ran.result c.in_err-ran.field-0.0 c.from_residual-in_err-ran.ensures.1
-    (steps_refused g.B.Lockstep.state g.B.Lockstep.machine g.D.SectorStore.records (running_of c.args.self.now) course
+    (steps_refused g.B.Lockstep.state g.B.Copies.copied g.B.Lockstep.machine g.D.SectorStore.records (running_of c.args.self.now) course
     c.args.node c.args.turns c.in_err-ran.field-0.0 (c.station_mut.follows.lender c.step.new.self).items h
     (at_host h c.in_ok-station.ensures.found
     (c.station_mut.follows.holds c.step.new.self (ap is_ok c.in_ok-station.was)) c.in_err-ran.ensures.answer))
 
 pub returns-clause-row : goal.returns-clause-row
 returns-clause-row g c = λ course h.
-    steps_applies g.B.Lockstep.state g.B.Lockstep.machine g.D.SectorStore.records (running_of c.args.self.now) course
+    steps_applies g.B.Lockstep.state g.B.Copies.copied g.B.Lockstep.machine g.D.SectorStore.records (running_of c.args.self.now) course
     c.args.node c.args.turns c.in_ok-ran.ran (c.station_mut.follows.lender c.step.new.self).items h
     (at_host h c.in_ok-station.ensures.found
     (c.station_mut.follows.holds c.step.new.self (ap is_ok c.in_ok-station.was)) c.in_ok-ran.ensures.answer)

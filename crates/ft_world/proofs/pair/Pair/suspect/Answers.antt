@@ -10,7 +10,7 @@ use Rattle.ft_world.proofs.pair.Pair.suspect.Goals as goal
 pub returns-in_err-station-clause-row : goal.returns-in_err-station-clause-row
 returns-in_err-station-clause-row g c = λ course h.
     hands_on c.from_residual.result c.in_err-station.field-0.0 c.from_residual.ensures.1
-    (suspects_refused g.B.Lockstep.state g.B.Lockstep.machine g.D.SectorStore.records (running_of c.args.self.now)
+    (suspects_refused g.B.Lockstep.state g.B.Copies.copied g.B.Lockstep.machine g.D.SectorStore.records (running_of c.args.self.now)
     course c.args.node c.in_err-station.field-0.0 c.station_mut.follows.lender-at-none.items c.args.self.now.arbiter h
     (no_host h _ c.args.node _ _ _ c.in_err-station.ensures.absent.0 c.in_err-station.ensures.absent.1
     (same_hosts h _ (rw c.in_err-station.was at c.station_mut.follows.holds-at-none), refl)))
@@ -18,7 +18,7 @@ returns-in_err-station-clause-row g c = λ course h.
 pub returns-in_err-suspect-clause-row : goal.returns-in_err-suspect-clause-row
 returns-in_err-suspect-clause-row g c = λ course h.
     hands_on c.from_residual-in_err-suspect.result c.in_err-suspect.field-0.0 c.from_residual-in_err-suspect.ensures.1
-    (suspects_refused g.B.Lockstep.state g.B.Lockstep.machine g.D.SectorStore.records (running_of c.args.self.now)
+    (suspects_refused g.B.Lockstep.state g.B.Copies.copied g.B.Lockstep.machine g.D.SectorStore.records (running_of c.args.self.now)
     course c.args.node c.in_err-suspect.field-0.0 (c.station_mut.follows.lender c.suspect.new.self).items
     c.suspect.new.arbiter h
     (suspects_host h c.in_ok-station.ensures.found
@@ -27,7 +27,7 @@ returns-in_err-suspect-clause-row g c = λ course h.
 
 pub returns-clause-row : goal.returns-clause-row
 returns-clause-row g c = λ course h.
-    suspects_applies g.B.Lockstep.state g.B.Lockstep.machine g.D.SectorStore.records (running_of c.args.self.now)
+    suspects_applies g.B.Lockstep.state g.B.Copies.copied g.B.Lockstep.machine g.D.SectorStore.records (running_of c.args.self.now)
     course c.args.node c.in_ok-suspect.field-0 (c.station_mut.follows.lender c.suspect.new.self).items
     c.suspect.new.arbiter h
     (suspects_host h c.in_ok-station.ensures.found
@@ -36,7 +36,7 @@ returns-clause-row g c = λ course h.
 
 pub returns-in_err-suspect-clause-unchanged : goal.returns-in_err-suspect-clause-unchanged
 returns-in_err-suspect-clause-unchanged g c =
-    suspect_stays g.B.Lockstep.state g.B.Lockstep.machine g.D.SectorStore.records (running_of c.args.self.now)
+    suspect_stays g.B.Lockstep.state g.B.Copies.copied g.B.Lockstep.machine g.D.SectorStore.records (running_of c.args.self.now)
     c.args.node c.in_ok-station.station.now c.suspect.new.self (c.station_mut.follows.lender c.suspect.new.self).items
     c.suspect.new.arbiter c.from_residual-in_err-suspect.result c.in_err-suspect.field-0.0 c.requires.shown
     c.in_ok-station.ensures.found (c.station_mut.follows.holds c.suspect.new.self (ap is_ok c.in_ok-station.was))

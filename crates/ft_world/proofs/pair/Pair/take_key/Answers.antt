@@ -9,13 +9,13 @@ use Rattle.ft_world.proofs.pair.Pair.take_key.Goals as goal
 pub returns-in_err-byte-clause-row : goal.returns-in_err-byte-clause-row
 returns-in_err-byte-clause-row g c = λ course h.
     hands_on c.from_residual.result c.in_err-byte.field-0.0 c.from_residual.ensures.1
-    (key_unknown g.B.Lockstep.state g.B.Lockstep.machine g.D.SectorStore.records (running_of c.args.self.now) course
+    (key_unknown g.B.Lockstep.state g.B.Copies.copied g.B.Lockstep.machine g.D.SectorStore.records (running_of c.args.self.now) course
     c.args.node c.args.port c.args.index c.in_err-byte.field-0.0 h c.in_err-byte.ensures.answer)
 
 pub returns-in_err-station-clause-row : goal.returns-in_err-station-clause-row
 returns-in_err-station-clause-row g c = λ course h.
     hands_on c.from_residual-in_err-station.result c.in_err-station.field-0.0 c.from_residual-in_err-station.ensures.1
-    (key_refused g.B.Lockstep.state g.B.Lockstep.machine g.D.SectorStore.records (running_of c.args.self.now) course
+    (key_refused g.B.Lockstep.state g.B.Copies.copied g.B.Lockstep.machine g.D.SectorStore.records (running_of c.args.self.now) course
     c.args.node c.args.port c.args.index c.in_ok-byte.byte c.in_err-station.field-0.0
     c.station_mut.follows.lender-at-none.items h c.in_ok-byte.ensures.answer
     (no_call h c.in_err-station.ensures.absent.0 c.in_err-station.ensures.absent.1
@@ -24,7 +24,7 @@ returns-in_err-station-clause-row g c = λ course h.
 pub returns-in_err-take_key-clause-row : goal.returns-in_err-take_key-clause-row
 returns-in_err-take_key-clause-row g c = λ course h.
     hands_on c.from_residual-in_err-take_key.result c.in_err-take_key.field-0.0 c.from_residual-in_err-take_key.ensures.1
-    (key_refused g.B.Lockstep.state g.B.Lockstep.machine g.D.SectorStore.records (running_of c.args.self.now) course
+    (key_refused g.B.Lockstep.state g.B.Copies.copied g.B.Lockstep.machine g.D.SectorStore.records (running_of c.args.self.now) course
     c.args.node c.args.port c.args.index c.in_ok-byte.byte c.in_err-take_key.field-0.0
     (c.station_mut.follows.lender c.take_key.new.self).items h c.in_ok-byte.ensures.answer
     (at_host h c.in_ok-station.ensures.found
@@ -32,7 +32,7 @@ returns-in_err-take_key-clause-row g c = λ course h.
 
 pub returns-clause-row : goal.returns-clause-row
 returns-clause-row g c = λ course h.
-    key_applies g.B.Lockstep.state g.B.Lockstep.machine g.D.SectorStore.records (running_of c.args.self.now) course
+    key_applies g.B.Lockstep.state g.B.Copies.copied g.B.Lockstep.machine g.D.SectorStore.records (running_of c.args.self.now) course
     c.args.node c.args.port c.args.index c.in_ok-byte.byte (c.station_mut.follows.lender c.take_key.new.self).items h
     c.in_ok-byte.ensures.answer
     (at_host h c.in_ok-station.ensures.found

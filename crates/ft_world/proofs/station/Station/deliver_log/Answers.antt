@@ -36,7 +36,7 @@ returns-in-Ok-clause-answer g c = λ x is.
     let old = c.args.self.now in
     let new : Station g.row.B.Denot =
     record { node = c.hold-2.new.self; inputs = c.hold.new.self; count = c.count-self.result } in
-    held NeedsEntry x (IsStation state M new) p e
+    held NeedsEntry x (IsStation state M C drives new) p e
     (subst (λ next. Expects p x (Ok next)) c.in-Some.is (c.in_ok-entry.ensures.answer x is.node))
-    (holds_on state M old new e x (subst (λ next. IfSome next (MayHold old.node)) c.in-Some.is c.in_ok-entry.ensures.may)
+    (holds_on state M C drives old new e x (subst (λ next. IfSome next (MayHold old.node)) c.in-Some.is c.in_ok-entry.ensures.may)
     is (c.in-Ok.ensures.answer x is.node) c.in_ok-hold.ensures.ok c.count-self.ensures)

@@ -11,5 +11,5 @@ pub returns-clause-answer : goal.returns-clause-answer
 returns-clause-answer g c = λ x is.
     let M = g.B.Lockstep.machine in
     passed (put_reply_refusal M c.args.number x) Ever (λ done. Took M (input.Written c.args.number)) x c.accept.result
-    (IsStation g.B.Lockstep.state M c.accept.new.self) c.in_ok-check_done.field-0 (c.in_ok-check_done.ensures.answer x is.node)
+    (IsStation g.B.Lockstep.state M C drives c.accept.new.self) c.in_ok-check_done.field-0 (c.in_ok-check_done.ensures.answer x is.node)
     (c.accept.ensures.answer x is)

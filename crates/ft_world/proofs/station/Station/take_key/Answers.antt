@@ -11,5 +11,5 @@ pub returns-clause-answer : goal.returns-clause-answer
 returns-clause-answer g c = λ x is.
     let M = g.B.Lockstep.machine in
     passed (take_key_refusal M c.args.port c.args.index x) Ever (λ done. Took M (input.Rx c.args.port c.args.byte)) x c.accept.result
-    (IsStation g.B.Lockstep.state M c.accept.new.self) c.in_ok-check_key.field-0 (c.in_ok-check_key.ensures.answer x is.node)
+    (IsStation g.B.Lockstep.state M C drives c.accept.new.self) c.in_ok-check_key.field-0 (c.in_ok-check_key.ensures.answer x is.node)
     (c.accept.ensures.answer x is)

@@ -5,5 +5,5 @@ use Rattle.ft_world.proofs.world.World.apply.Goals as goal
 
 pub invariant_of-self : goal.invariant_of-self
 invariant_of-self g c =
-    goes_on g.B.Lockstep.state g.B.Lockstep.machine g.D.SectorStore.records (running_of c.self.inside.pair)
+    goes_on g.B.Lockstep.state g.B.Copies.copied g.B.Lockstep.machine g.D.SectorStore.records (running_of c.self.inside.pair)
     (running_of c.apply.new.self) c.args.event c.apply.result c.self.invariant c.apply.ensures.row

@@ -6,6 +6,6 @@ use Rattle.ft_world.proofs.world.World.begin_in.Goals as goal
 
 pub returns-clause-faithful : goal.returns-clause-faithful
 returns-clause-faithful g c =
-    shown_is_faithful g.B.Lockstep.state g.B.Lockstep.machine g.D.SectorStore.records (running_of c.begin.result)
+    shown_is_faithful g.B.Lockstep.state g.B.Copies.copied g.B.Lockstep.machine g.D.SectorStore.records (running_of c.begin.result)
     (beginning g.B.Lockstep.machine g.copying (g.B.Lockstep.state c.args.primary) (g.D.SectorStore.records c.args.store))
     c.begin.ensures

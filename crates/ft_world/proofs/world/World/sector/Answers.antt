@@ -5,5 +5,5 @@ use Rattle.ft_world.proofs.world.World.sector.Goals as goal
 
 pub invariant_of-self : goal.invariant_of-self
 invariant_of-self g c =
-    same_shown g.B.Lockstep.state g.B.Lockstep.machine g.D.SectorStore.records (running_of c.self.inside.pair)
+    same_shown g.B.Lockstep.state g.B.Copies.copied g.B.Lockstep.machine g.D.SectorStore.records (running_of c.self.inside.pair)
     (running_of c.sector.new.self) c.self.invariant c.sector.ensures.kept c.sector.ensures.others
