@@ -44,7 +44,7 @@ applies state copied M records old c e answer after new h row parts =
     record {
       after = after;
       row = row;
-      shows = record { drives = h.drives; machine = h.machine; reached = reached; parts = parts };
+      shows = record { drives = h.drives; machine = h.machine; copies_as = h.copies_as; reached = reached; parts = parts };
       faithful = always_faithful N c.copying h.machine.lawful h.machine.copies after reached;
       grows = row_grows N c.copying h.machine.lawful h.machine.copies c.world after _ _ h.reached row;
     }
@@ -107,5 +107,5 @@ handed_on (Err e) fault h = ap Err h
 pub hands_on : {B H D S : Type 0} {state : B → S} {copied : B → Guest} {M : Machine S} {records : D → List Record} {c : Course S}
     {e : Event} {new : Running B H D} (r : Result Reply Fault) (fault : Fault) → IsErrAnd r (λ k. k ≡ fault) →
     Applies state copied M records c e (Err fault) new → Applies state copied M records c e r new
-hands_on {state = state} {M} {records} {c} {e} {new} r fault h a =
+hands_on {state = state} {copied} {M} {records} {c} {e} {new} r fault h a =
     subst (λ r. Applies state copied M records c e r new) (sym (handed_on r fault h)) a

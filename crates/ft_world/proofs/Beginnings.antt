@@ -145,7 +145,7 @@ disk_at_boot state copied M C records primary backup store may = record {
 pub shows_beginning : {B H D S : Type 0} (state : B → S) (copied : B → Guest) (M : Machine S) (C : Copying S) (records : D → List Record)
     (primary backup : B) (store disk : D) (hosts : List (Host B H)) (messages : List Message) (one two : Screen)
     (askings : List Asking) → MayBegin state copied M C records primary backup store →
-    ((c : Course S) → state primary ≡ c.boot → state backup ≡ c.boot → M.count c.boot ≡ 0 →
+    ((C : Copying S) (drives : ℕ) (c : Course S) → state primary ≡ c.boot → state backup ≡ c.boot → M.count c.boot ≡ 0 →
     AreHosts state M C drives hosts (opening (machine_of M c)).nodes) →
     messages ≡ [] → one ≡ blank → two ≡ blank → askings ≡ [] → disk ≡ store →
     Shows state copied M records
@@ -164,9 +164,10 @@ shows_beginning state copied M C records primary backup store disk hosts message
     let c = beginning M C (state primary) (records store) in record {
       drives = may.drives;
       machine = may.machine;
+      copies_as = may.copies_as;
       reached = AtBoot;
       parts = record {
-        hosts = opened c refl may.alike (may.machine.lawful.counts [] (state primary) refl);
+        hosts = opened C may.drives c refl may.alike (may.machine.lawful.counts [] (state primary) refl);
         messages = subst (λ list. AreMessages list []) (sym none) no_messages;
         terminals = subst (λ list. AreTerminals list (no_terminal ∷ no_terminal ∷ []))
             (sym (ap (λ t. t ∷ two ∷ []) first ∙ ap (λ t. blank ∷ t ∷ []) second)) blank_screens;

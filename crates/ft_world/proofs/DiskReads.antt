@@ -230,6 +230,7 @@ same_shown state copied M records old new some kept others =
       shows = record {
         drives = h.drives;
         machine = h.machine;
+        copies_as = h.copies_as;
         reached = h.reached;
         parts = record {
           hosts = p.hosts;

@@ -44,6 +44,7 @@ pub host_comes : {B H D S : Type 0} (state : B → S) (copied : B → Guest) (M 
 host_comes state copied M records old c resources h = record {
   drives = h.drives;
   machine = h.machine;
+  copies_as = h.copies_as;
   reached = After h.reached HostComes;
   parts = record {
     hosts = agree-push (IsHost state M c.copying h.drives) old.hosts c.world.nodes (host.Spare resources) (spare (machine_of M c)) refl

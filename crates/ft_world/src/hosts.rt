@@ -62,7 +62,8 @@ pub(crate) fn status<B: Copies<H> + Drop, H: Drop>(
     hosts: &Vec<Host<B, H>>,
     node: u64,
 ) -> Option<NodeStatus>
-    ensures { (C : Copying B.State) (drives : ℕ) (nodes : List (protocol.Node B.State)) → AreHosts B.state B.machine C drives hosts.now.items nodes
+    ensures { (C : Copying B.State) (drives : ℕ) (nodes : List (protocol.Node B.State))
+        → AreHosts B.state B.machine C drives hosts.now.items nodes
         → IsStatusAt B.machine (slice_get nodes node) result }
 {
     let station = station(hosts, node).ok()?;

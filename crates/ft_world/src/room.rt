@@ -1,4 +1,5 @@
 //! How a pair begins: the memory that it needs, and its two nodes.
+ghost use Rattle.pair_protocol.specs.Copying.{Copying};
 ghost use Rattle.std.specs.Prelude.{◌≡◌, ◌+◌, ◌≤◌, [], IsOkUnless, vec_capacity, vec_len};
 ghost use Rattle.i8080_words.specs.declared.refusal.Fault.TheVariants.{OutOfMemory};
 ghost use Rattle.log_buffer.specs.Log as logs;
@@ -36,7 +37,7 @@ impl<B: Copies<H> + Drop, H: Drop> Room<B, H> {
 
     /// The primary and the backup of generation 1, with these guests. Allocates no further memory.
     pub(crate) fn begin(self, alloc: Global, primary: B, backup: B) -> Vec<Host<B, H>>
-        ensures { (c : Course B.State) → B.state primary ≡ c.boot → B.state backup ≡ c.boot
+        ensures { (C : Copying B.State) (drives : ℕ) (c : Course B.State) → B.state primary ≡ c.boot → B.state backup ≡ c.boot
             → B.machine.count c.boot ≡ 0
             → AreHosts B.state B.machine C drives result.items (opening (machine_of B.machine c)).nodes }
     {

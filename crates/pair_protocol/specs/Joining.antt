@@ -1,4 +1,4 @@
--- What a joining node was given: the parts of one machine, which is reached from boot.
+-- The parts that are sent: each is of a machine that is reached from boot, and a joining node is given those of one.
 use Rattle.std.specs.Prelude.{◌≡◌, ℕ, Some, List, [], slice_get}
 use Rattle.guest_board.specs.Machine.{Machine, Move}
 use Rattle.guest_trace.specs.Reach.{Owns}
@@ -23,3 +23,17 @@ abbrev pub JoiningIsGiven : (S : Type 0) → Type 0
 JoiningIsGiven S =
     (M : Machine S) (C : Copying S) → Lawful M → IsCopying M C → Makes M C → (w : World S) → Reached M C w →
     (n : ℕ) (x : Node S) → slice_get w.nodes n ≡ Some x → x.role ≡ Joining → IsGiven M C w x
+
+-- a part of the image of a machine that is reached from boot
+pub record IsPartOf {S : Type 0} (M : Machine S) (C : Copying S) (index : ℕ) (part : List ℕ) : Type 0 where
+  pub machine : S
+  pub moves : List Move
+  pub reached : Reaches M moves machine
+  pub owns : Owns M [] M.boot moves
+  pub is_part : slice_get (C.parts machine) index ≡ Some part
+
+-- in every world that actions reach, each part that was sent is such a part
+abbrev pub PartsAreOfMachines : (S : Type 0) → Type 0
+PartsAreOfMachines S =
+    (M : Machine S) (C : Copying S) → Lawful M → IsCopying M C → (w : World S) → Reached M C w →
+    (generation index : ℕ) (part : List ℕ) → Among (ImagePart generation index part) w.messages → IsPartOf M C index part

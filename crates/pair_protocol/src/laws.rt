@@ -1,6 +1,6 @@
 //! What the rules of a pair promise, for any lawful machine and any copy of it. Nothing here runs.
 ghost use Rattle.pair_protocol.specs.Examples.{TakesOver, WritesDisk};
-ghost use Rattle.pair_protocol.specs.Joining.{JoiningIsGiven};
+ghost use Rattle.pair_protocol.specs.Joining.{JoiningIsGiven, PartsAreOfMachines};
 ghost use Rattle.pair_protocol.specs.ReadsKept.{ReachedKeepsReads};
 ghost use Rattle.pair_protocol.specs.Laws.{ReachedIsFaithful, NodesStand, NeedsNoCopies, ReachedGrows, RowIsChanges, ChangesReach, RunReaches, RunIsFaithful, RunGrows, RunReplies};
 ghost use Rattle.pair_protocol.specs.Needing.{NoTurnsNeedNone, OtherEntriesNeedNone, OtherMovesNeedNone, StopsAtSteps, WinnersNeedNone};
@@ -23,6 +23,11 @@ pub fn nodes_stand<S>()
 /// of them together make that machine.
 pub fn joining_nodes_are_given<S>()
     ensures given { JoiningIsGiven S }
+{}
+
+/// In every world that actions reach, each part of an image that was ever sent is of a machine that was run from boot.
+pub fn sent_parts_are_of_machines<S>()
+    ensures { PartsAreOfMachines S }
 {}
 
 /// In every world that actions reach, the disk still has the bytes of each read that the backup, or a draining winner,

@@ -6,9 +6,9 @@ use Rattle.ft_world.proofs.Statuses.{holds_of_found, station_shows}
 use Rattle.ft_world.proofs.hosts.status.Goals as goal
 
 pub returns : goal.returns
-returns g c = λ nodes are.
-    station_shows g.B.Lockstep.state g.B.Lockstep.machine c.args.hosts.now.items nodes c.args.node c.in_ok-station.station.now
+returns g c = λ C drives nodes are.
+    station_shows g.B.Lockstep.state g.B.Lockstep.machine C drives c.args.hosts.now.items nodes c.args.node c.in_ok-station.station.now
     (record { role = c.role.result; generation = c.generation.result; count = c.count.result }) are
     (holds_of_found (λ here. slice_get c.args.hosts.now.items c.args.node ≡ Some (host.Node here.now)) c.station.result
     c.in_ok-station.station c.in_ok-station.ensures.value c.station.ensures.found)
-    c.role.ensures c.generation.ensures.value c.count.ensures
+    (c.role.ensures C drives) (c.generation.ensures.value C drives) (c.count.ensures C drives)

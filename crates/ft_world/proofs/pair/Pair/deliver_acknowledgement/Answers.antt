@@ -35,8 +35,8 @@ returns-in_err-held-clause-row g c = λ course h.
     (c.station_mut.follows.lender c.deliver_acknowledgement.new.self).items brings h
     (λ generation held spelled. at_host h c.in_ok-station.ensures.found
     (c.station_mut.follows.holds c.deliver_acknowledgement.new.self (ap is_ok c.in_ok-station.was))
-    (λ x is. spelled_ack c.in-Some.packet.now x (Err c.in_err-held.field-0.0) (IsStation g.B.Lockstep.state g.B.Lockstep.machine c.deliver_acknowledgement.new.self) spelled
-    (c.in_err-held.ensures.answer x is))))
+    (λ C drives x is. spelled_ack c.in-Some.packet.now x (Err c.in_err-held.field-0.0) (IsStation g.B.Lockstep.state g.B.Lockstep.machine C drives c.deliver_acknowledgement.new.self) spelled
+    (c.in_err-held.ensures.answer C drives x is))))
 
 pub returns-clause-row : goal.returns-clause-row
 returns-clause-row g c = λ course h.
@@ -46,5 +46,5 @@ returns-clause-row g c = λ course h.
     (c.station_mut.follows.lender c.deliver_acknowledgement.new.self).items brings h
     (λ generation held spelled. at_host h c.in_ok-station.ensures.found
     (c.station_mut.follows.holds c.deliver_acknowledgement.new.self (ap is_ok c.in_ok-station.was))
-    (λ x is. spelled_ack c.in-Some.packet.now x (Ok c.in_ok-held.held) (IsStation g.B.Lockstep.state g.B.Lockstep.machine c.deliver_acknowledgement.new.self) spelled
-    (c.in_ok-held.ensures.answer x is)))
+    (λ C drives x is. spelled_ack c.in-Some.packet.now x (Ok c.in_ok-held.held) (IsStation g.B.Lockstep.state g.B.Lockstep.machine C drives c.deliver_acknowledgement.new.self) spelled
+    (c.in_ok-held.ensures.answer C drives x is)))

@@ -38,8 +38,8 @@ returns-in_err-deliver_log-clause-row g c = λ course h.
     (c.station_mut.follows.lender c.deliver_log.new.self).items brings h
     (λ generation index e spelled. at_host h c.in_ok-station.ensures.found
     (c.station_mut.follows.holds c.deliver_log.new.self (ap is_ok c.in_ok-station.was))
-    (λ x is. spelled_log c.in-Some.packet.now x (Err c.in_err-deliver_log.field-0.0) (IsStation g.B.Lockstep.state g.B.Lockstep.machine c.deliver_log.new.self) spelled
-    (c.in_err-deliver_log.ensures.answer x is))))
+    (λ C drives x is. spelled_log c.in-Some.packet.now x (Err c.in_err-deliver_log.field-0.0) (IsStation g.B.Lockstep.state g.B.Lockstep.machine C drives c.deliver_log.new.self) spelled
+    (c.in_err-deliver_log.ensures.answer C drives x is))))
 
 pub returns-then-branch-clause-row : goal.returns-then-branch-clause-row
 returns-then-branch-clause-row g c = λ course h.
@@ -53,8 +53,8 @@ returns-then-branch-clause-row g c = λ course h.
     (c.station_mut.follows.lender c.deliver_log.new.self).items brings h
     (λ generation index e spelled. at_host h c.in_ok-station.ensures.found
     (c.station_mut.follows.holds c.deliver_log.new.self (ap is_ok c.in_ok-station.was))
-    (λ x is. spelled_log c.in-Some.packet.now x (Ok c.in_ok-deliver_log.field-0) (IsStation g.B.Lockstep.state g.B.Lockstep.machine c.deliver_log.new.self) spelled
-    (c.in_ok-deliver_log.ensures.answer x is))))
+    (λ C drives x is. spelled_log c.in-Some.packet.now x (Ok c.in_ok-deliver_log.field-0) (IsStation g.B.Lockstep.state g.B.Lockstep.machine C drives c.deliver_log.new.self) spelled
+    (c.in_ok-deliver_log.ensures.answer C drives x is))))
 
 pub returns-else-branch-clause-row : goal.returns-else-branch-clause-row
 returns-else-branch-clause-row g c = λ course h.
@@ -68,5 +68,5 @@ returns-else-branch-clause-row g c = λ course h.
     (c.station_mut.follows.lender c.deliver_log.new.self).items brings h
     (λ generation index e spelled. at_host h c.in_ok-station.ensures.found
     (c.station_mut.follows.holds c.deliver_log.new.self (ap is_ok c.in_ok-station.was))
-    (λ x is. spelled_log c.in-Some.packet.now x (Ok c.in_ok-deliver_log.field-0) (IsStation g.B.Lockstep.state g.B.Lockstep.machine c.deliver_log.new.self) spelled
-    (c.in_ok-deliver_log.ensures.answer x is))))
+    (λ C drives x is. spelled_log c.in-Some.packet.now x (Ok c.in_ok-deliver_log.field-0) (IsStation g.B.Lockstep.state g.B.Lockstep.machine C drives c.deliver_log.new.self) spelled
+    (c.in_ok-deliver_log.ensures.answer C drives x is))))

@@ -8,15 +8,15 @@ use Rattle.ft_world.specs.Shows.{IsStation}
 use Rattle.ft_world.proofs.station.Station.get_reply.Goals as goal
 
 pub returns-in_err-check_under-clause-answer : goal.returns-in_err-check_under-clause-answer
-returns-in_err-check_under-clause-answer g c = λ x is.
+returns-in_err-check_under-clause-answer g c = λ C drives x is.
     let M = g.B.Lockstep.machine in
     refused (get_reply_refusal M c.args.address c.args.number c.args.bytes x) Ever (λ done. Took M (input.Sector c.args.address.drive c.args.address.sector c.args.number c.args.bytes)) x c.from_residual.result
     (IsStation g.B.Lockstep.state M C drives c.args.self.now) c.in_err-check_under.field-0.0 c.from_residual.ensures.1
-    (c.in_err-check_under.ensures.answer x is.node) is
+    (c.in_err-check_under.ensures.answer C drives x is.node) is
 
 pub returns-clause-answer : goal.returns-clause-answer
-returns-clause-answer g c = λ x is.
+returns-clause-answer g c = λ C drives x is.
     let M = g.B.Lockstep.machine in
     passed (get_reply_refusal M c.args.address c.args.number c.args.bytes x) Ever (λ done. Took M (input.Sector c.args.address.drive c.args.address.sector c.args.number c.args.bytes)) x c.accept.result
-    (IsStation g.B.Lockstep.state M C drives c.accept.new.self) c.in_ok-check_under.field-0 (c.in_ok-check_under.ensures.answer x is.node)
-    (c.accept.ensures.answer x is)
+    (IsStation g.B.Lockstep.state M C drives c.accept.new.self) c.in_ok-check_under.field-0 (c.in_ok-check_under.ensures.answer C drives x is.node)
+    (c.accept.ensures.answer C drives x is)

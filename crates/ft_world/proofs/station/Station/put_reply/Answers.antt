@@ -8,8 +8,8 @@ use Rattle.ft_world.specs.Shows.{IsStation}
 use Rattle.ft_world.proofs.station.Station.put_reply.Goals as goal
 
 pub returns-clause-answer : goal.returns-clause-answer
-returns-clause-answer g c = λ x is.
+returns-clause-answer g c = λ C drives x is.
     let M = g.B.Lockstep.machine in
     passed (put_reply_refusal M c.args.number x) Ever (λ done. Took M (input.Written c.args.number)) x c.accept.result
-    (IsStation g.B.Lockstep.state M C drives c.accept.new.self) c.in_ok-check_done.field-0 (c.in_ok-check_done.ensures.answer x is.node)
-    (c.accept.ensures.answer x is)
+    (IsStation g.B.Lockstep.state M C drives c.accept.new.self) c.in_ok-check_done.field-0 (c.in_ok-check_done.ensures.answer C drives x is.node)
+    (c.accept.ensures.answer C drives x is)

@@ -3,6 +3,6 @@ use Rattle.ft_world.proofs.Stations.{replays_on}
 use Rattle.ft_world.proofs.station.Station.replay.Goals as goal
 
 pub returns-clause-answer : goal.returns-clause-answer
-returns-clause-answer g c = λ x is.
-    replays_on g.B.Lockstep.state g.B.Lockstep.machine c.args.turns c.args.self.now c.replay.new.self c.replay.result x
-    is (c.replay.ensures.answer x is.node)
+returns-clause-answer g c = λ C drives x is.
+    replays_on g.B.Lockstep.state g.B.Lockstep.machine C drives c.args.turns c.args.self.now c.replay.new.self c.replay.result x
+    is (c.replay.ensures.answer C drives x is.node)

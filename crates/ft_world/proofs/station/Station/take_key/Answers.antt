@@ -8,8 +8,8 @@ use Rattle.ft_world.specs.Shows.{IsStation}
 use Rattle.ft_world.proofs.station.Station.take_key.Goals as goal
 
 pub returns-clause-answer : goal.returns-clause-answer
-returns-clause-answer g c = λ x is.
+returns-clause-answer g c = λ C drives x is.
     let M = g.B.Lockstep.machine in
     passed (take_key_refusal M c.args.port c.args.index x) Ever (λ done. Took M (input.Rx c.args.port c.args.byte)) x c.accept.result
-    (IsStation g.B.Lockstep.state M C drives c.accept.new.self) c.in_ok-check_key.field-0 (c.in_ok-check_key.ensures.answer x is.node)
-    (c.accept.ensures.answer x is)
+    (IsStation g.B.Lockstep.state M C drives c.accept.new.self) c.in_ok-check_key.field-0 (c.in_ok-check_key.ensures.answer C drives x is.node)
+    (c.accept.ensures.answer C drives x is)
