@@ -8,8 +8,7 @@ use i8080_words::{Fault, R};
 use std::alloc::Global;
 
 impl<T: Completes + Drop, S: Completes + Drop, W: Completes + Drop> Copies<Callbacks<T, S, W>>
-    for Board<T, S, W>
-{
+    for Board<T, S, W> {
     ghost copied = { λ board. board.guest };
 
     fn image(&self, alloc: Global, generation: u32) -> R<Image> {

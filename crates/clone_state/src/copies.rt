@@ -32,7 +32,11 @@ pub trait Copies<H>: Lockstep {
 
     /// The guest that the parts of an image make. `NotWhole` if one is missing, otherwise `Malformed` if they fit no
     /// guest together, otherwise `OutOfMemory` if there is no memory for it. Each hands everything back.
-    fn assembled(alloc: Global, assembly: Assembly, resources: H) -> Result<Self, (Assembly, H, Fault)>
+    fn assembled(
+        alloc: Global,
+        assembly: Assembly,
+        resources: H,
+    ) -> Result<Self, (Assembly, H, Fault)>
         ensures ok { IfOk result (λ guest. machine_in assembly ≡ Some (copied guest)) }
         ensures back { IfErr result (λ refused. (refused.0 ≡ assembly) × (refused.1 ≡ resources)) }
         ensures refused { IfErr result (λ refused. refused.2

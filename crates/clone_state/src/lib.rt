@@ -16,6 +16,6 @@ pub use copies::Copies;
 pub use image::Image;
 pub use laws::{
     assemblies_gather_images, boards_are_copied_as_guests, boards_can_be_rebuilt,
-    controllers_are_decided, messages_are_written_one_way, parts_are_read_again, parts_are_written_one_way,
-    parts_make_their_machines,
+    controllers_are_decided, messages_are_written_one_way, parts_are_read_again,
+    parts_are_written_one_way, parts_make_their_machines,
 };
