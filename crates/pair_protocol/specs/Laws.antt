@@ -3,8 +3,9 @@ use Rattle.std.specs.Prelude.{◌≡◌, ℕ, Some, List, length, slice_get}
 use Rattle.guest_board.specs.Machine.{Machine}
 use Rattle.pair_protocol.specs.Lawful.{Lawful}
 use Rattle.pair_protocol.specs.Copying.{Copying, IsCopying, no_copies}
-use Rattle.pair_protocol.specs.Node.{Node}
+use Rattle.pair_protocol.specs.Node.{Alone, Node}
 use Rattle.pair_protocol.specs.NodeStands.{NodeStands}
+use Rattle.pair_protocol.specs.Settled.{highest}
 use Rattle.pair_protocol.specs.World.{World, opening}
 use Rattle.pair_protocol.specs.Change.{Changes, Reached}
 use Rattle.pair_protocol.specs.Event.{Event, Reply}
@@ -28,6 +29,12 @@ abbrev pub NodesStand : (S : Type 0) → Type 0
 NodesStand S =
     (M : Machine S) (C : Copying S) → Lawful M → IsCopying M C → (w : World S) → Reached M C w →
     (n : ℕ) (x : Node S) → slice_get w.nodes n ≡ Some x → NodeStands M x
+
+-- a node that is alone is of the highest generation
+abbrev pub AloneIsHighest : (S : Type 0) → Type 0
+AloneIsHighest S =
+    (M : Machine S) (C : Copying S) → Lawful M → IsCopying M C → (w : World S) → Reached M C w →
+    (n : ℕ) (x : Node S) → slice_get w.nodes n ≡ Some x → x.role ≡ Alone → x.generation ≡ highest w.nodes
 
 -- making no copies is a copying of every machine
 abbrev pub NeedsNoCopies : (S : Type 0) → Type 0

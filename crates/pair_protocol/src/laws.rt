@@ -2,7 +2,7 @@
 ghost use Rattle.pair_protocol.specs.Examples.{TakesOver, WritesDisk};
 ghost use Rattle.pair_protocol.specs.Joining.{JoiningIsGiven, PartsAreOfMachines};
 ghost use Rattle.pair_protocol.specs.ReadsKept.{ReachedKeepsReads};
-ghost use Rattle.pair_protocol.specs.Laws.{ReachedIsFaithful, NodesStand, NeedsNoCopies, ReachedGrows, RowIsChanges, ChangesReach, RunReaches, RunIsFaithful, RunGrows, RunReplies};
+ghost use Rattle.pair_protocol.specs.Laws.{ReachedIsFaithful, AloneIsHighest, NodesStand, NeedsNoCopies, ReachedGrows, RowIsChanges, ChangesReach, RunReaches, RunIsFaithful, RunGrows, RunReplies};
 ghost use Rattle.pair_protocol.specs.Needing.{NoTurnsNeedNone, OtherEntriesNeedNone, OtherMovesNeedNone, StopsAtSteps, WinnersNeedNone};
 ghost use Rattle.pair_protocol.specs.Survival.{NothingRefuses, WholeNodesWin};
 ghost use Rattle.pair_protocol.specs.Traces.{OneTrace, OneEnd, FirstEntries, QuietMoves, QuietEntries};
@@ -14,9 +14,10 @@ pub fn actions_are_faithful<S>()
 
 /// In every world that actions reach: a node that serves or replays has a machine that was run from boot; one that
 /// serves has taken the keys of its list; a primary has logged everything that is covered; and the entries that a node
-/// has still to replay are the next ones of a recorded run.
+/// has still to replay are the next ones of a recorded run. A node that is alone is of the highest generation.
 pub fn nodes_stand<S>()
     ensures stand { NodesStand S }
+    ensures alone { AloneIsHighest S }
 {}
 
 /// In every world that actions reach, a joining node is given the parts of one machine that was run from boot, and all

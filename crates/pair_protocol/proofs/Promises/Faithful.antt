@@ -1,7 +1,7 @@
 -- The invariant gives every promise of a faithful world, and the growth of what is settled.
 use Rattle.std.proofs.Common.{[], ◌++◌, ◌+◌, ◌∙◌, ◌∷◌, ◌≡◌, ◌≤◌, ◌⊎◌, List, Some, ap, arith, inl, inr, refl, subst, suc, sym, ℕ}
 use Rattle.std.specs.Prelude.{slice_get}
-use Rattle.pair_protocol.proofs.Words.{After, Alone, Among, AtBoot, Copying, Do, Faithful, IsCopying, IsImage, IsOutstanding, IsPrefix, IsUnwritten, IsWritten, Lawful, Machine, MayHave, Move, Node, Reached, Runs, SectorAddress, SectorRecord, SectorWrite, Settled, Take, Timed, World, Write, address_of, image, inputs, operations, sector_record, steps}
+use Rattle.pair_protocol.proofs.Words.{After, Alone, Among, AtBoot, Copying, Do, Faithful, IsCopying, IsImage, IsOutstanding, IsPrefix, IsUnwritten, IsWritten, Lawful, Machine, MayHave, Move, Node, Reached, Runs, SectorAddress, SectorRecord, SectorWrite, Settled, Take, Timed, World, Write, address_of, highest, image, inputs, operations, sector_record, steps}
 use Rattle.pair_protocol.specs.Grows.{AllFrom, Extends}
 use Rattle.pair_protocol.proofs.Invariant.Acting.{Acting, BackupActs, BackupAtTop, BackupEarlier, PrimaryActs, PrimaryAtTop, PrimaryEarlier, acting, line_at}
 use Rattle.pair_protocol.proofs.Invariant.{BackupWon, Inv, PrimaryWon}
@@ -10,7 +10,7 @@ use Rattle.pair_protocol.proofs.Keeps.Alone.{backup-alone}
 use Rattle.pair_protocol.proofs.Keeps.Boot.{at_boot}
 use Rattle.pair_protocol.proofs.Keeps.Disk.{AsBefore, LatestIs, OfPut, latest_all, latest_is}
 use Rattle.pair_protocol.proofs.Promises.Outputs.{output_is, trace_runs}
-use Rattle.pair_protocol.proofs.Promises.Settling.{settled_is, settles_trace}
+use Rattle.pair_protocol.proofs.Promises.Settling.{highest_is, settled_is, settles_trace}
 use Rattle.pair_protocol.proofs.Traces.Moves.{inputs-append, steps-append}
 
 -- At most one node is alone.
@@ -39,6 +39,19 @@ alone_won {S} M C w i n x h role = go (acting M C w i n x h (λ k. (cc)))
         absurd (elim q.is_primary.role [ inl r ↦ (cc) | inr r ↦ (let k = r.1 in (cc)) ])
     go (BackupActs q (BackupAtTop g s a)) =
         won_at M C w i n x.generation g (inr (q.spot, (backup-alone M C (line_at i x) x q.is_backup.state role).won))
+    go (BackupActs q (BackupEarlier g s a)) =
+        (let k = (backup-alone M C (line_at i x) x q.is_backup.state role).won in absurd (cc))
+
+-- and it is of the highest generation
+pub alone_highest : {S : Type 0} (M : Machine S) (C : Copying S) (w : World S) (i : Inv M C w) (n : ℕ) (x : Node S) →
+    slice_get w.nodes n ≡ Some x → x.role ≡ Alone → x.generation ≡ i.top
+alone_highest {S} M C w i n x h role = go (acting M C w i n x h (λ k. (cc)))
+  where
+    go : Acting M C w i n x → x.generation ≡ i.top
+    go (PrimaryActs q (PrimaryAtTop g s b)) = g
+    go (PrimaryActs q (PrimaryEarlier g s b)) =
+        absurd (elim q.is_primary.role [ inl r ↦ (cc) | inr r ↦ (let k = r.1 in (cc)) ])
+    go (BackupActs q (BackupAtTop g s a)) = g
     go (BackupActs q (BackupEarlier g s a)) =
         (let k = (backup-alone M C (line_at i x) x q.is_backup.state role).won in absurd (cc))
 
@@ -152,3 +165,8 @@ module _ {S : Type 0} (M : Machine S) (C : Copying S) where
   pub reached : Lawful M → IsCopying M C → (w : World S) → Reached M C w → Inv M C w
   reached laws copies w AtBoot = at_boot M C laws
   reached laws copies w (After {w = v} r c) = (keep M C laws copies v w (reached laws copies v r) c).inv
+
+pub alone_is_highest : {S : Type 0} (M : Machine S) (C : Copying S) → Lawful M → IsCopying M C → (w : World S) →
+    Reached M C w → (n : ℕ) (x : Node S) → slice_get w.nodes n ≡ Some x → x.role ≡ Alone → x.generation ≡ highest w.nodes
+alone_is_highest M C laws copies w r n x h role =
+    let i = reached M C laws copies w r in alone_highest M C w i n x h role ∙ sym (highest_is M C w i)
