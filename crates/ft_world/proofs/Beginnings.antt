@@ -12,6 +12,9 @@ use Rattle.disk_dcdd.specs.declared.controller.TheConstants.{DRIVES}
 use Rattle.disk_dcdd.specs.declared.sector.TheConstants.{SECTOR_BYTES}
 use Rattle.guest_board.specs.Guest.{Guest, altair, guest_at_boot}
 use Rattle.guest_board.specs.Inputs.{some_altair}
+use Rattle.clone_state.specs.CopiedBoard.{BoardsAreCopiedAsGuests}
+use Rattle.clone_state.specs.Copies.{CopiesAs}
+use Rattle.guest_board.specs.Board.{OnBoard}
 use Rattle.guest_board.specs.Machine.{Machine}
 use Rattle.guest_board.specs.Outstanding.{ComesAndGoes, completed_by}
 use Rattle.guest_board.specs.declared.input.Input.{Input}
@@ -214,17 +217,25 @@ whole_at_boot drives records there whole address has =
     let r = some_of (record_at records address) (there address has) in
     ap (λ o. length (option_map_or (λ (u : Record). u.bytes) o [])) r.1 ∙ whole address r.0 r.1
 
+-- boards are copied by their images as guests are
+pub boards_as_guests : BoardsAreCopiedAsGuests → (drives : ℕ) → CopiesAs (λ (board : OnBoard). board.guest)
+    (λ (board : OnBoard). board.guest) drives (image_copy drives).parts (image_copy drives).part_count
+    (image_copy drives).assemble
+unfolding image_copy
+boards_as_guests law drives = law drives
+
 -- two guests of one setup may begin over a disk that has its drives, and on which nothing is written; they are copied by
 -- their images
 pub altairs_may_begin : {B H D : Type 0} (state : B → Guest) (records : D → List Record) (setup : Setup)
     (primary backup : B) (store : D) →
     ((setup : Setup) (sectors : SectorAddress → List ℕ) → Lawful (altair setup sectors)) →
     ((setup : Setup) (sectors : SectorAddress → List ℕ) → StaysOnDisk (altair setup sectors) setup.drives) →
-    TheImageCopies → IsSetup setup (bytes_in (records store)) → setup.drives ≤ DRIVES →
+    TheImageCopies → ((drives : ℕ) → CopiesAs state state drives (image_copy drives).parts (image_copy drives).part_count
+    (image_copy drives).assemble) → IsSetup setup (bytes_in (records store)) → setup.drives ≤ DRIVES →
     state primary ≡ guest_at_boot setup → state backup ≡ guest_at_boot setup →
     HasDrives (records store) setup.drives → IsUnwritten (records store) →
-    MayBegin state some_altair (image_copy (state primary).devices.disk.attached) records primary backup store
-altairs_may_begin state records setup primary backup store lawful on_disk copies is within first second there unwritten =
+    MayBegin state state some_altair (image_copy (state primary).devices.disk.attached) records primary backup store
+altairs_may_begin state records setup primary backup store lawful on_disk copies as_guests is within first second there unwritten =
     let sectors = bytes_in (records store) in
     let copied = copies setup sectors is in record {
       drives = setup.drives;
@@ -236,6 +247,10 @@ altairs_may_begin state records setup primary backup store lawful on_disk copies
           (is_machine some_altair
           (beginning some_altair (image_copy setup.drives) (guest_at_boot setup) (records store)) setup.drives
           (lawful setup sectors) guests_issue_and_complete within (on_disk setup sectors) copied.0 copied.1);
+      copies_as = subst
+          (λ (s : Guest). CopiesAs state state setup.drives (image_copy s.devices.disk.attached).parts
+          (image_copy s.devices.disk.attached).part_count (image_copy s.devices.disk.attached).assemble)
+          (sym first) (as_guests setup.drives);
       alike = second ∙ sym first;
       there = there;
       unwritten = unwritten;

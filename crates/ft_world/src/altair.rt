@@ -11,6 +11,7 @@ ghost use Rattle.ft_world.specs.Beginning.{beginning};
 use crate::room::Room;
 use crate::world::World;
 use altair_copies::the_image_copies;
+use clone_state::boards_are_copied_as_guests;
 use altair_laws::{altairs_are_lawful, altairs_stay_on_their_disks};
 use event_callbacks::{Callbacks, Completes};
 use guest_board::{Board, BoardMemory, Setup};
@@ -35,7 +36,7 @@ impl<T: Completes + Drop, S: Completes + Drop, W: Completes + Drop, D: SectorSto
         requires drives { HasDrives (D.records store) setup.now.drives }
         requires unwritten { IsUnwritten (D.records store) }
         requires whole { HasWholeSectors (D.records store) }
-        ensures ok { IfOk result (λ world. Shows (λ board. board.guest) some_altair D.records world
+        ensures ok { IfOk result (λ world. Shows (λ board. board.guest) (λ board. board.guest) some_altair D.records world
             (beginning some_altair (image_copy setup.now.drives) (guest_at_boot setup.now) (D.records store))) }
         ensures faithful { OnOk result (IsFaithful some_altair
             (beginning some_altair (image_copy setup.now.drives) (guest_at_boot setup.now) (D.records store))) }
@@ -44,6 +45,7 @@ impl<T: Completes + Drop, S: Completes + Drop, W: Completes + Drop, D: SectorSto
         altairs_are_lawful();
         altairs_stay_on_their_disks();
         the_image_copies();
+        boards_are_copied_as_guests();
         sizes(&setup.levels, setup.sense);
         let (Ok(first), Ok(second), Ok(room)) = (
             BoardMemory::of(alloc, setup),

@@ -110,16 +110,16 @@ answer_alike drives d records output output' writes writes' image image' false o
     Lacks address is missing
 
 -- a sector that is bad for every world that is shown is bad for one of them
-pub some_bad : {B H S : Type 0} (state : B → S) (M : Machine S) (v : Running B H (List Record)) (single : Alone)
-    (settled : List Timed) (drives : ℕ) (c : Course S) → Shows state M (λ records. records) v c
+pub some_bad : {B H S : Type 0} (state : B → S) (copied : B → Guest) (M : Machine S) (v : Running B H (List Record)) (single : Alone)
+    (settled : List Timed) (drives : ℕ) (c : Course S) → Shows state copied M (λ records. records) v c
     → SomeOf drives (λ drive. SomeOf TRACKS (λ track. SomeOf SECTORS
-    (λ sector. IsBad state M v single settled (address_at drive track sector))))
+    (λ sector. IsBad state copied M v single settled (address_at drive track sector))))
     → SomeOf drives (λ drive. SomeOf TRACKS (λ track. SomeOf SECTORS
     (λ sector. Bad drives (deeds_of (machine_of M c) c.world settled) v.disk (output_of single) single.behind.writes
     (sector_at single.disk) (address_at drive track sector))))
-some_bad state M v single settled drives c shows (drive, d, (track, t, (sector, s, inl missing))) =
+some_bad state copied M v single settled drives c shows (drive, d, (track, t, (sector, s, inl missing))) =
     (drive, d, (track, t, (sector, s, inl missing)))
-some_bad state M v single settled drives c shows (drive, d, (track, t, (sector, s, inr bad))) =
+some_bad state copied M v single settled drives c shows (drive, d, (track, t, (sector, s, inr bad))) =
     (drive, d, (track, t, (sector, s, inr (bad c shows))))
 
 -- the two ports

@@ -1,4 +1,5 @@
 -- A device that fails once is asked once more, and then answers. What a world over it shows, one over its records shows.
+use Rattle.guest_board.specs.Guest.{Guest}
 use Rattle.std.proofs.Common.{◌≡◌, ◌+◌, Bool, true, false, List, Option, Some, None, refl, arith, ap, sym, subst, ◌∙◌}
 use Rattle.std.specs.Prelude.{if◌then◌else◌, is_some, IsSome, IfOk, Result, Ok, Err}
 use Rattle.disk_dcdd.specs.declared.address.SectorAddress.{SectorAddress}
@@ -15,12 +16,13 @@ use Rattle.ft_world.specs.Standing.{Course, machine_of}
 use Rattle.pair_check.specs.Disks.{Disk, records_in, over_records}
 
 -- a world over the disk shows what the world over its records shows
-pub shows_records : {B H S : Type 0} (state : B → S) (M : Machine S) (v : Running B H Disk) (c : Course S)
-    → Shows state M records_in v c → Shows state M (λ records. records) (over_records v) c
+pub shows_records : {B H S : Type 0} (state : B → S) (copied : B → Guest) (M : Machine S) (v : Running B H Disk) (c : Course S)
+    → Shows state copied M records_in v c → Shows state copied M (λ records. records) (over_records v) c
 unfolding over_records
-shows_records state M v c shows = record {
+shows_records state copied M v c shows = record {
   drives = shows.drives;
   machine = shows.machine;
+  copies_as = shows.copies_as;
   reached = shows.reached;
   parts = record {
     hosts = shows.parts.hosts;
@@ -33,12 +35,13 @@ shows_records state M v c shows = record {
   };
 }
 
-records_show : {B H S : Type 0} (state : B → S) (M : Machine S) (v : Running B H Disk) (c : Course S)
-    → Shows state M (λ records. records) (over_records v) c → Shows state M records_in v c
+records_show : {B H S : Type 0} (state : B → S) (copied : B → Guest) (M : Machine S) (v : Running B H Disk) (c : Course S)
+    → Shows state copied M (λ records. records) (over_records v) c → Shows state copied M records_in v c
 unfolding over_records
-records_show state M v c shows = record {
+records_show state copied M v c shows = record {
   drives = shows.drives;
   machine = shows.machine;
+  copies_as = shows.copies_as;
   reached = shows.reached;
   parts = record {
     hosts = shows.parts.hosts;
@@ -59,14 +62,14 @@ only_counts old new others same =
     ap over_records others ∙ ap (λ records. record (over_records old) { disk = records }) same
 
 -- what a sector has is told of the world over the records, also if the device has failed in between
-pub told_of : {B H S : Type 0} (state : B → S) (M : Machine S) (old mid : Running B H Disk) (address : SectorAddress)
+pub told_of : {B H S : Type 0} (state : B → S) (copied : B → Guest) (M : Machine S) (old mid : Running B H Disk) (address : SectorAddress)
     (answer : Result SectorRead Fault) → over_records mid ≡ over_records old
-    → IfOk answer (λ read. (c : Course S) → Shows state M records_in mid c → IsSectorOf (machine_of M c) c.world address read)
-    → IfOk answer (λ read. (c : Course S) → Shows state M (λ records. records) (over_records old) c
+    → IfOk answer (λ read. (c : Course S) → Shows state copied M records_in mid c → IsSectorOf (machine_of M c) c.world address read)
+    → IfOk answer (λ read. (c : Course S) → Shows state copied M (λ records. records) (over_records old) c
     → IsSectorOf (machine_of M c) c.world address read)
-told_of state M old mid address (Ok read) same told = λ c shows.
-    told c (records_show state M mid c (subst (λ v. Shows state M (λ records. records) v c) (sym same) shows))
-told_of state M old mid address (Err fault) same told = tt
+told_of state copied M old mid address (Ok read) same told = λ c shows.
+    told c (records_show state copied M mid c (subst (λ v. Shows state copied M (λ records. records) v c) (sym same) shows))
+told_of state copied M old mid address (Err fault) same told = tt
 
 -- the disk of the world over the records
 pub disk_over : {B H : Type 0} (v : Running B H Disk) → (over_records v).disk ≡ v.disk.store

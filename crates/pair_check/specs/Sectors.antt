@@ -1,4 +1,5 @@
 -- What is found in the sectors of a world's disk, by the run of a single machine.
+use Rattle.guest_board.specs.Guest.{Guest}
 use Rattle.std.specs.Prelude.{◌≡◌, ℕ, ◌<◌, ◌⊎◌, Bool, false, IsTrue, List}
 use Rattle.disk_dcdd.specs.declared.address.SectorAddress.{SectorAddress}
 use Rattle.guest_board.specs.Machine.{Machine}
@@ -18,17 +19,17 @@ abbrev pub address_at : ℕ → ℕ → ℕ → SectorAddress
 address_at drive track sector = record { drive = drive; track = track; sector = sector }
 
 -- a sector of the world may have the bytes that it has
-abbrev pub IsGood : {B H S : Type 0} → (B → S) → Machine S → Running B H (List Record) → Alone → List Timed
+abbrev pub IsGood : {B H S : Type 0} → (B → S) → (B → Guest) → Machine S → Running B H (List Record) → Alone → List Timed
     → SectorAddress → Type 0
-IsGood {S = S} state M v single settled address = (c : Course S) → Shows state M (λ records. records) v c
+IsGood {S = S} state copied M v single settled address = (c : Course S) → Shows state copied M (λ records. records) v c
     → MayHave (sector_at single.disk address) single.behind.writes settled address
     (sector_record (machine_of M c) c.world.puts address).bytes
 
 -- it may not, or the disk has no such sector
-abbrev pub IsBad : {B H S : Type 0} → (B → S) → Machine S → Running B H (List Record) → Alone → List Timed
+abbrev pub IsBad : {B H S : Type 0} → (B → S) → (B → Guest) → Machine S → Running B H (List Record) → Alone → List Timed
     → SectorAddress → Type 0
-IsBad {S = S} state M v single settled address = (IsThere v.disk address → ⊥)
-    ⊎ ((c : Course S) → Shows state M (λ records. records) v c
+IsBad {S = S} state copied M v single settled address = (IsThere v.disk address → ⊥)
+    ⊎ ((c : Course S) → Shows state copied M (λ records. records) v c
     → MayHave (sector_at single.disk address) single.behind.writes settled address
     (sector_record (machine_of M c) c.world.puts address).bytes → ⊥)
 

@@ -18,7 +18,8 @@ use crate::judging::{is_front, may_have, never_fall};
 use crate::verdict::Verdict;
 use disk_dcdd::{SECTORS, SectorAddress, SectorWrite, TRACKS};
 use ft_world::World;
-use guest_board::{Lockstep, Setup};
+use clone_state::Copies;
+use guest_board::Setup;
 use guest_trace::Timed;
 use i8080_words::{Fault, R};
 use plain_single::Single;
@@ -27,14 +28,14 @@ use std::alloc::Global;
 /// Runs the single machine of this setup from what is settled in a pair. `Same` if each terminal has accepted the
 /// machine's output, or all but the last 16 bytes, and each sector of the pair's disk has the bytes of the machine's
 /// disk or of a write of the machine that is not settled as done. `OutOfMemory` if the allocator refuses memory.
-pub fn compare<B: Lockstep + Drop, H: Drop>(
+pub fn compare<B: Copies<H> + Drop, H: Drop>(
     alloc: Global,
     world: &mut World<B, Disk, H>,
     setup: &Setup,
     sectors: &[SectorWrite],
 ) -> R<Verdict>
     ensures verdict { IfOk result (λ verdict. (c : Course B.State)
-        → Shows B.state B.machine records_in world.old c
+        → Shows B.state B.copied B.machine records_in world.old c
         → IsVerdictOn (altair setup.now (boot_sectors sectors.now)) setup.now.drives (machine_of B.machine c) c.world
         world.old.disk.store verdict) }
     ensures only_memory { IfErr result (λ fault. fault ≡ OutOfMemory) }
@@ -61,13 +62,13 @@ pub fn compare<B: Lockstep + Drop, H: Drop>(
 }
 
 // Whether the pair has done the same as the machine.
-fn is_alike<B: Lockstep + Drop, H: Drop>(
+fn is_alike<B: Copies<H> + Drop, H: Drop>(
     world: &mut World<B, Disk, H>,
     single: &Single,
     drives: u8,
     inputs: &[Timed],
 ) -> bool
-    ensures answer { (c : Course B.State) → Shows B.state B.machine records_in world.old c
+    ensures answer { (c : Course B.State) → Shows B.state B.copied B.machine records_in world.old c
         → IsAnswer drives (deeds_of (machine_of B.machine c) c.world inputs.now) world.old.disk.store
         (output_of single.now) single.now.behind.writes (sector_at single.now.disk) result }
     ensures unchanged { over_records world.new ≡ over_records world.old }
@@ -76,15 +77,15 @@ fn is_alike<B: Lockstep + Drop, H: Drop>(
 }
 
 // Whether each terminal has accepted what the machine has sent, or all but the end of it.
-fn has_output<B: Lockstep + Drop, H: Drop>(world: &World<B, Disk, H>, single: &Single) -> bool
-    ensures { (c : Course B.State) → Shows B.state B.machine records_in world.now c
+fn has_output<B: Copies<H> + Drop, H: Drop>(world: &World<B, Disk, H>, single: &Single) -> bool
+    ensures { (c : Course B.State) → Shows B.state B.copied B.machine records_in world.now c
         → IsTrue result ↔ ((port : ℕ) → port < 2 → IsFront (accepted c.world port) (output_of single.now port)) }
 {
     is_front(world.accepted(0), single.outputs(0)) && is_front(world.accepted(1), single.outputs(1))
 }
 
 // Whether each sector has what the machine's disk has, or what an outstanding write brings.
-fn has_disk<B: Lockstep + Drop, H: Drop>(
+fn has_disk<B: Copies<H> + Drop, H: Drop>(
     world: &mut World<B, Disk, H>,
     single: &Single,
     drives: u8,
@@ -92,9 +93,9 @@ fn has_disk<B: Lockstep + Drop, H: Drop>(
 ) -> bool
     ensures tells { Tells
         (EachOf drives (λ drive. EachOf TRACKS (λ track. EachOf SECTORS
-        (λ sector. IsGood B.state B.machine (over_records world.old) single.now inputs.now (address_at drive track sector)))))
+        (λ sector. IsGood B.state B.copied B.machine (over_records world.old) single.now inputs.now (address_at drive track sector)))))
         (SomeOf drives (λ drive. SomeOf TRACKS (λ track. SomeOf SECTORS
-        (λ sector. IsBad B.state B.machine (over_records world.old) single.now inputs.now (address_at drive track sector)))))
+        (λ sector. IsBad B.state B.copied B.machine (over_records world.old) single.now inputs.now (address_at drive track sector)))))
         result }
     ensures unchanged { over_records world.new ≡ over_records world.old }
 {
@@ -106,7 +107,7 @@ fn has_disk<B: Lockstep + Drop, H: Drop>(
     true
 }
 
-fn has_drive<B: Lockstep + Drop, H: Drop>(
+fn has_drive<B: Copies<H> + Drop, H: Drop>(
     world: &mut World<B, Disk, H>,
     single: &Single,
     drive: u8,
@@ -114,9 +115,9 @@ fn has_drive<B: Lockstep + Drop, H: Drop>(
 ) -> bool
     ensures tells { Tells
         (EachOf TRACKS (λ track. EachOf SECTORS
-        (λ sector. IsGood B.state B.machine (over_records world.old) single.now inputs.now (address_at drive track sector))))
+        (λ sector. IsGood B.state B.copied B.machine (over_records world.old) single.now inputs.now (address_at drive track sector))))
         (SomeOf TRACKS (λ track. SomeOf SECTORS
-        (λ sector. IsBad B.state B.machine (over_records world.old) single.now inputs.now (address_at drive track sector))))
+        (λ sector. IsBad B.state B.copied B.machine (over_records world.old) single.now inputs.now (address_at drive track sector))))
         result }
     ensures unchanged { over_records world.new ≡ over_records world.old }
 {
@@ -128,7 +129,7 @@ fn has_drive<B: Lockstep + Drop, H: Drop>(
     true
 }
 
-fn has_track<B: Lockstep + Drop, H: Drop>(
+fn has_track<B: Copies<H> + Drop, H: Drop>(
     world: &mut World<B, Disk, H>,
     single: &Single,
     drive: u8,
@@ -136,8 +137,8 @@ fn has_track<B: Lockstep + Drop, H: Drop>(
     inputs: &[Timed],
 ) -> bool
     ensures tells { Tells
-        (EachOf SECTORS (λ sector. IsGood B.state B.machine (over_records world.old) single.now inputs.now (address_at drive track sector)))
-        (SomeOf SECTORS (λ sector. IsBad B.state B.machine (over_records world.old) single.now inputs.now (address_at drive track sector)))
+        (EachOf SECTORS (λ sector. IsGood B.state B.copied B.machine (over_records world.old) single.now inputs.now (address_at drive track sector)))
+        (SomeOf SECTORS (λ sector. IsBad B.state B.copied B.machine (over_records world.old) single.now inputs.now (address_at drive track sector)))
         result }
     ensures unchanged { over_records world.new ≡ over_records world.old }
 {
@@ -154,15 +155,15 @@ fn has_track<B: Lockstep + Drop, H: Drop>(
     true
 }
 
-fn has_sector<B: Lockstep + Drop, H: Drop>(
+fn has_sector<B: Copies<H> + Drop, H: Drop>(
     world: &mut World<B, Disk, H>,
     single: &Single,
     address: SectorAddress,
     inputs: &[Timed],
 ) -> bool
     ensures tells { Tells
-        (IsGood B.state B.machine (over_records world.old) single.now inputs.now address)
-        (IsBad B.state B.machine (over_records world.old) single.now inputs.now address)
+        (IsGood B.state B.copied B.machine (over_records world.old) single.now inputs.now address)
+        (IsBad B.state B.copied B.machine (over_records world.old) single.now inputs.now address)
         result }
     ensures unchanged { over_records world.new ≡ over_records world.old }
 {

@@ -7,7 +7,7 @@ ghost use Rattle.pair_check.specs.Disks.{over_records};
 
 use disk_dcdd::SectorAddress;
 use ft_world::World;
-use guest_board::Lockstep;
+use clone_state::Copies;
 use i8080_words::{Fault, R};
 use shared_disk::{FailOnce, MemoryStore, SectorRead};
 
@@ -17,12 +17,12 @@ pub type Disk = FailOnce<MemoryStore>;
 /// What a sector of a pair's disk has. A device that fails is asked once more: it fails only once. `Unknown` if the disk
 /// has no such sector.
 #[tactic(auto, using(crate::proofs::Disks::only_counts, crate::proofs::Disks::disk_over, crate::proofs::Disks::not_there, crate::proofs::Disks::not_twice))]
-pub fn sector_of<B: Lockstep + Drop, H: Drop>(
+pub fn sector_of<B: Copies<H> + Drop, H: Drop>(
     world: &mut World<B, Disk, H>,
     address: SectorAddress,
 ) -> R<SectorRead>
     ensures ok { IfOk result (λ read. (c : Course B.State)
-        → Shows B.state B.machine (λ records. records) (over_records world.old) c
+        → Shows B.state B.copied B.machine (λ records. records) (over_records world.old) c
         → IsSectorOf (machine_of B.machine c) c.world address read) }
     ensures missing { OnErr result (IsThere (over_records world.old).disk address → ⊥) }
     ensures unchanged { over_records world.new ≡ over_records world.old }

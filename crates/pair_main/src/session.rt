@@ -17,7 +17,8 @@ use crate::report::Report;
 use disk_dcdd::SectorWrite;
 use event_callbacks::{Callbacks, Completes, PORTS};
 use ft_world::{Message, NodeStatus, World};
-use guest_board::{Board, Lockstep, Setup};
+use clone_state::Copies;
+use guest_board::{Board, Setup};
 use i8080_words::{Fault, R};
 use pair_check::{Disk, Verdict, compare};
 use pair_events::{Answer, Event};
@@ -65,7 +66,7 @@ pub fn run<
 }
 
 // Compares a pair with the single machine of its setup, and prints the verdict.
-fn check<B: Lockstep + Drop, H: Drop, O: Write + Drop>(
+fn check<B: Copies<H> + Drop, H: Drop, O: Write + Drop>(
     alloc: Global,
     world: &mut World<B, Disk, H>,
     setup: &Setup,
@@ -73,7 +74,7 @@ fn check<B: Lockstep + Drop, H: Drop, O: Write + Drop>(
     report: &mut Report,
     writer: &mut O,
 ) -> Result<(), Failure>
-    ensures verdict { (c : Course B.State) → Shows B.state B.machine records_in world.old c
+    ensures verdict { (c : Course B.State) → Shows B.state B.copied B.machine records_in world.old c
         → PrintsVerdict (IsVerdictOn (altair setup.now (boot_sectors sectors.now)) setup.now.drives
         (machine_of B.machine c) c.world world.old.disk.store) result
         (handed (O.contents writer.old) report.old) (handed (O.contents writer.new) report.new) }
@@ -128,7 +129,7 @@ fn boot<T: Completes + Drop + Copy, S: Completes + Drop + Copy, W: Completes + D
 }
 
 // Makes every event happen, and answers nothing.
-fn run_silently<B: Lockstep + Drop, H: Drop>(
+fn run_silently<B: Copies<H> + Drop, H: Drop>(
     alloc: Global,
     world: &mut World<B, Disk, H>,
     lines: &[Line],
@@ -141,7 +142,7 @@ fn run_silently<B: Lockstep + Drop, H: Drop>(
 }
 
 // Answers one line after another. What was answered is written before guests run for long.
-fn answer_each<B: Lockstep + Drop, H: Drop, O: Write + Drop>(
+fn answer_each<B: Copies<H> + Drop, H: Drop, O: Write + Drop>(
     alloc: Global,
     world: &mut World<B, Disk, H>,
     lines: &[Line],
@@ -170,7 +171,7 @@ fn turns_of(line: Line) -> u64 {
 
 // Answers a line.
 #[tactic(auto, using(crate::proofs::Handing::answered))]
-fn answer<B: Lockstep + Drop, H: Drop, O: Write + Drop>(
+fn answer<B: Copies<H> + Drop, H: Drop, O: Write + Drop>(
     alloc: Global,
     world: &mut World<B, Disk, H>,
     line: Line,
@@ -193,7 +194,7 @@ fn answer<B: Lockstep + Drop, H: Drop, O: Write + Drop>(
 }
 
 // What a query finds.
-fn find<'a, B: Lockstep + Drop, H: Drop>(world: &'a World<B, Disk, H>, query: Query) -> Answer<'a> {
+fn find<'a, B: Copies<H> + Drop, H: Drop>(world: &'a World<B, Disk, H>, query: Query) -> Answer<'a> {
     match query {
         Query::Show { port } if (port as usize) < PORTS => Answer::Accepted {
             port,

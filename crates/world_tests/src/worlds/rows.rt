@@ -9,7 +9,8 @@ use crate::worlds::shown::shown;
 use disk_dcdd::{SECTOR_BYTES, SectorAddress, SectorWrite};
 use event_callbacks::{Callbacks, Completes, plain_completions};
 use ft_world::{Message, NodeStatus, World};
-use guest_board::{Board, Lockstep, Setup};
+use clone_state::Copies;
+use guest_board::{Board, Setup};
 use guest_trace::Timed;
 use i8080_words::{Fault, R};
 use pair_events::Role;
@@ -135,7 +136,7 @@ pub(crate) fn boot<
 
 /// Each event happens and has this answer. If memory is refused, at most once, the world shows what it did before, and
 /// the same event is asked for again and then has this answer.
-pub(crate) fn happen<B: Lockstep + Drop, D: SectorStore, H: Drop>(
+pub(crate) fn happen<B: Copies<H> + Drop, D: SectorStore, H: Drop>(
     rt: &impl Abort,
     alloc: Global,
     world: &mut World<B, D, H>,
@@ -168,7 +169,7 @@ pub(crate) fn sent_in(message: Option<&Message>) -> Sent<'_> {
 }
 
 /// A world ends like this. It has two nodes and one drive, and its generation is the first.
-pub(crate) fn stands<B: Lockstep + Drop, D: SectorStore, H: Drop>(
+pub(crate) fn stands<B: Copies<H> + Drop, D: SectorStore, H: Drop>(
     rt: &impl Abort,
     world: &mut World<B, D, H>,
     end: &End,

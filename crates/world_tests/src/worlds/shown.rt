@@ -4,7 +4,7 @@
 use crate::worlds::rows::{Sent, sent_in};
 use disk_dcdd::SectorAddress;
 use ft_world::{NodeStatus, World};
-use guest_board::Lockstep;
+use clone_state::Copies;
 use guest_trace::{Bare, Timed};
 use pair_events::Role;
 use shared_disk::SectorStore;
@@ -65,7 +65,7 @@ fn with_message(mix: u64, sent: Sent<'_>) -> u64 {
     }
 }
 
-fn with_messages<B: Lockstep + Drop, D: SectorStore, H: Drop>(
+fn with_messages<B: Copies<H> + Drop, D: SectorStore, H: Drop>(
     mix: u64,
     world: &World<B, D, H>,
 ) -> u64 {
@@ -77,7 +77,7 @@ fn with_messages<B: Lockstep + Drop, D: SectorStore, H: Drop>(
 }
 
 // The sectors of the first track of drive 0.
-fn with_disk<B: Lockstep + Drop, D: SectorStore, H: Drop>(
+fn with_disk<B: Copies<H> + Drop, D: SectorStore, H: Drop>(
     mix: u64,
     world: &mut World<B, D, H>,
 ) -> u64 {
@@ -97,7 +97,7 @@ fn with_disk<B: Lockstep + Drop, D: SectorStore, H: Drop>(
 }
 
 /// What the world shows: terminals, nodes, the winner, what is settled, messages, and the disk.
-pub(crate) fn shown<B: Lockstep + Drop, D: SectorStore, H: Drop>(
+pub(crate) fn shown<B: Copies<H> + Drop, D: SectorStore, H: Drop>(
     world: &mut World<B, D, H>,
 ) -> u64 {
     let mut mix = with_disk(0, world);

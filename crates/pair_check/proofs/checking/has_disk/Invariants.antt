@@ -10,5 +10,5 @@ abbrev pub invariant-loop-drive : goal.invariant-loop-drive
 invariant-loop-drive g l = record {
   same : over_records l.world ≡ over_records l.fn.world;
   good : EachOf l.drive (λ drive. EachOf TRACKS (λ track. EachOf SECTORS
-      (λ sector. IsGood g.B.Lockstep.state g.B.Lockstep.machine (over_records l.fn.world) l.single l.inputs (address_at drive track sector))));
+      (λ sector. IsGood g.B.Lockstep.state g.B.Copies.copied g.B.Lockstep.machine (over_records l.fn.world) l.single l.inputs (address_at drive track sector))));
 }

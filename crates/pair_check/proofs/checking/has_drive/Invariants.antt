@@ -9,5 +9,5 @@ abbrev pub invariant-loop-track : goal.invariant-loop-track
 invariant-loop-track g l = record {
   same : over_records l.world ≡ over_records l.fn.world;
   good : EachOf l.track (λ track. EachOf SECTORS
-      (λ sector. IsGood g.B.Lockstep.state g.B.Lockstep.machine (over_records l.fn.world) l.single l.inputs (address_at l.drive track sector)));
+      (λ sector. IsGood g.B.Lockstep.state g.B.Copies.copied g.B.Lockstep.machine (over_records l.fn.world) l.single l.inputs (address_at l.drive track sector)));
 }

@@ -8,5 +8,5 @@ abbrev pub invariant-loop-sector : goal.invariant-loop-sector
 invariant-loop-sector g l = record {
   same : over_records l.world ≡ over_records l.fn.world;
   good : EachOf l.sector
-      (λ sector. IsGood g.B.Lockstep.state g.B.Lockstep.machine (over_records l.fn.world) l.single l.inputs (address_at l.drive l.track sector));
+      (λ sector. IsGood g.B.Lockstep.state g.B.Copies.copied g.B.Lockstep.machine (over_records l.fn.world) l.single l.inputs (address_at l.drive l.track sector));
 }

@@ -17,10 +17,10 @@ returns-then-has_output-clause-answer g c = λ course shows.
     (sector_at c.args.single.now.disk) c.has_disk.result
     ((c.has_output.ensures course shows).0 c.if-has_output.true)
     (λ all. λ drive d. λ track t. λ sector s. c.has_disk.ensures.tells.yes all drive d track t sector s course
-    (shows_records g.B.Lockstep.state g.B.Lockstep.machine c.args.world.now course shows))
-    (λ some. some_bad g.B.Lockstep.state g.B.Lockstep.machine (over_records c.args.world.now) c.args.single.now
+    (shows_records g.B.Lockstep.state g.B.Copies.copied g.B.Lockstep.machine c.args.world.now course shows))
+    (λ some. some_bad g.B.Lockstep.state g.B.Copies.copied g.B.Lockstep.machine (over_records c.args.world.now) c.args.single.now
     c.args.inputs.now c.args.drives course
-    (shows_records g.B.Lockstep.state g.B.Lockstep.machine c.args.world.now course shows)
+    (shows_records g.B.Lockstep.state g.B.Copies.copied g.B.Lockstep.machine c.args.world.now course shows)
     (c.has_disk.ensures.tells.no some))
 
 pub returns-else-has_output-clause-answer : goal.returns-else-has_output-clause-answer
