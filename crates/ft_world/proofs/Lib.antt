@@ -27,7 +27,6 @@ pub mod Hosting
 pub mod DiskReads
 pub mod Refusing
 pub mod Settling
-pub mod Generations
 pub mod Growing
 pub mod Running
 pub mod Lending

@@ -7,5 +7,6 @@ pub mod ReadsKept
 pub mod Joining
 pub mod OneMore
 pub mod Runs
+pub mod Lists
 pub mod Growth
 pub mod Scripts

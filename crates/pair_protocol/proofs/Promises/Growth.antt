@@ -1,25 +1,22 @@
--- What is settled grows with each event. The list of a new winner begins with what was settled before: only a suspicion
--- makes a winner, it does so in the highest generation, and the winner settles from then on.
-use Rattle.std.proofs.Common.{[], ◌++◌, ◌∙◌, ◌∷◌, ◌≡◌, ◌⊎◌, Bool, List, None, Some, ap, append-nil, append_assoc, cond, eqb-true, false, inl, inr, max, refl, subst, suc, sym, true, zero, ℕ}
+-- What is settled grows with each action, and so with each event. The list of a new winner begins with what was settled
+-- before: a winner is made in the highest generation, it settles at once, and its list only gets longer.
+use Rattle.std.proofs.Common.{[], ◌++◌, ◌∙◌, ◌∷◌, ◌≡◌, ◌⊎◌, Bool, List, None, Option, Some, ap, append-nil, append_assoc, cond, eqb-true, false, inl, inr, max, refl, subst, suc, sym, true, zero, ℕ}
 use Rattle.std.specs.Prelude.{◌==◌, slice_get, slice_set}
-use Rattle.pair_protocol.proofs.Words.{Change, Changes, Copying, IsCopying, IsPrefix, Lawful, Machine, Node, Reached, Role, Settled, Settles, Spare, Stays, Then, Timed, Winner, World, highest, list_of, winner_in, wins, with_winner, won_role}
-use Rattle.i8080_words.specs.declared.refusal.Fault.TheVariants.{Lost}
-use Rattle.i8080_words.specs.declared.refusal.Fault.{Fault}
+use Rattle.pair_protocol.proofs.Words.{Change, Changes, Copying, IsCopying, IsPrefix, Lawful, Machine, Node, Reached, Role, Settled, Settles, Spare, Stays, Then, Timed, Winner, World, highest, inputs, list_of, steps, winner_in, wins, with_winner, won_role}
 use Rattle.pair_protocol.specs.Change.{Wins}
-use Rattle.pair_protocol.specs.Event.{Acknowledge, DeliverAcknowledgement, DeliverLog, Drain, Event, GetReply, PartComes, PutReply, Release, Replay, Reply, Send, SendPart, Step, Stop, Suspect, TakeKey, TellSent}
+use Rattle.pair_protocol.specs.Event.{Event, Reply}
 use Rattle.pair_protocol.specs.Grows.{Grows}
-use Rattle.pair_protocol.specs.Refusals.{refusal}
-use Rattle.pair_protocol.specs.Row.{Accepts, DeviceFails, Leaves, Refuses, Row, NeedsMemory}
-use Rattle.pair_protocol.specs.Rows.{Does, Suspects}
+use Rattle.pair_protocol.specs.Row.{Row}
 use Rattle.pair_protocol.proofs.Invariant.Acting.{Acting, BackupActs, BackupAtTop, BackupEarlier, PrimaryActs, PrimaryAtTop, PrimaryEarlier, acting}
-use Rattle.pair_protocol.proofs.Invariant.{BackupWon, Inv, LineOf, PrimaryWon, Stage, Undecided, settled, winner_at}
+use Rattle.pair_protocol.proofs.Invariant.{BackupWon, Inv, LineOf, Next, PrimaryWon, Stage, Undecided, settled, winner_at}
 use Rattle.pair_protocol.proofs.Keeps.All.{keep}
 use Rattle.pair_protocol.proofs.Keeps.Arbiter.{winner-longer}
 use Rattle.pair_protocol.proofs.Promises.Faithful.{extends, grows_by, reached}
+use Rattle.pair_protocol.proofs.Promises.Lists.{changes_longer}
 use Rattle.pair_protocol.proofs.Promises.Runs.{keep_all}
-use Rattle.pair_protocol.proofs.Promises.Settling.{highest_is, settles_trace}
-use Rattle.pair_protocol.proofs.RowActions.{asks_no_spare, row_changes, suspect_wins}
-use Rattle.pair_protocol.proofs.Traces.Lists.{get_set, same_some}
+use Rattle.pair_protocol.proofs.Promises.Settling.{highest_is, settled_is, settles_trace}
+use Rattle.pair_protocol.proofs.RowActions.{row_changes}
+use Rattle.pair_protocol.proofs.Traces.Lists.{get_set, prefix-trans, same_some}
 
 module _ {S : Type 0} (M : Machine S) (C : Copying S) where
   -- ---- winners
@@ -125,77 +122,76 @@ won_list {S} M C laws copies w i n x h ns none c list count g m y settled before
     won : Winner
     won = record { generation = x.generation; node = n }
 
--- ---- rows
+-- ---- any number of actions
 
--- every event except a suspicion leaves the winners as they are
-abbrev IsSuspicion : Event → Type 0
-IsSuspicion (Suspect n) = Unit {0}
-IsSuspicion e = ⊥
+-- an action makes a winner: its list begins with what was settled before
+record Winner_is {S : Type 0} (M : Machine S) (w new : World S) (m : ℕ) : Type 0 where
+  x : Node S
+  there : slice_get new.nodes m ≡ Some x
+  begins : (list : List Timed) (count : ℕ) → Settled M w list count → IsPrefix list (list_of x x.role)
 
-does_winners : {S : Type 0} (M : Machine S) (C : Copying S) (w : World S) (e : Event) (r : Reply) (new : World S) →
-    (IsSuspicion e → ⊥) → Does M C w e r new → new.winners ≡ w.winners
-does_winners M C w (Step n turns) r new h d = ap (λ v. v.winners) d.at.after
-does_winners M C w (TakeKey n port index) r new h d = ap (λ v. v.winners) d.input.at.after
-does_winners M C w (Send n index) r new h d = ap (λ v. v.winners) d.says.after
-does_winners M C w (DeliverLog m n) r new h d = ap (λ v. v.winners) d.at.after
-does_winners M C w (Acknowledge n) r new h d = ap (λ v. v.winners) d.says.after
-does_winners M C w (DeliverAcknowledgement m n) r new h d = ap (λ v. v.winners) d.at.after
-does_winners M C w (Replay n turns) r new h d = ap (λ v. v.winners) d.at.after
-does_winners M C w (Release n name) r new h d = ap (λ v. v.winners) d.says.after
-does_winners M C w (TellSent n port k) r new h d = ap (λ v. v.winners) d.at.after
-does_winners M C w (Stop n) r new h d = ap (λ v. v.winners) d.at.after
-does_winners M C w (Suspect n) r new h d = absurd (h tt)
-does_winners M C w (Drain n turns) r new h d = ap (λ v. v.winners) d.at.after
-does_winners M C w (PutReply m n) r new h d = ap (λ v. v.winners) d.input.at.after
-does_winners M C w (GetReply m n) r new h d = ap (λ v. v.winners) d.input.at.after
-does_winners M C w (SendPart n index) r new h d = ap (λ v. v.winners) d.says.after
-does_winners M C w (PartComes m n) r new h d = ap (λ v. v.winners) d.at.after
-does_winners M C w e r new h d = ap (λ v. v.winners) d.after
+change_wins : {S : Type 0} (M : Machine S) (C : Copying S) → Lawful M → IsCopying M C → (w new : World S) → Inv M C w →
+    Change M C w new → (g m : ℕ) → winner_in w.winners g ≡ None → winner_in new.winners g ≡ Some m →
+    Winner_is M w new m
+change_wins {S} M C laws copies w new i (Wins n x role acts nj ns none) g m before after =
+    let a = winner_added w.winners (record { generation = x.generation; node = n }) g m before after in
+    let there = subst (λ k. slice_get (slice_set w.nodes n (wins x)) k ≡ Some (wins x)) a.1
+    (get_set w.nodes n x (wins x) acts.there) in
+    record {
+      x = wins x;
+      there = there;
+      begins = λ list count settled.
+          won_list M C laws copies w i n x acts.there (λ k. ns (sym acts.role_is ∙ k)) none
+          (Wins n x role acts nj ns none) list count g m (wins x) settled before after there;
+    }
+change_wins M C laws copies w new i c g m before after = absurd (cc)
 
-leaves_winners : {S : Type 0} (w : World S) (e : Event) (fault : Fault) (new : World S) → Leaves w e fault new →
-    new.winners ≡ w.winners
-leaves_winners w (Suspect n) Lost new d = ap (λ v. v.winners) d.after
-leaves_winners w e fault new d = ap (λ v. v.winners) d
-
--- if the winners stay, nobody wins
-nobody_wins : {S : Type 0} (M : Machine S) (w new : World S) → new.winners ≡ w.winners → WonList M w new
-nobody_wins M w new e list count g m y settled before after there = let k = ap (λ ws. winner_in ws g) e in (cc)
-
-suspicion : (e : Event) → (IsSuspicion e → ⊥) ⊎ ((n : ℕ) × (e ≡ Suspect n))
-suspicion (Suspect n) = inr (n, refl)
-suspicion e = inl (λ h. h)
-
-asks_won : {S : Type 0} (M : Machine S) (C : Copying S) → Lawful M → IsCopying M C →
-    (w new : World S) (n : ℕ) (r : Reply) → Inv M C w → refusal M C w (Suspect n) ≡ None → Suspects w n r new →
+-- one action, and more after it that make such winners
+wins_later : {S : Type 0} (M : Machine S) (C : Copying S) (laws : Lawful M) (copies : IsCopying M C) (w v new : World S)
+    (i : Inv M C w) (c : Change M C w v) (cs : Changes M C v new) (next : Next M C i.trace v) → WonList M v new →
     WonList M w new
-asks_won M C laws copies w new n r i p d = elim d.after [
-  | inl h ↦ subst (λ v. WonList M w v) (sym h.1)
-      (won_list M C laws copies w i n d.x d.there (asks_no_spare M C w n d.x d.there p) h.0
-      (suspect_wins M C w n d.x d.there p h.0))
-  | inr h ↦ nobody_wins M w new (ap (λ v. v.winners) h.1)
-]
-
-row_won : {S : Type 0} (M : Machine S) (C : Copying S) → Lawful M → IsCopying M C →
-    (w new : World S) (e : Event) (r : Reply) → Inv M C w → Row M C w e r new → WonList M w new
-row_won {S} M C laws copies w new e r i (Accepts p d) = go (suspicion e)
+wins_later {S} M C laws copies w v new i c cs next rest list count g m y settled before after there =
+    go (winner_in v.winners g) refl
   where
-    go : (IsSuspicion e → ⊥) ⊎ ((n : ℕ) × (e ≡ Suspect n)) → WonList M w new
-    go (inl h) = nobody_wins M w new (does_winners M C w e r new h d)
-    go (inr h) = asks_won M C laws copies w new h.0 r i (subst (λ z. refusal M C w z ≡ None) h.1 p)
-        (subst (λ z. Does M C w z r new) h.1 d)
-row_won M C laws copies w new e r i (Refuses {fault = fault} p d) = nobody_wins M w new (leaves_winners w e fault new d)
-row_won M C laws copies w new e r i (DeviceFails p d) = nobody_wins M w new refl
-row_won M C laws copies w new e r i (NeedsMemory p d) = nobody_wins M w new refl
+    go : (o : Option ℕ) → winner_in v.winners g ≡ o → IsPrefix list (list_of y y.role)
+    go None e =
+        let T = next.inv.trace in
+        let s = settled_is M C v next.inv in
+        let x = grows_by M C w v i next.inv next.grows list count (inputs 0 T) (steps T) settled s in
+        prefix-trans list (inputs 0 T) (list_of y y.role) (x.added, x.goes_on)
+        (rest (inputs 0 T) (steps T) g m y s e after there)
+    go (Some k) e =
+        let more = winners_all M C v new cs in
+        let still : winner_in new.winners g ≡ Some k =
+        subst (λ ws. winner_in ws g ≡ Some k) (sym more.1) (winner-longer v.winners more.0 g k e) in
+        let won = change_wins M C laws copies w v i c g m before
+        (e ∙ ap Some (same_some k m (winner_in new.winners g) still after)) in
+        let later = changes_longer M C v new cs m won.x won.there in
+        let is : later.y ≡ y = same_some later.y y (slice_get new.nodes m) later.there there in
+        prefix-trans list (list_of won.x won.x.role) (list_of y y.role) (won.begins list count settled)
+        (subst (λ (z : Node S). IsPrefix (list_of won.x won.x.role) (list_of z z.role)) is later.longer)
 
-pub row_grows : {S : Type 0} (M : Machine S) (C : Copying S) → Lawful M → IsCopying M C →
-    (w new : World S) (e : Event) (r : Reply) → Reached M C w → Row M C w e r new → Grows M w new
-row_grows M C laws copies w new e r h row =
+changes_win : {S : Type 0} (M : Machine S) (C : Copying S) → Lawful M → IsCopying M C → (w new : World S) → Inv M C w →
+    Changes M C w new → WonList M w new
+changes_win M C laws copies w new i Stays list count g m y settled before after there = (cc)
+changes_win {S} M C laws copies w new i (Then {mid = v} c cs) list count g m y settled before after there =
+    let next = keep M C laws copies w v i c in
+    wins_later M C laws copies w v new i c cs next (changes_win M C laws copies v new next.inv cs) list count g m y settled
+    before after there
+
+pub changes_grow : {S : Type 0} (M : Machine S) (C : Copying S) → Lawful M → IsCopying M C → (w new : World S) →
+    Reached M C w → Changes M C w new → Grows M w new
+changes_grow M C laws copies w new h c =
     let i = reached M C laws copies w h in
-    let c = row_changes M C w new e r row in
     let k = keep_all M C laws copies w new i c in
     record {
       settled = grows_by M C w new i k.inv k.grows;
       winners = λ g n h. (let v = winners_all M C w new c in
           subst (λ ws. winner_in ws g ≡ Some n) (sym v.1) (winner-longer w.winners v.0 g n h));
-      won = row_won M C laws copies w new e r i row;
+      won = changes_win M C laws copies w new i c;
     }
+
+pub row_grows : {S : Type 0} (M : Machine S) (C : Copying S) → Lawful M → IsCopying M C →
+    (w new : World S) (e : Event) (r : Reply) → Reached M C w → Row M C w e r new → Grows M w new
+row_grows M C laws copies w new e r h row =
+    changes_grow M C laws copies w new h (row_changes M C w new e r row)
