@@ -17,3 +17,4 @@ pub mod PassedChecks
 pub mod KeptParts
 pub mod BegunPairs
 pub mod PartsThatCome
+pub mod JoiningParts
