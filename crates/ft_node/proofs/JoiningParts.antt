@@ -1,10 +1,10 @@
 -- The bytes of a part come to a joining node. What the code answers and leaves is said in words of the part that they
 -- spell, and then each lemma of `PartsThatCome` gives the call's answer: a refusal, a repeat, a new part, or the last one,
 -- with which the guest is made, or which is taken back.
-use Rattle.std.proofs.Common.{◌≡◌, ℕ, ◌<◌, Bool, true, false, cond, ◌==◌, ◌&&◌, Option, Some, None, is_some, List, [], Result, Ok, Err, refl, sym, ap, subst, ◌∙◌}
-use Rattle.std.specs.Prelude.{OnErr, slice_set}
+use Rattle.std.proofs.Common.{◌≡◌, ℕ, ◌<◌, Bool, true, false, Option, Some, None, is_some, List, [], Result, Ok, Err, refl, sym, ap, subst, ◌∙◌}
+use Rattle.std.specs.Prelude.{OnErr}
 use Rattle.clone_state.specs.Assembly as table
-use Rattle.clone_state.specs.Assembly.{Gathering, after_forgetting, after_part, answer_to, is_missing, is_whole, machine_in, part_answer, with_part, without_part}
+use Rattle.clone_state.specs.Assembly.{Gathering, after_forgetting, after_part, answer_to, is_whole, machine_in, part_answer, with_part, without_part}
 use Rattle.clone_state.specs.Copies.{CopiesAs, refused_as}
 use Rattle.clone_state.specs.Laws.{IndexesAreWithin}
 use Rattle.clone_state.specs.Parts.{PartMessage, guest_in, message_at}
@@ -23,26 +23,10 @@ use Rattle.ft_node.specs.declared.node.Node as code
 use Rattle.ft_node.specs.declared.node.Node.TheVariants as seat
 use Rattle.ft_node.specs.declared.ran.PartCame.{PartCame}
 use Rattle.ft_node.specs.declared.ran.PartCame.TheVariants as reply
+use Rattle.ft_node.proofs.Gatherings.{drives_stay, generation_stays}
 use Rattle.ft_node.proofs.PartsThatCome as parts
 
--- ---- what a part leaves of an assembly
-
-generation_stays : (g : Gathering) (o : Option PartMessage) → (with_part g o).generation ≡ g.generation
-generation_stays g None = refl
-generation_stays g (Some m) = by (m.generation == g.generation && is_missing g m.index)
-  where
-    by : (b : Bool) → (cond b (record g { slots = slice_set g.slots m.index (Some m.payload) }) g).generation
-        ≡ g.generation
-    by true = refl
-    by false = refl
-
-drives_stay : (g : Gathering) (o : Option PartMessage) → (with_part g o).drives ≡ g.drives
-drives_stay g None = refl
-drives_stay g (Some m) = by (m.generation == g.generation && is_missing g m.index)
-  where
-    by : (b : Bool) → (cond b (record g { slots = slice_set g.slots m.index (Some m.payload) }) g).drives ≡ g.drives
-    by true = refl
-    by false = refl
+-- ---- all parts
 
 all_there : (o : Option (List (List ℕ))) → is_some o ≡ true → (payloads : List (List ℕ)) × (o ≡ Some payloads)
 all_there None e = absurd cc
@@ -80,7 +64,20 @@ module _ (drives : ℕ) (j : Joined) (of_drives : j.gathering.drives ≡ drives)
       ∙ taken_from (with_part j.gathering o) (drives_stay j.gathering o ∙ of_drives)
       ∙ parts.taken_back_stays j.gathering o (answered (Ok true) new)
 
--- so a node that can't be made a backup is as it was
+-- a refused part leaves a node as it was
+pub refused_stays : {B H : Type 0} (j k : Joined) (bytes : List ℕ) (fault : Fault)
+    → k ≡ record j { gathering = after_part j.gathering bytes } → Err fault ≡ part_answer j.gathering bytes
+    → ◌≡◌ {A = code.Node B H} (seat.Joining k) (seat.Joining j)
+refused_stays j k bytes fault same refused =
+    let drives = j.gathering.drives in
+    let answer = answered drives j refl bytes (Err fault) refused in
+    let stays : k ≡ j =
+    same
+    ∙ ap (λ (g : Gathering). record j { gathering = g })
+    (left drives j refl bytes ∙ parts.refused_stays j.gathering (message_at drives bytes) fault answer) in
+    ap (λ (j : Joined). seat.Joining j) stays
+
+-- and so does one that is taken back
 pub unchanged : {B H : Type 0} (copied : B → Guest) (j k : Joined) (bytes : List ℕ)
     → k ≡ record j { gathering = after_part j.gathering bytes } → Ok true ≡ part_answer j.gathering bytes
     → (r : Result PartCame Fault) (n : code.Node B H) → Becomes copied bytes k r n → OnErr r (n ≡ seat.Joining j)

@@ -12,9 +12,11 @@ pub mod FollowerLog
 pub mod Deliveries
 pub mod LastMoves
 pub mod EmptyNodes
+pub mod Halting
 pub mod Inputs
 pub mod PassedChecks
 pub mod KeptParts
 pub mod BegunPairs
+pub mod Gatherings
 pub mod PartsThatCome
 pub mod JoiningParts

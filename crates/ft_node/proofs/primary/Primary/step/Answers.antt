@@ -47,4 +47,7 @@ returns-clause-answer g c = λ C x p.
     ∙ ap (noted c.args.self.now.coverage c.in_ok-steps.field-0.reason) (c.next-mark.ensures ∙ ap next_of c.log-2.ensures))
 
 pub returns-in_err-steps-clause-unchanged : goal.returns-in_err-steps-clause-unchanged
-returns-in_err-steps-clause-unchanged g c = ?
+returns-in_err-steps-clause-unchanged g c =
+    let is : c.advance.new.self ≡ c.args.self.now.recorder = c.in_err-steps.ensures.unchanged in
+    let k = c.from_residual.ensures.0 in
+    ?
