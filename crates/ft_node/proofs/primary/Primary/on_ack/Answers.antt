@@ -1,5 +1,6 @@
 -- The coverage, the log and the sender all know the acknowledged number.
-use Rattle.std.proofs.Common.{None, ap, refl, ◌∙◌}
+use Rattle.std.proofs.Common.{None, ap, refl, ◌∙◌, arith}
+use Rattle.std.proofs.lemmas.Grind.{common_steps}
 use Rattle.log_buffer.specs.Log.{Log, next_of}
 use Rattle.log_channel.specs.Channel.{ack_answer}
 use Rattle.log_channel.specs.Packet.{packet_at}
@@ -19,4 +20,4 @@ returns-clause-answer g c = λ C x p.
     ∙ ap (λ (l : Log). ack_answer sender (next_of l) (packet_at c.args.bytes.now)) c.log.ensures))
 
 pub returns-in_err-covered-clause-unchanged : goal.returns-in_err-covered-clause-unchanged
-returns-in_err-covered-clause-unchanged g c = ?
+returns-in_err-covered-clause-unchanged g c = grind (arith, common_steps)

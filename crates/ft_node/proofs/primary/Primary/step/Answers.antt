@@ -1,5 +1,5 @@
 -- A run of the recorder is a run of the protocol's node, and what it gives is noted.
-use Rattle.std.proofs.Common.{ap, subst, ◌∙◌}
+use Rattle.std.proofs.Common.{ap, subst, ◌∙◌, rules}
 use Rattle.std.proofs.lemmas.Result.{err_from_is_err_and}
 use Rattle.log_buffer.specs.Log.{IsWithinLimits, next_of}
 use Rattle.ft_node.specs.Noting.{noted}
@@ -47,7 +47,4 @@ returns-clause-answer g c = λ C x p.
     ∙ ap (noted c.args.self.now.coverage c.in_ok-steps.field-0.reason) (c.next-mark.ensures ∙ ap next_of c.log-2.ensures))
 
 pub returns-in_err-steps-clause-unchanged : goal.returns-in_err-steps-clause-unchanged
-returns-in_err-steps-clause-unchanged g c =
-    let is : c.advance.new.self ≡ c.args.self.now.recorder = c.in_err-steps.ensures.unchanged in
-    let k = c.from_residual.ensures.0 in
-    ?
+returns-in_err-steps-clause-unchanged g c = search rules
