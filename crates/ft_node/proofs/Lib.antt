@@ -6,6 +6,7 @@ pub mod ServingSteps
 pub mod PrimarySteps
 pub mod PrimaryAcknowledged
 pub mod PrimaryReleases
+pub mod SamePrimary
 pub mod AloneSteps
 pub mod FollowerMoves
 pub mod FollowerLog

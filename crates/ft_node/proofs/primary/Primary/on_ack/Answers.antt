@@ -1,11 +1,11 @@
 -- The coverage, the log and the sender all know the acknowledged number.
-use Rattle.std.proofs.Common.{None, ap, refl, ◌∙◌, arith}
-use Rattle.std.proofs.lemmas.Grind.{common_steps}
+use Rattle.std.proofs.Common.{None, ap, refl, ◌∙◌}
 use Rattle.log_buffer.specs.Log.{Log, next_of}
 use Rattle.log_channel.specs.Channel.{ack_answer}
 use Rattle.log_channel.specs.Packet.{packet_at}
 use Rattle.ft_node.specs.Roles.{HasImage}
 use Rattle.ft_node.proofs.PrimaryAcknowledged.{ack_heard}
+use Rattle.ft_node.proofs.SamePrimary.{alike, whatever}
 use Rattle.ft_node.proofs.primary.Primary.on_ack.Goals as goal
 
 pub returns-clause-answer : goal.returns-clause-answer
@@ -20,4 +20,6 @@ returns-clause-answer g c = λ C x p.
     ∙ ap (λ (l : Log). ack_answer sender (next_of l) (packet_at c.args.bytes.now)) c.log.ensures))
 
 pub returns-in_err-covered-clause-unchanged : goal.returns-in_err-covered-clause-unchanged
-returns-in_err-covered-clause-unchanged g c = grind (arith, common_steps)
+returns-in_err-covered-clause-unchanged g c =
+    whatever c.from_residual.result
+    (alike refl c.in_err-covered.ensures.after refl refl)
