@@ -1,6 +1,6 @@
 -- An alone node that begins the next generation is its primary. Its log is empty, all that is outstanding is covered, and
 -- so are the keys that its guest has taken.
-use Rattle.std.proofs.Common.{◌≡◌, ℕ, zero, suc, ◌+◌, ◌<◌, ◌≤◌, ◌^◌, true, false, Option, Some, None, List, [], ◌∷◌, ◌++◌, length, Result, Ok, Err, refl, sym, ap, subst, ◌∙◌, arith}
+use Rattle.std.proofs.Common.{◌≡◌, ℕ, zero, suc, ◌+◌, ◌<◌, ◌≤◌, ◌^◌, true, false, Option, Some, None, List, [], ◌∷◌, ◌++◌, length, Result, Ok, Err, refl, sym, ap, subst, ◌∙◌, add-one, arith}
 use Rattle.std.specs.Prelude.{nat_le, slice_index}
 use Rattle.std.proofs.lemmas.Bool.{le-leb, lt-leb}
 use Rattle.std.proofs.lemmas.List.{append-nil}
@@ -12,8 +12,9 @@ use Rattle.guest_trace.specs.Reach.{keys}
 use Rattle.guest_trace.specs.declared.timed.Timed.{Timed}
 use Rattle.i8080_words.specs.declared.refusal.Fault.{Fault}
 use Rattle.i8080_words.specs.declared.refusal.Fault.TheVariants.{OutOfMemory, Spent, WrongRole}
-use Rattle.log_buffer.specs.Log.{log}
-use Rattle.output_rule.specs.Covering.{nothing_acknowledged}
+use Rattle.log_buffer.specs.Log.{Log, log}
+use Rattle.log_channel.specs.Channel.{Sending}
+use Rattle.output_rule.specs.Covering.{Covering, nothing_acknowledged}
 use Rattle.pair_protocol.specs.Copying.{Copying}
 use Rattle.pair_protocol.specs.Node.{Node, Alone, begun}
 use Rattle.pair_protocol.specs.Refusals.{begin_pair_refusal, fault_if, first_of, last_generation, role_refusal}
@@ -46,7 +47,7 @@ module _ {S : Type 0} (M : Machine S) (s : S) (generation : ℕ) (x : Node S) (a
     outstanding = λ name index e. absurd (none-some index e);
   }
 
-  pub is_primary : (C : Copying S) (image : ImageParts) → HasTakenKeys M x → image.generation ≡ suc generation
+  is_primary : (C : Copying S) (image : ImageParts) → HasTakenKeys M x → image.generation ≡ suc generation
       → image.parts ≡ C.parts s
       → IsPrimary M (HasImage C (suc generation) (Some image)) s (log 0 [])
       (record { generation = suc generation; held = 0 }) (nothing_acknowledged (taken_keys M s)) (begun M x)
@@ -68,6 +69,19 @@ module _ {S : Type 0} (M : Machine S) (s : S) (generation : ℕ) (x : Node S) (a
     };
   }
 
+  -- the primary that begins with such parts
+  pub is_begun : (C : Copying S) (t : S) (l : Log) (sd : Sending) (c : Covering) (kept : Option ImageParts)
+      (parts : List (List ℕ)) → HasTakenKeys M x → t ≡ s → l ≡ log 0 []
+      → sd ≡ record { generation = generation + 1; held = 0 } → c ≡ nothing_acknowledged (taken_keys M s)
+      → kept ≡ Some (record { generation = generation + 1; parts = parts }) → parts ≡ C.parts s
+      → IsPrimary M (HasImage C sd.generation kept) t l sd c (begun M x)
+  is_begun C t l sd c kept parts has board empty sender covered image is =
+      rw (board, empty, sender, covered, image)
+      (subst
+      (λ n. IsPrimary M (HasImage C n (Some (record { generation = n; parts = parts }))) s (log 0 [])
+      (record { generation = n; held = 0 }) (nothing_acknowledged (taken_keys M s)) (begun M x))
+      (sym (add-one generation)) (is_primary C (record { generation = suc generation; parts = parts }) has refl is))
+
   -- only the number of the generation refuses it
   refused_by_number : begin_pair_refusal x ≡ first_of (fault_if (nat_le last_generation generation) Spent ∷ [])
   refused_by_number =
@@ -84,11 +98,15 @@ module _ {S : Type 0} (M : Machine S) (s : S) (generation : ℕ) (x : Node S) (a
   greatest last = le-leb _ _ (omega arith)
 
   module _ (Is : Node S → Type 0) where
-    pub begins : generation + 1 < 2 ^ 32 → Is (begun M x) → BeginsPair M x (Ok (suc generation)) Is
+    pub begins : generation + 1 < 2 ^ 32 → Is (begun M x) → BeginsPair M x (Ok (generation + 1)) Is
     begins few is =
-        subst (λ r. Call {A = ℕ} r Ever (Begun M) x (Ok (suc generation)) Is)
+        subst (λ r. Call {A = ℕ} r Ever (Begun M) x (Ok (generation + 1)) Is)
         (sym (refused_by_number ∙ ap (λ b. first_of (fault_if b Spent ∷ [])) (greater few)))
-        (record { y = begun M x; done = (ap suc (sym a.generation_is), refl); after = is })
+        (record {
+          y = begun M x;
+          done = (add-one generation ∙ ap suc (sym a.generation_is), refl);
+          after = is;
+        })
 
     pub out_of_memory : generation + 1 < 2 ^ 32 → Is x → BeginsPair M x (Err OutOfMemory) Is
     out_of_memory few is =

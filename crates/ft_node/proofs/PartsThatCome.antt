@@ -275,10 +275,10 @@ module _ {S : Type 0} (C : Copying S) (drives : ℕ) (j : Joined) (x : Node S) (
         by m (Some s) false e f lasts = absurd (cc)
 
   -- with one more part it is still joining
-  pub joins_on : (g : Gathering) (m : PartMessage) → (o : Option PartMessage) → o ≡ Some m
+  pub joins_on : (m : PartMessage) (o : Option PartMessage) → o ≡ Some m
       → Ok true ≡ answer_to j.gathering o
       → IsJoining C drives (record j { gathering = with_part j.gathering o }) (gets_part x m.index m.payload)
-  joins_on g m o read answer =
+  joins_on m o read answer =
       let p = came j.gathering o true answer in
       let same : p.m ≡ m = same_Some p.m m (sym p.read ∙ read) in
       subst (λ (h : Gathering). IsJoining C drives (record j { gathering = h }) (gets_part x m.index m.payload))

@@ -138,6 +138,7 @@ fn with_part<B: Copies<H> + Drop, H: Drop>(
         → calls.GetsPart C (message_at drives bytes.now) x result.0 (IsNode B.state B.machine C drives result.1) }
     ensures unchanged { OnErr result.0 (result.1 ≡ seat.Joining joining) }
 {
+    clone_state::parts_are_read_again();
     match joining.gather(bytes) {
         Err(fault) => (Err(fault), Node::Joining(joining)),
         Ok(false) => (Ok(PartCame::Old), Node::Joining(joining)),

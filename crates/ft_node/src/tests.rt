@@ -6,7 +6,7 @@ ghost use Rattle.event_callbacks.specs.declared.devices.TheConstants.{SENT, SECT
 
 use crate::{Drained, Node, PartCame};
 use arbiter_core::{Arbiter, Won};
-use clone_state::Copies;
+use clone_state::{Assembly, Copies};
 use event_callbacks::{Callbacks, Completes, OpId, plain_completions};
 use guest_board::{Board, BoardMemory, Input, Setup};
 use i8080_words::{Fault, R};
@@ -44,7 +44,7 @@ fn a_backup_holds_what_comes_next<B: Copies<H> + Drop, H: Drop>(
     rt: &(impl Abort + AllocGlobal),
     board: B,
 ) -> R<()> {
-    let mut backup = Node::backup(rt.alloc(), board, 1);
+    let mut backup: Node<B, H> = Node::backup(rt.alloc(), board, 1);
     assert_eq!(rt;
         (backup.role(), backup.count(), backup.generation()),
         (Role::Backup, 0, 1)
@@ -74,7 +74,7 @@ fn an_entry_is_read_and_then_held<B: Copies<H> + Drop, H: Drop>(
     rt: &(impl Abort + AllocGlobal),
     board: B,
 ) -> R<()> {
-    let mut backup = Node::backup(rt.alloc(), board, 1);
+    let mut backup: Node<B, H> = Node::backup(rt.alloc(), board, 1);
     let bytes = first_packet(rt.alloc())?;
     let Some(entry) = backup.next_entry(&bytes)? else {
         panic!(rt; "the first packet brings the first entry");
@@ -89,7 +89,7 @@ fn a_primary_takes_keys_in_their_order<B: Copies<H> + Drop, H: Drop>(
     rt: &(impl Abort + AllocGlobal),
     board: B,
 ) -> R<()> {
-    let mut primary = primary(rt.alloc(), board)?;
+    let mut primary: Node<B, H> = primary(rt.alloc(), board)?;
     assert_eq!(rt; primary.key(0, 1, 0x49), Err(Fault::WrongNumber));
     assert_eq!(rt; primary.key(0, 0, 0x48), Ok(()));
     primary.check_key(0, 1)?;
@@ -106,7 +106,7 @@ fn a_primary_answers_before_its_first_step<B: Copies<H> + Drop, H: Drop>(
     board: B,
     other: B,
 ) -> R<()> {
-    let mut primary = primary(rt.alloc(), board)?;
+    let mut primary: Node<B, H> = primary(rt.alloc(), board)?;
     assert_eq!(rt;
         (primary.role(), primary.count(), primary.generation()),
         (Role::Primary, 0, 1)
@@ -122,7 +122,8 @@ fn a_primary_answers_before_its_first_step<B: Copies<H> + Drop, H: Drop>(
         primary.send_part(rt.alloc(), 0).err(),
         Some(Fault::Unknown)
     );
-    let ack = Node::backup(rt.alloc(), other, 1).ack(rt.alloc())?;
+    let backup: Node<B, H> = Node::backup(rt.alloc(), other, 1);
+    let ack = backup.ack(rt.alloc())?;
     assert_eq!(rt; primary.on_ack(&ack), Ok(0));
     assert_eq!(rt; primary.told(0), Ok(0));
     Ok(())
@@ -133,8 +134,8 @@ fn the_first_that_asks_goes_on<B: Copies<H> + Drop, H: Drop>(
     first: B,
     second: B,
 ) -> R<()> {
-    let mut primary = primary(rt.alloc(), first)?;
-    let mut backup = Node::backup(rt.alloc(), second, 1);
+    let mut primary: Node<B, H> = primary(rt.alloc(), first)?;
+    let mut backup: Node<B, H> = Node::backup(rt.alloc(), second, 1);
     let mut arbiter = Arbiter::new(rt.alloc());
     assert_eq!(rt;
         backup.replay(9),
@@ -152,7 +153,7 @@ fn the_first_that_asks_goes_on<B: Copies<H> + Drop, H: Drop>(
 
 // An alone node, which was a backup that held nothing.
 fn alone<B: Copies<H> + Drop, H: Drop>(rt: &(impl Abort + AllocGlobal), board: B) -> R<Node<B, H>> {
-    let mut node = Node::backup(rt.alloc(), board, 1);
+    let mut node: Node<B, H> = Node::backup(rt.alloc(), board, 1);
     let mut arbiter = Arbiter::new(rt.alloc());
     assert_eq!(rt; node.suspect(1, &mut arbiter), Ok(Won));
     assert_eq!(rt;
@@ -167,23 +168,70 @@ fn alone<B: Copies<H> + Drop, H: Drop>(rt: &(impl Abort + AllocGlobal), board: B
     Ok(node)
 }
 
+// A joining node for one drive, in the generation that a node has begun.
+fn joiner<B: Copies<H> + Drop, H: Drop>(
+    alloc: Global,
+    callbacks: H,
+    node: &Node<B, H>,
+) -> R<Node<B, H>> {
+    let generation = node.generation();
+    let assembly = Assembly::new(alloc, generation, 1)?;
+    Ok(Node::joining(assembly, callbacks, generation, node.count()))
+}
+
+fn only_an_alone_node_begins<B: Copies<H> + Drop, H: Drop>(
+    rt: &(impl Abort + AllocGlobal),
+    board: B,
+    callbacks: H,
+) -> R<()> {
+    let mut node: Node<B, H> = alone(rt, board)?;
+    assert_eq!(rt; node.begin(rt.alloc()), Ok(2));
+    assert_eq!(rt; node.begin(rt.alloc()), Err(Fault::WrongRole));
+    assert_eq!(rt; (node.role(), node.generation()), (Role::Primary, 2));
+    let mut joining = joiner(rt.alloc(), callbacks, &node)?;
+    assert_eq!(rt; joining.begin(rt.alloc()), Err(Fault::WrongRole));
+    assert_eq!(rt; (joining.role(), joining.generation()), (Role::Joining, 2));
+    assert_eq!(rt; joining.count(), node.count());
+    let mut arbiter = Arbiter::new(rt.alloc());
+    assert_eq!(rt; joining.suspect(2, &mut arbiter), Err(Fault::NotWhole));
+    assert_eq!(rt; joining.ack(rt.alloc()).err(), Some(Fault::WrongRole));
+    Ok(())
+}
+
+fn parts_that_do_not_belong_are_refused<B: Copies<H> + Drop, H: Drop>(
+    rt: &(impl Abort + AllocGlobal),
+    board: B,
+    callbacks: H,
+) -> R<()> {
+    let mut node: Node<B, H> = alone(rt, board)?;
+    assert_eq!(rt; node.begin(rt.alloc()), Ok(2));
+    let mut joining = joiner(rt.alloc(), callbacks, &node)?;
+    let mut part = node.send_part(rt.alloc(), 1)?;
+    assert_eq!(rt; joining.part(rt.alloc(), &part), Ok(PartCame::New));
+    // The last byte of the generation.
+    if let Some(byte) = part.get_mut(4) {
+        *byte = 3;
+    }
+    assert_eq!(rt; joining.part(rt.alloc(), &part), Err(Fault::WrongGeneration));
+    part.push(0)?;
+    assert_eq!(rt; joining.part(rt.alloc(), &part), Err(Fault::Malformed));
+    assert_eq!(rt; node.part(rt.alloc(), &part), Err(Fault::WrongRole));
+    Ok(())
+}
+
 fn a_joining_node_is_the_backup_with_the_last_part<B: Copies<H> + Drop, H: Drop>(
     rt: &(impl Abort + AllocGlobal),
     board: B,
     callbacks: H,
 ) -> R<()> {
-    let mut node = alone(rt, board)?;
+    let mut node: Node<B, H> = alone(rt, board)?;
     assert_eq!(rt; node.begin(rt.alloc()), Ok(2));
-    assert_eq!(rt; (node.role(), node.generation()), (Role::Primary, 2));
-    let mut joining = Node::joining(B::assembly(rt.alloc(), 2, 1)?, callbacks, 2, node.count());
+    let mut joining = joiner(rt.alloc(), callbacks, &node)?;
     for index in 0..333 {
         let part = node.send_part(rt.alloc(), index)?;
         assert_eq!(rt; joining.part(rt.alloc(), &part), Ok(PartCame::New));
         assert_eq!(rt; joining.part(rt.alloc(), &part), Ok(PartCame::Old));
     }
-    assert_eq!(rt; (joining.role(), joining.generation()), (Role::Joining, 2));
-    let mut arbiter = Arbiter::new(rt.alloc());
-    assert_eq!(rt; joining.suspect(2, &mut arbiter), Err(Fault::NotWhole));
     let last = node.send_part(rt.alloc(), 333)?;
     assert_eq!(rt; joining.part(rt.alloc(), &last), Ok(PartCame::Whole));
     assert_eq!(rt; joining.role(), Role::Backup);
@@ -243,8 +291,11 @@ fn each<T: Completes + Drop + Copy, S: Completes + Drop + Copy, W: Completes + D
     let other = board(alloc, Callbacks::of(sent, sector, written))?;
     the_first_that_asks_goes_on(rt, one, other)?;
     let one = board(alloc, Callbacks::of(sent, sector, written))?;
-    let callbacks = Callbacks::of(sent, sector, written);
-    a_joining_node_is_the_backup_with_the_last_part(rt, one, callbacks)
+    only_an_alone_node_begins(rt, one, Callbacks::of(sent, sector, written))?;
+    let one = board(alloc, Callbacks::of(sent, sector, written))?;
+    parts_that_do_not_belong_are_refused(rt, one, Callbacks::of(sent, sector, written))?;
+    let one = board(alloc, Callbacks::of(sent, sector, written))?;
+    a_joining_node_is_the_backup_with_the_last_part(rt, one, Callbacks::of(sent, sector, written))
 }
 
 #[test]

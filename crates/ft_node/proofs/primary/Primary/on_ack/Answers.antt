@@ -5,6 +5,7 @@ use Rattle.log_channel.specs.Channel.{ack_answer}
 use Rattle.log_channel.specs.Packet.{packet_at}
 use Rattle.ft_node.specs.Roles.{HasImage}
 use Rattle.ft_node.proofs.PrimaryAcknowledged.{ack_heard}
+use Rattle.ft_node.proofs.SamePrimary.{alike, whatever}
 use Rattle.ft_node.proofs.primary.Primary.on_ack.Goals as goal
 
 pub returns-clause-answer : goal.returns-clause-answer
@@ -19,4 +20,6 @@ returns-clause-answer g c = λ C x p.
     ∙ ap (λ (l : Log). ack_answer sender (next_of l) (packet_at c.args.bytes.now)) c.log.ensures))
 
 pub returns-in_err-covered-clause-unchanged : goal.returns-in_err-covered-clause-unchanged
-returns-in_err-covered-clause-unchanged g c = ?
+returns-in_err-covered-clause-unchanged g c =
+    whatever c.from_residual.result
+    (alike refl c.in_err-covered.ensures.after refl refl)

@@ -1,11 +1,12 @@
 -- A run of the recorder is a run of the protocol's node, and what it gives is noted.
-use Rattle.std.proofs.Common.{ap, subst, ◌∙◌}
+use Rattle.std.proofs.Common.{ap, refl, subst, ◌∙◌}
 use Rattle.std.proofs.lemmas.Result.{err_from_is_err_and}
 use Rattle.log_buffer.specs.Log.{IsWithinLimits, next_of}
 use Rattle.ft_node.specs.Noting.{noted}
 use Rattle.ft_node.proofs.PrimaryInputs.{keeps_log}
 use Rattle.ft_node.proofs.PrimaryPlaces.{place_for_note}
 use Rattle.ft_node.proofs.PrimarySteps.{steps_made, steps_not_made}
+use Rattle.ft_node.proofs.SamePrimary.{alike, whatever}
 use Rattle.ft_node.proofs.primary.Primary.step.Goals as goal
 
 pub returns-in_err-steps-clause-answer : goal.returns-in_err-steps-clause-answer
@@ -47,4 +48,5 @@ returns-clause-answer g c = λ C x p.
     ∙ ap (noted c.args.self.now.coverage c.in_ok-steps.field-0.reason) (c.next-mark.ensures ∙ ap next_of c.log-2.ensures))
 
 pub returns-in_err-steps-clause-unchanged : goal.returns-in_err-steps-clause-unchanged
-returns-in_err-steps-clause-unchanged g c = ?
+returns-in_err-steps-clause-unchanged g c =
+    whatever c.from_residual.result (alike c.in_err-steps.ensures.unchanged refl refl refl)

@@ -1,0 +1,29 @@
+-- A node that is running halts.
+use Rattle.std.proofs.Common.{◌≡◌, ℕ, Ok, ap, not, refl, true}
+use Rattle.guest_board.specs.Machine.{Machine}
+use Rattle.i8080_words.specs.declared.refusal.Fault.TheVariants.{WrongRole}
+use Rattle.pair_protocol.specs.Copying.{Copying}
+use Rattle.pair_protocol.specs.Node.{Node, halts}
+use Rattle.pair_protocol.specs.Refusals.{fault_if, stop_refusal}
+use Rattle.ft_node.specs.Calls as calls
+use Rattle.ft_node.specs.Seats.{IsNode}
+use Rattle.ft_node.specs.declared.halted.Halted.{Halted}
+use Rattle.ft_node.specs.declared.node.Node as code
+use Rattle.ft_node.specs.declared.node.Node.TheVariants as seat
+use Rattle.ft_node.proofs.PrimaryRefusals.{allowed}
+
+running : {S : Type 0} (x : Node S) (Is : Node S → Type 0) → x.running ≡ true → Is (halts x)
+    → calls.Stops x (Ok tt) Is
+running x Is up after =
+    allowed (Unit {0}) (stop_refusal x) (Ok tt) _ _ (ap (λ b. fault_if (not b) WrongRole) up)
+    (record { y = halts x; done = refl; after = after })
+
+pub halting : {B S : Type 0} {H : Type 0} (state : B → S) (M : Machine S) (C : Copying S) (drives : ℕ)
+    (node : code.Node B H) (x : Node S) (Is : Node S → Type 0) → ((h : Halted) → node ≡ seat.Halted h → ⊥)
+    → IsNode state M C drives node x → Is (halts x) → calls.Stops x (Ok tt) Is
+halting state M C drives (seat.Primary p) x Is other is after = running x Is is.up after
+halting state M C drives (seat.Backup b) x Is other is after = running x Is is.up after
+halting state M C drives (seat.Joining j) x Is other is after = running x Is is.up after
+halting state M C drives (seat.Draining d) x Is other is after = running x Is is.up after
+halting state M C drives (seat.Alone a) x Is other is after = running x Is is.up after
+halting state M C drives (seat.Halted h) x Is other is after = absurd (other h refl)
