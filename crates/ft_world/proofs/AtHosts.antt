@@ -20,7 +20,8 @@ use Rattle.ft_node.specs.Calls.{Ask, SuspectsOf, Suspects, Call, Gives, Makes, U
 use Rattle.ft_world.specs.Applies.{Shows}
 use Rattle.ft_world.specs.Lending.{HasNoNode, WithStation}
 use Rattle.ft_world.specs.Running.{Running}
-use Rattle.ft_world.specs.Shows.{Agree, AreHosts, IsHost, IsStation, IsNode}
+use Rattle.ft_node.specs.Seats.{IsNode}
+use Rattle.ft_world.specs.Shows.{Agree, AreHosts, IsHost, IsStation}
 use Rattle.ft_world.specs.Standing.{Course}
 use Rattle.ft_world.specs.declared.host.Host.{Host}
 use Rattle.ft_world.specs.declared.host.Host.TheVariants as host

@@ -20,7 +20,7 @@ use Rattle.pair_protocol.proofs.Booted.{Drained-booted, IsBehind-booted, IsOnTra
 use Rattle.pair_protocol.proofs.Promises.NodeStands.{nodes_stand}
 use Rattle.ft_node.specs.Calls.{DrainedBy, Never, ReplayedBy, SteppedBy}
 use Rattle.ft_node.specs.Roles.{IsFollower}
-use Rattle.ft_node.specs.Seats.{MayReplay}
+use Rattle.ft_node.specs.Seats.{IsNode, MayReplay}
 use Rattle.ft_node.specs.declared.node.Node as code
 use Rattle.ft_node.specs.declared.node.Node.TheVariants as seat
 use Rattle.ft_node.specs.declared.ran.Drained.{Drained}
@@ -29,7 +29,7 @@ use Rattle.ft_world.specs.Applies.{Applies, Shows, ShowsSome}
 use Rattle.ft_world.proofs.AtHosts.{AtHost}
 use Rattle.ft_world.specs.declared.station.Station.{Station}
 use Rattle.ft_world.specs.Running.{Running}
-use Rattle.ft_world.specs.Shows.{IsHost, IsNode}
+use Rattle.ft_world.specs.Shows.{IsHost}
 use Rattle.ft_world.specs.Standing.{Course, machine_of}
 use Rattle.ft_world.specs.Words.{reply_of}
 use Rattle.pair_events.specs.declared.event.Event.TheVariants as event

@@ -1,6 +1,5 @@
 -- One node becomes another of the same generation, which is a backup exactly if it was one before; so the highest
 -- generation stays, and so does the only node that may be its backup.
-use Rattle.guest_board.specs.Guest.{Guest}
 use Rattle.std.proofs.Common.{◌≡◌, [], ◌∷◌, ◌∙◌, List, Some, ap, inl, inr, refl, suc, sym, zero, ℕ}
 use Rattle.std.specs.Prelude.{max, slice_get, slice_set, ◌⊎◌}
 use Rattle.guest_board.specs.Machine.{Machine}

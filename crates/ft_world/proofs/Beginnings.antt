@@ -1,7 +1,7 @@
 -- How a pair begins. Its two nodes are those of the opening, since both guests are in the state in which the machine
 -- boots and no step is counted there; nothing was sent, typed or asked; and a disk on which nothing is written has its
 -- sectors at boot. The Altair of a setup is a machine that a pair may run.
-use Rattle.std.proofs.Common.{◌≡◌, ◌∙◌, [], ◌∷◌, ◌++◌, ◌≤◌, List, None, Option, Some, ap, refl, subst, suc, sym, true, false, zero, ℕ}
+use Rattle.std.proofs.Common.{◌≡◌, ◌∙◌, [], ◌∷◌, ◌++◌, ◌<◌, ◌^◌, ◌≤◌, List, None, Option, Some, ap, refl, subst, suc, sym, true, false, zero, ℕ}
 use Rattle.std.specs.Prelude.{IsSome, IsTrue, length, slice_get}
 use Rattle.std.specs.Option.{option_map_or}
 use Rattle.arbiter_core.specs.declared.arbiter.Asking.{Asking}
@@ -11,6 +11,7 @@ use Rattle.disk_dcdd.specs.declared.address.SectorAddress.{SectorAddress}
 use Rattle.disk_dcdd.specs.declared.controller.TheConstants.{DRIVES}
 use Rattle.disk_dcdd.specs.declared.sector.TheConstants.{SECTOR_BYTES}
 use Rattle.guest_board.specs.Guest.{Guest, altair, guest_at_boot}
+use Rattle.guest_memory.specs.declared.memory.TheConstants.{BYTES}
 use Rattle.guest_board.specs.Inputs.{some_altair}
 use Rattle.clone_state.specs.CopiedBoard.{BoardsAreCopiedAsGuests}
 use Rattle.clone_state.specs.Copies.{CopiesAs}
@@ -37,7 +38,8 @@ use Rattle.ft_node.specs.declared.node.Node as code
 use Rattle.ft_node.specs.Roles.{count_of}
 use Rattle.ft_world.specs.Applies.{Shows}
 use Rattle.ft_world.specs.Beginning.{MayBegin, beginning, bytes_in}
-use Rattle.ft_world.specs.Shows.{Agree, AreHosts, AreMessages, AreTerminals, AreWinners, IsDisk, IsHost, IsOnlyBackup, IsStation, IsTerminal, IsNode}
+use Rattle.ft_node.specs.Seats.{IsNode}
+use Rattle.ft_world.specs.Shows.{Agree, AreHosts, AreMessages, AreTerminals, AreWinners, IsDisk, IsHost, IsOnlyBackup, IsStation, IsTerminal}
 use Rattle.ft_world.specs.Standing.{Course, IsMachine, machine_of}
 use Rattle.ft_world.specs.declared.host.Host.{Host}
 use Rattle.ft_world.specs.declared.host.Host.TheVariants as host
@@ -133,7 +135,7 @@ some_of (Some a) is = (a, refl)
 some_of None is = absurd (cc)
 
 -- a disk on which nothing is written has its sectors at boot
-disk_at_boot : {B H D S : Type 0} (state : B → S) (copied : B → Guest) (M : Machine S) (C : Copying S) (records : D → List Record)
+disk_at_boot : {B D S : Type 0} (state : B → S) (copied : B → Guest) (M : Machine S) (C : Copying S) (records : D → List Record)
     (primary backup : B) (store : D) (may : MayBegin state copied M C records primary backup store) →
     IsDisk (machine_of M (beginning M C (state primary) (records store))) may.drives (records store) []
 disk_at_boot state copied M C records primary backup store may = record {
@@ -217,6 +219,16 @@ whole_at_boot drives records there whole address has =
     let r = some_of (record_at records address) (there address has) in
     ap (λ o. length (option_map_or (λ (u : Record). u.bytes) o [])) r.1 ∙ whole address r.0 r.1
 
+-- the fields of a setup have their sizes, and so has each sector of a disk that has its drives
+pub setup_is : (records : List Record) (setup : Setup) → length setup.levels ≡ 3 → length setup.memory.items ≡ BYTES →
+    setup.sense < 2 ^ 8 → HasDrives records setup.drives → HasWholeSectors records → IsSetup setup (bytes_in records)
+setup_is records setup levels memory sense there whole = record {
+  levels = levels;
+  memory = memory;
+  sense = sense;
+  disk = whole_at_boot setup.drives records there whole;
+}
+
 -- boards are copied by their images as guests are
 pub boards_as_guests : BoardsAreCopiedAsGuests → (drives : ℕ) → CopiesAs (λ (board : OnBoard). board.guest)
     (λ (board : OnBoard). board.guest) drives (image_copy drives).parts (image_copy drives).part_count
@@ -226,7 +238,7 @@ boards_as_guests law drives = law drives
 
 -- two guests of one setup may begin over a disk that has its drives, and on which nothing is written; they are copied by
 -- their images
-pub altairs_may_begin : {B H D : Type 0} (state : B → Guest) (records : D → List Record) (setup : Setup)
+pub altairs_may_begin : {B D : Type 0} (state : B → Guest) (records : D → List Record) (setup : Setup)
     (primary backup : B) (store : D) →
     ((setup : Setup) (sectors : SectorAddress → List ℕ) → Lawful (altair setup sectors)) →
     ((setup : Setup) (sectors : SectorAddress → List ℕ) → StaysOnDisk (altair setup sectors) setup.drives) →
@@ -234,23 +246,19 @@ pub altairs_may_begin : {B H D : Type 0} (state : B → Guest) (records : D → 
     (image_copy drives).assemble) → IsSetup setup (bytes_in (records store)) → setup.drives ≤ DRIVES →
     state primary ≡ guest_at_boot setup → state backup ≡ guest_at_boot setup →
     HasDrives (records store) setup.drives → IsUnwritten (records store) →
-    MayBegin state state some_altair (image_copy (state primary).devices.disk.attached) records primary backup store
+    MayBegin state state some_altair (image_copy setup.drives) records primary backup store
 altairs_may_begin state records setup primary backup store lawful on_disk copies as_guests is within first second there unwritten =
     let sectors = bytes_in (records store) in
     let copied = copies setup sectors is in record {
       drives = setup.drives;
       machine = subst
-          (λ (s : Guest). IsMachine
-          (machine_of some_altair (beginning some_altair (image_copy s.devices.disk.attached) s (records store)))
-          (image_copy s.devices.disk.attached) setup.drives)
+          (λ s. IsMachine (machine_of some_altair (beginning some_altair (image_copy setup.drives) s (records store)))
+          (image_copy setup.drives) setup.drives)
           (sym first)
           (is_machine some_altair
           (beginning some_altair (image_copy setup.drives) (guest_at_boot setup) (records store)) setup.drives
           (lawful setup sectors) guests_issue_and_complete within (on_disk setup sectors) copied.0 copied.1);
-      copies_as = subst
-          (λ (s : Guest). CopiesAs state state setup.drives (image_copy s.devices.disk.attached).parts
-          (image_copy s.devices.disk.attached).part_count (image_copy s.devices.disk.attached).assemble)
-          (sym first) (as_guests setup.drives);
+      copies_as = as_guests setup.drives;
       alike = second ∙ sym first;
       there = there;
       unwritten = unwritten;

@@ -9,10 +9,10 @@ use Rattle.pair_protocol.specs.Node.{Node, Backup, holds}
 use Rattle.pair_protocol.specs.Settled.{list_of, count_in}
 use Rattle.pair_protocol.proofs.Traces.Moves.{inputs_of-append}
 use Rattle.ft_node.specs.Calls.{Makes}
-use Rattle.ft_node.specs.Seats.{MayHold}
+use Rattle.ft_node.specs.Seats.{IsNode, MayHold}
 use Rattle.ft_node.specs.declared.node.Node as code
 use Rattle.ft_node.specs.declared.node.Node.TheVariants as seat
-use Rattle.ft_world.specs.Shows.{IsStation, IsNode}
+use Rattle.ft_world.specs.Shows.{IsStation}
 use Rattle.ft_world.specs.declared.station.Station.{Station}
 
 last_count-append : (c : ℕ) (es : List Entry) (e : Entry) → last_count c (es ++ e ∷ []) ≡ count_of e

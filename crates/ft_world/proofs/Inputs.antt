@@ -1,6 +1,6 @@
 -- A station takes an input: the input is appended to its inputs, at the count of its machine.
 use Rattle.pair_protocol.specs.Copying.{Copying}
-use Rattle.std.proofs.Common.{◌≡◌, ◌∙◌, [], ◌∷◌, ◌++◌, Some, ap, inl, inr, refl, subst, sym}
+use Rattle.std.proofs.Common.{◌≡◌, ℕ, ◌∙◌, [], ◌∷◌, ◌++◌, Some, ap, inl, inr, refl, subst, sym}
 use Rattle.guest_board.specs.Machine.{Machine}
 use Rattle.guest_board.specs.declared.input.Input.{Input}
 use Rattle.guest_trace.specs.Reach.{timed}
@@ -9,10 +9,10 @@ use Rattle.pair_protocol.specs.Change.{Serving}
 use Rattle.pair_protocol.specs.Effects.{Took, took}
 use Rattle.pair_protocol.specs.Node.{Node, Role, Primary, Backup, Joining, Draining, Alone, Spare}
 use Rattle.ft_node.specs.Calls.{Makes}
-use Rattle.ft_node.specs.Seats.{MayAccept, board_of}
+use Rattle.ft_node.specs.Seats.{IsNode, MayAccept, board_of}
 use Rattle.ft_node.specs.declared.node.Node as code
 use Rattle.ft_node.specs.declared.node.Node.TheVariants as seat
-use Rattle.ft_world.specs.Shows.{IsStation, IsNode}
+use Rattle.ft_world.specs.Shows.{IsStation}
 use Rattle.ft_world.specs.declared.station.Station.{Station}
 use Rattle.ft_world.proofs.Keeping.{machine_count, own_inputs}
 

@@ -31,7 +31,8 @@ use Rattle.pair_protocol.specs.Effects.{IsUnder}
 use Rattle.ft_world.specs.Lending.{WithStation}
 use Rattle.ft_world.specs.Messages.{write_of}
 use Rattle.ft_world.specs.Running.{Running}
-use Rattle.ft_world.specs.Shows.{IsHost, IsStation, IsNode}
+use Rattle.ft_node.specs.Seats.{IsNode}
+use Rattle.ft_world.specs.Shows.{IsHost, IsStation}
 use Rattle.ft_world.specs.Standing.{machine_of}
 use Rattle.ft_world.specs.Staying.{DiskFails, Except, NodeHalts, Stays}
 use Rattle.ft_world.specs.declared.host.Host.{Host}

@@ -13,13 +13,13 @@ use Rattle.pair_protocol.specs.World.{World}
 use Rattle.pair_protocol.proofs.Traces.Moves.{runs-append}
 use Rattle.guest_board.specs.Outstanding.{IsFrugal}
 use Rattle.ft_node.specs.Roles.{AreOfOutstanding}
-use Rattle.ft_node.specs.Seats.{MayRun}
+use Rattle.ft_node.specs.Seats.{IsNode, MayRun}
 use Rattle.ft_node.specs.declared.node.Node as code
 use Rattle.ft_node.specs.declared.node.Node.TheVariants as seat
 use Rattle.pair_protocol.proofs.Promises.NodeStands.{nodes_stand}
 use Rattle.ft_world.specs.Applies.{Shows, ShowsSome}
 use Rattle.ft_world.specs.Running.{Running}
-use Rattle.ft_world.specs.Shows.{IsHost, IsNode}
+use Rattle.ft_world.specs.Shows.{IsHost}
 use Rattle.ft_world.specs.Standing.{Course, IsMachine, machine_of}
 use Rattle.ft_world.specs.declared.station.Station.{Station}
 use Rattle.ft_world.specs.declared.host.Host.TheVariants as host

@@ -22,7 +22,8 @@ use Rattle.ft_node.specs.declared.node.Node as code
 use Rattle.ft_node.specs.declared.ran.Drained.{Drained}
 use Rattle.ft_node.specs.declared.ran.Ran.{Ran}
 use Rattle.ft_node.specs.Roles.{count_of}
-use Rattle.ft_world.specs.Shows.{IsStation, IsNode}
+use Rattle.ft_node.specs.Seats.{IsNode}
+use Rattle.ft_world.specs.Shows.{IsStation}
 use Rattle.ft_world.specs.declared.station.Station.{Station}
 use Rattle.ft_world.proofs.Answering.{Retells, asked, given, handed_on, retold, unless}
 use Rattle.ft_world.proofs.Keeping.{Kept, kept_here, advances_keep, replays_keep, heard_kept, halted_kept, same_list, same_count, serving_role, machine_count, acting_role, held_count, held_inputs}
@@ -50,7 +51,7 @@ pub unmoved : {B H S : Type 0} (state : B → S) (M : Machine S) (C : Copying S)
 unmoved state M C drives h node x i is = stays_on state M C drives h node x x i (kept_here x) refl is
 
 -- whatever the call does at the node, the station's node is another one of the same inputs and count
-pub retells : {A B S : Type 0} (state : B → S) (M : Machine S) (C : Copying S) (drives : ℕ) (h : Station B H) (node : code.Node B H) (x : Node S)
+pub retells : {A B H S : Type 0} (state : B → S) (M : Machine S) (C : Copying S) (drives : ℕ) (h : Station B H) (node : code.Node B H) (x : Node S)
     (o : Option Fault) (needs : Node S → Type 0) (does : A → Node S → Node S → Type 0) → IsStation state M C drives h x
     → ((v : A) (y : Node S) → o ≡ None → does v x y → Kept x y × (count_in M y x.role ≡ count_in M x x.role))
     → Retells o needs needs does x (IsNode state M C drives node) (IsStation state M C drives (record h { node = node }))

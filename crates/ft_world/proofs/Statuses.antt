@@ -6,9 +6,9 @@ use Rattle.std.specs.Result.{result_ok}
 use Rattle.guest_board.specs.Machine.{Machine}
 use Rattle.pair_protocol.specs.Node.{Node}
 use Rattle.pair_protocol.proofs.Traces.Lists.{same_some}
-use Rattle.ft_node.specs.Seats.{IsRole}
+use Rattle.ft_node.specs.Seats.{IsNode, IsRole}
 use Rattle.ft_node.specs.Roles.{count_of}
-use Rattle.ft_world.specs.Shows.{AreHosts, IsHost, IsStatusAt, IsNode}
+use Rattle.ft_world.specs.Shows.{AreHosts, IsHost, IsStatusAt}
 use Rattle.ft_world.specs.declared.host.Host.{Host}
 use Rattle.ft_world.specs.declared.host.Host.TheVariants as host
 use Rattle.ft_world.specs.declared.hosts.NodeStatus.{NodeStatus}

@@ -1,6 +1,5 @@
 -- One more winner, here and in the world: the asking that the arbiter keeps is for a generation that nobody had won.
 -- The node that won is of the same generation as before, and is a backup only if it was one.
-use Rattle.guest_board.specs.Guest.{Guest}
 use Rattle.std.proofs.Common.{◌≡◌, [], ◌∷◌, ◌++◌, ◌∙◌, Bool, List, None, Some, ap, cond, eq-eqb, eqb-true, false, find, inl, inr, is_some, ne_eqb, refl, subst, sym, true, ℕ}
 use Rattle.std.specs.Prelude.{if◌then◌else◌, Option, slice_get, slice_set, ◌==◌}
 use Rattle.std.specs.Option.{option_map}

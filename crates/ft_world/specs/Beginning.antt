@@ -33,3 +33,8 @@ pub record MayBegin {B D S : Type 0} (state : B → S) (copied : B → Guest) (M
   pub alike : state backup ≡ state primary
   pub there : HasDrives (records store) drives
   pub unwritten : IsUnwritten (records store)
+
+-- for some copying of their machine
+abbrev pub MayBeginSome : {B D S : Type 0} → (B → S) → (B → Guest) → Machine S → (D → List Record) → B → B → D → Type 0
+MayBeginSome {S = S} state copied M records primary backup store =
+    (C : Copying S) × MayBegin state copied M C records primary backup store

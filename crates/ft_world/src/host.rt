@@ -13,7 +13,7 @@ use i8080_words::{Fault, R};
 
 /// A host: a node of the pair, or one that has no role yet, with the resources for a machine that is copied there.
 #[derive(Drop)]
-pub enum Host<B: Copies, H> {
+pub enum Host<B, H> {
     Node(Station<B, H>),
     Spare(H),
 }
@@ -21,7 +21,7 @@ pub enum Host<B: Copies, H> {
 impl<B: Copies<H> + Drop, H: Drop> Host<B, H> {
     // The station, if this is a node; `Unknown` if it is a spare host.
     pub(crate) fn station_mut(&mut self) -> R<&mut Station<B, H>>
-        ensures* lends { sem 𝓛 (LendsIfOk (the_host.the_row B.row H.row) (the_station.the_row B.row) self.entry result
+        ensures* lends { sem 𝓛 (LendsIfOk (the_host.the_row B.row H.row) (the_station.the_row B.row H.row) self.entry result
             (λ station. host.Node station) self.old) }
         ensures found { IfOk result (λ station. self.old ≡ host.Node station.now) }
         ensures absent { IfErr result (λ fault. (fault ≡ Unknown) × IsSpare self.old) }

@@ -1,6 +1,6 @@
 //! The hosts of a pair, by their numbers.
 ghost use Rattle.pair_protocol.specs.Copying.{Copying};
-ghost use Rattle.std.specs.Prelude.{◌≡◌, IfErr, IfOk, List, Some, slice_get};
+ghost use Rattle.std.specs.Prelude.{◌≡◌, ℕ, IfErr, IfOk, List, Some, slice_get};
 ghost use Rattle.std.specs.Borrow.{LendsSoOk, sem};
 ghost use Rattle.i8080_words.specs.declared.refusal.Fault.TheVariants.{Unknown};
 ghost use Rattle.pair_protocol.specs.Node as protocol;
@@ -31,7 +31,7 @@ pub(crate) fn station_mut<B: Copies<H> + Drop, H: Drop>(
     hosts: &mut Vec<Host<B, H>>,
     node: u64,
 ) -> R<&mut Station<B, H>>
-    ensures* lends { sem 𝓛 (LendsSoOk (hosts_row B.row H.row) (the_station.the_row B.row) hosts.entry result
+    ensures* lends { sem 𝓛 (LendsSoOk (hosts_row B.row H.row) (the_station.the_row B.row H.row) hosts.entry result
         (λ new station. WithStation hosts.old.items node station new.items) (λ new. new.items ≡ hosts.old.items)) }
     ensures found { IfOk result (λ station. slice_get hosts.old.items node ≡ Some (host.Node station.now)) }
     ensures absent { IfErr result (λ fault. (fault ≡ Unknown) × HasNoNode hosts.old.items node) }
@@ -79,7 +79,7 @@ pub(crate) fn settled<B: Copies<H> + Drop, H: Drop>(
     hosts: &Vec<Host<B, H>>,
     node: u64,
 ) -> (&[Timed], u64)
-    ensures { (station : Station B) → slice_get hosts.now.items node ≡ Some (host.Node station)
+    ensures { (station : Station B H) → slice_get hosts.now.items node ≡ Some (host.Node station)
         → (result.0.now ≡ station.inputs) × (result.1 ≡ station.count) }
 {
     match station(hosts, node) {

@@ -5,7 +5,7 @@ ghost use Rattle.pair_protocol.specs.Copying.{Copying};
 ghost use Rattle.pair_protocol.specs.World.{with_host};
 ghost use Rattle.ft_world.specs.Applies.{Happens, IsFaithful, Runs, Shows, ShowsSome};
 ghost use Rattle.ft_world.specs.Applies.{failures_over, failures_told};
-ghost use Rattle.ft_world.specs.Beginning.{MayBegin, beginning};
+ghost use Rattle.ft_world.specs.Beginning.{MayBegin, MayBeginSome, beginning};
 ghost use Rattle.ft_world.specs.Standing.{Course, machine_of};
 ghost use Rattle.ft_world.specs.Pairs.{running_of};
 ghost use Rattle.ft_world.specs.Staying.{SpareHostsStay, Stays};
@@ -45,10 +45,10 @@ impl<B: Copies<H> + Drop, D: SectorStore, H: Drop> Pair<B, D, H> {
         backup: B,
         store: D,
     ) -> Pair<B, D, H>
-        ghost copying: { Copying B.State }
-        requires may { MayBegin B.state B.copied B.machine copying D.records primary backup store }
-        ensures { Shows B.state B.copied B.machine D.records (running_of result)
-            (beginning B.machine copying (B.state primary) (D.records store)) }
+        requires may { MayBeginSome B.state B.copied B.machine D.records primary backup store }
+        ensures { (C : Copying B.State) → MayBegin B.state B.copied B.machine C D.records primary backup store
+            → Shows B.state B.copied B.machine D.records (running_of result)
+            (beginning B.machine C (B.state primary) (D.records store)) }
     {
         Pair {
             hosts: room.begin(alloc, primary, backup),

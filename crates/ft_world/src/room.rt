@@ -1,6 +1,6 @@
 //! How a pair begins: the memory that it needs, and its two nodes.
 ghost use Rattle.pair_protocol.specs.Copying.{Copying};
-ghost use Rattle.std.specs.Prelude.{◌≡◌, ◌+◌, ◌≤◌, [], IsOkUnless, vec_capacity, vec_len};
+ghost use Rattle.std.specs.Prelude.{◌≡◌, ℕ, ◌+◌, ◌≤◌, [], IsOkUnless, vec_capacity, vec_len};
 ghost use Rattle.i8080_words.specs.declared.refusal.Fault.TheVariants.{OutOfMemory};
 ghost use Rattle.log_buffer.specs.Log as logs;
 ghost use Rattle.pair_protocol.specs.World.{opening};

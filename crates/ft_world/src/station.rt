@@ -1,6 +1,6 @@
 //! A node with its list of inputs, and what an event does there.
 ghost use Rattle.pair_protocol.specs.Copying.{Copying};
-ghost use Rattle.std.specs.Prelude.{◌≡◌, ◌≢◌, ◌<◌, [], None, if◌then◌else◌, IfErr, OnErr};
+ghost use Rattle.std.specs.Prelude.{◌≡◌, ℕ, ◌≢◌, ◌<◌, [], None, if◌then◌else◌, IfErr, OnErr};
 ghost use Rattle.disk_dcdd.specs.declared.controller.TheConstants.{DRIVES};
 ghost use Rattle.disk_dcdd.specs.declared.sector.TheConstants.{SECTORS};
 ghost use Rattle.event_callbacks.specs.declared.devices.TheConstants.{PORTS};
@@ -12,7 +12,7 @@ ghost use Rattle.pair_protocol.specs.Node as protocol;
 ghost use Rattle.pair_protocol.specs.Refusals as refusals;
 ghost use Rattle.ft_node.specs.Calls as calls;
 ghost use Rattle.ft_node.specs.Roles.{count_of};
-ghost use Rattle.ft_node.specs.Seats.{MayAccept, MayReplay, MayRun};
+ghost use Rattle.ft_node.specs.Seats.{IsNode, MayAccept, MayReplay, MayRun};
 ghost use Rattle.ft_world.specs.Shows.{IsStation};
 
 use crate::input_list::Inputs;
@@ -34,7 +34,7 @@ pub struct Station<B, H> {
     pub(crate) count: u64,
 }
 
-impl<B: Copies<H> + Drop> Station<B, H> {
+impl<B: Copies<H> + Drop, H: Drop> Station<B, H> {
     // A node that begins, with no inputs yet, settled at the count of its machine.
     pub(crate) fn new(alloc: Global, node: Node<B, H>) -> Station<B, H>
         ensures node { result.node ≡ node }

@@ -42,7 +42,7 @@ impl<B: Copies<H> + Drop, D: SectorStore, H: Drop> World<B, D, H> {
     ghost use Rattle.shared_disk.specs.Records.{faults_in, refusal_at};
     ghost use Rattle.ft_world.specs.Applies.{Happens, IsFaithful, IsSectorOf, Runs, Shows};
     ghost use Rattle.ft_world.specs.Applies.{failures_over, failures_told};
-    ghost use Rattle.ft_world.specs.Beginning.{MayBegin, beginning};
+    ghost use Rattle.ft_world.specs.Beginning.{MayBegin, MayBeginSome, beginning};
     ghost use Rattle.ft_world.specs.Shows.{Agree, IsStatusAt};
     ghost use Rattle.ft_world.specs.Standing.{Course, machine_of};
     ghost use Rattle.ft_world.specs.Staying.{SpareHostsStay, Stays};
@@ -53,12 +53,14 @@ impl<B: Copies<H> + Drop, D: SectorStore, H: Drop> World<B, D, H> {
     /// shows that world for whatever copying its machine may have. `OutOfMemory` hands the guests and the disk's store
     /// back.
     pub fn begin(alloc: Global, primary: B, backup: B, store: D) -> Result<Self, (B, B, D, Fault)>
-        ghost copying: { Copying B.State }
-        requires may { MayBegin B.state B.copied B.machine copying D.records primary backup store }
-        ensures ok { IfOk result (λ world. Shows B.state B.copied B.machine D.records world
-            (beginning B.machine copying (B.state primary) (D.records store))) }
-        ensures faithful { OnOk result (IsFaithful B.machine
-            (beginning B.machine copying (B.state primary) (D.records store))) }
+        requires may { MayBeginSome B.state B.copied B.machine D.records primary backup store }
+        ensures ok { IfOk result (λ world. (C : Copying B.State)
+            → MayBegin B.state B.copied B.machine C D.records primary backup store
+            → Shows B.state B.copied B.machine D.records world
+            (beginning B.machine C (B.state primary) (D.records store))) }
+        ensures faithful { OnOk result ((C : Copying B.State)
+            → MayBegin B.state B.copied B.machine C D.records primary backup store
+            → IsFaithful B.machine (beginning B.machine C (B.state primary) (D.records store))) }
         ensures full { IfErr result (λ refused. refused ≡ (primary, backup, store, OutOfMemory)) }
     {
         let Ok(room) = Room::new(alloc) else {
@@ -69,12 +71,12 @@ impl<B: Copies<H> + Drop, D: SectorStore, H: Drop> World<B, D, H> {
 
     // A pair begins, in memory that was allocated for it.
     pub(crate) fn begin_in(alloc: Global, room: Room<B, H>, primary: B, backup: B, store: D) -> Self
-        ghost copying: { Copying B.State }
-        requires may { MayBegin B.state B.copied B.machine copying D.records primary backup store }
-        ensures shows { Shows B.state B.copied B.machine D.records result
-            (beginning B.machine copying (B.state primary) (D.records store)) }
-        ensures faithful { IsFaithful B.machine
-            (beginning B.machine copying (B.state primary) (D.records store)) }
+        requires may { MayBeginSome B.state B.copied B.machine D.records primary backup store }
+        ensures shows { (C : Copying B.State) → MayBegin B.state B.copied B.machine C D.records primary backup store
+            → Shows B.state B.copied B.machine D.records result
+            (beginning B.machine C (B.state primary) (D.records store)) }
+        ensures faithful { (C : Copying B.State) → MayBegin B.state B.copied B.machine C D.records primary backup store
+            → IsFaithful B.machine (beginning B.machine C (B.state primary) (D.records store)) }
     {
         World {
             pair: Pair::begin(alloc, room, primary, backup, store),
