@@ -23,6 +23,7 @@ use Rattle.ft_node.specs.declared.node.Node as code
 use Rattle.ft_node.specs.declared.node.Node.TheVariants as seat
 use Rattle.ft_node.specs.declared.ran.PartCame.{PartCame}
 use Rattle.ft_node.specs.declared.ran.PartCame.TheVariants as reply
+use Rattle.ft_node.proofs.Gatherings as gatherings
 use Rattle.ft_node.proofs.Gatherings.{drives_stay, generation_stays}
 use Rattle.ft_node.proofs.PartsThatCome as parts
 
@@ -62,7 +63,7 @@ module _ (drives : ℕ) (j : Joined) (of_drives : j.gathering.drives ≡ drives)
       let o = message_at drives bytes in
       ap (λ (g : Gathering). after_forgetting g bytes) left
       ∙ taken_from (with_part j.gathering o) (drives_stay j.gathering o ∙ of_drives)
-      ∙ parts.taken_back_stays j.gathering o (answered (Ok true) new)
+      ∙ gatherings.taken_back_stays j.gathering o (answered (Ok true) new)
 
 -- a refused part leaves a node as it was
 pub refused_stays : {B H : Type 0} (j k : Joined) (bytes : List ℕ) (fault : Fault)
@@ -74,7 +75,7 @@ refused_stays j k bytes fault same refused =
     let stays : k ≡ j =
     same
     ∙ ap (λ (g : Gathering). record j { gathering = g })
-    (left drives j refl bytes ∙ parts.refused_stays j.gathering (message_at drives bytes) fault answer) in
+    (left drives j refl bytes ∙ gatherings.refused_stays j.gathering (message_at drives bytes) fault answer) in
     ap (λ (j : Joined). seat.Joining j) stays
 
 -- and so does one that is taken back
@@ -125,14 +126,14 @@ module _ {S : Type 0} (C : Copying S) (drives : ℕ) (j : Joined) (x : Node S) (
   is_refused fault refused =
       let answer = answered drives j is.drives_are bytes (Err fault) refused in
       parts.refused C drives j x is Later (message_at drives bytes) fault answer
-      (as_it_was (parts.refused_stays j.gathering (message_at drives bytes) fault answer))
+      (as_it_was (gatherings.refused_stays j.gathering (message_at drives bytes) fault answer))
 
   pub comes_again : Ok false ≡ part_answer j.gathering bytes
       → GetsPart C (message_at drives bytes) x (Ok reply.Old) Later
   comes_again old =
       let answer = answered drives j is.drives_are bytes (Ok false) old in
       parts.repeated C drives j x is Later (message_at drives bytes) answer
-      (as_it_was (parts.repeat_stays j.gathering (message_at drives bytes) answer))
+      (as_it_was (gatherings.repeat_stays j.gathering (message_at drives bytes) answer))
 
   pub comes_new : Ok true ≡ part_answer j.gathering bytes → is_whole k.gathering ≡ false
       → ((m : PartMessage) → message_at drives bytes ≡ Some m → m.index < C.part_count)

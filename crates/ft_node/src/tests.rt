@@ -212,7 +212,10 @@ fn parts_that_do_not_belong_are_refused<B: Copies<H> + Drop, H: Drop>(
     if let Some(byte) = part.get_mut(4) {
         *byte = 3;
     }
-    assert_eq!(rt; joining.part(rt.alloc(), &part), Err(Fault::WrongGeneration));
+    assert_eq!(rt;
+        joining.part(rt.alloc(), &part),
+        Err(Fault::WrongGeneration)
+    );
     part.push(0)?;
     assert_eq!(rt; joining.part(rt.alloc(), &part), Err(Fault::Malformed));
     assert_eq!(rt; node.part(rt.alloc(), &part), Err(Fault::WrongRole));
