@@ -1,12 +1,12 @@
 -- Pages are copied one after another: what was copied of the first pages, and how each page is copied, or passed.
-use Rattle.std.proofs.Common.{◌≡◌, ℕ, zero, suc, ◌+◌, ◌-◌, ◌*◌, ◌/◌, ◌<◌, ◌≤◌, Bool, true, false, cond, List, ◌++◌, length, take, drop, Option, Some, None, refl, sym, ap, subst, ◌∙◌, ◌⊎◌, inl, inr, arith}
-use Rattle.std.specs.Prelude.{◌==◌, ◌&&◌, nat_lt, slice_index, slice_index_or, slice_set, slice_range}
+use Rattle.std.proofs.Common.{◌≡◌, ℕ, ◌+◌, ◌-◌, ◌*◌, ◌/◌, ◌<◌, ◌≤◌, Bool, true, false, cond, List, ◌++◌, length, take, drop, Option, Some, None, refl, sym, ap, subst, ◌∙◌, inl, inr, arith}
+use Rattle.std.specs.Prelude.{◌==◌, nat_lt, slice_index, slice_index_or, slice_set, slice_range}
 use Rattle.std.proofs.lemmas.Bool.{cases_lt, cases_eq, and_from, and_left, and_right, cond-false, cond-true, eqb-true, eqb-false, eq-eqb, ne_eqb, not-false}
 use Rattle.std.proofs.lemmas.List.{take_at, length-replicate, length-set, length-take-le, length-drop, length-append, get_or-set_same, get_or-set_other, get_or_append_left, get_or-append_right, get_or-take, get_or-drop, ext_get_or}
 use Rattle.guest_memory.specs.Pages.{page_of, zeros}
 use Rattle.guest_memory.specs.declared.memory.TheConstants.{BYTES, PAGES}
 use Rattle.guest_board.specs.Board.{OnBoard}
-use Rattle.clone_state.specs.Drafts.{Drafted, HasRoom, HasCopied, IsFreshened, Agrees, none_copied, copied_at, version_of, is_old, is_stale, is_next, one_if, stale_below, stale_pages}
+use Rattle.clone_state.specs.Drafts.{Drafted, HasRoom, HasCopied, IsFreshened, Agrees, none_copied, copied_at, version_of, is_old, is_stale, is_next, stale_below}
 use Rattle.clone_state.proofs.StalePages.{true_lt, false_lt, none_below, one_more, few_below}
 
 pub page_low : (address : ℕ) → address < BYTES → page_of address < PAGES

@@ -1,10 +1,14 @@
 -- A draft of a board is one of the board later: a page that was copied at the version of now was not written since.
-use Rattle.std.proofs.Common.{◌≡◌, ℕ, zero, suc, ◌+◌, ◌<◌, ◌≤◌, Bool, true, false, cond, List, Option, Some, None, refl, sym, ap, ◌∙◌, arith}
+use Rattle.std.proofs.Common.{◌≡◌, ℕ, zero, suc, ◌+◌, ◌<◌, ◌≤◌, Bool, true, false, List, length, Option, Some, None, Result, refl, sym, ap, subst, ◌∙◌, arith}
 use Rattle.std.specs.Prelude.{replicate, slice_index_or}
 use Rattle.std.proofs.lemmas.Bool.{cond-true, cond-false}
 use Rattle.guest_memory.specs.Pages.{page_of}
-use Rattle.guest_memory.specs.declared.memory.TheConstants.{BYTES, PAGES}
-use Rattle.guest_board.specs.Board.{OnBoard}
+use Rattle.guest_memory.specs.declared.memory.TheConstants.{PAGES}
+use Rattle.i8080_words.specs.declared.refusal.Fault.{Fault}
+use Rattle.guest_board.specs.Board.{IsBoard, OnBoard}
+use Rattle.guest_board.specs.Guest.{Guest}
+use Rattle.guest_board.specs.Stepping.{guest_after, versions_after_answer}
+use Rattle.guest_board.specs.declared.executed.Executed.{Executed}
 use Rattle.clone_state.specs.Drafts.{Drafted, IsFreshened, KeepsUp, copied_at, is_next, is_old, is_stale, none_copied, nothing_copied, one_if, stale_below, version_of}
 use Rattle.clone_state.specs.DraftLaws.{IsLater, memory_of, DraftsBegin, DraftsKeepUp}
 use Rattle.clone_state.proofs.StalePages.{left_below, next_below, none_below}
@@ -90,6 +94,16 @@ later draft old new is keeps = record {
       let rises = is.versions page in
       omega (arith, before, rises);
 }
+
+-- after a step of the board
+pub after_step : (draft : Drafted) (old new : OnBoard) (answer : Result Executed Fault)
+    → new.guest ≡ guest_after answer old.guest → new.versions ≡ versions_after_answer answer old.guest old.versions
+    → IsBoard old.guest old.versions → length old.versions ≡ PAGES → KeepsUp draft old → KeepsUp draft new
+after_step draft old new answer guest versions stands long keeps =
+    later draft old new
+    (subst (λ (g : Guest). IsLater (memory_of old) (record { bytes = g.memory; versions = new.versions })) (sym guest)
+    (subst (λ (vs : List ℕ). IsLater (memory_of old) (record { bytes = (guest_after answer old.guest).memory; versions = vs }))
+    (sym versions) (steps_later old answer stands long))) keeps
 
 pub drafts_keep_up : DraftsKeepUp
 drafts_keep_up = record { keeps_up = later; steps = steps_later; inputs = inputs_later; each = each }

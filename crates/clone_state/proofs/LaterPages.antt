@@ -12,10 +12,10 @@ use Rattle.i8080_words.specs.declared.refusal.Fault.{Fault}
 use Rattle.i8080_words.proofs.Accesses.{few_accesses}
 use Rattle.serial_2sio.specs.Port as serial
 use Rattle.event_callbacks.specs.Completions.{port_of}
-use Rattle.guest_memory.specs.Pages.{Pages, byte_at, page_of, raised, version_at, written}
+use Rattle.guest_memory.specs.Pages.{Pages, page_of, version_at, written}
 use Rattle.guest_memory.specs.declared.memory.TheConstants.{BYTES, PAGES}
 use Rattle.guest_board.specs.Board.{IsBoard, OnBoard}
-use Rattle.guest_board.specs.Guest.{Guest, wired, step_of, wired_after, line_of, next, take_from, after_rx, after_sent, after_sector, after_written, may_take_key, may_take_sector}
+use Rattle.guest_board.specs.Guest.{Guest, wired, step_of, wired_after, line_of, next, take_from, after_rx, after_sent, after_sector, after_written}
 use Rattle.guest_board.specs.Ports.{Wired, after_access, after_byte, after_disk_data, after_out, after_serial_data, device_at, memory_byte, port_byte}
 use Rattle.guest_board.specs.Wiring.{versions_after}
 use Rattle.guest_board.specs.Stepping.{next_versions}

@@ -1,10 +1,10 @@
 -- How many of the first pages are stale, and how many still are after the lowest of them were copied.
-use Rattle.std.proofs.Common.{◌≡◌, ℕ, zero, suc, ◌+◌, ◌-◌, ◌<◌, ◌≤◌, Bool, true, false, cond, Option, Some, None, refl, sym, ap, ◌∙◌, add-one, arith}
+use Rattle.std.proofs.Common.{◌≡◌, ℕ, zero, suc, ◌+◌, ◌-◌, ◌<◌, ◌≤◌, Bool, true, false, cond, Option, Some, refl, sym, ap, ◌∙◌, add-one, arith}
 use Rattle.std.specs.Prelude.{◌==◌, ◌&&◌, not, nat_lt}
 use Rattle.std.proofs.lemmas.Bool.Decides.{nat_tests}
 use Rattle.guest_board.specs.Board.{OnBoard}
 use Rattle.guest_memory.specs.declared.memory.TheConstants.{PAGES}
-use Rattle.clone_state.specs.Drafts.{Drafted, IsFreshened, copied_at, version_of, is_old, is_stale, is_next, one_if, stale_below}
+use Rattle.clone_state.specs.Drafts.{Drafted, IsFreshened, copied_at, version_of, is_old, is_stale, one_if, stale_below}
 
 pub lt_true : (a b : ℕ) → nat_lt a b ≡ true → a < b
 lt_true a b h = grind (arith, nat_tests)

@@ -1,5 +1,5 @@
 -- As many fewer are stale as were copied.
-use Rattle.std.proofs.Common.{◌≡◌, sym, ◌∙◌, arith}
+use Rattle.std.proofs.Common.{sym, ◌∙◌, arith}
 use Rattle.clone_state.proofs.StalePages.{left_below}
 use Rattle.clone_state.proofs.draft.Draft.freshen.Goals as goal
 
