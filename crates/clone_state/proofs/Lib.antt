@@ -27,3 +27,7 @@ pub mod Coming
 pub mod Assembled
 pub mod PartsRead
 pub mod PartsWithin
+pub mod StalePages
+pub mod Freshening
+pub mod LaterPages
+pub mod KeepingUp

@@ -6,11 +6,11 @@ use Rattle.std.proofs.lemmas.List.{length-take, take-append-drop}
 use Rattle.std.proofs.lemmas.Nat.{be_bytes_4}
 use Rattle.std.proofs.lemmas.Option.{same_Some, none-some}
 use Rattle.byteorder.specs.Endian.{big_bytes}
-use Rattle.log_entry.specs.Numbers.{◌>>=◌, IsBytes}
+use Rattle.log_entry.specs.Numbers.{IsBytes}
 use Rattle.log_entry.proofs.ReadingLaws.{IsBytes-drop, IsBytes-rest, IsBytes-take, first_read, not_refused, admitted}
 use Rattle.clone_state.specs.FirstPart.{word}
 use Rattle.clone_state.specs.Laws.{IsMessage}
-use Rattle.clone_state.specs.Parts.{PartMessage, after_tag, checked, generation_from, is_payload, message_at, message_bytes, nonzero}
+use Rattle.clone_state.specs.Parts.{PartMessage, after_tag, generation_from, is_payload, message_at, message_bytes, nonzero}
 use Rattle.clone_state.proofs.PartsRead.{Read, after_generation, after_index}
 use Rattle.clone_state.proofs.Values.{word_spells}
 

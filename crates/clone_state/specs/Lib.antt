@@ -11,3 +11,5 @@ pub mod Reading
 pub mod Copies
 pub mod Slots
 pub mod CopiedBoard
+pub mod Drafts
+pub mod DraftLaws

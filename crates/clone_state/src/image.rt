@@ -1,14 +1,18 @@
 //! The image of a board: a copy of its guest, spelled part by part.
-ghost use Rattle.std.specs.Prelude.{◌≡◌, ◌<◌, [], IfOk, IsOkUnless, slice_index_or};
+ghost use Rattle.std.specs.Prelude.{◌≡◌, ◌<◌, [], IfOk, IfErr, IsOkUnless, map, slice_index_or};
 ghost use Rattle.i8080_words.specs.declared.refusal.Fault.TheVariants.{OutOfMemory};
-ghost use Rattle.guest_board.specs.Parts.{guest_of_parts};
+ghost use Rattle.disk_dcdd.specs.Sector.{place_of};
+ghost use Rattle.guest_board.specs.Parts.{HaveWrites, guest_of_parts};
 ghost use Rattle.clone_state.specs.Checkpoint.{checkpoint_in_parts};
+ghost use Rattle.clone_state.specs.Drafts.{Agrees};
 ghost use Rattle.clone_state.specs.Image.{IsCopyOf, Spells, part_at, part_bytes};
 ghost use Rattle.clone_state.specs.Parts.{part_count, parts_of};
 
 mod copying;
 
+use crate::draft::Draft;
 use crate::spelling;
+use copying::Lists;
 use event_callbacks::Completes;
 use guest_board::{Board, BoardParts};
 use guest_memory::PAGES;
@@ -40,10 +44,51 @@ impl Image {
         ensures generation { IfOk result (λ image. image.generation ≡ generation) }
         ensures full { IsOkUnless result OutOfMemory }
     {
-        let copied = copying::parts_of_board(alloc, board)?;
+        let memory = copying::copied_memory(alloc, board)?;
+        let lists = copying::lists_of_board(alloc, board)?;
+        Ok(Image::with(board, memory, lists, generation))
+    }
+
+    /// The same image, in the memory of a draft of the board: only the pages that are stale are copied, and memory is
+    /// taken only for what is not in pages. `OutOfMemory` if the allocator refuses that; the draft is handed back.
+    pub fn of_draft<T: Completes, S: Completes, W: Completes>(
+        alloc: Global,
+        draft: Draft,
+        board: &Board<T, S, W>,
+        generation: u32,
+    ) -> Result<Image, (Draft, Fault)>
+        requires generation { 0 < generation }
+        requires agrees { Agrees draft board.now }
+        ensures copied { IfOk result (λ image. guest_of_parts image.copied ≡ board.now.guest) }
+        ensures generation { IfOk result (λ image. image.generation ≡ generation) }
+        ensures full { IfErr result (λ refused. (refused.0 ≡ draft) × (refused.1 ≡ OutOfMemory)) }
+    {
+        let Ok(lists) = copying::lists_of_board(alloc, board) else {
+            return Err((draft, Fault::OutOfMemory));
+        };
+        let memory = draft.into_memory(board);
+        Ok(Image::with(board, memory, lists, generation))
+    }
+
+    // The image with this memory and these lists of the board. Allocates no memory.
+    fn with<T: Completes, S: Completes, W: Completes>(
+        board: &Board<T, S, W>,
+        memory: Vec<u8>,
+        lists: Lists,
+        generation: u32,
+    ) -> Image
+        requires generation { 0 < generation }
+        requires memory { memory.items ≡ board.now.guest.memory }
+        requires writes { HaveWrites board.now.guest.operations lists.writes.items }
+        requires places { map place_of lists.writes.items ≡ board.now.guest.devices.disk.outstanding }
+        requires completed { lists.completed.items ≡ board.now.guest.completed }
+        ensures copied { guest_of_parts result.copied ≡ board.now.guest }
+        ensures generation { result.generation ≡ generation }
+    {
+        let copied = copying::parts_of_board(board, memory, lists);
         board.stands();
         board.can_be_rebuilt(&copied);
-        Ok(Image { copied, generation })
+        Image { copied, generation }
     }
 
     /// How many parts the image has: 334 for one drive, 565 for four.

@@ -1,5 +1,6 @@
 //! What follows from the definitions alone.
 ghost use Rattle.clone_state.specs.CopiedBoard.{BoardsAreCopiedAsGuests};
+ghost use Rattle.clone_state.specs.DraftLaws.{DraftsBegin, DraftsKeepUp};
 ghost use Rattle.clone_state.specs.Gathering.{BeginsOfImage, IsWholeWhenAllCame, StaysOfImage, WholeMakesIt};
 ghost use Rattle.clone_state.specs.Laws.{
   BoardsCanBeRebuilt,
@@ -69,4 +70,11 @@ pub fn assemblies_gather_images()
 /// if they make its guest.
 pub fn boards_are_copied_as_guests()
     ensures { BoardsAreCopiedAsGuests }
+{}
+
+/// A new draft is one of any board, and stays one: pages that are copied are the board's, and a page that was copied at
+/// its present version was not written since. Holds of each step and each input, one after another.
+pub fn drafts_keep_up()
+    ensures begins { DraftsBegin }
+    ensures stays { DraftsKeepUp }
 {}

@@ -4,6 +4,7 @@
 mod assembly;
 mod copied_board;
 mod copies;
+mod draft;
 mod image;
 mod laws;
 mod reading;
@@ -13,9 +14,10 @@ mod tests;
 
 pub use assembly::Assembly;
 pub use copies::Copies;
+pub use draft::Draft;
 pub use image::Image;
 pub use laws::{
     assemblies_gather_images, boards_are_copied_as_guests, boards_can_be_rebuilt,
-    controllers_are_decided, messages_are_written_one_way, parts_are_read_again,
+    controllers_are_decided, drafts_keep_up, messages_are_written_one_way, parts_are_read_again,
     parts_are_written_one_way, parts_make_their_machines,
 };

@@ -19,6 +19,7 @@ use std::process::Abort;
 use std::test::Fail;
 
 mod changes;
+mod drafting;
 mod gathering;
 
 // MVI A,48; STA 2000; HLT.

@@ -19,37 +19,63 @@ use i8080_words::R;
 use serial_2sio::WINDOW;
 use std::alloc::Global;
 
-// The parts that a board shows.
-pub(super) fn parts_of_board<T: Completes, S: Completes, W: Completes>(
+/// What a board has in lists besides its memory.
+#[derive(Drop)]
+pub(super) struct Lists {
+    // The outstanding writes, in order of number.
+    writes: Vec<SectorWrite>,
+    // The number of the last completed write of each sector.
+    completed: Vec<u64>,
+}
+
+// The lists of a board, copied.
+pub(super) fn lists_of_board<T: Completes, S: Completes, W: Completes>(
     alloc: Global,
     board: &Board<T, S, W>,
-) -> R<BoardParts>
-    ensures shown { IfOk result (λ parts. Shows board.now.guest parts) }
-    ensures windows { IfOk result (λ parts. parts.unaccepted
-        ≡ padded (window_of board.now.guest 0) ∷ padded (window_of board.now.guest 1) ∷ []) }
+) -> R<Lists>
+    ensures writes { IfOk result (λ lists. HaveWrites board.now.guest.operations lists.writes.items) }
+    ensures places { IfOk result (λ lists. map place_of lists.writes.items
+        ≡ board.now.guest.devices.disk.outstanding) }
+    ensures completed { IfOk result (λ lists. lists.completed.items ≡ board.now.guest.completed) }
     ensures full { IsOkUnless result OutOfMemory }
 {
-    board.stands();
-    let memory = copied_memory(alloc, board)?;
     let writes = outstanding_writes(alloc, board)?;
     let completed = Vec::from_slice(alloc, board.completed())?;
-    Ok(BoardParts {
+    Ok(Lists { writes, completed })
+}
+
+// The parts that a board shows, given its memory and its lists. Allocates no memory.
+pub(super) fn parts_of_board<T: Completes, S: Completes, W: Completes>(
+    board: &Board<T, S, W>,
+    memory: Vec<u8>,
+    lists: Lists,
+) -> BoardParts
+    requires memory { memory.items ≡ board.now.guest.memory }
+    requires writes { HaveWrites board.now.guest.operations lists.writes.items }
+    requires places { map place_of lists.writes.items ≡ board.now.guest.devices.disk.outstanding }
+    requires completed { lists.completed.items ≡ board.now.guest.completed }
+    ensures shown { Shows board.now.guest result }
+    ensures windows { result.unaccepted
+        ≡ padded (window_of board.now.guest 0) ∷ padded (window_of board.now.guest 1) ∷ [] }
+{
+    board.stands();
+    BoardParts {
         processor: *board.processor(),
         memory,
         devices: copied_devices(board),
         unaccepted: [unaccepted_bytes(board, 0), unaccepted_bytes(board, 1)],
         issued: [board.issued(0), board.issued(1)],
-        writes,
-        completed,
+        writes: lists.writes,
+        completed: lists.completed,
         count: board.count(),
         keys: [board.keys(0), board.keys(1)],
         levels: board.levels(),
         sense: board.sense(),
-    })
+    }
 }
 
 // The guest's memory, page after page.
-fn copied_memory<T: Completes, S: Completes, W: Completes>(
+pub(super) fn copied_memory<T: Completes, S: Completes, W: Completes>(
     alloc: Global,
     board: &Board<T, S, W>,
 ) -> R<Vec<u8>>
