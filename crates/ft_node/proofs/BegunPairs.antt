@@ -1,6 +1,6 @@
 -- An alone node that begins the next generation is its primary. Its log is empty, all that is outstanding is covered, and
 -- so are the keys that its guest has taken.
-use Rattle.std.proofs.Common.{◌≡◌, ℕ, zero, suc, ◌+◌, ◌<◌, ◌≤◌, ◌^◌, true, false, Option, Some, None, List, [], ◌∷◌, ◌++◌, length, Result, Ok, Err, refl, sym, ap, subst, ◌∙◌, add-one, arith}
+use Rattle.std.proofs.Common.{◌≡◌, ℕ, zero, suc, ◌+◌, ◌<◌, ◌^◌, true, false, Option, Some, None, List, [], ◌∷◌, ◌++◌, length, Ok, Err, refl, sym, ap, subst, ◌∙◌, add-one, arith}
 use Rattle.std.specs.Prelude.{nat_le, slice_index}
 use Rattle.std.proofs.lemmas.Bool.{le-leb, lt-leb}
 use Rattle.std.proofs.lemmas.List.{append-nil}
@@ -10,8 +10,7 @@ use Rattle.event_callbacks.specs.declared.devices.TheConstants.{PORTS}
 use Rattle.guest_board.specs.Machine.{Machine}
 use Rattle.guest_trace.specs.Reach.{keys}
 use Rattle.guest_trace.specs.declared.timed.Timed.{Timed}
-use Rattle.i8080_words.specs.declared.refusal.Fault.{Fault}
-use Rattle.i8080_words.specs.declared.refusal.Fault.TheVariants.{OutOfMemory, Spent, WrongRole}
+use Rattle.i8080_words.specs.declared.refusal.Fault.TheVariants.{OutOfMemory, Spent}
 use Rattle.log_buffer.specs.Log.{Log, log}
 use Rattle.log_channel.specs.Channel.{Sending}
 use Rattle.output_rule.specs.Covering.{Covering, nothing_acknowledged}

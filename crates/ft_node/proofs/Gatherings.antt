@@ -1,13 +1,13 @@
 -- What an assembly answers to a part that comes, and what the part leaves of it. A refusal and a repeat leave it as it
 -- was, and so does a new part that is taken back; whatever comes, it is of the same generation, for as many drives.
-use Rattle.std.proofs.Common.{◌≡◌, ℕ, zero, suc, ◌<◌, Bool, true, false, cond, ◌==◌, ◌&&◌, Option, Some, None, is_none, List, [], ◌∷◌, length, Result, Ok, Err, refl, sym, ap, ◌∙◌, arith}
+use Rattle.std.proofs.Common.{◌≡◌, ℕ, zero, suc, ◌<◌, Bool, true, false, cond, ◌==◌, ◌&&◌, Option, Some, None, is_none, List, [], ◌∷◌, length, Ok, Err, refl, sym, ap, ◌∙◌, arith}
 use Rattle.std.specs.Prelude.{slice_get, slice_index_or, slice_set}
 use Rattle.std.proofs.lemmas.Option.{none-some}
 use Rattle.clone_state.specs.Assembly as table
 use Rattle.clone_state.specs.Assembly.{Gathering, Slots, after_forgetting, after_part, answer_to, is_missing, with_part, without_part}
 use Rattle.clone_state.specs.Parts.{PartMessage, message_at}
 use Rattle.i8080_words.specs.declared.refusal.Fault.{Fault}
-use Rattle.i8080_words.specs.declared.refusal.Fault.TheVariants.{Malformed, WrongGeneration}
+use Rattle.i8080_words.specs.declared.refusal.Fault.TheVariants.{WrongGeneration}
 use Rattle.log_entry.specs.Numbers.{◌>>=◌}
 use Rattle.pair_protocol.specs.Node.{gathered, with_first}
 

@@ -1,21 +1,18 @@
 -- A part comes to a joining node: a repeat, a new one, or the last one that was missing. With the last one the parts make
 -- the guest, and the node is the backup; if they make none, the part is taken back.
-use Rattle.std.proofs.Common.{◌≡◌, ℕ, zero, suc, ◌<◌, Bool, true, false, cond, not, eqb, ◌==◌, ◌&&◌, Option, Some, None, is_none, is_some, List, [], ◌∷◌, length, Result, Ok, Err, refl, sym, ap, subst, ◌∙◌, arith}
+use Rattle.std.proofs.Common.{◌≡◌, ℕ, ◌<◌, Bool, true, false, cond, not, ◌==◌, Option, Some, None, is_none, is_some, List, [], ◌∷◌, length, Result, Ok, Err, refl, sym, ap, subst, ◌∙◌, arith}
 use Rattle.std.specs.Prelude.{slice_get, slice_index_or, slice_set}
-use Rattle.std.proofs.lemmas.Bool.{eq-eqb, eqb-true}
 use Rattle.std.proofs.lemmas.List.{length-set}
-use Rattle.std.proofs.lemmas.Option.{none-some, same_Some}
+use Rattle.std.proofs.lemmas.Option.{same_Some}
 use Rattle.clone_state.specs.Assembly as table
 use Rattle.clone_state.specs.Assembly.{Gathering, Slots, answer_to, is_missing, is_whole, with_part, without_part}
 use Rattle.clone_state.specs.Copies.{refused_as}
 use Rattle.clone_state.specs.Parts.{PartMessage}
 use Rattle.i8080_words.specs.declared.refusal.Fault.{Fault}
-use Rattle.i8080_words.specs.declared.refusal.Fault.TheVariants.{Malformed, NotWhole, OutOfMemory, WrongGeneration, WrongRole}
-use Rattle.log_channel.specs.Channel.{Receiving}
-use Rattle.log_entry.specs.Numbers.{◌>>=◌}
+use Rattle.i8080_words.specs.declared.refusal.Fault.TheVariants.{Malformed, OutOfMemory, WrongGeneration}
 use Rattle.pair_protocol.specs.Copying.{Copying}
 use Rattle.pair_protocol.specs.Effects.{GotPart, Again, Comes, Completes}
-use Rattle.pair_protocol.specs.Node.{Node, Backup, Joining, gathered, gets_part, joins, with_first}
+use Rattle.pair_protocol.specs.Node.{Node, Backup, Joining, gathered, gets_part, joins}
 use Rattle.pair_protocol.specs.Refusals.{fault_if, first_of, generation_refusal, part_comes_refusal, role_refusal}
 use Rattle.ft_node.specs.Calls.{Call, GetsPart, IsLast, Unless, last_refusal, part_refusal, parts_with, reply_of, unfit}
 use Rattle.ft_node.specs.Joined.{Joined}

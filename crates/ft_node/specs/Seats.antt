@@ -1,5 +1,5 @@
 -- Which node of the protocol a node is, in whatever role, and what its calls require.
-use Rattle.std.specs.Prelude.{◌≡◌, ℕ, Bool, true, false, Option, Some, None, is_some, List, [], Result, Ok, Err}
+use Rattle.std.specs.Prelude.{◌≡◌, ℕ, true, false, Option, Some, None, is_some, List, [], Result, Ok, Err}
 use Rattle.clone_state.specs.Assembly.{after_forgetting, gathered, machine_in}
 use Rattle.clone_state.specs.Copies.{refused_as}
 use Rattle.clone_state.specs.Parts.{guest_in}
