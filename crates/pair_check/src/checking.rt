@@ -16,9 +16,9 @@ ghost use Rattle.pair_check.specs.Sectors.{EachOf, IsBad, IsGood, SomeOf, Tells,
 use crate::disk::{Disk, sector_of};
 use crate::judging::{is_front, may_have, never_fall};
 use crate::verdict::Verdict;
+use clone_state::Copies;
 use disk_dcdd::{SECTORS, SectorAddress, SectorWrite, TRACKS};
 use ft_world::World;
-use clone_state::Copies;
 use guest_board::Setup;
 use guest_trace::Timed;
 use i8080_words::{Fault, R};

@@ -5,9 +5,9 @@ ghost use Rattle.ft_world.specs.Standing.{Course, machine_of};
 ghost use Rattle.shared_disk.specs.Records.{IsThere};
 ghost use Rattle.pair_check.specs.Disks.{over_records};
 
+use clone_state::Copies;
 use disk_dcdd::SectorAddress;
 use ft_world::World;
-use clone_state::Copies;
 use i8080_words::{Fault, R};
 use shared_disk::{FailOnce, MemoryStore, SectorRead};
 

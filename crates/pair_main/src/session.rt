@@ -14,10 +14,10 @@ ghost use Rattle.pair_main.specs.Reports.{handed};
 use crate::failure::Failure;
 use crate::options::Order;
 use crate::report::Report;
+use clone_state::Copies;
 use disk_dcdd::SectorWrite;
 use event_callbacks::{Callbacks, Completes, PORTS};
 use ft_world::{Message, NodeStatus, World};
-use clone_state::Copies;
 use guest_board::{Board, Setup};
 use i8080_words::{Fault, R};
 use pair_check::{Disk, Verdict, compare};
@@ -194,7 +194,10 @@ fn answer<B: Copies<H> + Drop, H: Drop, O: Write + Drop>(
 }
 
 // What a query finds.
-fn find<'a, B: Copies<H> + Drop, H: Drop>(world: &'a World<B, Disk, H>, query: Query) -> Answer<'a> {
+fn find<'a, B: Copies<H> + Drop, H: Drop>(
+    world: &'a World<B, Disk, H>,
+    query: Query,
+) -> Answer<'a> {
     match query {
         Query::Show { port } if (port as usize) < PORTS => Answer::Accepted {
             port,

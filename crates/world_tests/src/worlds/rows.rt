@@ -6,10 +6,10 @@ ghost use Rattle.event_callbacks.specs.Keeping.{Keeps};
 
 use crate::worlds::lines::Line;
 use crate::worlds::shown::shown;
+use clone_state::Copies;
 use disk_dcdd::{SECTOR_BYTES, SectorAddress, SectorWrite};
 use event_callbacks::{Callbacks, Completes, plain_completions};
 use ft_world::{Message, NodeStatus, World};
-use clone_state::Copies;
 use guest_board::{Board, Setup};
 use guest_trace::Timed;
 use i8080_words::{Fault, R};

@@ -2,9 +2,9 @@
 //! lack of memory. It takes no memory itself.
 
 use crate::worlds::rows::{Sent, sent_in};
+use clone_state::Copies;
 use disk_dcdd::SectorAddress;
 use ft_world::{NodeStatus, World};
-use clone_state::Copies;
 use guest_trace::{Bare, Timed};
 use pair_events::Role;
 use shared_disk::SectorStore;
