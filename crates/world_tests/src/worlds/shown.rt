@@ -35,6 +35,7 @@ fn with_node(mix: u64, node: Option<NodeStatus>) -> u64 {
         Role::Draining => 3,
         Role::Alone => 4,
         Role::Halted => 5,
+        Role::Joining => 6,
     };
     mixed(mixed(mix, role), node.count)
 }
