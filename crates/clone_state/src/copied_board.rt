@@ -11,6 +11,11 @@ impl<T: Completes + Drop, S: Completes + Drop, W: Completes + Drop> Copies<Callb
     for Board<T, S, W> {
     ghost copied = { λ board. board.guest };
 
+    fn drives(&self) -> u8 {
+        self.disk().stands();
+        self.disk().attached()
+    }
+
     fn image(&self, alloc: Global, generation: u32) -> R<Image> {
         self.stands();
         Image::of(alloc, self, generation)

@@ -1,5 +1,6 @@
 //! What the layers of a pair require of a guest that can be copied, so that they are proved for any such guest.
 ghost use Rattle.std.specs.Prelude.{◌≡◌, ◌<◌, ◌≤◌, ℕ, Some, IfOk, IfErr, IsOkUnless, is_some};
+ghost use Rattle.disk_dcdd.specs.declared.controller.TheConstants.{DRIVES};
 ghost use Rattle.event_callbacks.specs.declared.devices.TheConstants.{PORTS};
 ghost use Rattle.guest_board.specs.Guest.{Guest};
 ghost use Rattle.guest_board.specs.Parts.{guest_of_parts};
@@ -20,6 +21,12 @@ use std::alloc::Global;
 pub trait Copies<H>: Lockstep {
     // What is copied of a guest.
     ghost copied: { Self → Guest };
+
+    /// How many drives are attached to the guest, from 1 to 4.
+    fn drives(&self) -> u8
+        ensures attached { result ≡ (copied self.now).devices.disk.attached }
+        ensures some { 1 ≤ result }
+        ensures few { result ≤ DRIVES };
 
     /// The image of the guest, as it is now, for the generation that it begins. `OutOfMemory` if the allocator refuses.
     fn image(&self, alloc: Global, generation: u32) -> R<Image>

@@ -17,7 +17,7 @@ use Rattle.output_rule.specs.Covering.{Covering, nothing_acknowledged}
 use Rattle.pair_protocol.specs.Copying.{Copying}
 use Rattle.pair_protocol.specs.Node.{Node, Alone, begun}
 use Rattle.pair_protocol.specs.Refusals.{begin_pair_refusal, fault_if, first_of, last_generation, role_refusal}
-use Rattle.ft_node.specs.Calls.{BeginsPair, Begun, Call, Ever, HasTakenKeys}
+use Rattle.ft_node.specs.Calls.{BeginsPair, Begun, Call, Ever, HasTakenKeys, next_after}
 use Rattle.ft_node.specs.Roles.{Covers, HasImage, IsAlone, IsPrimary}
 
 -- the keys of both ports
@@ -118,3 +118,17 @@ module _ {S : Type 0} (M : Machine S) (s : S) (generation : ℕ) (x : Node S) (a
         subst (λ r. Call {A = ℕ} r Ever (Begun M) x (Err Spent) Is)
         (sym (refused_by_number ∙ ap (λ b. first_of (fault_if b Spent ∷ [])) (greatest last)))
         (refl, is)
+
+-- ---- the generation after one
+
+pub next_if : (generation drives : ℕ) → generation + 1 < 2 ^ 32
+    → Ok (record { generation = generation + 1; drives = drives }) ≡ next_after generation drives
+unfolding last_generation
+next_if generation drives few =
+    let no : nat_le last_generation generation ≡ false = lt-leb _ _ (omega arith) in
+    rw no (ap (λ n. Ok (record { generation = n; drives = drives })) (add-one generation))
+
+pub no_next : (generation drives : ℕ) → generation + 1 ≡ 2 ^ 32 → Err Spent ≡ next_after generation drives
+unfolding last_generation
+no_next generation drives last =
+    let yes : nat_le last_generation generation ≡ true = le-leb _ _ (omega arith) in rw yes refl

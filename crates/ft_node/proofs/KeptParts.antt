@@ -1,8 +1,15 @@
 -- A part of the image that a primary keeps is a part of the copy of the machine.
 use Rattle.std.proofs.Common.{◌≡◌, ℕ, true, false, not, ◌||◌, Option, Some, None, List, [], ◌∷◌, Result, Ok, Err, refl, sym, ap, subst, ◌∙◌}
-use Rattle.std.specs.Prelude.{is_none, option_map, slice_get}
+use Rattle.std.specs.Prelude.{◌≤◌, is_none, length, option_map, slice_get}
+use Rattle.std.proofs.lemmas.Option.{slice_get_past}
 use Rattle.std.specs.Global.{Vec}
-use Rattle.ft_node.specs.Kept.{ImageParts}
+use Rattle.guest_board.specs.Parts.{guest_of_parts}
+use Rattle.clone_state.specs.Checkpoint.{checkpoint_of}
+use Rattle.clone_state.specs.Copies.{image_parts}
+use Rattle.clone_state.specs.Laws.{PartsAreCounted}
+use Rattle.clone_state.specs.Parts.{part_count}
+use Rattle.clone_state.specs.declared.image.Image.{Image}
+use Rattle.ft_node.specs.Kept.{ImageParts, image_of}
 use Rattle.clone_state.specs.Image.{Spells, part_bytes}
 use Rattle.guest_board.specs.Machine.{Machine}
 use Rattle.i8080_words.specs.declared.refusal.Fault.{Fault}
@@ -67,3 +74,11 @@ module _ {S : Type 0} (C : Copying S) (x : Node S) (index : ℕ) (result : Resul
       (i.begins ∙ sym p.generation)
       (subst (λ parts. Spells (option_map (part_bytes kept.generation index) (slice_get parts index)) result) i.parts
       spelled)
+
+-- an image has no part past the last one
+pub no_part : PartsAreCounted → (image : Image) (index : ℕ) → part_count image.copied.devices.disk.attached ≤ index
+    → part_of (Some (image_of image)) index ≡ None
+no_part counted image index past =
+    ap (option_map (part_bytes image.generation index))
+    (slice_get_past (image_parts (guest_of_parts image.copied)) index
+    (subst (λ n. n ≤ index) (sym (counted (checkpoint_of (guest_of_parts image.copied)))) past))

@@ -1,6 +1,6 @@
 -- What each call of a node returns and leaves, by the node of the protocol that it is before the call: the refusal of
 -- the event's node part, or what its row says of the node.
-use Rattle.std.specs.Prelude.{◌≡◌, ◌≢◌, ℕ, suc, ◌<◌, Bool, true, Option, Some, None, is_none, List, [], ◌∷◌, length, replicate, slice_index_or, ◌==◌, if◌then◌else◌, Result, Ok, Err}
+use Rattle.std.specs.Prelude.{◌≡◌, ◌≢◌, ℕ, suc, ◌<◌, Bool, true, Option, Some, None, is_none, List, [], ◌∷◌, length, replicate, slice_index_or, ◌==◌, nat_le, if◌then◌else◌, Result, Ok, Err}
 use Rattle.std.specs.Global.{Vec}
 use Rattle.disk_dcdd.specs.declared.address.SectorAddress.{SectorAddress}
 use Rattle.event_callbacks.specs.declared.operations.OpId.{OpId}
@@ -8,7 +8,7 @@ use Rattle.event_callbacks.specs.declared.operations.Operation.{Operation}
 use Rattle.guest_board.specs.Machine.{Machine}
 use Rattle.guest_board.specs.declared.input.Input.{Input}
 use Rattle.i8080_words.specs.declared.refusal.Fault.{Fault}
-use Rattle.i8080_words.specs.declared.refusal.Fault.TheVariants.{OutOfMemory, Malformed, Lost}
+use Rattle.i8080_words.specs.declared.refusal.Fault.TheVariants.{OutOfMemory, Malformed, Lost, Spent}
 use Rattle.log_entry.specs.declared.entry.Entry.{Entry}
 use Rattle.log_channel.specs.Packet.{packet_bytes, IsPacket}
 use Rattle.log_channel.specs.declared.packet.Packet.{Packet}
@@ -26,6 +26,7 @@ use Rattle.pair_protocol.specs.Node.{Node, Role, Primary, Backup, Joining, begun
 use Rattle.pair_protocol.specs.Refusals as refusals
 use Rattle.ft_node.specs.declared.ran.Ran.{Ran}
 use Rattle.ft_node.specs.declared.ran.Drained as ran
+use Rattle.ft_node.specs.declared.ran.NextGeneration.{NextGeneration}
 use Rattle.ft_node.specs.declared.ran.PartCame.{PartCame}
 use Rattle.ft_node.specs.declared.ran.PartCame.TheVariants as came
 use Rattle.replayer.specs.declared.replayer.Replayed as replayer
@@ -205,6 +206,20 @@ Suspects old n x result new Is =
 -- the machine has taken the keys of the node's list
 abbrev pub HasTakenKeys : {S : Type 0} → Machine S → Node S → Type 0
 HasTakenKeys M x = (port : ℕ) → M.keys x.machine port ≡ length (keys port x.list)
+
+-- the next generation, for a machine of this many drives
+pub record IsNext {S : Type 0} (drives : ℕ) (next : NextGeneration) (x : Node S) : Type 0 where
+  pub generation : next.generation ≡ suc x.generation
+  pub drives_are : next.drives ≡ drives
+
+-- the generation after this one, unless this is the greatest
+abbrev pub next_after : ℕ → ℕ → Result NextGeneration Fault
+next_after generation drives =
+    if nat_le refusals.last_generation generation then Err Spent
+    else Ok (record { generation = suc generation; drives = drives })
+
+abbrev pub MayBegin : {S : Type 0} → ℕ → Node S → Result NextGeneration Fault → Type 0
+MayBegin drives x result = Ask (refusals.begin_pair_refusal x) Never (IsNext drives) x result
 
 -- an alone node is the primary of the next generation, with an image of its machine and an empty log
 abbrev pub Begun : {S : Type 0} → Machine S → ℕ → Node S → Node S → Type 0

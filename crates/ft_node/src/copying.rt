@@ -1,7 +1,8 @@
 //! A generation that begins with the copy of a machine: an alone node begins it, and a joining node is given the parts.
-ghost use Rattle.std.specs.Prelude.{◌≡◌, ◌<◌, ◌≤◌, ℕ, [], IfOk, IsOkUnless, OnErr};
+ghost use Rattle.std.specs.Prelude.{◌≡◌, ◌+◌, ◌<◌, ◌≤◌, ℕ, [], length, IfOk, IsOkUnless, OnErr};
 ghost use Rattle.clone_state.specs.Copies.{CopiesAs, image_parts};
 ghost use Rattle.clone_state.specs.Parts.{message_at};
+ghost use Rattle.disk_dcdd.specs.declared.controller.TheConstants.{DRIVES};
 ghost use Rattle.event_callbacks.specs.declared.devices.TheConstants.{PORTS};
 ghost use Rattle.i8080_words.specs.declared.limits.TheConstants.{GREATEST_NUMBER};
 ghost use Rattle.i8080_words.specs.declared.refusal.Fault.TheVariants.{OutOfMemory};
@@ -9,6 +10,7 @@ ghost use Rattle.log_buffer.specs.Log as logs;
 ghost use Rattle.pair_protocol.specs.Copying.{Copying};
 ghost use Rattle.pair_protocol.specs.Node as protocol;
 ghost use Rattle.ft_node.specs.Calls as calls;
+ghost use Rattle.ft_node.specs.Calls.{next_after};
 ghost use Rattle.ft_node.specs.Kept.{image_of};
 ghost use Rattle.ft_node.specs.Roles.{IsAlone, IsJoining};
 ghost use Rattle.ft_node.specs.Seats.{IsNode};
@@ -19,14 +21,31 @@ use crate::joining::Joining;
 use crate::kept_image::KeptImage;
 use crate::node::Node;
 use crate::primary::Primary;
-use crate::ran::PartCame;
-use clone_state::{Copies, Image};
+use crate::ran::{NextGeneration, PartCame};
+use clone_state::{Copies, Image, parts_make_their_machines};
 use i8080_words::{Fault, R};
 use log_buffer::LogBuffer;
 use std::alloc::Global;
 use std::mem;
 
 impl<B: Copies<H> + Drop, H: Drop> Node<B, H> {
+    /// The generation that an alone node may begin, for a machine of so many drives. `Spent` if that of the node is the
+    /// greatest.
+    pub fn next_generation(&self) -> R<NextGeneration>
+        ensures answer { (C : Copying B.State) (drives : ℕ) (x : protocol.Node B.State)
+            → CopiesAs B.state B.copied drives C.parts C.part_count C.assemble → length (C.parts x.machine) ≡ C.part_count
+            → IsNode B.state B.machine C drives self.now x → calls.MayBegin drives x result }
+        ensures first { IfOk result (λ next. 0 < next.generation) }
+        ensures some { IfOk result (λ next. 1 ≤ next.drives) }
+        ensures few { IfOk result (λ next. next.drives ≤ DRIVES) }
+    {
+        parts_make_their_machines();
+        match self {
+            Node::Alone(alone) => next_of(alone.generation, alone.board.drives()),
+            _ => Err(Fault::WrongRole),
+        }
+    }
+
     /// An alone node begins the next generation as its primary, with an image of its machine and an empty log. Returns
     /// the generation. `Spent` if that of the node is the greatest.
     pub fn begin(&mut self, alloc: Global) -> R<u32>
@@ -52,7 +71,7 @@ impl<B: Copies<H> + Drop, H: Drop> Node<B, H> {
 
     /// The message of a part of the image that a primary keeps until the first acknowledgement. `Unknown` if there is no
     /// such part, and at every other node.
-    pub fn send_part(&self, alloc: Global, index: u16) -> R<Vec<u8>>
+    pub fn send_part(&self, alloc: Global, index: u64) -> R<Vec<u8>>
         ensures { (C : Copying B.State) (drives : ℕ) (x : protocol.Node B.State)
             → IsNode B.state B.machine C drives self.now x → calls.SendsPart C index x result }
     {
@@ -85,6 +104,22 @@ impl<B: Copies<H> + Drop, H: Drop> Node<B, H> {
             }
         }
     }
+}
+
+// The generation after this one, for so many drives.
+#[tactic(auto, using(crate::proofs::BegunPairs::next_if, crate::proofs::BegunPairs::no_next))]
+fn next_of(generation: u32, drives: u8) -> R<NextGeneration>
+    requires some { 1 ≤ drives }
+    requires few { drives ≤ DRIVES }
+    ensures { result ≡ next_after generation drives }
+{
+    if generation == u32::MAX {
+        return Err(Fault::Spent);
+    }
+    Ok(NextGeneration {
+        generation: generation + 1,
+        drives,
+    })
 }
 
 // The node that an alone node is once it has begun the next generation; if it can't, it stays alone.

@@ -3,7 +3,7 @@ ghost use Rattle.std.specs.Prelude.{◌≡◌, None, Some};
 ghost use Rattle.clone_state.specs.Image.{Spells};
 ghost use Rattle.ft_node.specs.Kept.{image_of, part_of};
 
-use clone_state::Image;
+use clone_state::{Image, parts_make_their_machines};
 use i8080_words::{Fault, R};
 use std::alloc::Global;
 use std::marker::Model;
@@ -47,12 +47,24 @@ impl KeptImage {
     }
 
     /// The bytes of a part in a message. `Unknown` if there is no image, or none of its parts has this index.
-    pub(crate) fn part(&self, alloc: Global, index: u16) -> R<Vec<u8>>
+    pub(crate) fn part(&self, alloc: Global, index: u64) -> R<Vec<u8>>
         ensures { Spells (part_of self.now index) result }
     {
         match &self.image {
-            Some(image) => image.part(alloc, index),
+            Some(image) => part_of_image(image, alloc, index),
             None => Err(Fault::Unknown),
         }
     }
+}
+
+// The bytes of a part of an image, of which it has fewer than an index has numbers.
+#[tactic(auto, using(crate::proofs::KeptParts::no_part))]
+fn part_of_image(image: &Image, alloc: Global, index: u64) -> R<Vec<u8>>
+    ensures { Spells (part_of (Some (image_of image.now)) index) result }
+{
+    parts_make_their_machines();
+    if index >= u64::from(image.parts()) {
+        return Err(Fault::Unknown);
+    }
+    image.part(alloc, index as u16)
 }

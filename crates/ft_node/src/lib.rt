@@ -23,4 +23,4 @@ pub use halted::Halted;
 pub use joining::Joining;
 pub use node::Node;
 pub use primary::Primary;
-pub use ran::{Drained, PartCame, Ran};
+pub use ran::{Drained, NextGeneration, PartCame, Ran};

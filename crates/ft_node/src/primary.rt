@@ -165,7 +165,7 @@ impl<B: Lockstep + Drop> Primary<B> {
     }
 
     /// The message of a part of its image; `Unknown` if it keeps none, or that has no such part.
-    pub(crate) fn part(&self, alloc: Global, index: u16) -> R<Vec<u8>>
+    pub(crate) fn part(&self, alloc: Global, index: u64) -> R<Vec<u8>>
         ensures { (C : Copying B.State) (x : Node B.State)
             → IsPrimary B.machine (HasImage C self.now.sender.generation self.now.image) (B.state self.now.recorder.board)
             self.now.recorder.log self.now.sender self.now.coverage x

@@ -17,6 +17,13 @@ pub struct Drained {
     pub alone: bool,
 }
 
+/// The generation that an alone node may begin, and how many drives its machine has.
+#[derive(Clone, Copy, Debug, PartialEq, Eq)]
+pub struct NextGeneration {
+    pub generation: u32,
+    pub drives: u8,
+}
+
 /// What a part of an image was to a joining node: a new one, one that came before, or the last one that was missing.
 #[derive(Clone, Copy, Debug, PartialEq, Eq)]
 pub enum PartCame {

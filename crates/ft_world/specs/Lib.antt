@@ -7,6 +7,7 @@ pub mod Devices
 pub mod Pairs
 pub mod Staying
 pub mod Lending
+pub mod Opening
 pub mod Applies
 pub mod Beginning
 pub mod Choices

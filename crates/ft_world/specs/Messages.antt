@@ -21,6 +21,11 @@ abbrev pub ack_of : Message → Option (List ℕ)
 ack_of (message.Ack packet) = Some packet.items
 ack_of _ = None
 
+-- the part of an image
+abbrev pub part_of : Message → Option (List ℕ)
+part_of (message.Part bytes) = Some bytes.items
+part_of _ = None
+
 -- the byte that a message brings to its terminal, and the write that it brings to the disk
 abbrev pub byte_of : Message → Option (ℕ × ℕ × ℕ)
 byte_of (message.Byte port number byte) = Some (port, number, byte)

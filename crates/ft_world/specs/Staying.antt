@@ -1,10 +1,11 @@
 -- What an event leaves as it was.
-use Rattle.std.specs.Prelude.{◌≡◌, ◌≢◌, ℕ, List, map, Option, Some, None, slice_get, slice_set}
+use Rattle.std.specs.Prelude.{◌≡◌, ◌≢◌, ℕ, List, length, map, Option, Some, None, Result, Ok, slice_get, slice_set}
 use Rattle.i8080_words.specs.declared.refusal.Fault.{Fault}
 use Rattle.i8080_words.specs.declared.refusal.Fault.TheVariants.{DeviceFault, Lost}
 use Rattle.shared_disk.specs.declared.store.Record.{Record}
 use Rattle.pair_events.specs.declared.event.Event.{Event}
 use Rattle.pair_events.specs.declared.event.Event.TheVariants as event
+use Rattle.pair_events.specs.declared.reply.Reply.{Reply}
 use Rattle.ft_node.specs.declared.halted.Halted.{Halted}
 use Rattle.ft_node.specs.declared.node.Node.TheVariants as node
 use Rattle.ft_world.specs.Running.{Running}
@@ -20,6 +21,17 @@ spare_of (host.Spare resources) = Some resources
 -- no host comes, and each spare host is still spare, with the same resources
 abbrev pub SpareHostsStay : {B H : Type 0} → List (Host B H) → List (Host B H) → Type 0
 SpareHostsStay old new = map spare_of new ≡ map spare_of old
+
+-- what the spare hosts have after an event: the host with which a generation begins is spare no more
+abbrev pub SparesAfter : {B H : Type 0} → Event → Result Reply Fault → List (Host B H) → List (Host B H) → Type 0
+SparesAfter (event.BeginPair n host) (Ok r) old new = map spare_of new ≡ slice_set (map spare_of old) host None
+SparesAfter e answer old new = SpareHostsStay old new
+
+-- what they have after a list of events: no host comes, and each one that is still spare has the same resources
+pub record SparesLeft {B H : Type 0} (old new : List (Host B H)) : Type 0 where
+  pub count : length new ≡ length old
+  pub same : (n : ℕ) (resources : H) → slice_get new n ≡ Some (host.Spare resources)
+      → slice_get old n ≡ Some (host.Spare resources)
 
 -- the node of a number is halted, with the same inputs and the same count; everything else is as it was
 pub record NodeHalts {B H D : Type 0} (n : ℕ) (old new : Running B H D) : Type 0 where

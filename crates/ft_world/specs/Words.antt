@@ -1,5 +1,6 @@
 -- Events, replies and messages in the protocol's words.
-use Rattle.std.specs.Prelude.{◌≡◌, ◌<◌, Some, Result, Ok, Err}
+use Rattle.std.specs.Prelude.{◌≡◌, ◌<◌, ◌^◌, Some, Result, Ok, Err}
+use Rattle.clone_state.specs.Image.{part_bytes}
 use Rattle.disk_dcdd.specs.declared.address.SectorAddress.{SectorAddress}
 use Rattle.disk_dcdd.specs.declared.controller.TheConstants.{DRIVES}
 use Rattle.disk_dcdd.specs.declared.sector.TheConstants.{SECTORS}
@@ -38,6 +39,9 @@ event_of (event.GetReply m n) = protocol.GetReply m n
 event_of (event.Suspect n) = protocol.Suspect n
 event_of (event.Drain n turns) = protocol.Drain n turns
 event_of (event.Stop n) = protocol.Stop n
+event_of (event.BeginPair n host) = protocol.BeginPair n host
+event_of (event.SendPart n index) = protocol.SendPart n index
+event_of (event.PartComes m n) = protocol.PartComes m n
 
 -- the reply of the protocol that an answer stands for
 abbrev pub reply_of : Reply → protocol.Reply
@@ -55,6 +59,8 @@ reply_of reply.Dropped = protocol.Dropped
 reply_of (reply.Told keys) = protocol.ToldIs keys
 reply_of reply.Won = protocol.Won
 reply_of reply.Stopped = protocol.Stopped
+reply_of (reply.Generation generation) = protocol.GenerationIs generation
+reply_of reply.Whole = protocol.Whole
 
 abbrev pub answer_of : Result Reply Fault → protocol.Reply
 answer_of (Ok r) = reply_of r
@@ -64,12 +70,15 @@ answer_of (Err fault) = protocol.Refused fault
 abbrev pub read_address : SectorRead → SectorAddress
 read_address r = record { drive = r.drive; track = r.track; sector = r.sector }
 
--- a message is this one of the protocol: packets by their spelling, which reports nothing as replayed
+-- a message is this one of the protocol: packets by their spelling, which reports nothing as replayed, and parts of
+-- images by theirs, in a generation from 1 that a message has room for
 abbrev pub IsMessage : Message → sent.Message → Type 0
 IsMessage (message.Log bytes) (sent.LogEntry generation index e) =
     packet_at bytes.items ≡ Some (packet.Log generation index e)
 IsMessage (message.Ack bytes) (sent.Acknowledgement generation held replayed) =
     (packet_at bytes.items ≡ Some (packet.Ack generation held)) × (replayed ≡ 0)
+IsMessage (message.Part bytes) (sent.ImagePart generation index part) =
+    (bytes.items ≡ part_bytes generation index part) × (0 < generation) × (generation < 2 ^ 32)
 IsMessage (message.Byte port number byte) (sent.Released o) = o ≡ operation.Byte port number byte
 IsMessage (message.Write write) (sent.Released o) = o ≡ operation.Write write
 IsMessage (message.Written number) (sent.WriteDone done) = done ≡ number

@@ -3,10 +3,12 @@ ghost use Rattle.std.specs.Prelude.{◌≡◌, IfErr, IfOk};
 ghost use Rattle.std.specs.Borrow.{LendsIfOk, sem};
 ghost use Rattle.i8080_words.specs.declared.refusal.Fault.TheVariants.{Unknown};
 ghost use Rattle.ft_world.specs.Lending.{IsSpare};
+ghost use Rattle.ft_world.specs.Opening.{HasJoined};
 ghost use Rattle.ft_world.specs.contracts.host.Host as the_host;
 ghost use Rattle.ft_world.specs.contracts.station.Station as the_station;
 ghost use Rattle.ft_world.specs.declared.host.Host.TheVariants as host;
 
+use crate::opening::Opening;
 use crate::station::Station;
 use clone_state::Copies;
 use i8080_words::{Fault, R};
@@ -29,6 +31,17 @@ impl<B: Copies<H> + Drop, H: Drop> Host<B, H> {
         match self {
             Host::Node(station) => Ok(station),
             Host::Spare(_) => Err(Fault::Unknown),
+        }
+    }
+
+    // A spare host, as a node that joins a generation.
+    pub(crate) fn joined(self, opening: Opening) -> Host<B, H>
+        requires { IsSpare self }
+        ensures { HasJoined B.state B.machine opening result }
+    {
+        match self {
+            Host::Spare(resources) => Host::Node(Station::joining(opening, resources)),
+            Host::Node(station) => Host::Node(station),
         }
     }
 }

@@ -5,11 +5,14 @@ ghost use Rattle.std.specs.Borrow.{LendsSoOk, sem};
 ghost use Rattle.i8080_words.specs.declared.refusal.Fault.TheVariants.{Unknown};
 ghost use Rattle.pair_protocol.specs.Node as protocol;
 ghost use Rattle.ft_world.specs.Lending.{HasNoNode, WithStation, hosts_row};
+ghost use Rattle.ft_world.specs.Opening.{HasSpare, JoinsHosts, host_refusal};
 ghost use Rattle.ft_world.specs.Shows.{AreHosts, IsStatusAt};
+ghost use Rattle.disk_dcdd.specs.Completion.{answered};
 ghost use Rattle.ft_world.specs.contracts.station.Station as the_station;
 ghost use Rattle.ft_world.specs.declared.host.Host.TheVariants as host;
 
 use crate::host::Host;
+use crate::opening::Opening;
 use crate::station::Station;
 use clone_state::Copies;
 use guest_trace::Timed;
@@ -85,5 +88,40 @@ pub(crate) fn settled<B: Copies<H> + Drop, H: Drop>(
     match station(hosts, node) {
         Ok(station) => (station.inputs.as_slice(), station.count),
         Err(_) => (&[], 0),
+    }
+}
+
+/// Whether a node may begin a generation with a host, as far as the hosts tell. `Unknown` if there is no such host or no
+/// such node, `WrongRole` if the host has a role.
+pub(crate) fn check_pair<B: Copies<H> + Drop, H: Drop>(
+    hosts: &Vec<Host<B, H>>,
+    node: u64,
+    host: u64,
+) -> R<()>
+    ensures { result ≡ answered (host_refusal (slice_get hosts.now.items host) (slice_get hosts.now.items node)) }
+{
+    let Some(other) = hosts.get(host as usize) else {
+        return Err(Fault::Unknown);
+    };
+    station(hosts, node)?;
+    match other {
+        Host::Spare(_) => Ok(()),
+        Host::Node(_) => Err(Fault::WrongRole),
+    }
+}
+
+/// A spare host is a node from now on, which joins a generation.
+pub(crate) fn join<B: Copies<H> + Drop, H: Drop>(
+    hosts: &mut Vec<Host<B, H>>,
+    host: u64,
+    opening: Opening,
+)
+    requires { HasSpare hosts.old.items host }
+    ensures { JoinsHosts B.state B.machine hosts.old.items host opening hosts.new.items }
+{
+    let joined = hosts.remove(host as usize).joined(opening);
+    match hosts.insert(host as usize, joined) {
+        Ok(()) => {}
+        Err(_) => unreachable!(),
     }
 }

@@ -1,5 +1,5 @@
 //! The inputs beside a node.
-ghost use Rattle.std.specs.Prelude.{◌≡◌, [], ◌∷◌, ◌++◌, length, take, IfErr, OnErr, OnOk};
+ghost use Rattle.std.specs.Prelude.{◌≡◌, [], ◌∷◌, ◌++◌, length, take, IfErr, IfOk, OnErr, OnOk};
 ghost use Rattle.i8080_words.specs.declared.refusal.Fault.TheVariants.{OutOfMemory};
 ghost use Rattle.guest_trace.specs.Reach.{timed};
 ghost use Rattle.log_entry.specs.Entries.{timed_in, timed_of};
@@ -41,6 +41,16 @@ impl Inputs {
         ensures { result.now ≡ self.now }
     {
         &self.list
+    }
+
+    // A copy of them.
+    pub(crate) fn copy(&self, alloc: Global) -> R<Inputs>
+        ensures ok { IfOk result (λ copy. copy ≡ self.now) }
+        ensures full { IfErr result (λ fault. fault ≡ OutOfMemory) }
+    {
+        let mut list = Vec::with_capacity(alloc, self.list.len())?;
+        list.extend_from_slice(&self.list)?;
+        Ok(Inputs { list })
     }
 
     // How many there are.

@@ -2,15 +2,18 @@
 #![tactic(auto)]
 
 mod altair;
+mod copy_events;
 mod device_events;
 mod devices;
 mod host;
 mod hosts;
 mod input_list;
+mod joining;
 mod laws;
 mod message;
 mod messages;
 mod node_events;
+mod opening;
 mod pair;
 mod readers;
 mod room;

@@ -13,6 +13,8 @@ pub enum Message {
     Log(Vec<u8>),
     /// The packet of an acknowledgement.
     Ack(Vec<u8>),
+    /// A part of an image, in the bytes of its message.
+    Part(Vec<u8>),
     /// A byte for the terminal of a port, with its number, from 1.
     Byte { port: u8, number: u64, byte: u8 },
     /// A write for the shared disk.
@@ -50,6 +52,16 @@ impl Message {
     {
         match self {
             Message::Ack(packet) => Some(packet),
+            _ => None,
+        }
+    }
+
+    // The bytes of a part of an image, if it is one.
+    pub(crate) fn part(&self) -> Option<&[u8]>
+        ensures { option_map (λ part. part.now) result ≡ table.part_of self.now }
+    {
+        match self {
+            Message::Part(part) => Some(part),
             _ => None,
         }
     }

@@ -33,6 +33,14 @@ pub(crate) fn ack_in(messages: &Vec<Message>, message: u64) -> Option<&[u8]>
     message.ack()
 }
 
+/// The part of an image that a message brings to a joining node.
+pub(crate) fn part_in(messages: &Vec<Message>, message: u64) -> Option<&[u8]>
+    ensures { option_map (λ part. part.now) result ≡ table.brought table.part_of messages.now.items message }
+{
+    let message = messages.get(message as usize)?;
+    message.part()
+}
+
 /// The byte that a message brings to its terminal: its port, its number and the byte.
 pub(crate) fn byte_in(messages: &Vec<Message>, message: u64) -> Option<(u8, u64, u8)>
     ensures { result ≡ table.brought table.byte_of messages.now.items message }

@@ -8,7 +8,7 @@ ghost use Rattle.ft_world.specs.Applies.{failures_over, failures_told};
 ghost use Rattle.ft_world.specs.Beginning.{MayBegin, MayBeginSome, beginning};
 ghost use Rattle.ft_world.specs.Standing.{Course, machine_of};
 ghost use Rattle.ft_world.specs.Pairs.{running_of};
-ghost use Rattle.ft_world.specs.Staying.{SpareHostsStay, Stays};
+ghost use Rattle.ft_world.specs.Staying.{SparesAfter, SparesLeft, Stays};
 ghost use Rattle.ft_world.specs.declared.host.Host.TheVariants as host;
 
 use crate::host::Host;
@@ -68,7 +68,7 @@ impl<B: Copies<H> + Drop, D: SectorStore, H: Drop> Pair<B, D, H> {
         ensures counted { D.failures self.new.disk ≡ D.failures self.old.disk + failures_told event result }
         ensures unchanged { IfErr result (λ fault. Stays D.records event fault (running_of self.old)
             (running_of self.new)) }
-        ensures spares { SpareHostsStay self.old.hosts.items self.new.hosts.items }
+        ensures spares { SparesAfter event result self.old.hosts.items self.new.hosts.items }
     {
         match event {
             Event::Step { node, turns } => self.step(node, turns),
@@ -92,6 +92,9 @@ impl<B: Copies<H> + Drop, D: SectorStore, H: Drop> Pair<B, D, H> {
             Event::Suspect { node } => self.suspect(node),
             Event::Drain { node, turns } => self.drain(node, turns),
             Event::Stop { node } => self.stop(node),
+            Event::BeginPair { node, host } => self.begin_pair(alloc, node, host),
+            Event::SendPart { node, index } => self.send_part(alloc, node, index),
+            Event::PartComes { message, node } => self.part_comes(alloc, message, node),
         }
     }
 
@@ -103,7 +106,7 @@ impl<B: Copies<H> + Drop, D: SectorStore, H: Drop> Pair<B, D, H> {
             → Runs B.state B.copied B.machine D.records c events.now answers.items (running_of self.new)) }
         ensures counted { IfOk result (λ answers. D.failures self.new.disk
             ≡ D.failures self.old.disk + failures_over events.now answers.items) }
-        ensures spares { SpareHostsStay self.old.hosts.items self.new.hosts.items }
+        ensures spares { SparesLeft self.old.hosts.items self.new.hosts.items }
         ensures full { IfErr result (λ fault. fault ≡ OutOfMemory) }
         ensures unchanged { OnErr result (running_of self.new ≡ running_of self.old) }
     {

@@ -45,7 +45,7 @@ impl<B: Copies<H> + Drop, D: SectorStore, H: Drop> World<B, D, H> {
     ghost use Rattle.ft_world.specs.Beginning.{MayBegin, MayBeginSome, beginning};
     ghost use Rattle.ft_world.specs.Shows.{Agree, IsStatusAt};
     ghost use Rattle.ft_world.specs.Standing.{Course, machine_of};
-    ghost use Rattle.ft_world.specs.Staying.{SpareHostsStay, Stays};
+    ghost use Rattle.ft_world.specs.Staying.{SparesAfter, SparesLeft, Stays};
     ghost use Rattle.ft_world.specs.Words.{IsMessage};
     ghost use Rattle.ft_world.specs.declared.host.Host.TheVariants as host;
 
@@ -90,7 +90,7 @@ impl<B: Copies<H> + Drop, D: SectorStore, H: Drop> World<B, D, H> {
         ensures row { Happens B.state B.copied B.machine D.records self.old event result self.new }
         ensures counted { D.failures self.new.disk ≡ D.failures self.old.disk + failures_told event result }
         ensures unchanged { IfErr result (λ fault. Stays D.records event fault self.old self.new) }
-        ensures spares { SpareHostsStay self.old.hosts self.new.hosts }
+        ensures spares { SparesAfter event result self.old.hosts self.new.hosts }
     {
         self.pair.apply(alloc, event)
     }
@@ -102,7 +102,7 @@ impl<B: Copies<H> + Drop, D: SectorStore, H: Drop> World<B, D, H> {
             → Runs B.state B.copied B.machine D.records c events.now answers.items self.new) }
         ensures counted { IfOk result (λ answers. D.failures self.new.disk
             ≡ D.failures self.old.disk + failures_over events.now answers.items) }
-        ensures spares { SpareHostsStay self.old.hosts self.new.hosts }
+        ensures spares { SparesLeft self.old.hosts self.new.hosts }
         ensures full { IfErr result (λ fault. fault ≡ OutOfMemory) }
         ensures unchanged { OnErr result (self.new ≡ self.old) }
     {

@@ -42,6 +42,12 @@ pub enum Event {
     Suspect { node: u64 },
     /// A backup that has won makes at most this many moves of the log that it still holds.
     Drain { node: u64, turns: u64 },
+    /// A node that is alone begins a new pair with a spare host.
+    BeginPair { node: u64, host: u64 },
+    /// A primary sends the part of this index of its image.
+    SendPart { node: u64, index: u64 },
+    /// A message with such a part is delivered to a joining node.
+    PartComes { message: u64, node: u64 },
     /// A node halts for good.
     Stop { node: u64 },
 }

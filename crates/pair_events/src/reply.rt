@@ -44,9 +44,9 @@ pub enum Reply {
     Message {
         message: u64,
     },
-    /// The backup holds the entry from now on.
+    /// The backup holds the entry, or the joining node the part, from now on.
     New,
-    /// The backup held the entry before, or an entry before it is missing: nothing changed.
+    /// It held it before, or lacks an entry before it: nothing changed.
     Old,
     /// The greatest number of entries that the backup has acknowledged.
     Held {
@@ -71,6 +71,12 @@ pub enum Reply {
     },
     /// The node has won its generation.
     Won,
+    /// The node is the primary of a new pair, of this generation.
+    Generation {
+        generation: u32,
+    },
+    /// Every part came: the node is a backup from now on.
+    Whole,
     /// The node is halted.
     Stopped,
 }
@@ -130,6 +136,8 @@ impl fmt::Display for Reply {
             Reply::Dropped => write!(f, "dropped"),
             Reply::Told { keys } => write!(f, "told {keys}"),
             Reply::Won => write!(f, "won"),
+            Reply::Generation { generation } => write!(f, "generation {generation}"),
+            Reply::Whole => write!(f, "whole"),
             Reply::Stopped => write!(f, "stopped"),
         }
     }

@@ -51,6 +51,13 @@ fn replies_show_as_words(rt: HostRuntime) -> Result<(), Fail> {
         (Reply::Dropped, "dropped"),
         (Reply::Told { keys: 5 }, "told 5"),
         (Reply::Won, "won"),
+        (
+            Reply::Generation {
+                generation: 4294967295,
+            },
+            "generation 4294967295",
+        ),
+        (Reply::Whole, "whole"),
         (Reply::Stopped, "stopped"),
     ];
     for (reply, text) in texts {

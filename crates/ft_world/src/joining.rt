@@ -1,0 +1,69 @@
+//! What happens at a station when a generation begins with a copied machine: a node begins it, another joins it.
+ghost use Rattle.std.specs.Prelude.{◌≡◌, ℕ, length, OnErr};
+ghost use Rattle.clone_state.specs.Copies.{CopiesAs};
+ghost use Rattle.clone_state.specs.Parts.{message_at};
+ghost use Rattle.pair_protocol.specs.Copying.{Copying};
+ghost use Rattle.pair_protocol.specs.Node as protocol;
+ghost use Rattle.pair_protocol.specs.Refusals as refusals;
+ghost use Rattle.ft_node.specs.Calls as calls;
+ghost use Rattle.ft_world.specs.Opening.{IsJoined, Opens};
+ghost use Rattle.ft_world.specs.Shows.{IsStation};
+
+use crate::opening::Opening;
+use crate::station::Station;
+use clone_state::{Assembly, Copies};
+use ft_node::{NextGeneration, Node, PartCame};
+use i8080_words::R;
+use std::alloc::Global;
+
+impl<B: Copies<H> + Drop, H: Drop> Station<B, H> {
+    /// An alone node begins the next generation as its primary. Returns what the host is given that joins it.
+    pub(crate) fn begin(&mut self, alloc: Global) -> R<Opening>
+        ensures answer { (C : Copying B.State) (drives : ℕ) (x : protocol.Node B.State)
+            → CopiesAs B.state B.copied drives C.parts C.part_count C.assemble → calls.HasTakenKeys B.machine x
+            → length (C.parts x.machine) ≡ C.part_count → IsStation B.state B.machine C drives self.old x
+            → calls.Call (refusals.begin_pair_refusal x) calls.Ever
+            (λ opening. Opens B.machine drives opening self.old.inputs self.old.count) x result
+            (IsStation B.state B.machine C drives self.new) }
+        ensures unchanged { OnErr result (self.new ≡ self.old) }
+    {
+        let NextGeneration { generation, drives } = self.node.next_generation()?;
+        let assembly = Assembly::new(alloc, generation, drives)?;
+        let inputs = self.inputs.copy(alloc)?;
+        self.node.begin(alloc)?;
+        Ok(Opening {
+            generation,
+            assembly,
+            inputs,
+            count: self.count,
+        })
+    }
+
+    /// The station of a node that joins a generation, with no part of the image yet.
+    pub(crate) fn joining(opening: Opening, resources: H) -> Station<B, H>
+        ensures { IsJoined B.state B.machine opening result }
+    {
+        let Opening {
+            generation,
+            assembly,
+            inputs,
+            count,
+        } = opening;
+        Station {
+            node: Node::joining(assembly, resources, generation, count),
+            inputs,
+            count,
+        }
+    }
+
+    /// A joining node takes a part of the image; with the last one that was missing it is the backup.
+    pub(crate) fn part(&mut self, alloc: Global, bytes: &[u8]) -> R<PartCame>
+        ensures answer { (C : Copying B.State) (drives : ℕ) (x : protocol.Node B.State)
+            → CopiesAs B.state B.copied drives C.parts C.part_count C.assemble
+            → IsStation B.state B.machine C drives self.old x
+            → calls.GetsPart C (message_at drives bytes.now) x result (IsStation B.state B.machine C drives self.new) }
+        ensures unchanged { OnErr result (self.new ≡ self.old) }
+    {
+        self.node.part(alloc, bytes)
+    }
+}

@@ -1,0 +1,19 @@
+//! What a host is given that joins a new generation.
+ghost use Rattle.std.specs.Prelude.{◌≡◌, ◌<◌};
+ghost use Rattle.clone_state.specs.Assembly.{nothing_gathered};
+ghost use Rattle.clone_state.specs.Parts.{part_count};
+
+use crate::input_list::Inputs;
+use clone_state::Assembly;
+
+/// The generation, an assembly for the parts of its image, none of which came yet, the inputs of the machine that is
+/// copied, and the count up to which they settle it.
+#[derive(Drop)]
+pub(crate) struct Opening {
+    pub(crate) generation: u32,
+    pub(crate) assembly: Assembly,
+    pub(crate) inputs: Inputs,
+    pub(crate) count: u64,
+    ghost first: { 0 < generation },
+    ghost unused: { assembly ≡ nothing_gathered generation assembly.drives (part_count assembly.drives) },
+}
