@@ -13,7 +13,7 @@ ghost use Rattle.ft_node.specs.Calls as calls;
 ghost use Rattle.ft_node.specs.Calls.{next_after};
 ghost use Rattle.ft_node.specs.Kept.{image_of};
 ghost use Rattle.ft_node.specs.Roles.{IsAlone, IsJoining};
-ghost use Rattle.ft_node.specs.Seats.{IsNode};
+ghost use Rattle.ft_node.specs.Seats.{AreFreshened, IsNode};
 ghost use Rattle.ft_node.specs.declared.node.Node.TheVariants as seat;
 
 use crate::alone::Alone;
@@ -66,6 +66,21 @@ impl<B: Copies<H> + Drop, H: Drop> Node<B, H> {
                 *self = other;
                 Err(Fault::WrongRole)
             }
+        }
+    }
+
+    /// Copies the lowest stale pages of an alone node's machine, at most so many, for the image with which it may begin
+    /// the next generation. How many are stale then. `OutOfMemory` only if none was ever copied for that image.
+    pub fn freshen(&mut self, alloc: Global, pages: u64) -> R<u64>
+        ensures answer { (C : Copying B.State) (drives : ℕ) (x : protocol.Node B.State)
+            → IsNode B.state B.machine C drives self.old x
+            → calls.Freshens x result (IsNode B.state B.machine C drives self.new) }
+        ensures stale { IfOk result (λ left. AreFreshened B.stale pages left self.old self.new) }
+        ensures unchanged { OnErr result (self.new ≡ self.old) }
+    {
+        match self {
+            Node::Alone(alone) => alone.board.freshen(alloc, pages),
+            _ => Err(Fault::WrongRole),
         }
     }
 
@@ -123,7 +138,7 @@ fn next_of(generation: u32, drives: u8) -> R<NextGeneration>
 }
 
 // The node that an alone node is once it has begun the next generation; if it can't, it stays alone.
-fn begun<B: Copies<H> + Drop, H: Drop>(alloc: Global, alone: Alone<B>) -> (R<u32>, Node<B, H>)
+fn begun<B: Copies<H> + Drop, H: Drop>(alloc: Global, mut alone: Alone<B>) -> (R<u32>, Node<B, H>)
     ensures answer { (C : Copying B.State) (drives : ℕ) (x : protocol.Node B.State)
         → CopiesAs B.state B.copied drives C.parts C.part_count C.assemble
         → calls.HasTakenKeys B.machine x → IsAlone (B.state alone.board) alone.generation x
@@ -134,7 +149,7 @@ fn begun<B: Copies<H> + Drop, H: Drop>(alloc: Global, alone: Alone<B>) -> (R<u32
         return (Err(Fault::Spent), Node::Alone(alone));
     }
     let generation = alone.generation + 1;
-    let Ok((log, image)) = log_and_image::<B, H>(alloc, &alone.board, generation) else {
+    let Ok((log, image)) = log_and_image::<B, H>(alloc, &mut alone.board, generation) else {
         return (Err(Fault::OutOfMemory), Node::Alone(alone));
     };
     let keys = [alone.board.keys(0), alone.board.keys(1)];
@@ -145,16 +160,18 @@ fn begun<B: Copies<H> + Drop, H: Drop>(alloc: Global, alone: Alone<B>) -> (R<u32
 // All that a generation needs memory for when it begins: its log and its image.
 fn log_and_image<B: Copies<H> + Drop, H: Drop>(
     alloc: Global,
-    board: &B,
+    board: &mut B,
     generation: u32,
 ) -> R<(LogBuffer, Image)>
     requires { 0 < generation }
     ensures log { IfOk result (λ made. made.0 ≡ logs.log 0 []) }
     ensures image { IfOk result (λ made. image_of made.1
-        ≡ record { generation = generation; parts = image_parts (B.copied board.now) }) }
+        ≡ record { generation = generation; parts = image_parts (B.copied board.old) }) }
     ensures keys { IfOk result (λ made. (port : ℕ) → port < PORTS
-        → B.machine.keys (B.state board.now) port ≤ GREATEST_NUMBER) }
+        → B.machine.keys (B.state board.new) port ≤ GREATEST_NUMBER) }
+    ensures state { B.state board.new ≡ B.state board.old }
     ensures full { IsOkUnless result OutOfMemory }
+    ensures unchanged { OnErr result (board.new ≡ board.old) }
 {
     let log = LogBuffer::new(alloc, 0)?;
     let image = board.image(alloc, generation)?;
