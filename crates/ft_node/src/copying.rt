@@ -1,5 +1,5 @@
 //! A generation that begins with the copy of a machine: an alone node begins it, and a joining node is given the parts.
-ghost use Rattle.std.specs.Prelude.{◌≡◌, ◌+◌, ◌<◌, ◌≤◌, ℕ, [], length, IfOk, IsOkUnless, OnErr};
+ghost use Rattle.std.specs.Prelude.{◌≡◌, ◌+◌, ◌-◌, ◌<◌, ◌≤◌, ℕ, [], length, IfOk, IsOkUnless, OnErr};
 ghost use Rattle.clone_state.specs.Copies.{CopiesAs, image_parts};
 ghost use Rattle.clone_state.specs.Parts.{message_at};
 ghost use Rattle.disk_dcdd.specs.declared.controller.TheConstants.{DRIVES};
@@ -80,7 +80,7 @@ impl<B: Copies<H> + Drop, H: Drop> Node<B, H> {
         ensures unchanged { OnErr result (self.new ≡ self.old) }
     {
         match self {
-            Node::Alone(alone) => alone.board.freshen(alloc, pages),
+            Node::Alone(alone) => freshened::<B, H>(alone, alloc, pages),
             _ => Err(Fault::WrongRole),
         }
     }
@@ -138,6 +138,21 @@ fn next_of(generation: u32, drives: u8) -> R<NextGeneration>
     })
 }
 
+// An alone node copies pages of its machine early. How many are stale then.
+fn freshened<B: Copies<H> + Drop, H: Drop>(
+    alone: &mut Alone<B>,
+    alloc: Global,
+    pages: u64,
+) -> R<u64>
+    ensures answer { (x : protocol.Node B.State) → IsAlone (B.state alone.old.board) alone.old.generation x
+        → calls.Freshens x result (IsAlone (B.state alone.new.board) alone.new.generation) }
+    ensures fewer { IfOk result (λ left. left ≡ B.stale alone.old.board - pages) }
+    ensures left { IfOk result (λ left. left ≡ B.stale alone.new.board) }
+    ensures unchanged { OnErr result (alone.new ≡ alone.old) }
+{
+    alone.board.freshen(alloc, pages)
+}
+
 // The node that an alone node is once it has begun the next generation; if it can't, it stays alone.
 fn begun<B: Copies<H> + Drop, H: Drop>(alloc: Global, mut alone: Alone<B>) -> (R<u32>, Node<B, H>)
     ensures answer { (C : Copying B.State) (drives : ℕ) (x : protocol.Node B.State)
@@ -150,8 +165,9 @@ fn begun<B: Copies<H> + Drop, H: Drop>(alloc: Global, mut alone: Alone<B>) -> (R
         return (Err(Fault::Spent), Node::Alone(alone));
     }
     let generation = alone.generation + 1;
-    let Ok((log, image)) = log_and_image::<B, H>(alloc, &mut alone.board, generation) else {
-        return (Err(Fault::OutOfMemory), Node::Alone(alone));
+    let (log, image) = match log_and_image::<B, H>(alloc, &mut alone, generation) {
+        Ok(made) => made,
+        Err(fault) => return (Err(fault), Node::Alone(alone)),
     };
     let keys = [alone.board.keys(0), alone.board.keys(1)];
     let primary = Primary::begin(alone.board, log, generation, keys, KeptImage::of(image));
@@ -161,21 +177,21 @@ fn begun<B: Copies<H> + Drop, H: Drop>(alloc: Global, mut alone: Alone<B>) -> (R
 // All that a generation needs memory for when it begins: its log and its image.
 fn log_and_image<B: Copies<H> + Drop, H: Drop>(
     alloc: Global,
-    board: &mut B,
+    alone: &mut Alone<B>,
     generation: u32,
 ) -> R<(LogBuffer, Image)>
     requires { 0 < generation }
     ensures log { IfOk result (λ made. made.0 ≡ logs.log 0 []) }
     ensures image { IfOk result (λ made. image_of made.1
-        ≡ record { generation = generation; parts = image_parts (B.copied board.old) }) }
+        ≡ record { generation = generation; parts = image_parts (B.copied alone.old.board) }) }
     ensures keys { IfOk result (λ made. (port : ℕ) → port < PORTS
-        → B.machine.keys (B.state board.new) port ≤ GREATEST_NUMBER) }
-    ensures state { B.state board.new ≡ B.state board.old }
+        → B.machine.keys (B.state alone.new.board) port ≤ GREATEST_NUMBER) }
+    ensures state { B.state alone.new.board ≡ B.state alone.old.board }
     ensures full { IsOkUnless result OutOfMemory }
-    ensures unchanged { OnErr result (board.new ≡ board.old) }
+    ensures unchanged { OnErr result (alone.new ≡ alone.old) }
 {
     let log = LogBuffer::new(alloc, 0)?;
-    let image = board.image(alloc, generation)?;
+    let image = alone.board.image(alloc, generation)?;
     Ok((log, image))
 }
 
