@@ -1,6 +1,6 @@
 -- What each call of a node returns and leaves, by the node of the protocol that it is before the call: the refusal of
 -- the event's node part, or what its row says of the node.
-use Rattle.std.specs.Prelude.{◌≡◌, ◌≢◌, ℕ, suc, ◌<◌, Bool, true, Option, Some, None, is_none, List, [], ◌∷◌, length, replicate, slice_index_or, ◌==◌, nat_le, if◌then◌else◌, Result, Ok, Err}
+use Rattle.std.specs.Prelude.{◌≡◌, ◌≢◌, ℕ, suc, ◌<◌, ◌^◌, Bool, true, Option, Some, None, is_none, List, [], ◌∷◌, length, replicate, slice_index_or, ◌==◌, nat_le, if◌then◌else◌, Result, Ok, Err}
 use Rattle.std.specs.Global.{Vec}
 use Rattle.disk_dcdd.specs.declared.address.SectorAddress.{SectorAddress}
 use Rattle.event_callbacks.specs.declared.operations.OpId.{OpId}
@@ -228,10 +228,12 @@ Begun M generation x y = (generation ≡ suc x.generation) × (y ≡ begun M x)
 abbrev pub BeginsPair : {S : Type 0} → Machine S → Node S → Result ℕ Fault → (Node S → Type 0) → Type 0
 BeginsPair M x result Is = Call (refusals.begin_pair_refusal x) Ever (Begun M) x result Is
 
--- a part of a primary's image, as the bytes of a message
+-- a part of a primary's image, as the bytes of a message, in a generation that a message has room for
 pub record SpellsPart {S : Type 0} (C : Copying S) (index : ℕ) (x : Node S) (bytes : Vec ℕ) : Type 0 where
   pub part : List ℕ
   pub has : HasPart C index part x
+  pub first : 0 < x.generation
+  pub within : x.generation < 2 ^ 32
   pub spelled : bytes.items ≡ part_bytes x.generation index part
 
 abbrev pub SendsPart : {S : Type 0} → Copying S → ℕ → Node S → Result (Vec ℕ) Fault → Type 0

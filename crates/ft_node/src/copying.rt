@@ -33,7 +33,8 @@ impl<B: Copies<H> + Drop, H: Drop> Node<B, H> {
     /// greatest.
     pub fn next_generation(&self) -> R<NextGeneration>
         ensures answer { (C : Copying B.State) (drives : ℕ) (x : protocol.Node B.State)
-            → CopiesAs B.state B.copied drives C.parts C.part_count C.assemble → length (C.parts x.machine) ≡ C.part_count
+            → CopiesAs B.state B.copied drives C.parts C.part_count C.assemble
+            → (x.role ≡ protocol.Alone → length (C.parts x.machine) ≡ C.part_count)
             → IsNode B.state B.machine C drives self.now x → calls.MayBegin drives x result }
         ensures first { IfOk result (λ next. 0 < next.generation) }
         ensures some { IfOk result (λ next. 1 ≤ next.drives) }
