@@ -69,7 +69,7 @@ AsksHost state M C drives nodes n old result hosts new =
 
 -- ---- from a station to the hosts
 
-not_spare : {S : Type 0} (x : Node S) (part : Node S → Option Fault) → (x.role ≡ Spare → ⊥)
+pub not_spare : {S : Type 0} (x : Node S) (part : Node S → Option Fault) → (x.role ≡ Spare → ⊥)
     → part x ≡ at_node (Some x) part
 not_spare x part a = go x.role a
   where
@@ -83,7 +83,7 @@ not_spare x part a = go x.role a
 
 module _ {B H S : Type 0} (state : B → S) (M : Machine S) (C : Copying S) (drives : ℕ) (hosts : List (Host B H)) (nodes : List (Node S)) (n : ℕ)
     (are : AreHosts state M C drives hosts nodes) where
-  with_host : (h new : Host B H) (x y : Node S) → slice_get hosts n ≡ Some h → slice_get nodes n ≡ Some x
+  pub with_host : (h new : Host B H) (x y : Node S) → slice_get hosts n ≡ Some h → slice_get nodes n ≡ Some x
       → IsHost state M C drives new y → AreHosts state M C drives (slice_set hosts n new) (slice_set nodes n y)
   with_host h new x y at there is = λ m. elim (same_or_not m n) [
     | inl e ↦ subst
@@ -144,19 +144,20 @@ module _ {B H D S : Type 0} {state : B → S} {copied : B → Guest} {M : Machin
     {c : Course S} (h : Shows state copied M records old c) where
   module _ {n : ℕ} {here s : Station B H} {new : List (Host B H)} (at : slice_get old.hosts n ≡ Some (host.Node here))
       (w : WithStation old.hosts n s new) where
-    pub at_host : {A : Type 0} {part : Node S → Option Fault} {needs : Node S → Type 0}
+    -- what is said of the station's node in this world
+    pub at_this_host : {A : Type 0} {part : Node S → Option Fault} {needs : Node S → Type 0}
         {does : A → Node S → Node S → Type 0} {result : Result A Fault}
-        → ((C : Copying S) (drives : ℕ) (x : Node S) → IsStation state M C drives here x
-        → Call (part x) needs does x result (IsStation state M C drives s))
+        → ((x : Node S) → slice_get c.world.nodes n ≡ Some x → IsStation state M c.copying h.drives here x
+        → Call (part x) needs does x result (IsStation state M c.copying h.drives s))
         → AtHost state M c.copying h.drives c.world n part needs does result new
-    at_host {A} {part} {needs} {does} {result} says = record {
+    at_this_host {A} {part} {needs} {does} {result} says = record {
       answer =
           at_station state M c.copying h.drives old.hosts c.world.nodes n h.parts.hosts here part result
           (AreHosts state M c.copying h.drives new c.world.nodes)
           (Gives result (OfNode c.world n needs × AreHosts state M c.copying h.drives new c.world.nodes)
           (λ v. Becomes state M c.copying h.drives c.world.nodes n new (does v))) at
           (λ x there is. unless (part x) result (IsStation state M c.copying h.drives s x) (AreHosts state M c.copying h.drives new c.world.nodes) _ _
-          (stay x there) (gives x there result) (says c.copying h.drives x is));
+          (stay x there) (gives x there result) (says x there is));
     }
       where
         stay : (x : Node S) → slice_get c.world.nodes n ≡ Some x → IsStation state M c.copying h.drives s x
@@ -176,6 +177,14 @@ module _ {B H D S : Type 0} {state : B → S} {copied : B → Guest} {M : Machin
         }
         gives x there (Err fault) d =
             (d.0, (record { x = x; there = there; said = d.1.0 }, stay x there d.1.1))
+
+    -- and if it is said in every world
+    pub at_host : {A : Type 0} {part : Node S → Option Fault} {needs : Node S → Type 0}
+        {does : A → Node S → Node S → Type 0} {result : Result A Fault}
+        → ((C : Copying S) (drives : ℕ) (x : Node S) → IsStation state M C drives here x
+        → Call (part x) needs does x result (IsStation state M C drives s))
+        → AtHost state M c.copying h.drives c.world n part needs does result new
+    at_host says = at_this_host (λ x there is. says c.copying h.drives x is)
 
     -- a node asks the arbiter
     pub suspects_host : (result : Result Won Fault) (askings : List Asking)
@@ -202,18 +211,17 @@ module _ {B H D S : Type 0} {state : B → S} {copied : B → Guest} {M : Machin
         })
         (says c.copying h.drives x is))
 
-  -- a node is asked
-  pub asks_node : {A : Type 0} {n : ℕ} {here : Station B H} {part : Node S → Option Fault} {needs : Node S → Type 0}
+  -- a node is asked, in this world
+  pub asks_this_node : {A : Type 0} {n : ℕ} {here : Station B H} {part : Node S → Option Fault} {needs : Node S → Type 0}
       {says : A → Node S → Type 0} {result : Result A Fault} → slice_get old.hosts n ≡ Some (host.Node here)
-      → ((C : Copying S) (drives : ℕ) (x : Node S) → IsNode state M C drives here.node x
-      → Ask (part x) needs says x result)
+      → ((x : Node S) → IsNode state M c.copying h.drives here.node x → Ask (part x) needs says x result)
       → AsksNode c.world n part needs says result
-  asks_node {A} {n} {here} {part} {needs} {says} {result} at answers = record {
+  asks_this_node {A} {n} {here} {part} {needs} {says} {result} at answers = record {
     answer =
         at_station state M c.copying h.drives old.hosts c.world.nodes n h.parts.hosts here part result (Unit {0})
         (Gives result (OfNode c.world n needs) (λ v. OfNode c.world n (says v))) at
         (λ x there is. unless (part x) result (Unit {0}) (Unit {0}) _ _ (λ p. p) (gives x there result)
-        (answers c.copying h.drives x is.node));
+        (answers x is.node));
   }
     where
       gives : (x : Node S) → slice_get c.world.nodes n ≡ Some x → (r : Result A Fault)
@@ -221,6 +229,14 @@ module _ {B H D S : Type 0} {state : B → S} {copied : B → Guest} {M : Machin
           → Gives r (OfNode c.world n needs) (λ v. OfNode c.world n (says v))
       gives x there (Ok v) s = record { x = x; there = there; said = s }
       gives x there (Err fault) d = (d.0, record { x = x; there = there; said = d.1 })
+
+  -- and in every world
+  pub asks_node : {A : Type 0} {n : ℕ} {here : Station B H} {part : Node S → Option Fault} {needs : Node S → Type 0}
+      {says : A → Node S → Type 0} {result : Result A Fault} → slice_get old.hosts n ≡ Some (host.Node here)
+      → ((C : Copying S) (drives : ℕ) (x : Node S) → IsNode state M C drives here.node x
+      → Ask (part x) needs says x result)
+      → AsksNode c.world n part needs says result
+  asks_node at answers = asks_this_node at (λ x is. answers c.copying h.drives x is)
 
   -- no node has this number, and nothing changes
   pub no_host : (A : Type 0) (n : ℕ) (part : Node S → Option Fault) {fault : Fault} (P D' : Type 0) → fault ≡ Unknown

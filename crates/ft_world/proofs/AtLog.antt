@@ -56,6 +56,7 @@ brings_entry (Some (message.Log b)) (Some (world.LogEntry g i x)) bytes a e = re
 }
 brings_entry (Some (message.Log b)) q bytes a e = absurd a
 brings_entry (Some (message.Ack b)) q bytes a e = (cc)
+brings_entry (Some (message.Part b)) q bytes a e = (cc)
 brings_entry (Some (message.Byte p n b)) q bytes a e = (cc)
 brings_entry (Some (message.Write write)) q bytes a e = (cc)
 brings_entry (Some (message.Written n)) q bytes a e = (cc)
@@ -68,7 +69,9 @@ no_entry None None here a e = refl
 no_entry None (Some y) here a e = absurd a
 no_entry (Some (message.Log b)) q here a e = (cc)
 no_entry (Some (message.Ack b)) (Some (world.Acknowledgement g h r)) here a e = refl
+no_entry (Some (message.Part b)) (Some (world.ImagePart g i k)) here a e = refl
 no_entry (Some (message.Ack b)) q here a e = absurd a
+no_entry (Some (message.Part b)) q here a e = absurd a
 no_entry (Some (message.Byte p n b)) (Some (world.Released x)) here a e = refl
 no_entry (Some (message.Byte p n b)) q here a e = absurd a
 no_entry (Some (message.Write write)) (Some (world.Released x)) here a e = refl
@@ -150,6 +153,7 @@ brings_acknowledgement (Some (message.Ack b)) (Some (world.Acknowledgement g k r
   spelled = subst (λ l. packet_at l ≡ Some (packet.Ack g k)) (same_some b.items bytes (Some b.items) refl e) a.0;
 }
 brings_acknowledgement (Some (message.Ack b)) q bytes a e = absurd a
+brings_acknowledgement (Some (message.Part b)) q bytes a e = (cc)
 brings_acknowledgement (Some (message.Log b)) q bytes a e = (cc)
 brings_acknowledgement (Some (message.Byte p n b)) q bytes a e = (cc)
 brings_acknowledgement (Some (message.Write write)) q bytes a e = (cc)
@@ -162,6 +166,8 @@ no_acknowledgement : {S : Type 0} (o : Option Message) (q : Option world.Message
 no_acknowledgement None None here a e = refl
 no_acknowledgement None (Some y) here a e = absurd a
 no_acknowledgement (Some (message.Ack b)) q here a e = (cc)
+no_acknowledgement (Some (message.Part b)) (Some (world.ImagePart g i k)) here a e = refl
+no_acknowledgement (Some (message.Part b)) q here a e = absurd a
 no_acknowledgement (Some (message.Log b)) (Some (world.LogEntry g i x)) here a e = refl
 no_acknowledgement (Some (message.Log b)) q here a e = absurd a
 no_acknowledgement (Some (message.Byte p n b)) (Some (world.Released x)) here a e = refl

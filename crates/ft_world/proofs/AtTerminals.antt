@@ -154,6 +154,7 @@ released (Some (message.Byte p n b)) (Some (world.Released x)) port number byte 
 released (Some (message.Byte p n b)) q port number byte a e = absurd a
 released (Some (message.Log bytes)) q port number byte a e = (cc)
 released (Some (message.Ack bytes)) q port number byte a e = (cc)
+released (Some (message.Part bytes)) q port number byte a e = (cc)
 released (Some (message.Write write)) q port number byte a e = (cc)
 released (Some (message.Written n)) q port number byte a e = (cc)
 released (Some (message.Sector r)) q port number byte a e = (cc)
@@ -167,7 +168,9 @@ not_released (Some (message.Byte p n b)) q a e = (cc)
 not_released (Some (message.Log bytes)) (Some (world.LogEntry g i x)) a e = refl
 not_released (Some (message.Log bytes)) q a e = absurd a
 not_released (Some (message.Ack bytes)) (Some (world.Acknowledgement g h r)) a e = refl
+not_released (Some (message.Part bytes)) (Some (world.ImagePart g i k)) a e = refl
 not_released (Some (message.Ack bytes)) q a e = absurd a
+not_released (Some (message.Part bytes)) q a e = absurd a
 not_released (Some (message.Write write)) (Some (world.Released (operation.Write v))) a e = refl
 not_released (Some (message.Write write)) (Some (world.Released (operation.Byte p n b))) a e = (cc)
 not_released (Some (message.Write write)) q a e = absurd a

@@ -32,3 +32,7 @@ pub mod Running
 pub mod Lending
 pub mod Counting
 pub mod Choices
+pub mod CopiedStations
+pub mod AtParts
+pub mod SpareHosts
+pub mod Pairing

@@ -20,8 +20,10 @@ impl<B: Copies<H> + Drop, H: Drop> Station<B, H> {
     /// An alone node begins the next generation as its primary. Returns what the host is given that joins it.
     pub(crate) fn begin(&mut self, alloc: Global) -> R<Opening>
         ensures answer { (C : Copying B.State) (drives : ℕ) (x : protocol.Node B.State)
-            → CopiesAs B.state B.copied drives C.parts C.part_count C.assemble → calls.HasTakenKeys B.machine x
-            → length (C.parts x.machine) ≡ C.part_count → IsStation B.state B.machine C drives self.old x
+            → CopiesAs B.state B.copied drives C.parts C.part_count C.assemble
+            → (x.role ≡ protocol.Alone → calls.HasTakenKeys B.machine x)
+            → (x.role ≡ protocol.Alone → length (C.parts x.machine) ≡ C.part_count)
+            → IsStation B.state B.machine C drives self.old x
             → calls.Call (refusals.begin_pair_refusal x) calls.Ever
             (λ opening. Opens B.machine drives opening self.old.inputs self.old.count) x result
             (IsStation B.state B.machine C drives self.new) }

@@ -1,5 +1,5 @@
 -- Each event's answer comes after the others, as its row does in the run.
-use Rattle.std.proofs.Common.{◌≡◌, ◌+◌, ◌∙◌, [], ap, arith, get_or, refl, subst, sym}
+use Rattle.std.proofs.Common.{◌≡◌, ◌+◌, ◌∙◌, [], ap, arith, get_or, subst, sym}
 use Rattle.std.proofs.lemmas.List.{take_all}
 use Rattle.ft_world.specs.Applies.{Runs, failures_over}
 use Rattle.ft_world.specs.Pairs.{running_of}
@@ -7,6 +7,7 @@ use Rattle.pair_events.specs.declared.event.Event.TheVariants as event
 use Rattle.ft_world.proofs.Applying.{goes_on}
 use Rattle.ft_world.proofs.Counting.{counts_on}
 use Rattle.ft_world.proofs.Running.{runs_begin, runs_on}
+use Rattle.ft_world.proofs.SpareHosts.{after_event, left_here, left_then}
 use Rattle.ft_world.proofs.pair.Pair.run.Goals as goal
 
 pub loop-event-init : goal.loop-event-init
@@ -20,7 +21,7 @@ loop-event-init g c = record {
       (runs_begin g.B.Lockstep.state g.B.Copies.copied g.B.Lockstep.machine g.D.SectorStore.records (running_of c.args.self.now) course
       h);
   counted = omega arith;
-  spares = refl;
+  spares = left_here c.args.self.now.hosts.items;
   many = c.in_ok-answers.ensures.len;
   room = c.in_ok-answers.ensures.capacity;
 }
@@ -42,7 +43,9 @@ loop-event-preserved g c = record {
       (g.D.SectorStore.failures c.loop-event.self.disk) (g.D.SectorStore.failures c.apply-answer.new.self.disk)
       c.loop-event-test.true (sym c.loop-event.answers.ok.0 ∙ c.loop-event.invariant.many) c.in-Ok.ensures.items c.loop-event.invariant.counted
       c.apply-answer.ensures.counted;
-  spares = c.apply-answer.ensures.spares ∙ c.loop-event.invariant.spares;
+  spares = left_then c.loop-event.invariant.spares
+      (after_event (get_or c.args.events.now c.loop-event.event-index (event.Step 0 0)) c.apply-answer.result
+      c.loop-event.self.hosts.items c.apply-answer.new.self.hosts.items c.apply-answer.ensures.spares);
   many = c.in-Ok.ensures.len ∙ ap (λ n. n + 1) c.loop-event.invariant.many;
   room = omega (arith, c.loop-event.invariant.room, c.in-Ok.ensures.capacity);
 }

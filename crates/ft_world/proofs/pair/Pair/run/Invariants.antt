@@ -4,7 +4,7 @@ use Rattle.std.specs.Prelude.{vec_capacity, vec_len}
 use Rattle.ft_world.specs.Applies.{Runs, Shows, ShowsSome, failures_over}
 use Rattle.ft_world.specs.Pairs.{running_of}
 use Rattle.ft_world.specs.Standing.{Course}
-use Rattle.ft_world.specs.Staying.{SpareHostsStay}
+use Rattle.ft_world.specs.Staying.{SparesLeft}
 use Rattle.ft_world.proofs.pair.Pair.run.Given as goal
 
 abbrev pub invariant-loop-event : goal.invariant-loop-event
@@ -16,7 +16,7 @@ invariant-loop-event g l = record {
       l.answers.items (running_of l.self);
   counted : g.D.SectorStore.failures l.self.disk
       ≡ g.D.SectorStore.failures l.fn.self.disk + failures_over (take l.event-index l.fn.events) l.answers.items;
-  spares : SpareHostsStay l.fn.self.hosts.items l.self.hosts.items;
+  spares : SparesLeft l.fn.self.hosts.items l.self.hosts.items;
   many : vec_len l.answers ≡ l.event-index;
   room : length l.fn.events ≤ vec_capacity l.answers;
 }

@@ -1,0 +1,182 @@
+-- A generation begins with a spare host: what refuses that as far as the hosts tell, and the hosts after it.
+use Rattle.std.proofs.Common.{◌≡◌, ◌∙◌, ◌∷◌, [], ◌<◌, ℕ, zero, suc, Err, List, None, Ok, Option, Result, Some, ap, arith, inl, inr, refl, subst, sym}
+use Rattle.std.proofs.lemmas.List.{length-map, length-set}
+use Rattle.std.specs.List.{insert, remove}
+use Rattle.std.specs.Option.{option_map}
+use Rattle.std.specs.Prelude.{length, map, slice_get, slice_set}
+use Rattle.i8080_words.specs.declared.refusal.Fault.{Fault}
+use Rattle.i8080_words.specs.declared.refusal.Fault.TheVariants.{Unknown}
+use Rattle.disk_dcdd.specs.Completion.{answered}
+use Rattle.guest_board.specs.Machine.{Machine}
+use Rattle.ft_world.specs.Lending.{IsSpare, WithStation}
+use Rattle.ft_world.specs.Opening.{HasJoined, HasSpare, JoinsHosts, host_refusal}
+use Rattle.ft_world.specs.declared.opening.Opening.{Opening}
+use Rattle.pair_protocol.proofs.Traces.Lists.{get_set_other}
+use Rattle.ft_world.specs.Staying.{SpareHostsStay, SparesAfter, SparesLeft, spare_of}
+use Rattle.pair_events.specs.declared.event.Event.{Event}
+use Rattle.pair_events.specs.declared.event.Event.TheVariants as event
+use Rattle.pair_events.specs.declared.reply.Reply.{Reply}
+use Rattle.ft_world.specs.declared.host.Host.{Host}
+use Rattle.ft_world.specs.declared.host.Host.TheVariants as host
+use Rattle.ft_world.specs.declared.station.Station.{Station}
+use Rattle.ft_world.proofs.AtNodes.{set_cases}
+
+-- no node has the number of the one that is to begin
+pub no_beginner : {B H : Type 0} (there : Host B H) (here : Option (Host B H))
+    → ((station : Station B H) → here ≡ Some (host.Node station) → ⊥) → host_refusal (Some there) here ≡ Some Unknown
+no_beginner there None none = refl
+no_beginner there (Some (host.Spare resources)) none = refl
+no_beginner there (Some (host.Node station)) none = absurd (none station refl)
+
+-- a place that has something is within the list
+pub within : {A : Type 0} (xs : List A) (n : ℕ) (x : A) → slice_get xs n ≡ Some x → n < length xs
+within [] n x e = (cc)
+within (y ∷ xs) zero x e = omega arith
+within (y ∷ xs) (suc n) x e = let rest = within xs n x e in omega (arith, rest)
+
+-- what is taken out and put back has replaced it
+pub put_in_place : {A : Type 0} (xs : List A) (n : ℕ) (y : A) → n < length xs
+    → insert (remove xs n) n y ≡ slice_set xs n y
+put_in_place [] n y e = absurd (omega (arith, e))
+put_in_place (x ∷ xs) zero y e = refl
+put_in_place (x ∷ xs) (suc n) y e = ap (λ rest. x ∷ rest) (put_in_place xs n y (omega (arith, e)))
+
+-- the host that is taken out is the spare one
+pub is_spare : {B H : Type 0} (hosts : List (Host B H)) (n : ℕ) (taken : Host B H) (resources : H)
+    → slice_get hosts n ≡ Some (host.Spare resources) → slice_get hosts n ≡ Some taken → IsSpare taken
+is_spare hosts n (host.Spare other) resources spare is = tt
+is_spare hosts n (host.Node station) resources spare is = (cc)
+
+-- only that host is no longer spare
+pub spares_less : {B H : Type 0} (hosts : List (Host B H)) (n : ℕ) (station : Station B H)
+    → map (spare_of {B = B} {H = H}) (slice_set hosts n (host.Node station))
+    ≡ slice_set (map (spare_of {B = B} {H = H}) hosts) n None
+spares_less [] n station = refl
+spares_less (x ∷ hosts) zero station = refl
+spares_less {B} {H} (x ∷ hosts) (suc n) station =
+    ap (λ rest. spare_of {B = B} {H = H} x ∷ rest) (spares_less hosts n station)
+
+-- a host that has joined is spare no more, and the others are as they were
+pub spares_after : {B H S : Type 0} (state : B → S) (M : Machine S) (old lent new : List (Host B H)) (n at : ℕ)
+    (s : Station B H) (opening : Opening) → WithStation old n s lent → JoinsHosts state M lent at opening new
+    → map (spare_of {B = B} {H = H}) new ≡ slice_set (map (spare_of {B = B} {H = H}) old) at None
+spares_after {B} {H} state M old lent new n at s opening w j =
+    ap (map (spare_of {B = B} {H = H})) j.put ∙ go j.joined j.is ∙ ap (λ spares. slice_set spares at None) w.spares
+  where
+    go : (joined : Host B H) → HasJoined state M opening joined
+        → map (spare_of {B = B} {H = H}) (slice_set lent at joined)
+        ≡ slice_set (map (spare_of {B = B} {H = H}) lent) at None
+    go (host.Node station) is = spares_less lent at station
+    go (host.Spare resources) is = absurd is
+
+-- what the check of the hosts says, as a refusal
+pub check_refused : (o : Option Fault) (fault : Fault) → Err fault ≡ answered o → o ≡ Some fault
+check_refused None fault e = absurd (cc)
+check_refused (Some k) fault e = let same : k ≡ fault = (cc) in ap Some same
+
+pub check_passed : (o : Option Fault) (done : Unit {0}) → Ok done ≡ answered o → o ≡ None
+check_passed None done e = refl
+check_passed (Some k) done e = absurd (cc)
+
+-- nothing refuses it: the host is spare, and the node is one
+pub record Pairs {B H : Type 0} (a here : Option (Host B H)) : Type 0 where
+  pub resources : H
+  pub spare : a ≡ Some (host.Spare resources)
+  pub station : Station B H
+  pub node : here ≡ Some (host.Node station)
+
+pub pairs : {B H : Type 0} (a here : Option (Host B H)) → host_refusal a here ≡ None → Pairs a here
+pairs None here e = absurd (cc)
+pairs (Some a) None e = absurd (cc)
+pairs (Some a) (Some (host.Spare resources)) e = absurd (cc)
+pairs (Some (host.Node other)) (Some (host.Node station)) e = absurd (cc)
+pairs (Some (host.Spare resources)) (Some (host.Node station)) e =
+    record { resources = resources; spare = refl; station = station; node = refl }
+
+-- the host is still spare once the node's station was lent
+pub spare_still : {B H : Type 0} (old lent : List (Host B H)) (n at : ℕ) (s : Station B H)
+    → host_refusal (slice_get old at) (slice_get old n) ≡ None → WithStation old n s lent → HasSpare lent at
+spare_still {B} {H} old lent n at s free w =
+    let p = pairs (slice_get old at) (slice_get old n) free in (
+      p.resources,
+      subst (λ hosts. slice_get hosts at ≡ Some (host.Spare p.resources)) (sym w.put)
+      (get_set_other old n at (host.Node s) (λ e. (let k = ap (slice_get old) e in absurd (cc))) ∙ p.spare),
+    )
+
+-- ---- after a list of events
+
+module _ {B H : Type 0} where
+  spare_at : (hosts : List (Host B H)) (n : ℕ) (resources : H)
+      → slice_get (map (spare_of {B = B} {H = H}) hosts) n ≡ Some (Some resources)
+      → slice_get hosts n ≡ Some (host.Spare resources)
+  spare_at [] n resources e = (cc)
+  spare_at (host.Node station ∷ hosts) zero resources e = (cc)
+  spare_at (host.Spare other ∷ hosts) zero resources e = (cc)
+  spare_at (x ∷ hosts) (suc n) resources e = spare_at hosts n resources e
+
+  at_spare : (hosts : List (Host B H)) (n : ℕ) (resources : H) → slice_get hosts n ≡ Some (host.Spare resources)
+      → slice_get (map (spare_of {B = B} {H = H}) hosts) n ≡ Some (Some resources)
+  at_spare [] n resources e = (cc)
+  at_spare (x ∷ hosts) zero resources e = ap (option_map (spare_of {B = B} {H = H})) e
+  at_spare (x ∷ hosts) (suc n) resources e = at_spare hosts n resources e
+
+  -- what is spare afterwards was spare, with the same resources
+  same_left : (old new : List (Host B H)) → SpareHostsStay old new → SparesLeft old new
+  same_left old new stay = record {
+    count = sym (length-map new (spare_of {B = B} {H = H})) ∙ ap length stay ∙ length-map old (spare_of {B = B} {H = H});
+    same = λ n resources e. spare_at old n resources
+        (ap (λ spares. slice_get spares n) (sym stay) ∙ at_spare new n resources e);
+  }
+
+  less_left : (old new : List (Host B H)) (at : ℕ)
+      → map (spare_of {B = B} {H = H}) new ≡ slice_set (map (spare_of {B = B} {H = H}) old) at None
+      → SparesLeft old new
+  less_left old new at less = record {
+    count = sym (length-map new (spare_of {B = B} {H = H})) ∙ ap length less ∙ length-set (map (spare_of {B = B} {H = H}) old) at None
+        ∙ length-map old (spare_of {B = B} {H = H});
+    same = λ n resources e. spare_at old n resources
+        (still n resources (ap (λ spares. slice_get spares n) (sym less) ∙ at_spare new n resources e));
+  }
+    where
+      still : (n : ℕ) (resources : H)
+          → slice_get (slice_set (map (spare_of {B = B} {H = H}) old) at None) n ≡ Some (Some resources)
+          → slice_get (map (spare_of {B = B} {H = H}) old) n ≡ Some (Some resources)
+      still n resources e = elim (set_cases (map (spare_of {B = B} {H = H}) old) at n None (Some resources) e) [
+        | inl p ↦ absurd (let k = p.1 in (cc))
+        | inr q ↦ q
+      ]
+
+  pub left_here : (hosts : List (Host B H)) → SparesLeft hosts hosts
+  left_here hosts = record { count = refl; same = λ n resources e. e }
+
+  pub left_then : {old mid new : List (Host B H)} → SparesLeft old mid → SparesLeft mid new → SparesLeft old new
+  left_then a b = record {
+    count = b.count ∙ a.count;
+    same = λ n resources e. a.same n resources (b.same n resources e);
+  }
+
+  pub after_event : (e : Event) (answer : Result Reply Fault) (old new : List (Host B H))
+      → SparesAfter e answer old new → SparesLeft old new
+  after_event (event.BeginPair n at) (Ok r) old new h = less_left old new at h
+  after_event (event.BeginPair n at) (Err fault) old new h = same_left old new h
+  after_event (event.Step n turns) answer old new h = same_left old new h
+  after_event (event.TypeByte port byte) answer old new h = same_left old new h
+  after_event (event.TakeKey n port index) answer old new h = same_left old new h
+  after_event (event.Send n index) answer old new h = same_left old new h
+  after_event (event.DeliverLog m n) answer old new h = same_left old new h
+  after_event (event.Acknowledge n) answer old new h = same_left old new h
+  after_event (event.DeliverAcknowledgement m n) answer old new h = same_left old new h
+  after_event (event.Replay n turns) answer old new h = same_left old new h
+  after_event (event.Release n id) answer old new h = same_left old new h
+  after_event (event.Arrive m) answer old new h = same_left old new h
+  after_event (event.TellSent n port number) answer old new h = same_left old new h
+  after_event (event.Told n port) answer old new h = same_left old new h
+  after_event (event.Put m) answer old new h = same_left old new h
+  after_event (event.PutReply m n) answer old new h = same_left old new h
+  after_event (event.Get n sector) answer old new h = same_left old new h
+  after_event (event.GetReply m n) answer old new h = same_left old new h
+  after_event (event.Suspect n) answer old new h = same_left old new h
+  after_event (event.Drain n turns) answer old new h = same_left old new h
+  after_event (event.Stop n) answer old new h = same_left old new h
+  after_event (event.SendPart n index) answer old new h = same_left old new h
+  after_event (event.PartComes m n) answer old new h = same_left old new h
