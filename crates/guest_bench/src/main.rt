@@ -1,14 +1,16 @@
 //! Runs a guest program for a number of steps on one of three executors, and prints the registers it reaches: the bare
-//! processor over a flat memory, the whole board, or the single machine.
+//! processor over a flat memory, the whole board, or the single machine. Or makes copies of a board with that program.
 #![tactic(auto)]
 
 mod board;
+mod copies;
 mod flat_memory;
 mod single;
 #[cfg(test)]
 mod tests;
 
 use anyhow::{Result, bail};
+use copies::Made;
 use event_callbacks::plain_completions;
 use flat_memory::FlatMemory;
 use guest_board::Setup;
@@ -82,14 +84,35 @@ fn run_single(alloc: Global, bytes: Vec<u8>, steps: u64) -> Result<Regs> {
     Ok(regs)
 }
 
-// Arguments: the executor, the number of steps, and the bytes of the guest program in hex.
+// Makes this of a board so many times.
+fn run_copies(alloc: Global, bytes: Vec<u8>, made: Made, times: u64) -> Result<u64> {
+    let setup = setup_of(bytes)?;
+    let all = copies::run(
+        alloc,
+        &setup,
+        made,
+        times,
+        plain_completions::sent,
+        plain_completions::sector,
+        plain_completions::written,
+    )?;
+    Ok(all)
+}
+
+// Arguments: the executor, the number of steps, and the bytes of the guest program in hex; or in place of the executor
+// what is made of a board, in place of the steps how many times.
 fn main(rt: HostRuntime) -> Result<()> {
     let mut arguments = env::args(&rt)?.skip(1);
     let (Some(executor), Some(number)) = (arguments.next(), arguments.next()) else {
-        bail!("usage: guest_bench processor|board|single STEPS BYTE..");
+        bail!("usage: guest_bench processor|board|single|image|copy NUMBER BYTE..");
     };
     let steps = number.as_str().parse::<u64>()?;
     let bytes = loaded(rt.alloc(), arguments)?;
+    if let Some(made) = Made::of(&executor) {
+        let all = run_copies(rt.alloc(), bytes, made, steps)?;
+        println!(rt; "{steps} times {executor}: {all}")?;
+        return Ok(());
+    }
     let regs = match executor.as_str() {
         "processor" => run_processor(bytes, steps)?,
         "board" => run_board(rt.alloc(), bytes, steps)?,

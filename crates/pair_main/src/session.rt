@@ -207,6 +207,7 @@ fn find<'a, B: Copies<H> + Drop, H: Drop>(
         Query::Packet { message } => match world.message(message) {
             Some(Message::Log(packet)) => Answer::Packet(packet),
             Some(Message::Ack(packet)) => Answer::Packet(packet),
+            Some(Message::Part(bytes)) => Answer::Packet(bytes),
             _ => Answer::Refused(Fault::Unknown),
         },
         Query::Node { node } => match world.node(node) {

@@ -1,4 +1,5 @@
 //! Runs of the program: what it reads, what it prints, and how it ends.
+mod copies;
 mod device_faults;
 mod endings;
 mod examples;

@@ -104,7 +104,28 @@ const WRITE: Lines = &[
 
 const WRITTEN: Lines = &[("done 2 0", "taken"), ("step 0 3", "ran 3 count 422 turns")];
 
-static ROWS: [Row; 10] = [
+// The last of 64 hosts joins, and stops; then the one before it does.
+const JOINING: Lines = &[
+    ("pair 0 63", "refused 8"),
+    ("suspect 0", "won"),
+    ("pair 0 64", "refused 15"),
+    ("pair 0 63", "generation 2"),
+    ("node 0", "primary 2 count 0"),
+    ("node 63", "joining 2"),
+    ("node 62", "refused 15"),
+    ("sendpart 0 333", "message 0"),
+    ("sendpart 0 334", "refused 15"),
+    ("part 0 63", "new"),
+    ("part 0 63", "old"),
+    ("suspect 63", "refused 11"),
+    ("stop 63", "stopped"),
+    ("suspect 0", "won"),
+    ("pair 0 62", "generation 3"),
+    ("part 0 62", "refused 9"),
+    ("node 62", "joining 3"),
+];
+
+static ROWS: [Row; 11] = [
     Row {
         setup: "",
         parts: &[],
@@ -143,6 +164,11 @@ static ROWS: [Row; 10] = [
     Row {
         setup: "",
         parts: &[UNKNOWN],
+        checked: "same 0\n",
+    },
+    Row {
+        setup: "hosts 64\n",
+        parts: &[JOINING],
         checked: "same 0\n",
     },
     Row {

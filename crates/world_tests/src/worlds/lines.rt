@@ -80,6 +80,18 @@ pub(crate) fn drain(node: u64, turns: u64) -> Event {
     Event::Drain { node, turns }
 }
 
+pub(crate) fn begin_pair(node: u64, host: u64) -> Event {
+    Event::BeginPair { node, host }
+}
+
+pub(crate) fn send_part(node: u64, index: u64) -> Event {
+    Event::SendPart { node, index }
+}
+
+pub(crate) fn part(message: u64, node: u64) -> Event {
+    Event::PartComes { message, node }
+}
+
 pub(crate) fn stop(node: u64) -> Event {
     Event::Stop { node }
 }

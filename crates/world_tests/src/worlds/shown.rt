@@ -1,5 +1,5 @@
-//! What a world of two nodes shows, mixed into one number: it is the same before and after an event that is refused for
-//! lack of memory. It takes no memory itself.
+//! What a world shows, mixed into one number: it is the same before and after an event that is refused for lack of memory.
+//! It takes no memory itself.
 
 use crate::worlds::rows::{Sent, sent_in};
 use clone_state::Copies;
@@ -9,8 +9,12 @@ use guest_trace::{Bare, Timed};
 use pair_events::Role;
 use shared_disk::SectorStore;
 
-// More messages than any row has.
-const MESSAGES: u64 = 16;
+// More messages, nodes and generations than any row has.
+const MESSAGES: u64 = 1000;
+
+const NODES: u64 = 8;
+
+const GENERATIONS: u32 = 4;
 
 // By FNV-1a, 64 bits at a time.
 fn mixed(mix: u64, word: u64) -> u64 {
@@ -37,7 +41,8 @@ fn with_node(mix: u64, node: Option<NodeStatus>) -> u64 {
         Role::Halted => 5,
         Role::Joining => 6,
     };
-    mixed(mixed(mix, role), node.count)
+    let mix = mixed(mixed(mix, role), u64::from(node.generation));
+    mixed(mix, node.count)
 }
 
 fn with_inputs(mix: u64, inputs: &[Timed]) -> u64 {
@@ -59,6 +64,7 @@ fn with_message(mix: u64, sent: Sent<'_>) -> u64 {
         Sent::Nothing => mixed(mix, 0),
         Sent::Log(bytes) => with_bytes(mixed(mix, 1), bytes),
         Sent::Ack(bytes) => with_bytes(mixed(mix, 2), bytes),
+        Sent::Part(bytes) => with_bytes(mixed(mix, 7), bytes),
         Sent::Byte(port, number, byte) => with_bytes(mixed(mixed(mix, 3), number), &[port, byte]),
         Sent::Write(write) => with_bytes(mixed(mixed(mix, 4), write.number), &write.bytes),
         Sent::Written(number) => mixed(mixed(mix, 5), number),
@@ -72,7 +78,11 @@ fn with_messages<B: Copies<H> + Drop, D: SectorStore, H: Drop>(
 ) -> u64 {
     let mut mix = mix;
     for message in 0..MESSAGES {
-        mix = with_message(mix, sent_in(world.message(message)));
+        let sent = sent_in(world.message(message));
+        if sent == Sent::Nothing {
+            break;
+        }
+        mix = with_message(mix, sent);
     }
     mix
 }
@@ -97,7 +107,19 @@ fn with_disk<B: Copies<H> + Drop, D: SectorStore, H: Drop>(
     mix
 }
 
-/// What the world shows: terminals, nodes, the winner, what is settled, messages, and the disk.
+// The nodes, and the winner of each generation.
+fn with_nodes<B: Copies<H> + Drop, D: SectorStore, H: Drop>(mix: u64, world: &World<B, D, H>) -> u64 {
+    let mut mix = mixed(mix, u64::from(world.generation()));
+    for number in 0..NODES {
+        mix = with_node(mix, world.node(number));
+    }
+    for generation in 1..GENERATIONS {
+        mix = mixed(mix, world.winner(generation).unwrap_or(NODES));
+    }
+    mix
+}
+
+/// What the world shows: terminals, nodes, winners, what is settled, messages, and the disk.
 pub(crate) fn shown<B: Copies<H> + Drop, D: SectorStore, H: Drop>(
     world: &mut World<B, D, H>,
 ) -> u64 {
@@ -105,9 +127,8 @@ pub(crate) fn shown<B: Copies<H> + Drop, D: SectorStore, H: Drop>(
     for port in 0..2 {
         mix = with_bytes(mix, world.accepted(port));
         mix = mixed(mix, world.terminal_told(port));
-        mix = with_node(mix, world.node(u64::from(port)));
     }
-    mix = mixed(mix, world.winner(1).unwrap_or(2));
+    mix = with_nodes(mix, world);
     let (inputs, count) = world.settled();
     mix = mixed(with_inputs(mix, inputs), count);
     with_messages(mix, world)
