@@ -34,7 +34,7 @@ use Rattle.ft_world.proofs.Stations.{retells}
 
 -- the node stays as it is
 is_kept : {S : Type 0} (x y : Node S) → y ≡ x → Kept x y
-is_kept x y e = record {
+is_kept {S} x y e = record {
   role = ap (λ (z : Node S). z.role) e;
   generation = ap (λ (z : Node S). z.generation) e;
   list = ap (λ (z : Node S). z.list) e;
