@@ -259,9 +259,7 @@ fn board<T: Completes + Drop, S: Completes + Drop, W: Completes + Drop>(
         sense: 0x00,
     };
     let taken = BoardMemory::of(alloc, &setup)?;
-    Ok(DraftedBoard::of(Board::boot_in(
-        alloc, taken, &setup, callbacks,
-    )))
+    Ok(DraftedBoard::of(Board::boot_in(alloc, taken, &setup, callbacks)))
 }
 
 fn memory(alloc: Global) -> R<Vec<u8>>

@@ -22,6 +22,9 @@ mem 0000 3E 00 D3 08 3E 04 D3 09 DB 08 E6 80 C2 08 00
 mem 000F 3E 80 D3 09 06 89 D3 0A 05 C2 15 00 C3 08 00
 ";
 
+// The guest stores 48 at 2000, and halts.
+const STORES_A_BYTE: &str = "hosts 3\nmem 0000 3E 48 32 00 20 76\n";
+
 const FIRST_BYTE: Lines = &[
     ("step 0 10", "ran 6 count 6 byte 0 1"),
     ("release 0 byte 0 1", "refused 12"),
@@ -125,16 +128,19 @@ const JOINING: Lines = &[
     ("node 62", "joining 3"),
 ];
 
-// Every page is copied before the pair begins, and one of them is written then.
-const DRAFT: Lines = &[
+// All pages are copied; then the guest writes page 20, which is stale until it is copied again.
+const COPIED_EARLY: Lines = &[
     ("freshen 0 256", "refused 8"),
-    ("freshen 2 256", "refused 15"),
     ("suspect 0", "won"),
+    ("freshen 0 255", "stale 1"),
     ("freshen 0 256", "stale 0"),
     ("step 0 10", "ran 3 count 3 idle"),
     ("freshen 0 0", "stale 1"),
+    ("freshen 2 1", "refused 15"),
     ("pair 0 2", "generation 2"),
     ("sendpart 0 33", "message 0"),
+    ("freshen 0 1", "refused 8"),
+    ("freshen 2 1", "refused 8"),
 ];
 
 static ROWS: [Row; 12] = [
@@ -184,8 +190,8 @@ static ROWS: [Row; 12] = [
         checked: "same 0\n",
     },
     Row {
-        setup: "hosts 3\nmem 0000 3E 48 32 00 20 76\n",
-        parts: &[DRAFT],
+        setup: STORES_A_BYTE,
+        parts: &[COPIED_EARLY],
         checked: "same 3\n",
     },
     Row {

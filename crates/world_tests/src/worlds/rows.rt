@@ -90,11 +90,7 @@ fn memory(alloc: Global, program: &[u8]) -> R<Vec<u8>>
 }
 
 /// A pair of Altairs in memory.
-pub(crate) type Altairs<T, S, W> = World<
-    DraftedBoard<T, S, W>,
-    MemoryStore,
-    Callbacks<T, S, W>,
->;
+pub(crate) type Altairs<T, S, W> = World<DraftedBoard<T, S, W>, MemoryStore, Callbacks<T, S, W>>;
 
 // A pair boots with this program and one drive.
 fn boot_once<T: Completes + Drop, S: Completes + Drop, W: Completes + Drop>(
