@@ -100,7 +100,7 @@ spare_still {B} {H} old lent n at s free w =
     let p = pairs (slice_get old at) (slice_get old n) free in (
       p.resources,
       subst (λ hosts. slice_get hosts at ≡ Some (host.Spare p.resources)) (sym w.put)
-      (get_set_other old n at (host.Node s) (λ e. (let k = ap (slice_get old) e in absurd (cc))) ∙ p.spare),
+          (get_set_other old n at (host.Node s) (λ e. (let k = ap (slice_get old) e in absurd (cc))) ∙ p.spare),
     )
 
 -- ---- after a list of events

@@ -46,13 +46,11 @@ fn stale(pages: u64) -> R<Reply> {
 }
 
 fn node(role: Role, generation: u32, count: u64) -> Option<NodeStatus> {
-    Some(
-        NodeStatus {
-            role,
-            generation,
-            count,
-        },
-    )
+    Some(NodeStatus {
+        role,
+        generation,
+        count,
+    })
 }
 
 // A primary sends each part of its image; the first is this message.
@@ -119,7 +117,10 @@ fn filled(number: u8, first: u64, count: u64) -> [Line; 3] {
     [
         (get(0, number), message(first)),
         (under(first, 0), Ok(Reply::Taken)),
-        (step(0, 2000), gave(962, count, OpId::Write(u64::from(number)))),
+        (
+            step(0, 2000),
+            gave(962, count, OpId::Write(u64::from(number))),
+        ),
     ]
 }
 
