@@ -134,11 +134,7 @@ static COPIES: [(u64, u64, u64); 2] = [(1, 2, 10), (2, 3, 353)];
 // How many parts an image of a machine with one drive has.
 const PARTS: u64 = 334;
 
-fn write_lines(
-    script: &mut String,
-    printed: &mut String,
-    lines: Lines,
-) -> Result<(), AllocError> {
+fn write_lines(script: &mut String, printed: &mut String, lines: Lines) -> Result<(), AllocError> {
     for (line, answer) in lines {
         writeln!(script, "{line}")?;
         writeln!(printed, "{answer}")?;

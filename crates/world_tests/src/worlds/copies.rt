@@ -41,13 +41,11 @@ fn generation(generation: u32) -> R<Reply> {
 }
 
 fn node(role: Role, generation: u32, count: u64) -> Option<NodeStatus> {
-    Some(
-        NodeStatus {
-            role,
-            generation,
-            count,
-        },
-    )
+    Some(NodeStatus {
+        role,
+        generation,
+        count,
+    })
 }
 
 // A primary sends each part of its image; the first is this message.
@@ -114,11 +112,14 @@ fn filled(number: u8, first: u64, count: u64) -> [Line; 3] {
     [
         (get(0, number), message(first)),
         (under(first, 0), Ok(Reply::Taken)),
-        (step(0, 2000), gave(962, count, OpId::Write(u64::from(number)))),
+        (
+            step(0, 2000),
+            gave(962, count, OpId::Write(u64::from(number))),
+        ),
     ]
 }
 
-// A write is released, as this message, and done. Then nine steps go back and load the head again.
+// A write is released, as this message, and done.
 fn completed(node: u64, number: u64, first: u64) -> [Line; 3] {
     [
         (release(node, OpId::Write(number)), message(first)),

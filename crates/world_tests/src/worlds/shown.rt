@@ -108,7 +108,10 @@ fn with_disk<B: Copies<H> + Drop, D: SectorStore, H: Drop>(
 }
 
 // The nodes, and the winner of each generation.
-fn with_nodes<B: Copies<H> + Drop, D: SectorStore, H: Drop>(mix: u64, world: &World<B, D, H>) -> u64 {
+fn with_nodes<B: Copies<H> + Drop, D: SectorStore, H: Drop>(
+    mix: u64,
+    world: &World<B, D, H>,
+) -> u64 {
     let mut mix = mixed(mix, u64::from(world.generation()));
     for number in 0..NODES {
         mix = with_node(mix, world.node(number));
