@@ -1,5 +1,5 @@
 -- A draft of a board is one of the board later: a page that was copied at the version of now was not written since.
-use Rattle.std.proofs.Common.{◌≡◌, ℕ, zero, suc, ◌+◌, ◌<◌, ◌≤◌, Bool, true, false, List, length, Option, Some, None, Result, refl, sym, ap, subst, ◌∙◌, arith}
+use Rattle.std.proofs.Common.{◌≡◌, ℕ, zero, suc, ◌+◌, ◌<◌, ◌≤◌, Bool, true, false, List, length, Option, Some, None, Result, Ok, Err, IsOk, inl, inr, refl, sym, ap, subst, ◌∙◌, arith}
 use Rattle.std.specs.Prelude.{replicate, slice_index_or}
 use Rattle.std.proofs.lemmas.Bool.{cond-true, cond-false}
 use Rattle.guest_memory.specs.Pages.{page_of}
@@ -7,8 +7,9 @@ use Rattle.guest_memory.specs.declared.memory.TheConstants.{PAGES}
 use Rattle.i8080_words.specs.declared.refusal.Fault.{Fault}
 use Rattle.guest_board.specs.Board.{IsBoard, OnBoard}
 use Rattle.guest_board.specs.Guest.{Guest}
-use Rattle.guest_board.specs.Stepping.{guest_after, versions_after_answer}
+use Rattle.guest_board.specs.Stepping.{IsAnswer, by_name, guest_after, versions_after_answer}
 use Rattle.guest_board.specs.declared.executed.Executed.{Executed}
+use Rattle.guest_board.specs.declared.executed.Executed.TheVariants.{Ran, Accepted}
 use Rattle.clone_state.specs.Drafts.{Drafted, IsFreshened, KeepsUp, copied_at, is_next, is_old, is_stale, none_copied, nothing_copied, one_if, stale_below, version_of}
 use Rattle.clone_state.specs.DraftLaws.{IsLater, memory_of, DraftsBegin, DraftsKeepUp}
 use Rattle.clone_state.proofs.StalePages.{left_below, next_below, none_below}
@@ -104,6 +105,16 @@ after_step draft old new answer guest versions stands long keeps =
     (subst (λ (g : Guest). IsLater (memory_of old) (record { bytes = g.memory; versions = new.versions })) (sym guest)
     (subst (λ (vs : List ℕ). IsLater (memory_of old) (record { bytes = (guest_after answer old.guest).memory; versions = vs }))
     (sym versions) (steps_later old answer stands long))) keeps
+
+-- the answer of a step, with an operation's name in place of it
+pub answer_by_name : (wanted answer : Result Executed Fault) → IsAnswer wanted answer → IsAnswer (by_name wanted) (by_name answer)
+answer_by_name wanted answer (inl same) = inl (ap by_name same)
+answer_by_name (Ok made) answer (inr full) = inr (ap by_name full.0, named made)
+  where
+    named : (made : Executed) → IsOk (by_name (Ok made))
+    named (Ran given) = full.1
+    named Accepted = full.1
+answer_by_name (Err fault) answer (inr full) = absurd (let no = full.1 in cc)
 
 pub drafts_keep_up : DraftsKeepUp
 drafts_keep_up = record { keeps_up = later; steps = steps_later; inputs = inputs_later; each = each }

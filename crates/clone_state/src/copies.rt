@@ -1,9 +1,10 @@
 //! What the layers of a pair require of a guest that can be copied, so that they are proved for any such guest.
-ghost use Rattle.std.specs.Prelude.{◌≡◌, ◌<◌, ◌≤◌, ℕ, Some, IfOk, IfErr, IsOkUnless, is_some};
+ghost use Rattle.std.specs.Prelude.{◌≡◌, ◌<◌, ◌≤◌, ◌-◌, ℕ, Some, IfOk, IfErr, IsOkUnless, OnErr, OnOk, is_some};
 ghost use Rattle.disk_dcdd.specs.declared.controller.TheConstants.{DRIVES};
 ghost use Rattle.event_callbacks.specs.declared.devices.TheConstants.{PORTS};
 ghost use Rattle.guest_board.specs.Guest.{Guest};
 ghost use Rattle.guest_board.specs.Parts.{guest_of_parts};
+ghost use Rattle.guest_memory.specs.declared.memory.TheConstants.{PAGES};
 ghost use Rattle.i8080_words.specs.declared.limits.TheConstants.{GREATEST_NUMBER};
 ghost use Rattle.i8080_words.specs.declared.refusal.Fault.TheVariants.{OutOfMemory};
 ghost use Rattle.clone_state.specs.Assembly.{gathered, machine_in};
@@ -28,14 +29,32 @@ pub trait Copies<H>: Lockstep {
         ensures some { 1 ≤ result }
         ensures few { result ≤ DRIVES };
 
-    /// The image of the guest, as it is now, for the generation that it begins. `OutOfMemory` if the allocator refuses.
-    fn image(&self, alloc: Global, generation: u32) -> R<Image>
+    // How many pages of a guest are stale: all of them if there is no draft of its image.
+    ghost stale: { Self → ℕ };
+
+    /// Copies the lowest stale pages, at most so many, into a draft of the guest's image, which begins here if there is
+    /// none. How many are stale then. `OutOfMemory` if a draft begins here and the allocator refuses.
+    fn freshen(&mut self, alloc: Global, pages: u64) -> R<u64>
+        ensures state { Self.state self.new ≡ Self.state self.old }
+        ensures copied { copied self.new ≡ copied self.old }
+        ensures fewer { IfOk result (λ left. left ≡ stale self.old - pages) }
+        ensures left { IfOk result (λ left. left ≡ stale self.new) }
+        ensures full { IsOkUnless result OutOfMemory }
+        ensures unchanged { OnErr result (self.new ≡ self.old) };
+
+    /// The image of the guest, as it is now, for the generation that it begins. Uses the draft, so that only stale pages
+    /// are copied, and there is no draft after it. `OutOfMemory` if the allocator refuses; the draft stays then.
+    fn image(&mut self, alloc: Global, generation: u32) -> R<Image>
         requires { 0 < generation }
-        ensures copied { IfOk result (λ image. guest_of_parts image.copied ≡ copied self.now) }
+        ensures copied { IfOk result (λ image. guest_of_parts image.copied ≡ copied self.old) }
         ensures generation { IfOk result (λ image. image.generation ≡ generation) }
         ensures keys { (port : ℕ) → port < PORTS
-            → Self.machine.keys (Self.state self.now) port ≤ GREATEST_NUMBER }
-        ensures full { IsOkUnless result OutOfMemory };
+            → Self.machine.keys (Self.state self.new) port ≤ GREATEST_NUMBER }
+        ensures state { Self.state self.new ≡ Self.state self.old }
+        ensures same { copied self.new ≡ copied self.old }
+        ensures used { OnOk result (stale self.new ≡ PAGES) }
+        ensures full { IsOkUnless result OutOfMemory }
+        ensures unchanged { OnErr result (self.new ≡ self.old) };
 
     /// The guest that the parts of an image make. `NotWhole` if one is missing, otherwise `Malformed` if they fit no
     /// guest together, otherwise `OutOfMemory` if there is no memory for it. Each hands everything back.

@@ -1,5 +1,5 @@
 //! What follows from the definitions alone.
-ghost use Rattle.clone_state.specs.CopiedBoard.{BoardsAreCopiedAsGuests};
+ghost use Rattle.clone_state.specs.DraftedBoard.{BoardsAreCopiedAsGuests};
 ghost use Rattle.clone_state.specs.DraftLaws.{DraftsBegin, DraftsKeepUp};
 ghost use Rattle.clone_state.specs.Gathering.{BeginsOfImage, IsWholeWhenAllCame, StaysOfImage, WholeMakesIt};
 ghost use Rattle.clone_state.specs.Laws.{

@@ -2,9 +2,9 @@
 #![tactic(auto)]
 
 mod assembly;
-mod copied_board;
 mod copies;
 mod draft;
+mod drafted_board;
 mod image;
 mod laws;
 mod reading;
@@ -15,6 +15,7 @@ mod tests;
 pub use assembly::Assembly;
 pub use copies::Copies;
 pub use draft::Draft;
+pub use drafted_board::DraftedBoard;
 pub use image::Image;
 pub use laws::{
     assemblies_gather_images, boards_are_copied_as_guests, boards_can_be_rebuilt,

@@ -21,6 +21,7 @@ use std::test::Fail;
 mod changes;
 mod drafting;
 mod gathering;
+mod old_versions;
 
 // MVI A,48; STA 2000; HLT.
 const PROGRAM: [u8; 6] = [0x3e, 0x48, 0x32, 0x00, 0x20, 0x76];

@@ -18,6 +18,7 @@ pub mod Inputs
 pub mod PassedChecks
 pub mod KeptParts
 pub mod BegunPairs
+pub mod Freshening
 pub mod Gatherings
 pub mod PartsThatCome
 pub mod JoiningParts

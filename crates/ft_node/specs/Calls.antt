@@ -228,6 +228,10 @@ Begun M generation x y = (generation ≡ suc x.generation) × (y ≡ begun M x)
 abbrev pub BeginsPair : {S : Type 0} → Machine S → Node S → Result ℕ Fault → (Node S → Type 0) → Type 0
 BeginsPair M x result Is = Call (refusals.begin_pair_refusal x) Ever (Begun M) x result Is
 
+-- pages are copied early: the node of the protocol stays as it was
+abbrev pub Freshens : {S : Type 0} → Node S → Result ℕ Fault → (Node S → Type 0) → Type 0
+Freshens x result Is = Call (refusals.freshen_refusal x) Ever (λ left x y. y ≡ x) x result Is
+
 -- a part of a primary's image, as the bytes of a message, in a generation that a message has room for
 pub record SpellsPart {S : Type 0} (C : Copying S) (index : ℕ) (x : Node S) (bytes : Vec ℕ) : Type 0 where
   pub part : List ℕ

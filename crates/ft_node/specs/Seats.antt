@@ -1,5 +1,5 @@
 -- Which node of the protocol a node is, in whatever role, and what its calls require.
-use Rattle.std.specs.Prelude.{◌≡◌, ℕ, true, false, Option, Some, None, is_some, List, [], Result, Ok, Err}
+use Rattle.std.specs.Prelude.{◌≡◌, ℕ, ◌-◌, true, false, Option, Some, None, is_some, List, [], Result, Ok, Err}
 use Rattle.clone_state.specs.Assembly.{after_forgetting, gathered, machine_in}
 use Rattle.clone_state.specs.Copies.{refused_as}
 use Rattle.clone_state.specs.Parts.{guest_in}
@@ -53,6 +53,25 @@ room_of (seat.Joining j) = Ok tt
 room_of (seat.Draining d) = Ok tt
 room_of (seat.Alone a) = Ok tt
 room_of (seat.Halted h) = Ok tt
+
+-- ---- a node that is alone
+
+-- how many pages of its guest are stale
+abbrev pub stale_at : {B : Type 0} {H : Type 0} → (B → ℕ) → code.Node B H → Option ℕ
+stale_at stale (seat.Primary p) = None
+stale_at stale (seat.Backup b) = None
+stale_at stale (seat.Joining j) = None
+stale_at stale (seat.Draining d) = None
+stale_at stale (seat.Alone a) = Some (stale a.board)
+stale_at stale (seat.Halted h) = None
+
+-- at most so many of them were copied, and this many are left
+pub record AreFreshened {B : Type 0} {H : Type 0} (stale : B → ℕ) (pages left : ℕ)
+    (old new : code.Node B H) : Type 0 where
+  pub before : ℕ
+  pub were : stale_at stale old ≡ Some before
+  pub fewer : left ≡ before - pages
+  pub are : stale_at stale new ≡ Some left
 
 -- ---- what the calls of a node require
 

@@ -1,5 +1,5 @@
 //! A generation that begins with the copy of a machine: an alone node begins it, and a joining node is given the parts.
-ghost use Rattle.std.specs.Prelude.{◌≡◌, ◌+◌, ◌<◌, ◌≤◌, ℕ, [], length, IfOk, IsOkUnless, OnErr};
+ghost use Rattle.std.specs.Prelude.{◌≡◌, ◌+◌, ◌-◌, ◌<◌, ◌≤◌, ℕ, [], length, IfOk, IsOkUnless, OnErr};
 ghost use Rattle.clone_state.specs.Copies.{CopiesAs, image_parts};
 ghost use Rattle.clone_state.specs.Parts.{message_at};
 ghost use Rattle.disk_dcdd.specs.declared.controller.TheConstants.{DRIVES};
@@ -13,7 +13,7 @@ ghost use Rattle.ft_node.specs.Calls as calls;
 ghost use Rattle.ft_node.specs.Calls.{next_after};
 ghost use Rattle.ft_node.specs.Kept.{image_of};
 ghost use Rattle.ft_node.specs.Roles.{IsAlone, IsJoining};
-ghost use Rattle.ft_node.specs.Seats.{IsNode};
+ghost use Rattle.ft_node.specs.Seats.{AreFreshened, IsNode};
 ghost use Rattle.ft_node.specs.declared.node.Node.TheVariants as seat;
 
 use crate::alone::Alone;
@@ -70,6 +70,21 @@ impl<B: Copies<H> + Drop, H: Drop> Node<B, H> {
         }
     }
 
+    /// Copies the lowest stale pages of an alone node's machine, at most so many, for the image with which it may begin
+    /// the next generation. How many are stale then. `OutOfMemory` only if none was ever copied for that image.
+    pub fn freshen(&mut self, alloc: Global, pages: u64) -> R<u64>
+        ensures answer { (C : Copying B.State) (drives : ℕ) (x : protocol.Node B.State)
+            → IsNode B.state B.machine C drives self.old x
+            → calls.Freshens x result (IsNode B.state B.machine C drives self.new) }
+        ensures stale { IfOk result (λ left. AreFreshened B.stale pages left self.old self.new) }
+        ensures unchanged { OnErr result (self.new ≡ self.old) }
+    {
+        match self {
+            Node::Alone(alone) => freshened::<B, H>(alone, alloc, pages),
+            _ => Err(Fault::WrongRole),
+        }
+    }
+
     /// The message of a part of the image that a primary keeps until the first acknowledgement. `Unknown` if there is no
     /// such part, and at every other node.
     pub fn send_part(&self, alloc: Global, index: u64) -> R<Vec<u8>>
@@ -123,8 +138,23 @@ fn next_of(generation: u32, drives: u8) -> R<NextGeneration>
     })
 }
 
+// An alone node copies pages of its machine early. How many are stale then.
+fn freshened<B: Copies<H> + Drop, H: Drop>(
+    alone: &mut Alone<B>,
+    alloc: Global,
+    pages: u64,
+) -> R<u64>
+    ensures answer { (x : protocol.Node B.State) → IsAlone (B.state alone.old.board) alone.old.generation x
+        → calls.Freshens x result (IsAlone (B.state alone.new.board) alone.new.generation) }
+    ensures fewer { IfOk result (λ left. left ≡ B.stale alone.old.board - pages) }
+    ensures left { IfOk result (λ left. left ≡ B.stale alone.new.board) }
+    ensures unchanged { OnErr result (alone.new ≡ alone.old) }
+{
+    alone.board.freshen(alloc, pages)
+}
+
 // The node that an alone node is once it has begun the next generation; if it can't, it stays alone.
-fn begun<B: Copies<H> + Drop, H: Drop>(alloc: Global, alone: Alone<B>) -> (R<u32>, Node<B, H>)
+fn begun<B: Copies<H> + Drop, H: Drop>(alloc: Global, mut alone: Alone<B>) -> (R<u32>, Node<B, H>)
     ensures answer { (C : Copying B.State) (drives : ℕ) (x : protocol.Node B.State)
         → CopiesAs B.state B.copied drives C.parts C.part_count C.assemble
         → calls.HasTakenKeys B.machine x → IsAlone (B.state alone.board) alone.generation x
@@ -135,8 +165,9 @@ fn begun<B: Copies<H> + Drop, H: Drop>(alloc: Global, alone: Alone<B>) -> (R<u32
         return (Err(Fault::Spent), Node::Alone(alone));
     }
     let generation = alone.generation + 1;
-    let Ok((log, image)) = log_and_image::<B, H>(alloc, &alone.board, generation) else {
-        return (Err(Fault::OutOfMemory), Node::Alone(alone));
+    let (log, image) = match log_and_image::<B, H>(alloc, &mut alone, generation) {
+        Ok(made) => made,
+        Err(fault) => return (Err(fault), Node::Alone(alone)),
     };
     let keys = [alone.board.keys(0), alone.board.keys(1)];
     let primary = Primary::begin(alone.board, log, generation, keys, KeptImage::of(image));
@@ -146,19 +177,21 @@ fn begun<B: Copies<H> + Drop, H: Drop>(alloc: Global, alone: Alone<B>) -> (R<u32
 // All that a generation needs memory for when it begins: its log and its image.
 fn log_and_image<B: Copies<H> + Drop, H: Drop>(
     alloc: Global,
-    board: &B,
+    alone: &mut Alone<B>,
     generation: u32,
 ) -> R<(LogBuffer, Image)>
     requires { 0 < generation }
     ensures log { IfOk result (λ made. made.0 ≡ logs.log 0 []) }
     ensures image { IfOk result (λ made. image_of made.1
-        ≡ record { generation = generation; parts = image_parts (B.copied board.now) }) }
+        ≡ record { generation = generation; parts = image_parts (B.copied alone.old.board) }) }
     ensures keys { IfOk result (λ made. (port : ℕ) → port < PORTS
-        → B.machine.keys (B.state board.now) port ≤ GREATEST_NUMBER) }
+        → B.machine.keys (B.state alone.new.board) port ≤ GREATEST_NUMBER) }
+    ensures state { B.state alone.new.board ≡ B.state alone.old.board }
     ensures full { IsOkUnless result OutOfMemory }
+    ensures unchanged { OnErr result (alone.new ≡ alone.old) }
 {
     let log = LogBuffer::new(alloc, 0)?;
-    let image = board.image(alloc, generation)?;
+    let image = alone.board.image(alloc, generation)?;
     Ok((log, image))
 }
 

@@ -6,7 +6,7 @@ ghost use Rattle.event_callbacks.specs.declared.devices.TheConstants.{SENT, SECT
 
 use crate::{Drained, Node, PartCame};
 use arbiter_core::{Arbiter, Won};
-use clone_state::{Assembly, Copies};
+use clone_state::{Assembly, Copies, DraftedBoard};
 use event_callbacks::{Callbacks, Completes, OpId, plain_completions};
 use guest_board::{Board, BoardMemory, Input, Setup};
 use i8080_words::{Fault, R};
@@ -185,8 +185,11 @@ fn only_an_alone_node_begins<B: Copies<H> + Drop, H: Drop>(
     callbacks: H,
 ) -> R<()> {
     let mut node: Node<B, H> = alone(rt, board)?;
+    assert_eq!(rt; node.freshen(rt.alloc(), 250), Ok(6));
+    assert_eq!(rt; node.freshen(rt.alloc(), 0), Ok(6));
     assert_eq!(rt; node.begin(rt.alloc()), Ok(2));
     assert_eq!(rt; node.begin(rt.alloc()), Err(Fault::WrongRole));
+    assert_eq!(rt; node.freshen(rt.alloc(), 1), Err(Fault::WrongRole));
     assert_eq!(rt; (node.role(), node.generation()), (Role::Primary, 2));
     let mut joining = joiner(rt.alloc(), callbacks, &node)?;
     assert_eq!(rt; joining.begin(rt.alloc()), Err(Fault::WrongRole));
@@ -248,7 +251,7 @@ fn a_joining_node_is_the_backup_with_the_last_part<B: Copies<H> + Drop, H: Drop>
 fn board<T: Completes + Drop, S: Completes + Drop, W: Completes + Drop>(
     alloc: Global,
     callbacks: Callbacks<T, S, W>,
-) -> R<Board<T, S, W>> {
+) -> R<DraftedBoard<T, S, W>> {
     let setup = Setup {
         memory: memory(alloc)?,
         drives: 1,
@@ -256,7 +259,9 @@ fn board<T: Completes + Drop, S: Completes + Drop, W: Completes + Drop>(
         sense: 0x00,
     };
     let taken = BoardMemory::of(alloc, &setup)?;
-    Ok(Board::boot_in(alloc, taken, &setup, callbacks))
+    Ok(DraftedBoard::of(Board::boot_in(
+        alloc, taken, &setup, callbacks,
+    )))
 }
 
 fn memory(alloc: Global) -> R<Vec<u8>>

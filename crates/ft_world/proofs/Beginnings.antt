@@ -13,9 +13,8 @@ use Rattle.disk_dcdd.specs.declared.sector.TheConstants.{SECTOR_BYTES}
 use Rattle.guest_board.specs.Guest.{Guest, altair, guest_at_boot}
 use Rattle.guest_memory.specs.declared.memory.TheConstants.{BYTES}
 use Rattle.guest_board.specs.Inputs.{some_altair}
-use Rattle.clone_state.specs.CopiedBoard.{BoardsAreCopiedAsGuests}
+use Rattle.clone_state.specs.DraftedBoard.{BoardsAreCopiedAsGuests, WithDraft}
 use Rattle.clone_state.specs.Copies.{CopiesAs}
-use Rattle.guest_board.specs.Board.{OnBoard}
 use Rattle.guest_board.specs.Machine.{Machine}
 use Rattle.guest_board.specs.Outstanding.{ComesAndGoes, completed_by}
 use Rattle.guest_board.specs.declared.input.Input.{Input}
@@ -230,8 +229,8 @@ setup_is records setup levels memory sense there whole = record {
 }
 
 -- boards are copied by their images as guests are
-pub boards_as_guests : BoardsAreCopiedAsGuests → (drives : ℕ) → CopiesAs (λ (board : OnBoard). board.guest)
-    (λ (board : OnBoard). board.guest) drives (image_copy drives).parts (image_copy drives).part_count
+pub boards_as_guests : BoardsAreCopiedAsGuests → (drives : ℕ) → CopiesAs (λ (d : WithDraft). d.board.guest)
+    (λ (d : WithDraft). d.board.guest) drives (image_copy drives).parts (image_copy drives).part_count
     (image_copy drives).assemble
 unfolding image_copy
 boards_as_guests law drives = law drives

@@ -19,6 +19,7 @@ pub mod AtInputs
 pub mod DiskAnswers
 pub mod AtLog
 pub mod AtMoves
+pub mod AtFreshening
 pub mod Standing
 pub mod Released
 pub mod AtDisk

@@ -180,3 +180,4 @@ module _ {B H : Type 0} where
   after_event (event.Stop n) answer old new h = same_left old new h
   after_event (event.SendPart n index) answer old new h = same_left old new h
   after_event (event.PartComes m n) answer old new h = same_left old new h
+  after_event (event.Freshen n pages) answer old new h = same_left old new h

@@ -6,6 +6,7 @@ pub mod Messages
 pub mod Devices
 pub mod Pairs
 pub mod Staying
+pub mod Freshened
 pub mod Lending
 pub mod Opening
 pub mod Applies

@@ -42,6 +42,7 @@ event_of (event.Stop n) = protocol.Stop n
 event_of (event.BeginPair n host) = protocol.BeginPair n host
 event_of (event.SendPart n index) = protocol.SendPart n index
 event_of (event.PartComes m n) = protocol.PartComes m n
+event_of (event.Freshen n pages) = protocol.Freshen n pages
 
 -- the reply of the protocol that an answer stands for
 abbrev pub reply_of : Reply → protocol.Reply
@@ -61,6 +62,7 @@ reply_of reply.Won = protocol.Won
 reply_of reply.Stopped = protocol.Stopped
 reply_of (reply.Generation generation) = protocol.GenerationIs generation
 reply_of reply.Whole = protocol.Whole
+reply_of (reply.Stale pages) = protocol.StaleIs pages
 
 abbrev pub answer_of : Result Reply Fault → protocol.Reply
 answer_of (Ok r) = reply_of r

@@ -12,7 +12,7 @@ use crate::room::Room;
 use crate::world::World;
 use altair_copies::the_image_copies;
 use altair_laws::{altairs_are_lawful, altairs_stay_on_their_disks};
-use clone_state::boards_are_copied_as_guests;
+use clone_state::{DraftedBoard, boards_are_copied_as_guests};
 use event_callbacks::{Callbacks, Completes};
 use guest_board::{Board, BoardMemory, Setup};
 use i8080_words::Fault;
@@ -20,7 +20,7 @@ use shared_disk::SectorStore;
 use std::alloc::Global;
 
 impl<T: Completes + Drop, S: Completes + Drop, W: Completes + Drop, D: SectorStore> World<
-    Board<T, S, W>,
+    DraftedBoard<T, S, W>,
     D,
     Callbacks<T, S, W>,
 > {
@@ -36,7 +36,7 @@ impl<T: Completes + Drop, S: Completes + Drop, W: Completes + Drop, D: SectorSto
         requires drives { HasDrives (D.records store) setup.now.drives }
         requires unwritten { IsUnwritten (D.records store) }
         requires whole { HasWholeSectors (D.records store) }
-        ensures ok { IfOk result (λ world. Shows (λ board. board.guest) (λ board. board.guest) some_altair D.records world
+        ensures ok { IfOk result (λ world. Shows (λ d. d.board.guest) (λ d. d.board.guest) some_altair D.records world
             (beginning some_altair (image_copy setup.now.drives) (guest_at_boot setup.now) (D.records store))) }
         ensures faithful { OnOk result (IsFaithful some_altair
             (beginning some_altair (image_copy setup.now.drives) (guest_at_boot setup.now) (D.records store))) }
@@ -54,8 +54,8 @@ impl<T: Completes + Drop, S: Completes + Drop, W: Completes + Drop, D: SectorSto
         ) else {
             return Err((store, primary, backup, Fault::OutOfMemory));
         };
-        let primary = Board::boot_in(alloc, first, setup, primary);
-        let backup = Board::boot_in(alloc, second, setup, backup);
+        let primary = DraftedBoard::of(Board::boot_in(alloc, first, setup, primary));
+        let backup = DraftedBoard::of(Board::boot_in(alloc, second, setup, backup));
         Ok(World::begin_in(alloc, room, primary, backup, store))
     }
 }

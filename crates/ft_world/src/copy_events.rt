@@ -3,6 +3,7 @@ ghost use Rattle.std.specs.Prelude.{◌≡◌, OnErr};
 ghost use Rattle.ft_world.specs.Applies.{Happens, ShowsSome};
 ghost use Rattle.ft_node.specs.Calls.{reply_of as came_as};
 ghost use Rattle.ft_world.specs.Pairs.{running_of};
+ghost use Rattle.ft_world.specs.Freshened.{TellsStale};
 ghost use Rattle.ft_world.specs.Words.{reply_of};
 ghost use Rattle.ft_world.specs.Staying.{SpareHostsStay, SparesAfter};
 ghost use Rattle.pair_events.specs.declared.event.Event.TheVariants as happens;
@@ -64,6 +65,20 @@ impl<B: Copies<H> + Drop, D: SectorStore, H: Drop> Pair<B, D, H> {
         let station = hosts::station_mut(&mut self.hosts, node)?;
         let part = station.part(alloc, bytes)?;
         Ok(reply_to(part))
+    }
+
+    /// A node that is alone copies pages of its machine early.
+    pub(crate) fn freshen(&mut self, alloc: Global, node: u64, pages: u64) -> R<Reply>
+        ensures row { Happens B.state B.copied B.machine D.records (running_of self.old) (happens.Freshen node pages) result
+            (running_of self.new) }
+        ensures stale { TellsStale B.stale (happens.Freshen node pages) result self.old.hosts.items self.new.hosts.items }
+        ensures disk { self.new.disk ≡ self.old.disk }
+        ensures unchanged { OnErr result (running_of self.new ≡ running_of self.old) }
+        ensures spares { SpareHostsStay self.old.hosts.items self.new.hosts.items }
+    {
+        let station = hosts::station_mut(&mut self.hosts, node)?;
+        let pages = station.freshen(alloc, pages)?;
+        Ok(Reply::Stale { pages })
     }
 }
 

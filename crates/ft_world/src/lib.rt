@@ -5,6 +5,7 @@ mod altair;
 mod copy_events;
 mod device_events;
 mod devices;
+mod freshening;
 mod host;
 mod hosts;
 mod input_list;

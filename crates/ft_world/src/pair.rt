@@ -7,6 +7,7 @@ ghost use Rattle.ft_world.specs.Applies.{Happens, IsFaithful, Runs, Shows, Shows
 ghost use Rattle.ft_world.specs.Applies.{failures_over, failures_told};
 ghost use Rattle.ft_world.specs.Beginning.{MayBegin, MayBeginSome, beginning};
 ghost use Rattle.ft_world.specs.Standing.{Course, machine_of};
+ghost use Rattle.ft_world.specs.Freshened.{TellsStale};
 ghost use Rattle.ft_world.specs.Pairs.{running_of};
 ghost use Rattle.ft_world.specs.Staying.{SparesAfter, SparesLeft, Stays};
 ghost use Rattle.ft_world.specs.declared.host.Host.TheVariants as host;
@@ -69,6 +70,7 @@ impl<B: Copies<H> + Drop, D: SectorStore, H: Drop> Pair<B, D, H> {
         ensures unchanged { IfErr result (λ fault. Stays D.records event fault (running_of self.old)
             (running_of self.new)) }
         ensures spares { SparesAfter event result self.old.hosts.items self.new.hosts.items }
+        ensures stale { TellsStale B.stale event result self.old.hosts.items self.new.hosts.items }
     {
         match event {
             Event::Step { node, turns } => self.step(node, turns),
@@ -95,6 +97,7 @@ impl<B: Copies<H> + Drop, D: SectorStore, H: Drop> Pair<B, D, H> {
             Event::BeginPair { node, host } => self.begin_pair(alloc, node, host),
             Event::SendPart { node, index } => self.send_part(alloc, node, index),
             Event::PartComes { message, node } => self.part_comes(alloc, message, node),
+            Event::Freshen { node, pages } => self.freshen(alloc, node, pages),
         }
     }
 

@@ -43,6 +43,7 @@ impl<B: Copies<H> + Drop, D: SectorStore, H: Drop> World<B, D, H> {
     ghost use Rattle.ft_world.specs.Applies.{Happens, IsFaithful, IsSectorOf, Runs, Shows};
     ghost use Rattle.ft_world.specs.Applies.{failures_over, failures_told};
     ghost use Rattle.ft_world.specs.Beginning.{MayBegin, MayBeginSome, beginning};
+    ghost use Rattle.ft_world.specs.Freshened.{TellsStale};
     ghost use Rattle.ft_world.specs.Shows.{Agree, IsStatusAt};
     ghost use Rattle.ft_world.specs.Standing.{Course, machine_of};
     ghost use Rattle.ft_world.specs.Staying.{SparesAfter, SparesLeft, Stays};
@@ -91,6 +92,7 @@ impl<B: Copies<H> + Drop, D: SectorStore, H: Drop> World<B, D, H> {
         ensures counted { D.failures self.new.disk ≡ D.failures self.old.disk + failures_told event result }
         ensures unchanged { IfErr result (λ fault. Stays D.records event fault self.old self.new) }
         ensures spares { SparesAfter event result self.old.hosts self.new.hosts }
+        ensures stale { TellsStale B.stale event result self.old.hosts self.new.hosts }
     {
         self.pair.apply(alloc, event)
     }

@@ -50,6 +50,7 @@ reply_text reply.Dropped = codes "dropped"
 reply_text (reply.Told keys) = codes "told" ␣ decimal keys
 reply_text reply.Won = codes "won"
 reply_text (reply.Generation generation) = codes "generation" ␣ decimal generation
+reply_text (reply.Stale pages) = codes "stale" ␣ decimal pages
 reply_text reply.Whole = codes "whole"
 reply_text reply.Stopped = codes "stopped"
 

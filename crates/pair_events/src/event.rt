@@ -44,6 +44,9 @@ pub enum Event {
     Drain { node: u64, turns: u64 },
     /// A node that is alone begins a new pair with a spare host.
     BeginPair { node: u64, host: u64 },
+    /// A node that is alone copies at most this many pages of its machine early, for the image with which it may begin a
+    /// new pair.
+    Freshen { node: u64, pages: u64 },
     /// A primary sends the part of this index of its image.
     SendPart { node: u64, index: u64 },
     /// A message with such a part is delivered to a joining node.

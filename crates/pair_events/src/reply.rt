@@ -75,6 +75,11 @@ pub enum Reply {
     Generation {
         generation: u32,
     },
+    /// How many pages of the node's machine are stale: never copied for the image that it would begin with, or written
+    /// since.
+    Stale {
+        pages: u64,
+    },
     /// Every part came: the node is a backup from now on.
     Whole,
     /// The node is halted.
@@ -137,6 +142,7 @@ impl fmt::Display for Reply {
             Reply::Told { keys } => write!(f, "told {keys}"),
             Reply::Won => write!(f, "won"),
             Reply::Generation { generation } => write!(f, "generation {generation}"),
+            Reply::Stale { pages } => write!(f, "stale {pages}"),
             Reply::Whole => write!(f, "whole"),
             Reply::Stopped => write!(f, "stopped"),
         }

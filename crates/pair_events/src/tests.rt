@@ -57,6 +57,7 @@ fn replies_show_as_words(rt: HostRuntime) -> Result<(), Fail> {
             },
             "generation 4294967295",
         ),
+        (Reply::Stale { pages: 256 }, "stale 256"),
         (Reply::Whole, "whole"),
         (Reply::Stopped, "stopped"),
     ];

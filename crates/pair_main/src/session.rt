@@ -14,11 +14,11 @@ ghost use Rattle.pair_main.specs.Reports.{handed};
 use crate::failure::Failure;
 use crate::options::Order;
 use crate::report::Report;
-use clone_state::Copies;
+use clone_state::{Copies, DraftedBoard};
 use disk_dcdd::SectorWrite;
 use event_callbacks::{Callbacks, Completes, PORTS};
 use ft_world::{Message, NodeStatus, World};
-use guest_board::{Board, Setup};
+use guest_board::Setup;
 use i8080_words::{Fault, R};
 use pair_check::{Disk, Verdict, compare};
 use pair_events::{Answer, Event};
@@ -28,7 +28,7 @@ use std::alloc::Global;
 use std::io::Write;
 
 /// A pair of Altairs over the program's disk.
-pub type Altairs<T, S, W> = World<Board<T, S, W>, Disk, Callbacks<T, S, W>>;
+pub type Altairs<T, S, W> = World<DraftedBoard<T, S, W>, Disk, Callbacks<T, S, W>>;
 
 /// Boots a pair whose completions are these closures, and runs a script: either its lines are answered, or the pair is
 /// compared at its end with a single machine.

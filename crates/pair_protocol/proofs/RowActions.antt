@@ -6,7 +6,7 @@ use Rattle.i8080_words.specs.declared.refusal.Fault.TheVariants.{Lost, NotCovere
 use Rattle.i8080_words.specs.declared.refusal.Fault.{Fault}
 use Rattle.pair_protocol.specs.Change.{Begins, Joins, Reads, Wins}
 use Rattle.pair_protocol.specs.Effects.{Again, Comes, Completes, GotPart, Halted, Held, after_drain, at_end}
-use Rattle.pair_protocol.specs.Event.{Acknowledge, Arrive, BeginPair, DeliverAcknowledgement, DeliverLog, Drain, Event, Get, GetReply, PartComes, Put, PutReply, Release, Replay, Reply, Send, SendPart, Step, Stop, Suspect, TakeKey, TellSent, Told, TypeByte}
+use Rattle.pair_protocol.specs.Event.{Acknowledge, Arrive, BeginPair, DeliverAcknowledgement, DeliverLog, Drain, Event, Freshen, Get, GetReply, PartComes, Put, PutReply, Release, Replay, Reply, Send, SendPart, Step, Stop, Suspect, TakeKey, TellSent, Told, TypeByte}
 use Rattle.pair_protocol.specs.Refusals.{acknowledge_refusal, ask_refusal, at_acknowledgement, at_host, at_log_entry, at_part, deliver_acknowledgement_refusal, deliver_log_refusal, drain_refusal, fault_if, first_of, generation_refusal, no_port, no_such, pair_refusal, part_comes_refusal, refusal, release_refusal, replay_refusal, role_refusal, send_part_refusal, send_refusal, serves, step_refusal, stop_refusal, suspect_refusal, told_refusal}
 use Rattle.pair_protocol.specs.Row.{Accepts, DeviceFails, Leaves, Refuses, Row, NeedsMemory}
 use Rattle.pair_protocol.specs.Rows as row
@@ -258,6 +258,7 @@ does_changes M C w (GetReply m n) r new p d = does_get_reply M C w m n r new p d
 does_changes M C w (BeginPair n host) r new p d = does_begin_pair M C w n host r new p d
 does_changes M C w (SendPart n index) r new p d = does_send_part M C w n index r new p d
 does_changes M C w (PartComes m n) r new p d = does_part_comes M C w m n r new p d
+does_changes M C w (Freshen n pages) r new p d = unchanged M C w new d.after
 
 pub leaves_changes : {S : Type 0} (M : Machine S) (C : Copying S) (w : World S) (e : Event) (fault : Fault)
     (new : World S) → refusal M C w e ≡ Some fault → Leaves w e fault new → Changes M C w new

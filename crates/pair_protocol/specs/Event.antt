@@ -37,6 +37,8 @@ pub data Event : Type 0 where
   BeginPair : (n host : ℕ) → Event
   SendPart : (n index : ℕ) → Event
   PartComes : (m n : ℕ) → Event
+  -- at most this many pages of an alone node's machine are copied early, for the image with which it may begin one
+  Freshen : (n pages : ℕ) → Event
 
 pub data Reply : Type 0 where
   Ran : (made count : ℕ) (why : StopReason) → Reply
@@ -48,6 +50,7 @@ pub data Reply : Type 0 where
   MovedAlone : (made : ℕ) → Reply
   ToldIs : (keys : ℕ) → Reply
   GenerationIs : (generation : ℕ) → Reply
+  StaleIs : (pages : ℕ) → Reply
   Refused : (fault : Fault) → Reply
 
 -- the events that use the disk

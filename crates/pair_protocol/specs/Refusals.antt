@@ -14,7 +14,7 @@ use Rattle.pair_protocol.specs.Lawful.{top}
 use Rattle.pair_protocol.specs.Copying.{Copying}
 use Rattle.pair_protocol.specs.Node.{Node, Role, Primary, Backup, Joining, Draining, Alone, Spare, is_role, acts_as, note_of, covers}
 use Rattle.pair_protocol.specs.World.{World, Message, LogEntry, Acknowledgement, ImagePart, Released, WriteDone, SectorRead, terminal, accepted, winner_in}
-use Rattle.pair_protocol.specs.Event.{Event, Step, TypeByte, TakeKey, Send, DeliverLog, Acknowledge, DeliverAcknowledgement, Replay, Release, Arrive, TellSent, Told, Stop, Suspect, Drain, Put, PutReply, Get, GetReply, BeginPair, SendPart, PartComes}
+use Rattle.pair_protocol.specs.Event.{Event, Step, TypeByte, TakeKey, Send, DeliverLog, Acknowledge, DeliverAcknowledgement, Replay, Release, Arrive, TellSent, Told, Stop, Suspect, Drain, Put, PutReply, Get, GetReply, BeginPair, SendPart, PartComes, Freshen}
 
 -- a fault if the condition holds
 abbrev pub fault_if : Bool → Fault → Option Fault
@@ -150,6 +150,9 @@ send_part_refusal C index x = fault_if (not (acts_as x (Primary ∷ [])) || not 
 abbrev pub part_comes_refusal : {S : Type 0} → ℕ → Node S → Option Fault
 part_comes_refusal generation x = first_of (role_refusal (Joining ∷ []) x ∷ generation_refusal generation x ∷ [])
 
+abbrev pub freshen_refusal : {S : Type 0} → Node S → Option Fault
+freshen_refusal x = role_refusal (Alone ∷ []) x
+
 -- ---- the world's part
 
 -- the node's part, for the node of a number; a spare host is no node
@@ -251,3 +254,4 @@ refusal M C w (GetReply m n) = at_sector_read M (slice_get w.nodes n) (slice_get
 refusal M C w (BeginPair n host) = at_host (slice_get w.nodes host) (slice_get w.nodes n)
 refusal M C w (SendPart n index) = at_node (slice_get w.nodes n) (send_part_refusal C index)
 refusal M C w (PartComes m n) = at_part (slice_get w.nodes n) (slice_get w.messages m)
+refusal M C w (Freshen n pages) = at_node (slice_get w.nodes n) freshen_refusal

@@ -14,7 +14,7 @@ use Rattle.pair_protocol.specs.Copying.{Copying}
 use Rattle.pair_protocol.specs.Effects.{Stepped, Took, Held, Heard, Replayed, Drained, Halted, GotPart, HasEntry, HasHeld, HasOutstanding, HasCovered, IsUnder, HasPart}
 use Rattle.pair_protocol.specs.Node.{Node}
 use Rattle.pair_protocol.specs.World.{World, Message, LogEntry, Acknowledgement, ImagePart, Released, WriteDone, SectorRead, terminal, accepted, winner_in, with_node, with_message, with_key, with_arrival, with_told, with_winner, with_put, with_read, with_pair}
-use Rattle.pair_protocol.specs.Event.{Event, Step, TypeByte, TakeKey, Send, DeliverLog, Acknowledge, DeliverAcknowledgement, Replay, Release, Arrive, TellSent, Told, Stop, Suspect, Drain, Put, PutReply, Get, GetReply, BeginPair, SendPart, PartComes, Reply, Ran, TypedAt, Taken, New, Old, Accepted, Dropped, Won, Stopped, MessageIs, HeldIs, Moved, MovedAlone, ToldIs, GenerationIs}
+use Rattle.pair_protocol.specs.Event.{Event, Step, TypeByte, TakeKey, Send, DeliverLog, Acknowledge, DeliverAcknowledgement, Replay, Release, Arrive, TellSent, Told, Stop, Suspect, Drain, Put, PutReply, Get, GetReply, BeginPair, SendPart, PartComes, Freshen, Reply, Ran, TypedAt, Taken, New, Old, Accepted, Dropped, Won, Stopped, MessageIs, HeldIs, Moved, MovedAlone, ToldIs, GenerationIs, StaleIs}
 
 -- the node of a number becomes another one
 pub record AtNode {S : Type 0} (w : World S) (n : ℕ) (does : Node S → Node S → Type 0) (new : World S) : Type 0 where
@@ -184,6 +184,14 @@ pub record GetsPart {S : Type 0} (C : Copying S) (w : World S) (m n : ℕ) (r : 
   pub message : slice_get w.messages m ≡ Some (ImagePart generation index part)
   pub at : AtNode w n (λ x y. GotPart C index part x r y) new
 
+-- pages of a node's machine are copied early; the protocol's machine has no pages, so how many are stale is left open
+pub record Freshens {S : Type 0} (w : World S) (n : ℕ) (r : Reply) (new : World S) : Type 0 where
+  pub x : Node S
+  pub there : slice_get w.nodes n ≡ Some x
+  pub stale : ℕ
+  pub reply : r ≡ StaleIs stale
+  pub after : new ≡ w
+
 -- what each event does
 abbrev pub Does : {S : Type 0} → Machine S → Copying S → World S → Event → Reply → World S → Type 0
 Does M C w (Step n turns) r new = Steps M w n turns r new
@@ -208,3 +216,4 @@ Does M C w (GetReply m n) r new = TakesGetReply M w m n r new
 Does M C w (BeginPair n host) r new = BeginsPair M C w n host r new
 Does M C w (SendPart n index) r new = SendsPart C w n index r new
 Does M C w (PartComes m n) r new = GetsPart C w m n r new
+Does M C w (Freshen n pages) r new = Freshens w n r new

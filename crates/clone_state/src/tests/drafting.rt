@@ -1,60 +1,47 @@
 //! Pages are copied while the guest writes: how many are stale, and the image that the draft gives.
-ghost use Rattle.std.specs.Prelude.{◌≡◌, IfOk};
 ghost use Rattle.event_callbacks.specs.Keeping.{Keeps};
 ghost use Rattle.event_callbacks.specs.declared.devices.TheConstants.{SENT, SECTOR, WRITTEN};
-ghost use Rattle.clone_state.specs.Drafts.{Agrees, KeepsUp, nothing_copied};
 
 use super::{board, image, part};
-use crate::{Draft, Image};
+use crate::{Copies, DraftedBoard, Image};
 use event_callbacks::{Callbacks, Completes, plain_completions};
-use guest_board::Board;
+use guest_board::Lockstep;
 use i8080_words::{Fault, R};
 use std::alloc::Global;
 use std::process::Abort;
 use std::test::Fail;
 
-// A draft with every page stale, at the second attempt if memory is refused at the first.
-fn draft(alloc: Global) -> R<Draft>
-    ensures { IfOk result (λ draft. draft ≡ nothing_copied) }
-{
-    match Draft::new(alloc) {
-        Err(Fault::OutOfMemory) => Draft::new(alloc),
-        made => made,
-    }
-}
-
-// The image in a draft, likewise: the draft that is handed back serves again.
-fn image_of_draft<T: Completes, S: Completes, W: Completes>(
+// At most so many pages are copied, at the second attempt if memory is refused at the first. How many are stale then.
+fn freshen<T: Completes + Drop, S: Completes + Drop, W: Completes + Drop>(
     alloc: Global,
-    draft: Draft,
-    board: &Board<T, S, W>,
-) -> R<Image>
-    requires { Agrees draft board.now }
-{
-    let refused = match Image::of_draft(alloc, draft, board, 2) {
-        Ok(image) => return Ok(image),
-        Err((draft, _)) => Image::of_draft(alloc, draft, board, 2),
-    };
-    match refused {
-        Ok(image) => Ok(image),
-        Err((_, fault)) => Err(fault),
+    guest: &mut DraftedBoard<T, S, W>,
+    pages: u64,
+) -> R<u64> {
+    match guest.freshen(alloc, pages) {
+        Err(Fault::OutOfMemory) => guest.freshen(alloc, pages),
+        stale => stale,
     }
 }
 
-// One step of the board, at the second attempt if memory is refused at the first. The draft stays one of the board.
+// The image in the draft, at the second attempt likewise: the draft serves again.
+fn image_of_draft<T: Completes + Drop, S: Completes + Drop, W: Completes + Drop>(
+    alloc: Global,
+    guest: &mut DraftedBoard<T, S, W>,
+) -> R<Image> {
+    match guest.image(alloc, 2) {
+        Err(Fault::OutOfMemory) => guest.image(alloc, 2),
+        image => image,
+    }
+}
+
+// One step, at the second attempt if memory is refused at the first. None is made in one go.
 fn step<T: Completes, S: Completes, W: Completes>(
     rt: &impl Abort,
-    board: &mut Board<T, S, W>,
-    draft: &Draft,
-)
-    requires { KeepsUp draft.now board.old }
-    ensures { KeepsUp draft.now board.new }
-{
-    board.stands();
-    let made = board.exec().is_ok();
-    board.stands();
-    if !made {
-        assert!(rt; board.exec().is_ok());
+    guest: &mut DraftedBoard<T, S, W>,
+) {
+    assert_eq!(rt; guest.step_quietly(9), 0);
+    if guest.step().is_err() {
+        assert!(rt; guest.step().is_ok());
     }
 }
 
@@ -68,7 +55,8 @@ fn check_same(rt: &(impl Abort + AllocGlobal), drafted: &Image, whole: &Image) -
     Ok(())
 }
 
-// All pages are copied, then MVI A,48 and STA 2000 are executed: page 20 is stale again, and the image has its byte.
+// All pages are copied, then MVI A,48 and STA 2000 are executed: page 20 is stale again, and the image has its byte. With
+// the image the draft is gone.
 fn check_draft<T: Completes + Drop, S: Completes + Drop, W: Completes + Drop>(
     rt: &(impl Abort + AllocGlobal),
     sent: T,
@@ -79,17 +67,18 @@ fn check_draft<T: Completes + Drop, S: Completes + Drop, W: Completes + Drop>(
     requires sector { Keeps (S.may sector) (S.gives sector) SECTOR }
     requires written { Keeps (W.may written) (W.gives written) WRITTEN }
 {
-    let mut board = board(rt.alloc(), Callbacks::of(sent, sector, written))?;
-    let mut draft = draft(rt.alloc())?;
-    assert_eq!(rt; draft.freshen(&board, 0), 256);
-    assert_eq!(rt; draft.freshen(&board, 255), 1);
-    assert_eq!(rt; draft.freshen(&board, 2), 0);
-    step(rt, &mut board, &draft);
-    assert_eq!(rt; draft.freshen(&board, 0), 0);
-    step(rt, &mut board, &draft);
-    assert_eq!(rt; draft.freshen(&board, 0), 1);
-    let drafted = image_of_draft(rt.alloc(), draft, &board)?;
-    check_same(rt, &drafted, &image(rt.alloc(), &board)?)
+    let mut guest = DraftedBoard::of(board(rt.alloc(), Callbacks::of(sent, sector, written))?);
+    assert_eq!(rt; freshen(rt.alloc(), &mut guest, 0)?, 256);
+    assert_eq!(rt; freshen(rt.alloc(), &mut guest, 255)?, 1);
+    assert_eq!(rt; freshen(rt.alloc(), &mut guest, 2)?, 0);
+    step(rt, &mut guest);
+    assert_eq!(rt; freshen(rt.alloc(), &mut guest, 0)?, 0);
+    step(rt, &mut guest);
+    assert_eq!(rt; freshen(rt.alloc(), &mut guest, 0)?, 1);
+    let drafted = image_of_draft(rt.alloc(), &mut guest)?;
+    check_same(rt, &drafted, &image(rt.alloc(), guest.board())?)?;
+    assert_eq!(rt; freshen(rt.alloc(), &mut guest, 0)?, 256);
+    Ok(())
 }
 
 #[test]

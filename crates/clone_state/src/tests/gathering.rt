@@ -12,7 +12,7 @@ use std::process::Abort;
 use std::test::Fail;
 
 // An assembly for one drive, at the second attempt if memory is refused at the first.
-fn assembly(alloc: Global, generation: u32) -> R<Assembly> {
+pub(super) fn assembly(alloc: Global, generation: u32) -> R<Assembly> {
     match Assembly::new(alloc, generation, 1) {
         Err(Fault::OutOfMemory) => Assembly::new(alloc, generation, 1),
         made => made,
@@ -55,7 +55,7 @@ fn check_taken_back(
 }
 
 // The board of an assembly, at the second attempt if memory is refused at the first.
-fn assembled<T: Completes + Drop, S: Completes + Drop, W: Completes + Drop>(
+pub(super) fn assembled<T: Completes + Drop, S: Completes + Drop, W: Completes + Drop>(
     alloc: Global,
     assembly: Assembly,
     callbacks: Callbacks<T, S, W>,

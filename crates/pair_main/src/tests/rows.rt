@@ -125,7 +125,19 @@ const JOINING: Lines = &[
     ("node 62", "joining 3"),
 ];
 
-static ROWS: [Row; 11] = [
+// Every page is copied before the pair begins, and one of them is written then.
+const DRAFT: Lines = &[
+    ("freshen 0 256", "refused 8"),
+    ("freshen 2 256", "refused 15"),
+    ("suspect 0", "won"),
+    ("freshen 0 256", "stale 0"),
+    ("step 0 10", "ran 3 count 3 idle"),
+    ("freshen 0 0", "stale 1"),
+    ("pair 0 2", "generation 2"),
+    ("sendpart 0 33", "message 0"),
+];
+
+static ROWS: [Row; 12] = [
     Row {
         setup: "",
         parts: &[],
@@ -170,6 +182,11 @@ static ROWS: [Row; 11] = [
         setup: "hosts 64\n",
         parts: &[JOINING],
         checked: "same 0\n",
+    },
+    Row {
+        setup: "hosts 3\nmem 0000 3E 48 32 00 20 76\n",
+        parts: &[DRAFT],
+        checked: "same 3\n",
     },
     Row {
         setup: WRITES_A_SECTOR,

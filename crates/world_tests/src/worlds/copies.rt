@@ -4,8 +4,8 @@ ghost use Rattle.event_callbacks.specs.declared.devices.TheConstants.{SENT, SECT
 ghost use Rattle.event_callbacks.specs.Keeping.{Keeps};
 
 use crate::worlds::lines::{
-    Line, ack, acked, arrive, begin_pair, done, drain, gave, get, log, message, part, put, ran,
-    release, replay, send, send_part, sent, step, stop, suspect, under,
+    Line, ack, acked, arrive, begin_pair, done, drain, freshen, gave, get, log, message, part, put,
+    ran, release, replay, send, send_part, sent, step, stop, suspect, under,
 };
 use crate::worlds::outputs::{FIRST, FIRST_BYTE};
 use crate::worlds::rows::{Altairs, Sent, boot, happen, sent_in};
@@ -34,10 +34,15 @@ enum Row {
     Joining,
     Acknowledged,
     Stopped,
+    Drafted,
 }
 
 fn generation(generation: u32) -> R<Reply> {
     Ok(Reply::Generation { generation })
+}
+
+fn stale(pages: u64) -> R<Reply> {
+    Ok(Reply::Stale { pages })
 }
 
 fn node(role: Role, generation: u32, count: u64) -> Option<NodeStatus> {
@@ -355,6 +360,39 @@ fn stopped<B: Copies<H> + Drop, D: SectorStore, H: Drop>(
     assert_eq!(rt; world.generation(), 4);
 }
 
+// MVI A,48; STA 2000; HLT.
+const WRITES_A_BYTE: [u8; 6] = [0x3e, 0x48, 0x32, 0x00, 0x20, 0x76];
+
+// All pages are copied, then page 20 is written: it alone is stale when generation 2 begins.
+fn page_20_is_stale() -> [Line; 10] {
+    [
+        (freshen(0, 1), WRONG_ROLE),
+        (freshen(2, 1), UNKNOWN),
+        (suspect(0), Ok(Reply::Won)),
+        (freshen(0, 0), stale(256)),
+        (freshen(0, 256), stale(0)),
+        (step(0, 10), ran(3, 3, StopReason::Refused(Fault::Idle))),
+        (freshen(0, 0), stale(1)),
+        (begin_pair(0, 2), generation(2)),
+        (freshen(0, 1), WRONG_ROLE),
+        (send_part(0, 33), message(0)),
+    ]
+}
+
+// The image has the byte that was written.
+fn drafted<B: Copies<H> + Drop, D: SectorStore, H: Drop>(
+    rt: &impl Abort,
+    alloc: Global,
+    world: &mut World<B, D, H>,
+) {
+    happen(rt, alloc, world, &page_20_is_stale());
+    let Sent::Part(bytes) = sent_in(world.message(0)) else {
+        panic!(rt; "message 0 is no part");
+    };
+    let page = [0x50, 0x00, 0x00, 0x00, 0x02, 0x00, 0x21, 0x48, 0x00];
+    assert_eq!(rt; bytes.get(..9), Some(page.as_slice()));
+}
+
 // Three spare hosts come to a pair.
 fn bring_hosts<T: Completes + Drop + Copy, S: Completes + Drop + Copy, W: Completes + Drop + Copy>(
     world: &mut Altairs<T, S, W>,
@@ -391,10 +429,10 @@ fn run<T: Completes + Drop + Copy, S: Completes + Drop + Copy, W: Completes + Dr
     requires written { Keeps (W.may written) (W.gives written) WRITTEN }
 {
     let alloc = rt.alloc();
-    let program = if row == Row::Copied {
-        BYTES_AND_WRITES.as_slice()
-    } else {
-        FIRST_BYTE.as_slice()
+    let program = match row {
+        Row::Copied => BYTES_AND_WRITES.as_slice(),
+        Row::Drafted => WRITES_A_BYTE.as_slice(),
+        _ => FIRST_BYTE.as_slice(),
     };
     let mut world = boot(alloc, program, sent, sector, written)?;
     bring_hosts(&mut world, sent, sector, written)?;
@@ -408,6 +446,7 @@ fn run<T: Completes + Drop + Copy, S: Completes + Drop + Copy, W: Completes + Dr
         Row::Joining => happen(rt, alloc, &mut world, &joining()),
         Row::Acknowledged => acknowledged(rt, alloc, &mut world),
         Row::Stopped => stopped(rt, alloc, &mut world),
+        Row::Drafted => drafted(rt, alloc, &mut world),
     }
     Ok(())
 }
@@ -445,4 +484,9 @@ fn an_acknowledged_image_is_given_up(rt: HostRuntime) -> R<()> {
 #[test]
 fn a_joining_node_may_stop(rt: HostRuntime) -> R<()> {
     check(&rt, Row::Stopped)
+}
+
+#[test]
+fn a_page_that_is_written_is_stale(rt: HostRuntime) -> R<()> {
+    check(&rt, Row::Drafted)
 }

@@ -80,6 +80,10 @@ pub(crate) fn drain(node: u64, turns: u64) -> Event {
     Event::Drain { node, turns }
 }
 
+pub(crate) fn freshen(node: u64, pages: u64) -> Event {
+    Event::Freshen { node, pages }
+}
+
 pub(crate) fn begin_pair(node: u64, host: u64) -> Event {
     Event::BeginPair { node, host }
 }

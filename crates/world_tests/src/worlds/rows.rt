@@ -6,11 +6,11 @@ ghost use Rattle.event_callbacks.specs.Keeping.{Keeps};
 
 use crate::worlds::lines::Line;
 use crate::worlds::shown::shown;
-use clone_state::Copies;
+use clone_state::{Copies, DraftedBoard};
 use disk_dcdd::{SECTOR_BYTES, SectorAddress, SectorWrite};
 use event_callbacks::{Callbacks, Completes, plain_completions};
 use ft_world::{Message, NodeStatus, World};
-use guest_board::{Board, Setup};
+use guest_board::Setup;
 use guest_trace::Timed;
 use i8080_words::{Fault, R};
 use pair_events::Role;
@@ -90,7 +90,11 @@ fn memory(alloc: Global, program: &[u8]) -> R<Vec<u8>>
 }
 
 /// A pair of Altairs in memory.
-pub(crate) type Altairs<T, S, W> = World<Board<T, S, W>, MemoryStore, Callbacks<T, S, W>>;
+pub(crate) type Altairs<T, S, W> = World<
+    DraftedBoard<T, S, W>,
+    MemoryStore,
+    Callbacks<T, S, W>,
+>;
 
 // A pair boots with this program and one drive.
 fn boot_once<T: Completes + Drop, S: Completes + Drop, W: Completes + Drop>(

@@ -1,8 +1,12 @@
 -- An alone node begins a generation, or it is the last one, or there is no memory.
-use Rattle.std.proofs.Common.{Some, ap, refl, sym, ◌∙◌, arith}
+use Rattle.std.proofs.Common.{Err, Some, ap, refl, subst, sym, ◌∙◌, arith}
 use Rattle.clone_state.specs.Copies.{image_parts}
+use Rattle.i8080_words.specs.declared.refusal.Fault.{Fault}
+use Rattle.ft_node.specs.Calls.{BeginsPair}
 use Rattle.ft_node.specs.Kept.{ImageParts}
+use Rattle.ft_node.specs.Roles.{IsAlone}
 use Rattle.ft_node.specs.Seats.{IsNode}
+use Rattle.ft_node.specs.declared.alone.Alone.{Alone}
 use Rattle.ft_node.specs.declared.node.Node.TheVariants as seat
 use Rattle.ft_node.proofs.BegunPairs.{begins, is_begun, out_of_memory, spent}
 use Rattle.ft_node.proofs.copying.begun.Goals as goal
@@ -14,12 +18,15 @@ returns-then-alone-clause-answer g c = λ C drives x copies has a.
     spent M (state c.args.alone.board) c.args.alone.generation x a
     (IsNode {H = g.row.H.Denot} state M C drives (seat.Alone c.args.alone)) (omega arith) a
 
-pub returns-in_default-clause-answer : goal.returns-in_default-clause-answer
-returns-in_default-clause-answer g c = λ C drives x copies has a.
+pub returns-in-Err-clause-answer : goal.returns-in-Err-clause-answer
+returns-in-Err-clause-answer g c = λ C drives x copies has a.
     let M = g.B.Lockstep.machine in
     let state = g.B.Lockstep.state in
-    out_of_memory M (state c.args.alone.board) c.args.alone.generation x a
-    (IsNode {H = g.row.H.Denot} state M C drives (seat.Alone c.args.alone)) (omega arith) a
+    let now = c.log_and_image.new.alone in
+    subst (λ (fault : Fault). BeginsPair M x (Err fault) (IsAlone (state now.board) now.generation)) (sym c.in-Err.ensures.full)
+    (out_of_memory M (state c.args.alone.board) c.args.alone.generation x a (IsAlone (state now.board) now.generation)
+    (omega arith)
+    (subst (λ (alone : Alone g.row.B.Denot). IsAlone (state alone.board) alone.generation x) (sym c.in-Err.ensures.unchanged) a))
 
 pub returns-clause-answer : goal.returns-clause-answer
 returns-clause-answer g c = λ C drives x copies has a.
@@ -30,8 +37,8 @@ returns-clause-answer g c = λ C drives x copies has a.
     let made = c.begin-primary.ensures in
     begins M s c.args.alone.generation x a (IsNode {H = g.row.H.Denot} state M C drives (seat.Primary primary)) (omega arith)
     (is_begun M s c.args.alone.generation x a C (state primary.recorder.board) primary.recorder.log primary.sender
-    primary.coverage primary.image (image_parts (g.B.Copies.copied c.args.alone.board)) has (ap state made.board)
+    primary.coverage primary.image (image_parts (g.B.Copies.copied c.args.alone.board)) has (ap state made.board ∙ c.log_and_image.ensures.state)
     (made.log ∙ c.in-Ok.ensures.log) made.sender
-    (made.coverage ∙ rw (c.keys.ensures, c.keys-2.ensures) refl)
+    (made.coverage ∙ rw (c.keys.ensures, c.keys-2.ensures, c.log_and_image.ensures.state) refl)
     (made.image ∙ c.of.ensures ∙ ap (λ (image : ImageParts). Some image) c.in-Ok.ensures.image)
     (sym (copies.same c.args.alone.board)))

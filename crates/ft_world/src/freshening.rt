@@ -1,0 +1,25 @@
+//! What happens at a station when pages of its machine are copied early.
+ghost use Rattle.std.specs.Prelude.{◌≡◌, ℕ, IfOk, OnErr};
+ghost use Rattle.pair_protocol.specs.Copying.{Copying};
+ghost use Rattle.pair_protocol.specs.Node as protocol;
+ghost use Rattle.ft_node.specs.Calls as calls;
+ghost use Rattle.ft_node.specs.Seats.{AreFreshened};
+ghost use Rattle.ft_world.specs.Shows.{IsStation};
+
+use crate::station::Station;
+use clone_state::Copies;
+use i8080_words::R;
+use std::alloc::Global;
+
+impl<B: Copies<H> + Drop, H: Drop> Station<B, H> {
+    /// An alone node copies the lowest stale pages of its machine, at most so many. How many are stale then.
+    pub(crate) fn freshen(&mut self, alloc: Global, pages: u64) -> R<u64>
+        ensures answer { (C : Copying B.State) (drives : ℕ) (x : protocol.Node B.State)
+            → IsStation B.state B.machine C drives self.old x
+            → calls.Freshens x result (IsStation B.state B.machine C drives self.new) }
+        ensures stale { IfOk result (λ left. AreFreshened B.stale pages left self.old.node self.new.node) }
+        ensures unchanged { OnErr result (self.new ≡ self.old) }
+    {
+        self.node.freshen(alloc, pages)
+    }
+}
