@@ -124,7 +124,7 @@ fn filled(number: u8, first: u64, count: u64) -> [Line; 3] {
     ]
 }
 
-// A write is released, as this message, and done. Then nine steps go back and load the head again.
+// A write is released, as this message, and done.
 fn completed(node: u64, number: u64, first: u64) -> [Line; 3] {
     [
         (release(node, OpId::Write(number)), message(first)),
