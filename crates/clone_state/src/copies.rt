@@ -33,7 +33,7 @@ pub trait Copies<H>: Lockstep {
     ghost stale: { Self → ℕ };
 
     /// Copies the lowest stale pages, at most so many, into a draft of the guest's image, which begins here if there is
-    /// none. How many are stale then. `OutOfMemory` if a draft begins here and the allocator refuses.
+    /// none. How many are stale then. `OutOfMemory` if the allocator refuses.
     fn freshen(&mut self, alloc: Global, pages: u64) -> R<u64>
         ensures state { Self.state self.new ≡ Self.state self.old }
         ensures copied { copied self.new ≡ copied self.old }

@@ -71,7 +71,7 @@ impl<B: Copies<H> + Drop, H: Drop> Node<B, H> {
     }
 
     /// Copies the lowest stale pages of an alone node's machine, at most so many, for the image with which it may begin
-    /// the next generation. How many are stale then. `OutOfMemory` only if none was ever copied for that image.
+    /// the next generation. How many are stale then. `OutOfMemory` if the allocator refuses.
     pub fn freshen(&mut self, alloc: Global, pages: u64) -> R<u64>
         ensures answer { (C : Copying B.State) (drives : ℕ) (x : protocol.Node B.State)
             → IsNode B.state B.machine C drives self.old x
