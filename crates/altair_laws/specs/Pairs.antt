@@ -13,7 +13,7 @@ use Rattle.pair_protocol.specs.World.{World, opening}
 -- the events of a run of a pair of Altairs, their replies, and the world that they lead to
 abbrev pub IsRun : Setup → (SectorAddress → List ℕ) → Copying Guest → List Event → List Reply → World Guest → Type 0
 IsRun setup sectors C events replies w =
-    Run (altair setup sectors) C (opening (altair setup sectors)) events replies w
+    Run (altair setup sectors) C (opening (altair setup sectors) setup.reads) events replies w
 
 -- every world of every run is faithful
 abbrev pub PairsAreFaithful : Type 0

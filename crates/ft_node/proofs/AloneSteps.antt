@@ -8,6 +8,7 @@ use Rattle.guest_board.specs.Lockstep as lockstep
 use Rattle.guest_board.specs.Machine.{Machine}
 use Rattle.guest_board.specs.Running as running
 use Rattle.guest_board.specs.Running.{RunsOn, fault_of}
+use Rattle.guest_board.specs.declared.reads.Reads.{Reads}
 use Rattle.guest_board.specs.declared.running.StopReason.TheVariants as reason
 use Rattle.guest_board.specs.declared.running.Stopped.{Stopped}
 use Rattle.i8080_words.specs.declared.refusal.Fault.{Fault}
@@ -30,14 +31,14 @@ first_of_two false true = refl
 first_of_two false false = refl
 
 -- only the machine refuses a step
-step_refusal : {S : Type 0} (M : Machine S) (x : Node S) (s : S) (generation turns : ℕ) → IsAlone s generation x
+step_refusal : {S : Type 0} {reads : Reads} (M : Machine S) (x : Node S) (s : S) (generation turns : ℕ) → IsAlone reads s generation x
     → 0 < turns → refusals.step_refusal M turns x ≡ lockstep.step_refusal M s
 step_refusal M x s generation zero a some = absurd (omega arith)
 step_refusal M x s generation (suc turns) a some =
     rw (a.role, a.up, a.machine) (first_of_two (M.is_spent s) (is_none (M.step s)))
 
 -- nothing refuses no turns, or the first step
-not_refused : {S : Type 0} (M : Machine S) (x : Node S) (s : S) (generation turns : ℕ) → IsAlone s generation x
+not_refused : {S : Type 0} {reads : Reads} (M : Machine S) (x : Node S) (s : S) (generation turns : ℕ) → IsAlone reads s generation x
     → (turns ≡ 0) ⊎ (lockstep.step_refusal M s ≡ None) → refusals.step_refusal M turns x ≡ None
 not_refused M x s generation zero a h = rw (a.role, a.up) refl
 not_refused M x s generation (suc turns) a (inl none) = absurd (omega arith)
@@ -46,11 +47,11 @@ not_refused M x s generation (suc turns) a (inr allowed) =
 
 -- ---- steps that are made
 
-alone_steps : {S : Type 0} (M : Machine S) (s t : S) (generation : ℕ) (x : Node S) (given : Option Operation)
-    → IsAlone s generation x → IsAlone t generation (stepped M x x.role t given)
-alone_steps M s t generation x given a =
-    subst (λ role. IsAlone t generation (stepped M x role t given)) (sym a.role)
-    (record { role = a.role; up = a.up; generation_is = a.generation_is; machine = refl })
+alone_steps : {S : Type 0} {reads : Reads} (M : Machine S) (s t : S) (generation : ℕ) (x : Node S) (given : Option Operation)
+    → IsAlone reads s generation x → IsAlone reads t generation (stepped M x x.role t given)
+alone_steps {S} {reads} M s t generation x given a =
+    subst (λ role. IsAlone reads t generation (stepped M x role t given)) (sym a.role)
+    (record { role = a.role; up = a.up; generation_is = a.generation_is; reads_are = a.reads_are; machine = refl })
 
 -- if a step was made, the first was not refused
 started : {S : Type 0} (M : Machine S) (s t : S) (turns : ℕ) (r : Stopped) → RunsOn M s turns r t
@@ -73,16 +74,16 @@ last_step M s t turns _ name (running.AllTurns q) is = absurd cc
 last_step M s t turns _ name (running.Gives lt q allowed made) is = inr (omega arith)
 last_step M s t turns _ name (running.IsRefused lt q) is = absurd cc
 
-pub made : {S : Type 0} (M : Machine S) (x : Node S) (s t : S) (generation turns count : ℕ) (r : Stopped)
-    → IsAlone s generation x → RunsOn M s turns r t → (turns ≡ 0) ⊎ (0 < r.steps) → count ≡ M.count t
-    → calls.Steps M turns x (Ok (record { steps = r.steps; count = count; why = r.reason })) (IsAlone t generation)
-made M x s t generation turns count r a runs some counted =
+pub made : {S : Type 0} {reads : Reads} (M : Machine S) (x : Node S) (s t : S) (generation turns count : ℕ) (r : Stopped)
+    → IsAlone reads s generation x → RunsOn M s turns r t → (turns ≡ 0) ⊎ (0 < r.steps) → count ≡ M.count t
+    → calls.Steps M turns x (Ok (record { steps = r.steps; count = count; why = r.reason })) (IsAlone reads t generation)
+made {S} {reads} M x s t generation turns count r a runs some counted =
     let ran : Ran = record { steps = r.steps; count = count; why = r.reason } in
-    let to = steps_to M (λ s x. IsAlone s generation x) (λ why s x. IsAlone s generation x) (λ s x a. a.machine)
+    let to = steps_to M (λ s x. IsAlone reads s generation x) (λ why s x. IsAlone reads s generation x) (λ s x a. a.machine)
     (λ s t x a moved. alone_steps M s t generation x None a) (λ s t x o a moved. alone_steps M s t generation x (Some o) a)
     (λ s x a. a) (λ s x fault a. a) s t x turns r a runs in
-    subst (λ r. calls.Unless {A = Ran} r (Ok ran) (IsAlone t generation x)
-    (calls.Makes x (calls.SteppedBy M turns ran) (IsAlone t generation)))
+    subst (λ r. calls.Unless {A = Ran} r (Ok ran) (IsAlone reads t generation x)
+    (calls.Makes x (calls.SteppedBy M turns ran) (IsAlone reads t generation)))
     (sym (not_refused M x s generation turns a (started M s t turns r runs some)))
     (record {
       y = to.y;
@@ -92,26 +93,26 @@ made M x s t generation turns count r a runs some counted =
 
 -- ---- the first step is refused
 
-refused_by : {S : Type 0} (x : Node S) (t : S) (generation turns : ℕ) (refusal : Option Fault) (fault : Fault)
-    (Does : Ran → Type 0) → 0 < turns → IsAlone t generation x → fault_of refusal ≡ fault
-    → calls.Unless {A = Ran} refusal (Err fault) (IsAlone t generation x)
-    (calls.Gives (Err fault) ((0 < turns) × IsAlone t generation x) Does)
+refused_by : {S : Type 0} {reads : Reads} (x : Node S) (t : S) (generation turns : ℕ) (refusal : Option Fault) (fault : Fault)
+    (Does : Ran → Type 0) → 0 < turns → IsAlone reads t generation x → fault_of refusal ≡ fault
+    → calls.Unless {A = Ran} refusal (Err fault) (IsAlone reads t generation x)
+    (calls.Gives (Err fault) ((0 < turns) × IsAlone reads t generation x) Does)
 refused_by x t generation turns (Some other) fault Does some a e = (ap (λ f. Err f) (sym e), a)
 refused_by x t generation turns None fault Does some a e = (sym e, (some, a))
 
-pub refused : {S : Type 0} (M : Machine S) (x : Node S) (s t : S) (generation turns : ℕ) (r : Stopped) (fault : Fault)
-    → IsAlone s generation x → RunsOn M s turns r t → r.reason ≡ reason.Refused fault → r.steps ≡ 0
-    → calls.Steps M turns x (Err fault) (IsAlone t generation)
-refused M x s t generation turns _ fault a (running.AllTurns q) is none = absurd cc
-refused M x s t generation turns _ fault a (running.Gives lt q allowed made) is none = absurd cc
-refused M x s t generation turns _ fault a (running.IsRefused {n = n} lt q) is none =
+pub refused : {S : Type 0} {reads : Reads} (M : Machine S) (x : Node S) (s t : S) (generation turns : ℕ) (r : Stopped) (fault : Fault)
+    → IsAlone reads s generation x → RunsOn M s turns r t → r.reason ≡ reason.Refused fault → r.steps ≡ 0
+    → calls.Steps M turns x (Err fault) (IsAlone reads t generation)
+refused {S} {reads} M x s t generation turns _ fault a (running.AllTurns q) is none = absurd cc
+refused {S} {reads} M x s t generation turns _ fault a (running.Gives lt q allowed made) is none = absurd cc
+refused {S} {reads} M x s t generation turns _ fault a (running.IsRefused {n = n} lt q) is none =
     let here : t ≡ s = none_made M s t n none q in
     let fault_is : fault_of (lockstep.step_refusal M t) ≡ fault = cc in
     let same : lockstep.step_refusal M s ≡ lockstep.step_refusal M t = ap (λ s. lockstep.step_refusal M s) (sym here) in
-    let alone : IsAlone t generation x = subst (λ s. IsAlone s generation x) (sym here) a in
-    subst (λ r. calls.Unless {A = Ran} r (Err fault) (IsAlone t generation x)
-    (calls.Gives (Err fault) ((0 < turns) × IsAlone t generation x)
-    (λ ran. calls.Makes x (calls.SteppedBy M turns ran) (IsAlone t generation))))
+    let alone : IsAlone reads t generation x = subst (λ s. IsAlone reads s generation x) (sym here) a in
+    subst (λ r. calls.Unless {A = Ran} r (Err fault) (IsAlone reads t generation x)
+    (calls.Gives (Err fault) ((0 < turns) × IsAlone reads t generation x)
+    (λ ran. calls.Makes x (calls.SteppedBy M turns ran) (IsAlone reads t generation))))
     (sym (step_refusal M x s generation turns a (omega arith) ∙ same))
     (refused_by x t generation turns (lockstep.step_refusal M t) fault
-    (λ ran. calls.Makes x (calls.SteppedBy M turns ran) (IsAlone t generation)) (omega arith) alone fault_is)
+    (λ ran. calls.Makes x (calls.SteppedBy M turns ran) (IsAlone reads t generation)) (omega arith) alone fault_is)

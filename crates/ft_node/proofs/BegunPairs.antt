@@ -8,6 +8,7 @@ use Rattle.std.proofs.lemmas.Option.{none-some}
 use Rattle.ft_node.specs.Kept.{ImageParts}
 use Rattle.event_callbacks.specs.declared.devices.TheConstants.{PORTS}
 use Rattle.guest_board.specs.Machine.{Machine}
+use Rattle.guest_board.specs.declared.reads.Reads.{Reads}
 use Rattle.guest_trace.specs.Reach.{keys}
 use Rattle.guest_trace.specs.declared.timed.Timed.{Timed}
 use Rattle.i8080_words.specs.declared.refusal.Fault.TheVariants.{OutOfMemory, Spent}
@@ -24,7 +25,8 @@ use Rattle.ft_node.specs.Roles.{Covers, HasImage, IsAlone, IsPrimary}
 abbrev pub taken_keys : {S : Type 0} → Machine S → S → List ℕ
 taken_keys M s = M.keys s 0 ∷ M.keys s 1 ∷ []
 
-module _ {S : Type 0} (M : Machine S) (s : S) (generation : ℕ) (x : Node S) (a : IsAlone s generation x) where
+module _ {S : Type 0} (M : Machine S) (reads : Reads) (s : S) (generation : ℕ) (x : Node S)
+    (a : IsAlone reads s generation x) where
   taken_are : HasTakenKeys M x → (port : ℕ) → port < PORTS
       → slice_index (taken_keys M s) port ≡ length (keys port (x.list ++ []))
   taken_are has port within =
@@ -39,26 +41,29 @@ module _ {S : Type 0} (M : Machine S) (s : S) (generation : ℕ) (x : Node S) (a
   covers : HasTakenKeys M x → Covers M (nothing_acknowledged (taken_keys M s)) (begun M x)
   covers has = record {
     acknowledged = refl;
+    reported = refl;
+    last_read = refl;
     waits = refl;
     keys = taken_are has;
     noted = λ name o found. refl;
-    for_mark = λ name note e. absurd (none-some note e);
-    outstanding = λ name index e. absurd (none-some index e);
+    outstanding = λ name note e. absurd (none-some note e);
   }
 
   is_primary : (C : Copying S) (image : ImageParts) → HasTakenKeys M x → image.generation ≡ suc generation
       → image.parts ≡ C.parts s
-      → IsPrimary M (HasImage C (suc generation) (Some image)) s (log 0 [])
-      (record { generation = suc generation; held = 0 }) (nothing_acknowledged (taken_keys M s)) (begun M x)
+      → IsPrimary M (HasImage C (suc generation) (Some image)) reads s (log 0 [])
+      (record { generation = suc generation; held = 0; replayed = 0 }) (nothing_acknowledged (taken_keys M s)) (begun M x)
   is_primary C image has begins parts = record {
     role = refl;
     up = refl;
     generation = ap suc a.generation_is;
+    reads_are = a.reads_are;
     machine = a.machine;
     kept = refl;
     within = omega arith;
     entries = λ k e within. absurd (omega (arith, within));
     acknowledged = refl;
+    told = refl;
     covers = covers has;
     image = record {
       s = x.machine;
@@ -69,16 +74,16 @@ module _ {S : Type 0} (M : Machine S) (s : S) (generation : ℕ) (x : Node S) (a
   }
 
   -- the primary that begins with such parts
-  pub is_begun : (C : Copying S) (t : S) (l : Log) (sd : Sending) (c : Covering) (kept : Option ImageParts)
-      (parts : List (List ℕ)) → HasTakenKeys M x → t ≡ s → l ≡ log 0 []
-      → sd ≡ record { generation = generation + 1; held = 0 } → c ≡ nothing_acknowledged (taken_keys M s)
+  pub is_begun : (C : Copying S) (logs : Reads) (t : S) (l : Log) (sd : Sending) (c : Covering) (kept : Option ImageParts)
+      (parts : List (List ℕ)) → HasTakenKeys M x → logs ≡ reads → t ≡ s → l ≡ log 0 []
+      → sd ≡ record { generation = generation + 1; held = 0; replayed = 0 } → c ≡ nothing_acknowledged (taken_keys M s)
       → kept ≡ Some (record { generation = generation + 1; parts = parts }) → parts ≡ C.parts s
-      → IsPrimary M (HasImage C sd.generation kept) t l sd c (begun M x)
-  is_begun C t l sd c kept parts has board empty sender covered image is =
-      rw (board, empty, sender, covered, image)
+      → IsPrimary M (HasImage C sd.generation kept) logs t l sd c (begun M x)
+  is_begun C logs t l sd c kept parts has same board empty sender covered image is =
+      rw (same, board, empty, sender, covered, image)
       (subst
-      (λ n. IsPrimary M (HasImage C n (Some (record { generation = n; parts = parts }))) s (log 0 [])
-      (record { generation = n; held = 0 }) (nothing_acknowledged (taken_keys M s)) (begun M x))
+      (λ n. IsPrimary M (HasImage C n (Some (record { generation = n; parts = parts }))) reads s (log 0 [])
+      (record { generation = n; held = 0; replayed = 0 }) (nothing_acknowledged (taken_keys M s)) (begun M x))
       (sym (add-one generation)) (is_primary C (record { generation = suc generation; parts = parts }) has refl is))
 
   -- only the number of the generation refuses it
@@ -121,14 +126,16 @@ module _ {S : Type 0} (M : Machine S) (s : S) (generation : ℕ) (x : Node S) (a
 
 -- ---- the generation after one
 
-pub next_if : (generation drives : ℕ) → generation + 1 < 2 ^ 32
-    → Ok (record { generation = generation + 1; drives = drives }) ≡ next_after generation drives
+pub next_if : (generation drives : ℕ) (reads : Reads) → generation + 1 < 2 ^ 32
+    → Ok (record { generation = generation + 1; drives = drives; reads = reads })
+    ≡ next_after generation drives reads
 unfolding last_generation
-next_if generation drives few =
+next_if generation drives reads few =
     let no : nat_le last_generation generation ≡ false = lt-leb _ _ (omega arith) in
-    rw no (ap (λ n. Ok (record { generation = n; drives = drives })) (add-one generation))
+    rw no (ap (λ n. Ok (record { generation = n; drives = drives; reads = reads })) (add-one generation))
 
-pub no_next : (generation drives : ℕ) → generation + 1 ≡ 2 ^ 32 → Err Spent ≡ next_after generation drives
+pub no_next : (generation drives : ℕ) (reads : Reads) → generation + 1 ≡ 2 ^ 32
+    → Err Spent ≡ next_after generation drives reads
 unfolding last_generation
-no_next generation drives last =
+no_next generation drives reads last =
     let yes : nat_le last_generation generation ≡ true = le-leb _ _ (omega arith) in rw yes refl

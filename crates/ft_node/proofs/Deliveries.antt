@@ -23,7 +23,7 @@ module _ {S : Type 0} (needs : ℕ → Node S → Type 0) (x : Node S) (Is : Nod
       → ((index : ℕ) (e : Entry) → next ≡ (if index == length x.held then Some e else None)
       → Call None (needs index) (Held index e) x r Is) → DeliversLog needs p x r Is
   comes None next r expected does = absurd (not_refused _ next ⊥ expected).1
-  comes (Some (Ack generation held)) next r expected does = absurd (not_refused _ next ⊥ expected).1
+  comes (Some (Ack generation held replayed)) next r expected does = absurd (not_refused _ next ⊥ expected).1
   comes (Some (Log generation index e)) next r expected does =
       let o = not_refused (deliver_log_refusal generation x) next (next ≡ (if index == length x.held then Some e else None))
       expected in
@@ -62,5 +62,5 @@ module _ {S : Type 0} (needs : ℕ → Node S → Type 0) (x : Node S) (Is : Nod
 
       go : (p : Option Packet) → Expects p x (Err fault) → DeliversLog needs p x (Err fault) Is
       go None d = by _ ⊥ ⊥ (λ no. no) d
-      go (Some (Ack generation held)) d = by _ ⊥ ⊥ (λ no. no) d
+      go (Some (Ack generation held replayed)) d = by _ ⊥ ⊥ (λ no. no) d
       go (Some (Log generation index e)) d = by (deliver_log_refusal generation x) _ _ (λ no. no.1) d

@@ -7,6 +7,7 @@ use Rattle.disk_dcdd.specs.declared.address.SectorAddress.{SectorAddress}
 use Rattle.guest_board.specs.Machine.{Machine, refusal_of}
 use Rattle.guest_board.specs.declared.input.Input.{Input}
 use Rattle.guest_board.specs.declared.input.Input.TheVariants as input
+use Rattle.guest_board.specs.declared.reads.Reads.{Reads}
 use Rattle.i8080_words.specs.declared.refusal.Fault.{Fault}
 use Rattle.i8080_words.specs.declared.refusal.Fault.TheVariants.{NotDue, WrongNumber}
 use Rattle.pair_protocol.specs.Copying.{Copying}
@@ -105,13 +106,13 @@ module _ {B S : Type 0} {H : Type 0} (state : B → S) (M : Machine S) (C : Copy
   takes_input (seat.Halted h) x b room is has log = absurd cc
 
 -- what an alone node takes
-pub alone_accepts : {S : Type 0} (M : Machine S) (i : Input) (x : Node S) (s t : S) (generation : ℕ)
-    → IsAlone s generation x → M.take s i ≡ Some t → Makes x (Took M i) (IsAlone t generation)
-alone_accepts M i x s t generation a taken = record {
+pub alone_accepts : {S : Type 0} (M : Machine S) (reads : Reads) (i : Input) (x : Node S) (s t : S) (generation : ℕ)
+    → IsAlone reads s generation x → M.take s i ≡ Some t → Makes x (Took M i) (IsAlone reads t generation)
+alone_accepts M reads i x s t generation a taken = record {
   y = took M x x.role t i;
   done = record { s = t; takes = ap (λ s. M.take s i) a.machine ∙ taken; after = refl };
   after =
-      let alone : IsAlone t generation (took M x Alone t i) =
-      record { role = a.role; up = a.up; generation_is = a.generation_is; machine = refl } in
-      subst (λ role. IsAlone t generation (took M x role t i)) (sym a.role) alone;
+      let alone : IsAlone reads t generation (took M x Alone t i) =
+      record { role = a.role; up = a.up; generation_is = a.generation_is; reads_are = a.reads_are; machine = refl } in
+      subst (λ role. IsAlone reads t generation (took M x role t i)) (sym a.role) alone;
 }

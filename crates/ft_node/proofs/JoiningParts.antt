@@ -10,6 +10,7 @@ use Rattle.clone_state.specs.Laws.{IndexesAreWithin}
 use Rattle.clone_state.specs.Parts.{PartMessage, guest_in, message_at}
 use Rattle.guest_board.specs.Guest.{Guest}
 use Rattle.guest_board.specs.Machine.{Machine}
+use Rattle.guest_board.specs.declared.reads.Reads.{Reads}
 use Rattle.i8080_words.specs.declared.refusal.Fault.{Fault}
 use Rattle.log_channel.specs.Channel.{Receiving}
 use Rattle.log_entry.specs.Numbers.{◌>>=◌}
@@ -154,9 +155,9 @@ module _ {B S : Type 0} (state : B → S) (copied : B → Guest) (C : Copying S)
   more = after_part j.gathering bytes
 
   -- the guest that is made is the one that the protocol's node is given
-  is_made : (b : B) (r : Receiving) → machine_in more ≡ Some (copied b) → r ≡ nothing_held more.generation
-      → GetsPart C (message_at drives bytes) x (Ok reply.Whole) (IsFollower Backup (state b) r)
-  is_made b r made receives =
+  is_made : (b : B) (r : Receiving) (come : Option (List ℕ)) (reads : Reads) → come ≡ None → reads ≡ j.reads → machine_in more ≡ Some (copied b) → r ≡ nothing_held more.generation
+      → GetsPart C (message_at drives bytes) x (Ok reply.Whole) (IsFollower Backup reads (state b) come r)
+  is_made b r come reads none same_reads made receives =
       let o = message_at drives bytes in
       let here = left drives j is.drives_are bytes in
       let g = with_part j.gathering o in
@@ -169,11 +170,12 @@ module _ {B S : Type 0} (state : B → S) (copied : B → Guest) (C : Copying S)
       let begins : r ≡ nothing_held j.gathering.generation =
       receives
       ∙ ap nothing_held (ap (λ (g : Gathering). g.generation) here ∙ generation_stays j.gathering o) in
-      parts.last C drives j x is (IsFollower Backup (state b) r) o all.0 (state b)
+      parts.last C drives j x is (IsFollower Backup reads (state b) come r) o all.0 (state b)
       (answered drives j is.drives_are bytes (Ok true) new) (in_image state copied drives C copies law bytes) all.1
       assembled
-      (λ m read. subst (λ (r : Receiving). IsFollower Backup (state b) r (joins (gets_part x m.index m.payload) (state b)))
-      (sym begins) (parts.is_backup C drives j x is m (state b)))
+      (λ m read. rw (none, same_reads)
+      (subst (λ (r : Receiving). IsFollower Backup j.reads (state b) None r (joins (gets_part x m.index m.payload) (state b)))
+      (sym begins) (parts.is_backup C drives j x is m (state b))))
 
   -- and if none is made, the protocol refuses the part, or there is no memory
   not_made : (fault : Fault) (Is : Node S → Type 0) → is_whole more ≡ true
@@ -201,8 +203,10 @@ module _ {B S : Type 0} (state : B → S) (copied : B → Guest) (C : Copying S)
         let made = subst (λ (k : Joined). machine_in k.gathering ≡ Some (copied b.replayer.board)) same becomes.1 in
         let receives =
         subst (λ (k : Joined). b.receiver ≡ nothing_held k.gathering.generation) same becomes.2 in
-        subst (λ part. GetsPart C (message_at drives bytes) x (Ok part) (IsFollower Backup (state b.replayer.board) b.receiver))
-        (sym becomes.0) (is_made b.replayer.board b.receiver made receives)
+        let reads : b.reads ≡ j.reads = becomes.4 ∙ ap (λ (k : Joined). k.reads) same in
+        subst (λ part. GetsPart C (message_at drives bytes) x (Ok part)
+        (IsFollower Backup b.reads (state b.replayer.board) b.replayer.fetched b.receiver))
+        (sym becomes.0) (is_made b.replayer.board b.receiver b.replayer.fetched b.reads becomes.3 reads made receives)
     comes_last k same full (Err fault) (seat.Joining l) becomes =
         let back : l ≡ j =
         becomes.0 ∙ ap (λ (k : Joined). record k { gathering = after_forgetting k.gathering bytes }) same

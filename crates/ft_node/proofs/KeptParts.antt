@@ -12,6 +12,7 @@ use Rattle.clone_state.specs.declared.image.Image.{Image}
 use Rattle.ft_node.specs.Kept.{ImageParts, image_of}
 use Rattle.clone_state.specs.Image.{Spells, part_bytes}
 use Rattle.guest_board.specs.Machine.{Machine}
+use Rattle.guest_board.specs.declared.reads.Reads.{Reads}
 use Rattle.i8080_words.specs.declared.refusal.Fault.{Fault}
 use Rattle.i8080_words.specs.declared.refusal.Fault.TheVariants.{Unknown}
 use Rattle.log_buffer.specs.Log.{Log}
@@ -65,12 +66,12 @@ module _ {S : Type 0} (C : Copying S) (x : Node S) (index : ℕ) (result : Resul
       (spelled_part s generation part result there is begins first within spelled)
 
   -- what a primary sends of the image that it keeps
-  pub sends : (M : Machine S) (s : S) (l : Log) (sd : Sending) (c : Covering) (kept : Option ImageParts)
-      → IsPrimary M (HasImage C sd.generation kept) s l sd c x → 0 < sd.generation → sd.generation < 2 ^ 32
+  pub sends : (M : Machine S) (reads : Reads) (s : S) (l : Log) (sd : Sending) (c : Covering) (kept : Option ImageParts)
+      → IsPrimary M (HasImage C sd.generation kept) reads s l sd c x → 0 < sd.generation → sd.generation < 2 ^ 32
       → Spells (part_of kept index) result → SendsPart C index x result
-  sends M s l sd c None p first within spelled =
+  sends M reads s l sd c None p first within spelled =
       unknown (image_refuses p.role p.up ∙ ap (λ o. fault_if (not (has_part C o index)) Unknown) p.image) spelled
-  sends M s l sd c (Some kept) p first within spelled =
+  sends M reads s l sd c (Some kept) p first within spelled =
       let i : IsImageOf C sd.generation kept x.image = p.image in
       of_image i.s kept.generation (slice_get (C.parts i.s) index) p.role p.up i.there refl
       (i.begins ∙ sym p.generation) (subst (λ g. 0 < g) (sym p.generation) first)

@@ -1,4 +1,5 @@
 pub mod PrimaryRefusals
+pub mod LastReads
 pub mod PrimaryNotes
 pub mod PrimaryInputs
 pub mod PrimaryPlaces
@@ -10,6 +11,7 @@ pub mod SamePrimary
 pub mod AloneSteps
 pub mod FollowerMoves
 pub mod FollowerLog
+pub mod FetchedBytes
 pub mod Deliveries
 pub mod LastMoves
 pub mod EmptyNodes

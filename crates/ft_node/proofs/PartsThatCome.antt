@@ -196,22 +196,26 @@ module _ {S : Type 0} (C : Copying S) (drives : ℕ) (j : Joined) (x : Node S) (
         role = is.role;
         up = is.up;
         generation_is = is.generation_is;
+        reads_are = is.reads_are;
         drives_are = is.drives_are;
         parts_are = ap (λ (parts : Slots). slice_set parts m.index (Some m.payload)) is.parts_are;
         many = length-set j.gathering.slots m.index (Some m.payload) ∙ is.many;
         start = is.start;
         no_held = is.no_held;
         none_replayed = is.none_replayed;
+        none_come = is.none_come;
       }))
 
   -- with the last part it is a backup that holds nothing
-  pub is_backup : (m : PartMessage) (s : S) → IsFollower Backup s
+  pub is_backup : (m : PartMessage) (s : S) → IsFollower Backup j.reads s None
       (record { generation = j.gathering.generation; held = 0; entries = [] }) (joins (gets_part x m.index m.payload) s)
   is_backup m s = record {
     role_is = refl;
     up = is.up;
     generation = is.generation_is;
+    reads_are = is.reads_are;
     machine = refl;
+    come = is.none_come;
     held = ap length is.no_held;
     left = sym (rw (is.no_held, is.none_replayed) refl);
     within = let none = is.none_replayed in omega (arith, none);

@@ -4,6 +4,7 @@ use Rattle.std.proofs.Common.{◌≡◌, ℕ, Option, Some, None, Ok, refl, ◌�
 use Rattle.event_callbacks.specs.Operations.{id_of}
 use Rattle.event_callbacks.specs.declared.operations.OpId.{OpId}
 use Rattle.guest_board.specs.Machine.{Machine}
+use Rattle.guest_board.specs.declared.reads.Reads.TheVariants.{Logged}
 use Rattle.i8080_words.specs.declared.refusal.Fault.{Fault}
 use Rattle.log_buffer.specs.Log.{Log}
 use Rattle.output_rule.specs.Covering.{Covering, IsCovering}
@@ -52,6 +53,6 @@ pub place_for_note : {S : Type 0} (M : Machine S) (s t : S) (l new : Log) (turns
     → AdvancesUnless M s l turns (advance_refusal M s l turns) (Ok a) t new → HasPlace c a.reason
 place_for_note M s t l new turns a c counts laws frugal outstanding stands made =
     let some = made_some M s t l new turns a (advance_refusal M s l turns) made in
-    let run = records_steps M s t l new turns a counts some.1.0 in
+    let run = records_steps M Logged s t l new turns a counts some.1.0 in
     place_at M s t turns a c laws (frugal run.moves t (is_run M s t run.moves run.records.runs)) outstanding stands
     some.1.0.runs

@@ -7,6 +7,7 @@ use Rattle.i8080_words.specs.declared.limits.TheConstants.{GREATEST_NUMBER}
 use Rattle.event_callbacks.specs.Operations.{id_of}
 use Rattle.event_callbacks.specs.declared.operations.Operation.{Operation}
 use Rattle.guest_board.specs.Machine.{Machine}
+use Rattle.guest_board.specs.declared.reads.Reads.{Reads}
 use Rattle.i8080_words.specs.declared.refusal.Fault.{Fault}
 use Rattle.log_buffer.specs.Log.{Log, log, next_of, pushed}
 use Rattle.log_channel.specs.Channel.{Sending}
@@ -16,6 +17,7 @@ use Rattle.output_rule.specs.Covering.{Covering}
 use Rattle.pair_protocol.specs.Node.{Node, primary_steps}
 use Rattle.pair_protocol.specs.Refusals as refusals
 use Rattle.pair_protocol.specs.Effects.{stepped}
+use Rattle.pair_protocol.specs.Waiting.{reads_in}
 use Rattle.guest_board.specs.declared.running.StopReason.{StopReason}
 use Rattle.guest_board.specs.declared.running.Stopped.{Stopped}
 use Rattle.recorder.specs.Recording.{AdvancesUnless, advance_refusal, logged}
@@ -25,7 +27,7 @@ use Rattle.ft_node.specs.Noting.{noted}
 use Rattle.guest_board.specs.Outstanding.{ComesAndGoes}
 use Rattle.ft_node.specs.Roles.{IsPrimary}
 use Rattle.ft_node.specs.declared.ran.Ran.{Ran}
-use Rattle.ft_node.proofs.PrimaryInputs.{same_primary}
+use Rattle.ft_node.proofs.PrimaryInputs.{next_behind, same_primary}
 use Rattle.ft_node.proofs.PrimaryNotes.{Covers-kept, Covers-noted, keeps_all, noted_after}
 use Rattle.ft_node.proofs.PrimaryPlaces.{made_some}
 use Rattle.ft_node.proofs.PrimaryRefusals.{Keeps, steps_refused}
@@ -33,52 +35,48 @@ use Rattle.ft_node.proofs.ServingSteps.{steps_to}
 
 -- ---- one step
 
-quiet_primary : {S : Type 0} {K : Option S → Type 0} (M : Machine S) (s t : S) (l : Log) (sd : Sending) (c : Covering) (x : Node S)
-    → ComesAndGoes M → IsPrimary M K s l sd c x → M.step s ≡ Some (t, None)
-    → IsPrimary M K t l sd c (stepped M x x.role t None)
-quiet_primary {S} {K} M s t l sd c x laws p made =
-    subst (λ r. IsPrimary M K t l sd c (stepped M x r t None)) (sym p.role)
+quiet_primary : {S : Type 0} {K : Option S → Type 0} {reads : Reads} (M : Machine S) (s t : S) (l : Log) (sd : Sending) (c : Covering) (x : Node S)
+    → ComesAndGoes M → IsPrimary M K reads s l sd c x → M.step s ≡ Some (t, None)
+    → IsPrimary M K reads t l sd c (stepped M x x.role t None)
+quiet_primary {S} {K} {reads} M s t l sd c x laws p made =
+    subst (λ r. IsPrimary M K reads t l sd c (stepped M x r t None)) (sym p.role)
     (record {
       role = p.role;
       up = p.up;
       generation = p.generation;
+      reads_are = p.reads_are;
       machine = refl;
       kept = p.kept ∙ ap (λ es. log x.covered (drop x.covered es)) (sym (append-nil x.log));
       within = subst (λ es. x.covered ≤ length es) (sym (append-nil x.log)) p.within;
       entries = p.entries;
       acknowledged = p.acknowledged;
+      told = p.told;
       covers =
-          Covers-kept M x c t c.notes x.list [] p.covers p.within
-          (keeps_all M x.machine t c.notes (laws.quiet x.machine t (ap M.step p.machine ∙ made)));
+          Covers-kept M x c t c.notes c.last_read x.list [] p.covers p.within
+          (keeps_all M x.machine t c.notes (laws.quiet x.machine t (ap M.step p.machine ∙ made)))
+          (p.covers.last_read ∙ ap reads_in (sym (append-nil x.log)));
       image = p.image;
     })
 
-pub next_behind : {S : Type 0} {K : Option S → Type 0} (M : Machine S) (s : S) (l : Log) (sd : Sending) (c : Covering) (x : Node S)
-    → IsPrimary M K s l sd c x → length x.log ≡ next_of l
-next_behind M s l sd c x p =
-    let next : next_of l ≡ x.covered + length (drop x.covered x.log) = ap next_of p.kept in
-    let rest = length-drop x.covered x.log in
-    let within = p.within in
-    omega arith
-
-giving_primary : {S : Type 0} {K : Option S → Type 0} (M : Machine S) (s t : S) (l : Log) (sd : Sending) (c : Covering) (x : Node S)
-    (given : Operation) → ComesAndGoes M → IsPrimary M K s l sd c x → M.step s ≡ Some (t, Some given)
+giving_primary : {S : Type 0} {K : Option S → Type 0} {reads : Reads} (M : Machine S) (s t : S) (l : Log) (sd : Sending) (c : Covering) (x : Node S)
+    (given : Operation) → ComesAndGoes M → IsPrimary M K reads s l sd c x → M.step s ≡ Some (t, Some given)
     → IsEntry (Mark (M.count t))
-    → IsPrimary M K t (pushed l (Mark (M.count t))) sd (noted_after c (id_of given) (next_of l))
+    → IsPrimary M K reads t (pushed l (Mark (M.count t))) sd (noted_after c (id_of given) (next_of l))
     (stepped M x x.role t (Some given))
-giving_primary {S} {K} M s t l sd c x given laws p made valid =
+giving_primary {S} {K} {reads} M s t l sd c x given laws p made valid =
     subst
-    (λ r. IsPrimary M K t (pushed l (Mark (M.count t))) sd (noted_after c (id_of given) (next_of l))
+    (λ r. IsPrimary M K reads t (pushed l (Mark (M.count t))) sd (noted_after c (id_of given) (next_of l))
     (stepped M x r t (Some given)))
     (sym p.role)
     (subst
-    (λ n. IsPrimary M K t (pushed l (Mark (M.count t))) sd (noted_after c (id_of given) n)
+    (λ n. IsPrimary M K reads t (pushed l (Mark (M.count t))) sd (noted_after c (id_of given) n)
     (primary_steps M x t (Some given)))
     (next_behind M s l sd c x p)
     (record {
       role = p.role;
       up = p.up;
       generation = p.generation;
+      reads_are = p.reads_are;
       machine = refl;
       kept =
           ap (λ l. pushed l (Mark (M.count t))) p.kept
@@ -89,6 +87,7 @@ giving_primary {S} {K} M s t l sd c x given laws p made valid =
           omega arith;
       entries = All-push IsEntry l.entries (Mark (M.count t)) p.entries valid;
       acknowledged = p.acknowledged;
+      told = p.told;
       covers = Covers-noted M x c t given laws (ap M.step p.machine ∙ made) p.covers p.within;
       image = p.image;
     }))
@@ -96,20 +95,20 @@ giving_primary {S} {K} M s t l sd c x given laws p made valid =
 -- ---- what a call answers
 
 -- what a primary is after a run, if the mark of an operation that the run gave can be spelled
-abbrev After : {S : Type 0} → (Option S → Type 0) → Machine S → Log → Sending → Covering → StopReason → S → Node S → Type 0
-After K M l sd c why t y = IsEntry (Mark (M.count t)) → IsPrimary M K t (logged l (M.count t) why) sd (noted c why (next_of l)) y
+abbrev After : {S : Type 0} → (Option S → Type 0) → Reads → Machine S → Log → Sending → Covering → StopReason → S → Node S → Type 0
+After K reads M l sd c why t y = IsEntry (Mark (M.count t)) → IsPrimary M K reads t (logged l (M.count t) why) sd (noted c why (next_of l)) y
 
 -- some steps were made, or none were asked for
-pub steps_made : {S : Type 0} {K : Option S → Type 0} (M : Machine S) (s t : S) (l new : Log) (sd : Sending) (c later : Covering) (x : Node S)
-    (turns count : ℕ) (a : Stopped) → ComesAndGoes M → IsPrimary M K s l sd c x → Keeps x l
+pub steps_made : {S : Type 0} {K : Option S → Type 0} {reads : Reads} (M : Machine S) (s t : S) (l new : Log) (sd : Sending) (c later : Covering) (x : Node S)
+    (turns count : ℕ) (a : Stopped) → ComesAndGoes M → IsPrimary M K reads s l sd c x → Keeps x l
     → AdvancesUnless M s l turns (advance_refusal M s l turns) (Ok a) t new → count ≡ M.count t
     → count ≤ GREATEST_NUMBER → later ≡ noted c a.reason (next_of l)
-    → calls.Steps M turns x (Ok (record { steps = a.steps; count = count; why = a.reason })) (IsPrimary M K t new sd later)
-steps_made {S} {K} M s t l new sd c later x turns count a laws p k made count_is within after =
+    → calls.Steps M turns x (Ok (record { steps = a.steps; count = count; why = a.reason })) (IsPrimary M K reads t new sd later)
+steps_made {S} {K} {reads} M s t l new sd c later x turns count a laws p k made count_is within after =
     let ran : Ran = record { steps = a.steps; count = count; why = a.reason } in
     let some = made_some M s t l new turns a (advance_refusal M s l turns) made in
     let valid : IsEntry (Mark (M.count t)) = omega arith in
-    let to = steps_to M (λ s x. IsPrimary M K s l sd c x) (After K M l sd c) (λ s x p. p.machine)
+    let to = steps_to M (λ s x. IsPrimary M K reads s l sd c x) (After K reads M l sd c) (λ s x p. p.machine)
     (λ s t x p moved. quiet_primary M s t l sd c x laws p moved)
     (λ s t x o p moved valid. giving_primary M s t l sd c x o laws p moved valid)
     (λ s x p valid. p) (λ s x fault p valid. p) s t x turns a p some.1.0.runs in
@@ -117,8 +116,8 @@ steps_made {S} {K} M s t l new sd c later x turns count a laws p k made count_is
     let is : refusals.step_refusal M turns x ≡ None =
     steps_refused M x l turns k ∙ ap (λ s. advance_refusal M s l turns) p.machine ∙ some.0 in
     subst
-    (λ r. Unless r (Ok ran) (IsPrimary M K t new sd later x)
-    (calls.Makes x (calls.SteppedBy M turns ran) (IsPrimary M K t new sd later)))
+    (λ r. Unless r (Ok ran) (IsPrimary M K reads t new sd later x)
+    (calls.Makes x (calls.SteppedBy M turns ran) (IsPrimary M K reads t new sd later)))
     (sym is)
     (record {
       y = to.y;
@@ -128,8 +127,8 @@ steps_made {S} {K} M s t l new sd c later x turns count a laws p k made count_is
         counted = count_is ∙ ap M.count (sym primary.machine);
       };
       after =
-          subst (λ c. IsPrimary M K t new sd c to.y) (sym after)
-          (subst (λ kept. IsPrimary M K t kept sd (noted c a.reason (next_of l)) to.y) (sym some.1.0.log_is) primary);
+          subst (λ c. IsPrimary M K reads t new sd c to.y) (sym after)
+          (subst (λ kept. IsPrimary M K reads t kept sd (noted c a.reason (next_of l)) to.y) (sym some.1.0.log_is) primary);
     })
 
 not_made : {S : Type 0} (M : Machine S) (s t : S) (l new : Log) (turns : ℕ) (fault : Fault) (r : Option Fault)
@@ -143,16 +142,16 @@ not_made M s t l new turns fault (Some first) stays does made same =
     (ap (λ f. Err f) is, same made.1 made.2)
 
 -- none was made
-pub steps_not_made : {S : Type 0} {K : Option S → Type 0} (M : Machine S) (s t : S) (l new : Log) (sd : Sending) (c : Covering) (x : Node S)
-    (turns : ℕ) (fault : Fault) → IsPrimary M K s l sd c x → Keeps x l
+pub steps_not_made : {S : Type 0} {K : Option S → Type 0} {reads : Reads} (M : Machine S) (s t : S) (l new : Log) (sd : Sending) (c : Covering) (x : Node S)
+    (turns : ℕ) (fault : Fault) → IsPrimary M K reads s l sd c x → Keeps x l
     → AdvancesUnless M s l turns (advance_refusal M s l turns) (Err fault) t new
-    → calls.Steps M turns x (Err fault) (IsPrimary M K t new sd c)
-steps_not_made {S} {K} M s t l new sd c x turns fault p k made =
+    → calls.Steps M turns x (Err fault) (IsPrimary M K reads t new sd c)
+steps_not_made {S} {K} {reads} M s t l new sd c x turns fault p k made =
     subst
-    (λ r. Unless {A = Ran} r (Err fault) (IsPrimary M K t new sd c x)
-    (calls.Gives {A = Ran} (Err fault) ((0 < turns) × IsPrimary M K t new sd c x)
-    (λ ran. calls.Makes x (calls.SteppedBy M turns ran) (IsPrimary M K t new sd c))))
+    (λ r. Unless {A = Ran} r (Err fault) (IsPrimary M K reads t new sd c x)
+    (calls.Gives {A = Ran} (Err fault) ((0 < turns) × IsPrimary M K reads t new sd c x)
+    (λ ran. calls.Makes x (calls.SteppedBy M turns ran) (IsPrimary M K reads t new sd c))))
     (sym (steps_refused M x l turns k ∙ ap (λ s. advance_refusal M s l turns) p.machine))
-    (not_made M s t l new turns fault (advance_refusal M s l turns) (IsPrimary M K t new sd c x)
-    (λ ran. calls.Makes x (calls.SteppedBy M turns ran) (IsPrimary M K t new sd c)) made
+    (not_made M s t l new turns fault (advance_refusal M s l turns) (IsPrimary M K reads t new sd c x)
+    (λ ran. calls.Makes x (calls.SteppedBy M turns ran) (IsPrimary M K reads t new sd c)) made
     (λ same logged. same_primary M s t l new sd c x same logged p))

@@ -1,12 +1,14 @@
 -- What each call of a node returns and leaves, by the node of the protocol that it is before the call: the refusal of
 -- the event's node part, or what its row says of the node.
-use Rattle.std.specs.Prelude.{◌≡◌, ◌≢◌, ℕ, suc, ◌<◌, ◌^◌, Bool, true, Option, Some, None, is_none, List, [], ◌∷◌, length, replicate, slice_index_or, ◌==◌, nat_le, if◌then◌else◌, Result, Ok, Err}
+use Rattle.std.specs.Prelude.{◌≡◌, ◌≢◌, ℕ, suc, ◌<◌, ◌^◌, Bool, true, Option, Some, None, is_none, List, [], ◌∷◌, length, replicate, slice_index_or, unwrap_or, ◌==◌, nat_le, if◌then◌else◌, Result, Ok, Err}
 use Rattle.std.specs.Global.{Vec}
 use Rattle.disk_dcdd.specs.declared.address.SectorAddress.{SectorAddress}
 use Rattle.event_callbacks.specs.declared.operations.OpId.{OpId}
 use Rattle.event_callbacks.specs.declared.operations.Operation.{Operation}
 use Rattle.guest_board.specs.Machine.{Machine}
 use Rattle.guest_board.specs.declared.input.Input.{Input}
+use Rattle.guest_board.specs.declared.reads.Reads.{Reads}
+use Rattle.guest_board.specs.declared.reads.Reads.TheVariants.{Logged, Shared}
 use Rattle.i8080_words.specs.declared.refusal.Fault.{Fault}
 use Rattle.i8080_words.specs.declared.refusal.Fault.TheVariants.{OutOfMemory, Malformed, Lost, Spent}
 use Rattle.log_entry.specs.declared.entry.Entry.{Entry}
@@ -20,7 +22,8 @@ use Rattle.clone_state.specs.Image.{part_bytes}
 use Rattle.clone_state.specs.Parts.{PartMessage}
 use Rattle.guest_trace.specs.Reach.{keys}
 use Rattle.pair_protocol.specs.Copying.{Copying}
-use Rattle.pair_protocol.specs.Effects.{Stepped, Took, Held, Heard, Replayed, Drained, Halted, GotPart, HasEntry, HasOutstanding, HasCovered, HasPart, IsUnder, NeedsMoves, NeedsEntry}
+use Rattle.pair_protocol.specs.Effects as effect
+use Rattle.pair_protocol.specs.Effects.{Stepped, Took, Held, Heard, Replayed, Drained, Halted, GotPart, HasEntry, HasOutstanding, HasCovered, HasPart, IsUnder, Wants, NeedsMoves, NeedsEntry}
 use Rattle.pair_protocol.specs.Event as event
 use Rattle.pair_protocol.specs.Node.{Node, Role, Primary, Backup, Joining, begun, gathered, gets_part, halts, holds, wins}
 use Rattle.pair_protocol.specs.Refusals as refusals
@@ -70,28 +73,34 @@ Ever x = Unit {0}
 
 -- a node that begins: nothing of its generation is logged, held, acknowledged or noted, no key is covered, and there is
 -- no image
-pub record Begins {S : Type 0} (M : Machine S) (role : Role) (generation : ℕ) (s : S) (x : Node S) : Type 0 where
+pub record Begins {S : Type 0} (M : Machine S) (role : Role) (generation : ℕ) (reads : Reads) (s : S)
+    (x : Node S) : Type 0 where
   pub role_is : x.role ≡ role
   pub up : x.running ≡ true
   pub generation_is : x.generation ≡ generation
+  pub reads_are : x.reads ≡ reads
   pub machine : x.machine ≡ s
   pub no_log : x.log ≡ []
   pub covered : x.covered ≡ 0
+  pub reported : x.reported ≡ 0
   pub notes : x.notes ≡ []
   pub no_held : x.held ≡ []
   pub replayed : x.replayed ≡ 0
+  pub no_fetched : x.fetched ≡ None
   pub no_copy : x.copy ≡ []
   pub no_image : x.image ≡ None
 
 -- a node that joins, to be given the copy of a machine that has made this many steps: no part came yet
-pub record Joins {S : Type 0} (C : Copying S) (generation count : ℕ) (x : Node S) : Type 0 where
+pub record Joins {S : Type 0} (C : Copying S) (generation count : ℕ) (reads : Reads) (x : Node S) : Type 0 where
   pub role_is : x.role ≡ Joining
   pub up : x.running ≡ true
   pub generation_is : x.generation ≡ generation
+  pub reads_are : x.reads ≡ reads
   pub start_is : x.start ≡ count
   pub no_parts : x.parts ≡ replicate C.part_count None
   pub no_held : x.held ≡ []
   pub replayed : x.replayed ≡ 0
+  pub no_fetched : x.fetched ≡ None
 
 -- steps of the machine
 abbrev pub SteppedBy : {S : Type 0} → Machine S → ℕ → Ran → Node S → Node S → Type 0
@@ -144,21 +153,26 @@ Expects _ x result =
 abbrev pub Holds : {S : Type 0} → Entry → Node S → Result (Unit {0}) Fault → (Node S → Type 0) → Type 0
 Holds e x result Is = Call None (λ x. x.replayed < length x.held) (λ done x y. y ≡ holds x e) x result Is
 
--- the packet that acknowledges all that is held; it reports nothing as replayed
+-- how many entries a backup's packet reports as replayed: it says so only if its log leaves sectors to the shared disk
+abbrev pub reported_by : Reads → ℕ → Option ℕ
+reported_by Logged replayed = None
+reported_by Shared replayed = Some replayed
+
+-- the packet that acknowledges all that is held
 abbrev pub Acknowledges : {S : Type 0} → Node S → Result (Vec ℕ) Fault → Type 0
 Acknowledges x result =
-    Ask (refusals.acknowledge_refusal x) Ever (λ bytes x. IsSpelled (Ack x.generation (length x.held)) bytes) x result
+    Ask (refusals.acknowledge_refusal x) Ever (λ bytes x. IsSpelled (Ack x.generation (length x.held) (reported_by x.reads x.replayed)) bytes) x result
 
--- an acknowledgement arrives, which reports nothing as replayed
+-- an acknowledgement arrives; one that does not say so reports nothing as replayed
 abbrev pub DeliversAcknowledgement : {S : Type 0} → Option Packet → Node S → Result ℕ Fault → (Node S → Type 0) → Type 0
-DeliversAcknowledgement (Some (Ack generation held)) x result Is =
-    Call (refusals.deliver_acknowledgement_refusal generation held x) Never (Heard held 0) x result Is
+DeliversAcknowledgement (Some (Ack generation held replayed)) x result Is =
+    Call (refusals.deliver_acknowledgement_refusal generation held x) Never (Heard held (unwrap_or replayed 0)) x result Is
 DeliversAcknowledgement _ x result Is =
     Unless (refusals.first_of (refusals.role_refusal (Primary ∷ []) x ∷ Some Malformed ∷ [])) result (Is x) ⊥
 
 -- moves of a backup, of what it holds
 abbrev pub ReplayedBy : {S : Type 0} → Machine S → ℕ → replayer.Replayed → Node S → Node S → Type 0
-ReplayedBy M turns r x y = Replayed M turns r.moves r.at_end x y
+ReplayedBy M turns r x y = Replayed M turns r.moves r.why x y
 
 abbrev pub Replays : {S : Type 0} → Machine S → ℕ → Node S → Result replayer.Replayed Fault → (Node S → Type 0)
     → Type 0
@@ -166,10 +180,19 @@ Replays M turns x result Is = Call (refusals.replay_refusal x) (NeedsMoves M tur
 
 -- moves of a draining node; with nothing left to replay it is alone
 abbrev pub DrainedBy : {S : Type 0} → Machine S → ℕ → ran.Drained → Node S → Node S → Type 0
-DrainedBy M turns d x y = Drained M turns d.moves d.alone x y
+DrainedBy M turns d x y = Drained M turns d.moves d.why x y
 
 abbrev pub Drains : {S : Type 0} → Machine S → ℕ → Node S → Result ran.Drained Fault → (Node S → Type 0) → Type 0
 Drains M turns x result Is = Call (refusals.drain_refusal x) (NeedsMoves M turns) (DrainedBy M turns) x result Is
+
+-- the sector for whose bytes a replaying node waits, and those bytes
+abbrev pub Wanted : {S : Type 0} → Machine S → Node S → Result SectorAddress Fault → Type 0
+Wanted M x result = Ask (refusals.fetch_refusal M x) Never (Wants M) x result
+
+abbrev pub Fetches : {S : Type 0} → Machine S → SectorAddress → ℕ → List ℕ → Node S → Result (Unit {0}) Fault
+    → (Node S → Type 0) → Type 0
+Fetches M address number bytes x result Is =
+    Call (refusals.fetched_refusal M address number x) Never (λ done. effect.Fetched bytes) x result Is
 
 -- an outstanding operation is released
 abbrev pub Releases : {S : Type 0} → Machine S → OpId → Node S → Result Operation Fault → Type 0
@@ -211,12 +234,13 @@ HasTakenKeys M x = (port : ℕ) → M.keys x.machine port ≡ length (keys port 
 pub record IsNext {S : Type 0} (drives : ℕ) (next : NextGeneration) (x : Node S) : Type 0 where
   pub generation : next.generation ≡ suc x.generation
   pub drives_are : next.drives ≡ drives
+  pub reads_are : next.reads ≡ x.reads
 
 -- the generation after this one, unless this is the greatest
-abbrev pub next_after : ℕ → ℕ → Result NextGeneration Fault
-next_after generation drives =
+abbrev pub next_after : ℕ → ℕ → Reads → Result NextGeneration Fault
+next_after generation drives reads =
     if nat_le refusals.last_generation generation then Err Spent
-    else Ok (record { generation = suc generation; drives = drives })
+    else Ok (record { generation = suc generation; drives = drives; reads = reads })
 
 abbrev pub MayBegin : {S : Type 0} → ℕ → Node S → Result NextGeneration Fault → Type 0
 MayBegin drives x result = Ask (refusals.begin_pair_refusal x) Never (IsNext drives) x result

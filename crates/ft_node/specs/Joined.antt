@@ -1,7 +1,10 @@
--- What a joining node has: the parts that came, and how many steps the machine that is copied had made.
+-- What a joining node has: the parts that came, how many steps the machine that is copied had made, and how the log of its
+-- generation carries sectors.
 use Rattle.std.specs.Prelude.{ℕ}
 use Rattle.clone_state.specs.Assembly.{Gathering}
+use Rattle.guest_board.specs.declared.reads.Reads.{Reads}
 
 pub record Joined : Type 0 where
   pub gathering : Gathering
   pub count : ℕ
+  pub reads : Reads

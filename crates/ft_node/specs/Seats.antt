@@ -15,6 +15,8 @@ use Rattle.log_entry.specs.declared.entry.Entry.{Entry}
 use Rattle.pair_protocol.specs.Copying.{Copying}
 use Rattle.pair_protocol.specs.Node.{Node, Primary, Backup, Joining, Draining, Alone}
 use Rattle.recorder.specs.Recording.{IsDue}
+use Rattle.replayer.specs.Replaying.{bytes_refusal}
+use Rattle.shared_disk.specs.declared.disk.SectorRead.{SectorRead}
 use Rattle.ft_node.specs.Joined.{Joined}
 use Rattle.ft_node.specs.Roles.{AreOfOutstanding, HasImage, IsPrimary, IsFollower, IsJoining, IsAlone, IsHalted}
 use Rattle.ft_node.specs.declared.ran.PartCame.{PartCame}
@@ -27,11 +29,14 @@ use Rattle.pair_events.specs.declared.reply.Role.TheVariants as role
 -- the node of the protocol that a node is, if machines are copied so and have this many drives
 abbrev pub IsNode : {B S : Type 0} {H : Type 0} → (B → S) → Machine S → Copying S → ℕ → code.Node B H → Node S → Type 0
 IsNode state M C drives (seat.Primary p) x =
-    IsPrimary M (HasImage C p.sender.generation p.image) (state p.recorder.board) p.recorder.log p.sender p.coverage x
-IsNode state M C drives (seat.Backup b) x = IsFollower Backup (state b.replayer.board) b.receiver x
+    IsPrimary M (HasImage C p.sender.generation p.image) p.recorder.reads (state p.recorder.board) p.recorder.log p.sender
+    p.coverage x
+IsNode state M C drives (seat.Backup b) x =
+    IsFollower Backup b.reads (state b.replayer.board) b.replayer.fetched b.receiver x
 IsNode state M C drives (seat.Joining j) x = IsJoining C drives j x
-IsNode state M C drives (seat.Draining d) x = IsFollower Draining (state d.replayer.board) d.receiver x
-IsNode state M C drives (seat.Alone a) x = IsAlone (state a.board) a.generation x
+IsNode state M C drives (seat.Draining d) x =
+    IsFollower Draining d.reads (state d.draining.replayer.board) d.draining.replayer.fetched d.draining.receiver x
+IsNode state M C drives (seat.Alone a) x = IsAlone a.reads (state a.board) a.generation x
 IsNode state M C drives (seat.Halted h) x = IsHalted M h.generation h.count x
 
 -- ---- a node that takes input
@@ -105,11 +110,26 @@ MayRun state M (seat.Halted h) = Unit {0}
 -- what a backup or a draining node holds are the next entries of a recorded run
 abbrev pub MayReplay : {B S : Type 0} {H : Type 0} → (B → S) → Machine S → code.Node B H → Type 0
 MayReplay state M (seat.Primary p) = Unit {0}
-MayReplay state M (seat.Backup b) = IsOnTrace M (state b.replayer.board) b.receiver.entries
+MayReplay state M (seat.Backup b) = IsOnTrace M (state b.replayer.board) b.receiver.entries b.replayer.fetched
 MayReplay state M (seat.Joining j) = Unit {0}
-MayReplay state M (seat.Draining d) = IsOnTrace M (state d.replayer.board) d.receiver.entries
+MayReplay state M (seat.Draining d) =
+    IsOnTrace M (state d.draining.replayer.board) d.draining.receiver.entries d.draining.replayer.fetched
 MayReplay state M (seat.Alone a) = Unit {0}
 MayReplay state M (seat.Halted h) = Unit {0}
+
+-- if the bytes of a sector are those that a replaying node waits for, its run takes the sector with them
+abbrev pub MayFetch : {B S : Type 0} {H : Type 0} → (B → S) → Machine S → code.Node B H → SectorRead → Type 0
+MayFetch state M (seat.Primary p) read = Unit {0}
+MayFetch state M (seat.Backup b) read =
+    bytes_refusal M (state b.replayer.board) b.receiver.entries b.replayer.fetched read ≡ None
+    → IsOnTrace M (state b.replayer.board) b.receiver.entries (Some read.bytes)
+MayFetch state M (seat.Joining j) read = Unit {0}
+MayFetch state M (seat.Draining d) read =
+    let r = d.draining.replayer in
+    bytes_refusal M (state r.board) d.draining.receiver.entries r.fetched read ≡ None
+    → IsOnTrace M (state r.board) d.draining.receiver.entries (Some read.bytes)
+MayFetch state M (seat.Alone a) read = Unit {0}
+MayFetch state M (seat.Halted h) read = Unit {0}
 
 -- ---- what a node becomes
 
@@ -119,6 +139,7 @@ abbrev pub Becomes : {B H : Type 0} → (B → Guest) → List ℕ → Joined �
 Becomes copied bytes j (Ok part) (seat.Backup b) =
     (part ≡ came.Whole) × (machine_in j.gathering ≡ Some (copied b.replayer.board))
     × (b.receiver ≡ record { generation = j.gathering.generation; held = 0; entries = [] })
+    × (b.replayer.fetched ≡ None) × (b.reads ≡ j.reads)
 Becomes copied bytes j (Err fault) (seat.Joining k) =
     (k ≡ record j { gathering = after_forgetting j.gathering bytes })
     × (fault ≡ refused_as (λ parts. is_some (guest_in j.gathering.drives parts)) (gathered j.gathering.slots))

@@ -9,7 +9,7 @@ ghost use Rattle.ft_node.specs.Roles.{IsAlone};
 
 use crate::ran::Ran;
 use event_callbacks::{OpId, Operation};
-use guest_board::{Input, Lockstep, StopReason, Stopped};
+use guest_board::{Input, Lockstep, Reads, StopReason, Stopped};
 use i8080_words::{Fault, R};
 
 /// A guest that runs with no backup: it logs nothing, and releases whatever it gives (VMware FT, section 2.3, "go
@@ -18,6 +18,7 @@ use i8080_words::{Fault, R};
 pub struct Alone<B> {
     pub(crate) board: B,
     pub(crate) generation: u32,
+    pub(crate) reads: Reads,
     ghost first: { 0 < generation },
 }
 
@@ -25,8 +26,8 @@ impl<B: Lockstep> Alone<B> {
     /// Makes at most `turns` steps, and stops after the first that gives an operation.
     pub(crate) fn step(&mut self, turns: u64) -> R<Ran>
         ensures answer { (x : Node B.State)
-            → IsAlone (B.state self.old.board) self.old.generation x
-            → calls.Steps B.machine turns x result (IsAlone (B.state self.new.board) self.new.generation) }
+            → IsAlone self.old.reads (B.state self.old.board) self.old.generation x
+            → calls.Steps B.machine turns x result (IsAlone self.new.reads (B.state self.new.board) self.new.generation) }
         ensures unchanged { OnErr result (self.new ≡ self.old) }
     {
         let Stopped { steps, reason } = guest_board::run(&mut self.board, turns);
@@ -47,8 +48,8 @@ impl<B: Lockstep> Alone<B> {
     pub(crate) fn accept(&mut self, input: Input)
         requires { IsDue B.machine (B.state self.old.board) input }
         ensures { (x : Node B.State)
-            → IsAlone (B.state self.old.board) self.old.generation x
-            → calls.Makes x (Took B.machine input) (IsAlone (B.state self.new.board) self.new.generation) }
+            → IsAlone self.old.reads (B.state self.old.board) self.old.generation x
+            → calls.Makes x (Took B.machine input) (IsAlone self.new.reads (B.state self.new.board) self.new.generation) }
     {
         match self.board.take(input) {
             Ok(()) => {}
@@ -59,7 +60,7 @@ impl<B: Lockstep> Alone<B> {
     /// The outstanding operation with a name.
     pub(crate) fn release(&self, id: OpId) -> R<Operation>
         ensures { (x : Node B.State)
-            → IsAlone (B.state self.now.board) self.now.generation x
+            → IsAlone self.now.reads (B.state self.now.board) self.now.generation x
             → calls.Releases B.machine id x result }
     {
         let operation = self.board.outstanding(id).ok_or(Fault::NotDue)?;
@@ -70,7 +71,7 @@ impl<B: Lockstep> Alone<B> {
     pub(crate) fn told(&self, port: u8) -> u64
         requires { port < PORTS }
         ensures { (x : Node B.State)
-            → IsAlone (B.state self.now.board) self.now.generation x
+            → IsAlone self.now.reads (B.state self.now.board) self.now.generation x
             → calls.Tells B.machine port x (Ok result) }
     {
         self.board.keys(port)

@@ -23,14 +23,15 @@ use crate::node::Node;
 use crate::primary::Primary;
 use crate::ran::{NextGeneration, PartCame};
 use clone_state::{Copies, Image, parts_make_their_machines};
+use guest_board::Reads;
 use i8080_words::{Fault, R};
 use log_buffer::LogBuffer;
 use std::alloc::Global;
 use std::mem;
 
 impl<B: Copies<H> + Drop, H: Drop> Node<B, H> {
-    /// The generation that an alone node may begin, for a machine of so many drives. `Spent` if that of the node is the
-    /// greatest.
+    /// The generation that an alone node may begin, for a machine of so many drives and a log that carries its sectors as
+    /// that of its own generation. `Spent` if that of the node is the greatest.
     pub fn next_generation(&self) -> R<NextGeneration>
         ensures answer { (C : Copying B.State) (drives : ℕ) (x : protocol.Node B.State)
             → CopiesAs B.state B.copied drives C.parts C.part_count C.assemble
@@ -42,7 +43,7 @@ impl<B: Copies<H> + Drop, H: Drop> Node<B, H> {
     {
         parts_make_their_machines();
         match self {
-            Node::Alone(alone) => next_of(alone.generation, alone.board.drives()),
+            Node::Alone(alone) => next_of(alone.generation, alone.board.drives(), alone.reads),
             _ => Err(Fault::WrongRole),
         }
     }
@@ -124,10 +125,10 @@ impl<B: Copies<H> + Drop, H: Drop> Node<B, H> {
 
 // The generation after this one, for so many drives.
 #[tactic(auto, using(crate::proofs::BegunPairs::next_if, crate::proofs::BegunPairs::no_next))]
-fn next_of(generation: u32, drives: u8) -> R<NextGeneration>
+fn next_of(generation: u32, drives: u8, reads: Reads) -> R<NextGeneration>
     requires some { 1 ≤ drives }
     requires few { drives ≤ DRIVES }
-    ensures { result ≡ next_after generation drives }
+    ensures { result ≡ next_after generation drives reads }
 {
     if generation == u32::MAX {
         return Err(Fault::Spent);
@@ -135,6 +136,7 @@ fn next_of(generation: u32, drives: u8) -> R<NextGeneration>
     Ok(NextGeneration {
         generation: generation + 1,
         drives,
+        reads,
     })
 }
 
@@ -144,8 +146,8 @@ fn freshened<B: Copies<H> + Drop, H: Drop>(
     alloc: Global,
     pages: u64,
 ) -> R<u64>
-    ensures answer { (x : protocol.Node B.State) → IsAlone (B.state alone.old.board) alone.old.generation x
-        → calls.Freshens x result (IsAlone (B.state alone.new.board) alone.new.generation) }
+    ensures answer { (x : protocol.Node B.State) → IsAlone alone.old.reads (B.state alone.old.board) alone.old.generation x
+        → calls.Freshens x result (IsAlone alone.new.reads (B.state alone.new.board) alone.new.generation) }
     ensures fewer { IfOk result (λ left. left ≡ B.stale alone.old.board - pages) }
     ensures left { IfOk result (λ left. left ≡ B.stale alone.new.board) }
     ensures unchanged { OnErr result (alone.new ≡ alone.old) }
@@ -157,7 +159,7 @@ fn freshened<B: Copies<H> + Drop, H: Drop>(
 fn begun<B: Copies<H> + Drop, H: Drop>(alloc: Global, mut alone: Alone<B>) -> (R<u32>, Node<B, H>)
     ensures answer { (C : Copying B.State) (drives : ℕ) (x : protocol.Node B.State)
         → CopiesAs B.state B.copied drives C.parts C.part_count C.assemble
-        → calls.HasTakenKeys B.machine x → IsAlone (B.state alone.board) alone.generation x
+        → calls.HasTakenKeys B.machine x → IsAlone alone.reads (B.state alone.board) alone.generation x
         → calls.BeginsPair B.machine x result.0 (IsNode B.state B.machine C drives result.1) }
     ensures unchanged { OnErr result.0 (result.1 ≡ seat.Alone alone) }
 {
@@ -170,7 +172,8 @@ fn begun<B: Copies<H> + Drop, H: Drop>(alloc: Global, mut alone: Alone<B>) -> (R
         Err(fault) => return (Err(fault), Node::Alone(alone)),
     };
     let keys = [alone.board.keys(0), alone.board.keys(1)];
-    let primary = Primary::begin(alone.board, log, generation, keys, KeptImage::of(image));
+    let image = KeptImage::of(image);
+    let primary = Primary::begin(alone.board, log, generation, alone.reads, keys, image);
     (Ok(generation), Node::Primary(primary))
 }
 
@@ -187,6 +190,7 @@ fn log_and_image<B: Copies<H> + Drop, H: Drop>(
     ensures keys { IfOk result (λ made. (port : ℕ) → port < PORTS
         → B.machine.keys (B.state alone.new.board) port ≤ GREATEST_NUMBER) }
     ensures state { B.state alone.new.board ≡ B.state alone.old.board }
+    ensures reads { alone.new.reads ≡ alone.old.reads }
     ensures full { IsOkUnless result OutOfMemory }
     ensures unchanged { OnErr result (alone.new ≡ alone.old) }
 {

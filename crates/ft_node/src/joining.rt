@@ -8,20 +8,22 @@ use crate::backup::Backup;
 use crate::node::Node;
 use crate::ran::PartCame;
 use clone_state::{Assembly, Copies};
+use guest_board::Reads;
 use i8080_words::R;
 use log_channel::Receiver;
 use replayer::Replayer;
 use std::alloc::Global;
 use std::marker::Model;
 
-/// The parts that came of a machine's image, the stored closures that the machine will have here, and how many steps it
-/// had made when its image was made.
+/// The parts that came of a machine's image, the stored closures that the machine will have here, how many steps it had
+/// made when its image was made, and how the log of its generation carries sectors.
 #[derive(Drop)]
 pub struct Joining<H> {
     assembly: Assembly,
     callbacks: H,
     generation: u32,
     count: u64,
+    reads: Reads,
 }
 
 impl<H> Model for Joining<H> {
@@ -30,23 +32,30 @@ impl<H> Model for Joining<H> {
 
     ghost Value = { Joined };
 
-    ghost view = { λ j. record { gathering = j.assembly; count = j.count } };
+    ghost view = { λ j. record { gathering = j.assembly; count = j.count; reads = j.reads } };
 
     ghost invariant = { λ j. (0 < j.generation) × (j.assembly.generation ≡ j.generation) };
 }
 
 impl<H: Drop> Joining<H> {
     /// A node that joins in this generation, to be given the copy of a machine that has made `count` steps.
-    pub(crate) fn new(assembly: Assembly, callbacks: H, generation: u32, count: u64) -> Joining<H>
+    pub(crate) fn new(
+        assembly: Assembly,
+        callbacks: H,
+        generation: u32,
+        count: u64,
+        reads: Reads,
+    ) -> Joining<H>
         requires first { 0 < generation }
         requires generation { assembly.generation ≡ generation }
-        ensures { result ≡ record { gathering = assembly; count = count } }
+        ensures { result ≡ record { gathering = assembly; count = count; reads = reads } }
     {
         Joining {
             assembly,
             callbacks,
             generation,
             count,
+            reads,
         }
     }
 
@@ -93,18 +102,20 @@ impl<H: Drop> Joining<H> {
             callbacks,
             generation,
             count,
+            reads,
         } = self;
         match B::assembled(alloc, assembly, callbacks) {
             Ok(board) => {
                 let backup = Backup {
                     replayer: Replayer::new(board),
                     receiver: Receiver::new(alloc, generation),
+                    reads,
                 };
                 (Ok(PartCame::Whole), Node::Backup(backup))
             }
             Err((mut assembly, callbacks, fault)) => {
                 assembly.forget(bytes);
-                let joining = Joining::new(assembly, callbacks, generation, count);
+                let joining = Joining::new(assembly, callbacks, generation, count, reads);
                 (Err(fault), Node::Joining(joining))
             }
         }

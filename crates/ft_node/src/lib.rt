@@ -5,6 +5,7 @@ mod alone;
 mod backup;
 mod copying;
 mod due;
+mod fetching;
 mod halted;
 mod joining;
 mod kept_image;
@@ -16,6 +17,7 @@ mod takeover;
 mod taking;
 #[cfg(test)]
 mod tests;
+mod winner;
 
 pub use alone::Alone;
 pub use backup::Backup;
@@ -24,3 +26,4 @@ pub use joining::Joining;
 pub use node::Node;
 pub use primary::Primary;
 pub use ran::{Drained, NextGeneration, PartCame, Ran};
+pub use winner::Winner;

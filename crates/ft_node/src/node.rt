@@ -18,9 +18,10 @@ use crate::joining::Joining;
 use crate::kept_image::KeptImage;
 use crate::primary::Primary;
 use crate::ran::Ran;
+use crate::winner::Winner;
 use clone_state::{Assembly, Copies};
 use event_callbacks::PORTS;
-use go_live::Draining;
+use guest_board::Reads;
 use i8080_words::{Fault, R};
 use log_buffer::LogBuffer;
 use log_channel::Receiver;
@@ -36,43 +37,50 @@ pub enum Node<B, H> {
     Primary(Primary<B>),
     Backup(Backup<B>),
     Joining(Joining<H>),
-    Draining(Draining<B>),
+    Draining(Winner<B>),
     Alone(Alone<B>),
     Halted(Halted),
 }
 
 impl<B: Copies<H> + Drop, H: Drop> Node<B, H> {
-    /// The primary of a generation, with a log that is still empty.
-    pub fn primary(board: B, log: LogBuffer, generation: u32) -> Node<B, H>
+    /// The primary of a generation, with a log that is still empty and carries its sectors so.
+    pub fn primary(board: B, log: LogBuffer, generation: u32, reads: Reads) -> Node<B, H>
         requires generation { 0 < generation }
         requires unused { log ≡ logs.log 0 [] }
         ensures { (C : Copying B.State) (drives : ℕ) (x : protocol.Node B.State)
-            → calls.Begins B.machine protocol.Primary generation (B.state board) x → IsNode B.state B.machine C drives result x }
+            → calls.Begins B.machine protocol.Primary generation reads (B.state board) x → IsNode B.state B.machine C drives result x }
     {
-        Node::Primary(Primary::begin(board, log, generation, [0; PORTS], KeptImage::none()))
+        Node::Primary(Primary::begin(board, log, generation, reads, [0; PORTS], KeptImage::none()))
     }
 
     /// The backup of a generation, which holds nothing yet.
-    pub fn backup(alloc: Global, board: B, generation: u32) -> Node<B, H>
+    pub fn backup(alloc: Global, board: B, generation: u32, reads: Reads) -> Node<B, H>
         requires { 0 < generation }
         ensures { (C : Copying B.State) (drives : ℕ) (x : protocol.Node B.State)
-            → calls.Begins B.machine protocol.Backup generation (B.state board) x → IsNode B.state B.machine C drives result x }
+            → calls.Begins B.machine protocol.Backup generation reads (B.state board) x → IsNode B.state B.machine C drives result x }
     {
         Node::Backup(Backup {
             replayer: Replayer::new(board),
             receiver: Receiver::new(alloc, generation),
+            reads,
         })
     }
 
     /// A node that joins in a generation, to be given the copy of a machine that has made `count` steps. No part came yet.
-    pub fn joining(assembly: Assembly, callbacks: H, generation: u32, count: u64) -> Node<B, H>
+    pub fn joining(
+        assembly: Assembly,
+        callbacks: H,
+        generation: u32,
+        count: u64,
+        reads: Reads,
+    ) -> Node<B, H>
         requires generation { 0 < generation }
         requires unused { assembly ≡ nothing_gathered generation assembly.drives (part_count assembly.drives) }
         ensures { let drives = assembly.drives in
             (C : Copying B.State) (x : protocol.Node B.State) → C.part_count ≡ part_count drives
-            → calls.Joins C generation count x → IsNode B.state B.machine C drives result x }
+            → calls.Joins C generation count reads x → IsNode B.state B.machine C drives result x }
     {
-        Node::Joining(Joining::new(assembly, callbacks, generation, count))
+        Node::Joining(Joining::new(assembly, callbacks, generation, count, reads))
     }
 
     /// Makes at most `turns` steps of a primary's or an alone node's machine, up to the first that gives an operation.
@@ -127,7 +135,7 @@ impl<B: Copies<H> + Drop, H: Drop> Node<B, H> {
             Node::Primary(primary) => primary.recorder.board().count(),
             Node::Backup(backup) => backup.replayer.board().count(),
             Node::Joining(joining) => joining.count(),
-            Node::Draining(draining) => draining.board().count(),
+            Node::Draining(winner) => winner.draining.board().count(),
             Node::Alone(alone) => alone.board.count(),
             Node::Halted(halted) => halted.count,
         }
@@ -142,7 +150,7 @@ impl<B: Copies<H> + Drop, H: Drop> Node<B, H> {
             Node::Primary(primary) => primary.sender.generation(),
             Node::Backup(backup) => backup.receiver.generation(),
             Node::Joining(joining) => joining.generation(),
-            Node::Draining(draining) => draining.receiver().generation(),
+            Node::Draining(winner) => winner.draining.receiver().generation(),
             Node::Alone(alone) => alone.generation,
             Node::Halted(halted) => halted.generation,
         }

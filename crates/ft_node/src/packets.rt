@@ -67,7 +67,7 @@ impl<B: Copies<H> + Drop, H: Drop> Node<B, H> {
         Ok(true)
     }
 
-    /// The packet by which a backup acknowledges all that it holds.
+    /// The packet by which a backup acknowledges all that it holds, and with shared reads says how much of it is replayed.
     pub fn ack(&self, alloc: Global) -> R<Vec<u8>>
         ensures { (C : Copying B.State) (drives : ℕ) (x : protocol.Node B.State) → IsNode B.state B.machine C drives self.now x → calls.Acknowledges x result }
     {
@@ -77,7 +77,7 @@ impl<B: Copies<H> + Drop, H: Drop> Node<B, H> {
         }
     }
 
-    /// Takes an acknowledgement, and returns how many entries are acknowledged then. `BadAck` if it is of more entries
+    /// Takes an acknowledgement, with or without the number of replayed entries, and returns how many entries are acknowledged then. `BadAck` if it is of more entries
     /// than the log has.
     pub fn on_ack(&mut self, bytes: &[u8]) -> R<u64>
         ensures answer { (C : Copying B.State) (drives : ℕ) (x : protocol.Node B.State) → IsNode B.state B.machine C drives self.old x

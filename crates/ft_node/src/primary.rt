@@ -7,6 +7,7 @@ ghost use Rattle.i8080_words.specs.declared.limits.TheConstants.{GREATEST_NUMBER
 ghost use Rattle.log_buffer.specs.Log as logs;
 ghost use Rattle.log_buffer.specs.Log.{next_of};
 ghost use Rattle.log_channel.specs.Packet.{packet_at};
+ghost use Rattle.log_entry.specs.Entries.{entry_of, is_read};
 ghost use Rattle.output_rule.specs.Covering.{nothing_acknowledged};
 ghost use Rattle.pair_protocol.specs.Copying.{Copying};
 ghost use Rattle.pair_protocol.specs.Effects.{Took};
@@ -20,7 +21,7 @@ use crate::kept_image::KeptImage;
 use crate::ran::Ran;
 use clone_state::Copies;
 use event_callbacks::{OpId, Operation, PORTS};
-use guest_board::{Input, Lockstep, StopReason, Stopped};
+use guest_board::{Input, Lockstep, Reads, StopReason, Stopped};
 use i8080_words::{Fault, R};
 use log_buffer::LogBuffer;
 use log_channel::Sender;
@@ -49,6 +50,7 @@ impl<B: Lockstep + Drop> Primary<B> {
         board: B,
         log: LogBuffer,
         generation: u32,
+        reads: Reads,
         keys: [u64; PORTS],
         image: KeptImage,
     ) -> Primary<B>
@@ -57,12 +59,13 @@ impl<B: Lockstep + Drop> Primary<B> {
         requires keys { (port : ℕ) → slice_index keys port ≤ GREATEST_NUMBER }
         ensures board { result.recorder.board ≡ board }
         ensures log { result.recorder.log ≡ log }
-        ensures sender { result.sender ≡ record { generation = generation; held = 0 } }
+        ensures reads { result.recorder.reads ≡ reads }
+        ensures sender { result.sender ≡ record { generation = generation; held = 0; replayed = 0 } }
         ensures coverage { result.coverage ≡ nothing_acknowledged keys }
         ensures image { result.image ≡ image }
     {
         Primary {
-            recorder: Recorder::new(board, log),
+            recorder: Recorder::new(board, log, reads),
             sender: Sender::new(generation),
             coverage: Coverage::new(keys),
             image,
@@ -75,10 +78,10 @@ impl<B: Lockstep + Drop> Primary<B> {
         requires few { outstanding.IsFrugal B.machine (B.state self.old.recorder.board) }
         requires notes { AreOfOutstanding B.machine (B.state self.old.recorder.board) self.old.coverage }
         ensures answer { (C : Copying B.State) (x : Node B.State)
-            → IsPrimary B.machine (HasImage C self.old.sender.generation self.old.image) (B.state self.old.recorder.board) self.old.recorder.log self.old.sender
+            → IsPrimary B.machine (HasImage C self.old.sender.generation self.old.image) self.old.recorder.reads (B.state self.old.recorder.board) self.old.recorder.log self.old.sender
             self.old.coverage x
             → calls.Steps B.machine turns x result
-            (IsPrimary B.machine (HasImage C self.new.sender.generation self.new.image) (B.state self.new.recorder.board) self.new.recorder.log self.new.sender
+            (IsPrimary B.machine (HasImage C self.new.sender.generation self.new.image) self.new.recorder.reads (B.state self.new.recorder.board) self.new.recorder.log self.new.sender
             self.new.coverage) }
         ensures unchanged { OnErr result (self.new ≡ self.old) }
     {
@@ -98,14 +101,17 @@ impl<B: Lockstep + Drop> Primary<B> {
     pub(crate) fn accept(&mut self, input: Input)
         requires { MayTake B.machine (B.state self.old.recorder.board) self.old.recorder.log input }
         ensures { (C : Copying B.State) (x : Node B.State)
-            → IsPrimary B.machine (HasImage C self.old.sender.generation self.old.image) (B.state self.old.recorder.board) self.old.recorder.log self.old.sender
+            → IsPrimary B.machine (HasImage C self.old.sender.generation self.old.image) self.old.recorder.reads (B.state self.old.recorder.board) self.old.recorder.log self.old.sender
             self.old.coverage x
             → calls.Makes x (Took B.machine input)
-            (IsPrimary B.machine (HasImage C self.new.sender.generation self.new.image) (B.state self.new.recorder.board) self.new.recorder.log self.new.sender
+            (IsPrimary B.machine (HasImage C self.new.sender.generation self.new.image) self.new.recorder.reads (B.state self.new.recorder.board) self.new.recorder.log self.new.sender
             self.new.coverage) }
     {
+        self.recorder.log().stands();
         let completed = completed_by(self.recorder.board(), &input);
-        self.recorder.accept(input);
+        let is_read = is_read(self.recorder.reads(), &input);
+        let index = self.recorder.accept(input);
+        note_read(&mut self.coverage, is_read, index);
         if let Some(id) = completed {
             self.coverage.forget(id);
         }
@@ -114,7 +120,7 @@ impl<B: Lockstep + Drop> Primary<B> {
     /// The packet of the entry at an index; `Unknown` if it is acknowledged or not there yet.
     pub(crate) fn packet(&self, alloc: Global, index: u64) -> R<Vec<u8>>
         ensures { (C : Copying B.State) (x : Node B.State)
-            → IsPrimary B.machine (HasImage C self.now.sender.generation self.now.image) (B.state self.now.recorder.board) self.now.recorder.log self.now.sender
+            → IsPrimary B.machine (HasImage C self.now.sender.generation self.now.image) self.now.recorder.reads (B.state self.now.recorder.board) self.now.recorder.log self.now.sender
             self.now.coverage x
             → calls.Sends index x result }
     {
@@ -126,15 +132,16 @@ impl<B: Lockstep + Drop> Primary<B> {
     /// Takes an acknowledgement, and returns how many entries are acknowledged then. The image is no longer needed.
     pub(crate) fn on_ack(&mut self, bytes: &[u8]) -> R<u64>
         ensures answer { (C : Copying B.State) (x : Node B.State)
-            → IsPrimary B.machine (HasImage C self.old.sender.generation self.old.image) (B.state self.old.recorder.board) self.old.recorder.log self.old.sender
+            → IsPrimary B.machine (HasImage C self.old.sender.generation self.old.image) self.old.recorder.reads (B.state self.old.recorder.board) self.old.recorder.log self.old.sender
             self.old.coverage x
             → calls.DeliversAcknowledgement (packet_at bytes.now) x result
-            (IsPrimary B.machine (HasImage C self.new.sender.generation self.new.image) (B.state self.new.recorder.board) self.new.recorder.log self.new.sender
+            (IsPrimary B.machine (HasImage C self.new.sender.generation self.new.image) self.new.recorder.reads (B.state self.new.recorder.board) self.new.recorder.log self.new.sender
             self.new.coverage) }
         ensures unchanged { OnErr result (self.new ≡ self.old) }
     {
         let covered = self.sender.on_ack(self.recorder.log(), bytes)?;
-        self.coverage.acknowledge(self.recorder.log(), covered);
+        self.coverage
+            .acknowledge(self.recorder.log(), covered, self.sender.replayed());
         self.recorder.log_mut().drop_to(covered);
         self.image.forget();
         Ok(covered)
@@ -144,7 +151,7 @@ impl<B: Lockstep + Drop> Primary<B> {
     #[tactic(auto, using(crate::proofs::PrimaryReleases::release_refused))]
     pub(crate) fn release(&self, id: OpId) -> R<Operation>
         ensures { (C : Copying B.State) (x : Node B.State)
-            → IsPrimary B.machine (HasImage C self.now.sender.generation self.now.image) (B.state self.now.recorder.board) self.now.recorder.log self.now.sender
+            → IsPrimary B.machine (HasImage C self.now.sender.generation self.now.image) self.now.recorder.reads (B.state self.now.recorder.board) self.now.recorder.log self.now.sender
             self.now.coverage x
             → calls.Releases B.machine id x result }
     {
@@ -157,7 +164,7 @@ impl<B: Lockstep + Drop> Primary<B> {
     pub(crate) fn told(&self, port: u8) -> u64
         requires { port < PORTS }
         ensures { (C : Copying B.State) (x : Node B.State)
-            → IsPrimary B.machine (HasImage C self.now.sender.generation self.now.image) (B.state self.now.recorder.board) self.now.recorder.log self.now.sender
+            → IsPrimary B.machine (HasImage C self.now.sender.generation self.now.image) self.now.recorder.reads (B.state self.now.recorder.board) self.now.recorder.log self.now.sender
             self.now.coverage x
             → calls.Tells B.machine port x (Ok result) }
     {
@@ -167,12 +174,22 @@ impl<B: Lockstep + Drop> Primary<B> {
     /// The message of a part of its image; `Unknown` if it keeps none, or that has no such part.
     pub(crate) fn part(&self, alloc: Global, index: u64) -> R<Vec<u8>>
         ensures { (C : Copying B.State) (x : Node B.State)
-            → IsPrimary B.machine (HasImage C self.now.sender.generation self.now.image) (B.state self.now.recorder.board)
+            → IsPrimary B.machine (HasImage C self.now.sender.generation self.now.image) self.now.recorder.reads (B.state self.now.recorder.board)
             self.now.recorder.log self.now.sender self.now.coverage x
             → calls.SendsPart C index x result }
     {
         let _generation = self.sender.generation();
         self.image.part(alloc, index)
+    }
+}
+
+// Whether an input is logged as a read of the shared disk.
+fn is_read(reads: Reads, input: &Input) -> bool
+    ensures { (count : ℕ) → result ≡ is_read (entry_of reads count input.now) }
+{
+    match (reads, input) {
+        (Reads::Shared, Input::Sector { .. }) => true,
+        _ => false,
     }
 }
 
@@ -185,6 +202,16 @@ fn completed_by<B: Lockstep>(board: &B, input: &Input) -> Option<OpId>
         Input::Rx(..) | Input::Sector { .. } => None,
         Input::Sent(port) => Some(OpId::Byte(port, board.due_byte(port)?)),
         Input::Written(number) => Some(OpId::Write(number)),
+    }
+}
+
+// A read that was logged is the last one from now on, at this index.
+fn note_read(coverage: &mut Coverage, is_read: bool, index: u64)
+    requires { index < GREATEST_NUMBER }
+    ensures { coverage.new ≡ noting.with_read coverage.old is_read index }
+{
+    if is_read {
+        coverage.read(index);
     }
 }
 

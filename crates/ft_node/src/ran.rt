@@ -1,6 +1,6 @@
-//! How far a node got, whether it is alone, and what a part was to it.
+//! How far a node got and why no further, what it may begin, and what a part was to it.
 
-use guest_board::StopReason;
+use guest_board::{Reads, ReplayEnd, StopReason};
 
 /// How many steps were made, how many the guest has made in all, and why no more were made.
 #[derive(Clone, Copy, Debug, PartialEq, Eq)]
@@ -10,18 +10,19 @@ pub struct Ran {
     pub why: StopReason,
 }
 
-/// How many moves were made, and whether the node is alone now.
+/// How many moves were made, and why no more were: if nothing is left, the node is alone now.
 #[derive(Clone, Copy, Debug, PartialEq, Eq)]
 pub struct Drained {
     pub moves: u64,
-    pub alone: bool,
+    pub why: ReplayEnd,
 }
 
-/// The generation that an alone node may begin, and how many drives its machine has.
+/// The generation that an alone node may begin, how many drives its machine has, and how its log will carry sectors.
 #[derive(Clone, Copy, Debug, PartialEq, Eq)]
 pub struct NextGeneration {
     pub generation: u32,
     pub drives: u8,
+    pub reads: Reads,
 }
 
 /// What a part of an image was to a joining node: a new one, one that came before, or the last one that was missing.

@@ -1,8 +1,7 @@
 //! A node that takes over: it asks the arbiter, drains if it was a backup, and is alone.
-ghost use Rattle.std.specs.Prelude.{◌≡◌, ◌≢◌, ℕ, true, IfErr, OnErr};
+ghost use Rattle.std.specs.Prelude.{◌≡◌, ◌≢◌, ℕ, true, length, IfErr, OnErr};
 ghost use Rattle.i8080_words.specs.declared.refusal.Fault.TheVariants.{Lost};
 ghost use Rattle.pair_protocol.specs.Copying.{Copying};
-ghost use Rattle.pair_protocol.specs.Effects.{at_end};
 ghost use Rattle.pair_protocol.specs.Node as protocol;
 ghost use Rattle.pair_protocol.specs.Node.{goes_live, wins};
 ghost use Rattle.ft_node.specs.Calls as calls;
@@ -12,9 +11,11 @@ ghost use Rattle.ft_node.specs.Seats.{IsNode, MayReplay};
 use crate::alone::Alone;
 use crate::node::Node;
 use crate::ran::Drained;
+use crate::winner::Winner;
 use arbiter_core::{Arbiter, Won};
 use clone_state::Copies;
 use go_live::Draining;
+use guest_board::ReplayEnd;
 use i8080_words::{Fault, R};
 use std::mem;
 
@@ -59,16 +60,16 @@ impl<B: Copies<H> + Drop, H: Drop> Node<B, H> {
             → calls.Drains B.machine turns x result (IsNode B.state B.machine C drives self.new) }
         ensures unchanged { OnErr result (self.new ≡ self.old) }
     {
-        let Node::Draining(draining) = self else {
+        let Node::Draining(winner) = self else {
             return Err(Fault::WrongRole);
         };
-        let replayed = draining.drain(turns)?;
-        if replayed.at_end {
+        let replayed = winner.drain(turns)?;
+        if let ReplayEnd::End = replayed.why {
             self.finish();
         }
         Ok(Drained {
             moves: replayed.moves,
-            alone: replayed.at_end,
+            why: replayed.why,
         })
     }
 
@@ -81,38 +82,46 @@ impl<B: Copies<H> + Drop, H: Drop> Node<B, H> {
         *self = match mem::replace(self, Node::Halted(halted)) {
             Node::Primary(primary) => Node::Alone(Alone {
                 generation: primary.sender.generation(),
+                reads: primary.recorder.reads(),
                 board: primary.recorder.into_board(),
             }),
-            Node::Backup(backup) => {
-                Node::Draining(Draining::begin(backup.replayer, backup.receiver))
-            }
+            Node::Backup(backup) => Node::Draining(Winner {
+                reads: backup.reads,
+                draining: Draining::begin(backup.replayer, backup.receiver),
+            }),
             other => other,
         };
     }
 
     // A node that has drained is alone.
     fn finish(&mut self)
-        ensures { (C : Copying B.State) (drives : ℕ) (y : protocol.Node B.State) → y.role ≡ protocol.Draining → at_end y ≡ true
+        ensures { (C : Copying B.State) (drives : ℕ) (y : protocol.Node B.State) → y.role ≡ protocol.Draining → y.replayed ≡ length y.held
             → IsNode B.state B.machine C drives self.old y → IsNode B.state B.machine C drives self.new (goes_live y) }
     {
         let halted = self.halted();
         let node = mem::replace(self, Node::Halted(halted));
         *self = match node {
-            Node::Draining(draining) => alone(draining),
+            Node::Draining(winner) => alone(winner),
             other => other,
         };
     }
 }
 
 // The alone node that a drained node becomes.
-fn alone<B: Copies<H> + Drop, H: Drop>(draining: Draining<B>) -> Node<B, H>
-    ensures { (C : Copying B.State) (drives : ℕ) (y : protocol.Node B.State) → at_end y ≡ true
-        → IsFollower protocol.Draining (B.state draining.replayer.board) draining.receiver y
+fn alone<B: Copies<H> + Drop, H: Drop>(winner: Winner<B>) -> Node<B, H>
+    ensures { (C : Copying B.State) (drives : ℕ) (y : protocol.Node B.State) → y.replayed ≡ length y.held
+        → IsFollower protocol.Draining winner.reads (B.state winner.draining.replayer.board)
+        winner.draining.replayer.fetched winner.draining.receiver y
         → IsNode B.state B.machine C drives result (goes_live y) }
 {
+    let Winner { draining, reads } = winner;
     let generation = draining.receiver().generation();
     match draining.finish() {
-        Ok(board) => Node::Alone(Alone { board, generation }),
-        Err((draining, _)) => Node::Draining(draining),
+        Ok(board) => Node::Alone(Alone {
+            board,
+            generation,
+            reads,
+        }),
+        Err((draining, _)) => Node::Draining(Winner { draining, reads }),
     }
 }

@@ -8,7 +8,7 @@ use crate::{Drained, Node, PartCame};
 use arbiter_core::{Arbiter, Won};
 use clone_state::{Assembly, Copies, DraftedBoard};
 use event_callbacks::{Callbacks, Completes, OpId, plain_completions};
-use guest_board::{Board, BoardMemory, Input, Setup};
+use guest_board::{Board, BoardMemory, Input, Reads, ReplayEnd, Setup};
 use i8080_words::{Fault, R};
 use log_buffer::LogBuffer;
 use log_channel::Packet;
@@ -37,14 +37,14 @@ fn first_packet(alloc: Global) -> R<Vec<u8>> {
 }
 
 fn primary<B: Copies<H> + Drop, H: Drop>(alloc: Global, board: B) -> R<Node<B, H>> {
-    Ok(Node::primary(board, LogBuffer::new(alloc, 0)?, 1))
+    Ok(Node::primary(board, LogBuffer::new(alloc, 0)?, 1, Reads::Logged))
 }
 
 fn a_backup_holds_what_comes_next<B: Copies<H> + Drop, H: Drop>(
     rt: &(impl Abort + AllocGlobal),
     board: B,
 ) -> R<()> {
-    let mut backup: Node<B, H> = Node::backup(rt.alloc(), board, 1);
+    let mut backup: Node<B, H> = Node::backup(rt.alloc(), board, 1, Reads::Logged);
     assert_eq!(rt;
         (backup.role(), backup.count(), backup.generation()),
         (Role::Backup, 0, 1)
@@ -58,7 +58,8 @@ fn a_backup_holds_what_comes_next<B: Copies<H> + Drop, H: Drop>(
         Packet::read(&ack),
         Ok(Packet::Ack {
             generation: 1,
-            held: 1
+            held: 1,
+            replayed: None
         })
     );
     assert_eq!(rt; backup.stop(), Ok(()));
@@ -74,7 +75,7 @@ fn an_entry_is_read_and_then_held<B: Copies<H> + Drop, H: Drop>(
     rt: &(impl Abort + AllocGlobal),
     board: B,
 ) -> R<()> {
-    let mut backup: Node<B, H> = Node::backup(rt.alloc(), board, 1);
+    let mut backup: Node<B, H> = Node::backup(rt.alloc(), board, 1, Reads::Logged);
     let bytes = first_packet(rt.alloc())?;
     let Some(entry) = backup.next_entry(&bytes)? else {
         panic!(rt; "the first packet brings the first entry");
@@ -122,7 +123,7 @@ fn a_primary_answers_before_its_first_step<B: Copies<H> + Drop, H: Drop>(
         primary.send_part(rt.alloc(), 0).err(),
         Some(Fault::Unknown)
     );
-    let backup: Node<B, H> = Node::backup(rt.alloc(), other, 1);
+    let backup: Node<B, H> = Node::backup(rt.alloc(), other, 1, Reads::Logged);
     let ack = backup.ack(rt.alloc())?;
     assert_eq!(rt; primary.on_ack(&ack), Ok(0));
     assert_eq!(rt; primary.told(0), Ok(0));
@@ -135,13 +136,13 @@ fn the_first_that_asks_goes_on<B: Copies<H> + Drop, H: Drop>(
     second: B,
 ) -> R<()> {
     let mut primary: Node<B, H> = primary(rt.alloc(), first)?;
-    let mut backup: Node<B, H> = Node::backup(rt.alloc(), second, 1);
+    let mut backup: Node<B, H> = Node::backup(rt.alloc(), second, 1, Reads::Logged);
     let mut arbiter = Arbiter::new(rt.alloc());
     assert_eq!(rt;
         backup.replay(9),
         Ok(Replayed {
             moves: 0,
-            at_end: true
+            why: ReplayEnd::End
         })
     );
     assert_eq!(rt; backup.suspect(1, &mut arbiter), Ok(Won));
@@ -153,14 +154,14 @@ fn the_first_that_asks_goes_on<B: Copies<H> + Drop, H: Drop>(
 
 // An alone node, which was a backup that held nothing.
 fn alone<B: Copies<H> + Drop, H: Drop>(rt: &(impl Abort + AllocGlobal), board: B) -> R<Node<B, H>> {
-    let mut node: Node<B, H> = Node::backup(rt.alloc(), board, 1);
+    let mut node: Node<B, H> = Node::backup(rt.alloc(), board, 1, Reads::Logged);
     let mut arbiter = Arbiter::new(rt.alloc());
     assert_eq!(rt; node.suspect(1, &mut arbiter), Ok(Won));
     assert_eq!(rt;
         node.drain(9),
         Ok(Drained {
             moves: 0,
-            alone: true
+            why: ReplayEnd::End
         })
     );
     assert_eq!(rt; node.role(), Role::Alone);
@@ -176,7 +177,7 @@ fn joiner<B: Copies<H> + Drop, H: Drop>(
 ) -> R<Node<B, H>> {
     let generation = node.generation();
     let assembly = Assembly::new(alloc, generation, 1)?;
-    Ok(Node::joining(assembly, callbacks, generation, node.count()))
+    Ok(Node::joining(assembly, callbacks, generation, node.count(), Reads::Logged))
 }
 
 fn only_an_alone_node_begins<B: Copies<H> + Drop, H: Drop>(
@@ -257,6 +258,7 @@ fn board<T: Completes + Drop, S: Completes + Drop, W: Completes + Drop>(
         drives: 1,
         levels: [7; 3],
         sense: 0x00,
+        reads: Reads::Logged,
     };
     let taken = BoardMemory::of(alloc, &setup)?;
     Ok(DraftedBoard::of(Board::boot_in(alloc, taken, &setup, callbacks)))

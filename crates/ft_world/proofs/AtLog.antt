@@ -4,7 +4,7 @@
 use Rattle.guest_board.specs.Guest.{Guest}
 use Rattle.std.proofs.Common.{◌≡◌, Bool, Err, List, None, Ok, Some, ap, cond, false, refl, subst, true, ℕ}
 use Rattle.std.specs.Option.{option_and_then}
-use Rattle.std.specs.Prelude.{Option, Result, slice_get}
+use Rattle.std.specs.Prelude.{Option, Result, slice_get, unwrap_or}
 use Rattle.guest_board.specs.Machine.{Machine}
 use Rattle.i8080_words.specs.declared.refusal.Fault.{Fault}
 use Rattle.i8080_words.specs.declared.refusal.Fault.TheVariants.{Unknown}
@@ -141,16 +141,18 @@ delivers_applies state copied M records old c m n bytes new hosts brings h at =
 pub record BringsAcknowledgement (q : Option world.Message) (bytes : List ℕ) : Type 0 where
   pub generation : ℕ
   pub held : ℕ
-  pub message : q ≡ Some (world.Acknowledgement generation held 0)
-  pub spelled : packet_at bytes ≡ Some (packet.Ack generation held)
+  pub reports : Option ℕ
+  pub message : q ≡ Some (world.Acknowledgement generation held (unwrap_or reports 0))
+  pub spelled : packet_at bytes ≡ Some (packet.Ack generation held reports)
 
 brings_acknowledgement : (o : Option Message) (q : Option world.Message) (bytes : List ℕ) → Agree IsMessage o q →
     option_and_then ack_of o ≡ Some bytes → BringsAcknowledgement q bytes
 brings_acknowledgement (Some (message.Ack b)) (Some (world.Acknowledgement g k r)) bytes a e = record {
   generation = g;
   held = k;
-  message = ap (λ n. Some (world.Acknowledgement g k n)) a.1;
-  spelled = subst (λ l. packet_at l ≡ Some (packet.Ack g k)) (same_some b.items bytes (Some b.items) refl e) a.0;
+  reports = a.0;
+  message = ap (λ n. Some (world.Acknowledgement g k n)) a.2;
+  spelled = subst (λ l. packet_at l ≡ Some (packet.Ack g k a.0)) (same_some b.items bytes (Some b.items) refl e) a.1;
 }
 brings_acknowledgement (Some (message.Ack b)) q bytes a e = absurd a
 brings_acknowledgement (Some (message.Part b)) q bytes a e = (cc)
@@ -187,29 +189,32 @@ hears_unknown state copied M records old c m n brings h =
     (no_acknowledgement (slice_get old.messages m) (slice_get c.world.messages m) (slice_get c.world.nodes n)
     (h.parts.messages.each m) brings) refl
 
-pub spelled_ack : {S : Type 0} {generation held : ℕ} (bytes : List ℕ) (x : Node S) (r : Result ℕ Fault)
-    (Is : Node S → Type 0) → packet_at bytes ≡ Some (packet.Ack generation held) →
-    DeliversAcknowledgement (packet_at bytes) x r Is → Call (deliver_acknowledgement_refusal generation held x) Never (Heard held 0) x r Is
+pub spelled_ack : {S : Type 0} {generation held : ℕ} {reports : Option ℕ} (bytes : List ℕ) (x : Node S) (r : Result ℕ Fault)
+    (Is : Node S → Type 0) → packet_at bytes ≡ Some (packet.Ack generation held reports) →
+    DeliversAcknowledgement (packet_at bytes) x r Is →
+    Call (deliver_acknowledgement_refusal generation held x) Never (Heard held (unwrap_or reports 0)) x r Is
 spelled_ack bytes x r Is spelled d = subst (λ p. DeliversAcknowledgement p x r Is) spelled d
 
 pub hears_refused : {B H D S : Type 0} (state : B → S) (copied : B → Guest) (M : Machine S) (records : D → List Record)
     (old : Running B H D) (c : Course S) (m n : ℕ) (bytes : List ℕ) (fault : Fault) (hosts : List (Host B H)) →
     option_and_then ack_of (slice_get old.messages m) ≡ Some bytes → (h : Shows state copied M records old c) →
-    ((generation held : ℕ) → packet_at bytes ≡ Some (packet.Ack generation held) →
-    AtHost state M c.copying h.drives c.world n (deliver_acknowledgement_refusal generation held) Never (Heard held 0) (Err fault) hosts) →
+    ((generation held : ℕ) (reports : Option ℕ) → packet_at bytes ≡ Some (packet.Ack generation held reports) →
+    AtHost state M c.copying h.drives c.world n (deliver_acknowledgement_refusal generation held) Never
+    (Heard held (unwrap_or reports 0)) (Err fault) hosts) →
     Applies state copied M records c (event.DeliverAcknowledgement m n) (Err fault) (record old { hosts = hosts })
 hears_refused state copied M records old c m n bytes fault hosts brings h at =
     let b = brings_acknowledgement (slice_get old.messages m) (slice_get c.world.messages m) bytes
     (h.parts.messages.each m) brings in
     node_refused h (event.DeliverAcknowledgement m n) fault hosts
     (ap (λ q. at_acknowledgement (slice_get c.world.nodes n) q) b.message) (λ never. absurd never.said) refl
-    (at b.generation b.held b.spelled)
+    (at b.generation b.held b.reports b.spelled)
 
 pub hears_applies : {B H D S : Type 0} (state : B → S) (copied : B → Guest) (M : Machine S) (records : D → List Record)
     (old : Running B H D) (c : Course S) (m n : ℕ) (bytes : List ℕ) (covered : ℕ) (hosts : List (Host B H)) →
     option_and_then ack_of (slice_get old.messages m) ≡ Some bytes → (h : Shows state copied M records old c) →
-    ((generation held : ℕ) → packet_at bytes ≡ Some (packet.Ack generation held) →
-    AtHost state M c.copying h.drives c.world n (deliver_acknowledgement_refusal generation held) Never (Heard held 0) (Ok covered) hosts) →
+    ((generation held : ℕ) (reports : Option ℕ) → packet_at bytes ≡ Some (packet.Ack generation held reports) →
+    AtHost state M c.copying h.drives c.world n (deliver_acknowledgement_refusal generation held) Never
+    (Heard held (unwrap_or reports 0)) (Ok covered) hosts) →
     Applies state copied M records c (event.DeliverAcknowledgement m n) (Ok (reply.Held covered))
     (record old { hosts = hosts })
 hears_applies state copied M records old c m n bytes covered hosts brings h at =
@@ -217,14 +222,14 @@ hears_applies state copied M records old c m n bytes covered hosts brings h at =
     (h.parts.messages.each m) brings in
     node_applies h (event.DeliverAcknowledgement m n) (reply.Held covered) hosts
     (ap (λ q. at_acknowledgement (slice_get c.world.nodes n) q) b.message)
-    (λ x y free s. kept_stays (heard_kept x y b.held 0 covered s))
+    (λ x y free s. kept_stays (heard_kept x y b.held (unwrap_or b.reports 0) covered s))
     (λ world at. record {
       generation = b.generation;
       held = b.held;
-      replayed = 0;
+      replayed = unwrap_or b.reports 0;
       message = b.message;
       covered = covered;
       at = at;
       reply = refl;
     })
-    (at b.generation b.held b.spelled)
+    (at b.generation b.held b.reports b.spelled)

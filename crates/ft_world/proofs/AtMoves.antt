@@ -1,11 +1,12 @@
--- The machine of a node makes steps, a backup replays, and a node that won drains; a node halts. What such a node holds and has not replayed are the next entries of a
--- recorded run, as at every node of a world that actions reach; so its calls may be made. Its moves keep its generation
+-- The machine of a node makes steps, a backup replays, and a node that won drains; a node halts. What such a node holds
+-- and has not replayed are the next entries of a recorded run, as at every node of a world that actions reach; so its calls may be made. Its moves keep its generation
 -- and its role, and a machine that begins elsewhere makes the same moves. A drained node is alone, and was no backup
 -- before.
 use Rattle.guest_board.specs.Guest.{Guest}
-use Rattle.std.proofs.Common.{◌≡◌, Bool, Err, List, Ok, Some, cond, drop, false, inl, inr, refl, subst, sym, true, ℕ}
+use Rattle.std.proofs.Common.{◌≡◌, Err, List, Ok, Option, Some, drop, inl, inr, refl, subst, sym, ℕ}
 use Rattle.std.specs.Prelude.{slice_get, ◌<◌}
 use Rattle.guest_board.specs.Machine.{Machine}
+use Rattle.guest_board.specs.declared.reads.Reads.{Reads}
 use Rattle.i8080_words.specs.declared.refusal.Fault.{Fault}
 use Rattle.log_channel.specs.Channel.{Receiving}
 use Rattle.log_entry.specs.Standing.{IsOnTrace}
@@ -33,6 +34,7 @@ use Rattle.ft_world.specs.Shows.{IsHost}
 use Rattle.ft_world.specs.Standing.{Course, machine_of}
 use Rattle.ft_world.specs.Words.{reply_of}
 use Rattle.pair_events.specs.declared.event.Event.TheVariants as event
+use Rattle.pair_events.specs.declared.reply.Reply.{Reply}
 use Rattle.pair_events.specs.declared.reply.Reply.TheVariants as reply
 use Rattle.ft_world.specs.declared.host.Host.{Host}
 use Rattle.ft_world.specs.declared.host.Host.TheVariants as host
@@ -44,25 +46,30 @@ use Rattle.ft_world.proofs.Keeping.{acting_role, advances_keep, drained_stays, h
 
 -- what a follower holds and has not replayed are the next entries of a recorded run
 follows : {B H D S : Type 0} (state : B → S) (copied : B → Guest) (M : Machine S) (records : D → List Record) (old : Running B H D)
-    (c : Course S) (n : ℕ) (x : Node S) (role : Role) (s : S) (r : Receiving) → Shows state copied M records old c →
-    slice_get c.world.nodes n ≡ Some x → Replaying role → IsFollower role s r x → IsOnTrace M s r.entries
-follows {S = S} state copied M records old c n x role s r h there replays is =
+    (c : Course S) (n : ℕ) (x : Node S) (role : Role) (reads : Reads) (s : S) (fetched : Option (List ℕ)) (r : Receiving) →
+    Shows state copied M records old c → slice_get c.world.nodes n ≡ Some x → Replaying role →
+    IsFollower role reads s fetched r x → IsOnTrace M s r.entries fetched
+follows {S = S} state copied M records old c n x role reads s fetched r h there replays is =
     let N : Machine S = machine_of M c in
     let stands = nodes_stand N c.copying h.machine.lawful h.machine.copies c.world h.reached n x there in
-    let here : IsOnTrace M x.machine (drop x.replayed x.held) =
-    IsOnTrace-back M c.boot c.sectors x.machine (drop x.replayed x.held)
+    let here : IsOnTrace M x.machine (drop x.replayed x.held) x.fetched =
+    IsOnTrace-back M c.boot c.sectors x.machine (drop x.replayed x.held) x.fetched
     (stands.on_trace (subst (λ q. Replaying q) (sym is.role_is) replays)) in
-    subst (λ es. IsOnTrace M s es) (sym is.left) (subst (λ t. IsOnTrace M t (drop x.replayed x.held)) is.machine here)
+    subst (λ es. IsOnTrace M s es fetched) (sym is.left)
+    (subst (λ t. IsOnTrace M t (drop x.replayed x.held) fetched) is.machine
+    (subst (λ come. IsOnTrace M x.machine (drop x.replayed x.held) come) is.come here))
 
 may_replay : {B H D S : Type 0} (state : B → S) (copied : B → Guest) (M : Machine S) (records : D → List Record) (old : Running B H D)
     (c : Course S) (n : ℕ) (x : Node S) (node : code.Node B H) → (h : Shows state copied M records old c) →
     slice_get c.world.nodes n ≡ Some x → IsNode state M c.copying h.drives node x → MayReplay state M node
 may_replay state copied M records old c n x (seat.Primary p) h there is = tt
 may_replay state copied M records old c n x (seat.Backup b) h there is =
-    follows state copied M records old c n x Backup (state b.replayer.board) b.receiver h there (inl refl) is
+    follows state copied M records old c n x Backup b.reads (state b.replayer.board) b.replayer.fetched b.receiver h there
+    (inl refl) is
 may_replay state copied M records old c n x (seat.Joining j) h there is = tt
 may_replay state copied M records old c n x (seat.Draining d) h there is =
-    follows state copied M records old c n x Draining (state d.replayer.board) d.receiver h there (inr refl) is
+    follows state copied M records old c n x Draining d.reads (state d.draining.replayer.board) d.draining.replayer.fetched
+    d.draining.receiver h there (inr refl) is
 may_replay state copied M records old c n x (seat.Alone a) h there is = tt
 may_replay state copied M records old c n x (seat.Halted a) h there is = tt
 
@@ -122,14 +129,14 @@ pub replays_applies : {B H D S : Type 0} (state : B → S) (copied : B → Guest
     (old : Running B H D) (c : Course S) (n turns : ℕ) (r : Replayed) (hosts : List (Host B H)) →
     (h : Shows state copied M records old c) →
     AtHost state M c.copying h.drives c.world n replay_refusal (NeedsMoves M turns) (ReplayedBy M turns) (Ok r) hosts →
-    Applies state copied M records c (event.Replay n turns) (Ok (reply.Moved r.moves r.at_end))
+    Applies state copied M records c (event.Replay n turns) (Ok (reply.Moved r.moves r.why))
     (record old { hosts = hosts })
 replays_applies state copied M records old c n turns r hosts h a =
-    node_applies h (event.Replay n turns) (reply.Moved r.moves r.at_end) hosts refl
+    node_applies h (event.Replay n turns) (reply.Moved r.moves r.why) hosts refl
     (λ x y free s. kept_stays (replays_keep M s.moves))
     (λ new at. record {
       made = r.moves;
-      end = r.at_end;
+      why = r.why;
       at = elsewhere (λ x y s. Replayed-booted M c.boot c.sectors s) at;
       reply = refl;
     }) a
@@ -144,25 +151,19 @@ pub drains_refused : {B H D S : Type 0} (state : B → S) (copied : B → Guest)
 drains_refused state copied M records old c n turns fault hosts h a =
     node_refused h (event.Drain n turns) fault hosts refl (steps_first M c n turns) refl a
 
-drained_reply : (moves : ℕ) (b : Bool) →
-    reply_of (cond b (reply.MovedAlone moves) (reply.Moved moves false)) ≡ drain_reply moves b
-drained_reply moves true = refl
-drained_reply moves false = refl
-
 pub drains_applies : {B H D S : Type 0} (state : B → S) (copied : B → Guest) (M : Machine S) (records : D → List Record)
-    (old : Running B H D) (c : Course S) (n turns : ℕ) (d : Drained) (hosts : List (Host B H)) →
-    (h : Shows state copied M records old c) →
+    (old : Running B H D) (c : Course S) (n turns : ℕ) (d : Drained) (r : Reply) (hosts : List (Host B H)) →
+    reply_of r ≡ drain_reply d.moves d.why → (h : Shows state copied M records old c) →
     AtHost state M c.copying h.drives c.world n drain_refusal (NeedsMoves M turns) (DrainedBy M turns) (Ok d) hosts →
-    Applies state copied M records c (event.Drain n turns)
-    (Ok (cond d.alone (reply.MovedAlone d.moves) (reply.Moved d.moves false))) (record old { hosts = hosts })
-drains_applies state copied M records old c n turns d hosts h a =
-    node_applies h (event.Drain n turns) (cond d.alone (reply.MovedAlone d.moves) (reply.Moved d.moves false)) hosts refl
+    Applies state copied M records c (event.Drain n turns) (Ok r) (record old { hosts = hosts })
+drains_applies state copied M records old c n turns d r hosts says h a =
+    node_applies h (event.Drain n turns) r hosts refl
     (λ x y free s. drained_stays (acting_role x Draining free) s)
     (λ new at. record {
       made = d.moves;
-      alone = d.alone;
+      why = d.why;
       at = elsewhere (λ x y s. Drained-booted M c.boot c.sectors s) at;
-      reply = drained_reply d.moves d.alone;
+      reply = says;
     }) a
 
 -- ---- a node halts

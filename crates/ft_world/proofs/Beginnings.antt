@@ -1,12 +1,13 @@
 -- How a pair begins. Its two nodes are those of the opening, since both guests are in the state in which the machine
 -- boots and no step is counted there; nothing was sent, typed or asked; and a disk on which nothing is written has its
 -- sectors at boot. The Altair of a setup is a machine that a pair may run.
-use Rattle.std.proofs.Common.{◌≡◌, ◌∙◌, [], ◌∷◌, ◌++◌, ◌<◌, ◌^◌, ◌≤◌, List, None, Option, Some, ap, refl, subst, suc, sym, true, false, zero, ℕ}
-use Rattle.std.specs.Prelude.{IsSome, IsTrue, length, slice_get}
+use Rattle.std.proofs.Common.{◌≡◌, ◌∙◌, [], ◌∷◌, ◌++◌, ◌<◌, ◌^◌, ◌≤◌, Bool, List, None, Option, Some, ap, eqb-true, refl, subst, suc, sym, true, false, zero, ℕ}
+use Rattle.std.specs.Prelude.{IsSome, IsTrue, length, slice_get, ◌==◌, ◌&&◌}
 use Rattle.std.specs.Option.{option_map_or}
 use Rattle.arbiter_core.specs.declared.arbiter.Asking.{Asking}
 use Rattle.altair_copies.specs.Copies.{IsSetup, TheImageCopies, image_copy}
 use Rattle.disk_dcdd.specs.Address.{has_sector}
+use Rattle.disk_dcdd.specs.Completion.{is_sector_due}
 use Rattle.disk_dcdd.specs.declared.address.SectorAddress.{SectorAddress}
 use Rattle.disk_dcdd.specs.declared.controller.TheConstants.{DRIVES}
 use Rattle.disk_dcdd.specs.declared.sector.TheConstants.{SECTOR_BYTES}
@@ -15,10 +16,11 @@ use Rattle.guest_memory.specs.declared.memory.TheConstants.{BYTES}
 use Rattle.guest_board.specs.Inputs.{some_altair}
 use Rattle.clone_state.specs.DraftedBoard.{BoardsAreCopiedAsGuests, WithDraft}
 use Rattle.clone_state.specs.Copies.{CopiesAs}
-use Rattle.guest_board.specs.Machine.{Machine}
+use Rattle.guest_board.specs.Machine.{Machine, booted_from}
 use Rattle.guest_board.specs.Outstanding.{ComesAndGoes, completed_by}
 use Rattle.guest_board.specs.declared.input.Input.{Input}
 use Rattle.guest_board.specs.declared.input.Input.TheVariants.{Rx, Sector, Sent, Written}
+use Rattle.guest_board.specs.declared.reads.Reads.{Reads}
 use Rattle.guest_board.specs.declared.setup.Setup.{Setup}
 use Rattle.guest_board.specs.MoveLaws.{guests_issue_and_complete}
 use Rattle.shared_disk.specs.Records.{HasDrives, HasWholeSectors, IsUnwritten, record_at}
@@ -39,7 +41,7 @@ use Rattle.ft_world.specs.Applies.{Shows}
 use Rattle.ft_world.specs.Beginning.{MayBegin, beginning, bytes_in}
 use Rattle.ft_node.specs.Seats.{IsNode}
 use Rattle.ft_world.specs.Shows.{Agree, AreHosts, AreMessages, AreTerminals, AreWinners, IsDisk, IsHost, IsOnlyBackup, IsStation, IsTerminal}
-use Rattle.ft_world.specs.Standing.{Course, IsMachine, machine_of}
+use Rattle.ft_world.specs.Standing.{Course, IsMachine, ReadyIsSelected, machine_of}
 use Rattle.ft_world.specs.declared.host.Host.{Host}
 use Rattle.ft_world.specs.declared.host.Host.TheVariants as host
 use Rattle.ft_world.specs.declared.station.Station.{Station}
@@ -48,72 +50,77 @@ use Rattle.ft_world.proofs.Agreeing.{agree-push}
 
 -- ---- the two nodes
 
-first_begins : {S : Type 0} (M : Machine S) (c : Course S) (role : Role) (s : S) → s ≡ c.boot →
-    Begins M role 1 s (first_node (machine_of M c) role)
-first_begins M c role s from = record {
+first_begins : {S : Type 0} (M : Machine S) (c : Course S) (reads : Reads) (role : Role) (s : S) → s ≡ c.boot →
+    Begins M role 1 reads s (first_node (machine_of M c) reads role)
+first_begins M c reads role s from = record {
   role_is = refl;
   up = refl;
   generation_is = refl;
+  reads_are = refl;
   machine = sym from;
   no_log = refl;
   covered = refl;
+  reported = refl;
   notes = refl;
   no_held = refl;
   replayed = refl;
+  no_fetched = refl;
   no_copy = refl;
   no_image = refl;
 }
 
 -- the node of a new station is a first node in the role in which it began, in whatever state its guest boots
-begins_as : {B H S : Type 0} (state : B → S) (M : Machine S) (C : Copying S) (drives : ℕ) (c : Course S) (role : Role) (s : S) (node : code.Node B H) →
-    ((x : Node S) → Begins M role 1 s x → IsNode state M C drives node x) → s ≡ c.boot →
-    IsNode state M C drives node (first_node (machine_of M c) role)
-begins_as state M C drives c role s node begins from = begins (first_node (machine_of M c) role) (first_begins M c role s from)
+begins_as : {B H S : Type 0} (state : B → S) (M : Machine S) (C : Copying S) (drives : ℕ) (c : Course S) (reads : Reads) (role : Role) (s : S) (node : code.Node B H) →
+    ((x : Node S) → Begins M role 1 reads s x → IsNode state M C drives node x) → s ≡ c.boot →
+    IsNode state M C drives node (first_node (machine_of M c) reads role)
+begins_as state M C drives c reads role s node begins from =
+    begins (first_node (machine_of M c) reads role) (first_begins M c reads role s from)
 
-pub primary_station : {B H S : Type 0} (state : B → S) (M : Machine S) (C : Copying S) (drives : ℕ) (c : Course S) (s : S) (node : code.Node B H)
-    (h : Station B H) → ((x : Node S) → Begins M Primary 1 s x → IsNode state M C drives node x) → h.node ≡ node →
+pub primary_station : {B H S : Type 0} (state : B → S) (M : Machine S) (C : Copying S) (drives : ℕ) (c : Course S) (reads : Reads) (s : S) (node : code.Node B H)
+    (h : Station B H) → ((x : Node S) → Begins M Primary 1 reads s x → IsNode state M C drives node x) → h.node ≡ node →
     h.inputs ≡ [] → ((x : Node S) → IsNode state M C drives node x → h.count ≡ count_of M x x.role) → s ≡ c.boot →
-    IsStation state M C drives h (first_node (machine_of M c) Primary)
-primary_station state M C drives c s node h begins is inputs count from =
-    let first = begins_as state M C drives c Primary s node begins from in record {
-      node = subst (λ n. IsNode state M C drives n (first_node (machine_of M c) Primary)) (sym is) first;
+    IsStation state M C drives h (first_node (machine_of M c) reads Primary)
+primary_station state M C drives c reads s node h begins is inputs count from =
+    let first = begins_as state M C drives c reads Primary s node begins from in record {
+      node = subst (λ n. IsNode state M C drives n (first_node (machine_of M c) reads Primary)) (sym is) first;
       inputs = inputs;
-      count = count (first_node (machine_of M c) Primary) first;
+      count = count (first_node (machine_of M c) reads Primary) first;
       a_node = λ e. absurd (cc);
     }
 
-pub backup_station : {B H S : Type 0} (state : B → S) (M : Machine S) (C : Copying S) (drives : ℕ) (c : Course S) (s : S) (node : code.Node B H)
-    (h : Station B H) → ((x : Node S) → Begins M Backup 1 s x → IsNode state M C drives node x) → h.node ≡ node →
+pub backup_station : {B H S : Type 0} (state : B → S) (M : Machine S) (C : Copying S) (drives : ℕ) (c : Course S) (reads : Reads) (s : S) (node : code.Node B H)
+    (h : Station B H) → ((x : Node S) → Begins M Backup 1 reads s x → IsNode state M C drives node x) → h.node ≡ node →
     h.inputs ≡ [] → ((x : Node S) → IsNode state M C drives node x → h.count ≡ count_of M x x.role) → s ≡ c.boot →
-    M.count c.boot ≡ 0 → IsStation state M C drives h (first_node (machine_of M c) Backup)
-backup_station state M C drives c s node h begins is inputs count from none =
-    let first = begins_as state M C drives c Backup s node begins from in record {
-      node = subst (λ n. IsNode state M C drives n (first_node (machine_of M c) Backup)) (sym is) first;
+    M.count c.boot ≡ 0 → IsStation state M C drives h (first_node (machine_of M c) reads Backup)
+backup_station state M C drives c reads s node h begins is inputs count from none =
+    let first = begins_as state M C drives c reads Backup s node begins from in record {
+      node = subst (λ n. IsNode state M C drives n (first_node (machine_of M c) reads Backup)) (sym is) first;
       inputs = inputs;
-      count = count (first_node (machine_of M c) Backup) first ∙ none;
+      count = count (first_node (machine_of M c) reads Backup) first ∙ none;
       a_node = λ e. absurd (cc);
     }
 
 -- the hosts of a new pair are one of each role
-pub two_hosts : {B H S : Type 0} (state : B → S) (M : Machine S) (C : Copying S) (drives : ℕ) (c : Course S) (none one two : List (Host B H))
+pub two_hosts : {B H S : Type 0} (state : B → S) (M : Machine S) (C : Copying S) (drives : ℕ) (c : Course S) (reads : Reads) (none one two : List (Host B H))
     (primary backup : Station B H) → none ≡ [] → one ≡ none ++ host.Node primary ∷ [] →
-    two ≡ one ++ host.Node backup ∷ [] → IsStation state M C drives primary (first_node (machine_of M c) Primary) →
-    IsStation state M C drives backup (first_node (machine_of M c) Backup) →
-    AreHosts state M C drives two (opening (machine_of M c)).nodes
-two_hosts {B} {H} {S} state M C drives c none one two primary backup empty first second p b =
-    subst (λ hosts. AreHosts state M C drives hosts (opening (machine_of M c)).nodes)
+    two ≡ one ++ host.Node backup ∷ [] → IsStation state M C drives primary (first_node (machine_of M c) reads Primary) →
+    IsStation state M C drives backup (first_node (machine_of M c) reads Backup) →
+    AreHosts state M C drives two (opening (machine_of M c) reads).nodes
+two_hosts {B} {H} {S} state M C drives c reads none one two primary backup empty first second p b =
+    subst (λ hosts. AreHosts state M C drives hosts (opening (machine_of M c) reads).nodes)
     (sym (second ∙ ap (λ hosts. hosts ++ host.Node backup ∷ []) (first
     ∙ ap (λ hosts. hosts ++ host.Node primary ∷ []) empty)))
-    (agree-push (IsHost {H = H} state M C drives) (host.Node primary ∷ []) (first_node (machine_of M c) Primary ∷ [])
-    (host.Node backup) (first_node (machine_of M c) Backup) b
-    (agree-push (IsHost {H = H} state M C drives) [] [] (host.Node primary) (first_node (machine_of M c) Primary) p (λ n. tt)))
+    (agree-push (IsHost {H = H} state M C drives) (host.Node primary ∷ []) (first_node (machine_of M c) reads Primary ∷ [])
+    (host.Node backup) (first_node (machine_of M c) reads Backup) b
+    (agree-push (IsHost {H = H} state M C drives) [] [] (host.Node primary) (first_node (machine_of M c) reads Primary) p (λ n. tt)))
 
-only_backup : {S : Type 0} (M : Machine S) → IsOnlyBackup (opening M).nodes 1 1
-only_backup M zero x here is role =
-    let same : first_node M Primary ≡ x = same_some (first_node M Primary) x (Some (first_node M Primary)) refl here in
+only_backup : {S : Type 0} (M : Machine S) (reads : Reads) → IsOnlyBackup (opening M reads).nodes 1 1
+only_backup M reads zero x here is role =
+    let same : first_node M reads Primary ≡ x =
+    same_some (first_node M reads Primary) x (Some (first_node M reads Primary)) refl here in
     absurd (let e : false ≡ true = ap (λ (u : Node _). is_backup u.role) same ∙ role in (cc))
-only_backup M (suc zero) x here is role = refl
-only_backup M (suc (suc n)) x here is role = absurd (cc)
+only_backup M reads (suc zero) x here is role = refl
+only_backup M reads (suc (suc n)) x here is role = absurd (cc)
 
 -- ---- everything that they share
 
@@ -136,7 +143,7 @@ some_of None is = absurd (cc)
 -- a disk on which nothing is written has its sectors at boot
 disk_at_boot : {B D S : Type 0} (state : B → S) (copied : B → Guest) (M : Machine S) (C : Copying S) (records : D → List Record)
     (primary backup : B) (store : D) (may : MayBegin state copied M C records primary backup store) →
-    IsDisk (machine_of M (beginning M C (state primary) (records store))) may.drives (records store) []
+    IsDisk (booted_from M (state primary) (bytes_in (records store))) may.drives (records store) []
 disk_at_boot state copied M C records primary backup store may = record {
   there = λ address has. some_of (record_at (records store) address) (may.there address has);
   kept = λ address r at. (
@@ -146,11 +153,11 @@ disk_at_boot state copied M C records primary backup store may = record {
 }
 
 -- the fields of a new pair show the world that it begins with
-pub shows_beginning : {B H D S : Type 0} (state : B → S) (copied : B → Guest) (M : Machine S) (C : Copying S) (records : D → List Record)
-    (primary backup : B) (store disk : D) (hosts : List (Host B H)) (messages : List Message) (one two : Screen)
+pub shows_beginning : {B H D S : Type 0} (state : B → S) (copied : B → Guest) (M : Machine S) (C : Copying S) (reads : Reads)
+    (records : D → List Record) (primary backup : B) (store disk : D) (hosts : List (Host B H)) (messages : List Message) (one two : Screen)
     (askings : List Asking) → MayBegin state copied M C records primary backup store →
     ((C : Copying S) (drives : ℕ) (c : Course S) → state primary ≡ c.boot → state backup ≡ c.boot → M.count c.boot ≡ 0 →
-    AreHosts state M C drives hosts (opening (machine_of M c)).nodes) →
+    AreHosts state M C drives hosts (opening (machine_of M c) reads).nodes) →
     messages ≡ [] → one ≡ blank → two ≡ blank → askings ≡ [] → disk ≡ store →
     Shows state copied M records
     (record {
@@ -162,14 +169,14 @@ pub shows_beginning : {B H D S : Type 0} (state : B → S) (copied : B → Guest
       generation = 1;
       backup = 1;
     })
-    (beginning M C (state primary) (records store))
-shows_beginning state copied M C records primary backup store disk hosts messages one two askings may opened none first second
+    (beginning M C reads (state primary) (records store))
+shows_beginning state copied M C reads records primary backup store disk hosts messages one two askings may opened none first second
     unasked same =
-    let c = beginning M C (state primary) (records store) in record {
+    let c = beginning M C reads (state primary) (records store) in record {
       drives = may.drives;
       machine = may.machine;
       copies_as = may.copies_as;
-      reached = AtBoot;
+      reached = AtBoot reads;
       parts = record {
         hosts = opened C may.drives c refl may.alike (may.machine.lawful.counts [] (state primary) refl);
         messages = subst (λ list. AreMessages list []) (sym none) no_messages;
@@ -179,7 +186,7 @@ shows_beginning state copied M C records primary backup store disk hosts message
         disk = subst (λ d. IsDisk (machine_of M c) may.drives (records d) []) (sym same)
             (disk_at_boot state copied M C records primary backup store may);
         generation = refl;
-        backup = only_backup (machine_of M c);
+        backup = only_backup (machine_of M c) reads;
       };
     }
 
@@ -195,9 +202,9 @@ completed_there M c s (Written number) = refl
 
 -- a machine whose operations come and go has operations that do so wherever it boots
 is_machine : {S : Type 0} (M : Machine S) (c : Course S) (drives : ℕ) → Lawful (machine_of M c) → ComesAndGoes M →
-    drives ≤ DRIVES → StaysOnDisk (machine_of M c) drives → IsCopying (machine_of M c) c.copying →
+    ReadyIsSelected M → drives ≤ DRIVES → StaysOnDisk (machine_of M c) drives → IsCopying (machine_of M c) c.copying →
     Makes (machine_of M c) c.copying → IsMachine (machine_of M c) c.copying drives
-is_machine M c drives lawful operations within on_disk copies makes = record {
+is_machine M c drives lawful operations ready within on_disk copies makes = record {
   lawful = lawful;
   operations = record {
     comes = operations.comes;
@@ -207,9 +214,24 @@ is_machine M c drives lawful operations within on_disk copies makes = record {
   };
   drives_within = within;
   on_disk = on_disk;
+  ready = λ s drive sector is. ready s drive sector is;
   copies = copies;
   makes = makes;
 }
+
+-- an Altair's sector is ready at the selected drive alone
+selected_is : (selected : Option ℕ) (drive : ℕ) (due : Bool) →
+    (option_map_or (λ s. s == drive) selected false && due) ≡ true → selected ≡ Some drive
+selected_is None drive due ready = absurd (cc)
+selected_is (Some k) drive due ready = go (k == drive) refl ready
+  where
+    go : (same : Bool) → (k == drive) ≡ same → (same && due) ≡ true → Some k ≡ Some drive
+    go false is ready = absurd (cc)
+    go true is ready = ap (λ n. Some n) (eqb-true k drive is)
+
+ready_is_selected : ReadyIsSelected some_altair
+ready_is_selected g drive sector ready =
+    selected_is g.devices.disk.selected drive (is_sector_due g.devices.disk sector) ready
 
 -- a disk that has these drives, and only whole sectors, has all bytes of each of their sectors
 pub whole_at_boot : (drives : ℕ) (records : List Record) → HasDrives records drives → HasWholeSectors records →
@@ -251,12 +273,12 @@ altairs_may_begin state records setup primary backup store lawful on_disk copies
     let copied = copies setup sectors is in record {
       drives = setup.drives;
       machine = subst
-          (λ s. IsMachine (machine_of some_altair (beginning some_altair (image_copy setup.drives) s (records store)))
+          (λ s. IsMachine (booted_from some_altair s (bytes_in (records store)))
           (image_copy setup.drives) setup.drives)
           (sym first)
           (is_machine some_altair
-          (beginning some_altair (image_copy setup.drives) (guest_at_boot setup) (records store)) setup.drives
-          (lawful setup sectors) guests_issue_and_complete within (on_disk setup sectors) copied.0 copied.1);
+          (beginning some_altair (image_copy setup.drives) setup.reads (guest_at_boot setup) (records store)) setup.drives
+          (lawful setup sectors) guests_issue_and_complete ready_is_selected within (on_disk setup sectors) copied.0 copied.1);
       copies_as = as_guests setup.drives;
       alike = second ∙ sym first;
       there = there;

@@ -76,11 +76,11 @@ module _ {B H S : Type 0} (state : B → S) (M : Machine S) (C : Copying S) (dri
   pub begins_on : (h : Station B H) (node : code.Node B H) (opening : Opening) (next : NextGeneration) (generation : ℕ)
       (x : Node S) → IsStation state M C drives h x → calls.MayBegin drives x (Ok next)
       → calls.BeginsPair M x (Ok generation) (IsNode state M C drives node)
-      → opening.generation ≡ next.generation → opening.assembly.drives ≡ next.drives → opening.inputs ≡ h.inputs
-      → opening.count ≡ h.count
+      → opening.generation ≡ next.generation → opening.assembly.drives ≡ next.drives → opening.reads ≡ next.reads
+      → opening.inputs ≡ h.inputs → opening.count ≡ h.count
       → Call (refusals.begin_pair_refusal x) calls.Ever (λ opening. Opens M drives opening h.inputs h.count) x (Ok opening)
       (IsStation state M C drives (record h { node = node }))
-  begins_on h node opening next generation x is may begins same_generation same_drives same_inputs same_count =
+  begins_on h node opening next generation x is may begins same_generation same_drives same_reads same_inputs same_count =
       let m = may_begin drives x next may in
       let b = call_done (refusals.begin_pair_refusal x) generation (IsNode state M C drives node x)
       (calls.Ever x × IsNode state M C drives node x) (λ v. calls.Makes x (calls.Begun M v) (IsNode state M C drives node))
@@ -95,6 +95,7 @@ module _ {B H S : Type 0} (state : B → S) (M : Machine S) (C : Copying S) (dri
         done = record {
           generation = same_generation ∙ m.1.generation;
           drives_are = same_drives ∙ m.1.drives_are;
+          reads_are = same_reads ∙ m.1.reads_are;
           same_inputs = same_inputs;
           same_count = same_count;
           after = refl;
@@ -107,7 +108,7 @@ module _ {B H S : Type 0} (state : B → S) (M : Machine S) (C : Copying S) (dri
 pub joins_station : {B H S : Type 0} (state : B → S) (M : Machine S) (opening : Opening) (node : code.Node B H)
     (station : Station B H) → station ≡ record { node = node; inputs = opening.inputs; count = opening.count }
     → ((C : Copying S) (x : Node S) → C.part_count ≡ part_count opening.assembly.drives
-    → calls.Joins C opening.generation opening.count x → IsNode state M C opening.assembly.drives node x)
+    → calls.Joins C opening.generation opening.count opening.reads x → IsNode state M C opening.assembly.drives node x)
     → IsJoined state M opening station
 joins_station {B} {H} {S} state M opening node station made is = λ C drives x counted of_drives joins inputs.
     subst (λ station. IsStation state M C drives station x) (sym made)

@@ -12,7 +12,7 @@ use Rattle.shared_disk.specs.declared.disk.SectorRead.{SectorRead}
 use Rattle.shared_disk.specs.declared.store.Record.{Record}
 use Rattle.pair_protocol.specs.Event as protocol
 use Rattle.pair_protocol.specs.Node.{Node}
-use Rattle.pair_protocol.specs.Refusals.{at_write_done, at_node, at_sector_read, put_reply_refusal, refusal, get_reply_refusal}
+use Rattle.pair_protocol.specs.Refusals.{at_write_done, at_fetched, at_node, at_sector_read, put_reply_refusal, refusal, get_reply_refusal}
 use Rattle.pair_protocol.specs.World as world
 use Rattle.pair_protocol.proofs.Traces.Lists.{same_some}
 use Rattle.ft_world.specs.Applies.{Applies, Shows}
@@ -126,22 +126,23 @@ brings_read (Some (message.Write write)) q read a e = (cc)
 brings_read (Some (message.Written k)) q read a e = (cc)
 brings_read None q read a e = (cc)
 
-none_read : {S : Type 0} (M : Machine S) (here : Option (Node S)) (o : Option Message) (q : Option world.Message) →
-    Agree IsMessage o q → option_and_then sector_of o ≡ None → at_sector_read M here q ≡ Some Unknown
-none_read M here None None a e = refl
+pub none_read : {S : Type 0} (M : Machine S) (here : Option (Node S)) (o : Option Message) (q : Option world.Message) →
+    Agree IsMessage o q → option_and_then sector_of o ≡ None →
+    (at_sector_read M here q ≡ Some Unknown) × (at_fetched M here q ≡ Some Unknown)
+none_read M here None None a e = (refl, refl)
 none_read M here None (Some y) a e = absurd a
-none_read M here (Some (message.Sector r)) q a e = (cc)
-none_read M here (Some (message.Log bytes)) (Some (world.LogEntry g i x)) a e = refl
+none_read M here (Some (message.Sector r)) q a e = absurd (cc)
+none_read M here (Some (message.Log bytes)) (Some (world.LogEntry g i x)) a e = (refl, refl)
 none_read M here (Some (message.Log bytes)) q a e = absurd a
-none_read M here (Some (message.Ack bytes)) (Some (world.Acknowledgement g h r)) a e = refl
-none_read M here (Some (message.Part bytes)) (Some (world.ImagePart g i k)) a e = refl
+none_read M here (Some (message.Ack bytes)) (Some (world.Acknowledgement g h r)) a e = (refl, refl)
+none_read M here (Some (message.Part bytes)) (Some (world.ImagePart g i k)) a e = (refl, refl)
 none_read M here (Some (message.Ack bytes)) q a e = absurd a
 none_read M here (Some (message.Part bytes)) q a e = absurd a
-none_read M here (Some (message.Byte p n b)) (Some (world.Released x)) a e = refl
+none_read M here (Some (message.Byte p n b)) (Some (world.Released x)) a e = (refl, refl)
 none_read M here (Some (message.Byte p n b)) q a e = absurd a
-none_read M here (Some (message.Write write)) (Some (world.Released x)) a e = refl
+none_read M here (Some (message.Write write)) (Some (world.Released x)) a e = (refl, refl)
 none_read M here (Some (message.Write write)) q a e = absurd a
-none_read M here (Some (message.Written k)) (Some (world.WriteDone d)) a e = refl
+none_read M here (Some (message.Written k)) (Some (world.WriteDone d)) a e = (refl, refl)
 none_read M here (Some (message.Written k)) q a e = absurd a
 
 pub read_unknown : {B H D S : Type 0} (state : B → S) (copied : B → Guest) (M : Machine S) (records : D → List Record)
@@ -150,10 +151,10 @@ pub read_unknown : {B H D S : Type 0} (state : B → S) (copied : B → Guest) (
 read_unknown state copied M records old c m n brings h =
     refuses state copied M records old old c (event.GetReply m n) Unknown h refl
     (none_read (machine_of M c) (slice_get c.world.nodes n) (slice_get old.messages m) (slice_get c.world.messages m)
-    (h.parts.messages.each m) brings)
+    (h.parts.messages.each m) brings).0
     refl
 
-read_there : {B H D S : Type 0} (state : B → S) (copied : B → Guest) (M : Machine S) (records : D → List Record) (old : Running B H D)
+pub read_there : {B H D S : Type 0} (state : B → S) (copied : B → Guest) (M : Machine S) (records : D → List Record) (old : Running B H D)
     (c : Course S) (m : ℕ) (read : SectorRead) → option_and_then sector_of (slice_get old.messages m) ≡ Some read →
     Shows state copied M records old c →
     slice_get c.world.messages m ≡ Some (world.SectorRead (read_address read) read.number read.bytes)

@@ -3,7 +3,7 @@
 use Rattle.guest_board.specs.Guest.{Guest}
 use Rattle.std.proofs.Common.{◌≡◌, ◌<◌, ◌+◌, ◌≤◌, [], ◌∷◌, ◌∙◌, Bool, Err, List, None, Ok, Some, ap, arith, cond, false, inl, inr, ltb-true, not, refl, subst, sym, true, ℕ}
 use Rattle.std.specs.Option.{option_map}
-use Rattle.std.specs.Prelude.{IsTrue, Option, Result, is_none, nat_le, nat_lt, slice_get}
+use Rattle.std.specs.Prelude.{IsTrue, Option, Result, is_none, length, nat_le, nat_lt, slice_get}
 use Rattle.std.proofs.lemmas.Bool.{and_parts, le-leb, lt-leb}
 use Rattle.disk_dcdd.specs.Address.{is_on_disk}
 use Rattle.disk_dcdd.specs.declared.address.SectorAddress.{SectorAddress}
@@ -21,10 +21,11 @@ use Rattle.shared_disk.specs.declared.store.Record.{Record}
 use Rattle.pair_protocol.specs.Change.{Serving}
 use Rattle.pair_protocol.specs.Event as protocol
 use Rattle.pair_protocol.specs.Node.{Alone, Node, Primary, Spare, acts_as, is_role}
-use Rattle.pair_protocol.specs.Refusals.{at_node, fault_if, first_of, no_sector, get_refusal, serves}
-use Rattle.pair_protocol.specs.Row.{Accepts, DeviceFails, Row, NeedsMemory}
+use Rattle.pair_protocol.specs.Event.{is_disk}
+use Rattle.pair_protocol.specs.Refusals.{at_node, fault_if, first_of, no_sector, get_refusal, refusal, serves}
+use Rattle.pair_protocol.specs.Row.{Accepts, DeviceFails, MayNeedMemory, NeedsMemory, Row}
 use Rattle.pair_protocol.specs.Effects.{IsUnder}
-use Rattle.pair_protocol.specs.Rows.{OfNode}
+use Rattle.pair_protocol.specs.Rows.{Does, OfNode}
 use Rattle.pair_protocol.specs.World as sent
 use Rattle.pair_protocol.specs.World.{World, sector_record, with_read}
 use Rattle.pair_protocol.proofs.Traces.Lists.{same_some}
@@ -36,7 +37,8 @@ use Rattle.ft_world.specs.Devices.{GetsSector}
 use Rattle.ft_world.specs.Running.{Running}
 use Rattle.ft_world.specs.Shows.{AreMessages, IsDisk}
 use Rattle.ft_world.specs.Standing.{Course, machine_of}
-use Rattle.ft_world.specs.Words.{IsMessage, reply_of}
+use Rattle.ft_world.specs.Words.{IsMessage, event_of, reply_of}
+use Rattle.pair_events.specs.declared.event.Event.{Event}
 use Rattle.pair_events.specs.declared.event.Event.TheVariants as event
 use Rattle.ft_world.specs.declared.message.Message.{Message}
 use Rattle.ft_world.specs.declared.message.Message.TheVariants as message
@@ -89,24 +91,35 @@ no_role_or_drive true drive fault e = same_fault WrongRole fault e refl
 no_role_or_drive false true fault e = same_fault NotDue fault e refl
 no_role_or_drive false false fault e = absurd (cc)
 
-no_place : {S : Type 0} (M : Machine S) (here : Option (Node S)) (fault : Fault) →
-    at_node here (get_refusal M) ≡ Some fault → faults_in {T = Reply} (Err fault) ≡ 0
-no_place M None fault e = same_fault Unknown fault e refl
-no_place {S} M (Some x) fault e = go (is_role x.role Spare) e
+-- why a node does not ask the disk: its role, or that it has nothing to ask for
+abbrev pub not_asking : {S : Type 0} → (Node S → Bool) → (Node S → Bool) → Node S → Option Fault
+not_asking role due x = first_of (fault_if (role x) WrongRole ∷ fault_if (due x) NotDue ∷ [])
+
+no_place : {S : Type 0} (role due : Node S → Bool) (here : Option (Node S)) (fault : Fault) →
+    at_node here (not_asking role due) ≡ Some fault → faults_in {T = Reply} (Err fault) ≡ 0
+no_place role due None fault e = same_fault Unknown fault e refl
+no_place {S} role due (Some x) fault e = go (is_role x.role Spare) e
   where
-    go : (b : Bool) → cond b (Some Unknown) (get_refusal M x) ≡ Some fault → faults_in {T = Reply} (Err fault) ≡ 0
+    go : (b : Bool) → cond b (Some Unknown) (not_asking role due x) ≡ Some fault →
+        faults_in {T = Reply} (Err fault) ≡ 0
     go true e = same_fault Unknown fault e refl
-    go false e =
-        no_role_or_drive (not (acts_as x (Primary ∷ Alone ∷ []))) (is_none (M.selected x.machine)) fault e
+    go false e = no_role_or_drive (role x) (due x) fault e
+
+pub asked_no_failure : {S : Type 0} (w : World S) (n failures : ℕ) (role due : Node S → Bool)
+    (says : SectorAddress → Node S → Type 0) (fault : Fault) (result : Result Reply Fault) → result ≡ Err fault →
+    AsksNode w n (not_asking role due) Never says (Err fault) → failures ≡ failures + faults_in result
+asked_no_failure w n failures role due says fault result is a =
+    let none : faults_in result ≡ 0 = ap faults_in is
+    ∙ no_place role due (slice_get w.nodes n) fault (node_asked_not w n (not_asking role due) fault a) in
+    omega (arith, none)
 
 pub gets_no_failure : {S : Type 0} (M : Machine S) (w : World S) (n sector failures : ℕ) (fault : Fault)
     (result : Result Reply Fault) → result ≡ Err fault →
     AsksNode w n (get_refusal M) Never (IsUnder M sector) (Err fault) →
     failures ≡ failures + faults_in result
 gets_no_failure M w n sector failures fault result is a =
-    let none : faults_in result ≡ 0 = ap faults_in is
-    ∙ no_place M (slice_get w.nodes n) fault (node_asked_not w n (get_refusal M) fault a) in
-    omega (arith, none)
+    asked_no_failure w n failures (λ x. not (acts_as x (Primary ∷ Alone ∷ []))) (λ x. is_none (M.selected x.machine))
+    (IsUnder M sector) fault result is a
 
 -- What is read.
 
@@ -155,18 +168,22 @@ stands_at state copied M records old c n sector address h low a =
       free = is_sector sector o low ∙ k.0;
     }
 
-pub gets_applies : {B H D S : Type 0} (state : B → S) (copied : B → Guest) (M : Machine S) (records : D → List Record)
-    (old : Running B H D) (c : Course S) (n sector : ℕ) (address : SectorAddress) (answer : Result Reply Fault)
-    (ms : List Message) (disk : D) → Shows state copied M records old c → sector < SECTORS →
-    AsksNode c.world n (get_refusal M) Never (IsUnder M sector) (Ok address) →
+-- the disk answers with a sector that it has, whatever event asks for it
+pub disk_answers : {B H D S : Type 0} (state : B → S) (copied : B → Guest) (M : Machine S) (records : D → List Record)
+    (old : Running B H D) (c : Course S) (e : Event) (address : SectorAddress) (answer : Result Reply Fault)
+    (ms : List Message) (disk : D) → (h : Shows state copied M records old c) →
+    IsTrue (has_sector h.drives address) → refusal (machine_of M c) c.copying c.world (event_of e) ≡ None →
+    MayNeedMemory (machine_of M c) c.world (event_of e) → IsTrue (is_disk (event_of e)) →
+    ((r : protocol.Reply) → r ≡ protocol.MessageIs (length c.world.messages) →
+    Does (machine_of M c) c.copying c.world (event_of e) r (with_read (machine_of M c) c.world address)) →
     GetsSector old.messages (records old.disk) address answer ms (records disk) →
-    Applies state copied M records c (event.Get n sector) answer (record old { messages = ms; disk = disk })
-gets_applies state copied M records old c n sector address (Ok r) ms disk h low a (read, is_read, said, sends, after) =
+    Applies state copied M records c e answer (record old { messages = ms; disk = disk })
+disk_answers state copied M records old c e address (Ok r) ms disk h there free needs asks does
+    (read, is_read, said, sends, after) =
     let N = machine_of M c in
-    let s = stands_at state copied M records old c n sector address h low a in
-    let met = h.parts.disk.there address s.there in
+    let met = h.parts.disk.there address there in
     let kept = h.parts.disk.kept address met.0 met.1 in
-    let place = place_within h.drives address h.machine.drives_within s.there in
+    let place = place_within h.drives address h.machine.drives_within there in
     let message_is : IsMessage (message.Sector (read_of address met.0))
     (sent.SectorRead address (sector_record N c.world.puts address).number
     (sector_record N c.world.puts address).bytes) =
@@ -176,14 +193,9 @@ gets_applies state copied M records old c n sector address (Ok r) ms disk h low 
     (sent.SectorRead address (sector_record N c.world.puts address).number
     (sector_record N c.world.puts address).bytes))
     (read_is (records old.disk) address met.0 read met.1 is_read) message_is in
-    applies state copied M records old c (event.Get n sector) (Ok r) (with_read N c.world address)
+    applies state copied M records old c e (Ok r) (with_read N c.world address)
     (record old { messages = ms; disk = disk }) h
-    (Accepts s.free (record {
-      address = address;
-      node = s.node;
-      reply = ap reply_of said ∙ ap protocol.MessageIs h.parts.messages.count;
-      after = refl;
-    }))
+    (Accepts free (does (reply_of r) (ap reply_of said ∙ ap protocol.MessageIs h.parts.messages.count)))
     (record {
       hosts = h.parts.hosts;
       messages = subst (λ l. AreMessages l (with_read N c.world address).messages) (sym sends)
@@ -196,16 +208,15 @@ gets_applies state copied M records old c n sector address (Ok r) ms disk h low 
       generation = h.parts.generation;
       backup = h.parts.backup;
     })
-gets_applies state copied M records old c n sector address (Err fault) ms disk h low a (why, same, after) =
+disk_answers state copied M records old c e address (Err fault) ms disk h there free needs asks does (why, same, after) =
     let N = machine_of M c in
-    let s = stands_at state copied M records old c n sector address h low a in
-    let met = h.parts.disk.there address s.there in
-    let refused = λ (f : Fault). Row N c.copying c.world (protocol.Get n sector) (protocol.Refused f) c.world in
+    let met = h.parts.disk.there address there in
+    let refused = λ (f : Fault). Row N c.copying c.world (event_of e) (protocol.Refused f) c.world in
     let row : refused fault = elim why [
-      | inl is ↦ subst refused (sym is) (NeedsMemory s.free tt)
-      | inr is ↦ subst refused (sym (not_put (records old.disk) address met.0 fault met.1 is)) (DeviceFails s.free refl)
+      | inl is ↦ subst refused (sym is) (NeedsMemory free needs)
+      | inr is ↦ subst refused (sym (not_put (records old.disk) address met.0 fault met.1 is)) (DeviceFails free asks)
     ] in
-    unchanged state copied M records old (record old { messages = ms; disk = disk }) c (event.Get n sector) fault h
+    unchanged state copied M records old (record old { messages = ms; disk = disk }) c e fault h
     (record {
       hosts = h.parts.hosts;
       messages = subst (λ l. AreMessages l c.world.messages) (sym same) h.parts.messages;
@@ -216,6 +227,17 @@ gets_applies state copied M records old c n sector address (Err fault) ms disk h
       backup = h.parts.backup;
     })
     row
+
+pub gets_applies : {B H D S : Type 0} (state : B → S) (copied : B → Guest) (M : Machine S) (records : D → List Record)
+    (old : Running B H D) (c : Course S) (n sector : ℕ) (address : SectorAddress) (answer : Result Reply Fault)
+    (ms : List Message) (disk : D) → Shows state copied M records old c → sector < SECTORS →
+    AsksNode c.world n (get_refusal M) Never (IsUnder M sector) (Ok address) →
+    GetsSector old.messages (records old.disk) address answer ms (records disk) →
+    Applies state copied M records c (event.Get n sector) answer (record old { messages = ms; disk = disk })
+gets_applies state copied M records old c n sector address answer ms disk h low a gets =
+    let s = stands_at state copied M records old c n sector address h low a in
+    disk_answers state copied M records old c (event.Get n sector) address answer ms disk h s.there s.free tt refl
+    (λ r is. record { address = address; node = s.node; reply = is; after = refl }) gets
 
 -- A sector is only looked at: the disk has the same records, so the same worlds are shown.
 

@@ -1,16 +1,18 @@
 -- What moves of a node keep: its role, its generation, and the lists and the count that it began with. So what it
 -- settles changes only with its machine and its own inputs.
-use Rattle.std.proofs.Common.{◌≡◌, ◌∙◌, [], ◌∷◌, ◌++◌, ℕ, Bool, true, false, None, Option, Some, ap, inl, inr, refl, subst, sym}
+use Rattle.std.proofs.Common.{◌≡◌, ◌∙◌, [], ◌∷◌, ◌++◌, ℕ, Bool, List, true, false, None, Option, Some, ap, inl, inr, refl, subst, sym}
 use Rattle.event_callbacks.specs.declared.operations.Operation.{Operation}
 use Rattle.guest_board.specs.Machine.{Machine}
 use Rattle.guest_board.specs.declared.input.Input.{Input}
+use Rattle.guest_board.specs.declared.replay_end.ReplayEnd.{ReplayEnd}
+use Rattle.guest_board.specs.declared.replay_end.ReplayEnd.TheVariants.{Turns, End, Wait, Memory}
 use Rattle.log_entry.specs.Entries.{inputs_of, last_count}
 use Rattle.log_entry.specs.declared.entry.Entry.{Entry}
 use Rattle.pair_protocol.specs.Change.{Serving}
 use Rattle.guest_board.specs.declared.running.StopReason.{StopReason}
-use Rattle.pair_protocol.specs.Node.{Node, Role, Primary, Backup, Joining, Draining, Alone, Spare, plainly_steps, passes_mark, passes_input}
+use Rattle.pair_protocol.specs.Node.{Node, Role, Primary, Backup, Joining, Draining, Alone, Spare, plainly_steps, passes_mark, passes_input, passes_read}
 use Rattle.pair_protocol.specs.Refusals.{serves, role_refusal}
-use Rattle.pair_protocol.specs.Effects.{Advances, Replays, NoneLeft, Ends, Waits, Short, Gives, Goes, NoTurns, AtEnd, NoMemory, OneStep, OneMark, OneInput, Took, Held, Heard, Drained, Halted, after_drain, stepped, took}
+use Rattle.pair_protocol.specs.Effects.{Advances, Replays, NoneLeft, Ends, Waits, Short, Gives, Goes, NoTurns, AtEnd, AwaitsBytes, NoMemory, OneStep, OneMark, OneInput, OneRead, Took, Held, Heard, Drained, Fetched, Halted, after_drain, stepped, took}
 use Rattle.pair_protocol.specs.Settled.{is_backup, list_of, count_in}
 use Rattle.pair_protocol.specs.World.{World}
 use Rattle.pair_protocol.proofs.Passed.{acts-in, serving}
@@ -61,6 +63,7 @@ advances_keep M (Goes {x = x} {y = y} s q rest) =
 pub replays_keep : {S : Type 0} (M : Machine S) {x y : Node S} {k made : ℕ} → Replays M x k y made → Kept x y
 replays_keep M (NoTurns {x = x}) = kept_here x
 replays_keep M (AtEnd {x = x} q) = kept_here x
+replays_keep M (AwaitsBytes {x = x} waits) = kept_here x
 replays_keep M (NoMemory {x = x} behind) = kept_here x
 replays_keep M (OneStep {x = x} {y = y} e s gives g c q rest) =
     kept_then x (plainly_steps x s) y
@@ -74,6 +77,14 @@ replays_keep M (OneInput {x = x} {y = y} e i s g c q v rest) =
     kept_then x (passes_input x s) y
     (record { role = refl; generation = refl; list = refl; copy = refl; start = refl; held = refl })
     (replays_keep M rest)
+replays_keep M (OneRead {x = x} {y = y} drive sector number bytes s g come v rest) =
+    kept_then x (passes_read x s) y
+    (record { role = refl; generation = refl; list = refl; copy = refl; start = refl; held = refl })
+    (replays_keep M rest)
+
+pub fetched_kept : {S : Type 0} (x y : Node S) (bytes : List ℕ) → Fetched bytes x y → Kept x y
+fetched_kept x y bytes h = subst (Kept x) (sym h)
+    (record { role = refl; generation = refl; list = refl; copy = refl; start = refl; held = refl })
 
 pub heard_kept : {S : Type 0} (x y : Node S) (held replayed covered : ℕ) → Heard held replayed covered x y → Kept x y
 heard_kept x y held replayed covered h = subst (Kept x) (sym h.1)
@@ -108,26 +119,33 @@ pub held_stays : {S : Type 0} (index : ℕ) (e : Entry) (next : Bool) (x y : Nod
 held_stays index e true x y h = subst (Stays x) (sym h.1) (record { generation = refl; backup = refl })
 held_stays index e false x y h = subst (Stays x) (sym h.1) (record { generation = refl; backup = refl })
 
-pub drained_generation : {S : Type 0} {M : Machine S} {turns made : ℕ} {alone : Bool} {x y : Node S}
-    → Drained M turns made alone x y → y.generation ≡ x.generation
-drained_generation {S} {M = M} {alone = alone} d =
-    ap (λ (z : Node S). z.generation) d.after ∙ go alone ∙ (replays_keep M d.replayed.moves).generation
+pub drained_generation : {S : Type 0} {M : Machine S} {turns made : ℕ} {why : ReplayEnd} {x y : Node S}
+    → Drained M turns made why x y → y.generation ≡ x.generation
+drained_generation {S} {M = M} {why = why} d =
+    ap (λ (z : Node S). z.generation) d.after ∙ go why ∙ (replays_keep M d.replayed.moves).generation
   where
-    go : (b : Bool) → (after_drain d.z b).generation ≡ d.z.generation
-    go true = refl
-    go false = refl
+    go : (why : ReplayEnd) → (after_drain d.z why).generation ≡ d.z.generation
+    go Turns = refl
+    go End = refl
+    go Wait = refl
+    go Memory = refl
 
 -- a drained node is alone, and was no backup before
-pub drained_stays : {S : Type 0} {M : Machine S} {turns made : ℕ} {alone : Bool} {x y : Node S} → x.role ≡ Draining
-    → Drained M turns made alone x y → Stays x y
-drained_stays {S} {M = M} {alone = alone} role d = record {
+pub drained_stays : {S : Type 0} {M : Machine S} {turns made : ℕ} {why : ReplayEnd} {x y : Node S} → x.role ≡ Draining
+    → Drained M turns made why x y → Stays x y
+drained_stays {S} {M = M} {why = why} role d = record {
   generation = drained_generation d;
-  backup = ap (λ (z : Node S). is_backup z.role) d.after ∙ go alone ∙ sym (ap is_backup role);
+  backup = ap (λ (z : Node S). is_backup z.role) d.after ∙ go why ∙ sym (ap is_backup role);
 }
   where
-    go : (b : Bool) → is_backup (after_drain d.z b).role ≡ false
-    go true = refl
-    go false = ap is_backup ((replays_keep M d.replayed.moves).role ∙ role)
+    still : is_backup d.z.role ≡ false
+    still = ap is_backup ((replays_keep M d.replayed.moves).role ∙ role)
+
+    go : (why : ReplayEnd) → is_backup (after_drain d.z why).role ≡ false
+    go Turns = still
+    go End = refl
+    go Wait = still
+    go Memory = still
 
 -- ---- what it settles
 

@@ -1,5 +1,6 @@
 -- A station that was lent is back in its place, changed or not. A host that has no role keeps its resources.
-use Rattle.std.proofs.Common.{◌≡◌, ◌∙◌, ◌∷◌, [], Err, IsOk, List, MutBor, None, Ok, Result, Some, ap, refl, suc, sym, zero, ℕ}
+use Rattle.std.proofs.Common.{◌≡◌, ◌<◌, ◌≤◌, ◌∙◌, ◌∷◌, [], Err, IsOk, List, MutBor, None, Ok, Result, Some, ap, get_or, length, refl, suc, sym, zero, ℕ}
+use Rattle.std.proofs.lemmas.Option.{slice_get_past, slice_get_read}
 use Rattle.std.specs.Prelude.{IfErr, IfOk, OnErr, map, slice_get, slice_set}
 use Rattle.i8080_words.specs.declared.refusal.Fault.{Fault}
 use Rattle.i8080_words.specs.declared.refusal.Fault.TheVariants.{Unknown}
@@ -51,3 +52,19 @@ module _ {B H : Type 0} (hosts : List (Host B H)) (n : ℕ) (here : Host B H) (t
 
 pub absent_past : {B H : Type 0} (hosts : List (Host B H)) (n : ℕ) → slice_get hosts n ≡ None → HasNoNode hosts n
 absent_past hosts n past = λ station e. (cc)
+
+-- ---- a station that is looked at
+
+-- a host that was found in a list that is the same
+pub host_there : {B H : Type 0} (xs hosts : List (Host B H)) (n : ℕ) (here is : Host B H) → xs ≡ hosts → n < length xs
+    → here ≡ get_or xs n here → here ≡ is → slice_get hosts n ≡ Some is
+host_there xs hosts n here is same within found e =
+    ap (λ l. slice_get l n) (sym same) ∙ slice_get_read xs (length xs) n here refl within found ∙ ap Some e
+
+pub no_host_there : {B H : Type 0} (xs hosts : List (Host B H)) (n : ℕ) → xs ≡ hosts → length xs ≤ n
+    → slice_get hosts n ≡ None
+no_host_there xs hosts n same past = ap (λ l. slice_get l n) (sym same) ∙ slice_get_past xs n past
+
+pub absent_spare : {B H : Type 0} (hosts : List (Host B H)) (n : ℕ) (resources : H)
+    → slice_get hosts n ≡ Some (host.Spare resources) → HasNoNode hosts n
+absent_spare hosts n resources there = λ station e. (cc)

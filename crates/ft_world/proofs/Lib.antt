@@ -20,6 +20,7 @@ pub mod DiskAnswers
 pub mod AtLog
 pub mod AtMoves
 pub mod AtFreshening
+pub mod AtFetching
 pub mod Standing
 pub mod Released
 pub mod AtDisk

@@ -191,10 +191,12 @@ module _ {B H D S : Type 0} (state : B → S) (copied : B → Guest) (M : Machin
               role_is = refl;
               up = refl;
               generation_is = sym o.generation;
+              reads_are = sym o.reads_are;
               start_is = sym (o.same_count ∙ is.count ∙ ap (count_in M x) alone);
               no_parts = refl;
               no_held = refl;
               replayed = refl;
+              no_fetched = refl;
             })
             (append-nil x.list ∙ sym (o.same_inputs ∙ is.inputs ∙ ap (list_of x) alone))
 

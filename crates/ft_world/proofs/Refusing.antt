@@ -16,6 +16,7 @@ use Rattle.disk_dcdd.specs.declared.sector.TheConstants.{SECTORS}
 use Rattle.guest_board.specs.Machine.{Machine}
 use Rattle.i8080_words.specs.declared.refusal.Fault.{Fault}
 use Rattle.i8080_words.specs.declared.refusal.Fault.TheVariants.{DeviceFault, Lost, NotWhole, OutOfMemory, WrongRole}
+use Rattle.shared_disk.specs.Records.{IsAt}
 use Rattle.shared_disk.specs.declared.store.Record.{Record}
 use Rattle.pair_protocol.specs.Node.{Joining, Node, halts, is_role}
 use Rattle.pair_protocol.specs.Refusals.{fault_if, first_of, get_refusal}
@@ -148,6 +149,19 @@ put_stays state copied M records old m write (Err fault) ms disk some brings (wh
     ]) same kept untouched
 
 -- what is read is a sector of the disk too
+pub read_stays : {B H D : Type 0} (records : D → List Record) (old : Running B H D) (address : SectorAddress)
+    (r : Result Reply Fault) (ms : List Message) (disk : D) → (k : Record) × IsAt (records old.disk) address k
+    → GetsSector old.messages (records old.disk) address r ms (records disk)
+    → IfErr r (λ fault. fault ≡ OutOfMemory → disk ≡ old.disk)
+    → IfErr r (λ fault. Except DeviceFault fault (DiskFails records old (record old { messages = ms; disk = disk }))
+    (record old { messages = ms; disk = disk } ≡ old))
+read_stays records old address (Ok reply) ms disk met row untouched = tt
+read_stays records old address (Err fault) ms disk met (why, same, kept) untouched =
+    disk_leaves records old ms disk fault (elim why [
+      | inl is ↦ inl is
+      | inr is ↦ inr (not_put (records old.disk) address met.0 fault met.1 is)
+    ]) same kept untouched
+
 pub get_stays : {B H D S : Type 0} (state : B → S) (copied : B → Guest) (M : Machine S) (records : D → List Record) (old : Running B H D)
     (n sector : ℕ) (address : SectorAddress) (r : Result Reply Fault) (ms : List Message) (disk : D)
     → (some : ShowsSome state copied M records old) → sector < SECTORS
@@ -155,11 +169,7 @@ pub get_stays : {B H D S : Type 0} (state : B → S) (copied : B → Guest) (M :
     → GetsSector old.messages (records old.disk) address r ms (records disk)
     → IfErr r (λ fault. fault ≡ OutOfMemory → disk ≡ old.disk)
     → IfErr r (λ fault. Stays records (event.Get n sector) fault old (record old { messages = ms; disk = disk }))
-get_stays state copied M records old n sector address (Ok reply) ms disk some low at row untouched = tt
-get_stays state copied M records old n sector address (Err fault) ms disk some low at (why, same, kept) untouched =
+get_stays state copied M records old n sector address r ms disk some low at row untouched =
     let h = some.shows in
-    let met = h.parts.disk.there address (stands_at state copied M records old some.course n sector address h low at).there in
-    disk_leaves records old ms disk fault (elim why [
-      | inl is ↦ inl is
-      | inr is ↦ inr (not_put (records old.disk) address met.0 fault met.1 is)
-    ]) same kept untouched
+    read_stays records old address r ms disk (h.parts.disk.there address
+    (stands_at state copied M records old some.course n sector address h low at).there) row untouched

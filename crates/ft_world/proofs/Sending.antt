@@ -2,22 +2,24 @@
 -- its part says, or is what the node has.
 use Rattle.guest_board.specs.Guest.{Guest}
 use Rattle.std.proofs.Common.{◌≡◌, ◌+◌, [], ◌∷◌, ◌++◌, ◌∙◌, Err, List, None, Ok, ap, length, refl, subst, sym, ℕ}
-use Rattle.std.specs.Prelude.{Result}
+use Rattle.std.specs.Prelude.{Result, unwrap_or}
 use Rattle.std.specs.Global.{Vec}
 use Rattle.std.proofs.lemmas.List.{length-append}
 use Rattle.guest_board.specs.Machine.{Machine}
+use Rattle.guest_board.specs.declared.reads.Reads.{Reads}
+use Rattle.guest_board.specs.declared.reads.Reads.TheVariants.{Logged, Shared}
 use Rattle.i8080_words.specs.declared.refusal.Fault.{Fault}
 use Rattle.shared_disk.specs.declared.store.Record.{Record}
 use Rattle.log_channel.specs.declared.packet.Packet.TheVariants as packet
 use Rattle.log_channel.proofs.PacketLaws.{is_only}
 use Rattle.pair_protocol.specs.Event as protocol
-use Rattle.pair_protocol.specs.Node.{Node}
+use Rattle.pair_protocol.specs.Node.{Node, replay_told, told_by}
 use Rattle.pair_protocol.specs.Refusals.{acknowledge_refusal, refusal, send_refusal}
 use Rattle.pair_protocol.specs.Row.{Accepts, MayNeedMemory}
 use Rattle.pair_protocol.specs.Rows.{Does}
 use Rattle.pair_protocol.specs.World as sent
 use Rattle.pair_protocol.specs.World.{with_message}
-use Rattle.ft_node.specs.Calls.{Ever, IsSpelled, SendsEntry}
+use Rattle.ft_node.specs.Calls.{Ever, IsSpelled, SendsEntry, reported_by}
 use Rattle.ft_world.specs.Applies.{Applies, Shows, ShowsParts}
 use Rattle.ft_world.proofs.AtHosts.{AsksNode}
 use Rattle.ft_world.proofs.AtOneNode.{asks_refused, node_asked}
@@ -109,9 +111,13 @@ sends_applies state copied M records old c n index bytes answer ms h a said =
 
 -- A backup acknowledges all that it holds.
 
--- the packet spells what it holds
+-- the packet spells what it holds, and how much of that is replayed if its log leaves sectors to the shared disk
 abbrev pub SpellsHeld : {S : Type 0} → Vec ℕ → Node S → Type 0
-SpellsHeld bytes x = IsSpelled (packet.Ack x.generation (length x.held)) bytes
+SpellsHeld bytes x = IsSpelled (packet.Ack x.generation (length x.held) (reported_by x.reads x.replayed)) bytes
+
+told_reported : (reads : Reads) (replayed : ℕ) → told_by reads replayed ≡ unwrap_or (reported_by reads replayed) 0
+told_reported Logged replayed = refl
+told_reported Shared replayed = refl
 
 pub acknowledges_refused : {B H D S : Type 0} (state : B → S) (copied : B → Guest) (M : Machine S) (records : D → List Record)
     (old : Running B H D) (c : Course S) (n : ℕ) (fault : Fault) → Shows state copied M records old c →
@@ -129,11 +135,16 @@ acknowledges_applies state copied M records old c n bytes answer ms h a said =
     let k = node_asked c.world n acknowledge_refusal bytes a in
     let x = k.1.x in
     says_applies state copied M records old c (event.Acknowledge n) (message.Ack bytes)
-    (sent.Acknowledgement x.generation (length x.held) 0) answer ms h
-    (is_only bytes.items (packet.Ack x.generation (length x.held)) k.1.said.0 k.1.said.1, refl) k.0 tt
+    (sent.Acknowledgement x.generation (length x.held) (replay_told x)) answer ms h
+    (let reports = reported_by x.reads x.replayed in (
+      reports,
+      is_only bytes.items (packet.Ack x.generation (length x.held) reports) k.1.said.0 k.1.said.1,
+      told_reported x.reads x.replayed,
+    ))
+    k.0 tt
     (record {
       held = length x.held;
-      replayed = 0;
+      replayed = replay_told x;
       node = record { x = x; there = k.1.there; said = (refl, refl) };
       says = record { reply = refl; after = refl };
     }) said

@@ -5,7 +5,7 @@ use Rattle.std.specs.List.{insert, remove}
 use Rattle.std.specs.Option.{option_map}
 use Rattle.std.specs.Prelude.{length, map, slice_get, slice_set}
 use Rattle.i8080_words.specs.declared.refusal.Fault.{Fault}
-use Rattle.i8080_words.specs.declared.refusal.Fault.TheVariants.{Unknown}
+use Rattle.i8080_words.specs.declared.refusal.Fault.TheVariants.{Unknown, WrongRole}
 use Rattle.disk_dcdd.specs.Completion.{answered}
 use Rattle.guest_board.specs.Machine.{Machine}
 use Rattle.ft_world.specs.Lending.{IsSpare, WithStation}
@@ -77,6 +77,21 @@ check_refused (Some k) fault e = let same : k ≡ fault = (cc) in ap Some same
 pub check_passed : (o : Option Fault) (done : Unit {0}) → Ok done ≡ answered o → o ≡ None
 check_passed None done e = refl
 check_passed (Some k) done e = absurd (cc)
+
+-- what the hosts tell: there is no such host, the host has a role, or it is spare
+module _ {B H : Type 0} (there here : Option (Host B H)) where
+  pub check_absent : there ≡ None → ◌≡◌ {A = Result (Unit {0}) Fault} (Err Unknown) (answered (host_refusal there here))
+  check_absent none = ap (λ o. answered (host_refusal o here)) (sym none)
+
+  pub check_role : (station node : Station B H) → there ≡ Some (host.Node station) → here ≡ Some (host.Node node)
+      → ◌≡◌ {A = Result (Unit {0}) Fault} (Err WrongRole) (answered (host_refusal there here))
+  check_role station node is at = ap (λ o. answered (host_refusal (Some (host.Node station)) o)) (sym at)
+      ∙ ap (λ o. answered (host_refusal o here)) (sym is)
+
+  pub check_spare : (resources : H) (node : Station B H) → there ≡ Some (host.Spare resources)
+      → here ≡ Some (host.Node node) → ◌≡◌ {A = Result (Unit {0}) Fault} (Ok tt) (answered (host_refusal there here))
+  check_spare resources node is at = ap (λ o. answered (host_refusal (Some (host.Spare resources)) o)) (sym at)
+      ∙ ap (λ o. answered (host_refusal o here)) (sym is)
 
 -- nothing refuses it: the host is spare, and the node is one
 pub record Pairs {B H : Type 0} (a here : Option (Host B H)) : Type 0 where
@@ -181,3 +196,5 @@ module _ {B H : Type 0} where
   after_event (event.SendPart n index) answer old new h = same_left old new h
   after_event (event.PartComes m n) answer old new h = same_left old new h
   after_event (event.Freshen n pages) answer old new h = same_left old new h
+  after_event (event.Fetch n) answer old new h = same_left old new h
+  after_event (event.Fetched m n) answer old new h = same_left old new h

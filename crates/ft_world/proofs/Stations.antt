@@ -1,12 +1,15 @@
 -- A station's node moves, and its inputs and its count follow.
 use Rattle.pair_protocol.specs.Copying.{Copying}
-use Rattle.std.proofs.Common.{◌≡◌, ◌∙◌, ℕ, Bool, List, Err, None, Ok, Option, Result, Some, ap, false, refl, subst, sym, true}
-use Rattle.std.specs.Prelude.{if◌then◌else◌, ◌<◌}
+use Rattle.std.proofs.Common.{◌≡◌, ◌∙◌, ℕ, List, Err, None, Ok, Option, Result, Some, ap, refl, subst, sym}
+use Rattle.std.specs.Prelude.{unwrap_or, ◌<◌}
 use Rattle.std.specs.Result.{IsErrAnd}
 use Rattle.arbiter_core.specs.Winners.{winner_of}
 use Rattle.arbiter_core.specs.declared.arbiter.Asking.{Asking}
 use Rattle.arbiter_core.specs.declared.arbiter.Won.{Won}
+use Rattle.disk_dcdd.specs.declared.address.SectorAddress.{SectorAddress}
 use Rattle.guest_board.specs.Machine.{Machine}
+use Rattle.guest_board.specs.declared.replay_end.ReplayEnd.{ReplayEnd}
+use Rattle.guest_board.specs.declared.replay_end.ReplayEnd.TheVariants.{Turns, End, Wait, Memory}
 use Rattle.i8080_words.specs.declared.refusal.Fault.{Fault}
 use Rattle.log_channel.specs.declared.packet.Packet.{Packet}
 use Rattle.log_channel.specs.declared.packet.Packet.TheVariants.{Log, Ack}
@@ -14,7 +17,7 @@ use Rattle.replayer.specs.declared.replayer.Replayed.{Replayed}
 use Rattle.pair_protocol.specs.Change.{Serving}
 use Rattle.pair_protocol.specs.Node.{Node, Role, Primary, Backup, Joining, Draining, Alone, Spare, halts, wins, won_role}
 use Rattle.pair_protocol.specs.Refusals as refusals
-use Rattle.pair_protocol.specs.Effects.{Halted, Heard, NeedsMoves, after_drain}
+use Rattle.pair_protocol.specs.Effects.{Fetched, Halted, Heard, NeedsMoves, after_drain}
 use Rattle.pair_protocol.specs.Settled.{list_of, count_in}
 use Rattle.pair_protocol.proofs.RowActions.{step-serves}
 use Rattle.ft_node.specs.Calls as calls
@@ -23,10 +26,10 @@ use Rattle.ft_node.specs.declared.ran.Drained.{Drained}
 use Rattle.ft_node.specs.declared.ran.Ran.{Ran}
 use Rattle.ft_node.specs.Roles.{count_of}
 use Rattle.ft_node.specs.Seats.{IsNode}
-use Rattle.ft_world.specs.Shows.{IsStation}
+use Rattle.ft_world.specs.Shows.{IsStation, drained_count}
 use Rattle.ft_world.specs.declared.station.Station.{Station}
 use Rattle.ft_world.proofs.Answering.{Retells, asked, given, handed_on, retold, unless}
-use Rattle.ft_world.proofs.Keeping.{Kept, kept_here, advances_keep, replays_keep, heard_kept, halted_kept, same_list, same_count, serving_role, machine_count, acting_role, held_count, held_inputs}
+use Rattle.ft_world.proofs.Keeping.{Kept, kept_here, advances_keep, replays_keep, fetched_kept, heard_kept, halted_kept, same_list, same_count, serving_role, machine_count, acting_role, held_count, held_inputs}
 
 -- its node only moved, and this is the count by which it settles now
 pub moves_on : {B H S : Type 0} (state : B → S) (M : Machine S) (C : Copying S) (drives : ℕ) (h : Station B H) (node : code.Node B H) (count : ℕ)
@@ -96,34 +99,53 @@ replays_on state M C drives turns h node r x i d =
     let role = acting_role x Backup none in
     (k, ap (count_in M y) role ∙ held_count x y k ∙ ap (count_in M x) (sym role))))) d
 
+-- ---- the bytes of a sector come
+
+pub fetches_on : {B H S : Type 0} (state : B → S) (M : Machine S) (C : Copying S) (drives : ℕ) (h : Station B H) (node : code.Node B H)
+    (address : SectorAddress) (number : ℕ) (bytes : List ℕ) (r : Result (Unit {0}) Fault) (x : Node S)
+    → IsStation state M C drives h x → calls.Fetches M address number bytes x r (IsNode state M C drives node)
+    → calls.Fetches M address number bytes x r (IsStation state M C drives (record h { node = node }))
+fetches_on {S = S} state M C drives h node address number bytes r x i d = retold r
+    (retells state M C drives h node x (refusals.fetched_refusal M address number x) calls.Never (λ done. Fetched bytes) i
+    (λ v y free s. (let k = fetched_kept x y bytes s in
+    (k, same_count M x y x.role k (ap (λ (z : Node S). z.machine) s))))) d
+
 -- ---- moves of a draining node
 
+drains_still : {B H S : Type 0} (state : B → S) (M : Machine S) (C : Copying S) (drives : ℕ) (h : Station B H) (node : code.Node B H) (count : ℕ)
+    (x y : Node S) → IsStation state M C drives h x → x.role ≡ Draining → Kept x y
+    → IsNode state M C drives node y → count ≡ h.count → IsStation state M C drives (record h { node = node; count = count }) y
+drains_still state M C drives h node count x y is role k now e =
+    moves_on state M C drives h node count x y is k now
+    (e ∙ is.count ∙ ap (count_in M x) role ∙ sym (held_count x y k) ∙ sym (ap (count_in M y) (k.role ∙ role)))
+
 drained_station : {B H S : Type 0} (state : B → S) (M : Machine S) (C : Copying S) (drives : ℕ) (h : Station B H) (node : code.Node B H) (count : ℕ)
-    (x y : Node S) (b : Bool) → IsStation state M C drives h x → x.role ≡ Draining → Kept x y
-    → IsNode state M C drives node (after_drain y b) → count ≡ (if b then count_of M (after_drain y b) (after_drain y b).role else h.count)
-    → IsStation state M C drives (record h { node = node; count = count }) (after_drain y b)
-drained_station state M C drives h node count x y true is role k now e = record {
+    (x y : Node S) (why : ReplayEnd) → IsStation state M C drives h x → x.role ≡ Draining → Kept x y
+    → IsNode state M C drives node (after_drain y why)
+    → count ≡ drained_count why h.count (count_of M (after_drain y why) (after_drain y why).role)
+    → IsStation state M C drives (record h { node = node; count = count }) (after_drain y why)
+drained_station state M C drives h node count x y End is role k now e = record {
   node = now;
   inputs = is.inputs ∙ ap (list_of x) role ∙ sym (held_inputs x y k);
   count = e;
   a_node = λ s. (cc);
 }
-drained_station state M C drives h node count x y false is role k now e =
-    moves_on state M C drives h node count x y is k now
-    (e ∙ is.count ∙ ap (count_in M x) role ∙ sym (held_count x y k) ∙ sym (ap (count_in M y) (k.role ∙ role)))
+drained_station state M C drives h node count x y Turns is role k now e = drains_still state M C drives h node count x y is role k now e
+drained_station state M C drives h node count x y Wait is role k now e = drains_still state M C drives h node count x y is role k now e
+drained_station state M C drives h node count x y Memory is role k now e = drains_still state M C drives h node count x y is role k now e
 
 pub drains_on : {B H S : Type 0} (state : B → S) (M : Machine S) (C : Copying S) (drives : ℕ) (turns : ℕ) (h : Station B H) (node : code.Node B H)
     (d : Drained) (count : ℕ) (x : Node S) → IsStation state M C drives h x
     → calls.Drains M turns x (Ok d) (IsNode state M C drives node)
-    → ((y : Node S) → IsNode state M C drives node y → count ≡ (if d.alone then count_of M y y.role else h.count))
+    → ((y : Node S) → IsNode state M C drives node y → count ≡ drained_count d.why h.count (count_of M y y.role))
     → calls.Drains M turns x (Ok d) (IsStation state M C drives (record h { node = node; count = count }))
 drains_on {B} {S} state M C drives turns h node d count x is r counted =
     given (refusals.drain_refusal x) (NeedsMoves M turns) (NeedsMoves M turns) (calls.DrainedBy M turns) x
     (IsNode state M C drives node) After d (λ y none s now. (let e = s.after in
     subst (λ z. After z) (sym e)
-    (drained_station state M C drives h node count x s.z d.alone is (acting_role x Draining none)
+    (drained_station state M C drives h node count x s.z d.why is (acting_role x Draining none)
     (replays_keep M s.replayed.moves) (subst (λ z. IsNode state M C drives node z) e now)
-    (counted (after_drain s.z d.alone) (subst (λ z. IsNode state M C drives node z) e now))))) r
+    (counted (after_drain s.z d.why) (subst (λ z. IsNode state M C drives node z) e now))))) r
   where
     After : Node S → Type 0
     After y = IsStation state M C drives (record h { node = node; count = count }) y
@@ -143,9 +165,9 @@ hears_on {B} {S} state M C drives p h node r x i d = go p d
         → calls.DeliversAcknowledgement p x r (IsStation state M C drives (record h { node = node }))
     go None d = none _ d
     go (Some (Log generation index e)) d = none _ d
-    go (Some (Ack generation held)) d = retold r (retells state M C drives h node x
-        (refusals.deliver_acknowledgement_refusal generation held x) calls.Never (Heard held 0) i (λ v y free s.
-        (let k = heard_kept x y held 0 v s in (k, same_count M x y x.role k (ap (λ (z : Node S). z.machine) s.1))))) d
+    go (Some (Ack generation held reports)) d = retold r (retells state M C drives h node x
+        (refusals.deliver_acknowledgement_refusal generation held x) calls.Never (Heard held (unwrap_or reports 0)) i (λ v y free s.
+        (let k = heard_kept x y held (unwrap_or reports 0) v s in (k, same_count M x y x.role k (ap (λ (z : Node S). z.machine) s.1))))) d
 
 pub stops_on : {B H S : Type 0} (state : B → S) (M : Machine S) (C : Copying S) (drives : ℕ) (h : Station B H) (node : code.Node B H)
     (r : Result (Unit {0}) Fault) (x : Node S) → IsStation state M C drives h x → calls.Stops x r (IsNode state M C drives node)

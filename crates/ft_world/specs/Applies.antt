@@ -70,10 +70,11 @@ Happens {S = S} state copied M records old e answer new =
 abbrev pub IsFaithful : {S : Type 0} → Machine S → Course S → Type 0
 IsFaithful M c = Faithful (machine_of M c) c.world
 
--- how many device failures an event's answer tells of; only a put and a get reach the device
+-- how many device failures an event's answer tells of; only a put, a get and a fetch reach the device
 abbrev pub failures_told : Event → Result Reply Fault → ℕ
 failures_told (event.Put message) answer = faults_in answer
 failures_told (event.Get node sector) answer = faults_in answer
+failures_told (event.Fetch node) answer = faults_in answer
 failures_told _ answer = 0
 
 -- the sum of these over the answers to a list of events

@@ -4,31 +4,32 @@ use Rattle.std.specs.Prelude.{◌≡◌, ℕ, List, []}
 use Rattle.std.specs.Option.{option_map_or}
 use Rattle.disk_dcdd.specs.declared.address.SectorAddress.{SectorAddress}
 use Rattle.clone_state.specs.Copies.{CopiesAs}
-use Rattle.guest_board.specs.Machine.{Machine}
+use Rattle.guest_board.specs.Machine.{Machine, booted_from}
+use Rattle.guest_board.specs.declared.reads.Reads.{Reads}
 use Rattle.pair_protocol.specs.Copying.{Copying}
 use Rattle.pair_protocol.specs.World.{opening}
 use Rattle.shared_disk.specs.Records.{HasDrives, IsUnwritten, record_at}
 use Rattle.shared_disk.specs.declared.store.Record.{Record}
-use Rattle.ft_world.specs.Standing.{Course, IsMachine, machine_of}
+use Rattle.ft_world.specs.Standing.{Course, IsMachine}
 
 -- the bytes of each sector of a disk
 abbrev pub bytes_in : List Record → SectorAddress → List ℕ
 bytes_in records address = option_map_or (λ (r : Record). r.bytes) (record_at records address) []
 
--- the world that a pair begins with, if its machine is in the state s and is copied so
-abbrev pub beginning : {S : Type 0} → Machine S → Copying S → S → List Record → Course S
-beginning M C s records = record {
+-- the world that a pair begins with, if its machine is in the state s and is copied so, and its log carries sectors so
+abbrev pub beginning : {S : Type 0} → Machine S → Copying S → Reads → S → List Record → Course S
+beginning M C reads s records = record {
   boot = s;
   sectors = bytes_in records;
   copying = C;
-  world = opening (record M { boot = s; boot_sector = bytes_in records });
+  world = opening (booted_from M s (bytes_in records)) reads;
 }
 
 -- a pair may begin with these guests and this disk, and its machine may be copied so
 pub record MayBegin {B D S : Type 0} (state : B → S) (copied : B → Guest) (M : Machine S) (C : Copying S)
     (records : D → List Record) (primary backup : B) (store : D) : Type 0 where
   pub drives : ℕ
-  pub machine : IsMachine (machine_of M (beginning M C (state primary) (records store))) C drives
+  pub machine : IsMachine (booted_from M (state primary) (bytes_in (records store))) C drives
   pub copies_as : CopiesAs state copied drives C.parts C.part_count C.assemble
   pub alike : state backup ≡ state primary
   pub there : HasDrives (records store) drives

@@ -16,11 +16,12 @@ use Rattle.ft_world.specs.declared.station.Station.{Station}
 use Rattle.ft_world.specs.Shows.{IsStation}
 
 -- a node is the primary of the next generation; the host that joins it is given the inputs and the count of the machine,
--- for a machine of this many drives
+-- for a machine of this many drives, and how the log carries sectors
 pub record Opens {S : Type 0} (M : Machine S) (drives : ℕ) (opening : Opening) (inputs : List Timed) (count : ℕ)
     (x y : Node S) : Type 0 where
   pub generation : opening.generation ≡ suc x.generation
   pub drives_are : opening.assembly.drives ≡ drives
+  pub reads_are : opening.reads ≡ x.reads
   pub same_inputs : opening.inputs ≡ inputs
   pub same_count : opening.count ≡ count
   pub after : y ≡ begun M x
@@ -38,7 +39,7 @@ host_refusal (Some (host.Spare resources)) (Some (host.Node station)) = None
 abbrev pub IsJoined : {B H S : Type 0} → (B → S) → Machine S → Opening → Station B H → Type 0
 IsJoined {B} {H} {S} state M opening station =
     (C : Copying S) (drives : ℕ) (x : Node S) → C.part_count ≡ part_count drives → opening.assembly.drives ≡ drives
-    → Joins C opening.generation opening.count x → list_of x Joining ≡ opening.inputs
+    → Joins C opening.generation opening.count opening.reads x → list_of x Joining ≡ opening.inputs
     → IsStation state M C drives station x
 
 abbrev pub HasJoined : {B H S : Type 0} → (B → S) → Machine S → Opening → Host B H → Type 0

@@ -6,6 +6,8 @@ use Rattle.disk_dcdd.specs.declared.address.SectorAddress.{SectorAddress}
 use Rattle.disk_dcdd.specs.declared.sector.SectorWrite.{SectorWrite}
 use Rattle.event_callbacks.specs.declared.devices.TheConstants.{PORTS}
 use Rattle.guest_board.specs.Machine.{Machine}
+use Rattle.guest_board.specs.declared.replay_end.ReplayEnd.{ReplayEnd}
+use Rattle.guest_board.specs.declared.replay_end.ReplayEnd.TheVariants.{Turns, End, Wait, Memory}
 use Rattle.disk_dcdd.specs.Address.{has_sector}
 use Rattle.shared_disk.specs.Records.{IsAt}
 use Rattle.shared_disk.specs.declared.store.Record.{Record}
@@ -30,6 +32,13 @@ pub record IsStation {B H S : Type 0} (state : B → S) (M : Machine S) (C : Cop
   pub inputs : h.inputs ≡ list_of x x.role
   pub count : h.count ≡ count_in M x x.role
   pub a_node : x.role ≡ Spare → ⊥
+
+-- the count by which a node settles after a drain: its machine's if nothing is left, and the same as before if not
+abbrev pub drained_count : ReplayEnd → ℕ → ℕ → ℕ
+drained_count Turns before alone = before
+drained_count End before alone = alone
+drained_count Wait before alone = before
+drained_count Memory before alone = before
 
 -- a host: a node, or one that has no role yet
 abbrev pub IsHost : {B H S : Type 0} → (B → S) → Machine S → Copying S → ℕ → Host B H → Node S → Type 0

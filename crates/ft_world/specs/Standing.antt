@@ -1,5 +1,5 @@
 -- What a world knows about the machine that its nodes run.
-use Rattle.std.specs.Prelude.{ℕ, ◌≤◌, List}
+use Rattle.std.specs.Prelude.{◌≡◌, ℕ, ◌≤◌, true, Some, List}
 use Rattle.disk_dcdd.specs.declared.address.SectorAddress.{SectorAddress}
 use Rattle.disk_dcdd.specs.declared.controller.TheConstants.{DRIVES}
 use Rattle.guest_board.specs.Machine.{Machine}
@@ -20,11 +20,17 @@ pub record Course (S : Type 0) : Type 0 where
 abbrev pub machine_of : {S : Type 0} → Machine S → Course S → Machine S
 machine_of M c = record M { boot = c.boot; boot_sector = c.sectors }
 
+-- a sector is only ready at the selected drive
+abbrev pub ReadyIsSelected : {S : Type 0} → Machine S → Type 0
+ReadyIsSelected {S} M =
+    (s : S) (drive sector : ℕ) → M.ready s (M.address s drive sector) ≡ true → M.selected s ≡ Some drive
+
 -- what a pair asks of the machine that it runs, and of its copies
 pub record IsMachine {S : Type 0} (M : Machine S) (C : Copying S) (drives : ℕ) : Type 0 where
   pub lawful : Lawful M
   pub operations : ComesAndGoes M
   pub drives_within : drives ≤ DRIVES
   pub on_disk : StaysOnDisk M drives
+  pub ready : ReadyIsSelected M
   pub copies : IsCopying M C
   pub makes : Makes M C

@@ -57,4 +57,5 @@ abbrev pub Stays : {B H D : Type 0} → (D → List Record) → Event → Fault 
 Stays records (event.Suspect n) fault old new = Except Lost fault (NodeHalts n old new) (new ≡ old)
 Stays records (event.Put m) fault old new = Except DeviceFault fault (DiskFails records old new) (new ≡ old)
 Stays records (event.Get n sector) fault old new = Except DeviceFault fault (DiskFails records old new) (new ≡ old)
+Stays records (event.Fetch n) fault old new = Except DeviceFault fault (DiskFails records old new) (new ≡ old)
 Stays records _ fault old new = new ≡ old

@@ -1,5 +1,5 @@
 -- Events, replies and messages in the protocol's words.
-use Rattle.std.specs.Prelude.{◌≡◌, ◌<◌, ◌^◌, Some, Result, Ok, Err}
+use Rattle.std.specs.Prelude.{◌≡◌, ℕ, ◌<◌, ◌^◌, Option, Some, unwrap_or, Result, Ok, Err}
 use Rattle.clone_state.specs.Image.{part_bytes}
 use Rattle.disk_dcdd.specs.declared.address.SectorAddress.{SectorAddress}
 use Rattle.disk_dcdd.specs.declared.controller.TheConstants.{DRIVES}
@@ -43,6 +43,8 @@ event_of (event.BeginPair n host) = protocol.BeginPair n host
 event_of (event.SendPart n index) = protocol.SendPart n index
 event_of (event.PartComes m n) = protocol.PartComes m n
 event_of (event.Freshen n pages) = protocol.Freshen n pages
+event_of (event.Fetch n) = protocol.Fetch n
+event_of (event.Fetched m n) = protocol.Fetched m n
 
 -- the reply of the protocol that an answer stands for
 abbrev pub reply_of : Reply → protocol.Reply
@@ -53,7 +55,7 @@ reply_of (reply.Message m) = protocol.MessageIs m
 reply_of reply.New = protocol.New
 reply_of reply.Old = protocol.Old
 reply_of (reply.Held held) = protocol.HeldIs held
-reply_of (reply.Moved moves at_end) = protocol.Moved moves at_end
+reply_of (reply.Moved moves why) = protocol.Moved moves why
 reply_of (reply.MovedAlone moves) = protocol.MovedAlone moves
 reply_of reply.Accepted = protocol.Accepted
 reply_of reply.Dropped = protocol.Dropped
@@ -72,13 +74,14 @@ answer_of (Err fault) = protocol.Refused fault
 abbrev pub read_address : SectorRead → SectorAddress
 read_address r = record { drive = r.drive; track = r.track; sector = r.sector }
 
--- a message is this one of the protocol: packets by their spelling, which reports nothing as replayed, and parts of
--- images by theirs, in a generation from 1 that a message has room for
+-- a message is this one of the protocol: packets by their spelling, of which an acknowledgement that doesn't say so
+-- reports nothing as replayed, and parts of images by theirs, in a generation from 1 that a message has room for
 abbrev pub IsMessage : Message → sent.Message → Type 0
 IsMessage (message.Log bytes) (sent.LogEntry generation index e) =
     packet_at bytes.items ≡ Some (packet.Log generation index e)
 IsMessage (message.Ack bytes) (sent.Acknowledgement generation held replayed) =
-    (packet_at bytes.items ≡ Some (packet.Ack generation held)) × (replayed ≡ 0)
+    (reports : Option ℕ) × (packet_at bytes.items ≡ Some (packet.Ack generation held reports))
+    × (replayed ≡ unwrap_or reports 0)
 IsMessage (message.Part bytes) (sent.ImagePart generation index part) =
     (bytes.items ≡ part_bytes generation index part) × (0 < generation) × (generation < 2 ^ 32)
 IsMessage (message.Byte port number byte) (sent.Released o) = o ≡ operation.Byte port number byte

@@ -24,8 +24,9 @@ impl<T: Completes + Drop, S: Completes + Drop, W: Completes + Drop, D: SectorSto
     D,
     Callbacks<T, S, W>,
 > {
-    /// A pair of Altairs of this setup begins, over a disk that has the setup's drives and is unwritten. An Altair is
-    /// copied by its image. `OutOfMemory` hands the disk's store and the closures back.
+    /// A pair of Altairs of this setup begins, over a disk that has the setup's drives and is unwritten. Its log carries
+    /// sectors as the setup says, and an Altair is copied by its image. `OutOfMemory` hands the disk's store and the
+    /// closures back.
     pub fn boot(
         alloc: Global,
         setup: &Setup,
@@ -37,9 +38,9 @@ impl<T: Completes + Drop, S: Completes + Drop, W: Completes + Drop, D: SectorSto
         requires unwritten { IsUnwritten (D.records store) }
         requires whole { HasWholeSectors (D.records store) }
         ensures ok { IfOk result (λ world. Shows (λ d. d.board.guest) (λ d. d.board.guest) some_altair D.records world
-            (beginning some_altair (image_copy setup.now.drives) (guest_at_boot setup.now) (D.records store))) }
+            (beginning some_altair (image_copy setup.now.drives) setup.now.reads (guest_at_boot setup.now) (D.records store))) }
         ensures faithful { OnOk result (IsFaithful some_altair
-            (beginning some_altair (image_copy setup.now.drives) (guest_at_boot setup.now) (D.records store))) }
+            (beginning some_altair (image_copy setup.now.drives) setup.now.reads (guest_at_boot setup.now) (D.records store))) }
         ensures full { IfErr result (λ refused. refused ≡ (store, primary, backup, OutOfMemory)) }
     {
         altairs_are_lawful();
@@ -56,7 +57,7 @@ impl<T: Completes + Drop, S: Completes + Drop, W: Completes + Drop, D: SectorSto
         };
         let primary = DraftedBoard::of(Board::boot_in(alloc, first, setup, primary));
         let backup = DraftedBoard::of(Board::boot_in(alloc, second, setup, backup));
-        Ok(World::begin_in(alloc, room, primary, backup, store))
+        Ok(World::begin_in(alloc, room, setup.reads, primary, backup, store))
     }
 }
 

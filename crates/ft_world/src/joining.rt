@@ -29,7 +29,11 @@ impl<B: Copies<H> + Drop, H: Drop> Station<B, H> {
             (IsStation B.state B.machine C drives self.new) }
         ensures unchanged { OnErr result (self.new ≡ self.old) }
     {
-        let NextGeneration { generation, drives } = self.node.next_generation()?;
+        let NextGeneration {
+            generation,
+            drives,
+            reads,
+        } = self.node.next_generation()?;
         let assembly = Assembly::new(alloc, generation, drives)?;
         let inputs = self.inputs.copy(alloc)?;
         self.node.begin(alloc)?;
@@ -38,6 +42,7 @@ impl<B: Copies<H> + Drop, H: Drop> Station<B, H> {
             assembly,
             inputs,
             count: self.count,
+            reads,
         })
     }
 
@@ -50,9 +55,10 @@ impl<B: Copies<H> + Drop, H: Drop> Station<B, H> {
             assembly,
             inputs,
             count,
+            reads,
         } = opening;
         Station {
-            node: Node::joining(assembly, resources, generation, count),
+            node: Node::joining(assembly, resources, generation, count, reads),
             inputs,
             count,
         }

@@ -5,6 +5,8 @@ mod altair;
 mod copy_events;
 mod device_events;
 mod devices;
+mod fetch_events;
+mod fetching;
 mod freshening;
 mod host;
 mod hosts;

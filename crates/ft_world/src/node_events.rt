@@ -3,12 +3,16 @@ ghost use Rattle.std.specs.Prelude.{◌≡◌, IfErr, OnErr};
 ghost use Rattle.ft_world.specs.Applies.{Happens, ShowsSome};
 ghost use Rattle.ft_world.specs.Pairs.{running_of};
 ghost use Rattle.ft_world.specs.Staying.{SpareHostsStay, Stays};
+ghost use Rattle.ft_world.specs.Words.{reply_of};
+ghost use Rattle.pair_protocol.specs.Rows.{drain_reply};
 ghost use Rattle.pair_events.specs.declared.event.Event.TheVariants as happens;
 
 use crate::message::Message;
 use crate::pair::Pair;
 use crate::{devices, hosts, messages};
 use clone_state::Copies;
+use ft_node::Drained;
+use guest_board::ReplayEnd;
 use i8080_words::{Fault, R};
 use pair_events::Reply;
 use shared_disk::SectorStore;
@@ -122,7 +126,7 @@ impl<B: Copies<H> + Drop, D: SectorStore, H: Drop> Pair<B, D, H> {
         let replayed = station.replay(turns)?;
         Ok(Reply::Moved {
             moves: replayed.moves,
-            at_end: replayed.at_end,
+            why: replayed.why,
         })
     }
 
@@ -152,15 +156,7 @@ impl<B: Copies<H> + Drop, D: SectorStore, H: Drop> Pair<B, D, H> {
     {
         let station = hosts::station_mut(&mut self.hosts, node)?;
         let drained = station.drain(turns)?;
-        let moves = drained.moves;
-        if drained.alone {
-            Ok(Reply::MovedAlone { moves })
-        } else {
-            Ok(Reply::Moved {
-                moves,
-                at_end: false,
-            })
-        }
+        Ok(reply_to(drained))
     }
 
     /// A node halts.
@@ -174,5 +170,16 @@ impl<B: Copies<H> + Drop, D: SectorStore, H: Drop> Pair<B, D, H> {
         let station = hosts::station_mut(&mut self.hosts, node)?;
         station.stop()?;
         Ok(Reply::Stopped)
+    }
+}
+
+// The reply to a drain: with nothing left the node is alone.
+fn reply_to(drained: Drained) -> Reply
+    ensures { reply_of result ≡ drain_reply drained.moves drained.why }
+{
+    let Drained { moves, why } = drained;
+    match why {
+        ReplayEnd::End => Reply::MovedAlone { moves },
+        ReplayEnd::Turns | ReplayEnd::Wait | ReplayEnd::Memory => Reply::Moved { moves, why },
     }
 }

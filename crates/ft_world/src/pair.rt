@@ -18,6 +18,7 @@ use crate::room::Room;
 use arbiter_core::Arbiter;
 use clone_state::Copies;
 use event_callbacks::PORTS;
+use guest_board::Reads;
 use i8080_words::{Fault, R};
 use pair_events::{Event, Reply};
 use shared_disk::{SectorStore, SharedDisk};
@@ -38,10 +39,11 @@ pub(crate) struct Pair<B: Copies<H> + Drop, D: SectorStore, H: Drop> {
 }
 
 impl<B: Copies<H> + Drop, D: SectorStore, H: Drop> Pair<B, D, H> {
-    /// A pair with these guests and this disk. It allocates no further memory.
+    /// A pair with these guests and this disk, whose log carries sectors so. It allocates no further memory.
     pub(crate) fn begin(
         alloc: Global,
         room: Room<B, H>,
+        reads: Reads,
         primary: B,
         backup: B,
         store: D,
@@ -49,10 +51,10 @@ impl<B: Copies<H> + Drop, D: SectorStore, H: Drop> Pair<B, D, H> {
         requires may { MayBeginSome B.state B.copied B.machine D.records primary backup store }
         ensures { (C : Copying B.State) → MayBegin B.state B.copied B.machine C D.records primary backup store
             → Shows B.state B.copied B.machine D.records (running_of result)
-            (beginning B.machine C (B.state primary) (D.records store)) }
+            (beginning B.machine C reads (B.state primary) (D.records store)) }
     {
         Pair {
-            hosts: room.begin(alloc, primary, backup),
+            hosts: room.begin(alloc, reads, primary, backup),
             messages: Vec::new(alloc),
             terminals: [Terminal::new(alloc), Terminal::new(alloc)],
             arbiter: Arbiter::new(alloc),
@@ -91,6 +93,8 @@ impl<B: Copies<H> + Drop, D: SectorStore, H: Drop> Pair<B, D, H> {
             Event::PutReply { message, node } => self.put_reply(message, node),
             Event::Get { node, sector } => self.get(node, sector),
             Event::GetReply { message, node } => self.get_reply(message, node),
+            Event::Fetch { node } => self.fetch(node),
+            Event::Fetched { message, node } => self.fetched(message, node),
             Event::Suspect { node } => self.suspect(node),
             Event::Drain { node, turns } => self.drain(node, turns),
             Event::Stop { node } => self.stop(node),

@@ -11,6 +11,7 @@ use crate::host::Host;
 use crate::station::Station;
 use clone_state::Copies;
 use ft_node::Node;
+use guest_board::Reads;
 use i8080_words::R;
 use log_buffer::LogBuffer;
 use std::alloc::Global;
@@ -35,15 +36,16 @@ impl<B: Copies<H> + Drop, H: Drop> Room<B, H> {
         Ok(Room { hosts, log })
     }
 
-    /// The primary and the backup of generation 1, with these guests. Allocates no further memory.
-    pub(crate) fn begin(self, alloc: Global, primary: B, backup: B) -> Vec<Host<B, H>>
+    /// The primary and the backup of generation 1, with these guests and a log that carries sectors so. Allocates no
+    /// further memory.
+    pub(crate) fn begin(self, alloc: Global, reads: Reads, primary: B, backup: B) -> Vec<Host<B, H>>
         ensures { (C : Copying B.State) (drives : ℕ) (c : Course B.State) → B.state primary ≡ c.boot → B.state backup ≡ c.boot
             → B.machine.count c.boot ≡ 0
-            → AreHosts B.state B.machine C drives result.items (opening (machine_of B.machine c)).nodes }
+            → AreHosts B.state B.machine C drives result.items (opening (machine_of B.machine c) reads).nodes }
     {
         let Room { mut hosts, log } = self;
-        hosts.push_reserved(Host::Node(Station::new(alloc, Node::primary(primary, log, 1))));
-        hosts.push_reserved(Host::Node(Station::new(alloc, Node::backup(alloc, backup, 1))));
+        hosts.push_reserved(Host::Node(Station::new(alloc, Node::primary(primary, log, 1, reads))));
+        hosts.push_reserved(Host::Node(Station::new(alloc, Node::backup(alloc, backup, 1, reads))));
         hosts
     }
 }

@@ -1,6 +1,6 @@
 //! A node with its list of inputs, and what an event does there.
 ghost use Rattle.pair_protocol.specs.Copying.{Copying};
-ghost use Rattle.std.specs.Prelude.{◌≡◌, ℕ, ◌≢◌, ◌<◌, [], None, if◌then◌else◌, IfErr, OnErr};
+ghost use Rattle.std.specs.Prelude.{◌≡◌, ℕ, ◌≢◌, ◌<◌, [], None, IfErr, OnErr};
 ghost use Rattle.disk_dcdd.specs.declared.controller.TheConstants.{DRIVES};
 ghost use Rattle.disk_dcdd.specs.declared.sector.TheConstants.{SECTORS};
 ghost use Rattle.event_callbacks.specs.declared.devices.TheConstants.{PORTS};
@@ -13,14 +13,14 @@ ghost use Rattle.pair_protocol.specs.Refusals as refusals;
 ghost use Rattle.ft_node.specs.Calls as calls;
 ghost use Rattle.ft_node.specs.Roles.{count_of};
 ghost use Rattle.ft_node.specs.Seats.{IsNode, MayAccept, MayReplay, MayRun};
-ghost use Rattle.ft_world.specs.Shows.{IsStation};
+ghost use Rattle.ft_world.specs.Shows.{IsStation, drained_count};
 
 use crate::input_list::Inputs;
 use arbiter_core::{Arbiter, Won};
 use clone_state::Copies;
 use disk_dcdd::{SECTOR_BYTES, SectorAddress};
 use ft_node::{Drained, Node, Ran};
-use guest_board::Input;
+use guest_board::{Input, ReplayEnd};
 use i8080_words::R;
 use replayer::Replayed;
 use std::alloc::Global;
@@ -51,11 +51,14 @@ impl<B: Copies<H> + Drop, H: Drop> Station<B, H> {
     }
 
     // The count by which a node settles after a drain: its machine's if it is alone now, and the same as before if not.
-    fn settled_count(&self, alone: bool) -> u64
+    fn settled_count(&self, why: ReplayEnd) -> u64
         ensures { (C : Copying B.State) (drives : ℕ) (x : protocol.Node B.State) → IsNode B.state B.machine C drives self.now.node x
-            → result ≡ (if alone then count_of B.machine x x.role else self.now.count) }
+            → result ≡ drained_count why self.now.count (count_of B.machine x x.role) }
     {
-        if alone { self.node.count() } else { self.count }
+        match why {
+            ReplayEnd::End => self.node.count(),
+            ReplayEnd::Turns | ReplayEnd::Wait | ReplayEnd::Memory => self.count,
+        }
     }
 
     /// The machine of a node makes at most `turns` steps, up to the first that gives an operation.
@@ -193,7 +196,7 @@ impl<B: Copies<H> + Drop, H: Drop> Station<B, H> {
         ensures unchanged { OnErr result (self.new ≡ self.old) }
     {
         let drained = self.node.drain(turns)?;
-        self.count = self.settled_count(drained.alone);
+        self.count = self.settled_count(drained.why);
         Ok(drained)
     }
 

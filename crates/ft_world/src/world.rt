@@ -6,6 +6,7 @@ use crate::pair::Pair;
 use crate::room::Room;
 use clone_state::Copies;
 use disk_dcdd::SectorAddress;
+use guest_board::Reads;
 use guest_trace::Timed;
 use i8080_words::{Fault, R};
 use pair_events::{Event, Reply};
@@ -50,37 +51,50 @@ impl<B: Copies<H> + Drop, D: SectorStore, H: Drop> World<B, D, H> {
     ghost use Rattle.ft_world.specs.Words.{IsMessage};
     ghost use Rattle.ft_world.specs.declared.host.Host.TheVariants as host;
 
-    /// A pair begins: nodes 0 and 1 are primary and backup of generation 1, and both guests are in the same state. It
-    /// shows that world for whatever copying its machine may have. `OutOfMemory` hands the guests and the disk's store
-    /// back.
-    pub fn begin(alloc: Global, primary: B, backup: B, store: D) -> Result<Self, (B, B, D, Fault)>
+    /// A pair begins: nodes 0 and 1 are primary and backup of generation 1, both guests are in the same state, and the
+    /// log carries sectors so. It shows that world for whatever copying its machine may have. `OutOfMemory` hands the
+    /// guests and the disk's store back.
+    pub fn begin(
+        alloc: Global,
+        reads: Reads,
+        primary: B,
+        backup: B,
+        store: D,
+    ) -> Result<Self, (B, B, D, Fault)>
         requires may { MayBeginSome B.state B.copied B.machine D.records primary backup store }
         ensures ok { IfOk result (λ world. (C : Copying B.State)
             → MayBegin B.state B.copied B.machine C D.records primary backup store
             → Shows B.state B.copied B.machine D.records world
-            (beginning B.machine C (B.state primary) (D.records store))) }
+            (beginning B.machine C reads (B.state primary) (D.records store))) }
         ensures faithful { OnOk result ((C : Copying B.State)
             → MayBegin B.state B.copied B.machine C D.records primary backup store
-            → IsFaithful B.machine (beginning B.machine C (B.state primary) (D.records store))) }
+            → IsFaithful B.machine (beginning B.machine C reads (B.state primary) (D.records store))) }
         ensures full { IfErr result (λ refused. refused ≡ (primary, backup, store, OutOfMemory)) }
     {
         let Ok(room) = Room::new(alloc) else {
             return Err((primary, backup, store, Fault::OutOfMemory));
         };
-        Ok(World::begin_in(alloc, room, primary, backup, store))
+        Ok(World::begin_in(alloc, room, reads, primary, backup, store))
     }
 
     // A pair begins, in memory that was allocated for it.
-    pub(crate) fn begin_in(alloc: Global, room: Room<B, H>, primary: B, backup: B, store: D) -> Self
+    pub(crate) fn begin_in(
+        alloc: Global,
+        room: Room<B, H>,
+        reads: Reads,
+        primary: B,
+        backup: B,
+        store: D,
+    ) -> Self
         requires may { MayBeginSome B.state B.copied B.machine D.records primary backup store }
         ensures shows { (C : Copying B.State) → MayBegin B.state B.copied B.machine C D.records primary backup store
             → Shows B.state B.copied B.machine D.records result
-            (beginning B.machine C (B.state primary) (D.records store)) }
+            (beginning B.machine C reads (B.state primary) (D.records store)) }
         ensures faithful { (C : Copying B.State) → MayBegin B.state B.copied B.machine C D.records primary backup store
-            → IsFaithful B.machine (beginning B.machine C (B.state primary) (D.records store)) }
+            → IsFaithful B.machine (beginning B.machine C reads (B.state primary) (D.records store)) }
     {
         World {
-            pair: Pair::begin(alloc, room, primary, backup, store),
+            pair: Pair::begin(alloc, room, reads, primary, backup, store),
         }
     }
 

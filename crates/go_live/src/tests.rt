@@ -5,7 +5,7 @@ ghost use Rattle.log_entry.specs.Spelling.{IsEntry};
 
 use crate::Draining;
 use echo_guest::Echo;
-use guest_board::Lockstep;
+use guest_board::{Lockstep, ReplayEnd};
 use i8080_words::{Fault, R};
 use log_channel::{Packet, Receiver, packets_spell_one_way};
 use log_entry::Entry;
@@ -42,8 +42,8 @@ fn hold(rt: &impl Abort, alloc: Global, receiver: &mut Receiver, generation: u32
     }
 }
 
-fn came(moves: u64, at_end: bool) -> R<Replayed> {
-    Ok(Replayed { moves, at_end })
+fn came(moves: u64, why: ReplayEnd) -> R<Replayed> {
+    Ok(Replayed { moves, why })
 }
 
 #[test]
@@ -58,7 +58,7 @@ fn a_guest_is_alone_after_its_last_entry(rt: HostRuntime) -> R<()> {
     hold(&rt, rt.alloc(), &mut receiver, 1, Entry::Mark { count: 2 });
     let replayer = Replayer::new(Echo::new(1));
     let mut draining = Draining::begin(replayer, receiver);
-    assert_eq!(rt; draining.drain(3), came(3, false));
+    assert_eq!(rt; draining.drain(3), came(3, ReplayEnd::Turns));
     assert_eq!(rt;
         (draining.board().count(), draining.receiver().held()),
         (2, 2)
@@ -67,7 +67,7 @@ fn a_guest_is_alone_after_its_last_entry(rt: HostRuntime) -> R<()> {
         panic!(rt; "alone while an entry is held");
     };
     assert_eq!(rt; fault, Fault::WrongRole);
-    assert_eq!(rt; draining.drain(9), came(1, true));
+    assert_eq!(rt; draining.drain(9), came(1, ReplayEnd::End));
     let Ok(board) = draining.finish() else {
         panic!(rt; "not alone after the last entry");
     };

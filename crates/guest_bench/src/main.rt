@@ -13,7 +13,7 @@ use anyhow::{Result, bail};
 use copies::Made;
 use event_callbacks::plain_completions;
 use flat_memory::FlatMemory;
-use guest_board::Setup;
+use guest_board::{Reads, Setup};
 use hex::FromHex;
 use i8080_core::Cpu;
 use i8080_words::Regs;
@@ -60,6 +60,7 @@ fn setup_of(bytes: Vec<u8>) -> Result<Setup> {
         drives: 1,
         levels: [7; 3],
         sense: 0,
+        reads: Reads::Logged,
     })
 }
 

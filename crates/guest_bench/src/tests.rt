@@ -8,7 +8,7 @@ ghost use Rattle.plain_single.specs.Reaching.{NeverFall};
 
 use disk_dcdd::{SECTOR_BYTES, SectorAddress, SectorWrite};
 use event_callbacks::{Callbacks, Completes, Operation, plain_completions};
-use guest_board::{Board, Input, Setup, StopReason};
+use guest_board::{Board, Input, Reads, Setup, StopReason};
 use guest_trace::{Bare, Timed};
 use i8080_words::{Fault, GREATEST_NUMBER, R};
 use plain_single::Single;
@@ -305,6 +305,7 @@ fn run_program<T: Completes + Drop, S: Completes + Drop, W: Completes + Drop>(
         drives: 1 + (program / 4 % 4) as u8,
         levels: [7, 6, 5],
         sense: 0x5a,
+        reads: Reads::Logged,
     };
     let callbacks = Callbacks::of(sent, sector, written);
     let mut board = match Board::boot(rt.alloc(), &setup, callbacks) {

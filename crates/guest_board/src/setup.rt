@@ -4,14 +4,17 @@ ghost use Rattle.std.specs.Prelude.{◌≡◌, ℕ, ◌<◌, ◌≤◌, vec_len,
 ghost use Rattle.disk_dcdd.specs.declared.controller.TheConstants.{DRIVES};
 ghost use Rattle.guest_memory.specs.declared.memory.TheConstants.{BYTES};
 
+use crate::reads::Reads;
+
 /// A guest at boot: its memory, how many drives are attached, the interrupt level of port 0, port 1 and the disk (RST n
-/// of the 8080), and the byte of the sense switches, which IN FFh returns.
+/// of the 8080), and the byte of the sense switches, which IN FFh returns; and how a pair logs the sectors that it reads.
 #[derive(Drop)]
 pub struct Setup {
     pub memory: Vec<u8>,
     pub drives: u8,
     pub levels: [u8; 3],
     pub sense: u8,
+    pub reads: Reads,
     ghost whole: { vec_len memory ≡ BYTES },
     ghost some: { 1 ≤ drives },
     ghost few: { drives ≤ DRIVES },

@@ -11,7 +11,7 @@ mod rebuilt;
 
 use disk_dcdd::{SECTOR_BYTES, SectorAddress};
 use event_callbacks::{Callbacks, Completes, Devices, Done, OpId, Operation, plain_completions};
-use guest_board::{Board, Executed, Input, Setup};
+use guest_board::{Board, Executed, Input, Reads, Setup};
 use guest_memory::BYTES;
 use i8080_words::{Fault, R};
 use std::alloc::Global;
@@ -37,6 +37,7 @@ fn setup(alloc: Global, program: &[u8]) -> R<Setup> {
         drives: 1,
         levels: [7; 3],
         sense: 0xff,
+        reads: Reads::Logged,
     })
 }
 

@@ -6,7 +6,7 @@ use Rattle.std.proofs.lemmas.Bool.{le-ltb}
 use Rattle.std.proofs.lemmas.List.{take_at, drop_at, length-append}
 use Rattle.std.proofs.lemmas.List.Concat.{flat_map-cons}
 use Rattle.log_entry.specs.declared.entry.Entry.{Entry}
-use Rattle.log_entry.specs.declared.entry.Entry.TheVariants.{Mark, Rx, Sent, Sector, Written}
+use Rattle.log_entry.specs.declared.entry.Entry.TheVariants.{Mark, Rx, Sent, Sector, Written, Read}
 use Rattle.log_entry.specs.Spelling.{spelling, IsEntry}
 use Rattle.log_entry.proofs.EntryLaws.{entry_again}
 use Rattle.log_channel.specs.Block.{cut, first_of, entries_in, entries_of}
@@ -32,6 +32,7 @@ first_again (Sector count drive sector number bytes) rest fits =
     let whole = fits.4 in
     cut_again (Sector count drive sector number bytes) rest 156 fits (omega arith)
 first_again (Written count number) rest fits = cut_again (Written count number) rest 17 fits refl
+first_again (Read count drive sector number) rest fits = cut_again (Read count drive sector number) rest 19 fits refl
 
 -- ---- all entries
 
@@ -42,6 +43,7 @@ spelling_has_bytes (Rx count port byte) = omega arith
 spelling_has_bytes (Sent count port) = omega arith
 spelling_has_bytes (Sector count drive sector number bytes) = omega arith
 spelling_has_bytes (Written count number) = omega arith
+spelling_has_bytes (Read count drive sector number) = omega arith
 
 enough_bytes : (es : List Entry) → length es ≤ length (flat_map spelling es)
 enough_bytes [] = omega arith

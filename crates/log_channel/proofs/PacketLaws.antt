@@ -1,5 +1,6 @@
--- What is written is read back, and what is read was written so. The tag and the generation come first in both kinds;
--- after them the index and its entry, or the number held. So no two packets share a spelling.
+-- What is written is read back, and what is read was written so. The tag and the generation come first in all kinds;
+-- after them the index and its entry, or the number held, with the number replayed or without it. So no two packets
+-- share a spelling.
 use Rattle.std.proofs.Common.{◌≡◌, ℕ, ◌-◌, ◌^◌, ◌<◌, ◌≤◌, true, false, cond, eqb, ltb, List, [], ◌∷◌, ◌++◌, length, take, drop, Bool, Option, Some, None, refl, sym, ap, subst, ◌∙◌, arith, inl, inr, ◌⊎◌}
 use Rattle.std.specs.Prelude.{IfOk}
 use Rattle.std.specs.Option.{ok_or}
@@ -19,7 +20,7 @@ use Rattle.log_entry.proofs.ReadingLaws.{IsBytes-drop, IsBytes-take, IsBytes-res
 use Rattle.log_channel.specs.declared.packet.Packet.{Packet}
 use Rattle.log_channel.specs.declared.packet.Packet.TheVariants.{Log, Ack}
 use Rattle.log_channel.specs.Laws.{ReadsAgain, OneSpelling, OneMeaning}
-use Rattle.log_channel.specs.Packet.{packet_bytes, IsPacket, nonzero, generation_from, log_at, ack_at, packet_at}
+use Rattle.log_channel.specs.Packet.{packet_bytes, IsPacket, nonzero, generation_from, log_at, ack_at, report_at, whole, packet_at}
 
 -- a number that was read, and the bytes after it
 abbrev Read : Type 0
@@ -31,12 +32,21 @@ entry_behind generation index =
     cond (eqb index.0 (2 ^ 62 - 1)) None (entry_at index.1 >>= λ e. Some (Log generation index.0 e))
 
 abbrev end_behind : ℕ → Read → Option Packet
-end_behind generation held = cond (eqb (length held.1) 0) (Some (Ack generation held.0)) None
+end_behind generation held = whole (Ack generation held.0 None) held.1
+
+-- what follows the number held where the number replayed comes next
+abbrev replayed_behind : ℕ → Read → Read → Option Packet
+replayed_behind generation held replayed =
+    cond (ltb held.0 replayed.0) None (whole (Ack generation held.0 (Some replayed.0)) replayed.1)
+
+abbrev held_behind : ℕ → Read → Option Packet
+held_behind generation held = number_from held.1 >>= replayed_behind generation held
 
 abbrev kind_behind : ℕ → Read → Option Packet
 kind_behind tag generation =
     cond (eqb tag 0x4C) (log_at generation.0 generation.1)
-    (cond (eqb tag 0x41) (ack_at generation.0 generation.1) None)
+    (cond (eqb tag 0x41) (ack_at generation.0 generation.1)
+    (cond (eqb tag 0x42) (report_at generation.0 generation.1) None))
 
 -- ---- the generation
 
@@ -103,16 +113,30 @@ log_again generation index e lt fits =
     ap (λ (o : Option Read). o >>= entry_behind generation) again ∙ rw (other, entry_again e fits) refl
 
 ack_again : (generation held : ℕ) → held < 2 ^ 62
-    → ack_at generation (big_bytes 8 held) ≡ Some (Ack generation held)
+    → ack_at generation (big_bytes 8 held) ≡ Some (Ack generation held None)
 unfolding ack_at
 ack_again generation held lt = ap (λ (o : Option Read). o >>= end_behind generation) (number_again held [] lt)
+
+report_again : (generation held replayed : ℕ) → held < 2 ^ 62 → replayed ≤ held
+    → report_at generation (big_bytes 8 held ++ big_bytes 8 replayed) ≡ Some (Ack generation held (Some replayed))
+unfolding report_at
+report_again generation held replayed lt few =
+    let first = number_again held (big_bytes 8 replayed) lt in
+    let second = number_again replayed [] (omega arith) in
+    let in_order : ltb held replayed ≡ false = le-ltb held replayed few in
+    ap (λ (o : Option Read). o >>= held_behind generation) first
+    ∙ ap (λ (o : Option Read). o >>= replayed_behind generation (held, big_bytes 8 replayed)) second
+    ∙ rw in_order refl
 
 pub packet_again : ReadsAgain
 packet_again (Log generation index e) fits =
     behind_tag 0x4C generation (big_bytes 8 index ++ spelling e) fits.0 fits.1
     ∙ log_again generation index e fits.2 fits.3
-packet_again (Ack generation held) fits =
+packet_again (Ack generation held None) fits =
     behind_tag 0x41 generation (big_bytes 8 held) fits.0 fits.1 ∙ ack_again generation held fits.2
+packet_again (Ack generation held (Some replayed)) fits =
+    behind_tag 0x42 generation (big_bytes 8 held ++ big_bytes 8 replayed) fits.0 fits.1
+    ∙ report_again generation held replayed fits.2 fits.3
 
 -- ---- what is read was written so
 
@@ -147,12 +171,32 @@ ack_takes : (generation : ℕ) (bytes : List ℕ) (p : Packet) → IsBytes bytes
 unfolding ack_at
 ack_takes generation bytes p are_bytes read =
     let held = first_read (number_from bytes) (end_behind generation) p read in
-    let end_test = admitted (eqb (length held.0.1) 0) (Ack generation held.0.0) p held.2 in
+    let end_test = admitted (eqb (length held.0.1) 0) (Ack generation held.0.0 None) p held.2 in
     let taken = number_takes bytes held.0 are_bytes held.1 in
     let nothing : held.0.1 ≡ [] = nil_from_length held.0.1 (eqb-true _ _ end_test.0) in
     let spelled = taken.parts ∙ ap (λ (bs : List ℕ). big_bytes 8 held.0.0 ++ bs) nothing in
     subst (HasBytes 0x41 generation bytes) end_test.1
-    (λ above below. (above, below, taken.below), same_bytes 0x41 generation bytes (big_bytes 8 held.0.0) spelled)
+    (λ above below. (above, below, taken.below, tt), same_bytes 0x41 generation bytes (big_bytes 8 held.0.0) spelled)
+
+report_takes : (generation : ℕ) (bytes : List ℕ) (p : Packet) → IsBytes bytes → report_at generation bytes ≡ Some p
+    → HasBytes 0x42 generation bytes p
+unfolding report_at
+report_takes generation bytes p are_bytes read =
+    let held = first_read (number_from bytes) (held_behind generation) p read in
+    let replayed = first_read (number_from held.0.1) (replayed_behind generation held.0) p held.2 in
+    let order_test = not_refused (ltb held.0.0 replayed.0.0) _ p replayed.2 in
+    let report = Ack generation held.0.0 (Some replayed.0.0) in
+    let end_test = admitted (eqb (length replayed.0.1) 0) report p order_test.1 in
+    let taken = number_takes bytes held.0 are_bytes held.1 in
+    let number = number_takes held.0.1 replayed.0 taken.are_bytes replayed.1 in
+    let nothing : replayed.0.1 ≡ [] = nil_from_length replayed.0.1 (eqb-true _ _ end_test.0) in
+    let last = number.parts ∙ ap (λ (bs : List ℕ). big_bytes 8 replayed.0.0 ++ bs) nothing in
+    let spelled = taken.parts ∙ ap (λ (bs : List ℕ). big_bytes 8 held.0.0 ++ bs) last in
+    let few : replayed.0.0 ≤ held.0.0 = ltb-false _ _ order_test.0 in
+    subst (HasBytes 0x42 generation bytes) end_test.1 (
+      λ above below. (above, below, taken.below, few),
+      same_bytes 0x42 generation bytes (big_bytes 8 held.0.0 ++ big_bytes 8 replayed.0.0) spelled,
+    )
 
 -- a choice of two options that gave something
 chosen : {A : Type 0} (test : Bool) (x y : Option A) (z : A) → cond test x y ≡ Some z
@@ -163,13 +207,17 @@ chosen false x y z e = inr (refl, e)
 kind_takes : (tag generation : ℕ) (bytes : List ℕ) (p : Packet) → IsBytes bytes
     → kind_behind tag (generation, bytes) ≡ Some p → HasBytes tag generation bytes p
 kind_takes tag generation bytes p are_bytes read =
-    let of_ack = cond (eqb tag 0x41) (ack_at generation bytes) None in
+    let of_report = cond (eqb tag 0x42) (report_at generation bytes) None in
+    let of_ack = cond (eqb tag 0x41) (ack_at generation bytes) of_report in
     let Has : ℕ → Type 0 = λ first. HasBytes first generation bytes p in
     elim (chosen (eqb tag 0x4C) (log_at generation bytes) of_ack p read) [
       | inl log ↦ subst Has (sym (eqb-true _ _ log.0)) (log_takes generation bytes p are_bytes log.1)
-      | inr other ↦ elim (chosen (eqb tag 0x41) (ack_at generation bytes) None p other.1) [
+      | inr other ↦ elim (chosen (eqb tag 0x41) (ack_at generation bytes) of_report p other.1) [
         | inl ack ↦ subst Has (sym (eqb-true _ _ ack.0)) (ack_takes generation bytes p are_bytes ack.1)
-        | inr none ↦ absurd (none-some p none.1)
+        | inr third ↦ elim (chosen (eqb tag 0x42) (report_at generation bytes) None p third.1) [
+          | inl report ↦ subst Has (sym (eqb-true _ _ report.0)) (report_takes generation bytes p are_bytes report.1)
+          | inr none ↦ absurd (none-some p none.1)
+        ]
       ]
     ]
 

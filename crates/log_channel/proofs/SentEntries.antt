@@ -53,7 +53,7 @@ heard_keeps : (es popped : List Entry) (packet : Option Packet) (old new : Recei
     → HoldsFirst es popped old → IsSent old.generation es packet
     → Answers (heard old packet) old result new → HoldsFirst es popped new
 heard_keeps es popped None old new result holds sent answers = unchanged es popped old new holds answers.1
-heard_keeps es popped (Some (Ack generation held)) old new result holds sent answers =
+heard_keeps es popped (Some (Ack generation held replayed)) old new result holds sent answers =
     unchanged es popped old new holds answers.1
 heard_keeps es popped (Some (Log generation index e)) old new result holds sent answers =
     by_turn (eqb generation old.generation) (eqb index old.held) es popped e old new result holds

@@ -1,5 +1,5 @@
 -- The two ends of a log's channel: what each knows, and what it returns.
-use Rattle.std.specs.Prelude.{◌≡◌, ◌≢◌, ℕ, ◌+◌, ◌-◌, ◌^◌, ◌<◌, List, [], ◌∷◌, ◌++◌, max, Bool, true, false, not, Option, Some, None, Result, Ok, Err, MatchResult, nat_lt, ◌==◌, if◌then◌else◌}
+use Rattle.std.specs.Prelude.{◌≡◌, ◌≢◌, ℕ, ◌+◌, ◌-◌, ◌^◌, ◌<◌, List, [], ◌∷◌, ◌++◌, max, Bool, true, false, not, Option, Some, None, Result, Ok, Err, MatchResult, unwrap_or, nat_lt, ◌==◌, if◌then◌else◌}
 use Rattle.std.specs.Global.{Vec}
 use Rattle.i8080_words.specs.declared.refusal.Fault.{Fault}
 use Rattle.i8080_words.specs.declared.refusal.Fault.TheVariants.{OutOfMemory, WrongGeneration, Malformed, Unknown, BadAck}
@@ -9,10 +9,12 @@ use Rattle.log_channel.specs.declared.packet.Packet.{Packet}
 use Rattle.log_channel.specs.declared.packet.Packet.TheVariants.{Log, Ack}
 use Rattle.log_channel.specs.Packet.{packet_bytes}
 
--- the primary's end: its generation, and the most entries that the backup has said it holds
+-- the primary's end: its generation, the most entries that the backup has said it holds, and the most that it has said
+-- are replayed
 pub record Sending : Type 0 where
   pub generation : ℕ
   pub held : ℕ
+  pub replayed : ℕ
 
 -- the backup's end: how many entries it has ever held, and those of them that are not popped yet
 pub record Receiving : Type 0 where
@@ -33,9 +35,9 @@ abbrev pub packet_of : ℕ → ℕ → Option Entry → Option Packet
 packet_of generation index None = None
 packet_of generation index (Some entry) = Some (Log generation index entry)
 
--- the packet that acknowledges what is held
-abbrev pub ack_of : Receiving → Packet
-ack_of r = Ack r.generation r.held
+-- the packet that acknowledges what is held, and says how much of it is replayed
+abbrev pub ack_of : Receiving → Option ℕ → Packet
+ack_of r replayed = Ack r.generation r.held replayed
 
 -- ---- packets that arrive at the primary
 
@@ -43,15 +45,21 @@ ack_of r = Ack r.generation r.held
 abbrev pub ack_answer : Sending → ℕ → Option Packet → Result ℕ Fault
 ack_answer s next None = Err Malformed
 ack_answer s next (Some (Log generation index entry)) = Err Malformed
-ack_answer s next (Some (Ack generation held)) =
+ack_answer s next (Some (Ack generation held replayed)) =
     if not (generation == s.generation) then Err WrongGeneration
     else if nat_lt next held then Err BadAck
     else Ok (max s.held held)
 
--- what is known then; a refusal changes nothing
-abbrev pub acknowledged : Sending → Result ℕ Fault → Sending
-acknowledged s (Ok held) = record s { held = held }
-acknowledged s (Err fault) = s
+-- how many entries a packet reports as replayed; one that does not say so reports none
+abbrev pub replayed_in : Option Packet → ℕ
+replayed_in None = 0
+replayed_in (Some (Log generation index entry)) = 0
+replayed_in (Some (Ack generation held replayed)) = unwrap_or replayed 0
+
+-- what is known then: the greatest numbers so far; a refusal changes nothing
+abbrev pub acknowledged : Sending → Option Packet → Result ℕ Fault → Sending
+acknowledged s packet (Ok held) = record s { held = held; replayed = max s.replayed (replayed_in packet) }
+acknowledged s packet (Err fault) = s
 
 -- ---- packets that arrive at the backup
 
@@ -63,7 +71,7 @@ pub data Heard : Type 0 where
 
 abbrev pub heard : Receiving → Option Packet → Heard
 heard r None = Refused Malformed
-heard r (Some (Ack generation held)) = Refused Malformed
+heard r (Some (Ack generation held replayed)) = Refused Malformed
 heard r (Some (Log generation index entry)) =
     if not (generation == r.generation) then Refused WrongGeneration
     else if not (index == r.held) then OutOfTurn

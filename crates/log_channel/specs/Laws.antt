@@ -28,7 +28,7 @@ OneMeaning = (p other : Packet) → IsPacket p → IsPacket other → packet_byt
 -- a packet of this generation names an entry of the log at its index
 abbrev pub IsSent : ℕ → List Entry → Option Packet → Type 0
 IsSent generation es None = Unit {0}
-IsSent generation es (Some (Ack of held)) = Unit {0}
+IsSent generation es (Some (Ack of held replayed)) = Unit {0}
 IsSent generation es (Some (Log of index e)) = of ≡ generation → slice_get es index ≡ Some e
 
 -- the entries that were popped and those that are held are the first ones of the log

@@ -1,6 +1,6 @@
 //! A packet and its bytes.
 
-ghost use Rattle.std.specs.Prelude.{◌≡◌, ◌+◌, ◌<◌, ◌∷◌, ◌++◌, length, vec_len, vec_capacity, OnOk, OnErr, IfOk, IfErr, Ok, ok_or, option_map};
+ghost use Rattle.std.specs.Prelude.{◌≡◌, ◌+◌, ◌<◌, ◌∷◌, ◌++◌, length, vec_len, vec_capacity, OnOk, OnErr, IfOk, IfErr, Ok, Some, ok_or, option_map};
 ghost use Rattle.byteorder.specs.Endian.{big_bytes};
 ghost use Rattle.i8080_words.specs.declared.refusal.Fault.TheVariants.{Malformed, OutOfMemory};
 
@@ -14,6 +14,9 @@ const LOG_TAG: u8 = 0x4c;
 /// The byte that an acknowledgement begins with, the letter `A`.
 const ACK_TAG: u8 = 0x41;
 
+/// The byte that an acknowledgement begins with which also says how many entries are replayed, the letter `B`.
+const REPORT_TAG: u8 = 0x42;
+
 /// What travels between the two ends of a log's channel. Generations count from 1.
 #[derive(Clone, Copy, Debug, PartialEq, Eq)]
 pub enum Packet {
@@ -23,10 +26,12 @@ pub enum Packet {
         index: u64,
         entry: Entry,
     },
-    /// How many entries the backup has held, counted from the first one.
+    /// How many entries the backup has held, counted from the first one, and how many of them it has replayed, if it
+    /// says so.
     Ack {
         generation: u32,
         held: u64,
+        replayed: Option<u64>,
     },
 }
 
@@ -51,11 +56,11 @@ impl Packet {
                 out.extend_from_slice(&front)?;
                 entry.write(out)
             }
-            Packet::Ack { generation, held } => {
-                let front = head(ACK_TAG, *generation, *held);
-                out.extend_from_slice(&front)?;
-                Ok(())
-            }
+            Packet::Ack {
+                generation,
+                held,
+                replayed,
+            } => write_ack(out, *generation, *held, *replayed),
         }
     }
 
@@ -70,7 +75,7 @@ impl Packet {
     }
 }
 
-ghost use Rattle.log_channel.specs.Packet.{ack_at, generation_from, log_at, packet_at};
+ghost use Rattle.log_channel.specs.Packet.{ack_at, ack_bytes, generation_from, log_at, packet_at, report_at, whole};
 
 // A tag, a generation and a number.
 fn head(tag: u8, generation: u32, number: u64) -> [u8; 13]
@@ -81,6 +86,32 @@ fn head(tag: u8, generation: u32, number: u64) -> [u8; 13]
     BigEndian::write_u32(&mut bytes[1..5], generation);
     bytes[5..].copy_from_slice(&spelled_number(number));
     bytes
+}
+
+// An acknowledgement that says how many entries are replayed.
+fn report(generation: u32, held: u64, replayed: u64) -> [u8; 21]
+    ensures { result ≡ ack_bytes generation held (Some replayed) }
+{
+    let mut bytes = [0; 21];
+    bytes[0] = REPORT_TAG;
+    BigEndian::write_u32(&mut bytes[1..5], generation);
+    bytes[5..13].copy_from_slice(&spelled_number(held));
+    bytes[13..].copy_from_slice(&spelled_number(replayed));
+    bytes
+}
+
+// Appends an acknowledgement.
+fn write_ack(out: &mut Vec<u8>, generation: u32, held: u64, replayed: Option<u64>) -> R<()>
+    ensures ok { OnOk result (out.new.items ≡ out.old.items ++ ack_bytes generation held replayed) }
+    ensures err { OnErr result (out.new.items ≡ out.old.items) }
+    ensures only_memory { IfErr result (λ fault. fault ≡ OutOfMemory) }
+    ensures full { OnErr result (vec_capacity out.old < vec_len out.old + length (ack_bytes generation held replayed)) }
+{
+    match replayed {
+        None => out.extend_from_slice(&head(ACK_TAG, generation, held))?,
+        Some(replayed) => out.extend_from_slice(&report(generation, held, replayed))?,
+    }
+    Ok(())
 }
 
 // The packet that the bytes spell, using all of them.
@@ -95,6 +126,7 @@ fn packet_of(bytes: &[u8]) -> Option<Packet>
     match *tag {
         LOG_TAG => log_of(generation, rest),
         ACK_TAG => ack_of(generation, rest),
+        REPORT_TAG => report_of(generation, rest),
         _ => None,
     }
 }
@@ -132,8 +164,41 @@ fn ack_of(generation: u32, bytes: &[u8]) -> Option<Packet>
     ensures { result ≡ ack_at generation bytes.now }
 {
     let (held, rest) = number_at(bytes)?;
+    alone(
+        Packet::Ack {
+            generation,
+            held,
+            replayed: None,
+        },
+        rest,
+    )
+}
+
+#[tactic(auto, unfolding(crate::specs::Packet::report_at))]
+fn report_of(generation: u32, bytes: &[u8]) -> Option<Packet>
+    ensures { result ≡ report_at generation bytes.now }
+{
+    let (held, rest) = number_at(bytes)?;
+    let (replayed, rest) = number_at(rest)?;
+    if replayed > held {
+        return None;
+    }
+    alone(
+        Packet::Ack {
+            generation,
+            held,
+            replayed: Some(replayed),
+        },
+        rest,
+    )
+}
+
+// A packet, if no bytes follow it.
+fn alone(packet: Packet, rest: &[u8]) -> Option<Packet>
+    ensures { result ≡ whole packet rest.now }
+{
     if !rest.is_empty() {
         return None;
     }
-    Some(Packet::Ack { generation, held })
+    Some(packet)
 }

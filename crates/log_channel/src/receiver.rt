@@ -1,6 +1,6 @@
 //! The backup's end.
 
-ghost use Rattle.std.specs.Prelude.{◌≡◌, ◌<◌, ◌^◌, ◌↔◌, IsTrue, [], drop, slice_get, option_copied, IfOk, IfSome, Some};
+ghost use Rattle.std.specs.Prelude.{◌≡◌, ◌<◌, ◌≤◌, ◌+◌, ◌^◌, ◌↔◌, IsTrue, [], length, drop, slice_get, option_copied, IfOk, IfSome, Some};
 
 use crate::block::Block;
 use crate::held::{hold, unhold};
@@ -16,6 +16,7 @@ use std::marker::Model;
 pub struct Receiver {
     generation: u32,
     held: u64,
+    popped: u64,
     front: Option<Entry>,
     block: Block,
 }
@@ -45,6 +46,7 @@ impl Receiver {
         Receiver {
             generation,
             held: 0,
+            popped: 0,
             front: None,
             block: Block::new(alloc),
         }
@@ -100,13 +102,16 @@ impl Receiver {
         Ok(true)
     }
 
-    /// The packet that acknowledges all that was held.
-    pub fn ack(&self, alloc: Global) -> R<Vec<u8>>
-        ensures { Spells (Some (ack_of self.now)) result }
+    /// The packet that acknowledges all that was held, and that says how many of these entries are replayed, if that is
+    /// given.
+    pub fn ack(&self, alloc: Global, replayed: Option<u64>) -> R<Vec<u8>>
+        requires { IfSome replayed (λ number. number ≤ self.now.held) }
+        ensures { Spells (Some (ack_of self.now replayed)) result }
     {
         let packet = Packet::Ack {
             generation: self.generation,
             held: self.held,
+            replayed,
         };
         let mut out = Vec::new(alloc);
         packet.write(&mut out)?;
@@ -119,6 +124,14 @@ impl Receiver {
         ensures within { result < 2 ^ 62 }
     {
         self.held
+    }
+
+    /// How many entries were popped.
+    pub fn popped(&self) -> u64
+        ensures popped { result + length self.now.entries ≡ self.now.held }
+        ensures within { result < 2 ^ 62 }
+    {
+        self.popped
     }
 
     /// Whether no entry is held.
@@ -152,6 +165,8 @@ impl Receiver {
         ensures valid { IfSome result IsEntry }
         ensures after { self.new ≡ record self.old { entries = drop 1 self.old.entries } }
     {
-        unhold(&mut self.front, &mut self.block)
+        let first = unhold(&mut self.front, &mut self.block)?;
+        self.popped += 1;
+        Some(first)
     }
 }

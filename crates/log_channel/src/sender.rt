@@ -8,11 +8,12 @@ use log_buffer::LogBuffer;
 use std::alloc::Global;
 use std::marker::Model;
 
-/// Sends the entries of a log, and knows how many the backup has acknowledged.
+/// Sends the entries of a log, and knows how many the backup has acknowledged, and how many it has reported as replayed.
 #[derive(Drop)]
 pub struct Sender {
     generation: u32,
     held: u64,
+    replayed: u64,
 }
 
 impl Model for Sender {
@@ -21,7 +22,7 @@ impl Model for Sender {
 
     ghost Value = { Sending };
 
-    ghost view = { λ s. record { generation = s.generation; held = s.held } };
+    ghost view = { λ s. record { generation = s.generation; held = s.held; replayed = s.replayed } };
 
     ghost invariant = { λ s. (0 < s.generation) × (s.generation < 2 ^ 32) };
 }
@@ -34,11 +35,12 @@ impl Sender {
     /// The end of this generation, to which nothing is acknowledged yet.
     pub fn new(generation: u32) -> Sender
         requires { 0 < generation }
-        ensures { result ≡ record { generation = generation; held = 0 } }
+        ensures { result ≡ record { generation = generation; held = 0; replayed = 0 } }
     {
         Sender {
             generation,
             held: 0,
+            replayed: 0,
         }
     }
 
@@ -48,6 +50,13 @@ impl Sender {
         ensures first { 0 < result }
     {
         self.generation
+    }
+
+    /// The greatest number of entries that an acknowledgement has reported as replayed.
+    pub fn replayed(&self) -> u64
+        ensures { result ≡ self.now.replayed }
+    {
+        self.replayed
     }
 
     /// The packet of the entry of this index, `Unknown` if the log does not keep it.
@@ -69,12 +78,17 @@ impl Sender {
 
     /// Takes an acknowledgement, and returns the greatest number of entries acknowledged so far. `Malformed` if the
     /// bytes are no acknowledgement, `WrongGeneration` if it is of another generation, and `BadAck` if it is of more
-    /// entries than the log has.
+    /// entries than the log has. One that does not say how many are replayed reports none.
     pub fn on_ack(&mut self, log: &LogBuffer, bytes: &[u8]) -> R<u64>
         ensures answer { result ≡ ack_answer self.old (next_of log.now) (packet_at bytes.now) }
-        ensures after { self.new ≡ acknowledged self.old result }
+        ensures after { self.new ≡ acknowledged self.old (packet_at bytes.now) result }
     {
-        let Packet::Ack { generation, held } = Packet::read(bytes)? else {
+        let Packet::Ack {
+            generation,
+            held,
+            replayed,
+        } = Packet::read(bytes)?
+        else {
             return Err(Fault::Malformed);
         };
         if generation != self.generation {
@@ -84,6 +98,7 @@ impl Sender {
             return Err(Fault::BadAck);
         }
         self.held = self.held.max(held);
+        self.replayed = self.replayed.max(replayed.unwrap_or(0));
         Ok(self.held)
     }
 }

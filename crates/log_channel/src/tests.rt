@@ -19,10 +19,15 @@ const ACK: [u8; 13] = [0x41, 0, 0, 0, 1, 0, 0, 0, 0, 0, 0, 0, 1];
 // 300 entries are held, in generation 1.
 const ACK_OF_300: [u8; 13] = [0x41, 0, 0, 0, 1, 0, 0, 0, 0, 0, 0, 1, 44];
 
+// Three entries are held and two of them are replayed, in generation 1.
+const REPORT: [u8; 21] = [
+    0x42, 0, 0, 0, 1, 0, 0, 0, 0, 0, 0, 0, 3, 0, 0, 0, 0, 0, 0, 0, 2,
+];
+
 // Entries of all kinds in turn.
 fn entry_at(index: u64) -> Entry {
     let byte = (index % 251) as u8;
-    match index % 5 {
+    match index % 6 {
         0 => Entry::Mark { count: index },
         1 => Entry::Rx {
             count: index,
@@ -40,8 +45,14 @@ fn entry_at(index: u64) -> Entry {
             number: index,
             bytes: [byte; 137],
         },
-        _ => Entry::Written {
+        4 => Entry::Written {
             count: index,
+            number: index,
+        },
+        _ => Entry::Read {
+            count: index,
+            drive: 3,
+            sector: byte % 32,
             number: index,
         },
     }
@@ -65,7 +76,7 @@ fn one_entry_is_sent_held_and_acknowledged(rt: HostRuntime) -> Result<(), Fail> 
         Err(Fault::WrongGeneration)
     );
     assert_eq!(rt; receiver.on_log(&MARK), Ok(true));
-    let ack = receiver.ack(alloc)?;
+    let ack = receiver.ack(alloc, None)?;
     assert_eq!(rt; ack.as_slice(), ACK.as_slice());
     assert_eq!(rt; sender.on_ack(&log, &MARK), Err(Fault::Malformed));
     assert_eq!(rt;
@@ -74,6 +85,31 @@ fn one_entry_is_sent_held_and_acknowledged(rt: HostRuntime) -> Result<(), Fail> 
     );
     assert_eq!(rt; sender.on_ack(&log, &ACK_OF_300), Err(Fault::BadAck));
     assert_eq!(rt; sender.on_ack(&log, &ACK), Ok(1));
+    Ok(())
+}
+
+#[test]
+fn an_acknowledgement_says_what_is_replayed(rt: HostRuntime) -> Result<(), Fail> {
+    let alloc = rt.alloc();
+    let mut log = LogBuffer::new(alloc, 0)?;
+    let mut sender = Sender::new(1);
+    let mut receiver = Receiver::new(alloc, 1);
+    for index in 0..3 {
+        assert_eq!(rt; log.push(entry_at(index)), Ok(index));
+        let packet = sender.packet(alloc, &log, index)?;
+        assert_eq!(rt; receiver.on_log(&packet)?, true);
+    }
+    if receiver.held() >= 2 {
+        let report = receiver.ack(alloc, Some(2))?;
+        assert_eq!(rt; report.as_slice(), REPORT.as_slice());
+    }
+    assert_eq!(rt; sender.on_ack(&log, &REPORT), Ok(3));
+    assert_eq!(rt; sender.replayed(), 2);
+    assert_eq!(rt; sender.on_ack(&log, &ACK), Ok(3));
+    assert_eq!(rt; sender.replayed(), 2);
+    let mut more_than_held = REPORT;
+    more_than_held[20] = 4;
+    assert_eq!(rt; sender.on_ack(&log, &more_than_held), Err(Fault::Malformed));
     Ok(())
 }
 
@@ -125,7 +161,7 @@ fn expect_no_other(rt: &impl Abort, alloc: Global, packet: &Packet, length: usiz
 
 #[test]
 fn other_bytes_are_no_packet(rt: HostRuntime) -> Result<(), Fail> {
-    for (index, length) in [(5, 22), (6, 24), (7, 23), (8, 169), (9, 30)] {
+    for (index, length) in [(6, 22), (7, 24), (8, 23), (9, 169), (10, 30), (11, 32)] {
         let packet = Packet::Log {
             generation: 1,
             index,
@@ -133,11 +169,14 @@ fn other_bytes_are_no_packet(rt: HostRuntime) -> Result<(), Fail> {
         };
         expect_no_other(&rt, rt.alloc(), &packet, length)?;
     }
-    let ack = Packet::Ack {
-        generation: 1,
-        held: 300,
-    };
-    expect_no_other(&rt, rt.alloc(), &ack, 13)?;
+    for (replayed, length) in [(None, 13), (Some(299), 21)] {
+        let ack = Packet::Ack {
+            generation: 1,
+            held: 300,
+            replayed,
+        };
+        expect_no_other(&rt, rt.alloc(), &ack, length)?;
+    }
     Ok(())
 }
 
@@ -159,7 +198,7 @@ fn send(rt: &impl Abort, alloc: Global, channel: &mut Channel, from: u64, to: u6
         assert_eq!(rt; channel.receiver.on_log(&packet)?, true);
         assert_eq!(rt; channel.receiver.on_log(&packet)?, false);
     }
-    let ack = channel.receiver.ack(alloc)?;
+    let ack = channel.receiver.ack(alloc, None)?;
     assert_eq!(rt; channel.sender.on_ack(&channel.log, &ack), Ok(to));
     assert!(rt; to <= channel.log.next());
     channel.log.drop_to(to);
@@ -178,6 +217,7 @@ fn pop(rt: &impl Abort, alloc: Global, receiver: &mut Receiver, from: u64, to: u
     for index in from..to {
         assert_eq!(rt; receiver.front(), Some(&entry_at(index)));
         assert_eq!(rt; receiver.pop(), Some(entry_at(index)));
+        assert_eq!(rt; receiver.popped(), index + 1);
     }
     Ok(())
 }

@@ -9,23 +9,27 @@ use Rattle.std.specs.Option.{ok_or}
 use Rattle.byteorder.specs.Endian.{big_bytes}
 use Rattle.i8080_words.specs.declared.refusal.Fault.TheVariants.{Malformed}
 use Rattle.log_entry.specs.declared.entry.Entry.{Entry}
-use Rattle.log_entry.specs.declared.entry.Entry.TheVariants.{Mark, Rx, Sent, Sector, Written}
+use Rattle.log_entry.specs.declared.entry.Entry.TheVariants.{Mark, Rx, Sent, Sector, Written, Read}
 use Rattle.log_entry.specs.Laws.{ReadsAgain, OneSpelling, OneMeaning}
 use Rattle.log_entry.specs.Numbers.{◌>>=◌, IsBytes, number_from}
-use Rattle.log_entry.specs.Spelling.{spelling, IsEntry, mark_at, rx_at, sent_at, sector_at, written_at, fields_at, entry_at}
+use Rattle.log_entry.specs.Spelling.{spelling, IsEntry, mark_at, rx_at, sent_at, sector_at, written_at, read_at, fields_at, entry_at}
 use Rattle.log_entry.proofs.NumberLaws.{number_takes, number_again}
 use Rattle.log_entry.proofs.ReadingLaws.{IsBytes-rest, first_read, not_refused, admitted}
 
 -- a number that was read, and the bytes after it
-abbrev Read : Type 0
-Read = ℕ × List ℕ
+abbrev Number : Type 0
+Number = ℕ × List ℕ
 
--- what follows the number of a sector, and that of a write
-abbrev sector_of : ℕ → ℕ → ℕ → Read → Option Entry
+-- what follows the number of a sector, of a read, and of a write
+abbrev sector_of : ℕ → ℕ → ℕ → Number → Option Entry
 sector_of count drive sector number =
     cond (eqb (length number.1) 137) (Some (Sector count drive sector number.0 number.1)) None
 
-abbrev written_of : ℕ → Read → Option Entry
+abbrev read_of : ℕ → ℕ → ℕ → Number → Option Entry
+read_of count drive sector number =
+    cond (eqb (length number.1) 0) (Some (Read count drive sector number.0)) None
+
+abbrev written_of : ℕ → Number → Option Entry
 written_of count number =
     cond (eqb number.0 0) None (cond (eqb (length number.1) 0) (Some (Written count number.0)) None)
 
@@ -36,10 +40,10 @@ behind_tag : (tag count : ℕ) (fields : List ℕ) → count < 2 ^ 62
     → entry_at (tag ∷ big_bytes 8 count ++ fields) ≡ fields_at tag count fields
 unfolding entry_at
 behind_tag tag count fields lt =
-    ap (λ (o : Option Read). o >>= λ read. fields_at tag read.0 read.1) (number_again count fields lt)
+    ap (λ (o : Option Number). o >>= λ read. fields_at tag read.0 read.1) (number_again count fields lt)
 
 pub entry_again : ReadsAgain
-unfolding fields_at mark_at rx_at sent_at sector_at written_at
+unfolding fields_at mark_at rx_at sent_at sector_at written_at read_at
 entry_again (Mark count) fits = behind_tag 0 count [] fits
 entry_again (Rx count port byte) fits =
     let is_port : ltb 1 port ≡ false = le-ltb _ _ (omega arith) in
@@ -57,7 +61,13 @@ entry_again (Written count number) fits =
     let again = number_again number [] fits.2 in
     let above : eqb number 0 ≡ false = ne_eqb number 0 (λ z. omega (arith, fits.1)) in
     behind_tag 4 count (big_bytes 8 number) fits.0
-    ∙ ap (λ (o : Option Read). o >>= written_of count) again ∙ rw above refl
+    ∙ ap (λ (o : Option Number). o >>= written_of count) again ∙ rw above refl
+entry_again (Read count drive sector number) fits =
+    let is_drive : ltb 3 drive ≡ false = le-ltb _ _ (omega arith) in
+    let is_sector : ltb 31 sector ≡ false = le-ltb _ _ (omega arith) in
+    let again = number_again number [] fits.3 in
+    behind_tag 5 count (drive ∷ sector ∷ big_bytes 8 number) fits.0
+    ∙ rw (is_drive, is_sector) (ap (λ (o : Option Number). o >>= read_of count drive sector) again)
 
 -- ---- what is read was written so
 
@@ -133,12 +143,32 @@ written_takes count bytes e are_bytes read =
     subst (HasFields 4 count bytes) end_test.1
     (λ lt. (lt, omega arith, taken.below), same_fields 4 count bytes (big_bytes 8 number.0.0) spelled)
 
-other_tag : (tag count : ℕ) (bytes : List ℕ) → 4 < tag → fields_at tag count bytes ≡ None
+read_takes : (count : ℕ) (bytes : List ℕ) (e : Entry) → IsBytes bytes → read_at count bytes ≡ Some e
+    → HasFields 5 count bytes e
+unfolding read_at
+read_takes count [] e are_bytes read = absurd cc
+read_takes count (drive ∷ []) e are_bytes read = absurd cc
+read_takes count (drive ∷ sector ∷ bytes) e are_bytes read =
+    let rest_bytes = IsBytes-rest sector bytes (IsBytes-rest drive (sector ∷ bytes) are_bytes) in
+    let drive_test = not_refused (ltb 3 drive) _ e read in
+    let sector_test = not_refused (ltb 31 sector) _ e drive_test.1 in
+    let number = first_read (number_from bytes) (read_of count drive sector) e sector_test.1 in
+    let taken = number_takes bytes number.0 rest_bytes number.1 in
+    let end_test = admitted (eqb (length number.0.1) 0) (Read count drive sector number.0.0) e number.2 in
+    let is_drive : drive ≤ 3 = ltb-false _ _ drive_test.0 in
+    let is_sector : sector ≤ 31 = ltb-false _ _ sector_test.0 in
+    let nothing : number.0.1 ≡ [] = nil_from_length number.0.1 (eqb-true _ _ end_test.0) in
+    let only = taken.parts ∙ ap (λ (bs : List ℕ). big_bytes 8 number.0.0 ++ bs) nothing in
+    let spelled = ap (λ (bs : List ℕ). drive ∷ sector ∷ bs) only in
+    subst (HasFields 5 count (drive ∷ sector ∷ bytes)) end_test.1
+    (λ lt. (lt, omega arith, omega arith, taken.below), same_fields 5 count _ _ spelled)
+
+other_tag : (tag count : ℕ) (bytes : List ℕ) → 5 < tag → fields_at tag count bytes ≡ None
 unfolding fields_at
 other_tag tag count bytes lt =
-    let other : (k : ℕ) → k ≤ 4 → eqb tag k ≡ false = λ k le. ne_eqb tag k (λ z. omega arith) in
+    let other : (k : ℕ) → k ≤ 5 → eqb tag k ≡ false = λ k le. ne_eqb tag k (λ z. omega arith) in
     rw (other 0 (omega arith), other 1 (omega arith), other 2 (omega arith), other 3 (omega arith)) (
-    rw (other 4 (omega arith)) refl
+    rw (other 4 (omega arith), other 5 (omega arith)) refl
     )
 
 fields_take : (tag count : ℕ) (bytes : List ℕ) (e : Entry) → IsBytes bytes → fields_at tag count bytes ≡ Some e
@@ -149,8 +179,9 @@ fields_take (suc zero) count bytes e are_bytes read = rx_takes count bytes e are
 fields_take (suc (suc zero)) count bytes e are_bytes read = sent_takes count bytes e read
 fields_take (suc (suc (suc zero))) count bytes e are_bytes read = sector_takes count bytes e are_bytes read
 fields_take (suc (suc (suc (suc zero)))) count bytes e are_bytes read = written_takes count bytes e are_bytes read
-fields_take (suc (suc (suc (suc (suc n))))) count bytes e are_bytes read =
-    let tag = suc (suc (suc (suc (suc n)))) in
+fields_take (suc (suc (suc (suc (suc zero))))) count bytes e are_bytes read = read_takes count bytes e are_bytes read
+fields_take (suc (suc (suc (suc (suc (suc n)))))) count bytes e are_bytes read =
+    let tag = suc (suc (suc (suc (suc (suc n))))) in
     absurd (none-some e (sym (other_tag tag count bytes (omega arith)) ∙ read))
 
 pub entry_takes : OneSpelling

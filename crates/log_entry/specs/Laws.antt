@@ -1,6 +1,7 @@
 -- What code that keeps or sends entries may rely on.
 use Rattle.std.specs.Prelude.{◌≡◌, ℕ, ◌+◌, ◌≤◌, List, [], ◌∷◌, Some}
 use Rattle.guest_board.specs.Machine.{Move}
+use Rattle.guest_board.specs.declared.reads.Reads.{Reads}
 use Rattle.guest_trace.specs.Reach.{inputs, steps}
 use Rattle.log_entry.specs.declared.entry.Entry.{Entry}
 use Rattle.log_entry.specs.Entries.{count_of, entries, inputs_of, last_count}
@@ -26,7 +27,7 @@ OneMeaning = (e other : Entry) → IsEntry e → IsEntry other → spelling e �
 
 -- their inputs are the trace's
 abbrev pub KeepsInputs : Type 0
-KeepsInputs = (count : ℕ) (moves : List Move) → inputs_of (entries count moves) ≡ inputs count moves
+KeepsInputs = (reads : Reads) (count : ℕ) (moves : List Move) → inputs_of (entries reads count moves) ≡ inputs count moves
 
 -- no entry is below this count or below an entry before it
 abbrev pub NeverFalls : ℕ → List Entry → Type 0
@@ -34,6 +35,6 @@ NeverFalls count [] = Unit {0}
 NeverFalls count (e ∷ es) = (count ≤ count_of e) × NeverFalls (count_of e) es
 
 -- their counts never fall, from where the trace begins to no further than where it ends
-pub record StandInOrder (count : ℕ) (moves : List Move) : Type 0 where
-  pub in_order : NeverFalls count (entries count moves)
-  pub within : last_count count (entries count moves) ≤ count + steps moves
+pub record StandInOrder (reads : Reads) (count : ℕ) (moves : List Move) : Type 0 where
+  pub in_order : NeverFalls count (entries reads count moves)
+  pub within : last_count count (entries reads count moves) ≤ count + steps moves

@@ -2,7 +2,7 @@
 use Rattle.std.specs.Prelude.{◌≡◌, ℕ, ◌^◌, ◌<◌, List, [], ◌∷◌, ◌++◌, length, Option, Some, None, nat_lt, ◌==◌, if◌then◌else◌}
 use Rattle.byteorder.specs.Endian.{big_bytes}
 use Rattle.log_entry.specs.declared.entry.Entry.{Entry}
-use Rattle.log_entry.specs.declared.entry.Entry.TheVariants.{Mark, Rx, Sent, Sector, Written}
+use Rattle.log_entry.specs.declared.entry.Entry.TheVariants.{Mark, Rx, Sent, Sector, Written, Read}
 use Rattle.log_entry.specs.Numbers.{◌>>=◌, IsBytes, number_from}
 
 -- tag, count and fields; a number is eight bytes, highest first
@@ -13,6 +13,7 @@ spelling (Sent count port) = 2 ∷ big_bytes 8 count ++ (port ∷ [])
 spelling (Sector count drive sector number bytes) =
     3 ∷ big_bytes 8 count ++ (drive ∷ sector ∷ big_bytes 8 number ++ bytes)
 spelling (Written count number) = 4 ∷ big_bytes 8 count ++ big_bytes 8 number
+spelling (Read count drive sector number) = 5 ∷ big_bytes 8 count ++ (drive ∷ sector ∷ big_bytes 8 number)
 
 -- how many bytes the spelling of an entry with this tag has
 abbrev pub size_of : ℕ → Option ℕ
@@ -22,6 +23,7 @@ size_of tag =
     else if tag == 2 then Some 10
     else if tag == 3 then Some 156
     else if tag == 4 then Some 17
+    else if tag == 5 then Some 19
     else None
 
 -- the values that an entry may have
@@ -32,6 +34,7 @@ IsEntry (Sent count port) = (count < 2 ^ 62) × (port < 2)
 IsEntry (Sector count drive sector number bytes) =
     (count < 2 ^ 62) × (drive < 4) × (sector < 32) × (number < 2 ^ 62) × (length bytes ≡ 137) × IsBytes bytes
 IsEntry (Written count number) = (count < 2 ^ 62) × (0 < number) × (number < 2 ^ 62)
+IsEntry (Read count drive sector number) = (count < 2 ^ 62) × (drive < 4) × (sector < 32) × (number < 2 ^ 62)
 
 -- ---- reading, from left to right, each kind by what follows its tag and its count
 
@@ -60,6 +63,14 @@ written_at count bytes = number_from bytes >>= λ number.
     else if length number.1 == 0 then Some (Written count number.0)
     else None
 
+unfoldable pub read_at : ℕ → List ℕ → Option Entry
+read_at count (drive ∷ sector ∷ rest) =
+    if nat_lt 3 drive then None
+    else if nat_lt 31 sector then None
+    else number_from rest >>= λ number.
+    if length number.1 == 0 then Some (Read count drive sector number.0) else None
+read_at count _ = None
+
 -- by the tag: each kind has exactly one
 unfoldable pub fields_at : ℕ → ℕ → List ℕ → Option Entry
 fields_at tag count bytes =
@@ -68,6 +79,7 @@ fields_at tag count bytes =
     else if tag == 2 then sent_at count bytes
     else if tag == 3 then sector_at count bytes
     else if tag == 4 then written_at count bytes
+    else if tag == 5 then read_at count bytes
     else None
 
 -- the entry that the bytes spell, using all of them

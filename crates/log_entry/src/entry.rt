@@ -3,7 +3,7 @@
 ghost use Rattle.std.specs.Prelude.{◌≡◌, ◌<◌, ◌^◌};
 
 use disk_dcdd::SECTOR_BYTES;
-use guest_board::Input;
+use guest_board::{Input, Reads};
 use guest_trace::{Bare, Timed};
 
 /// What one input or one operation appends to the log, with its count (VMware FT, section 2.1, "log entries").
@@ -37,17 +37,24 @@ pub enum Entry {
         count: u64,
         number: u64,
     },
+    /// A sector came under the head, with the bytes of the write of this number, which the shared disk has (section 4.2).
+    Read {
+        count: u64,
+        drive: u8,
+        sector: u8,
+        number: u64,
+    },
 }
 
 impl Entry {
     ghost use Rattle.guest_board.specs.Lockstep.{IsInput, IsNumbered};
-    ghost use Rattle.log_entry.specs.Entries.{count_of, entry_of, input_of, timed_of};
+    ghost use Rattle.log_entry.specs.Entries.{count_of, entry_of, input_of, read_of, timed_of};
     ghost use Rattle.log_entry.specs.Spelling.{IsEntry};
 
-    /// The entry of an input that is taken at this count. If the input may come and the count is in range, all fields
-    /// are in range.
-    pub fn of_input(count: u64, input: Input) -> Entry
-        ensures value { result ≡ entry_of count input }
+    /// The entry of an input that is taken at this count, in a log that carries its sectors so. If the input may come and
+    /// the count is in range, all fields are in range.
+    pub fn of_input(reads: Reads, count: u64, input: Input) -> Entry
+        ensures value { result ≡ entry_of reads count input }
         ensures valid { IsInput input → IsNumbered input → count < 2 ^ 62 → IsEntry result }
     {
         match input {
@@ -58,12 +65,20 @@ impl Entry {
                 sector,
                 number,
                 bytes,
-            } => Entry::Sector {
-                count,
-                drive,
-                sector,
-                number,
-                bytes,
+            } => match reads {
+                Reads::Logged => Entry::Sector {
+                    count,
+                    drive,
+                    sector,
+                    number,
+                    bytes,
+                },
+                Reads::Shared => Entry::Read {
+                    count,
+                    drive,
+                    sector,
+                    number,
+                },
             },
             Input::Written(number) => Entry::Written { count, number },
         }
@@ -78,16 +93,17 @@ impl Entry {
             | Entry::Rx { count, .. }
             | Entry::Sent { count, .. }
             | Entry::Sector { count, .. }
-            | Entry::Written { count, .. } => *count,
+            | Entry::Written { count, .. }
+            | Entry::Read { count, .. } => *count,
         }
     }
 
-    /// The input that was taken; a mark has none.
+    /// The input that was taken; a mark has none, and a read does not carry its bytes.
     pub fn input(&self) -> Option<Input>
         ensures { result ≡ input_of self.now }
     {
         match *self {
-            Entry::Mark { .. } => None,
+            Entry::Mark { .. } | Entry::Read { .. } => None,
             Entry::Rx { port, byte, .. } => Some(Input::Rx(port, byte)),
             Entry::Sent { port, .. } => Some(Input::Sent(port)),
             Entry::Sector {
@@ -106,6 +122,22 @@ impl Entry {
         }
     }
 
+    /// The drive, the sector and the number of a sector that is to be read from the shared disk; every other entry has
+    /// none.
+    pub fn read_of(&self) -> Option<(u8, u8, u64)>
+        ensures { result ≡ read_of self.now }
+    {
+        match *self {
+            Entry::Read {
+                drive,
+                sector,
+                number,
+                ..
+            } => Some((drive, sector, number)),
+            _ => None,
+        }
+    }
+
     /// The input with its count, without what only the log carries; a mark has none.
     pub fn timed(&self) -> Option<Timed>
         ensures { result ≡ timed_of self.now }
@@ -114,7 +146,9 @@ impl Entry {
             Entry::Mark { .. } => return None,
             Entry::Rx { port, byte, .. } => Bare::Rx(port, byte),
             Entry::Sent { port, .. } => Bare::Sent(port),
-            Entry::Sector { drive, sector, .. } => Bare::Sector(drive, sector),
+            Entry::Sector { drive, sector, .. } | Entry::Read { drive, sector, .. } => {
+                Bare::Sector(drive, sector)
+            }
             Entry::Written { number, .. } => Bare::Written(number),
         };
         Some(Timed {

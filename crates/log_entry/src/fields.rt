@@ -1,7 +1,7 @@
 //! What follows an entry's tag and count, kind by kind.
 
 ghost use Rattle.std.specs.Prelude.{◌≡◌};
-ghost use Rattle.log_entry.specs.Spelling.{entry_at, fields_at, mark_at, rx_at, sector_at, sent_at, written_at};
+ghost use Rattle.log_entry.specs.Spelling.{entry_at, fields_at, mark_at, read_at, rx_at, sector_at, sent_at, written_at};
 
 use crate::entry::Entry;
 use crate::numbers::number_at;
@@ -35,6 +35,7 @@ fn fields_of(tag: u8, count: u64, bytes: &[u8]) -> Option<Entry>
         2 => sent_of(count, bytes),
         3 => sector_of(count, bytes),
         4 => written_of(count, bytes),
+        5 => read_of(count, bytes),
         _ => None,
     }
 }
@@ -112,4 +113,29 @@ fn written_of(count: u64, bytes: &[u8]) -> Option<Entry>
         return None;
     }
     Some(Entry::Written { count, number })
+}
+
+#[tactic(auto, unfolding(crate::specs::Spelling::read_at))]
+fn read_of(count: u64, bytes: &[u8]) -> Option<Entry>
+    ensures { result ≡ read_at count bytes.now }
+{
+    let [drive, sector, rest @ ..] = bytes else {
+        return None;
+    };
+    if *drive > LAST_DRIVE {
+        return None;
+    }
+    if *sector > LAST_SECTOR {
+        return None;
+    }
+    let (number, rest) = number_at(rest)?;
+    if !rest.is_empty() {
+        return None;
+    }
+    Some(Entry::Read {
+        count,
+        drive: *drive,
+        sector: *sector,
+        number,
+    })
 }

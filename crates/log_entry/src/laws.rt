@@ -2,6 +2,7 @@
 
 ghost use Rattle.std.specs.Prelude.{ℕ, List};
 ghost use Rattle.guest_board.specs.Machine.{Move};
+ghost use Rattle.guest_board.specs.declared.reads.Reads.{Reads};
 ghost use Rattle.log_entry.specs.Laws.{KeepsInputs, OneMeaning, OneSpelling, ReadsAgain, StandInOrder};
 
 /// What is written is read back, nothing else is read as it, and no two entries are written alike.
@@ -18,5 +19,5 @@ pub fn entries_keep_the_inputs()
 
 /// The counts of a trace's entries never fall, and none is past the trace's end.
 pub fn entries_stand_in_order()
-    ensures { (count : ℕ) (moves : List Move) → StandInOrder count moves }
+    ensures { (reads : Reads) (count : ℕ) (moves : List Move) → StandInOrder reads count moves }
 {}

@@ -23,6 +23,7 @@ pub fn size(tag: u8) -> Option<usize>
         2 => Some(10),
         3 => Some(156),
         4 => Some(17),
+        5 => Some(19),
         _ => None,
     }
 }
@@ -42,6 +43,7 @@ impl Entry {
                 19 + bytes.len()
             }
             Entry::Written { .. } => 17,
+            Entry::Read { .. } => 19,
         }
     }
 
@@ -77,6 +79,15 @@ impl Entry {
             }
             Entry::Written { count, number } => {
                 let text = written_bytes(*count, *number);
+                out.extend_from_slice(&text)?;
+            }
+            Entry::Read {
+                count,
+                drive,
+                sector,
+                number,
+            } => {
+                let text = read_bytes(*count, *drive, *sector, *number);
                 out.extend_from_slice(&text)?;
             }
         }
@@ -147,5 +158,16 @@ fn written_bytes(count: u64, number: u64) -> [u8; 17]
     let mut bytes = [0; 17];
     bytes[..9].copy_from_slice(&head(4, count));
     bytes[9..].copy_from_slice(&spelled_number(number));
+    bytes
+}
+
+fn read_bytes(count: u64, drive: u8, sector: u8, number: u64) -> [u8; 19]
+    ensures { result ≡ spelling (entry.Read count drive sector number) }
+{
+    let mut bytes = [0; 19];
+    bytes[..9].copy_from_slice(&head(5, count));
+    bytes[9] = drive;
+    bytes[10] = sector;
+    bytes[11..].copy_from_slice(&spelled_number(number));
     bytes
 }

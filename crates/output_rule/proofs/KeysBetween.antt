@@ -7,7 +7,7 @@ use Rattle.std.proofs.lemmas.List.{length-take}
 use Rattle.guest_trace.specs.declared.timed.Timed.{Timed}
 use Rattle.guest_trace.specs.Reach as reach
 use Rattle.log_entry.specs.declared.entry.Entry.{Entry}
-use Rattle.log_entry.specs.declared.entry.Entry.TheVariants.{Mark, Rx, Sent, Sector, Written}
+use Rattle.log_entry.specs.declared.entry.Entry.TheVariants.{Mark, Rx, Sent, Sector, Written, Read}
 use Rattle.log_entry.specs.Entries.{inputs_of, timed_in, timed_of}
 use Rattle.log_buffer.specs.Log.{Log, next_of, kept_at}
 use Rattle.output_rule.specs.Keys.{between, keys_at, keys_in}
@@ -59,6 +59,7 @@ keys_at-few port (Rx count at byte) = elim (port == at) as (λ b. length (cond b
 keys_at-few port (Sent count at) = omega arith
 keys_at-few port (Sector count drive sector number bytes) = omega arith
 keys_at-few port (Written count number) = omega arith
+keys_at-few port (Read count drive sector number) = omega arith
 
 pub keys_in-few : (port : ℕ) (entries : List Entry) → keys_in port entries ≤ length entries
 keys_in-few port [] = omega arith

@@ -8,19 +8,19 @@ use Rattle.std.proofs.lemmas.List.Kept.{AllPairs-filter}
 use Rattle.i8080_words.specs.declared.limits.TheConstants.{GREATEST_NUMBER}
 use Rattle.event_callbacks.specs.declared.operations.OpId.{OpId}
 use Rattle.log_buffer.specs.Log.{Log}
-use Rattle.output_rule.specs.Covering.{Covering, IsCovering, after_note, after_forget}
+use Rattle.output_rule.specs.Covering.{Covering, IsCovering, after_note, after_forget, waits_for}
 use Rattle.output_rule.specs.Keys.{between, with_keys}
-use Rattle.output_rule.specs.Notes.{index_of, same_name, AreApart}
+use Rattle.output_rule.specs.Notes.{note_of, same_name, AreApart}
 use Rattle.output_rule.specs.declared.notes.TheConstants.{PLACES}
 use Rattle.output_rule.specs.declared.notes.Note.{Note}
 use Rattle.output_rule.proofs.KeysBetween.{keys_in_between-few}
 use Rattle.output_rule.proofs.NoteLists.{apart-with_note}
 
 pub IsCovering-note : (c : Covering) (id : OpId) (index : ℕ) → IsCovering c → length c.notes < PLACES
-    → index_of c.notes id ≡ None → IsCovering (after_note c id index)
+    → note_of c.notes id ≡ None → IsCovering (after_note c id index)
 IsCovering-note c id index h room none = record {
-  few = let more = length-append c.notes (record { id = id; index = index } ∷ []) in omega arith;
-  apart = apart-with_note c.notes id index none h.apart;
+  few = let more = length-append c.notes (record { id = id; index = index; after = waits_for c id } ∷ []) in omega arith;
+  apart = apart-with_note c.notes id index (waits_for c id) none h.apart;
   acknowledged = h.acknowledged;
   ports = h.ports;
   keys = h.keys;
@@ -55,6 +55,16 @@ keys-raised keys l from to order fits (suc zero) =
     let before = fits 1 in
     omega arith
 keys-raised keys l from to order fits (suc (suc port)) = omega arith
+
+-- a report of what is replayed
+pub IsCovering-reported : (c : Covering) (replayed : ℕ) → IsCovering c → IsCovering (record c { reported = replayed })
+IsCovering-reported c replayed h = record {
+  few = h.few;
+  apart = h.apart;
+  acknowledged = h.acknowledged;
+  ports = h.ports;
+  keys = h.keys;
+}
 
 -- an acknowledgement, if all was covered before, and if it was not
 pub IsCovering-held : (c : Covering) (held : ℕ) → IsCovering c → c.acknowledged ≤ held → held ≤ GREATEST_NUMBER

@@ -39,10 +39,10 @@ keys_up_to port entries first from to order =
     rw (part entries first from to order, whole, take-add from (to - from) entries)
     (keys_in-append port (take from entries) (take (to - from) (drop from entries)))
 
-pub tells_acknowledged : (image : List ℕ) (entries : List Entry) (c : Covering) (first held : ℕ) → Tells image entries c
+pub tells_acknowledged : (image : List ℕ) (entries : List Entry) (c : Covering) (first held replayed : ℕ) → Tells image entries c
     → c.all ≡ false → first ≤ c.acknowledged → held ≤ length entries
-    → Tells image entries (after_acknowledge c (log first (drop first entries)) held)
-tells_acknowledged image entries c first held tells not_all order within = record {
+    → Tells image entries (after_acknowledge c (log first (drop first entries)) held replayed)
+tells_acknowledged image entries c first held replayed tells not_all order within = record {
   within = let before = tells.within in omega arith;
   keys = rw not_all (told image entries c first held tells order);
 } where

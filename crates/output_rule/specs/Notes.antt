@@ -1,4 +1,4 @@
--- The notes of outstanding operations: the index in the log of the mark of each.
+-- The notes of outstanding operations: the index in the log of the mark of each, and what else it waits for.
 use Rattle.std.specs.Prelude.{◌≡◌, ℕ, Bool, false, not, ◌==◌, ◌&&◌, if◌then◌else◌, List, [], ◌∷◌, ◌++◌, filter, Option, Some, None}
 use Rattle.event_callbacks.specs.declared.operations.OpId.{OpId}
 use Rattle.event_callbacks.specs.declared.operations.OpId.TheVariants.{Byte, Write}
@@ -6,7 +6,7 @@ use Rattle.output_rule.specs.declared.notes.Note.{Note}
 
 -- what is in a place that holds no note
 abbrev pub blank : Note
-blank = record { id = Write 0; index = 0 }
+blank = record { id = Write 0; index = 0; after = 0 }
 
 -- whether two names are equal
 abbrev pub same_name : OpId → OpId → Bool
@@ -15,14 +15,19 @@ same_name (Byte port number) (Write other) = false
 same_name (Write number) (Byte other_port other) = false
 same_name (Write number) (Write other) = number == other
 
--- the index of an operation's mark, if it has a note
-abbrev pub index_of : List Note → OpId → Option ℕ
-index_of [] id = None
-index_of (note ∷ notes) id = if same_name note.id id then Some note.index else index_of notes id
+-- an operation's note, if it has one
+abbrev pub note_of : List Note → OpId → Option Note
+note_of [] id = None
+note_of (note ∷ notes) id = if same_name note.id id then Some note else note_of notes id
+
+-- how many entries must be replayed for what is noted at an index
+abbrev pub after_at : List Note → ℕ → ℕ
+after_at [] index = 0
+after_at (note ∷ notes) index = if note.index == index then note.after else after_at notes index
 
 -- an operation's note comes, and goes
-abbrev pub with_note : List Note → OpId → ℕ → List Note
-with_note notes id index = notes ++ record { id = id; index = index } ∷ []
+abbrev pub with_note : List Note → OpId → ℕ → ℕ → List Note
+with_note notes id index after = notes ++ record { id = id; index = index; after = after } ∷ []
 
 abbrev pub without_note : List Note → OpId → List Note
 without_note notes id = filter (λ note. not (same_name note.id id)) notes

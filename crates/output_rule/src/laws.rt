@@ -11,7 +11,7 @@ ghost use Rattle.output_rule.specs.declared.notes.Note.{Note};
 
 /// A note is under its operation's name until that is forgotten, and no other note is touched.
 pub fn notes_come_and_go()
-    ensures comes { (notes : List Note) (id : OpId) (index : ℕ) → Comes notes id index }
+    ensures comes { (notes : List Note) (id : OpId) (index after : ℕ) → Comes notes id index after }
     ensures goes { (notes : List Note) (id : OpId) → Goes notes id }
 {}
 
@@ -38,9 +38,9 @@ pub fn told_keys_are_acknowledged()
         → Tells image entries c → Tells image (entries ++ more) c }
     ensures notes { (image : List ℕ) (entries : List Entry) (c : Covering) (notes : List Note)
         → Tells image entries c → Tells image entries (record c { notes = notes }) }
-    ensures acknowledged { (image : List ℕ) (entries : List Entry) (c : Covering) (first held : ℕ)
+    ensures acknowledged { (image : List ℕ) (entries : List Entry) (c : Covering) (first held replayed : ℕ)
         → Tells image entries c → c.all ≡ false → first ≤ c.acknowledged → held ≤ length entries
-        → Tells image entries (after_acknowledge c (log first (drop first entries)) held) }
+        → Tells image entries (after_acknowledge c (log first (drop first entries)) held replayed) }
 {}
 
 /// The number that definitions cite by its name in the code is the one stated.

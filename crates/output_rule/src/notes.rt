@@ -1,4 +1,4 @@
-//! The indexes in the log of the marks of outstanding operations.
+//! The indexes in the log of the marks of outstanding operations, and what else each waits for.
 ghost use Rattle.std.specs.Prelude.{◌≡◌};
 ghost use Rattle.output_rule.specs.Notes as table;
 
@@ -8,11 +8,12 @@ use event_callbacks::OpId;
 /// The most operations that have notes: sixteen bytes of each port, and eight writes.
 pub const PLACES: usize = 40;
 
-/// The name of an operation, and the index of its mark in the log.
+/// The name of an operation, the index of its mark in the log, and how many entries the backup must have replayed.
 #[derive(Clone, Copy)]
 pub struct Note {
     pub id: OpId,
     pub index: u64,
+    pub after: u64,
 }
 
 // What is in the places that hold no note.
@@ -23,20 +24,33 @@ impl Default for Note {
         Note {
             id: OpId::Write(0),
             index: 0,
+            after: 0,
         }
     }
 }
 
-// The index of the mark of this operation, if it has a note.
-pub(crate) fn index_of(notes: &[Note], id: OpId) -> Option<u64>
-    ensures { result ≡ table.index_of notes.now id }
+// The note of this operation, if it has one.
+pub(crate) fn note_of(notes: &[Note], id: OpId) -> Option<Note>
+    ensures { result ≡ table.note_of notes.now id }
 {
     for note in notes {
         if is_same_name(note.id, id) {
-            return Some(note.index);
+            return Some(*note);
         }
     }
     None
+}
+
+// How many entries must be replayed for what is noted at an index.
+pub(crate) fn after_at(notes: &[Note], index: u64) -> u64
+    ensures { result ≡ table.after_at notes.now index }
+{
+    for note in notes {
+        if note.index == index {
+            return note.after;
+        }
+    }
+    0
 }
 
 // Removes the note of this operation.

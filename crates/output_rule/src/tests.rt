@@ -43,7 +43,7 @@ fn operations_wait_for_their_acknowledgement(rt: HostRuntime) -> R<()> {
     assert_eq!(rt; coverage.release(&byte(3)), Ok(()));
     assert_eq!(rt; (coverage.told(0), coverage.told(1)), (3, 5));
     if log.first() == 0 && log.next() >= 2 {
-        coverage.acknowledge(&log, 2);
+        coverage.acknowledge(&log, 2, 0);
     }
     assert_eq!(rt; coverage.release(&byte(1)), Ok(()));
     assert_eq!(rt; coverage.release(&byte(2)), Err(Fault::NotCovered));
@@ -67,4 +67,24 @@ fn forgotten_and_lone_operations_do_not_wait(rt: HostRuntime) {
     coverage.all([2, 1]);
     assert_eq!(rt; coverage.release(&byte(1)), Ok(()));
     assert_eq!(rt; (coverage.told(0), coverage.told(1)), (2, 1));
+}
+
+#[test]
+fn writes_wait_for_the_reads_before_them(rt: HostRuntime) -> R<()> {
+    let mut log = LogBuffer::new(rt.alloc(), 0)?;
+    two_marks(&rt, &mut log);
+    let mut coverage = Coverage::new([0, 0]);
+    coverage.read(0);
+    coverage.note(OpId::Byte(0, 1), 1);
+    coverage.note(OpId::Write(1), 3);
+    if log.first() == 0 && log.next() >= 4 {
+        coverage.acknowledge(&log, 4, 0);
+    }
+    assert_eq!(rt; coverage.release(&byte(1)), Ok(()));
+    assert!(rt; coverage.covered(Some(1)) && !coverage.covered(Some(3)));
+    if log.first() <= 4 && log.next() >= 4 {
+        coverage.acknowledge(&log, 4, 1);
+    }
+    assert!(rt; coverage.covered(Some(3)));
+    Ok(())
 }

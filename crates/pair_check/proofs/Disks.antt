@@ -35,7 +35,8 @@ shows_records state copied M v c shows = record {
   };
 }
 
-records_show : {B H S : Type 0} (state : B → S) (copied : B → Guest) (M : Machine S) (v : Running B H Disk) (c : Course S)
+-- and the other way round
+pub records_show : {B H S : Type 0} (state : B → S) (copied : B → Guest) (M : Machine S) (v : Running B H Disk) (c : Course S)
     → Shows state copied M (λ records. records) (over_records v) c → Shows state copied M records_in v c
 unfolding over_records
 records_show state copied M v c shows = record {

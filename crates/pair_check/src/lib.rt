@@ -7,5 +7,5 @@ mod judging;
 mod verdict;
 
 pub use checking::compare;
-pub use disk::Disk;
+pub use disk::{Disk, sector_of};
 pub use verdict::Verdict;

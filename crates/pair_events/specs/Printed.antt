@@ -1,8 +1,10 @@
 -- What a script prints: a line for each reply, each refusal and each query, as docs/SCRIPTS.md has them.
-use Rattle.std.specs.Prelude.{ℕ, ◌/◌, ◌%◌, Bool, true, false, List, [], ◌∷◌, ◌++◌, codes}
+use Rattle.std.specs.Prelude.{ℕ, ◌/◌, ◌%◌, true, List, [], ◌∷◌, ◌++◌, codes}
 use Rattle.std.specs.List.{flat_map}
 use Rattle.std.specs.Fmt.{decimal, digit_glyph}
 use Rattle.event_callbacks.specs.declared.operations.OpId.TheVariants as id
+use Rattle.guest_board.specs.declared.replay_end.ReplayEnd.{ReplayEnd}
+use Rattle.guest_board.specs.declared.replay_end.ReplayEnd.TheVariants as ended
 use Rattle.guest_board.specs.declared.running.StopReason.{StopReason}
 use Rattle.guest_board.specs.declared.running.StopReason.TheVariants as stopped
 use Rattle.i8080_words.specs.declared.refusal.Fault.{Fault}
@@ -29,10 +31,12 @@ why_text (stopped.Refused Idle) = codes "idle"
 why_text (stopped.Refused Spent) = codes "spent"
 why_text (stopped.Refused _) = codes "memory"
 
--- moves that were made, and whether that was the end
-abbrev pub moved_text : ℕ → Bool → List ℕ
-moved_text moves false = codes "moved" ␣ decimal moves
-moved_text moves true = codes "moved" ␣ decimal moves ␣ codes "end"
+-- moves that were made, and why no more were
+abbrev pub moved_text : ℕ → ReplayEnd → List ℕ
+moved_text moves ended.Turns = codes "moved" ␣ decimal moves
+moved_text moves ended.End = codes "moved" ␣ decimal moves ␣ codes "end"
+moved_text moves ended.Wait = codes "moved" ␣ decimal moves ␣ codes "wait"
+moved_text moves ended.Memory = codes "moved" ␣ decimal moves
 
 -- The replies to events.
 abbrev pub reply_text : Reply → List ℕ
@@ -43,7 +47,7 @@ reply_text (reply.Message message) = codes "message" ␣ decimal message
 reply_text reply.New = codes "new"
 reply_text reply.Old = codes "old"
 reply_text (reply.Held held) = codes "held" ␣ decimal held
-reply_text (reply.Moved moves at_end) = moved_text moves at_end
+reply_text (reply.Moved moves reason) = moved_text moves reason
 reply_text (reply.MovedAlone moves) = codes "moved" ␣ decimal moves ␣ codes "alone"
 reply_text reply.Accepted = codes "accepted"
 reply_text reply.Dropped = codes "dropped"

@@ -38,6 +38,10 @@ pub enum Event {
     Get { node: u64, sector: u8 },
     /// A message with a sector that was read arrives at a node.
     GetReply { message: u64, node: u64 },
+    /// A node that waits for the bytes of a sector that its primary read asks the shared disk for them.
+    Fetch { node: u64 },
+    /// A message with such a sector arrives at a node that waits for it.
+    Fetched { message: u64, node: u64 },
     /// A node suspects its peer and asks the arbiter for its generation.
     Suspect { node: u64 },
     /// A backup that has won makes at most this many moves of the log that it still holds.

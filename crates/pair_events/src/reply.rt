@@ -4,7 +4,7 @@ ghost use Rattle.std.specs.Prelude.{Some};
 ghost use Rattle.pair_events.specs.Printed.{reply_text, role_text, why_text};
 
 use event_callbacks::OpId;
-use guest_board::StopReason;
+use guest_board::{ReplayEnd, StopReason};
 use i8080_words::Fault;
 use std::fmt;
 
@@ -52,10 +52,10 @@ pub enum Reply {
     Held {
         held: u64,
     },
-    /// The moves made, and whether no entry is left.
+    /// The moves made, and why no more were made.
     Moved {
         moves: u64,
-        at_end: bool,
+        why: ReplayEnd,
     },
     /// The moves made, after which no entry is left and the node is alone.
     MovedAlone {
@@ -134,8 +134,18 @@ impl fmt::Display for Reply {
             Reply::New => write!(f, "new"),
             Reply::Old => write!(f, "old"),
             Reply::Held { held } => write!(f, "held {held}"),
-            Reply::Moved { moves, at_end } if *at_end => write!(f, "moved {moves} end"),
-            Reply::Moved { moves, .. } => write!(f, "moved {moves}"),
+            Reply::Moved {
+                moves,
+                why: ReplayEnd::Turns | ReplayEnd::Memory,
+            } => write!(f, "moved {moves}"),
+            Reply::Moved {
+                moves,
+                why: ReplayEnd::End,
+            } => write!(f, "moved {moves} end"),
+            Reply::Moved {
+                moves,
+                why: ReplayEnd::Wait,
+            } => write!(f, "moved {moves} wait"),
             Reply::MovedAlone { moves } => write!(f, "moved {moves} alone"),
             Reply::Accepted => write!(f, "accepted"),
             Reply::Dropped => write!(f, "dropped"),

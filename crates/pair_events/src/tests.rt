@@ -1,7 +1,7 @@
 //! The words of a script's output.
 use crate::{Answer, Event, Reply, Role};
 use event_callbacks::OpId;
-use guest_board::StopReason;
+use guest_board::{ReplayEnd, StopReason};
 use i8080_words::Fault;
 use std::test::Fail;
 
@@ -12,7 +12,7 @@ fn replies_show_as_words(rt: HostRuntime) -> Result<(), Fail> {
         count: 18446744073709551615,
         why,
     };
-    let moved = |at_end| Reply::Moved { moves: 7, at_end };
+    let moved = |why| Reply::Moved { moves: 7, why };
     let texts = [
         (
             ran(StopReason::Turns),
@@ -44,8 +44,10 @@ fn replies_show_as_words(rt: HostRuntime) -> Result<(), Fail> {
         (Reply::New, "new"),
         (Reply::Old, "old"),
         (Reply::Held { held: 1 }, "held 1"),
-        (moved(false), "moved 7"),
-        (moved(true), "moved 7 end"),
+        (moved(ReplayEnd::Turns), "moved 7"),
+        (moved(ReplayEnd::End), "moved 7 end"),
+        (moved(ReplayEnd::Wait), "moved 7 wait"),
+        (moved(ReplayEnd::Memory), "moved 7"),
         (Reply::MovedAlone { moves: 7 }, "moved 7 alone"),
         (Reply::Accepted, "accepted"),
         (Reply::Dropped, "dropped"),

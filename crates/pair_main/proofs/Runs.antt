@@ -1,20 +1,26 @@
--- A run of a script is a run of the program.
+-- What a command prints is a run of the program.
 use Rattle.std.proofs.Common.{ℕ, Option, List, Result, Ok, Err}
 use Rattle.std.specs.Prelude.{⊤}
 use Rattle.pair_main.specs.Printing.{Prints}
-use Rattle.pair_main.specs.Runs.{IsRun, PrintsScript}
+use Rattle.pair_main.specs.Runs.{IsObeyed, IsRun}
+use Rattle.pair_main.specs.Sessions.{Answers}
 use Rattle.pair_main.specs.declared.failure.Failure.{Failure}
 use Rattle.pair_main.specs.declared.failure.Failure.TheVariants as failure
 use Rattle.pair_main.specs.declared.options.Order.{Order}
 use Rattle.pair_main.specs.declared.options.Order.TheVariants.{Script, Check}
+use Rattle.pair_main.specs.declared.options.Request.TheVariants.{Run, Shell}
 
 module _ {R W : Type 0} (contents : W → Option (List ℕ)) (reader reader' : R) (writer writer' : W) where
-  -- what a run of a script prints is a run of the program, whatever was read
   by_script : (order : Order) (lines : ℕ) (result : Result (Unit {0}) Failure)
       → Prints order lines (λ verdict. ⊤) result (contents writer) (contents writer')
-      → PrintsScript result (contents writer) (contents writer')
-  by_script order lines result h = record { order = order; lines = lines; prints = h }
+      → IsObeyed result (contents writer) (contents writer')
+  by_script order lines result h = record { request = Run order; obeys = (lines, h) }
 
+  by_session : (result : Result (Unit {0}) Failure) → Answers result (contents writer) (contents writer')
+      → IsObeyed result (contents writer) (contents writer')
+  by_session result h = record { request = Shell; obeys = h }
+
+  -- what a run of a script prints is a run of the program, whatever was read
   pub is_run : (order : Order) (lines : ℕ) (result : Result (Unit {0}) Failure)
       → Prints order lines (λ verdict. ⊤) result (contents writer) (contents writer')
       → IsRun contents reader reader' writer writer' result
@@ -28,3 +34,14 @@ module _ {R W : Type 0} (contents : W → Option (List ℕ)) (reader reader' : R
   is_run Check lines (Err (failure.CommandLine text)) h = absurd h
   is_run Check lines (Err failure.NotLive) h = absurd h
   is_run Check lines (Err (failure.BadScript line)) h = absurd h
+
+  -- so is what a session answers
+  pub is_session : (result : Result (Unit {0}) Failure) → Answers result (contents writer) (contents writer')
+      → IsRun contents reader reader' writer writer' result
+  is_session (Ok done) h = by_session (Ok done) h
+  is_session (Err failure.OutOfMemory) h = by_session (Err failure.OutOfMemory) h
+  is_session (Err failure.InputOrOutput) h = by_session (Err failure.InputOrOutput) h
+  is_session (Err failure.Differs) h = absurd h
+  is_session (Err (failure.CommandLine text)) h = absurd h
+  is_session (Err failure.NotLive) h = absurd h
+  is_session (Err (failure.BadScript line)) h = absurd h

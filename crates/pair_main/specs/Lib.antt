@@ -1,4 +1,5 @@
 pub mod Printing
 pub mod Reports
 pub mod Runs
+pub mod Sessions
 pub mod Statuses

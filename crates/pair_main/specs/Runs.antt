@@ -3,11 +3,13 @@ use Rattle.std.specs.Prelude.{◌≡◌, ℕ, ◌⊎◌, ⊤, Bool, true, false,
 use Rattle.std.specs.Cow.{cow_str_bytes}
 use Rattle.std.specs.declared.borrow.CowStr.{CowStr}
 use Rattle.pair_main.specs.Printing.{Prints}
+use Rattle.pair_main.specs.Sessions.{Answers}
 use Rattle.pair_main.specs.Statuses.{EndsBy}
 use Rattle.pair_main.specs.declared.failure.Failure.{Failure}
 use Rattle.pair_main.specs.declared.failure.Failure.TheVariants.{CommandLine, NotLive, BadScript}
 use Rattle.pair_main.specs.declared.failure.Failure.TheVariants.{OutOfMemory, InputOrOutput, Differs}
-use Rattle.pair_main.specs.declared.options.Order.{Order}
+use Rattle.pair_main.specs.declared.options.Request.{Request}
+use Rattle.pair_main.specs.declared.options.Request.TheVariants.{Run, Shell}
 
 -- what may be wrong before anything is read, and what may be wrong with what is read
 abbrev pub is_of_command_line : Failure → Bool
@@ -22,11 +24,15 @@ is_of_input OutOfMemory = true
 is_of_input InputOrOutput = true
 is_of_input _ = false
 
--- a script was run, by one order or the other
-pub record PrintsScript (result : Result (Unit {0}) Failure) (old new : Option (List ℕ)) : Type 0 where
-  pub order : Order
-  pub lines : ℕ
-  pub prints : Prints order lines (λ verdict. ⊤) result old new
+-- what a command prints: a script of some lines is run by an order, or lines are answered as they come
+abbrev pub Obeys : Request → Result (Unit {0}) Failure → Option (List ℕ) → Option (List ℕ) → Type 0
+Obeys (Run order) result old new = (lines : ℕ) × Prints order lines (λ verdict. ⊤) result old new
+Obeys Shell result old new = Answers result old new
+
+-- some command was obeyed
+pub record IsObeyed (result : Result (Unit {0}) Failure) (old new : Option (List ℕ)) : Type 0 where
+  pub request : Request
+  pub obeys : Obeys request result old new
 
 module _ {R W : Type 0} (contents : W → Option (List ℕ)) (reader reader' : R) (writer writer' : W) where
   -- what a failure leaves: a refused command line reads nothing, and a refused script prints nothing
@@ -34,12 +40,12 @@ module _ {R W : Type 0} (contents : W → Option (List ℕ)) (reader reader' : R
   Leaves (CommandLine text) = (reader' ≡ reader) × (writer' ≡ writer)
   Leaves NotLive = (reader' ≡ reader) × (writer' ≡ writer)
   Leaves (BadScript line) = writer' ≡ writer
-  Leaves OutOfMemory = PrintsScript (Err OutOfMemory) (contents writer) (contents writer')
-  Leaves InputOrOutput = PrintsScript (Err InputOrOutput) (contents writer) (contents writer')
-  Leaves Differs = PrintsScript (Err Differs) (contents writer) (contents writer')
+  Leaves OutOfMemory = IsObeyed (Err OutOfMemory) (contents writer) (contents writer')
+  Leaves InputOrOutput = IsObeyed (Err InputOrOutput) (contents writer) (contents writer')
+  Leaves Differs = IsObeyed (Err Differs) (contents writer) (contents writer')
 
   abbrev pub IsRun : Result (Unit {0}) Failure → Type 0
-  IsRun (Ok done) = PrintsScript (Ok done) (contents writer) (contents writer')
+  IsRun (Ok done) = IsObeyed (Ok done) (contents writer) (contents writer')
   IsRun (Err failure) = Leaves failure
 
 -- the status and the text of a failure; those of `OutOfMemory` if memory for the text is refused

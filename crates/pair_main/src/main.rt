@@ -6,6 +6,7 @@ mod options;
 mod program;
 mod report;
 mod session;
+mod shell;
 
 use crate::program::run_program;
 use std::env;

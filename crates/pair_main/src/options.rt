@@ -9,6 +9,15 @@ use std::alloc::Global;
 
 /// What the command line asks for.
 #[derive(Clone, Copy, Debug, PartialEq, Eq)]
+pub enum Request {
+    /// To run a script.
+    Run(Order),
+    /// To answer lines as they come.
+    Shell,
+}
+
+/// What is asked of a script.
+#[derive(Clone, Copy, Debug, PartialEq, Eq)]
 pub enum Order {
     /// To print what each line of a script answers.
     Script,
@@ -38,27 +47,32 @@ script; 4 out of memory; 5 input or output failed; 7 `check` found a difference.
 
 const SCRIPT_USAGE: &str = "pair script < FILE (the script comes from standard input)";
 
+const SHELL_USAGE: &str = "pair shell (lines come from standard input)";
+
 const CHECK_USAGE: &str = "pair check < FILE (the script comes from standard input)";
 
 /// What the words of a command line ask for; the first word is the program's name.
-pub fn order_of(alloc: Global, arguments: &[String]) -> Result<Order, Failure>
+pub fn request_of(alloc: Global, arguments: &[String]) -> Result<Request, Failure>
     ensures { IfErr result (λ e. is_of_command_line e ≡ true) }
 {
     match parse(alloc, arguments) {
-        Ok(Some(order)) => Ok(order),
+        Ok(Some(request)) => Ok(request),
         Ok(None) => Err(Failure::NotLive),
         Err(error) => Err(refusal(alloc, &error)),
     }
 }
 
-// The order; `None` if a pair on threads is asked for.
-fn parse(alloc: Global, arguments: &[String]) -> Result<Option<Order>, Error> {
+// The request; `None` if a pair on threads is asked for.
+fn parse(alloc: Global, arguments: &[String]) -> Result<Option<Request>, Error> {
     let script = Command::new(alloc, "script")
         .about("Runs a script, and prints a line for each event and query")
         .override_usage(SCRIPT_USAGE);
     let check = Command::new(alloc, "check")
         .about("Runs a script silently, and compares the pair with a single machine")
         .override_usage(CHECK_USAGE);
+    let shell = Command::new(alloc, "shell")
+        .about("Answers lines as they come; the line `help` lists them all")
+        .override_usage(SHELL_USAGE);
     let live = Command::new(alloc, "live").about("Runs a pair on threads (not there yet)");
     let pair = Command::new(alloc, "pair")
         .bin_name("pair")?
@@ -68,12 +82,14 @@ fn parse(alloc: Global, arguments: &[String]) -> Result<Option<Order>, Error> {
         .subcommand_required(true)
         .subcommand(script)?
         .subcommand(check)?
+        .subcommand(shell)?
         .subcommand(live)?;
     let matches = pair.try_get_matches_from(arguments)?;
     match matches.subcommand() {
-        Some(("check", _)) => Ok(Some(Order::Check)),
+        Some(("check", _)) => Ok(Some(Request::Run(Order::Check))),
+        Some(("shell", _)) => Ok(Some(Request::Shell)),
         Some(("live", _)) => Ok(None),
-        _ => Ok(Some(Order::Script)),
+        _ => Ok(Some(Request::Run(Order::Script))),
     }
 }
 

@@ -4,9 +4,9 @@ ghost use Rattle.pair_main.specs.Printing.{Prints};
 ghost use Rattle.pair_main.specs.Runs.{IsRun, IsEnding, is_of_input};
 
 use crate::failure::Failure;
-use crate::options::{Order, order_of};
+use crate::options::{Order, Request, request_of};
 use crate::report::Report;
-use crate::session;
+use crate::{session, shell};
 use event_callbacks::plain_completions;
 use script_language::{Script, parse, read_script};
 use std::alloc::Global;
@@ -29,7 +29,7 @@ pub fn run_program<R: Read + Drop, W: Write + Drop>(
     }
 }
 
-#[tactic(auto, using(crate::proofs::Runs::is_run))]
+#[tactic(auto, using(crate::proofs::Runs::is_run, crate::proofs::Runs::is_session))]
 fn run<R: Read + Drop, W: Write + Drop>(
     alloc: Global,
     arguments: &[String],
@@ -38,9 +38,20 @@ fn run<R: Read + Drop, W: Write + Drop>(
 ) -> Result<(), Failure>
     ensures { IsRun W.contents reader.old reader.new writer.old writer.new result }
 {
-    let order = order_of(alloc, arguments)?;
-    let script = script_of(alloc, reader)?;
-    run_script(alloc, order, &script, writer)
+    match request_of(alloc, arguments)? {
+        Request::Run(order) => {
+            let script = script_of(alloc, reader)?;
+            run_script(alloc, order, &script, writer)
+        }
+        Request::Shell => shell::run(
+            alloc,
+            reader,
+            writer,
+            plain_completions::sent,
+            plain_completions::sector,
+            plain_completions::written,
+        ),
+    }
 }
 
 // The whole script of the reader.

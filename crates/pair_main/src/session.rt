@@ -16,19 +16,16 @@ use crate::options::Order;
 use crate::report::Report;
 use clone_state::{Copies, DraftedBoard};
 use disk_dcdd::SectorWrite;
-use event_callbacks::{Callbacks, Completes, PORTS};
-use ft_world::{Message, NodeStatus, World};
+use event_callbacks::Completes;
+use ft_world::World;
 use guest_board::Setup;
-use i8080_words::{Fault, R};
+use i8080_words::R;
 use pair_check::{Disk, Verdict, compare};
 use pair_events::{Answer, Event};
-use script_language::{BootSector, Line, Query, Script, ScriptSetup};
-use shared_disk::{FailOnce, MemoryStore};
+use pair_shell::{boot, find};
+use script_language::{BootSector, Line, Script};
 use std::alloc::Global;
 use std::io::Write;
-
-/// A pair of Altairs over the program's disk.
-pub type Altairs<T, S, W> = World<DraftedBoard<T, S, W>, Disk, Callbacks<T, S, W>>;
 
 /// Boots a pair whose completions are these closures, and runs a script: either its lines are answered, or the pair is
 /// compared at its end with a single machine.
@@ -99,35 +96,6 @@ fn writes_of(alloc: Global, sectors: &[BootSector]) -> R<Vec<SectorWrite>> {
     Ok(writes)
 }
 
-// A pair of this setup, with its spare hosts.
-fn boot<T: Completes + Drop + Copy, S: Completes + Drop + Copy, W: Completes + Drop + Copy>(
-    alloc: Global,
-    setup: &ScriptSetup,
-    sectors: &[SectorWrite],
-    sent: T,
-    sector: S,
-    written: W,
-) -> R<Altairs<T, S, W>>
-    requires sent { Keeps (T.may sent) (T.gives sent) SENT }
-    requires sector { Keeps (S.may sector) (S.gives sector) SECTOR }
-    requires written { Keeps (W.may written) (W.gives written) WRITTEN }
-{
-    let records = MemoryStore::at_boot(alloc, setup.guest.drives, sectors)?;
-    let disk = FailOnce::new(records, setup.failing_access);
-    let primary = Callbacks::of(sent, sector, written);
-    let backup = Callbacks::of(sent, sector, written);
-    let mut world = match World::boot(alloc, &setup.guest, disk, primary, backup) {
-        Ok(world) => world,
-        Err((_, _, _, fault)) => return Err(fault),
-    };
-    for _ in 2..setup.hosts {
-        if let Err((_, fault)) = world.host(Callbacks::of(sent, sector, written)) {
-            return Err(fault);
-        }
-    }
-    Ok(world)
-}
-
 // Makes every event happen, and answers nothing.
 fn run_silently<B: Copies<H> + Drop, H: Drop>(
     alloc: Global,
@@ -190,39 +158,5 @@ fn answer<B: Copies<H> + Drop, H: Drop, O: Write + Drop>(
             report.line(writer, &answer)
         }
         Line::Query(query) => report.line(writer, &find(world, query)),
-    }
-}
-
-// What a query finds.
-fn find<'a, B: Copies<H> + Drop, H: Drop>(
-    world: &'a World<B, Disk, H>,
-    query: Query,
-) -> Answer<'a> {
-    match query {
-        Query::Show { port } if (port as usize) < PORTS => Answer::Accepted {
-            port,
-            bytes: world.accepted(port),
-        },
-        Query::Show { .. } => Answer::Refused(Fault::Unknown),
-        Query::Packet { message } => match world.message(message) {
-            Some(Message::Log(packet)) => Answer::Packet(packet),
-            Some(Message::Ack(packet)) => Answer::Packet(packet),
-            Some(Message::Part(bytes)) => Answer::Packet(bytes),
-            _ => Answer::Refused(Fault::Unknown),
-        },
-        Query::Node { node } => match world.node(node) {
-            Some(
-                NodeStatus {
-                    role,
-                    generation,
-                    count,
-                },
-            ) => Answer::Node {
-                role,
-                generation,
-                count,
-            },
-            None => Answer::Refused(Fault::Unknown),
-        },
     }
 }

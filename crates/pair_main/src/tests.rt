@@ -4,6 +4,7 @@ mod device_faults;
 mod endings;
 mod examples;
 mod rows;
+mod shells;
 
 use crate::program::run_program;
 use std::alloc::{AllocError, Global};

@@ -1,27 +1,34 @@
 -- A node whose machine boots elsewhere advances and replays as before: neither asks where its machine boots. Each fact
 -- is carried to the machine that boots elsewhere, and back by the same lemma.
-use Rattle.std.proofs.Common.{◌≡◌, Bool, List, refl, ℕ}
-use Rattle.pair_protocol.proofs.Words.{Entry, Input, Machine, Move, Node, Role, SectorAddress, booted_from, keys_covered}
+use Rattle.std.proofs.Common.{◌≡◌, Bool, List, Option, refl, ℕ}
+use Rattle.pair_protocol.proofs.Words.{Entry, Input, Machine, Move, Node, Reads, Role, SectorAddress, booted_from, keys_covered}
 use Rattle.guest_board.proofs.Booted.{Recorded-booted}
 use Rattle.log_entry.specs.Standing.{IsOnTrace, Stands}
-use Rattle.pair_protocol.specs.Effects.{Advances, AtEnd, Drained, Ends, Gives, Goes, IsBehind, NoMemory, NoTurns, NoneLeft, OneInput, OneMark, OneStep, Replayed, Replays, Short, Stepped, Took, Waits}
+use Rattle.pair_protocol.specs.Effects.{Advances, AtEnd, AwaitsBytes, Drained, Ends, Gives, Goes, IsBehind, NoMemory, NoTurns, NoneLeft, OneInput, OneMark, OneRead, OneStep, Replayed, Replays, Short, Stepped, Took, Waits}
+use Rattle.guest_board.specs.declared.replay_end.ReplayEnd.{ReplayEnd}
 use Rattle.guest_board.specs.declared.running.StopReason.{StopReason}
 
 -- ---- to the machine that boots elsewhere
 
 module _ {S : Type 0} (M : Machine S) (start : S) (sectors : SectorAddress → List ℕ) where
-  pub Stands-booted : (s : S) (held : List Entry) (owes : Bool) (moves : List Move) (last : S)
-      → Stands M s held owes moves last → Stands (booted_from M start sectors) s held owes moves last
-  Stands-booted s held owes moves last h =
-      record { runs = Recorded-booted M start sectors s last moves h.runs; later = h.later; next_ones = h.next_ones }
+  pub Stands-booted : (reads : Reads) (s : S) (held : List Entry) (fetched : Option (List ℕ)) (owes : Bool)
+      (moves : List Move) (last : S) → Stands M reads s held fetched owes moves last
+      → Stands (booted_from M start sectors) reads s held fetched owes moves last
+  Stands-booted reads s held fetched owes moves last h = record {
+    runs = Recorded-booted M start sectors s last moves h.runs;
+    later = h.later;
+    next_ones = h.next_ones;
+    takes = h.takes;
+  }
 
-  pub IsOnTrace-booted : (s : S) (held : List Entry) → IsOnTrace M s held
-      → IsOnTrace (booted_from M start sectors) s held
-  IsOnTrace-booted s held h = record {
+  pub IsOnTrace-booted : (s : S) (held : List Entry) (fetched : Option (List ℕ)) → IsOnTrace M s held fetched
+      → IsOnTrace (booted_from M start sectors) s held fetched
+  IsOnTrace-booted s held fetched h = record {
+    reads = h.reads;
     owes = h.owes;
     moves = h.moves;
     last = h.last;
-    stands = Stands-booted s held h.owes h.moves h.last h.stands;
+    stands = Stands-booted h.reads s held fetched h.owes h.moves h.last h.stands;
   }
 
   pub IsBehind-booted : (x : Node S) → IsBehind M x → IsBehind (booted_from M start sectors) x
@@ -40,10 +47,12 @@ module _ {S : Type 0} (M : Machine S) (start : S) (sectors : SectorAddress → L
       → Replays (booted_from M start sectors) x turns y made
   Replays-booted NoTurns = NoTurns
   Replays-booted (AtEnd none) = AtEnd none
+  Replays-booted (AwaitsBytes wants) = AwaitsBytes wants
   Replays-booted (NoMemory behind) = NoMemory (IsBehind-booted _ behind)
   Replays-booted (OneStep e s gives next below made rest) = OneStep e s gives next below made (Replays-booted rest)
   Replays-booted (OneMark e next at mark rest) = OneMark e next at mark (Replays-booted rest)
   Replays-booted (OneInput e i s next at input taken rest) = OneInput e i s next at input taken (Replays-booted rest)
+  Replays-booted (OneRead d n k bytes s next come taken rest) = OneRead d n k bytes s next come taken (Replays-booted rest)
 
   pub Stepped-booted : {turns made count : ℕ} {why : StopReason} {x y : Node S} → Stepped M turns made count why x y
       → Stepped (booted_from M start sectors) turns made count why x y
@@ -52,12 +61,12 @@ module _ {S : Type 0} (M : Machine S) (start : S) (sectors : SectorAddress → L
   pub Took-booted : {i : Input} {x y : Node S} → Took M i x y → Took (booted_from M start sectors) i x y
   Took-booted h = record { s = h.s; takes = h.takes; after = h.after }
 
-  pub Replayed-booted : {turns made : ℕ} {end : Bool} {x y : Node S} → Replayed M turns made end x y
-      → Replayed (booted_from M start sectors) turns made end x y
+  pub Replayed-booted : {turns made : ℕ} {why : ReplayEnd} {x y : Node S} → Replayed M turns made why x y
+      → Replayed (booted_from M start sectors) turns made why x y
   Replayed-booted h = record { moves = Replays-booted h.moves; some = h.some; ends = h.ends }
 
-  pub Drained-booted : {turns made : ℕ} {alone : Bool} {x y : Node S} → Drained M turns made alone x y
-      → Drained (booted_from M start sectors) turns made alone x y
+  pub Drained-booted : {turns made : ℕ} {why : ReplayEnd} {x y : Node S} → Drained M turns made why x y
+      → Drained (booted_from M start sectors) turns made why x y
   Drained-booted h = record { z = h.z; replayed = Replayed-booted h.replayed; after = h.after }
 
   pub keys_covered-booted : (x : Node S) (port : ℕ) (role : Role)
@@ -67,5 +76,6 @@ module _ {S : Type 0} (M : Machine S) (start : S) (sectors : SectorAddress → L
 -- ---- and back
 
 pub IsOnTrace-back : {S : Type 0} (M : Machine S) (start : S) (sectors : SectorAddress → List ℕ) (s : S)
-    (held : List Entry) → IsOnTrace (booted_from M start sectors) s held → IsOnTrace M s held
+    (held : List Entry) (fetched : Option (List ℕ)) → IsOnTrace (booted_from M start sectors) s held fetched
+    → IsOnTrace M s held fetched
 IsOnTrace-back M start sectors = IsOnTrace-booted (booted_from M start sectors) M.boot M.boot_sector

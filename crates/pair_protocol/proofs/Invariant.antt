@@ -6,9 +6,8 @@ pub mod Frames
 pub mod Acting
 use Rattle.std.proofs.Common.{[], ◌++◌, ◌+◌, ◌<◌, ◌≡◌, ◌≤◌, ◌⊎◌, List, None, Option, Some, length, map, true, ℕ}
 use Rattle.std.specs.Prelude.{slice_get}
-use Rattle.pair_protocol.proofs.Words.{Acknowledgement, Alone, Among, Arrival, Backup, Byte, Copying, Draining, Entry, ImagePart, IsPrefix, Joining, LogEntry, Machine, Message, Move, Node, Operation, Owns, Primary, Recorded, Released, Replaying, Runs, SectorAddress, SectorRead, SectorWrite, Spare, Terminal, Timed, Winner, World, Write, WriteDone, acceptances, accepted_in, address_of, cut, entries, inputs, keys, operations, steps, terminal_in, winner_in}
+use Rattle.pair_protocol.proofs.Words.{Acknowledgement, Alone, Among, Arrival, Backup, Byte, Copying, Draining, Entry, ImagePart, IsPrefix, Joining, LogEntry, Machine, Message, Move, Node, Operation, Owns, Primary, Reads, Recorded, Released, Replaying, Runs, SectorAddress, SectorRead, SectorWrite, Spare, Terminal, Timed, Winner, World, Write, WriteDone, acceptances, accepted_in, address_of, cut, entries, inputs, is_read, keys, operations, steps, terminal_in, winner_in}
 use Rattle.guest_trace.specs.declared.timed.Bare.TheVariants.{Written}
-use Rattle.pair_protocol.specs.Waiting.{is_read}
 pub use Rattle.pair_protocol.proofs.Invariant.Progress.{AreNoted, AtPlace, HasGathered, HasLogged, HasMade, HoldsLog, IsNoted, ReplayedMoves}
 
 -- Whether nobody has won a generation, or its primary, or its backup: the node that began it in that role.
@@ -19,6 +18,8 @@ pub data Stage : Type 0 where
 
 -- The line of moves of a generation.
 pub record Line (S : Type 0) : Type 0 where
+  -- how its log carries the sectors that its primary reads
+  pub reads : Reads
   -- what was settled when the generation began
   pub base : List Move
   -- what its primary has made since
@@ -54,6 +55,8 @@ winner_at BackupWon primary backup = Some backup
 pub record IsPrimary {S : Type 0} (M : Machine S) (l : Line S) (a : Node S) : Type 0 where
   -- it is a primary still, or alone because it has won
   pub role : (a.role ≡ Primary) ⊎ ((a.role ≡ Alone) × (l.stage ≡ PrimaryWon))
+  -- it logs its sectors as the line says
+  pub reads : a.reads ≡ l.reads
   -- its machine has made its own moves
   pub made : HasMade M l.mid l.base l.own a.machine a.list
   pub open made use *
@@ -64,11 +67,11 @@ pub record IsPrimary {S : Type 0} (M : Machine S) (l : Line S) (a : Node S) : Ty
   -- its image, if any, is the machine at the end of the base
   pub image : (s : S) → a.image ≡ Some s → s ≡ l.mid
   -- its log has the entries of its own moves, each operation of which is noted
-  pub logged : a.role ≡ Primary → HasLogged (steps l.base) l.own a.log a.notes
+  pub logged : a.role ≡ Primary → HasLogged l.reads (steps l.base) l.own a.log a.notes
 
 -- A node that replays has made some of the primary's moves.
 abbrev pub HasReplayed : {S : Type 0} → Machine S → Line S → Node S → Type 0
-HasReplayed M l b = ReplayedMoves M l.mid (steps l.base) l.own b.machine b.held b.replayed
+HasReplayed M l b = ReplayedMoves M l.mid l.reads (steps l.base) l.own b.machine b.held b.replayed
 
 -- All moves since the base of a backup that is alone.
 abbrev pub alone_moves : {S : Type 0} → Line S → List Entry → List Move
@@ -86,7 +89,7 @@ pub data BackupState {S : Type 0} (M : Machine S) (C : Copying S) (l : Line S) (
 -- The backup of a generation.
 pub record IsBackup {S : Type 0} (M : Machine S) (C : Copying S) (l : Line S) (b : Node S) : Type 0 where
   pub state : BackupState M C l b
-  pub log : HoldsLog l.base l.own b.copy b.start b.held
+  pub log : HoldsLog l.reads l.base l.own b.copy b.start b.held
   pub open log use *
 
 -- the primary is still of the generation
@@ -138,12 +141,12 @@ pub record IsLine {S : Type 0} (M : Machine S) (l : Line S) : Type 0 where
   -- primary and backup are two nodes
   pub apart : l.primary ≡ l.backup → ⊥
   -- what is held is a prefix of the log
-  pub held : IsPrefix l.held (entries (steps l.base) l.own)
+  pub held : IsPrefix l.held (entries l.reads (steps l.base) l.own)
 
 -- What the messages of a generation say is true.
 pub record Says {S : Type 0} (C : Copying S) (messages : List Message) (g : ℕ) (l : Line S) : Type 0 where
   -- each log message is that entry of the log
-  pub logs : (i : ℕ) (e : Entry) → Among (LogEntry g i e) messages → slice_get (entries (steps l.base) l.own) i ≡ Some e
+  pub logs : (i : ℕ) (e : Entry) → Among (LogEntry g i e) messages → slice_get (entries l.reads (steps l.base) l.own) i ≡ Some e
   -- no acknowledgement is greater than what is held, and no more is replayed than held
   pub acks : (h r : ℕ) → Among (Acknowledgement g h r) messages → (h ≤ length l.held) × (r ≤ h)
   -- each part of the image is that of the machine at the end of the base

@@ -2,6 +2,8 @@
 pub mod PrimaryLog
 pub mod PrimaryMoves
 pub mod Replay
+pub mod Fetched
+pub mod Reads
 pub mod BackupChanges
 pub mod Primary
 pub mod Alone

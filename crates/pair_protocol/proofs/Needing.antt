@@ -1,10 +1,12 @@
 -- Out of memory is answered only if no refusal applies and the event may need memory.
 use Rattle.std.proofs.Common.{[], ◌∙◌, ◌∷◌, ◌≡◌, ◌≢◌, ◌⊎◌, Bool, List, None, Option, Some, ap, arith, cond, false, inl, inr, not, refl, subst, suc, sym, true, ℕ}
-use Rattle.std.specs.Prelude.{◌<◌, ◌==◌, if◌then◌else◌, length, slice_get}
+use Rattle.std.specs.Prelude.{◌<◌, ◌==◌, if◌then◌else◌, is_none, length, slice_get}
 use Rattle.pair_protocol.proofs.Words.{Alone, Backup, Copying, Draining, Entry, Joining, LogEntry, Machine, Message, Node, Primary, Spare, World, acts_as, count_of, is_role, winner_in}
+use Rattle.guest_board.specs.declared.replay_end.ReplayEnd.{ReplayEnd}
+use Rattle.guest_board.specs.declared.replay_end.ReplayEnd.TheVariants as ended
 use Rattle.i8080_words.specs.declared.refusal.Fault.TheVariants.{Lost, NotWhole, OutOfMemory, Unknown, WrongGeneration, WrongRole}
 use Rattle.i8080_words.specs.declared.refusal.Fault.{Fault}
-use Rattle.pair_protocol.specs.Effects.{AtEnd, IsBehind, NoMemory, NoTurns, OneInput, OneMark, OneStep, Replays, NeedsMoves}
+use Rattle.pair_protocol.specs.Effects.{AtEnd, AwaitsBytes, IsBehind, NoMemory, NoTurns, OneInput, OneMark, OneRead, OneStep, Replays, NeedsMoves, wanted}
 use Rattle.pair_protocol.specs.Event.{DeliverLog, Drain, Event, New, Old, Refused, Replay, Reply, Step, Suspect}
 use Rattle.pair_protocol.specs.Refusals.{ask_refusal, at_log_entry, at_node, deliver_log_refusal, fault_if, first_of, is_other, refusal, role_refusal, step_refusal, suspect_refusal}
 use Rattle.pair_protocol.specs.Row.{Accepts, DeviceFails, MayNeedMemory, Refuses, NeedsMemory}
@@ -77,9 +79,11 @@ needs_none M C w e other does needs new r (Refuses {fault = fault} p d) is =
 needs_none M C w e other does needs new r (DeviceFails p d) is = (cc)
 needs_none M C w e other does needs new r (NeedsMemory p d) is = needs d
 
-drain_other : (made : ℕ) (end : Bool) → drain_reply made end ≢ Refused OutOfMemory
-drain_other made true is = (cc)
-drain_other made false is = (cc)
+drain_other : (made : ℕ) (why : ReplayEnd) → drain_reply made why ≢ Refused OutOfMemory
+drain_other made ended.Turns is = (cc)
+drain_other made ended.End is = (cc)
+drain_other made ended.Wait is = (cc)
+drain_other made ended.Memory is = (cc)
 
 steps_none : {S : Type 0} (M : Machine S) (C : Copying S) (w : World S) (n : ℕ) → NeedsNone M C w (Step n 0)
 steps_none M C w n =
@@ -156,19 +160,23 @@ winners {S} M C w n x there won =
 -- ---- where moves end
 
 -- one more is made of one more
-one_more : {A B : Type 0} (made turns : ℕ) → (made ≡ turns) ⊎ A ⊎ B → (suc made ≡ suc turns) ⊎ A ⊎ B
+one_more : {A B C : Type 0} (made turns : ℕ) → (made ≡ turns) ⊎ A ⊎ B ⊎ C → (suc made ≡ suc turns) ⊎ A ⊎ B ⊎ C
 one_more made turns (inl all) = inl (ap suc all)
 one_more made turns (inr rest) = inr rest
 
 pub stops_at_steps : {S : Type 0} (M : Machine S) (x y : Node S) (turns made : ℕ) → Replays M x turns y made
     → (made ≡ turns) ⊎ (y.replayed ≡ length y.held)
     ⊎ ((e : Entry) × (slice_get y.held y.replayed ≡ Some e) × (M.count y.machine < count_of e))
+    ⊎ (is_none (wanted M y) ≡ false)
 stops_at_steps M x y turns made NoTurns = inl refl
 stops_at_steps M x y turns made (AtEnd none) = inr (inl none)
-stops_at_steps M x y turns made (NoMemory behind) = inr (inr (behind.next, behind.held, behind.later))
+stops_at_steps M x y turns made (AwaitsBytes wants) = inr (inr (inr wants))
+stops_at_steps M x y turns made (NoMemory behind) = inr (inr (inl (behind.next, behind.held, behind.later)))
 stops_at_steps M x y turns made (OneStep {turns = t} {made = k} e s gives next later goes rest) =
     one_more k t (stops_at_steps M _ y t k rest)
 stops_at_steps M x y turns made (OneMark {turns = t} {made = k} e next here mark rest) =
     one_more k t (stops_at_steps M _ y t k rest)
 stops_at_steps M x y turns made (OneInput {turns = t} {made = k} e i s next here input taken rest) =
+    one_more k t (stops_at_steps M _ y t k rest)
+stops_at_steps M x y turns made (OneRead {turns = t} {made = k} d n number bytes s next come taken rest) =
     one_more k t (stops_at_steps M _ y t k rest)

@@ -1,10 +1,11 @@
 -- Steps and replayed entries of one node, one action after another.
-use Rattle.std.proofs.Common.{[], ◌∙◌, ◌∷◌, ◌≡◌, List, None, Option, Some, ap, inl, inr, refl, set-set, subst, suc, sym, true, zero, ℕ}
-use Rattle.std.specs.Prelude.{slice_get, slice_set}
-use Rattle.pair_protocol.proofs.Words.{Acts, Alone, AloneSteps, Backup, Change, Changes, Copying, Draining, Joining, Machine, Node, Operation, Primary, PrimarySteps, Replaying, ReplaysInput, ReplaysMark, ReplaysStep, Role, Serving, Spare, Stays, Then, World, passes_input, passes_mark, plainly_steps, with_node}
-use Rattle.pair_protocol.specs.Effects.{Advances, AtEnd, Ends, Gives, Goes, NoMemory, NoTurns, NoneLeft, OneInput, OneMark, OneStep, Replays, Short, Waits, stepped}
+use Rattle.std.proofs.Common.{[], ◌∙◌, ◌∷◌, ◌≡◌, Bool, List, None, Option, Some, ap, cond, eqb-true, false, inl, inr, refl, set-set, subst, suc, sym, true, zero, ℕ}
+use Rattle.std.specs.Prelude.{◌==◌, slice_get, slice_set}
+use Rattle.pair_protocol.proofs.Words.{Acts, Alone, AloneSteps, Backup, Change, Changes, Copying, Draining, Entry, Joining, Machine, Mark, Node, Operation, Primary, PrimarySteps, Replaying, ReplaysInput, ReplaysMark, ReplaysRead, ReplaysStep, Role, Serving, Spare, Stays, Then, World, count_of, passes_input, passes_mark, passes_read, plainly_steps, read_of, with_node}
+use Rattle.pair_protocol.specs.Effects.{Advances, AtEnd, AwaitsBytes, Ends, Gives, Goes, NoMemory, NoTurns, NoneLeft, OneInput, OneMark, OneRead, OneStep, Replays, Short, Waits, read_at, stepped}
 use Rattle.guest_board.specs.declared.running.StopReason.{StopReason}
-use Rattle.pair_protocol.proofs.Traces.Lists.{get_set}
+use Rattle.log_entry.specs.declared.entry.Entry.TheVariants as entry
+use Rattle.pair_protocol.proofs.Traces.Lists.{get_set, same_some}
 
 -- ---- one node's moves
 
@@ -87,12 +88,36 @@ advance_changes M C w n x0 r h which (Goes {x = x} {y = y} s q rest) u e =
     (steps_once M C (with_node w n x) n x r s None which (moving w n x0 x r h u e) q)
     (advance_changes M C w n x0 r h which rest (t.0 ∙ u) (t.1 ∙ e))
 
+-- the entry that a node has come to, if that is a read
+read-entry : (e : Entry) (drive sector number : ℕ) → read_of e ≡ Some (drive, sector, number) →
+    e ≡ entry.Read (count_of e) drive sector number
+read-entry (Mark c) drive sector number h = (cc)
+read-entry (entry.Rx c port byte) drive sector number h = (cc)
+read-entry (entry.Sent c port) drive sector number h = (cc)
+read-entry (entry.Sector c d s n bytes) drive sector number h = (cc)
+read-entry (entry.Written c n) drive sector number h = (cc)
+read-entry (entry.Read c d s n) drive sector number h =
+    let e = same_some (d, s, n) (drive, sector, number) (Some (d, s, n)) refl h in
+    ap (λ (r : ℕ × ℕ × ℕ). entry.Read c r.0 r.1 r.2) e
+
+pub is-at-read : (count drive sector number : ℕ) (next : Option Entry) →
+    read_at count next ≡ Some (drive, sector, number) → next ≡ Some (entry.Read count drive sector number)
+is-at-read count drive sector number None h = (cc)
+is-at-read count drive sector number (Some e) h = go (count == count_of e) refl h
+  where
+    go : (here : Bool) → (count == count_of e) ≡ here →
+        cond here (read_of e) None ≡ Some (drive, sector, number) → Some e ≡ Some (entry.Read count drive sector number)
+    go false is h = (cc)
+    go true is h = ap (λ z. Some z) (read-entry e drive sector number h
+        ∙ ap (λ c. entry.Read c drive sector number) (sym (eqb-true count (count_of e) is)))
+
 pub replay_changes : {S : Type 0} (M : Machine S) (C : Copying S) (w : World S) (n : ℕ) (x0 : Node S) (r : Role) →
     slice_get w.nodes n ≡ Some x0 → Replaying r → {x y : Node S} {k made : ℕ} → Replays M x k y made →
     x.running ≡ true → x.role ≡ r →
     Changes M C (with_node w n x) (with_node w n y) × (y.running ≡ true) × (y.role ≡ r)
 replay_changes M C w n x0 r h which NoTurns u e = (Stays, u, e)
 replay_changes M C w n x0 r h which (AtEnd q) u e = (Stays, u, e)
+replay_changes M C w n x0 r h which (AwaitsBytes wants) u e = (Stays, u, e)
 replay_changes M C w n x0 r h which (NoMemory behind) u e = (Stays, u, e)
 replay_changes M C w n x0 r h which (OneStep {x = x} {y = y} en s o g c q rest) u e =
     let t = replay_changes M C w n x0 r h which rest u e in
@@ -104,6 +129,14 @@ replay_changes M C w n x0 r h which (OneInput {x = x} {y = y} en i s g c q v res
     let t = replay_changes M C w n x0 r h which rest u e in (
       on M C w n x (passes_input x s) y
           (ReplaysInput n x r en i s (moving w n x0 x r h u e) which g c q v) t.0,
+      t.1,
+      t.2,
+    )
+replay_changes M C w n x0 r h which (OneRead {x = x} {y = y} d k number bytes s next come v rest) u e =
+    let t = replay_changes M C w n x0 r h which rest u e in
+    let at = is-at-read (M.count x.machine) d k number (slice_get x.held x.replayed) next in (
+      on M C w n x (passes_read x s) y
+          (ReplaysRead n x r d k number bytes s (moving w n x0 x r h u e) which at come v) t.0,
       t.1,
       t.2,
     )

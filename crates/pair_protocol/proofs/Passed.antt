@@ -1,7 +1,7 @@
 -- What is known of a node and of a message if no refusal applies.
 use Rattle.std.proofs.Common.{[], ◌∙◌, ◌∷◌, ◌≡◌, ◌⊎◌, Bool, List, None, Option, Some, ap, cond, false, inl, inr, not, refl, subst, sym, true, ℕ}
 use Rattle.std.specs.Prelude.{◌&&◌, ◌||◌, slice_get}
-use Rattle.pair_protocol.proofs.Words.{Acts, Alone, Among, Backup, Change, Changes, Copying, Draining, Joining, Machine, Node, Primary, Role, Serving, Spare, Stays, Then, World, acts_as, is_role}
+use Rattle.pair_protocol.proofs.Words.{Acts, Alone, Among, Backup, Change, Changes, Copying, Draining, Joining, Machine, Node, Primary, Replaying, Role, Serving, Spare, Stays, Then, World, acts_as, is_role}
 use Rattle.i8080_words.specs.declared.refusal.Fault.TheVariants.{Lost, Unknown, WrongRole}
 use Rattle.i8080_words.specs.declared.refusal.Fault.{Fault}
 use Rattle.pair_protocol.specs.Refusals.{at_node, fault_if, first_of, role_refusal, serves}
@@ -87,6 +87,11 @@ pub serving : {S : Type 0} (w : World S) (n : ℕ) (x : Node S) → slice_get w.
     (r : Role) × Acts w n x r × Serving r
 serving w n x t h = let a = acts-role w n x (Primary ∷ Alone ∷ []) t
     (passes-if (acts_as x (Primary ∷ Alone ∷ [])) WrongRole h) in (a.0, a.1, two_roles a.0 Primary Alone a.2)
+
+pub replaying : {S : Type 0} (w : World S) (n : ℕ) (x : Node S) → slice_get w.nodes n ≡ Some x →
+    role_refusal (Backup ∷ Draining ∷ []) x ≡ None → (r : Role) × Acts w n x r × Replaying r
+replaying w n x t h = let a = acts-role w n x (Backup ∷ Draining ∷ []) t
+    (passes-if (acts_as x (Backup ∷ Draining ∷ [])) WrongRole h) in (a.0, a.1, two_roles a.0 Backup Draining a.2)
 
 -- no refusal of the node's part applies, and the node is no spare host
 pub node-passed : {S : Type 0} (o : Option (Node S)) (x : Node S) (part : Node S → Option Fault) → o ≡ Some x →

@@ -1,19 +1,23 @@
 -- A row is a sequence of actions: what passes the refusals meets what the actions ask for.
-use Rattle.std.proofs.Common.{[], ◌∙◌, ◌∷◌, ◌≡◌, Bool, None, Some, ap, arith, eqb-true, false, inl, inr, length, not, refl, subst, suc, sym, true, zero, ℕ}
-use Rattle.std.specs.Prelude.{◌&&◌, is_none, slice_get}
-use Rattle.pair_protocol.proofs.Words.{Acknowledgement, Acts, Alone, AloneReleases, Backup, Change, Changes, Copying, Draining, Entry, GoesLive, ImagePart, Joining, LogEntry, Machine, Node, OpId, Operation, Primary, PrimaryReleases, Released, Role, Serving, Spare, Stays, Then, World, acts_as, covers, gets_part, halts, hears, holds, is_role, joins, keys_covered, note_of, replay_told, winner_in, with_message, with_node, with_told, with_winner}
-use Rattle.i8080_words.specs.declared.refusal.Fault.TheVariants.{Lost, NotCovered, NotDue, NotWhole, Unknown, WrongGeneration, WrongRole}
+use Rattle.std.proofs.Common.{[], ◌∙◌, ◌∷◌, ◌≡◌, ◌≤◌, Bool, List, None, Option, Some, ap, arith, cond, eqb-true, false, inl, inr, length, not, refl, subst, suc, sym, true, zero, ℕ}
+use Rattle.std.specs.Prelude.{◌&&◌, ◌==◌, is_none, slice_get}
+use Rattle.pair_protocol.proofs.Words.{Acknowledgement, Acts, Alone, AloneReleases, Backup, Change, Changes, Copying, Draining, Entry, GoesLive, ImagePart, Joining, LogEntry, Machine, Node, OpId, Operation, Primary, PrimaryReleases, Reads, Released, Role, SectorRead, Serving, Spare, Stays, Then, World, acts_as, covers, fetches, gets_part, halts, hears, holds, is_role, joins, keys_covered, note_of, replay_told, same_address, told_by, winner_in, with_message, with_node, with_told, with_winner}
+use Rattle.guest_board.specs.declared.reads.Reads.TheVariants.{Logged, Shared}
+use Rattle.guest_board.specs.declared.replay_end.ReplayEnd.{ReplayEnd}
+use Rattle.guest_board.specs.declared.replay_end.ReplayEnd.TheVariants.{End, Memory, Turns, Wait}
+use Rattle.i8080_words.specs.declared.refusal.Fault.TheVariants.{Lost, NotCovered, NotDue, NotWhole, StaleRead, Unknown, WrongGeneration, WrongRole}
 use Rattle.i8080_words.specs.declared.refusal.Fault.{Fault}
-use Rattle.pair_protocol.specs.Change.{Begins, Joins, Reads, Wins}
-use Rattle.pair_protocol.specs.Effects.{Again, Comes, Completes, GotPart, Halted, Held, after_drain, at_end}
-use Rattle.pair_protocol.specs.Event.{Acknowledge, Arrive, BeginPair, DeliverAcknowledgement, DeliverLog, Drain, Event, Freshen, Get, GetReply, PartComes, Put, PutReply, Release, Replay, Reply, Send, SendPart, Step, Stop, Suspect, TakeKey, TellSent, Told, TypeByte}
-use Rattle.pair_protocol.specs.Refusals.{acknowledge_refusal, ask_refusal, at_acknowledgement, at_host, at_log_entry, at_part, deliver_acknowledgement_refusal, deliver_log_refusal, drain_refusal, fault_if, first_of, generation_refusal, no_port, no_such, pair_refusal, part_comes_refusal, refusal, release_refusal, replay_refusal, role_refusal, send_part_refusal, send_refusal, serves, step_refusal, stop_refusal, suspect_refusal, told_refusal}
+use Rattle.pair_protocol.specs.Change.{Begins, Joins, ReadsSector, Wins}
+use Rattle.pair_protocol.specs.Effects.{Again, Comes, Completes, GotPart, Halted, Held, after_drain, next_read, replay_end, wanted, wanted_of}
+use Rattle.pair_protocol.specs.Event.{Acknowledge, Arrive, BeginPair, DeliverAcknowledgement, DeliverLog, Drain, Event, Fetch, Fetched, Freshen, Get, GetReply, PartComes, Put, PutReply, Release, Replay, Reply, Send, SendPart, Step, Stop, Suspect, TakeKey, TellSent, Told, TypeByte}
+use Rattle.pair_protocol.specs.Refusals.{acknowledge_refusal, ask_refusal, at_acknowledgement, at_fetched, at_host, at_log_entry, at_node, at_part, deliver_acknowledgement_refusal, deliver_log_refusal, drain_refusal, fault_if, fetched_refusal, first_of, generation_refusal, no_port, no_such, pair_refusal, part_comes_refusal, refusal, release_refusal, replay_refusal, role_refusal, send_part_refusal, send_refusal, serves, step_refusal, stop_refusal, suspect_refusal, told_refusal, unwanted}
 use Rattle.pair_protocol.specs.Row.{Accepts, DeviceFails, Leaves, Refuses, Row, NeedsMemory}
 use Rattle.pair_protocol.specs.Rows as row
-use Rattle.pair_protocol.specs.Rows.{AtNode, BeginsPair, DeliversLog, Does, Drains, Steps, Suspects}
+use Rattle.pair_protocol.specs.Rows.{AtNode, BeginsPair, DeliversLog, Does, Drains, Steps, Suspects, TakesFetched}
+use Rattle.pair_protocol.proofs.Keeps.Disk.{same_address-is}
 use Rattle.pair_protocol.proofs.InputRows.{does_get_reply, does_put_reply, does_take_key, does_tell_sent}
-use Rattle.pair_protocol.proofs.OneNode.{advance_changes, from_here, moving, on, replay_changes, with_same}
-use Rattle.pair_protocol.proofs.Passed.{acts-in, and-false, changed, changes-append, first-passed, lost-no_spare, node-passed, not-false, not-stands, only-passed, or-false, passes-if, role_of, serving, unchanged}
+use Rattle.pair_protocol.proofs.OneNode.{advance_changes, from_here, is-at-read, moving, on, replay_changes, with_same}
+use Rattle.pair_protocol.proofs.Passed.{acts-in, and-false, changed, changes-append, first-passed, lost-no_spare, node-passed, not-false, not-stands, only-passed, or-false, passes-if, replaying, role_of, serving, unchanged}
 
 -- ---- each event
 
@@ -61,6 +65,11 @@ does_deliver_log M C w m n r new p d =
     held_changes M C w m n x d.at.y d.index d.e d.next new (acts-in w n x Backup d.at.there f.0)
     (d.message ∙ ap (λ z. Some (LogEntry z d.index d.e)) g) d.at.done d.at.after
 
+-- no more is reported as replayed than is replayed
+told-few : (reads : Reads) (replayed : ℕ) → told_by reads replayed ≤ replayed
+told-few Logged replayed = omega arith
+told-few Shared replayed = omega arith
+
 pub does_acknowledge : {S : Type 0} (M : Machine S) (C : Copying S) (w : World S) (n : ℕ) (r : Reply) (new : World S) →
     refusal M C w (Acknowledge n) ≡ None → row.Acknowledges w n r new → Changes M C w new
 does_acknowledge M C w n r new p d =
@@ -69,7 +78,7 @@ does_acknowledge M C w n r new p d =
     changed M C w new (with_message w (Acknowledgement x.generation (length x.held) (replay_told x)))
     (d.says.after ∙ ap (λ k. with_message w (Acknowledgement x.generation k d.replayed)) d.node.said.0
     ∙ ap (λ k. with_message w (Acknowledgement x.generation (length x.held) k)) d.node.said.1)
-    (Change.Acknowledges n x (replay_told x) (acts-in w n x Backup d.node.there q) (omega arith))
+    (Change.Acknowledges n x (replay_told x) (acts-in w n x Backup d.node.there q) (told-few x.reads x.replayed))
 
 pub does_deliver_acknowledgement : {S : Type 0} (M : Machine S) (C : Copying S) (w : World S) (m n : ℕ) (r : Reply) (new : World S) →
     refusal M C w (DeliverAcknowledgement m n) ≡ None → row.DeliversAcknowledgement w m n r new → Changes M C w new
@@ -159,14 +168,29 @@ does_suspect M C w n r new p d = elim d.after [
   | inr h ↦ unchanged M C w new h.1
 ]
 
+-- the ending of moves after which nothing is left
+pub at-end : {S : Type 0} (M : Machine S) (y : Node S) (turns made : ℕ) → replay_end M y turns made ≡ End →
+    y.replayed ≡ length y.held
+at-end M y turns made h = go (y.replayed == length y.held) (is_none (wanted M y)) (made == turns) refl h
+  where
+    go : (none waits all : Bool) → (y.replayed == length y.held) ≡ none →
+        cond none End (cond waits (cond all Turns Memory) Wait) ≡ End → y.replayed ≡ length y.held
+    go true waits all is h = eqb-true y.replayed (length y.held) is
+    go false true true is h = (cc)
+    go false true false is h = (cc)
+    go false false all is h = (cc)
+
 pub drained : {S : Type 0} (M : Machine S) (C : Copying S) (w : World S) (n : ℕ) (x y : Node S) →
-    slice_get w.nodes n ≡ Some x → y.running ≡ true → y.role ≡ Draining → (b : Bool) → at_end y ≡ b →
-    Changes M C (with_node w n x) (with_node w n y) → Changes M C (with_node w n x) (with_node w n (after_drain y b))
-drained M C w n x y h u e false t c = c
-drained M C w n x y h u e true t c =
-    changes-append M C (with_node w n x) (with_node w n y) (with_node w n (after_drain y true)) c
-    (on M C w n y (after_drain y true) (after_drain y true)
-    (GoesLive n y (moving w n x y Draining h u e) (eqb-true y.replayed (length y.held) t)) Stays)
+    slice_get w.nodes n ≡ Some x → y.running ≡ true → y.role ≡ Draining → (why : ReplayEnd) →
+    (why ≡ End → y.replayed ≡ length y.held) →
+    Changes M C (with_node w n x) (with_node w n y) → Changes M C (with_node w n x) (with_node w n (after_drain y why))
+drained M C w n x y h u e Turns t c = c
+drained M C w n x y h u e Wait t c = c
+drained M C w n x y h u e Memory t c = c
+drained M C w n x y h u e End t c =
+    changes-append M C (with_node w n x) (with_node w n y) (with_node w n (after_drain y End)) c
+    (on M C w n y (after_drain y End) (after_drain y End)
+    (GoesLive n y (moving w n x y Draining h u e) (t refl)) Stays)
 
 pub does_drain : {S : Type 0} (M : Machine S) (C : Copying S) (w : World S) (n turns : ℕ) (r : Reply) (new : World S) →
     refusal M C w (Drain n turns) ≡ None → Drains M w n turns r new → Changes M C w new
@@ -176,8 +200,9 @@ does_drain M C w n turns r new p d =
     let q = (node-passed (slice_get w.nodes n) x drain_refusal d.at.there p).1 in
     let a = acts-in w n x Draining d.at.there q in
     let t = replay_changes M C w n x Draining d.at.there (inr refl) made.replayed.moves a.up a.role_is in
-    from_here M C w new n x (after_drain made.z d.alone) d.at.there (d.at.after ∙ ap (with_node w n) made.after)
-    (drained M C w n x made.z d.at.there t.1 t.2 d.alone (sym made.replayed.ends) t.0)
+    from_here M C w new n x (after_drain made.z d.why) d.at.there (d.at.after ∙ ap (with_node w n) made.after)
+    (drained M C w n x made.z d.at.there t.1 t.2 d.why
+    (λ z. at-end M made.z turns d.made (sym made.replayed.ends ∙ z)) t.0)
 
 pub does_begin_pair : {S : Type 0} (M : Machine S) (C : Copying S) (w : World S) (n host : ℕ) (r : Reply) (new : World S) →
     refusal M C w (BeginPair n host) ≡ None → BeginsPair M C w n host r new → Changes M C w new
@@ -233,6 +258,44 @@ does_part_comes {S} M C w m n r new p d = go d.at.done d.at.after
         (Then gets (on M C w n y (joins y s) (joins y s)
         (Joins n y parts s (moving w n x y Joining d.at.there a.up a.role_is) v made) Stays))
 
+-- the read that a node waits for
+wants : (fetched : Option (List ℕ)) (read wanted : Option (ℕ × ℕ × ℕ)) (r : ℕ × ℕ × ℕ) →
+    wanted_of fetched read ≡ wanted → wanted ≡ Some r → read ≡ Some r
+wants None read wanted r is w = is ∙ w
+wants (Some bytes) read wanted r is w = (cc)
+
+pub does_fetched : {S : Type 0} (M : Machine S) (C : Copying S) (w : World S) (m n : ℕ) (r : Reply) (new : World S) →
+    refusal M C w (Fetched m n) ≡ None → TakesFetched w m n r new → Changes M C w new
+does_fetched {S} M C w m n r new p d = go (wanted M x) refl (only-passed _ f.1)
+  where
+    x : Node S
+    x = d.at.x
+
+    k : at_node (slice_get w.nodes n) (fetched_refusal M d.address d.number) ≡ None
+    k = subst (λ z. at_fetched M (slice_get w.nodes n) z ≡ None) d.message p
+
+    f : (role_refusal (Backup ∷ Draining ∷ []) x ≡ None)
+        × (first_of (unwanted M x d.address d.number (wanted M x) ∷ []) ≡ None)
+    f = first-passed (role_refusal (Backup ∷ Draining ∷ []) x) _
+        (node-passed (slice_get w.nodes n) x (fetched_refusal M d.address d.number) d.at.there k).1
+
+    go : (wants_is : Option (ℕ × ℕ × ℕ)) → wanted M x ≡ wants_is → unwanted M x d.address d.number wants_is ≡ None →
+        Changes M C w new
+    go None is u = (cc)
+    go (Some read) is u =
+        let g = first-passed (fault_if (not (same_address (M.address x.machine read.0 read.1) d.address)) NotDue) _ u in
+        let at : M.address x.machine read.0 read.1 ≡ d.address =
+        same_address-is (M.address x.machine read.0 read.1) d.address (passes-if _ NotDue g.0) in
+        let same : read.2 ≡ d.number =
+        eqb-true read.2 d.number (passes-if _ StaleRead (only-passed _ g.1)) in
+        let here = is-at-read (M.count x.machine) read.0 read.1 read.2 (slice_get x.held x.replayed)
+        (wants x.fetched (next_read M x) (wanted M x) read refl is) in
+        let a = replaying w n x d.at.there f.0 in
+        changed M C w new (with_node w n (fetches x d.bytes)) (d.at.after ∙ ap (with_node w n) d.at.done)
+        (Change.Fetches n x a.0 m read.0 read.1 read.2 d.bytes a.1 a.2 here
+        (d.message ∙ ap (λ z. Some (SectorRead z d.number d.bytes)) (sym at)
+        ∙ ap (λ z. Some (SectorRead (M.address x.machine read.0 read.1) z d.bytes)) (sym same)))
+
 pub does_changes : {S : Type 0} (M : Machine S) (C : Copying S) (w : World S) (e : Event) (r : Reply) (new : World S) →
     refusal M C w e ≡ None → Does M C w e r new → Changes M C w new
 does_changes M C w (Step n turns) r new p d = does_step M C w n turns r new p d
@@ -253,12 +316,14 @@ does_changes M C w (Suspect n) r new p d = does_suspect M C w n r new p d
 does_changes M C w (Drain n turns) r new p d = does_drain M C w n turns r new p d
 does_changes M C w (Put m) r new p d = changed M C w new _ d.after (Change.Puts m d.write d.message)
 does_changes M C w (PutReply m n) r new p d = does_put_reply M C w m n r new p d
-does_changes M C w (Get n sector) r new p d = changed M C w new _ d.after (Reads d.address)
+does_changes M C w (Get n sector) r new p d = changed M C w new _ d.after (ReadsSector d.address)
 does_changes M C w (GetReply m n) r new p d = does_get_reply M C w m n r new p d
 does_changes M C w (BeginPair n host) r new p d = does_begin_pair M C w n host r new p d
 does_changes M C w (SendPart n index) r new p d = does_send_part M C w n index r new p d
 does_changes M C w (PartComes m n) r new p d = does_part_comes M C w m n r new p d
 does_changes M C w (Freshen n pages) r new p d = unchanged M C w new d.after
+does_changes M C w (Fetch n) r new p d = changed M C w new _ d.after (ReadsSector d.address)
+does_changes M C w (Fetched m n) r new p d = does_fetched M C w m n r new p d
 
 pub leaves_changes : {S : Type 0} (M : Machine S) (C : Copying S) (w : World S) (e : Event) (fault : Fault)
     (new : World S) → refusal M C w e ≡ Some fault → Leaves w e fault new → Changes M C w new

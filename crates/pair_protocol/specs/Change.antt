@@ -8,11 +8,13 @@ use Rattle.event_callbacks.specs.declared.operations.Operation.TheVariants.{Byte
 use Rattle.guest_board.specs.Machine.{Machine, refusal_of}
 use Rattle.guest_board.specs.declared.input.Input.{Input}
 use Rattle.guest_board.specs.declared.input.Input.TheVariants.{Rx, Sent, Sector, Written}
-use Rattle.log_entry.specs.Entries.{count_of, input_of}
+use Rattle.guest_board.specs.declared.reads.Reads.{Reads}
+use Rattle.log_entry.specs.Entries.{count_of, input_of, bare_of}
 use Rattle.log_entry.specs.declared.entry.Entry.{Entry}
+use Rattle.log_entry.specs.declared.entry.Entry.TheVariants as entry
 use Rattle.pair_protocol.specs.Lawful.{Among}
 use Rattle.pair_protocol.specs.Copying.{Copying}
-use Rattle.pair_protocol.specs.Node.{Node, Role, Primary, Backup, Joining, Draining, Alone, Spare, primary_steps, plainly_steps, primary_takes, alone_takes, holds, passes_mark, passes_input, hears, halts, goes_live, gets_part, joins, gathered, note_of, covers, keys_covered}
+use Rattle.pair_protocol.specs.Node.{Node, Role, Primary, Backup, Joining, Draining, Alone, Spare, primary_steps, plainly_steps, primary_takes, alone_takes, holds, passes_mark, passes_input, passes_read, fetches, hears, halts, goes_live, gets_part, joins, gathered, note_of, covers, keys_covered}
 use Rattle.pair_protocol.specs.World.{World, LogEntry, Acknowledgement, ImagePart, Released, WriteDone, SectorRead, terminal, accepted, winner_in, with_node, with_message, with_key, with_arrival, with_told, with_winner, with_put, with_read, with_pair, with_host, opening}
 
 -- the node of this number is running, in this role
@@ -33,6 +35,11 @@ MayTake M w x (Written number) = Among (WriteDone number) w.messages
 -- a node that replays: a backup, or one that drains
 abbrev pub Replaying : Role → Type 0
 Replaying role = (role ≡ Backup) ⊎ (role ≡ Draining)
+
+-- the next entry of a node is at its machine's count, and reads the sector of this drive and number as a write left it
+abbrev pub IsAtRead : {S : Type 0} → Machine S → Node S → ℕ → ℕ → ℕ → Type 0
+IsAtRead M x drive sector number =
+    slice_get x.held x.replayed ≡ Some (entry.Read (M.count x.machine) drive sector number)
 
 -- a node that serves: a primary, or one that is alone
 abbrev pub Serving : Role → Type 0
@@ -76,10 +83,18 @@ pub data Change {S : Type 0} (M : Machine S) (C : Copying S) (w : World S) : Wor
       M.step x.machine ≡ Some (s, gives) → Change M C w (with_node w n (plainly_steps x s))
   ReplaysMark : (n : ℕ) (x : Node S) (role : Role) (e : Entry) →
       Acts w n x role → Replaying role → slice_get x.held x.replayed ≡ Some e → M.count x.machine ≡ count_of e →
-      input_of e ≡ None → Change M C w (with_node w n (passes_mark x))
+      bare_of e ≡ None → Change M C w (with_node w n (passes_mark x))
   ReplaysInput : (n : ℕ) (x : Node S) (role : Role) (e : Entry) (i : Input) (s : S) →
       Acts w n x role → Replaying role → slice_get x.held x.replayed ≡ Some e → M.count x.machine ≡ count_of e →
       input_of e ≡ Some i → M.take x.machine i ≡ Some s → Change M C w (with_node w n (passes_input x s))
+  -- at a read it waits until the disk has answered with the sector as that write left it, and takes those bytes
+  Fetches : (n : ℕ) (x : Node S) (role : Role) (m drive sector number : ℕ) (bytes : List ℕ) →
+      Acts w n x role → Replaying role → IsAtRead M x drive sector number →
+      slice_get w.messages m ≡ Some (SectorRead (M.address x.machine drive sector) number bytes) →
+      Change M C w (with_node w n (fetches x bytes))
+  ReplaysRead : (n : ℕ) (x : Node S) (role : Role) (drive sector number : ℕ) (bytes : List ℕ) (s : S) →
+      Acts w n x role → Replaying role → IsAtRead M x drive sector number → x.fetched ≡ Some bytes →
+      M.take x.machine (Sector drive sector number bytes) ≡ Some s → Change M C w (with_node w n (passes_read x s))
   -- output rule: a primary releases an outstanding operation only if it is covered
   PrimaryReleases : (n : ℕ) (x : Node S) (name : OpId) (o : Operation) →
       Acts w n x Primary → M.find x.machine name ≡ Some o → covers x.covered x.reported (note_of x.notes name) ≡ true →
@@ -121,7 +136,7 @@ pub data Change {S : Type 0} (M : Machine S) (C : Copying S) (w : World S) : Wor
   -- a write arrives at the disk, or a sector of it is read
   Puts : (m : ℕ) (write : SectorWrite) → slice_get w.messages m ≡ Some (Released (Write write)) →
       Change M C w (with_put w write)
-  Reads : (address : SectorAddress) → Change M C w (with_read M w address)
+  ReadsSector : (address : SectorAddress) → Change M C w (with_read M w address)
 
 -- a sequence of actions
 pub data Changes {S : Type 0} (M : Machine S) (C : Copying S) : World S → World S → Type 0 where
@@ -130,5 +145,5 @@ pub data Changes {S : Type 0} (M : Machine S) (C : Copying S) : World S → Worl
 
 -- the worlds that actions reach
 pub data Reached {S : Type 0} (M : Machine S) (C : Copying S) : World S → Type 0 where
-  AtBoot : Reached M C (opening M)
+  AtBoot : (reads : Reads) → Reached M C (opening M reads)
   After : {w new : World S} → Reached M C w → Change M C w new → Reached M C new

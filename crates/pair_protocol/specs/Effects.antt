@@ -1,20 +1,23 @@
 -- What an event does at a node, as a relation of the node before and the node after it; what an event asks of a node,
 -- which then stays as it is; and what holds of a node at which an event is out of memory.
-use Rattle.std.specs.Prelude.{◌≡◌, ◌≢◌, ℕ, suc, ◌≤◌, ◌<◌, Bool, true, false, ◌==◌, ◌⊎◌, Option, Some, None, is_none, List, length, slice_get}
+use Rattle.std.specs.Prelude.{◌≡◌, ◌≢◌, ℕ, suc, ◌≤◌, ◌<◌, Bool, true, false, ◌==◌, if◌then◌else◌, ◌⊎◌, Option, Some, None, is_none, List, length, slice_get}
 use Rattle.disk_dcdd.specs.declared.address.SectorAddress.{SectorAddress}
 use Rattle.event_callbacks.specs.Operations.{id_of}
 use Rattle.event_callbacks.specs.declared.operations.OpId.{OpId}
 use Rattle.event_callbacks.specs.declared.operations.Operation.{Operation}
 use Rattle.guest_board.specs.Machine.{Machine}
 use Rattle.guest_board.specs.declared.input.Input.{Input}
+use Rattle.guest_board.specs.declared.input.Input.TheVariants as input
+use Rattle.guest_board.specs.declared.replay_end.ReplayEnd.{ReplayEnd}
+use Rattle.guest_board.specs.declared.replay_end.ReplayEnd.TheVariants.{Turns, End, Wait, Memory}
 use Rattle.guest_board.specs.declared.running.StopReason.{StopReason}
 use Rattle.guest_board.specs.declared.running.StopReason.TheVariants as reason
 use Rattle.i8080_words.specs.declared.refusal.Fault.TheVariants.{Spent, Idle, OutOfMemory}
-use Rattle.log_entry.specs.Entries.{count_of, input_of}
+use Rattle.log_entry.specs.Entries.{count_of, input_of, bare_of, read_of}
 use Rattle.log_entry.specs.declared.entry.Entry.{Entry}
 use Rattle.pair_protocol.specs.Copying.{Copying}
 use Rattle.pair_protocol.specs.Event.{Reply, New, Old, Whole}
-use Rattle.pair_protocol.specs.Node.{Node, Role, Primary, Backup, Joining, Draining, Alone, Spare, primary_steps, plainly_steps, primary_takes, alone_takes, holds, passes_mark, passes_input, replay_told, hears, halts, goes_live, gets_part, joins, gathered, keys_covered}
+use Rattle.pair_protocol.specs.Node.{Node, Role, Primary, Backup, Joining, Draining, Alone, Spare, primary_steps, plainly_steps, primary_takes, alone_takes, holds, passes_mark, passes_input, passes_read, fetches, replay_told, hears, halts, goes_live, gets_part, joins, gathered, keys_covered}
 
 -- ---- moves of a machine
 
@@ -49,6 +52,22 @@ pub data Advances {S : Type 0} (M : Machine S) : Node S → ℕ → Node S → �
   Goes : {x y : Node S} {turns made : ℕ} {why : StopReason} (s : S) → M.step x.machine ≡ Some (s, None) →
       Advances M (stepped M x x.role s None) turns y made why → Advances M x (suc turns) y (suc made) why
 
+-- the drive, the sector and the number of the read that a node has come to: its next entry, at its machine's count
+abbrev pub read_at : ℕ → Option Entry → Option (ℕ × ℕ × ℕ)
+read_at count None = None
+read_at count (Some e) = if count == count_of e then read_of e else None
+
+abbrev pub next_read : {S : Type 0} → Machine S → Node S → Option (ℕ × ℕ × ℕ)
+next_read M x = read_at (M.count x.machine) (slice_get x.held x.replayed)
+
+-- the read that it waits for: the bytes have not come
+abbrev pub wanted_of : Option (List ℕ) → Option (ℕ × ℕ × ℕ) → Option (ℕ × ℕ × ℕ)
+wanted_of None read = read
+wanted_of (Some bytes) read = None
+
+abbrev pub wanted : {S : Type 0} → Machine S → Node S → Option (ℕ × ℕ × ℕ)
+wanted M x = wanted_of x.fetched (next_read M x)
+
 -- its next move is a step: the next entry is at a later count
 pub record IsBehind {S : Type 0} (M : Machine S) (x : Node S) : Type 0 where
   pub next : Entry
@@ -59,31 +78,44 @@ pub record IsBehind {S : Type 0} (M : Machine S) (x : Node S) : Type 0 where
 pub data Replays {S : Type 0} (M : Machine S) : Node S → ℕ → Node S → ℕ → Type 0 where
   NoTurns : {x : Node S} → Replays M x 0 x 0
   AtEnd : {x : Node S} {turns : ℕ} → x.replayed ≡ length x.held → Replays M x (suc turns) x 0
+  -- the bytes of a sector have not come
+  AwaitsBytes : {x : Node S} {turns : ℕ} → is_none (wanted M x) ≡ false → Replays M x (suc turns) x 0
   -- a step is out of memory; no other move needs any
   NoMemory : {x : Node S} {turns : ℕ} → IsBehind M x → Replays M x (suc turns) x 0
   OneStep : {x y : Node S} {turns made : ℕ} (e : Entry) (s : S) (gives : Option Operation) →
       slice_get x.held x.replayed ≡ Some e → M.count x.machine < count_of e → M.step x.machine ≡ Some (s, gives) →
       Replays M (plainly_steps x s) turns y made → Replays M x (suc turns) y (suc made)
   OneMark : {x y : Node S} {turns made : ℕ} (e : Entry) →
-      slice_get x.held x.replayed ≡ Some e → M.count x.machine ≡ count_of e → input_of e ≡ None →
+      slice_get x.held x.replayed ≡ Some e → M.count x.machine ≡ count_of e → bare_of e ≡ None →
       Replays M (passes_mark x) turns y made → Replays M x (suc turns) y (suc made)
   OneInput : {x y : Node S} {turns made : ℕ} (e : Entry) (i : Input) (s : S) →
       slice_get x.held x.replayed ≡ Some e → M.count x.machine ≡ count_of e → input_of e ≡ Some i →
       M.take x.machine i ≡ Some s →
       Replays M (passes_input x s) turns y made → Replays M x (suc turns) y (suc made)
+  OneRead : {x y : Node S} {turns made : ℕ} (drive sector number : ℕ) (bytes : List ℕ) (s : S) →
+      next_read M x ≡ Some (drive, sector, number) → x.fetched ≡ Some bytes →
+      M.take x.machine (input.Sector drive sector number bytes) ≡ Some s →
+      Replays M (passes_read x s) turns y made → Replays M x (suc turns) y (suc made)
 
--- no move is made only if none was asked for, or none was left
-abbrev pub MovesSome : {S : Type 0} → Node S → ℕ → ℕ → Type 0
-MovesSome x turns made = (1 ≤ made) ⊎ (turns ≡ 0) ⊎ (x.replayed ≡ length x.held)
+-- no move is made only if none was asked for, none was left, or the first waits for bytes
+abbrev pub MovesSome : {S : Type 0} → Machine S → Node S → ℕ → ℕ → Type 0
+MovesSome M x turns made =
+    (1 ≤ made) ⊎ (turns ≡ 0) ⊎ (x.replayed ≡ length x.held) ⊎ (is_none (wanted M x) ≡ false)
 
--- nothing is left to replay
-abbrev pub at_end : {S : Type 0} → Node S → Bool
-at_end x = x.replayed == length x.held
+-- why a node that was to make so many moves made so many: nothing is left, it waits for bytes, all were made, or a step
+-- ran out of memory
+abbrev pub replay_end : {S : Type 0} → Machine S → Node S → ℕ → ℕ → ReplayEnd
+replay_end M y turns made =
+    if y.replayed == length y.held then End
+    else if is_none (wanted M y) then (if made == turns then Turns else Memory)
+    else Wait
 
 -- a node that won goes live once nothing is left
-abbrev pub after_drain : {S : Type 0} → Node S → Bool → Node S
-after_drain y false = y
-after_drain y true = goes_live y
+abbrev pub after_drain : {S : Type 0} → Node S → ReplayEnd → Node S
+after_drain y Turns = y
+after_drain y End = goes_live y
+after_drain y Wait = y
+after_drain y Memory = y
 
 -- ---- what an event does at a node
 
@@ -109,16 +141,20 @@ abbrev pub Heard : {S : Type 0} → ℕ → ℕ → ℕ → Node S → Node S �
 Heard held replayed covered x y = (covered ≡ (hears x held replayed).covered) × (y ≡ hears x held replayed)
 
 -- moves are made of what a node holds
-pub record Replayed {S : Type 0} (M : Machine S) (turns made : ℕ) (end : Bool) (x y : Node S) : Type 0 where
+pub record Replayed {S : Type 0} (M : Machine S) (turns made : ℕ) (why : ReplayEnd) (x y : Node S) : Type 0 where
   pub moves : Replays M x turns y made
-  pub some : MovesSome x turns made
-  pub ends : end ≡ at_end y
+  pub some : MovesSome M x turns made
+  pub ends : why ≡ replay_end M y turns made
 
 -- a node that won makes such moves, and is alone if nothing is left
-pub record Drained {S : Type 0} (M : Machine S) (turns made : ℕ) (alone : Bool) (x y : Node S) : Type 0 where
+pub record Drained {S : Type 0} (M : Machine S) (turns made : ℕ) (why : ReplayEnd) (x y : Node S) : Type 0 where
   pub z : Node S
-  pub replayed : Replayed M turns made alone x z
-  pub after : y ≡ after_drain z alone
+  pub replayed : Replayed M turns made why x z
+  pub after : y ≡ after_drain z why
+
+-- the bytes of the sector that a node waits for arrive
+abbrev pub Fetched : {S : Type 0} → List ℕ → Node S → Node S → Type 0
+Fetched bytes x y = y ≡ fetches x bytes
 
 -- a node halts
 abbrev pub Halted : {S : Type 0} → Node S → Node S → Type 0
@@ -155,6 +191,14 @@ HasCovered M port keys x = keys ≡ keys_covered M x port x.role
 pub record IsUnder {S : Type 0} (M : Machine S) (sector : ℕ) (address : SectorAddress) (x : Node S) : Type 0 where
   pub drive : ℕ
   pub selected : M.selected x.machine ≡ Some drive
+  pub address_is : address ≡ M.address x.machine drive sector
+
+-- the sector that it waits for
+pub record Wants {S : Type 0} (M : Machine S) (address : SectorAddress) (x : Node S) : Type 0 where
+  pub drive : ℕ
+  pub sector : ℕ
+  pub number : ℕ
+  pub read : wanted M x ≡ Some (drive, sector, number)
   pub address_is : address ≡ M.address x.machine drive sector
 
 -- the image has a part

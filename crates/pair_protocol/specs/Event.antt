@@ -1,6 +1,7 @@
 -- The events of a world, one for each row of a script, and their replies.
 use Rattle.std.specs.Prelude.{ℕ, Bool, true, false}
 use Rattle.event_callbacks.specs.declared.operations.OpId.{OpId}
+use Rattle.guest_board.specs.declared.replay_end.ReplayEnd.{ReplayEnd}
 use Rattle.guest_board.specs.declared.running.StopReason.{StopReason}
 use Rattle.i8080_words.specs.declared.refusal.Fault.{Fault}
 
@@ -39,6 +40,9 @@ pub data Event : Type 0 where
   PartComes : (m n : ℕ) → Event
   -- at most this many pages of an alone node's machine are copied early, for the image with which it may begin one
   Freshen : (n pages : ℕ) → Event
+  -- the disk is asked for the sector that a replaying node waits for, and its bytes arrive
+  Fetch : (n : ℕ) → Event
+  Fetched : (m n : ℕ) → Event
 
 pub data Reply : Type 0 where
   Ran : (made count : ℕ) (why : StopReason) → Reply
@@ -46,7 +50,7 @@ pub data Reply : Type 0 where
   Taken New Old Whole Accepted Dropped Won Stopped : Reply
   MessageIs : (m : ℕ) → Reply
   HeldIs : (held : ℕ) → Reply
-  Moved : (made : ℕ) (at_end : Bool) → Reply
+  Moved : (made : ℕ) (why : ReplayEnd) → Reply
   MovedAlone : (made : ℕ) → Reply
   ToldIs : (keys : ℕ) → Reply
   GenerationIs : (generation : ℕ) → Reply
@@ -57,4 +61,5 @@ pub data Reply : Type 0 where
 abbrev pub is_disk : Event → Bool
 is_disk (Put m) = true
 is_disk (Get n sector) = true
+is_disk (Fetch n) = true
 is_disk _ = false

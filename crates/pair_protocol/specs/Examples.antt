@@ -1,4 +1,5 @@
--- Two small machines, each with a script for a pair of it: a backup takes over; a sector is read and written.
+-- Two small machines, with scripts for pairs of them: a backup takes over; a sector is read and written, with the reads
+-- in the log and with reads that the backup makes itself.
 use Rattle.std.specs.Prelude.{◌≡◌, ℕ, suc, Bool, nat_le, ◌==◌, ◌&&◌, ◌||◌, if◌then◌else◌, false, Option, Some, None, List, [], ◌∷◌, slice_get, slice_index_or}
 use Rattle.std.specs.Option.{option_map}
 use Rattle.disk_dcdd.specs.Address.{address_of, same_address}
@@ -11,12 +12,14 @@ use Rattle.event_callbacks.specs.declared.operations.Operation.TheVariants.{Byte
 use Rattle.guest_board.specs.Machine.{Machine}
 use Rattle.guest_board.specs.declared.input.Input.{Input}
 use Rattle.guest_board.specs.declared.input.Input.TheVariants as input
+use Rattle.guest_board.specs.declared.reads.Reads.TheVariants.{Logged, Shared}
+use Rattle.guest_board.specs.declared.replay_end.ReplayEnd.TheVariants.{End, Wait}
 use Rattle.guest_board.specs.declared.running.StopReason.TheVariants as reason
-use Rattle.i8080_words.specs.declared.refusal.Fault.TheVariants.{WrongRole}
-use Rattle.log_entry.specs.declared.entry.Entry.TheVariants.{Mark, Sector}
+use Rattle.i8080_words.specs.declared.refusal.Fault.TheVariants.{WrongRole, NotCovered}
+use Rattle.log_entry.specs.declared.entry.Entry.TheVariants.{Mark, Read, Sector}
 use Rattle.pair_protocol.specs.Copying.{Copying}
 use Rattle.pair_protocol.specs.World.{World, Message, LogEntry, Acknowledgement, Released, WriteDone, SectorRead, opening, accepted}
-use Rattle.pair_protocol.specs.Event.{Event, Step, TypeByte, TakeKey, Send, DeliverLog, Acknowledge, DeliverAcknowledgement, Release, Arrive, Stop, Suspect, Drain, Put, PutReply, Get, GetReply, Reply, Ran, TypedAt, Taken, New, Accepted, Dropped, Won, Stopped, MessageIs, HeldIs, MovedAlone, Refused}
+use Rattle.pair_protocol.specs.Event.{Event, Step, TypeByte, TakeKey, Send, DeliverLog, Acknowledge, DeliverAcknowledgement, Release, Arrive, Stop, Suspect, Drain, Put, PutReply, Get, GetReply, Fetch, Fetched, Replay, Reply, Ran, TypedAt, Taken, New, Accepted, Dropped, Won, Stopped, MessageIs, HeldIs, Moved, MovedAlone, Refused}
 use Rattle.pair_protocol.specs.Row.{Run}
 
 -- ---- a machine that sends a byte
@@ -87,7 +90,7 @@ failover_replies =
 
 abbrev pub TakesOver : Type 0
 TakesOver =
-    (w : World ℕ) × Run small small_copying (opening small) failover failover_replies w × (accepted w 0 ≡ 72 ∷ [])
+    (w : World ℕ) × Run small small_copying (opening small Logged) failover failover_replies w × (accepted w 0 ≡ 72 ∷ [])
 
 -- ---- a machine that reads a sector and writes it
 
@@ -168,5 +171,33 @@ disk_write_messages =
 
 abbrev pub WritesDisk : Type 0
 WritesDisk =
-    (w : World ℕ) × Run small_disk small_copying (opening small_disk) disk_write disk_write_replies w
+    (w : World ℕ) × Run small_disk small_copying (opening small_disk Logged) disk_write disk_write_replies w
     × (w.messages ≡ disk_write_messages)
+
+-- ---- the backup reads the sector itself
+
+-- entry 0 of the log is a read now, so the write waits for more than its mark: it is released once the backup has come to
+-- the read, has asked the disk, and has told that both entries are replayed
+abbrev pub shared_read : List Event
+shared_read =
+    Step 0 2 ∷ Get 0 0 ∷ GetReply 0 0 ∷ Step 0 10 ∷ Send 0 0 ∷ Send 0 1 ∷ DeliverLog 1 1 ∷ DeliverLog 2 1 ∷ Acknowledge 1
+    ∷ DeliverAcknowledgement 3 0 ∷ Release 0 (id.Write 1) ∷ Replay 1 100 ∷ Fetch 1 ∷ Fetched 4 1 ∷ Replay 1 100
+    ∷ Acknowledge 1 ∷ DeliverAcknowledgement 5 0 ∷ Release 0 (id.Write 1) ∷ []
+
+abbrev pub shared_read_replies : List Reply
+shared_read_replies =
+    Ran 2 2 reason.Turns ∷ MessageIs 0 ∷ Taken ∷ Ran 1 3 (reason.Operation (id.Write 1)) ∷ MessageIs 1 ∷ MessageIs 2 ∷ New ∷ New
+    ∷ MessageIs 3 ∷ HeldIs 2 ∷ Refused NotCovered ∷ Moved 2 Wait ∷ MessageIs 4 ∷ Taken ∷ Moved 3 End ∷ MessageIs 5 ∷ HeldIs 2
+    ∷ MessageIs 6 ∷ []
+
+-- the backup is answered as its primary was; its second acknowledgement tells that both entries are replayed
+abbrev pub shared_read_messages : List Message
+shared_read_messages =
+    SectorRead (address_of sector_write) 0 (0 ∷ 0 ∷ []) ∷ LogEntry 1 0 (Read 2 0 0 0) ∷ LogEntry 1 1 (Mark 3)
+    ∷ Acknowledgement 1 2 0 ∷ SectorRead (address_of sector_write) 0 (0 ∷ 0 ∷ []) ∷ Acknowledgement 1 2 2
+    ∷ Released (Write sector_write) ∷ []
+
+abbrev pub SharesReads : Type 0
+SharesReads =
+    (w : World ℕ) × Run small_disk small_copying (opening small_disk Shared) shared_read shared_read_replies w
+    × (w.messages ≡ shared_read_messages)

@@ -9,6 +9,7 @@ use Rattle.guest_board.specs.Machine.{Machine, Move}
 use Rattle.guest_trace.specs.Reach.{keys, output, image, Reach}
 use Rattle.guest_trace.specs.declared.timed.Timed.{Timed}
 use Rattle.pair_protocol.specs.Node.{Node, Alone}
+use Rattle.pair_protocol.specs.ReadsKept.{ReadsKept}
 use Rattle.pair_protocol.specs.World.{World, terminal, accepted, sector_record}
 use Rattle.pair_protocol.specs.Settled.{Settled}
 
@@ -44,3 +45,5 @@ pub record Faithful {S : Type 0} (M : Machine S) (w : World S) : Type 0 where
   -- one live: at most one node is alone
   pub one_live : (n m : ℕ) (x y : Node S) → slice_get w.nodes n ≡ Some x → slice_get w.nodes m ≡ Some y →
       x.role ≡ Alone → y.role ≡ Alone → n ≡ m
+  -- reads kept: the disk still has what a node that replays has yet to read
+  pub reads : ReadsKept M w

@@ -1,6 +1,7 @@
 -- The laws of a pair, for any lawful machine and any copy of it.
 use Rattle.std.specs.Prelude.{◌≡◌, ℕ, Some, List, length, slice_get}
 use Rattle.guest_board.specs.Machine.{Machine}
+use Rattle.guest_board.specs.declared.reads.Reads.{Reads}
 use Rattle.pair_protocol.specs.Lawful.{Lawful}
 use Rattle.pair_protocol.specs.Copying.{Copying, IsCopying, no_copies}
 use Rattle.pair_protocol.specs.Node.{Alone, Node}
@@ -53,21 +54,22 @@ ChangesReach S =
 -- every world of a run is reached by actions
 abbrev pub RunReaches : (S : Type 0) → Type 0
 RunReaches S =
-    (M : Machine S) (C : Copying S) (events : List Event) (replies : List Reply) (w : World S) →
-    Run M C (opening M) events replies w → Reached M C w
+    (M : Machine S) (C : Copying S) (reads : Reads) (events : List Event) (replies : List Reply) (w : World S) →
+    Run M C (opening M reads) events replies w → Reached M C w
 
 -- every world of a run is faithful
 abbrev pub RunIsFaithful : (S : Type 0) → Type 0
 RunIsFaithful S =
     (M : Machine S) (C : Copying S) → Lawful M → IsCopying M C →
-    (events : List Event) (replies : List Reply) (w : World S) → Run M C (opening M) events replies w → Faithful M w
+    (reads : Reads) (events : List Event) (replies : List Reply) (w : World S) →
+    Run M C (opening M reads) events replies w → Faithful M w
 
 -- and each further event lets what is settled grow
 abbrev pub RunGrows : (S : Type 0) → Type 0
 RunGrows S =
     (M : Machine S) (C : Copying S) → Lawful M → IsCopying M C →
-    (events : List Event) (replies : List Reply) (w new : World S) (e : Event) (r : Reply) →
-    Run M C (opening M) events replies w → Row M C w e r new → Grows M w new
+    (reads : Reads) (events : List Event) (replies : List Reply) (w new : World S) (e : Event) (r : Reply) →
+    Run M C (opening M reads) events replies w → Row M C w e r new → Grows M w new
 
 -- a run gives one reply for each event
 abbrev pub RunReplies : (S : Type 0) → Type 0

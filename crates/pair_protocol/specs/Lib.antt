@@ -4,6 +4,7 @@ pub mod Waiting
 pub mod Node
 pub mod World
 pub mod Settled
+pub mod ReadsKept
 pub mod Faithful
 pub mod Grows
 -- What each event does: actions of single actors, events, their refusals, their rows.
@@ -17,7 +18,6 @@ pub mod Row
 pub mod Survival
 -- For the layers above.
 pub mod NodeStands
-pub mod ReadsKept
 pub mod Joining
 pub mod Traces
 pub mod Laws

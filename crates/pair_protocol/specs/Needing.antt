@@ -1,5 +1,5 @@
 -- Which events are never refused as out of memory, and where a replay may stop for lack of it.
-use Rattle.std.specs.Prelude.{◌≡◌, ◌≢◌, ℕ, ◌<◌, ◌⊎◌, Some, length, slice_get}
+use Rattle.std.specs.Prelude.{◌≡◌, ◌≢◌, ℕ, ◌<◌, ◌⊎◌, Some, is_none, false, length, slice_get}
 use Rattle.guest_board.specs.Machine.{Machine}
 use Rattle.i8080_words.specs.declared.refusal.Fault.TheVariants.{OutOfMemory}
 use Rattle.log_entry.specs.Entries.{count_of}
@@ -8,7 +8,7 @@ use Rattle.pair_protocol.specs.Copying.{Copying}
 use Rattle.pair_protocol.specs.Node.{Node}
 use Rattle.pair_protocol.specs.World.{World, LogEntry, winner_in}
 use Rattle.pair_protocol.specs.Event.{Event, Step, DeliverLog, Replay, Suspect, Drain, Reply, Refused}
-use Rattle.pair_protocol.specs.Effects.{IsBehind, Replays}
+use Rattle.pair_protocol.specs.Effects.{IsBehind, Replays, wanted}
 use Rattle.pair_protocol.specs.Row.{Row}
 
 -- an event is never answered with out of memory
@@ -40,9 +40,10 @@ WinnersNeedNone S =
     (M : Machine S) (C : Copying S) (w : World S) (n : ℕ) (x : Node S) → slice_get w.nodes n ≡ Some x →
     winner_in w.winners x.generation ≡ Some n → NeedsNone M C w (Suspect n)
 
--- moves end if all that were asked for are made, if nothing is left, or if the next one is a step
+-- moves end if all that were asked for are made, if nothing is left, if the next one is a step, or if it waits for bytes
 abbrev pub StopsAtSteps : (S : Type 0) → Type 0
 StopsAtSteps S =
     (M : Machine S) (x y : Node S) (turns made : ℕ) → Replays M x turns y made →
     (made ≡ turns) ⊎ (y.replayed ≡ length y.held)
     ⊎ ((e : Entry) × (slice_get y.held y.replayed ≡ Some e) × (M.count y.machine < count_of e))
+    ⊎ (is_none (wanted M y) ≡ false)

@@ -6,6 +6,8 @@ use Rattle.event_callbacks.specs.declared.operations.OpId.TheVariants as id
 use Rattle.event_callbacks.specs.declared.operations.Operation.{Operation}
 use Rattle.guest_board.specs.Machine.{Machine}
 use Rattle.guest_board.specs.declared.input.Input.{Input}
+use Rattle.guest_board.specs.declared.reads.Reads.{Reads}
+use Rattle.guest_board.specs.declared.reads.Reads.TheVariants.{Logged, Shared}
 use Rattle.log_entry.specs.Entries.{marks, entry_of, inputs_of}
 use Rattle.log_entry.specs.declared.entry.Entry.{Entry}
 use Rattle.guest_trace.specs.Reach.{timed, keys}
@@ -39,15 +41,19 @@ pub record Node (S : Type 0) : Type 0 where
   pub role : Role
   pub running : Bool
   pub generation : ℕ
+  -- how its generation's log carries the sectors that its primary reads
+  pub reads : Reads
   -- the machine, and all its inputs
   pub machine : S
   pub list : List Timed
   -- the inputs and the count with which the generation began
   pub copy : List Timed
   pub start : ℕ
-  -- of a backup: the entries that it holds, and how many of them it has replayed
+  -- of a backup: the entries that it holds, how many of them it has replayed, and the bytes of the sector that the next
+  -- one reads, if they have come
   pub held : List Entry
   pub replayed : ℕ
+  pub fetched : Option (List ℕ)
   -- of a primary: its log, how many of its entries are acknowledged, how many the backup has reported as replayed, and
   -- what each operation waits for
   pub log : List Entry
@@ -86,17 +92,19 @@ won_role Spare = Spare
 -- ---- nodes as they begin
 
 -- a node at boot, in generation 1
-abbrev pub first_node : {S : Type 0} → Machine S → Role → Node S
-first_node M role = record {
+abbrev pub first_node : {S : Type 0} → Machine S → Reads → Role → Node S
+first_node M reads role = record {
   role = role;
   running = true;
   generation = 1;
+  reads = reads;
   machine = M.boot;
   list = [];
   copy = [];
   start = 0;
   held = [];
   replayed = 0;
+  fetched = None;
   log = [];
   covered = 0;
   reported = 0;
@@ -111,12 +119,14 @@ spare M = record {
   role = Spare;
   running = true;
   generation = 0;
+  reads = Logged;
   machine = M.boot;
   list = [];
   copy = [];
   start = 0;
   held = [];
   replayed = 0;
+  fetched = None;
   log = [];
   covered = 0;
   reported = 0;
@@ -131,12 +141,14 @@ begun M x = record {
   role = Primary;
   running = true;
   generation = suc x.generation;
+  reads = x.reads;
   machine = x.machine;
   list = x.list;
   copy = x.list;
   start = M.count x.machine;
   held = [];
   replayed = 0;
+  fetched = None;
   log = [];
   covered = 0;
   reported = 0;
@@ -151,12 +163,14 @@ joiner M C x = record {
   role = Joining;
   running = true;
   generation = suc x.generation;
+  reads = x.reads;
   machine = M.boot;
   list = [];
   copy = x.list;
   start = M.count x.machine;
   held = [];
   replayed = 0;
+  fetched = None;
   log = [];
   covered = 0;
   reported = 0;
@@ -189,7 +203,7 @@ abbrev pub primary_takes : {S : Type 0} → Machine S → Node S → S → Input
 primary_takes M x s i = record x {
   machine = s;
   list = x.list ++ timed (M.count x.machine) i ∷ [];
-  log = x.log ++ entry_of (M.count x.machine) i ∷ [];
+  log = x.log ++ entry_of x.reads (M.count x.machine) i ∷ [];
 }
 
 abbrev pub alone_takes : {S : Type 0} → Machine S → Node S → S → Input → Node S
@@ -200,17 +214,27 @@ alone_takes M x s i = record x { machine = s; list = x.list ++ timed (M.count x.
 abbrev pub holds : {S : Type 0} → Node S → Entry → Node S
 holds x e = record x { held = x.held ++ e ∷ [] }
 
--- an entry is replayed: a mark leaves the machine as it is, an input is taken
+-- an entry is replayed: a mark leaves the machine as it is, an input is taken, a read with the bytes that have come
 abbrev pub passes_mark : {S : Type 0} → Node S → Node S
 passes_mark x = record x { replayed = suc x.replayed }
 
 abbrev pub passes_input : {S : Type 0} → Node S → S → Node S
 passes_input x s = record x { machine = s; replayed = suc x.replayed }
 
--- how many entries a backup reports as replayed: none, as long as no entry counts as a read and so no operation waits
--- for one
+abbrev pub passes_read : {S : Type 0} → Node S → S → Node S
+passes_read x s = record x { machine = s; replayed = suc x.replayed; fetched = None }
+
+-- the bytes come that the next entry reads
+abbrev pub fetches : {S : Type 0} → Node S → List ℕ → Node S
+fetches x bytes = record x { fetched = Some bytes }
+
+-- how many entries a backup reports as replayed: none if the log carries its sectors, so that nothing waits for a read
+abbrev pub told_by : Reads → ℕ → ℕ
+told_by Logged replayed = 0
+told_by Shared replayed = replayed
+
 abbrev pub replay_told : {S : Type 0} → Node S → ℕ
-replay_told x = 0
+replay_told x = told_by x.reads x.replayed
 
 -- an acknowledgement arrives: one of fewer entries covers no more than before, and the image is no longer needed
 abbrev pub hears : {S : Type 0} → Node S → ℕ → ℕ → Node S

@@ -21,6 +21,7 @@ pub record NodeStands {S : Type 0} (M : Machine S) (x : Node S) : Type 0 where
   pub keys : Serving x.role → (port : ℕ) → M.keys x.machine port ≡ length (keys port (list_of x x.role))
   -- a primary has logged everything that is covered
   pub covered : x.role ≡ Primary → x.covered ≤ length x.log
-  -- a node that replays has replayed no more than it holds, and the rest are the next entries of a recorded run
+  -- a node that replays has replayed no more than it holds, the rest are the next entries of a recorded run, and the
+  -- bytes that have come for the first of them are those that the run takes
   pub replayed : Replaying x.role → x.replayed ≤ length x.held
-  pub on_trace : Replaying x.role → IsOnTrace M x.machine (drop x.replayed x.held)
+  pub on_trace : Replaying x.role → IsOnTrace M x.machine (drop x.replayed x.held) x.fetched

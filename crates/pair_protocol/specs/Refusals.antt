@@ -9,12 +9,13 @@ use Rattle.event_callbacks.specs.declared.operations.Operation.TheVariants.{Byte
 use Rattle.guest_board.specs.Machine.{Machine, refusal_of}
 use Rattle.guest_board.specs.declared.input.Input.TheVariants as input
 use Rattle.i8080_words.specs.declared.refusal.Fault.{Fault}
-use Rattle.i8080_words.specs.declared.refusal.Fault.TheVariants.{Unknown, WrongRole, NotWhole, WrongGeneration, BadAck, NotDue, WrongNumber, NotCovered, LogFull, Spent, Idle, Lost}
+use Rattle.i8080_words.specs.declared.refusal.Fault.TheVariants.{Unknown, WrongRole, NotWhole, WrongGeneration, BadAck, NotDue, StaleRead, WrongNumber, NotCovered, LogFull, Spent, Idle, Lost}
 use Rattle.pair_protocol.specs.Lawful.{top}
 use Rattle.pair_protocol.specs.Copying.{Copying}
 use Rattle.pair_protocol.specs.Node.{Node, Role, Primary, Backup, Joining, Draining, Alone, Spare, is_role, acts_as, note_of, covers}
 use Rattle.pair_protocol.specs.World.{World, Message, LogEntry, Acknowledgement, ImagePart, Released, WriteDone, SectorRead, terminal, accepted, winner_in}
-use Rattle.pair_protocol.specs.Event.{Event, Step, TypeByte, TakeKey, Send, DeliverLog, Acknowledge, DeliverAcknowledgement, Replay, Release, Arrive, TellSent, Told, Stop, Suspect, Drain, Put, PutReply, Get, GetReply, BeginPair, SendPart, PartComes, Freshen}
+use Rattle.pair_protocol.specs.Event.{Event, Step, TypeByte, TakeKey, Send, DeliverLog, Acknowledge, DeliverAcknowledgement, Replay, Release, Arrive, TellSent, Told, Stop, Suspect, Drain, Put, PutReply, Get, GetReply, BeginPair, SendPart, PartComes, Freshen, Fetch, Fetched}
+use Rattle.pair_protocol.specs.Effects.{wanted}
 
 -- a fault if the condition holds
 abbrev pub fault_if : Bool → Fault → Option Fault
@@ -153,6 +154,23 @@ part_comes_refusal generation x = first_of (role_refusal (Joining ∷ []) x ∷ 
 abbrev pub freshen_refusal : {S : Type 0} → Node S → Option Fault
 freshen_refusal x = role_refusal (Alone ∷ []) x
 
+-- a node that waits for a sector asks the disk for it
+abbrev pub fetch_refusal : {S : Type 0} → Machine S → Node S → Option Fault
+fetch_refusal M x =
+    first_of (role_refusal (Backup ∷ Draining ∷ []) x ∷ fault_if (is_none (wanted M x)) NotDue ∷ [])
+
+-- a sector arrives that is not the one waited for, or as another write left it
+abbrev pub unwanted : {S : Type 0} → Machine S → Node S → SectorAddress → ℕ → Option (ℕ × ℕ × ℕ) → Option Fault
+unwanted M x address number None = Some NotDue
+unwanted M x address number (Some read) =
+    first_of
+    (fault_if (not (same_address (M.address x.machine read.0 read.1) address)) NotDue
+    ∷ fault_if (not (read.2 == number)) StaleRead ∷ [])
+
+abbrev pub fetched_refusal : {S : Type 0} → Machine S → SectorAddress → ℕ → Node S → Option Fault
+fetched_refusal M address number x =
+    first_of (role_refusal (Backup ∷ Draining ∷ []) x ∷ unwanted M x address number (wanted M x) ∷ [])
+
 -- ---- the world's part
 
 -- the node's part, for the node of a number; a spare host is no node
@@ -176,6 +194,10 @@ at_write_done M here _ = Some Unknown
 abbrev pub at_sector_read : {S : Type 0} → Machine S → Option (Node S) → Option Message → Option Fault
 at_sector_read M here (Some (SectorRead address number bytes)) = at_node here (get_reply_refusal M address number bytes)
 at_sector_read M here _ = Some Unknown
+
+abbrev pub at_fetched : {S : Type 0} → Machine S → Option (Node S) → Option Message → Option Fault
+at_fetched M here (Some (SectorRead address number bytes)) = at_node here (fetched_refusal M address number)
+at_fetched M here _ = Some Unknown
 
 abbrev pub at_part : {S : Type 0} → Option (Node S) → Option Message → Option Fault
 at_part here (Some (ImagePart generation index part)) = at_node here (part_comes_refusal generation)
@@ -255,3 +277,5 @@ refusal M C w (BeginPair n host) = at_host (slice_get w.nodes host) (slice_get w
 refusal M C w (SendPart n index) = at_node (slice_get w.nodes n) (send_part_refusal C index)
 refusal M C w (PartComes m n) = at_part (slice_get w.nodes n) (slice_get w.messages m)
 refusal M C w (Freshen n pages) = at_node (slice_get w.nodes n) freshen_refusal
+refusal M C w (Fetch n) = at_node (slice_get w.nodes n) (fetch_refusal M)
+refusal M C w (Fetched m n) = at_fetched M (slice_get w.nodes n) (slice_get w.messages m)

@@ -7,7 +7,7 @@ use Rattle.log_entry.specs.declared.entry.Entry.{Entry}
 use Rattle.pair_protocol.specs.Copying.{Copying}
 use Rattle.pair_protocol.specs.Effects.{Halted, NeedsEntry, NeedsMoves}
 use Rattle.pair_protocol.specs.World.{World, LogEntry, winner_in, with_host}
-use Rattle.pair_protocol.specs.Event.{Event, Step, DeliverLog, DeliverAcknowledgement, Replay, Told, Stop, Suspect, Drain, Reply, Refused, is_disk}
+use Rattle.pair_protocol.specs.Event.{Event, Step, DeliverLog, DeliverAcknowledgement, Replay, Told, Stop, Suspect, Drain, Fetched, Reply, Refused, is_disk}
 use Rattle.pair_protocol.specs.Refusals.{refusal}
 use Rattle.pair_protocol.specs.Rows.{AtNode, OfNode, Does}
 
@@ -32,6 +32,7 @@ MayNeedMemory M w (Told n port) = ⊥
 MayNeedMemory M w (Stop n) = ⊥
 MayNeedMemory M w (Suspect n) = OfNode w n (λ x. winner_in w.winners x.generation ≡ None)
 MayNeedMemory M w (Drain n turns) = OfNode w n (NeedsMoves M turns)
+MayNeedMemory M w (Fetched m n) = ⊥
 MayNeedMemory M w e = Unit {0}
 
 -- ---- the row

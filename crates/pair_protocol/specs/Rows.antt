@@ -1,5 +1,5 @@
 -- What an event that is not refused does: the old world, the reply and the new world, one relation for each row.
-use Rattle.std.specs.Prelude.{◌≡◌, ℕ, suc, Bool, true, false, nat_lt, if◌then◌else◌, ◌⊎◌, Some, None, List, length, slice_get}
+use Rattle.std.specs.Prelude.{◌≡◌, ℕ, suc, Bool, nat_lt, if◌then◌else◌, ◌⊎◌, Some, None, List, length, slice_get}
 use Rattle.disk_dcdd.specs.declared.address.SectorAddress.{SectorAddress}
 use Rattle.disk_dcdd.specs.declared.sector.SectorWrite.{SectorWrite}
 use Rattle.event_callbacks.specs.declared.operations.OpId.{OpId}
@@ -8,13 +8,16 @@ use Rattle.event_callbacks.specs.declared.operations.Operation.TheVariants.{Byte
 use Rattle.guest_board.specs.Machine.{Machine}
 use Rattle.guest_board.specs.declared.input.Input.{Input}
 use Rattle.guest_board.specs.declared.input.Input.TheVariants as input
+use Rattle.guest_board.specs.declared.replay_end.ReplayEnd.{ReplayEnd}
+use Rattle.guest_board.specs.declared.replay_end.ReplayEnd.TheVariants.{Turns, End, Wait, Memory}
 use Rattle.guest_board.specs.declared.running.StopReason.{StopReason}
 use Rattle.log_entry.specs.declared.entry.Entry.{Entry}
 use Rattle.pair_protocol.specs.Copying.{Copying}
-use Rattle.pair_protocol.specs.Effects.{Stepped, Took, Held, Heard, Replayed, Drained, Halted, GotPart, HasEntry, HasHeld, HasOutstanding, HasCovered, IsUnder, HasPart}
+use Rattle.pair_protocol.specs.Effects as effect
+use Rattle.pair_protocol.specs.Effects.{Stepped, Took, Held, Heard, Replayed, Drained, Halted, GotPart, HasEntry, HasHeld, HasOutstanding, HasCovered, IsUnder, Wants, HasPart}
 use Rattle.pair_protocol.specs.Node.{Node}
 use Rattle.pair_protocol.specs.World.{World, Message, LogEntry, Acknowledgement, ImagePart, Released, WriteDone, SectorRead, terminal, accepted, winner_in, with_node, with_message, with_key, with_arrival, with_told, with_winner, with_put, with_read, with_pair}
-use Rattle.pair_protocol.specs.Event.{Event, Step, TypeByte, TakeKey, Send, DeliverLog, Acknowledge, DeliverAcknowledgement, Replay, Release, Arrive, TellSent, Told, Stop, Suspect, Drain, Put, PutReply, Get, GetReply, BeginPair, SendPart, PartComes, Freshen, Reply, Ran, TypedAt, Taken, New, Old, Accepted, Dropped, Won, Stopped, MessageIs, HeldIs, Moved, MovedAlone, ToldIs, GenerationIs, StaleIs}
+use Rattle.pair_protocol.specs.Event.{Event, Step, TypeByte, TakeKey, Send, DeliverLog, Acknowledge, DeliverAcknowledgement, Replay, Release, Arrive, TellSent, Told, Stop, Suspect, Drain, Put, PutReply, Get, GetReply, BeginPair, SendPart, PartComes, Freshen, Fetch, Fetched, Reply, Ran, TypedAt, Taken, New, Old, Accepted, Dropped, Won, Stopped, MessageIs, HeldIs, Moved, MovedAlone, ToldIs, GenerationIs, StaleIs}
 
 -- the node of a number becomes another one
 pub record AtNode {S : Type 0} (w : World S) (n : ℕ) (does : Node S → Node S → Type 0) (new : World S) : Type 0 where
@@ -91,9 +94,9 @@ pub record DeliversAcknowledgement {S : Type 0} (w : World S) (m n : ℕ) (r : R
 
 pub record Replaying {S : Type 0} (M : Machine S) (w : World S) (n turns : ℕ) (r : Reply) (new : World S) : Type 0 where
   pub made : ℕ
-  pub end : Bool
-  pub at : AtNode w n (Replayed M turns made end) new
-  pub reply : r ≡ Moved made end
+  pub why : ReplayEnd
+  pub at : AtNode w n (Replayed M turns made why) new
+  pub reply : r ≡ Moved made why
 
 pub record Releases {S : Type 0} (M : Machine S) (w : World S) (n : ℕ) (name : OpId) (r : Reply)
     (new : World S) : Type 0 where
@@ -129,15 +132,17 @@ pub record Suspects {S : Type 0} (w : World S) (n : ℕ) (r : Reply) (new : Worl
       ((winner_in w.winners x.generation ≡ None) × (new ≡ with_winner w n x))
       ⊎ ((winner_in w.winners x.generation ≡ Some n) × (new ≡ w))
 
-abbrev pub drain_reply : ℕ → Bool → Reply
-drain_reply made false = Moved made false
-drain_reply made true = MovedAlone made
+abbrev pub drain_reply : ℕ → ReplayEnd → Reply
+drain_reply made Turns = Moved made Turns
+drain_reply made End = MovedAlone made
+drain_reply made Wait = Moved made Wait
+drain_reply made Memory = Moved made Memory
 
 pub record Drains {S : Type 0} (M : Machine S) (w : World S) (n turns : ℕ) (r : Reply) (new : World S) : Type 0 where
   pub made : ℕ
-  pub alone : Bool
-  pub at : AtNode w n (Drained M turns made alone) new
-  pub reply : r ≡ drain_reply made alone
+  pub why : ReplayEnd
+  pub at : AtNode w n (Drained M turns made why) new
+  pub reply : r ≡ drain_reply made why
 
 pub record Puts {S : Type 0} (w : World S) (m : ℕ) (r : Reply) (new : World S) : Type 0 where
   pub write : SectorWrite
@@ -192,6 +197,22 @@ pub record Freshens {S : Type 0} (w : World S) (n : ℕ) (r : Reply) (new : Worl
   pub reply : r ≡ StaleIs stale
   pub after : new ≡ w
 
+-- the disk answers with the sector that a node waits for
+pub record Fetches {S : Type 0} (M : Machine S) (w : World S) (n : ℕ) (r : Reply) (new : World S) : Type 0 where
+  pub address : SectorAddress
+  pub node : OfNode w n (Wants M address)
+  pub reply : r ≡ MessageIs (length w.messages)
+  pub after : new ≡ with_read M w address
+
+-- the answer arrives
+pub record TakesFetched {S : Type 0} (w : World S) (m n : ℕ) (r : Reply) (new : World S) : Type 0 where
+  pub address : SectorAddress
+  pub number : ℕ
+  pub bytes : List ℕ
+  pub message : slice_get w.messages m ≡ Some (SectorRead address number bytes)
+  pub at : AtNode w n (effect.Fetched bytes) new
+  pub reply : r ≡ Taken
+
 -- what each event does
 abbrev pub Does : {S : Type 0} → Machine S → Copying S → World S → Event → Reply → World S → Type 0
 Does M C w (Step n turns) r new = Steps M w n turns r new
@@ -217,3 +238,5 @@ Does M C w (BeginPair n host) r new = BeginsPair M C w n host r new
 Does M C w (SendPart n index) r new = SendsPart C w n index r new
 Does M C w (PartComes m n) r new = GetsPart C w m n r new
 Does M C w (Freshen n pages) r new = Freshens w n r new
+Does M C w (Fetch n) r new = Fetches M w n r new
+Does M C w (Fetched m n) r new = TakesFetched w m n r new

@@ -1,6 +1,7 @@
 -- Facts about traces alone, for the layers above: one trace for each list and count, and what its first entries give.
 use Rattle.std.specs.Prelude.{◌≡◌, ℕ, zero, suc, ◌≤◌, Some, None, List, [], ◌∷◌, length, take, replicate}
 use Rattle.guest_board.specs.Machine.{Machine, Move, Do, Take, Runs}
+use Rattle.guest_board.specs.declared.reads.Reads.{Reads}
 use Rattle.log_entry.specs.Entries.{entries, inputs_of, last_count}
 use Rattle.guest_trace.specs.Reach.{steps, Reach}
 use Rattle.guest_trace.specs.declared.timed.Timed.{Timed}
@@ -29,14 +30,14 @@ OneEnd S = (M : Machine S) (s t u : S) (moves : List Move) → Runs M s moves t 
 -- the first entries of a trace are those of its moves up to there, which end at the count of the last of those entries
 abbrev pub FirstEntries : (S : Type 0) → Type 0
 FirstEntries S =
-    (M : Machine S) (list : List Timed) (count n : ℕ) (moves : List Move) →
-    Reach M list count moves → n ≤ length (entries 0 moves) →
-    (entries 0 (cut n moves) ≡ take n (entries 0 moves))
-    × Reach M (inputs_of (take n (entries 0 moves))) (last_count 0 (take n (entries 0 moves))) (cut n moves)
+    (M : Machine S) (reads : Reads) (list : List Timed) (count n : ℕ) (moves : List Move) →
+    Reach M list count moves → n ≤ length (entries reads 0 moves) →
+    (entries reads 0 (cut n moves) ≡ take n (entries reads 0 moves))
+    × Reach M (inputs_of (take n (entries reads 0 moves))) (last_count 0 (take n (entries reads 0 moves))) (cut n moves)
 
 -- moves without an entry are quiet steps, and quiet steps have none
 abbrev pub QuietMoves : Type 0
-QuietMoves = (count : ℕ) (moves : List Move) → entries count moves ≡ [] → moves ≡ quiet (steps moves)
+QuietMoves = (reads : Reads) (count : ℕ) (moves : List Move) → entries reads count moves ≡ [] → moves ≡ quiet (steps moves)
 
 abbrev pub QuietEntries : Type 0
-QuietEntries = (count k : ℕ) → (entries count (quiet k) ≡ []) × (steps (quiet k) ≡ k)
+QuietEntries = (reads : Reads) (count k : ℕ) → (entries reads count (quiet k) ≡ []) × (steps (quiet k) ≡ k)

@@ -2,12 +2,8 @@
 use Rattle.std.specs.Prelude.{ℕ, zero, suc, Bool, true, false, List, [], ◌∷◌}
 use Rattle.event_callbacks.specs.declared.operations.Operation.{Operation}
 use Rattle.event_callbacks.specs.declared.operations.Operation.TheVariants.{Byte, Write}
+use Rattle.log_entry.specs.Entries.{is_read}
 use Rattle.log_entry.specs.declared.entry.Entry.{Entry}
-
--- An entry counts as a read if it names a sector and leaves out its bytes, so that whoever replays it reads the shared
--- disk. No entry is one yet: the entry of a sector carries its bytes.
-unfoldable pub is_read : Entry → Bool
-is_read e = false
 
 -- how many entries there are up to the last read: for one entry and those after it, and for a log
 abbrev pub up_to_read : Bool → ℕ → ℕ

@@ -5,6 +5,7 @@ use Rattle.disk_dcdd.specs.declared.address.SectorAddress.{SectorAddress}
 use Rattle.disk_dcdd.specs.declared.sector.SectorWrite.{SectorWrite}
 use Rattle.event_callbacks.specs.declared.operations.Operation.{Operation}
 use Rattle.guest_board.specs.Machine.{Machine}
+use Rattle.guest_board.specs.declared.reads.Reads.{Reads}
 use Rattle.log_entry.specs.declared.entry.Entry.{Entry}
 use Rattle.pair_protocol.specs.Copying.{Copying}
 use Rattle.pair_protocol.specs.Node.{Node, Primary, Backup, first_node, spare, begun, joiner, wins}
@@ -100,10 +101,10 @@ sector_record M puts address = latest (record { number = 0; bytes = M.boot_secto
 
 -- ---- worlds
 
--- nodes 0 and 1 are primary and backup of generation 1, and there are two terminals
-abbrev pub opening : {S : Type 0} → Machine S → World S
-opening M = record {
-  nodes = first_node M Primary ∷ first_node M Backup ∷ [];
+-- nodes 0 and 1 are primary and backup of generation 1, both of one kind of log, and there are two terminals
+abbrev pub opening : {S : Type 0} → Machine S → Reads → World S
+opening M reads = record {
+  nodes = first_node M reads Primary ∷ first_node M reads Backup ∷ [];
   messages = [];
   terminals = no_terminal ∷ no_terminal ∷ [];
   winners = [];

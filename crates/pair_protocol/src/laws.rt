@@ -1,7 +1,6 @@
 //! What the rules of a pair promise, for any lawful machine and any copy of it. Nothing here runs.
-ghost use Rattle.pair_protocol.specs.Examples.{TakesOver, WritesDisk};
+ghost use Rattle.pair_protocol.specs.Examples.{SharesReads, TakesOver, WritesDisk};
 ghost use Rattle.pair_protocol.specs.Joining.{JoiningIsGiven, PartsAreOfMachines};
-ghost use Rattle.pair_protocol.specs.ReadsKept.{ReachedKeepsReads};
 ghost use Rattle.pair_protocol.specs.Laws.{ReachedIsFaithful, AloneIsHighest, NodesStand, NeedsNoCopies, ReachedGrows, RowIsChanges, ChangesReach, RunReaches, RunIsFaithful, RunGrows, RunReplies};
 ghost use Rattle.pair_protocol.specs.Needing.{NoTurnsNeedNone, OtherEntriesNeedNone, OtherMovesNeedNone, StopsAtSteps, WinnersNeedNone};
 ghost use Rattle.pair_protocol.specs.Survival.{NothingRefuses, WholeNodesWin};
@@ -29,13 +28,6 @@ pub fn joining_nodes_are_given<S>()
 /// In every world that actions reach, each part of an image that was ever sent is of a machine that was run from boot.
 pub fn sent_parts_are_of_machines<S>()
     ensures { PartsAreOfMachines S }
-{}
-
-/// In every world that actions reach, the disk still has the bytes of each read that the backup, or a draining winner,
-/// holds and has not replayed. No entry counts as a read yet, since the entry of a sector carries its bytes; so this
-/// says nothing about today's logs, and takes effect with the first entry that counts as one.
-pub fn reads_are_kept<S>()
-    ensures kept { ReachedKeepsReads S }
 {}
 
 /// A pair may make no copies at all: this meets what is asked of a copy, whatever machine the pair runs.
@@ -77,7 +69,7 @@ pub fn every_event_is_answered<S>()
 
 /// A step, replay or drain of no turns, a replay or drain whose first move is not a step, a log entry that is a repeat
 /// or past a gap, and a winner that asks again are never answered with out of memory. A replay or drain that makes
-/// fewer moves than it was asked for has nothing left, or a step as its next move.
+/// fewer moves than it was asked for has nothing left, a step as its next move, or a sector whose bytes have not come.
 pub fn some_events_need_no_memory<S>()
     ensures no_turns { NoTurnsNeedNone S }
     ensures other_moves { OtherMovesNeedNone S }
@@ -97,9 +89,11 @@ pub fn traces_are_determined<S>()
 {}
 
 /// The rules can be followed: a backup takes over from a primary that stops, and sends the byte that it held; a sector
-/// is read, its write is released once it is acknowledged, and what it wrote is read again. Both scripts are of small
-/// machines, and are proved reply by reply.
+/// is read, its write is released once it is acknowledged, and what it wrote is read again; and with shared reads the
+/// write is released once the backup has read the sector itself. The scripts are of small machines, and are proved reply
+/// by reply.
 pub fn scripts_run()
     ensures failover { TakesOver }
     ensures disk_write { WritesDisk }
+    ensures shared_read { SharesReads }
 {}

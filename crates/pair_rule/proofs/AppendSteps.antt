@@ -5,6 +5,7 @@ use Rattle.guest_board.specs.Recorded.{Accepts, Recorded}
 use Rattle.guest_board.specs.Running.{Quiet}
 use Rattle.guest_board.specs.declared.input.Input.{Input}
 use Rattle.guest_board.specs.declared.input.Input.TheVariants as input
+use Rattle.guest_board.specs.declared.reads.Reads.TheVariants.{Logged}
 use Rattle.i8080_words.specs.declared.refusal.Fault.TheVariants.{NotDue}
 use Rattle.log_entry.specs.Entries.{entries, entry_of, inputs_of}
 use Rattle.log_entry.specs.declared.entry.Entry.{Entry}
@@ -49,13 +50,13 @@ module _ {S : Type 0} (M : Machine S) (C : Copying S) (may : Runnable M) (typed0
   abbrev list : List Entry
   list = k.primary.list
 
-  module _ (moves : List Move) (t : S) (run : Recorded M M.boot moves t) (are : entries 0 moves ≡ list) where
+  module _ (moves : List Move) (t : S) (run : Recorded M M.boot moves t) (are : entries Logged 0 moves ≡ list) where
     reaches : Runs M M.boot moves t
     reaches = recorded-runs M M.boot t moves run
 
     -- the inputs of the run are those of the list
     inputs_are : inputs 0 moves ≡ inputs_of list
-    inputs_are = sym (inputs_of-entries 0 moves) ∙ ap inputs_of are
+    inputs_are = sym (inputs_of-entries Logged 0 moves) ∙ ap inputs_of are
 
     -- the key that the run takes next is the next of those typed
     typed_next : (c port byte : ℕ) → IsPrefix (keys port (inputs_of (list ++ Rx c port byte ∷ []))) (typed_at port typed0 typed1)
@@ -84,8 +85,10 @@ module _ {S : Type 0} (M : Machine S) (C : Copying S) (may : Runnable M) (typed0
         laws.due moves t port number reaches due ∙ ap (λ l. acceptances port l + 1) inputs_are in
         (omega (arith, is), omega (arith, is, more, few))
 
-    hears : (n : ℕ) (u : S) (i : Input) → Quiet M z.s n t → Accepts M t i u → IsTold M typed0 typed1 k t (entry_of (M.count t) i)
-        → Leads M C typed0 typed1 (appended (entry_of (M.count t) i) k) w (AppendEvents (length list) (entry_of (M.count t) i))
+    hears : (n : ℕ) (u : S) (i : Input) → Quiet M z.s n t → Accepts M t i u
+        → IsTold M typed0 typed1 k t (entry_of Logged (M.count t) i)
+        → Leads M C typed0 typed1 (appended (entry_of Logged (M.count t) i) k) w
+        (AppendEvents (length list) (entry_of Logged (M.count t) i))
     hears n u (input.Rx port byte) q accepts told =
         key_leads M C may.counts laws typed0 typed1 k w z st free.asks_not free.few free.room n t u port byte q accepts
         (typed_there M typed0 typed1 k w z port (M.keys t port) byte accepts.is_input (typed_next (M.count t) port byte told))
@@ -120,7 +123,7 @@ module _ {S : Type 0} (M : Machine S) (C : Copying S) (may : Runnable M) (typed0
       go e told m.1 g.further g.quietly m.0
     where
       go : (e : Entry) → IsTold M typed0 typed1 k run.before e → LastMove M run.before run.after list e → (n : ℕ)
-          → Quiet M z.s n run.before → entries 0 run.moves ≡ list
+          → Quiet M z.s n run.before → entries Logged 0 run.moves ≡ list
           → Leads M C typed0 typed1 (appended e k) w (AppendEvents (length list) e)
       go e told (Steps o step) n q are =
           mark_leads M C may.counts laws typed0 typed1 k w z st free.asks_not free.few free.room n run.before run.after o q step

@@ -9,6 +9,7 @@ use Rattle.guest_board.specs.Recorded.{Accepts as IsAccepted, Counts, Recorded}
 use Rattle.guest_board.specs.Running.{Quiet, Begin, More}
 use Rattle.guest_board.specs.declared.input.Input.{Input}
 use Rattle.guest_board.specs.declared.input.Input.TheVariants as input
+use Rattle.guest_board.specs.declared.reads.Reads.TheVariants.{Logged}
 use Rattle.i8080_words.specs.declared.refusal.Fault.TheVariants.{LogFull, Spent, Idle, Unknown, WrongNumber, NotDue}
 use Rattle.log_entry.specs.Entries.{entries, entry_of, count_of, inputs_of}
 use Rattle.log_entry.specs.declared.entry.Entry.{Entry}
@@ -100,7 +101,8 @@ module _ {S : Type 0} (M : Machine S) (C : Copying S) (counts : Counts M) (laws 
 
   -- where events lead to a primary with the entry, the entry is sent
   finish : (e : Entry) (moves : List Move) (u : S) (v : World S) (events : List Event) (replies : List Reply)
-      → Recorded M M.boot moves u → entries 0 moves ≡ list ++ e ∷ [] → M.count u ≡ count_of e → Happens M C w events replies v
+      → Recorded M M.boot moves u → entries Logged 0 moves ≡ list ++ e ∷ [] → M.count u ≡ count_of e
+      → Happens M C w events replies v
       → v.nodes ≡ then_node e moves u ∷ backup_node M (visible k) ∷ [] → Sent (visible k) v.messages → v.terminals ≡ w.terminals
       → v.winners ≡ w.winners → v.puts ≡ w.puts → OnlySent v
       → IsPrefix z.moves moves → ((n : ℕ) → IsDone n moves → HasWrite k.disk.puts n)
@@ -156,11 +158,13 @@ module _ {S : Type 0} (M : Machine S) (C : Copying S) (counts : Counts M) (laws 
 
   -- the entries of the moves up to here, and of one move behind quiet ones
   longer_entries : (n : ℕ) (t : S) (r : QuietMoves M z.s n t) (last : Move)
-      → entries 0 (z.moves ++ (r.moves ++ last ∷ [])) ≡ list ++ entries (M.count z.s + n) (last ∷ [])
-  longer_entries n t r last = entries-append 0 z.moves (r.moves ++ last ∷ [])
-      ∙ (λ i. z.entries_are i ++ entries-append (0 + steps z.moves) r.moves (last ∷ []) i)
-      ∙ ap (λ l. list ++ (l ++ entries (0 + steps z.moves + steps r.moves) (last ∷ []))) (r.silent (0 + steps z.moves))
-      ∙ ap (λ c. list ++ entries c (last ∷ [])) (let a = laws.counts z.moves z.s runs in let b = r.count in omega arith)
+      → entries Logged 0 (z.moves ++ (r.moves ++ last ∷ [])) ≡ list ++ entries Logged (M.count z.s + n) (last ∷ [])
+  longer_entries n t r last = entries-append Logged 0 z.moves (r.moves ++ last ∷ [])
+      ∙ (λ i. z.entries_are i ++ entries-append Logged (0 + steps z.moves) r.moves (last ∷ []) i)
+      ∙ ap (λ l. list ++ (l ++ entries Logged (0 + steps z.moves + steps r.moves) (last ∷ [])))
+      (r.silent (0 + steps z.moves))
+      ∙ ap (λ c. list ++ entries Logged c (last ∷ []))
+      (let a = laws.counts z.moves z.s runs in let b = r.count in omega arith)
 
   longer_notes : (n : ℕ) (t : S) (r : QuietMoves M z.s n t) (last : Move)
       → notes_from 0 [] [] (z.moves ++ (r.moves ++ last ∷ [])) ≡ notes_from (M.count z.s + n) list (notes_from 0 [] [] z.moves)
@@ -305,20 +309,23 @@ module _ {S : Type 0} (M : Machine S) (C : Copying S) (counts : Counts M) (laws 
       → (events : List Event) (replies : List Reply) (v : World S)
       → Happens M C (with_node w 0 (at t)) events replies v → v.nodes ≡ taken t u i ∷ backup_node M (visible k) ∷ [] → Sent (visible k) v.messages
       → v.terminals ≡ w.terminals → v.winners ≡ w.winners → v.puts ≡ w.puts → OnlySent v → Tells i
-      → AppendEvents (length list) (entry_of (M.count t) i) ((Step 0 n ∷ events) ++ Send 0 (length list) ∷ [])
-      → Leads M C typed0 typed1 (appended (entry_of (M.count t) i) k) w (AppendEvents (length list) (entry_of (M.count t) i))
+      → AppendEvents (length list) (entry_of Logged (M.count t) i) ((Step 0 n ∷ events) ++ Send 0 (length list) ∷ [])
+      → Leads M C typed0 typed1 (appended (entry_of Logged (M.count t) i) k) w
+      (AppendEvents (length list) (entry_of Logged (M.count t) i))
   input_leads n t u i q accepts events replies v run nodes sent terminals winners puts only tells formed =
-      let r = quiet_moves M z.s n t q in let e : Entry = entry_of (M.count t) i in let moves : List Move =
+      let r = quiet_moves M z.s n t q in let e : Entry = entry_of Logged (M.count t) i in let moves : List Move =
       z.moves ++ (r.moves ++ Take i ∷ []) in
       let counted = quiet_count M counts z.s n t q in let first = quiet_event n t q in
       finish e moves u v (Step 0 n ∷ events) (first.0 ∷ replies)
       (recorded-append M M.boot z.s u z.moves (r.moves ++ Take i ∷ []) z.recorded
       (recorded-append M z.s t u r.moves (Take i ∷ []) r.recorded (u, accepts, refl)))
-      (longer_entries n t r (Take i) ∙ ap (λ c. list ++ entry_of c i ∷ []) (sym counted))
-      (counts.by_input t u i accepts.taken ∙ sym (count_entry (M.count t) i))
+      (longer_entries n t r (Take i) ∙ ap (λ c. list ++ entry_of Logged c i ∷ []) (sym counted))
+      (counts.by_input t u i accepts.taken ∙ sym (count_entry Logged (M.count t) i))
       (run_more w (Step 0 n ∷ []) (first.0 ∷ []) (with_node w 0 (at t)) v events replies first.1 run)
       (nodes ∙ (λ j. record (taken t u i) {
-        list = sym (inputs_of-append list (e ∷ []) ∙ ap (λ l. inputs_of list ++ (l ++ [])) (timed_entry (M.count t) i)) j;
+        list =
+            sym (inputs_of-append list (e ∷ []) ∙ ap (λ l. inputs_of list ++ (l ++ []))
+            (timed_entry Logged (M.count t) i)) j;
         notes = sym (longer_notes n t r (Take i)) j;
       } ∷ backup_node M (visible k) ∷ []))
       sent terminals winners puts only (r.moves ++ Take i ∷ [], refl) (longer_done n t r (Take i) (one_told i tells)) formed
@@ -332,8 +339,8 @@ module _ {S : Type 0} (M : Machine S) (C : Copying S) (counts : Counts M) (laws 
   -- a key that was typed
   pub key_leads : (n : ℕ) (t u : S) (port byte : ℕ) → Quiet M z.s n t → IsAccepted M t (input.Rx port byte) u
       → slice_get (terminal w port).typed (M.keys t port) ≡ Some byte
-      → Leads M C typed0 typed1 (appended (entry_of (M.count t) (input.Rx port byte)) k) w
-      (AppendEvents (length list) (entry_of (M.count t) (input.Rx port byte)))
+      → Leads M C typed0 typed1 (appended (entry_of Logged (M.count t) (input.Rx port byte)) k) w
+      (AppendEvents (length list) (entry_of Logged (M.count t) (input.Rx port byte)))
   key_leads n t u port byte q accepts typed = let short : M.keys t port < top =
       key_room M (M.keys t port) accepts.room in let w1 : World S = with_node w 0 (at t) in
       input_leads n t u (input.Rx port byte) q accepts (TakeKey 0 port (M.keys t port) ∷ []) (Taken ∷ [])
@@ -362,8 +369,8 @@ module _ {S : Type 0} (M : Machine S) (C : Copying S) (counts : Counts M) (laws 
   -- the acceptance of a byte that its terminal has counted
   pub sent_leads : (n : ℕ) (t u : S) (port number : ℕ) → Quiet M z.s n t → IsAccepted M t (input.Sent port) u
       → M.due_byte t port ≡ Some number → 1 ≤ number → number ≤ length (accepted w port)
-      → Leads M C typed0 typed1 (appended (entry_of (M.count t) (input.Sent port)) k) w
-      (AppendEvents (length list) (entry_of (M.count t) (input.Sent port)))
+      → Leads M C typed0 typed1 (appended (entry_of Logged (M.count t) (input.Sent port)) k) w
+      (AppendEvents (length list) (entry_of Logged (M.count t) (input.Sent port)))
   sent_leads n t u port number q accepts due some came = let w1 : World S = with_node w 0 (at t) in
       input_leads n t u (input.Sent port) q accepts (TellSent 0 port number ∷ []) (Taken ∷ [])
       (with_node w1 0 (taken t u (input.Sent port)))
@@ -389,8 +396,8 @@ module _ {S : Type 0} (M : Machine S) (C : Copying S) (counts : Counts M) (laws 
   -- a write that the disk has answered
   pub done_leads : (n : ℕ) (t u : S) (number : ℕ) → Quiet M z.s n t → IsAccepted M t (input.Written number) u
       → Among (WriteDone number) w.messages → HasWrite k.disk.puts number
-      → Leads M C typed0 typed1 (appended (entry_of (M.count t) (input.Written number)) k) w
-      (AppendEvents (length list) (entry_of (M.count t) (input.Written number)))
+      → Leads M C typed0 typed1 (appended (entry_of Logged (M.count t) (input.Written number)) k) w
+      (AppendEvents (length list) (entry_of Logged (M.count t) (input.Written number)))
   done_leads n t u number q accepts at_disk put = let w1 : World S = with_node w 0 (at t) in let m =
       index_of (WriteDone number) w.messages at_disk in
       input_leads n t u (input.Written number) q accepts (PutReply m.0 0 ∷ []) (Taken ∷ [])
@@ -422,8 +429,8 @@ module _ {S : Type 0} (M : Machine S) (C : Copying S) (counts : Counts M) (laws 
         sector = sector;
       }
       → sector_record M w.puts (M.address t drive sector) ≡ record { number = number; bytes = bytes }
-      → Leads M C typed0 typed1 (appended (entry_of (M.count t) (input.Sector drive sector number bytes)) k) w
-      (AppendEvents (length list) (entry_of (M.count t) (input.Sector drive sector number bytes)))
+      → Leads M C typed0 typed1 (appended (entry_of Logged (M.count t) (input.Sector drive sector number bytes)) k) w
+      (AppendEvents (length list) (entry_of Logged (M.count t) (input.Sector drive sector number bytes)))
   sector_leads n t u drive sector number bytes q accepts selected placed still =
       let w1 : World S = with_node w 0 (at t) in let i : Input =
       input.Sector drive sector number bytes in let address : SectorAddress = M.address t drive sector in

@@ -1,6 +1,7 @@
 -- A generation begins: the bytes are typed, one after another.
 use Rattle.std.proofs.Common.{ℕ, List, [], ◌∷◌, ◌++◌, length, refl, sym, subst, append_assoc, append-nil}
 use Rattle.guest_board.specs.Machine.{Machine}
+use Rattle.guest_board.specs.declared.reads.Reads.TheVariants.{Logged}
 use Rattle.pair_protocol.specs.Lawful.{Lawful}
 use Rattle.pair_protocol.specs.Change.{AtBoot}
 use Rattle.pair_protocol.specs.Copying.{Copying}
@@ -16,7 +17,7 @@ use Rattle.pair_rule.proofs.Law.{run_reaches}
 
 module _ {S : Type 0} (M : Machine S) (C : Copying S) where
   abbrev typed_world : List ℕ → List ℕ → World S
-  typed_world a b = record (opening M) {
+  typed_world a b = record (opening M Logged) {
     terminals = record { arrivals = []; typed = a; told = 0 } ∷ record {
       arrivals = [];
       typed = b;
@@ -80,13 +81,14 @@ module _ {S : Type 0} (M : Machine S) (C : Copying S) where
 pub starts_shown : {S : Type 0} → RowIsChanges S → ChangesReach S → StartsShown S
 starts_shown rows changes M C laws typed0 typed1 generation =
     let a = type0 M C [] [] typed0 in let b = type1 M C typed0 [] typed1 in
-    let run = then_on M C (opening M) (typed_world M C typed0 [])
+    let run = then_on M C (opening M Logged) (typed_world M C typed0 [])
     (typed_world M C typed0 typed1) a.0 b.0 a.1 b.1 a.2 b.2 in record {
       events = a.0 ++ b.0;
       replies = a.1 ++ b.1;
       world = typed_world M C typed0 typed1;
       run = run;
-      reached = run_reaches rows changes M C (opening M) (typed_world M C typed0 typed1) (a.0 ++ b.0) (a.1 ++ b.1) AtBoot run;
+      reached = run_reaches rows changes M C (opening M Logged) (typed_world M C typed0 typed1) (a.0 ++ b.0)
+          (a.1 ++ b.1) (AtBoot Logged) run;
       stands = first_stands generation;
       shows = shows_first M C laws typed0 typed1 generation;
     }

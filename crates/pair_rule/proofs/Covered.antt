@@ -7,6 +7,7 @@ use Rattle.event_callbacks.specs.declared.operations.Operation.{Operation}
 use Rattle.guest_board.specs.Machine.{Machine, Move, Do, Take, Runs}
 use Rattle.guest_board.specs.Outstanding.{ComesAndGoes, completed_by}
 use Rattle.guest_board.specs.declared.input.Input.{Input}
+use Rattle.guest_board.specs.declared.reads.Reads.TheVariants.{Logged}
 use Rattle.log_entry.specs.Entries.{entries, entry_of, marks}
 use Rattle.log_entry.specs.declared.entry.Entry.{Entry}
 use Rattle.pair_protocol.specs.Lawful.{Lawful}
@@ -51,11 +52,11 @@ pub record Noted (log : List Entry) (count : ℕ) (moves : List Move) (o : Opera
   pub rest : List Move
   pub given : moves ≡ front ++ Do (Some o) ∷ rest
   pub after : ℕ
-  pub is : note ≡ Some (record { name = id_of o; index = length (log ++ entries count front); after = after })
+  pub is : note ≡ Some (record { name = id_of o; index = length (log ++ entries Logged count front); after = after })
 
 noted_later : (log log' : List Entry) (c c' : ℕ) (m : Move) (ms : List Move) (o : Operation) (note : Option Note)
-    → ((front : List Move) → log' ++ entries c' front ≡ log ++ entries c (m ∷ front)) → Noted log' c' ms o note
-    → Noted log c (m ∷ ms) o note
+    → ((front : List Move) → log' ++ entries Logged c' front ≡ log ++ entries Logged c (m ∷ front))
+    → Noted log' c' ms o note → Noted log c (m ∷ ms) o note
 noted_later log log' c c' m ms o note same n = record {
   front = m ∷ n.front;
   rest = n.rest;
@@ -89,7 +90,7 @@ module _ {S : Type 0} (M : Machine S) (operations : ComesAndGoes M) (o : Operati
       → Since b (log ++ marks (suc c) (Some p)) (suc c) (notes_after ns log (Some p)) ms → Since a log c ns (Do (Some p) ∷ ms)
   by_step a b p log c ns ms step (inr n) =
       inr (noted_later log (log ++ marks (suc c) (Some p)) c (suc c) (Do (Some p)) ms o _
-      (λ front. append_assoc log (marks (suc c) (Some p)) (entries (suc c) front)) n)
+      (λ front. append_assoc log (marks (suc c) (Some p)) (entries Logged (suc c) front)) n)
   by_step a b p log c ns ms step (inl h) = elim (two_names (id_of o) (id_of p)) [
     | inl e ↦ (let same : o ≡ p = same_some o p (M.find b (id_of p)) (ap (M.find b) (sym e) ∙ h.0)
         (operations.comes a b p step).0 in inr record {
@@ -114,16 +115,17 @@ module _ {S : Type 0} (M : Machine S) (operations : ComesAndGoes M) (o : Operati
   since a s log c ns (Do None ∷ ms) run found = elim (since run.0 s (log ++ []) (suc c) ns ms run.2 found) [
     | inl h ↦ inl (sym (operations.quiet a run.0 run.1 (id_of o)) ∙ h.0, h.1)
     | inr n ↦ inr (noted_later log (log ++ []) c (suc c) (Do None) ms o _
-        (λ front. ap (λ l. l ++ entries (suc c) front) (append-nil log)) n)
+        (λ front. ap (λ l. l ++ entries Logged (suc c) front) (append-nil log)) n)
   ]
   since a s log c ns (Do (Some p) ∷ ms) run found =
       by_step a run.0 p log c ns ms run.1
       (since run.0 s (log ++ marks (suc c) (Some p)) (suc c) (notes_after ns log (Some p)) ms run.2 found)
-  since a s log c ns (Take i ∷ ms) run found = elim (since run.0 s (log ++ entry_of c i ∷ []) c ns ms run.2 found) [
-    | inl h ↦ inl (stays a run.0 i run.1 h.0, h.1)
-    | inr n ↦ inr (noted_later log (log ++ entry_of c i ∷ []) c c (Take i) ms o _
-        (λ front. append_assoc log (entry_of c i ∷ []) (entries c front)) n)
-  ]
+  since a s log c ns (Take i ∷ ms) run found = elim
+      (since run.0 s (log ++ entry_of Logged c i ∷ []) c ns ms run.2 found) [
+        | inl h ↦ inl (stays a run.0 i run.1 h.0, h.1)
+        | inr n ↦ inr (noted_later log (log ++ entry_of Logged c i ∷ []) c c (Take i) ms o _
+            (λ front. append_assoc log (entry_of Logged c i ∷ []) (entries Logged c front)) n)
+      ]
 
 -- what the note covers is acknowledged
 low_index : (seen index after : ℕ) → (nat_lt index seen && nat_le after 0) ≡ true → index < seen
@@ -139,6 +141,6 @@ is_acknowledged M operations laws moves s seen o run found covered =
         front = n.front;
         rest = n.rest;
         given = n.given;
-        marked = low_index seen (length (entries 0 n.front)) n.after (ap (covers seen 0) (sym n.is) ∙ covered);
+        marked = low_index seen (length (entries Logged 0 n.front)) n.after (ap (covers seen 0) (sym n.is) ∙ covered);
       }
     ]

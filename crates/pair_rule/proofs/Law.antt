@@ -4,6 +4,7 @@ use Rattle.event_callbacks.specs.Operations.{id_of}
 use Rattle.event_callbacks.specs.declared.operations.Operation.{Operation}
 use Rattle.event_callbacks.specs.declared.operations.Operation.TheVariants.{Byte}
 use Rattle.guest_board.specs.Machine.{Machine}
+use Rattle.guest_board.specs.declared.reads.Reads.TheVariants.{Logged}
 use Rattle.log_entry.specs.Entries.{entries}
 use Rattle.guest_trace.specs.Reach.{steps}
 use Rattle.pair_protocol.specs.Change.{Reached}
@@ -41,7 +42,7 @@ release M C may typed0 typed1 k w z st o run there serves (found, covered) =
     sym (quiet_finds M may.operations z.s g.further run.last (id_of o) g.quietly) ∙ found in
     let notes : notes_from 0 [] [] run.moves ≡ notes_from 0 [] [] z.moves =
     ap (notes_from 0 [] []) g.all ∙ notes_more 0 [] [] z.moves g.rest ∙ silent_notes (0 + steps z.moves) (0 + steps z.moves)
-    ([] ++ entries 0 z.moves) (notes_from 0 [] [] z.moves) g.rest g.none in
+    ([] ++ entries Logged 0 z.moves) (notes_from 0 [] [] z.moves) g.rest g.none in
     release_leads M C typed0 typed1 k w z o
     (may.lawful.given z.moves z.s (id_of o) o (recorded-runs M M.boot z.s z.moves z.recorded) found_here)
     (is_acknowledged M may.operations may.lawful z.moves z.s k.primary.seen o

@@ -5,12 +5,14 @@ use Rattle.guest_board.specs.Machine.{Machine, Move, Do, Take, Runs}
 use Rattle.guest_board.specs.Recorded.{Accepts, Counts, Recorded}
 use Rattle.guest_board.specs.Running.{Quiet}
 use Rattle.guest_board.specs.declared.input.Input.{Input}
+use Rattle.guest_board.specs.declared.input.Input.TheVariants as input
+use Rattle.guest_board.specs.declared.reads.Reads.TheVariants.{Logged}
 use Rattle.log_entry.specs.Entries.{entries, entry_of, count_of, input_of, last_count}
 use Rattle.log_entry.specs.declared.entry.Entry.{Entry}
 use Rattle.log_entry.specs.declared.entry.Entry.TheVariants.{Mark}
 use Rattle.guest_trace.specs.Reach.{steps}
 use Rattle.pair_protocol.proofs.Traces.Lists.{same_some}
-use Rattle.pair_protocol.proofs.Traces.Moves.{entries-append, input_entry, count_entry}
+use Rattle.pair_protocol.proofs.Traces.Moves.{entries-append, count_entry}
 use Rattle.pair_protocol.proofs.Traces.Recorded.{recorded-runs, recorded-rest}
 use Rattle.pair_rule.specs.Law.{HasLonger}
 use Rattle.pair_rule.proofs.QuietSteps.{are_quiet}
@@ -60,26 +62,28 @@ module _ {S : Type 0} (M : Machine S) (counts : Counts M) where
   count_grows a s (Take i ∷ xs) h = let g = count_grows h.0 s xs h.2 in let b = counts.by_input a h.0 i h.1 in omega (arith, g, b)
 
   -- a run from a count ends at the last of its entries' counts, or later
-  pub last_low : (a s : S) (c : ℕ) (xs : List Move) → M.count a ≡ c → Runs M a xs s → last_count c (entries c xs) ≤ M.count s
+  pub last_low : (a s : S) (c : ℕ) (xs : List Move) → M.count a ≡ c → Runs M a xs s
+      → last_count c (entries Logged c xs) ≤ M.count s
   last_low a s c [] at h = let e : M.count a ≡ M.count s = ap M.count h in omega (arith, at, e)
   last_low a s c (Do None ∷ xs) at h = let g = count_grows h.0 s xs h.2 in let b = counts.by_step a h.0 None h.1 in
-      earlier (entries (suc c) xs) (last_low h.0 s (suc c) xs (b ∙ ap suc at) h.2) (omega (arith, g, b, at))
+      earlier (entries Logged (suc c) xs) (last_low h.0 s (suc c) xs (b ∙ ap suc at) h.2) (omega (arith, g, b, at))
     where
       earlier : (es : List Entry) → last_count (suc c) es ≤ M.count s → c ≤ M.count s → last_count c es ≤ M.count s
       earlier [] low near = near
       earlier (x ∷ es) low near = low
   last_low a s c (Do (Some o) ∷ xs) at h = last_low h.0 s (suc c) xs (counts.by_step a h.0 (Some o) h.1 ∙ ap suc at) h.2
-  last_low a s c (Take i ∷ xs) at h = subst (λ n. last_count n (entries c xs) ≤ M.count s) (sym (count_entry c i))
-      (last_low h.0 s c xs (counts.by_input a h.0 i h.1 ∙ at) h.2)
+  last_low a s c (Take i ∷ xs) at h = subst (λ n. last_count n (entries Logged c xs) ≤ M.count s)
+      (sym (count_entry Logged c i)) (last_low h.0 s c xs (counts.by_input a h.0 i h.1 ∙ at) h.2)
 
 -- the first entry of moves from a count is no earlier
-first_later : (c : ℕ) (xs : List Move) (e : Entry) (rest : List Entry) → entries c xs ≡ e ∷ rest → c ≤ count_of e
+first_later : (c : ℕ) (xs : List Move) (e : Entry) (rest : List Entry) → entries Logged c xs ≡ e ∷ rest → c ≤ count_of e
 first_later c [] e rest is = not_empty e rest is
 first_later c (Do None ∷ xs) e rest is = let l = first_later (suc c) xs e rest is in omega (arith, l)
 first_later c (Do (Some o) ∷ xs) e rest is = let same : suc c ≡ count_of e =
-    ap count_of (same_head (Mark (suc c)) e (entries (suc c) xs) rest is) in omega (arith, same)
+    ap count_of (same_head (Mark (suc c)) e (entries Logged (suc c) xs) rest is) in omega (arith, same)
 first_later c (Take i ∷ xs) e rest is = let same : c ≡ count_of e =
-    sym (count_entry c i) ∙ ap count_of (same_head (entry_of c i) e (entries c xs) rest is) in omega (arith, same)
+    sym (count_entry Logged c i) ∙ ap count_of (same_head (entry_of Logged c i) e (entries Logged c xs) rest is) in
+    omega (arith, same)
 
 -- where moves end at their last entry's count, after a step that gives nothing, there is such an entry
 later_end : (c n : ℕ) (es : List Entry) → n ≡ last_count c es → suc c ≤ n → n ≡ last_count (suc c) es
@@ -91,69 +95,84 @@ no_entry : {X : Type 0} (c n : ℕ) (es more : List Entry) → [] ≡ es ++ more
 no_entry c n [] more e end l = absurd (omega (arith, end, l))
 no_entry c n (x ∷ es) more e end l = not_empty x (es ++ more) e
 
-too_early : {X : Type 0} (c n : ℕ) (xs : List Move) (i : Input) (rest more es : List Entry) → entries (suc c) xs ≡ es
-    → entry_of c i ∷ rest ≡ es ++ more → n ≡ last_count c es → suc c ≤ n → X
+too_early : {X : Type 0} (c n : ℕ) (xs : List Move) (i : Input) (rest more es : List Entry)
+    → entries Logged (suc c) xs ≡ es → entry_of Logged c i ∷ rest ≡ es ++ more → n ≡ last_count c es → suc c ≤ n → X
 too_early c n xs i rest more [] is e end l = absurd (omega (arith, end, l))
 too_early c n xs i rest more (x ∷ es) is e end l = let f = first_later (suc c) xs x es is in
-    let same : c ≡ count_of x = sym (count_entry c i) ∙ ap count_of (same_head (entry_of c i) x rest (es ++ more) e) in absurd
-    (omega (arith, f, same))
+    let same : c ≡ count_of x =
+    sym (count_entry Logged c i) ∙ ap count_of (same_head (entry_of Logged c i) x rest (es ++ more) e) in
+    absurd (omega (arith, f, same))
 
-mark_or_input : {X : Type 0} (c : ℕ) (i : Input) (xs ys : List Entry) → Mark (suc c) ∷ xs ≡ entry_of c i ∷ ys → X
+mark_or_input : {X : Type 0} (c : ℕ) (i : Input) (xs ys : List Entry) → Mark (suc c) ∷ xs ≡ entry_of Logged c i ∷ ys → X
 mark_or_input c i xs ys e = let same : suc c ≡ c =
-    ap count_of (same_head (Mark (suc c)) (entry_of c i) xs ys e) ∙ count_entry c i in absurd (omega (arith, same))
+    ap count_of (same_head (Mark (suc c)) (entry_of Logged c i) xs ys e) ∙ count_entry Logged c i in
+    absurd (omega (arith, same))
 
 -- ---- two runs from one state
+
+-- the entry of an input carries that input, a sector's with its bytes
+carries : (c : ℕ) (i : Input) → input_of (entry_of Logged c i) ≡ Some i
+carries c (input.Rx port byte) = refl
+carries c (input.Sent port) = refl
+carries c (input.Sector drive sector number bytes) = refl
+carries c (input.Written number) = refl
 
 module _ {S : Type 0} (M : Machine S) (counts : Counts M) where
   same_gives : (a b u : S) (o p : Option Operation) → M.step a ≡ Some (b, o) → M.step a ≡ Some (u, p) → (b ≡ u) × (o ≡ p)
   same_gives a b u o p h k = let e = same_some (b, o) (u, p) (M.step a) h k in
       (ap (λ (z : S × Option Operation). z.0) e, ap (λ (z : S × Option Operation). z.1) e)
 
-  same_input : (c : ℕ) (i j : Input) (xs ys : List Entry) → entry_of c j ∷ ys ≡ entry_of c i ∷ xs → i ≡ j
-  same_input c i j xs ys e = same_some i j (input_of (entry_of c j))
-      (ap input_of (same_head (entry_of c j) (entry_of c i) ys xs e) ∙ input_entry c i) (input_entry c j)
+  same_input : (c : ℕ) (i j : Input) (xs ys : List Entry) → entry_of Logged c j ∷ ys ≡ entry_of Logged c i ∷ xs → i ≡ j
+  same_input c i j xs ys e = same_some i j (input_of (entry_of Logged c j))
+      (ap input_of (same_head (entry_of Logged c j) (entry_of Logged c i) ys xs e) ∙ carries c i) (carries c j)
 
   -- the moves of the run with fewer entries come first
   pub front : (a s u : S) (c : ℕ) (xs ys : List Move) (more : List Entry) → M.count a ≡ c → Runs M a xs s
-      → M.count s ≡ last_count c (entries c xs)
-      → Runs M a ys u → entries c ys ≡ entries c xs ++ more → (zs : List Move) × (ys ≡ xs ++ zs)
+      → M.count s ≡ last_count c (entries Logged c xs)
+      → Runs M a ys u → entries Logged c ys ≡ entries Logged c xs ++ more → (zs : List Move) × (ys ≡ xs ++ zs)
   front a s u c [] ys more at h end k same = (ys, refl)
   front a s u c (Do None ∷ xs) [] more at h end k same = let b = counts.by_step a h.0 None h.1 in let g =
       count_grows M counts h.0 s xs h.2 in
-      no_entry c (M.count s) (entries (suc c) xs) more same end (omega (arith, b, g, at))
+      no_entry c (M.count s) (entries Logged (suc c) xs) more same end (omega (arith, b, g, at))
   front a s u c (Do None ∷ xs) (Do None ∷ ys) more at h end k same = let b = counts.by_step a h.0 None h.1 in let g =
       count_grows M counts h.0 s xs h.2 in let e = same_gives a h.0 k.0 None None h.1 k.1 in
       let r = front h.0 s u (suc c) xs ys more (b ∙ ap suc at) h.2
-      (later_end c (M.count s) (entries (suc c) xs) end (omega (arith, b, g, at)))
+      (later_end c (M.count s) (entries Logged (suc c) xs) end (omega (arith, b, g, at)))
       (subst (λ v. Runs M v ys u) (sym e.0) k.2) same in
       (r.0, ap (λ l. Do None ∷ l) r.1)
   front a s u c (Do None ∷ xs) (Do (Some o) ∷ ys) more at h end k same = let e =
       (same_gives a h.0 k.0 None (Some o) h.1 k.1).1 in absurd cc
   front a s u c (Do None ∷ xs) (Take i ∷ ys) more at h end k same = let b = counts.by_step a h.0 None h.1 in let g =
       count_grows M counts h.0 s xs h.2 in
-      too_early c (M.count s) xs i (entries c ys) more (entries (suc c) xs) refl same end (omega (arith, b, g, at))
-  front a s u c (Do (Some o) ∷ xs) [] more at h end k same = not_empty (Mark (suc c)) (entries (suc c) xs ++ more) same
+      too_early c (M.count s) xs i (entries Logged c ys) more (entries Logged (suc c) xs) refl same end
+      (omega (arith, b, g, at))
+  front a s u c (Do (Some o) ∷ xs) [] more at h end k same =
+      not_empty (Mark (suc c)) (entries Logged (suc c) xs ++ more) same
   front a s u c (Do (Some o) ∷ xs) (Do None ∷ ys) more at h end k same = let e =
       (same_gives a h.0 k.0 (Some o) None h.1 k.1).1 in absurd cc
   front a s u c (Do (Some o) ∷ xs) (Do (Some p) ∷ ys) more at h end k same = let e =
       same_gives a h.0 k.0 (Some o) (Some p) h.1 k.1 in
       let r = front h.0 s u (suc c) xs ys more (counts.by_step a h.0 (Some o) h.1 ∙ ap suc at) h.2 end
       (subst (λ v. Runs M v ys u) (sym e.0) k.2)
-      (same_tail (Mark (suc c)) (Mark (suc c)) (entries (suc c) ys) (entries (suc c) xs ++ more) same) in
+      (same_tail (Mark (suc c)) (Mark (suc c)) (entries Logged (suc c) ys) (entries Logged (suc c) xs ++ more) same) in
       (r.0, λ i. Do (sym e.1 i) ∷ r.1 i)
   front a s u c (Do (Some o) ∷ xs) (Take i ∷ ys) more at h end k same =
-      mark_or_input c i (entries (suc c) xs ++ more) (entries c ys) (sym same)
-  front a s u c (Take i ∷ xs) [] more at h end k same = not_empty (entry_of c i) (entries c xs ++ more) same
+      mark_or_input c i (entries Logged (suc c) xs ++ more) (entries Logged c ys) (sym same)
+  front a s u c (Take i ∷ xs) [] more at h end k same =
+      not_empty (entry_of Logged c i) (entries Logged c xs ++ more) same
   front a s u c (Take i ∷ xs) (Do None ∷ ys) more at h end k same = let l =
-      first_later (suc c) ys (entry_of c i) (entries c xs ++ more) same in let n = count_entry c i in absurd (omega (arith, l, n))
+      first_later (suc c) ys (entry_of Logged c i) (entries Logged c xs ++ more) same in let n = count_entry Logged c i in
+      absurd (omega (arith, l, n))
   front a s u c (Take i ∷ xs) (Do (Some o) ∷ ys) more at h end k same =
-      mark_or_input c i (entries (suc c) ys) (entries c xs ++ more) same
+      mark_or_input c i (entries Logged (suc c) ys) (entries Logged c xs ++ more) same
   front a s u c (Take i ∷ xs) (Take j ∷ ys) more at h end k same = let e =
-      same_input c i j (entries c xs ++ more) (entries c ys) same in
+      same_input c i j (entries Logged c xs ++ more) (entries Logged c ys) same in
       let there : h.0 ≡ k.0 = same_some h.0 k.0 (M.take a j) (subst (λ x. M.take a x ≡ Some h.0) e h.1) k.1 in
       let r = front h.0 s u c xs ys more (counts.by_input a h.0 i h.1 ∙ at) h.2
-      (end ∙ ap (λ n. last_count n (entries c xs)) (count_entry c i)) (subst (λ v. Runs M v ys u) (sym there) k.2)
-      (same_tail (entry_of c j) (entry_of c i) (entries c ys) (entries c xs ++ more) same) in
+      (end ∙ ap (λ n. last_count n (entries Logged c xs)) (count_entry Logged c i))
+      (subst (λ v. Runs M v ys u) (sym there) k.2)
+      (same_tail (entry_of Logged c j) (entry_of Logged c i) (entries Logged c ys)
+      (entries Logged c xs ++ more) same) in
       (r.0, λ n. Take (sym e n) ∷ r.1 n)
 
 -- ---- the run of a longer list
@@ -162,68 +181,71 @@ module _ {S : Type 0} (M : Machine S) (counts : Counts M) where
 pub record GoesOn {S : Type 0} (M : Machine S) (moves others : List Move) (s t : S) : Type 0 where
   pub rest : List Move
   pub all : others ≡ moves ++ rest
-  pub none : entries (0 + steps moves) rest ≡ []
+  pub none : entries Logged (0 + steps moves) rest ≡ []
   pub further : ℕ
   pub quietly : Quiet M s further t
 
 -- a run of the list goes on quietly from the state at its last entry's count
 pub run_goes_on : {S : Type 0} (M : Machine S) → Counts M
     → (boot_count : M.count M.boot ≡ 0) (list : List Entry) (moves : List Move) (s : S) → Recorded M M.boot moves s
-    → entries 0 moves ≡ list → M.count s ≡ last_count 0 list
-    → (others : List Move) (t : S) → Recorded M M.boot others t → entries 0 others ≡ list → GoesOn M moves others s t
+    → entries Logged 0 moves ≡ list → M.count s ≡ last_count 0 list
+    → (others : List Move) (t : S) → Recorded M M.boot others t → entries Logged 0 others ≡ list
+    → GoesOn M moves others s t
 run_goes_on M counts boot list moves s run is end others t other same =
     let r = recorded-runs M M.boot s moves run in
     let f = front M counts M.boot s t 0 moves others [] boot r (end ∙ ap (last_count 0) (sym is))
-    (recorded-runs M M.boot t others other) (same ∙ sym is ∙ sym (append-nil (entries 0 moves))) in
+    (recorded-runs M M.boot t others other) (same ∙ sym is ∙ sym (append-nil (entries Logged 0 moves))) in
     let zs : List Move = f.0 in
     let after : Recorded M s zs t = recorded-rest M M.boot s t moves zs r (subst (λ l. Recorded M M.boot l t) f.1 other) in
-    let none : entries (0 + steps moves) zs ≡ [] =
-    after_front (entries 0 moves) (entries (0 + steps moves) zs) []
-    (sym (entries-append 0 moves zs) ∙ ap (entries 0) (sym f.1) ∙ same ∙ sym is ∙ sym (append-nil (entries 0 moves))) in
+    let none : entries Logged (0 + steps moves) zs ≡ [] =
+    after_front (entries Logged 0 moves) (entries Logged (0 + steps moves) zs) []
+    (sym (entries-append Logged 0 moves zs) ∙ ap (entries Logged 0) (sym f.1) ∙ same ∙ sym is
+    ∙ sym (append-nil (entries Logged 0 moves))) in
     let q = are_quiet M counts s t (0 + steps moves) zs after none in
     record { rest = zs; all = f.1; none = none; further = q.0; quietly = q.1 }
 
 -- what the last move of a run with one entry more is
 pub data LastMove {S : Type 0} (M : Machine S) (t u : S) (list : List Entry) : Entry → Type 0 where
   Steps : (o : Operation) → M.step t ≡ Some (u, Some o) → LastMove M t u list (Mark (M.count u))
-  Hears : (i : Input) → Accepts M t i u → LastMove M t u list (entry_of (M.count t) i)
+  Hears : (i : Input) → Accepts M t i u → LastMove M t u list (entry_of Logged (M.count t) i)
 
 pub last_move : {S : Type 0} (M : Machine S) → Counts M → (boot_count : M.count M.boot ≡ 0)
     → ((moves : List Move) (s : S) → Runs M M.boot moves s → M.count s ≡ steps moves)
     → (list : List Entry) (e : Entry) (run : HasLonger M list e)
-    → (entries 0 run.moves ≡ list) × LastMove M run.before run.after list e
+    → (entries Logged 0 run.moves ≡ list) × LastMove M run.before run.after list e
 last_move M counts boot counted list e run = go run.move run.makes run.entries_are
   where
     at : M.count run.before ≡ 0 + steps run.moves
     at = let e = counted run.moves run.before (recorded-runs M M.boot run.before run.moves run.recorded) in omega (arith, e)
 
-    low : last_count 0 (entries 0 run.moves) ≤ M.count run.before
+    low : last_count 0 (entries Logged 0 run.moves) ≤ M.count run.before
     low = last_low M counts M.boot run.before 0 run.moves boot (recorded-runs M M.boot run.before run.moves run.recorded)
 
     last_of : (c : ℕ) (es : List Entry) → last_count c (es ++ e ∷ []) ≡ count_of e
     last_of c [] = refl
     last_of c (x ∷ es) = last_of (count_of x) es
 
-    go : (move : Move) → Recorded M run.before (move ∷ []) run.after → entries 0 (run.moves ++ move ∷ []) ≡ list ++ e ∷ []
-        → (entries 0 run.moves ≡ list) × LastMove M run.before run.after list e
+    go : (move : Move) → Recorded M run.before (move ∷ []) run.after
+        → entries Logged 0 (run.moves ++ move ∷ []) ≡ list ++ e ∷ []
+        → (entries Logged 0 run.moves ≡ list) × LastMove M run.before run.after list e
     go (Do None) makes are =
-        let all : entries 0 run.moves ≡ list ++ e ∷ [] =
-        sym (append-nil (entries 0 run.moves)) ∙ sym (entries-append 0 run.moves (Do None ∷ [])) ∙ are in
+        let all : entries Logged 0 run.moves ≡ list ++ e ∷ [] =
+        sym (append-nil (entries Logged 0 run.moves)) ∙ sym (entries-append Logged 0 run.moves (Do None ∷ [])) ∙ are in
         let b = counts.by_step run.before makes.0 None makes.1 in let m : M.count makes.0 ≡ M.count run.after =
         ap M.count makes.2 in let l = low in
-        let is : last_count 0 (entries 0 run.moves) ≡ count_of e = ap (last_count 0) all ∙ last_of 0 list in let c = run.count in
-        absurd (omega (arith, b, m, l, is, c))
+        let is : last_count 0 (entries Logged 0 run.moves) ≡ count_of e = ap (last_count 0) all ∙ last_of 0 list in
+        let c = run.count in absurd (omega (arith, b, m, l, is, c))
     go (Do (Some o)) makes are =
-        let both = same_front (entries 0 run.moves) list (Mark (suc (0 + steps run.moves))) e
-        (sym (entries-append 0 run.moves (Do (Some o) ∷ [])) ∙ are) in
+        let both = same_front (entries Logged 0 run.moves) list (Mark (suc (0 + steps run.moves))) e
+        (sym (entries-append Logged 0 run.moves (Do (Some o) ∷ [])) ∙ are) in
         let step : M.step run.before ≡ Some (run.after, Some o) = makes.1 ∙ ap (λ v. Some (v, Some o)) makes.2 in
         let same : M.count run.after ≡ suc (0 + steps run.moves) =
         counts.by_step run.before run.after (Some o) step ∙ ap suc at in
         (both.0, subst (LastMove M run.before run.after list) (ap Mark same ∙ both.1) (Steps o step))
     go (Take i) makes are =
-        let both = same_front (entries 0 run.moves) list (entry_of (0 + steps run.moves) i) e
-        (sym (entries-append 0 run.moves (Take i ∷ [])) ∙ are) in (
+        let both = same_front (entries Logged 0 run.moves) list (entry_of Logged (0 + steps run.moves) i) e
+        (sym (entries-append Logged 0 run.moves (Take i ∷ [])) ∙ are) in (
           both.0,
-          subst (LastMove M run.before run.after list) (ap (λ n. entry_of n i) at ∙ both.1)
+          subst (LastMove M run.before run.after list) (ap (λ n. entry_of Logged n i) at ∙ both.1)
               (Hears i (subst (Accepts M run.before i) makes.2 makes.1)),
         )

@@ -5,6 +5,7 @@ use Rattle.guest_board.specs.Machine.{Machine, Move, Do, Take}
 use Rattle.guest_board.specs.Recorded.{Counts, Recorded}
 use Rattle.guest_board.specs.Running.{Quiet, Begin, More}
 use Rattle.guest_board.specs.Outstanding.{ComesAndGoes}
+use Rattle.guest_board.specs.declared.reads.Reads.TheVariants.{Logged}
 use Rattle.event_callbacks.specs.declared.operations.OpId.{OpId}
 use Rattle.i8080_words.specs.declared.refusal.Fault.TheVariants.{Spent, Idle}
 use Rattle.log_entry.specs.Entries.{entries, entry_of, marks}
@@ -18,22 +19,23 @@ use Rattle.pair_rule.specs.Shown.{notes_from}
 -- ---- what operations wait for, after more moves
 
 pub notes_more : (c : ℕ) (log : List Entry) (ns : List Note) (xs ys : List Move)
-    → notes_from c log ns (xs ++ ys) ≡ notes_from (c + steps xs) (log ++ entries c xs) (notes_from c log ns xs) ys
+    → notes_from c log ns (xs ++ ys)
+    ≡ notes_from (c + steps xs) (log ++ entries Logged c xs) (notes_from c log ns xs) ys
 notes_more c log ns [] ys = λ i. notes_from (let e : c ≡ c + 0 = omega arith in e i) (sym (append-nil log) i) ns ys
 notes_more c log ns (Do o ∷ xs) ys = notes_more (suc c) (log ++ marks (suc c) o) (notes_after ns log o) xs ys
     ∙ (λ i. notes_from (let e : suc c + steps xs ≡ c + suc (steps xs) = omega arith in e i)
-    (append_assoc log (marks (suc c) o) (entries (suc c) xs) i)
+    (append_assoc log (marks (suc c) o) (entries Logged (suc c) xs) i)
     (notes_from (suc c) (log ++ marks (suc c) o) (notes_after ns log o) xs) ys)
-notes_more c log ns (Take x ∷ xs) ys = notes_more c (log ++ entry_of c x ∷ []) ns xs ys
-    ∙ (λ i. notes_from (c + steps xs) (append_assoc log (entry_of c x ∷ []) (entries c xs) i)
-    (notes_from c (log ++ entry_of c x ∷ []) ns xs) ys)
+notes_more c log ns (Take x ∷ xs) ys = notes_more c (log ++ entry_of Logged c x ∷ []) ns xs ys
+    ∙ (λ i. notes_from (c + steps xs) (append_assoc log (entry_of Logged c x ∷ []) (entries Logged c xs) i)
+    (notes_from c (log ++ entry_of Logged c x ∷ []) ns xs) ys)
 
 -- ---- quiet steps
 
 pub record QuietMoves {S : Type 0} (M : Machine S) (s : S) (n : ℕ) (t : S) : Type 0 where
   pub moves : List Move
   pub recorded : Recorded M s moves t
-  pub silent : (c : ℕ) → entries c moves ≡ []
+  pub silent : (c : ℕ) → entries Logged c moves ≡ []
   pub count : steps moves ≡ n
   pub notes : (c : ℕ) (log : List Entry) (ns : List Note) → notes_from c log ns moves ≡ ns
   pub bare : (c : ℕ) → inputs c moves ≡ []
@@ -50,7 +52,7 @@ quiet_moves M s n t Begin = record {
 quiet_moves M s m u (More {n = n} {t = t} q free step) = let r = quiet_moves M s n t q in record {
   moves = r.moves ++ Do None ∷ [];
   recorded = recorded-append M s t u r.moves (Do None ∷ []) r.recorded (u, step, refl);
-  silent = λ c. entries-append c r.moves (Do None ∷ []) ∙ ap (λ l. l ++ []) (r.silent c);
+  silent = λ c. entries-append Logged c r.moves (Do None ∷ []) ∙ ap (λ l. l ++ []) (r.silent c);
   count = steps-append r.moves (Do None ∷ []) ∙ (let e = r.count in omega arith);
   notes = λ c log ns. notes_more c log ns r.moves (Do None ∷ []) ∙ r.notes c log ns;
   bare = λ c. inputs-append c r.moves (Do None ∷ []) ∙ ap (λ l. l ++ []) (r.bare c);
@@ -75,7 +77,7 @@ not_refused false (Some v) u = λ none made. refl
 
 -- moves without an entry are quiet steps
 quiet_from : {S : Type 0} (M : Machine S) → Counts M → (s a t : S) (n c : ℕ) (moves : List Move) → Quiet M s n a
-    → Recorded M a moves t → entries c moves ≡ [] → (m : ℕ) × Quiet M s m t
+    → Recorded M a moves t → entries Logged c moves ≡ [] → (m : ℕ) × Quiet M s m t
 quiet_from M counts s a t n c [] q r = λ e. (n, subst (λ t. Quiet M s n t) r q)
 quiet_from M counts s a t n c (Do None ∷ moves) q r =
     λ e. quiet_from M counts s r.0 t (suc n) (suc c) moves
@@ -84,11 +86,11 @@ quiet_from M counts s a t n c (Do (Some o) ∷ moves) q r = λ e. absurd cc
 quiet_from M counts s a t n c (Take i ∷ moves) q r = λ e. absurd cc
 
 pub are_quiet : {S : Type 0} (M : Machine S) → Counts M → (s t : S) (c : ℕ) (moves : List Move) → Recorded M s moves t
-    → entries c moves ≡ [] → (m : ℕ) × Quiet M s m t
+    → entries Logged c moves ≡ [] → (m : ℕ) × Quiet M s m t
 are_quiet M counts s t c moves r e = quiet_from M counts s s t 0 c moves Begin r e
 
 -- and leave the notes
-pub silent_notes : (c d : ℕ) (log : List Entry) (ns : List Note) (moves : List Move) → entries c moves ≡ []
+pub silent_notes : (c d : ℕ) (log : List Entry) (ns : List Note) (moves : List Move) → entries Logged c moves ≡ []
     → notes_from d log ns moves ≡ ns
 silent_notes c d log ns [] e = refl
 silent_notes c d log ns (Do None ∷ moves) e = silent_notes (suc c) (suc d) (log ++ []) ns moves e

@@ -4,7 +4,7 @@ use Rattle.std.proofs.Common.{◌≡◌, ℕ, zero, suc, ◌+◌, ◌≤◌, Boo
 use Rattle.guest_board.specs.Machine.{Machine}
 use Rattle.log_entry.specs.Entries.{inputs_of}
 use Rattle.log_entry.specs.declared.entry.Entry.{Entry}
-use Rattle.log_entry.specs.declared.entry.Entry.TheVariants.{Mark, Rx, Sent, Sector, Written}
+use Rattle.log_entry.specs.declared.entry.Entry.TheVariants.{Mark, Rx, Sent, Sector, Written, Read}
 use Rattle.guest_trace.specs.Reach.{keys, acceptances}
 use Rattle.pair_protocol.specs.Faithful.{IsPrefix}
 use Rattle.pair_protocol.specs.Lawful.{Among}
@@ -27,6 +27,7 @@ still_answered answers a (Sent count port) is = tt
 still_answered answers a (Written count number) is = among_more (answer.Written number) answers (a ∷ []) is
 still_answered answers a (Sector count drive sector number bytes) (r, at, same, alike) =
     (r, among_more (answer.Read r) answers (a ∷ []) at, same, alike)
+still_answered answers a (Read count drive sector number) is = absurd is
 
 module _ (list : List Entry) where
   keys_more : (q : ℕ) (e : Entry) → keys q (inputs_of (list ++ e ∷ [])) ≡ keys q (inputs_of list) ++ keys q (inputs_of (e ∷ []))
@@ -124,6 +125,7 @@ module _ {S : Type 0} (M : Machine S) (typed0 typed1 : List ℕ) (k : Knowledge)
         accepted1 = same_accepted list 1 e k.primary.counted1 refl t.accepted1;
         answered = λ x at. all_answered e x (r, came, same, alike) at;
       }
+  told_more s (Read count drive sector number) told = absurd told
 
   -- a step that is events, and one that is none
   pub thread_told : (new : Knowledge) → ThreadStep M typed0 typed1 k new → PrimaryIsTold typed0 typed1 new.primary

@@ -8,9 +8,10 @@ use Rattle.event_callbacks.specs.declared.operations.Operation.TheVariants.{Byte
 use Rattle.guest_board.specs.Machine.{Machine, Move}
 use Rattle.guest_board.specs.Outstanding.{ComesAndGoes}
 use Rattle.guest_board.specs.Recorded.{Counts, Recorded}
+use Rattle.guest_board.specs.declared.reads.Reads.TheVariants.{Logged}
 use Rattle.log_entry.specs.Entries.{entries, count_of, inputs_of}
 use Rattle.log_entry.specs.declared.entry.Entry.{Entry}
-use Rattle.log_entry.specs.declared.entry.Entry.TheVariants.{Mark, Rx, Sent, Sector, Written}
+use Rattle.log_entry.specs.declared.entry.Entry.TheVariants.{Mark, Rx, Sent, Sector, Written, Read}
 use Rattle.guest_trace.specs.Reach.{keys, acceptances}
 use Rattle.shared_disk.specs.declared.disk.SectorRead.{SectorRead}
 use Rattle.pair_protocol.specs.Change.{Reached}
@@ -46,7 +47,7 @@ pub record HasRun {S : Type 0} (M : Machine S) (list : List Entry) : Type 0 wher
   pub moves : List Move
   pub last : S
   pub recorded : Recorded M M.boot moves last
-  pub entries_are : entries 0 moves ≡ list
+  pub entries_are : entries Logged 0 moves ≡ list
 
 -- a recorded run from boot whose entries are the list and one more, which the last move makes
 pub record HasLonger {S : Type 0} (M : Machine S) (list : List Entry) (e : Entry) : Type 0 where
@@ -56,7 +57,7 @@ pub record HasLonger {S : Type 0} (M : Machine S) (list : List Entry) (e : Entry
   pub after : S
   pub recorded : Recorded M M.boot moves before
   pub makes : Recorded M before (move ∷ []) after
-  pub entries_are : entries 0 (moves ++ move ∷ []) ≡ list ++ e ∷ []
+  pub entries_are : entries Logged 0 (moves ++ move ∷ []) ≡ list ++ e ∷ []
   pub count : M.count after ≡ count_of e
 
 -- a primary appends where it has not asked and its log is not full
@@ -66,7 +67,8 @@ pub record MayAppend (k : Knowledge) : Type 0 where
   pub room : length k.primary.list < k.primary.seen + 256
 
 -- what a primary was told of the input that its list then ends with: the keys of the list are the first of those typed;
--- so many bytes are counted; the disk has answered, and the sector is the one under the head
+-- so many bytes are counted; the disk has answered, and the sector is the one under the head. Threads log their sectors
+-- with the bytes, so none is told of a read
 abbrev pub IsTold : {S : Type 0} → Machine S → List ℕ → List ℕ → Knowledge → S → Entry → Type 0
 IsTold M typed0 typed1 k s (Mark count) = Unit {0}
 IsTold M typed0 typed1 k s (Rx count port byte) =
@@ -77,6 +79,7 @@ IsTold M typed0 typed1 k s (Written count number) = Among (answer.Written number
 IsTold M typed0 typed1 k s (Sector count drive sector number bytes) =
     (r : SectorRead) × Among (answer.Read r) k.primary.answers × (read_at r ≡ M.address s drive sector)
     × (r.number ≡ number) × (r.bytes ≡ bytes)
+IsTold M typed0 typed1 k s (Read count drive sector number) = ⊥
 
 -- the operation is a write, or a byte of a port that is there
 abbrev pub HasPort : Operation → Type 0
@@ -115,7 +118,7 @@ pub data ThreadStep {S : Type 0} (M : Machine S) (typed0 typed1 : List ℕ) (k :
       ThreadStep M typed0 typed1 k (after_fill Answers (Answer (answer.Written write.number)) k)
 
 -- the events of an append, the i-th: the machine's steps up to the entry's count, the input that it takes there, if the
--- entry is one, and the entry is sent
+-- entry is one, and the entry is sent. No list has a read
 abbrev pub AppendEvents : ℕ → Entry → List Event → Type 0
 AppendEvents i (Mark count) events = (n : ℕ) × (events ≡ Step 0 n ∷ Send 0 i ∷ [])
 AppendEvents i (Rx count port byte) events = (n key : ℕ) × (events ≡ Step 0 n ∷ TakeKey 0 port key ∷ Send 0 i ∷ [])
@@ -123,6 +126,7 @@ AppendEvents i (Sent count port) events = (n number : ℕ) × (events ≡ Step 0
 AppendEvents i (Written count number) events = (n m : ℕ) × (events ≡ Step 0 n ∷ PutReply m 0 ∷ Send 0 i ∷ [])
 AppendEvents i (Sector count drive sector number bytes) events =
     (n m : ℕ) × (events ≡ Step 0 n ∷ Get 0 sector ∷ GetReply m 0 ∷ Send 0 i ∷ [])
+AppendEvents i (Read count drive sector number) events = ⊥
 
 -- what is seen is one acknowledgement that comes, or nothing at 0
 abbrev pub SeeEvents : ℕ → List Event → Type 0
@@ -208,7 +212,7 @@ pub record Begun {S : Type 0} (M : Machine S) (C : Copying S) (typed0 typed1 : L
   pub events : List Event
   pub replies : List Reply
   pub world : World S
-  pub run : Happens M C (opening M) events replies world
+  pub run : Happens M C (opening M Logged) events replies world
   pub reached : Reached M C world
   pub stands : Stands (first_known generation)
   pub shows : Shows M typed0 typed1 (first_known generation) world

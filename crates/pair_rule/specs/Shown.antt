@@ -1,9 +1,10 @@
 -- The world that the core stands for: a primary that has the list and stands at its last count, a backup that holds its
--- copy, and what was sent, accepted and written.
+-- copy, and what was sent, accepted and written. Both log the sectors that the primary reads with their bytes.
 use Rattle.std.specs.Prelude.{◌≡◌, ◌⊎◌, ◌<◌, length, ℕ, zero, suc, Bool, true, false, Option, Some, None, List, [], ◌∷◌, ◌++◌, map, slice_get}
 use Rattle.event_callbacks.specs.declared.operations.Operation.{Operation}
 use Rattle.guest_board.specs.Machine.{Machine, Move, Do, Take}
 use Rattle.guest_board.specs.Recorded.{Recorded}
+use Rattle.guest_board.specs.declared.reads.Reads.TheVariants.{Logged}
 use Rattle.log_entry.specs.Entries.{entries, entry_of, inputs_of, last_count, marks}
 use Rattle.log_entry.specs.declared.entry.Entry.{Entry}
 use Rattle.guest_trace.specs.Reach.{operations}
@@ -27,7 +28,7 @@ abbrev pub notes_from : ℕ → List Entry → List Note → List Move → List 
 notes_from count log notes [] = notes
 notes_from count log notes (Do gives ∷ moves) =
     notes_from (suc count) (log ++ marks (suc count) gives) (notes_after notes log gives) moves
-notes_from count log notes (Take i ∷ moves) = notes_from count (log ++ entry_of count i ∷ []) notes moves
+notes_from count log notes (Take i ∷ moves) = notes_from count (log ++ entry_of Logged count i ∷ []) notes moves
 
 -- what a world shows of what is known: all but what is in a hand, on its way, or only counted
 pub record Visible : Type 0 where
@@ -80,12 +81,14 @@ primary_node v moves s = record {
   role = primary_role v.winner;
   running = primary_runs v.winner;
   generation = 1;
+  reads = Logged;
   machine = s;
   list = inputs_of v.list;
   copy = [];
   start = 0;
   held = [];
   replayed = 0;
+  fetched = None;
   log = v.list;
   covered = v.seen;
   reported = 0;
@@ -99,12 +102,14 @@ backup_node M v = record {
   role = backup_role v.backup.winner;
   running = backup_runs v.backup.winner;
   generation = 1;
+  reads = Logged;
   machine = M.boot;
   list = [];
   copy = [];
   start = 0;
   held = v.backup.list;
   replayed = 0;
+  fetched = None;
   log = [];
   covered = 0;
   reported = 0;
@@ -151,14 +156,14 @@ pub record IsAcknowledged (moves : List Move) (seen : ℕ) (o : Operation) : Typ
   pub front : List Move
   pub rest : List Move
   pub given : moves ≡ front ++ Do (Some o) ∷ rest
-  pub marked : length (entries 0 front) < seen
+  pub marked : length (entries Logged 0 front) < seen
 
 -- the world is shown by what is visible
 pub record ShowsVisible {S : Type 0} (M : Machine S) (typed0 typed1 : List ℕ) (v : Visible) (w : World S) : Type 0 where
   pub moves : List Move
   pub s : S
   pub recorded : Recorded M M.boot moves s
-  pub entries_are : entries 0 moves ≡ v.list
+  pub entries_are : entries Logged 0 moves ≡ v.list
   pub count : M.count s ≡ last_count 0 v.list
   pub nodes : w.nodes ≡ primary_node v moves s ∷ backup_node M v ∷ []
   pub sent : Sent v w.messages

@@ -7,7 +7,7 @@ use Rattle.guest_board.specs.Machine.{Machine, Move}
 use Rattle.guest_board.specs.declared.setup.Setup.{Setup}
 use Rattle.log_entry.specs.Entries.{inputs_of}
 use Rattle.log_entry.specs.declared.entry.Entry.{Entry}
-use Rattle.log_entry.specs.declared.entry.Entry.TheVariants.{Mark, Rx, Sent, Sector, Written}
+use Rattle.log_entry.specs.declared.entry.Entry.TheVariants.{Mark, Rx, Sent, Sector, Written, Read}
 use Rattle.guest_trace.specs.Reach.{keys, acceptances, output, Reach}
 use Rattle.guest_trace.specs.declared.timed.Timed.{Timed}
 use Rattle.pair_protocol.specs.Change.{Reached}
@@ -52,7 +52,7 @@ pub record Promises {S : Type 0} (M : Machine S) (typed0 typed1 : List ℕ) (k :
   pub disk : (address : SectorAddress) → MayHave M trace reach.last address (sector_record M k.disk.puts address).bytes
   pub keys_kept : (port : ℕ) → port < 2 → IsPrefix (keys port list) (typed_at port typed0 typed1)
 
--- what an entry says of the disk is an answer that came
+-- what an entry says of the disk is an answer that came; a sector comes with its bytes, so no entry is a read
 abbrev pub IsAnswered : List DiskAnswer → Entry → Type 0
 IsAnswered answers (Written count number) = Among (answer.Written number) answers
 IsAnswered answers (Sector count drive sector number bytes) =
@@ -60,6 +60,7 @@ IsAnswered answers (Sector count drive sector number bytes) =
 IsAnswered answers (Mark count) = Unit {0}
 IsAnswered answers (Rx count port byte) = Unit {0}
 IsAnswered answers (Sent count port) = Unit {0}
+IsAnswered answers (Read count drive sector number) = ⊥
 
 -- of a primary's list: its keys are the first of those typed, no more bytes are accepted in it than were seen counted, and
 -- the disk answered what it has of the disk

@@ -8,7 +8,7 @@ mod walks;
 
 use crate::Single;
 use disk_dcdd::{SECTOR_BYTES, SectorAddress, SectorWrite};
-use guest_board::Setup;
+use guest_board::{Reads, Setup};
 use guest_trace::{Bare, Timed};
 use i8080_words::{Fault, R};
 use std::alloc::Global;
@@ -44,6 +44,7 @@ fn booted(alloc: Global, program: &[u8], sectors: &[SectorWrite]) -> R<Single>
         drives: 1,
         levels: [7, 7, 7],
         sense: 0x00,
+        reads: Reads::Logged,
     };
     Single::boot(alloc, &setup, sectors)
 }

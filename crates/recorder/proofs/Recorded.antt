@@ -5,6 +5,7 @@ use Rattle.std.proofs.Common.{◌≡◌, suc, ◌+◌, arith, List, [], ◌∷�
 use Rattle.std.proofs.lemmas.List.{append_assoc}
 use Rattle.guest_board.specs.Machine.{Machine, Move, Do, Take, Runs}
 use Rattle.guest_board.specs.Recorded.{Counts, Recorded}
+use Rattle.guest_board.specs.declared.reads.Reads.{Reads}
 use Rattle.log_buffer.specs.Log.{Log}
 use Rattle.log_entry.specs.Entries.{entries, marks, entry_of}
 use Rattle.log_entry.specs.declared.entry.Entry.{Entry}
@@ -35,29 +36,32 @@ count-Recorded M s t (Take input ∷ moves) counts r =
     omega arith
 
 -- the entries of more moves begin at the count where the others end
-pub entries-append : {S : Type 0} (M : Machine S) (s t : S) (moves more : List Move) → Counts M → Recorded M s moves t
-    → entries (M.count s) (moves ++ more) ≡ entries (M.count s) moves ++ entries (M.count t) more
-entries-append M s t [] more counts r = ap (λ s. entries (M.count s) more) r
-entries-append M s t (Do gives ∷ moves) more counts r =
+pub entries-append : {S : Type 0} (M : Machine S) (reads : Reads) (s t : S) (moves more : List Move) → Counts M
+    → Recorded M s moves t
+    → entries reads (M.count s) (moves ++ more) ≡ entries reads (M.count s) moves ++ entries reads (M.count t) more
+entries-append M reads s t [] more counts r = ap (λ s. entries reads (M.count s) more) r
+entries-append M reads s t (Do gives ∷ moves) more counts r =
     ap (λ rest. marks (suc (M.count s)) gives ++ rest)
-    (subst (λ n. entries n (moves ++ more) ≡ entries n moves ++ entries (M.count t) more)
-    (counts.by_step s r.0 gives r.1) (entries-append M r.0 t moves more counts r.2))
-    ∙ sym (append_assoc (marks (suc (M.count s)) gives) (entries (suc (M.count s)) moves) (entries (M.count t) more))
-entries-append M s t (Take input ∷ moves) more counts r =
-    ap (λ rest. entry_of (M.count s) input ∷ rest)
-    (subst (λ n. entries n (moves ++ more) ≡ entries n moves ++ entries (M.count t) more)
-    (counts.by_input s r.0 input r.1.taken) (entries-append M r.0 t moves more counts r.2))
+    (subst (λ n. entries reads n (moves ++ more) ≡ entries reads n moves ++ entries reads (M.count t) more)
+    (counts.by_step s r.0 gives r.1) (entries-append M reads r.0 t moves more counts r.2))
+    ∙ sym (append_assoc (marks (suc (M.count s)) gives) (entries reads (suc (M.count s)) moves)
+    (entries reads (M.count t) more))
+entries-append M reads s t (Take input ∷ moves) more counts r =
+    ap (λ rest. entry_of reads (M.count s) input ∷ rest)
+    (subst (λ n. entries reads n (moves ++ more) ≡ entries reads n moves ++ entries reads (M.count t) more)
+    (counts.by_input s r.0 input r.1.taken) (entries-append M reads r.0 t moves more counts r.2))
 
-pub Records-append : {S : Type 0} (M : Machine S) (s t u : S) (log middle new : Log) (moves more : List Move)
-    → Counts M → Records M s log moves t middle → Records M t middle more u new → Records M s log (moves ++ more) u new
-Records-append M s t u log middle new moves more counts a b =
-    let es = entries (M.count s) moves in
-    let later = entries (M.count t) more in
+pub Records-append : {S : Type 0} (M : Machine S) (reads : Reads) (s t u : S) (log middle new : Log)
+    (moves more : List Move) → Counts M → Records M reads s log moves t middle → Records M reads t middle more u new
+    → Records M reads s log (moves ++ more) u new
+Records-append M reads s t u log middle new moves more counts a b =
+    let es = entries reads (M.count s) moves in
+    let later = entries reads (M.count t) more in
     record {
       runs = Recorded-append M s t u moves more a.runs b.runs;
       first = b.first ∙ a.first;
       pushes =
           b.pushes ∙ ap (λ (before : List Entry). before ++ later) a.pushes ∙ append_assoc log.entries es later
           ∙ ap (λ (behind : List Entry). log.entries ++ behind)
-          (sym (entries-append M s t moves more counts a.runs));
+          (sym (entries-append M reads s t moves more counts a.runs));
     }

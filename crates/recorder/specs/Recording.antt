@@ -5,6 +5,7 @@ use Rattle.guest_board.specs.Machine.{Machine, refusal_of}
 use Rattle.guest_board.specs.Recorded.{Accepts}
 use Rattle.guest_board.specs.Running.{RunsOn}
 use Rattle.guest_board.specs.declared.input.Input.{Input}
+use Rattle.guest_board.specs.declared.reads.Reads.{Reads}
 use Rattle.guest_board.specs.declared.running.StopReason.{StopReason}
 use Rattle.guest_board.specs.declared.running.StopReason.TheVariants as reason
 use Rattle.guest_board.specs.declared.running.Stopped.{Stopped}
@@ -74,6 +75,7 @@ offer_answer (Some fault) log = Err fault
 offer_answer None log = push_answer log
 
 -- an input that is taken has its entry pushed, at the guest's count; a refusal changes nothing
-abbrev pub Offers : {S : Type 0} → Machine S → S → Log → Input → Result ℕ Fault → S → Log → Type 0
-Offers M s log input (Ok index) t new = Accepts M s input t × (new ≡ pushed log (entry_of (M.count s) input))
-Offers M s log input (Err fault) t new = (t ≡ s) × (new ≡ log)
+abbrev pub Offers : {S : Type 0} → Machine S → Reads → S → Log → Input → Result ℕ Fault → S → Log → Type 0
+Offers M reads s log input (Ok index) t new =
+    Accepts M s input t × (new ≡ pushed log (entry_of reads (M.count s) input))
+Offers M reads s log input (Err fault) t new = (t ≡ s) × (new ≡ log)

@@ -11,7 +11,7 @@ ghost use Rattle.recorder.specs.contracts.recorder.Recorder.{the_row};
 ghost use Rattle.std.specs.Borrow.{Lends, sem};
 
 use crate::run::run;
-use guest_board::{Input, Lockstep, StopReason, Stopped};
+use guest_board::{Input, Lockstep, Reads, StopReason, Stopped};
 use i8080_words::R;
 use log_buffer::LogBuffer;
 use log_entry::Entry;
@@ -21,15 +21,17 @@ use log_entry::Entry;
 pub struct Recorder<B> {
     board: B,
     log: LogBuffer,
+    reads: Reads,
 }
 
 impl<B: Lockstep> Recorder<B> {
-    /// A guest whose moves are recorded from now on.
-    pub fn new(board: B, log: LogBuffer) -> Recorder<B>
+    /// A guest whose moves are recorded from now on, in a log that carries its sectors so.
+    pub fn new(board: B, log: LogBuffer, reads: Reads) -> Recorder<B>
         ensures board { result.board ≡ board }
         ensures log { result.log ≡ log }
+        ensures reads { result.reads ≡ reads }
     {
-        Recorder { board, log }
+        Recorder { board, log, reads }
     }
 
     /// The guest.
@@ -46,6 +48,13 @@ impl<B: Lockstep> Recorder<B> {
         &self.log
     }
 
+    /// How the log carries the sectors that are read.
+    pub fn reads(&self) -> Reads
+        ensures { result ≡ self.now.reads }
+    {
+        self.reads
+    }
+
     /// The log, for its owner to drop what the backup has acknowledged.
     pub fn log_mut(&mut self) -> &mut LogBuffer
         ensures value { result.now ≡ self.old.log }
@@ -59,7 +68,11 @@ impl<B: Lockstep> Recorder<B> {
     pub fn into_board(self) -> B
         ensures { result ≡ self.board }
     {
-        let Recorder { board, log: _ } = self;
+        let Recorder {
+            board,
+            log: _,
+            reads: _,
+        } = self;
         board
     }
 
@@ -70,6 +83,7 @@ impl<B: Lockstep> Recorder<B> {
         ensures answer { table.AdvancesUnless B.machine (B.state self.old.board) self.old.log turns
             (table.advance_refusal B.machine (B.state self.old.board) self.old.log turns) result
             (B.state self.new.board) self.new.log }
+        ensures reads { self.new.reads ≡ self.old.reads }
         ensures unchanged { OnErr result (self.new ≡ self.old) }
     {
         if turns == 0 {
@@ -99,11 +113,12 @@ impl<B: Lockstep> Recorder<B> {
     pub fn accept(&mut self, input: Input) -> u64
         requires { table.MayTake B.machine (B.state self.old.board) self.old.log input }
         ensures index { result ≡ next_of self.old.log }
-        ensures after { table.Offers B.machine (B.state self.old.board) self.old.log input (Ok result)
+        ensures after { table.Offers B.machine self.old.reads (B.state self.old.board) self.old.log input (Ok result)
             (B.state self.new.board) self.new.log }
-        ensures entry { IsEntry (entry_of (B.machine.count (B.state self.old.board)) input) }
+        ensures entry { IsEntry (entry_of self.old.reads (B.machine.count (B.state self.old.board)) input) }
+        ensures reads { self.new.reads ≡ self.old.reads }
     {
-        let entry = Entry::of_input(self.board.count(), input);
+        let entry = Entry::of_input(self.reads, self.board.count(), input);
         match (self.log.push(entry), self.board.take(input)) {
             (Ok(index), Ok(())) => index,
             _ => unreachable!(),
@@ -117,11 +132,12 @@ impl<B: Lockstep> Recorder<B> {
         requires room { HasRoom B.machine (B.state self.old.board) input }
         ensures answer { result
             ≡ table.offer_answer (refusal_of B.machine (B.state self.old.board) input) self.old.log }
-        ensures after { table.Offers B.machine (B.state self.old.board) self.old.log input result
+        ensures after { table.Offers B.machine self.old.reads (B.state self.old.board) self.old.log input result
             (B.state self.new.board) self.new.log }
         ensures unchanged { OnErr result (self.new ≡ self.old) }
         ensures entry { OnOk result
-            (IsEntry (entry_of (B.machine.count (B.state self.old.board)) input)) }
+            (IsEntry (entry_of self.old.reads (B.machine.count (B.state self.old.board)) input)) }
+        ensures reads { self.new.reads ≡ self.old.reads }
     {
         self.check(&input)?;
         Ok(self.accept(input))

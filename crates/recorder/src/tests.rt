@@ -4,7 +4,7 @@ ghost use Rattle.guest_board.specs.Lockstep.{IsInput};
 use crate::Recorder;
 use echo_guest::Echo;
 use event_callbacks::OpId;
-use guest_board::{Input, Lockstep, StopReason, Stopped};
+use guest_board::{Input, Lockstep, Reads, StopReason, Stopped};
 use i8080_words::{Fault, R};
 use log_buffer::LogBuffer;
 use log_entry::Entry;
@@ -26,7 +26,7 @@ fn came(steps: u64, reason: StopReason) -> R<Stopped> {
 
 #[test]
 fn a_full_log_takes_nothing_until_an_entry_is_dropped(rt: HostRuntime) -> R<()> {
-    let mut recorder = Recorder::new(Echo::new(1), LogBuffer::new(rt.alloc(), 0)?);
+    let mut recorder = Recorder::new(Echo::new(1), LogBuffer::new(rt.alloc(), 0)?, Reads::Logged);
     for index in 0..256 {
         let entry = offer(&rt, &mut recorder, Input::Rx(0, index as u8));
         assert_eq!(rt; entry, Ok(index));
@@ -53,7 +53,7 @@ fn a_full_log_takes_nothing_until_an_entry_is_dropped(rt: HostRuntime) -> R<()> 
 
 #[test]
 fn an_advance_stops_after_an_operation_and_logs_its_mark(rt: HostRuntime) -> R<()> {
-    let mut recorder = Recorder::new(Echo::new(2), LogBuffer::new(rt.alloc(), 7)?);
+    let mut recorder = Recorder::new(Echo::new(2), LogBuffer::new(rt.alloc(), 7)?, Reads::Shared);
     assert_eq!(rt; recorder.advance(3), came(3, StopReason::Turns));
     assert_eq!(rt;
         offer(&rt, &mut recorder, Input::Sent(0)),
@@ -82,7 +82,7 @@ fn an_advance_stops_after_an_operation_and_logs_its_mark(rt: HostRuntime) -> R<(
 
 #[test]
 fn out_of_memory_is_refused_if_no_step_is_made(rt: HostRuntime) -> R<()> {
-    let mut recorder = Recorder::new(Echo::new(0), LogBuffer::new(rt.alloc(), 0)?);
+    let mut recorder = Recorder::new(Echo::new(0), LogBuffer::new(rt.alloc(), 0)?, Reads::Logged);
     assert_eq!(rt; offer(&rt, &mut recorder, Input::Rx(0, 0x48)), Ok(0));
     assert_eq!(rt;
         recorder.advance(9),

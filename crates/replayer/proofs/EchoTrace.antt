@@ -1,9 +1,10 @@
 -- A recorded run of the small guest: it takes a key at count 0, reads it at its first step, and sends it at the second.
-use Rattle.std.proofs.Common.{eq-eqb, nat_eq, ◌-◌, ◌^◌, ◌≡◌, ℕ, ◌<◌, Bool, true, false, List, [], ◌∷◌, Some, None, Result, Ok, refl, sym, ap, subst, ◌∙◌, arith}
+use Rattle.std.proofs.Common.{eq-eqb, nat_eq, ◌-◌, ◌^◌, ◌≡◌, ℕ, ◌<◌, Bool, true, false, List, [], ◌∷◌, Option, Some, None, Result, Ok, refl, sym, ap, subst, ◌∙◌, arith}
 use Rattle.echo_guest.specs.Echo.{Echo, at_boot, echo}
 use Rattle.event_callbacks.specs.declared.operations.Operation.TheVariants.{Byte}
 use Rattle.guest_board.specs.Machine.{Do, Take}
 use Rattle.guest_board.specs.declared.input.Input.TheVariants as input
+use Rattle.guest_board.specs.declared.reads.Reads.TheVariants.{Logged}
 use Rattle.i8080_words.specs.declared.refusal.Fault.{Fault}
 use Rattle.log_channel.specs.Channel.{Receiving, Answers, heard, holding, Next}
 use Rattle.log_channel.specs.declared.packet.Packet.TheVariants.{Log}
@@ -16,10 +17,13 @@ use Rattle.log_entry.specs.declared.entry.Entry.TheVariants.{Mark, Rx}
 
 -- ---- its run
 
-pub on_trace : (s : Echo) (held : List Entry) → s ≡ at_boot → held ≡ Rx 0 0 0x48 ∷ Mark 2 ∷ [] → IsOnTrace echo s held
-on_trace s held at are =
-    subst (λ s. IsOnTrace echo s held) (sym at)
-    (subst (λ held. IsOnTrace echo at_boot held) (sym are) (record {
+pub on_trace : (s : Echo) (held : List Entry) (fetched : Option (List ℕ)) → s ≡ at_boot
+    → held ≡ Rx 0 0 0x48 ∷ Mark 2 ∷ [] → fetched ≡ None → IsOnTrace echo s held fetched
+on_trace s held fetched at are none =
+    subst (λ s. IsOnTrace echo s held fetched) (sym at)
+    (subst (λ held. IsOnTrace echo at_boot held fetched) (sym are)
+    (subst (λ fetched. IsOnTrace echo at_boot (Rx 0 0 0x48 ∷ Mark 2 ∷ []) fetched) (sym none) (record {
+      reads = Logged;
       owes = false;
       moves = Take (input.Rx 0 0x48) ∷ Do None ∷ Do (Some (Byte 0 1 0x48)) ∷ [];
       last = record { count = 2; keys = 1; key = None; byte = None; sent = 1; waits = true; outgoing = 0x48 };
@@ -30,13 +34,18 @@ on_trace s held at are =
           (
             record { count = 1; keys = 1; key = None; byte = Some 0x48; sent = 0; waits = false; outgoing = 0 },
             refl,
-            (record { count = 2; keys = 1; key = None; byte = None; sent = 1; waits = true; outgoing = 0x48 }, refl, refl),
+            (
+              record { count = 2; keys = 1; key = None; byte = None; sent = 1; waits = true; outgoing = 0x48 },
+              refl,
+              refl,
+            ),
           ),
         );
         later = [];
         next_ones = refl;
+        takes = tt;
       };
-    }))
+    })))
 
 -- ---- an entry that is held
 

@@ -1,6 +1,7 @@
--- Following an entry. Runs of one machine that give nothing agree as far as both go, so what ends one of them early ends
--- each longer one: an operation before the entry's count, an input that is refused at it, or a count that is past it
--- leave no way to reach the entry. A guest that reaches it has made one more move of a recorded run, which logs it.
+-- Following an entry. Runs of one machine that give nothing agree as far as both go, so what ends one of them early
+-- ends each longer one: an operation before the entry's count, an input that is refused at it, or a count that is
+-- past it leave no way to reach the entry. A guest that reaches it has made one more move of a recorded run, which
+-- logs it.
 use Rattle.std.proofs.Common.{◌≡◌, ℕ, suc, ◌+◌, ◌<◌, ◌≤◌, ◌⊎◌, false, is_some, List, [], ◌∷◌, ◌++◌, Option, Some, None, Ok, Err, inl, inr, refl, sym, ap, subst, ◌∙◌, arith}
 use Rattle.std.proofs.lemmas.Bool.Decides.{leb_tells}
 use Rattle.std.proofs.lemmas.List.{append-nil}
@@ -15,8 +16,9 @@ use Rattle.guest_board.specs.declared.input.Input.TheVariants as input
 use Rattle.guest_board.specs.declared.running.StopReason.TheVariants as reason
 use Rattle.guest_board.specs.declared.running.Stopped.{Stopped}
 use Rattle.guest_board.proofs.QuietSteps.{none_made, quiet_count}
+use Rattle.guest_board.specs.declared.reads.Reads.TheVariants.{Logged}
 use Rattle.i8080_words.specs.declared.refusal.Fault.{Fault}
-use Rattle.log_entry.specs.Entries.{count_of, entries, entry_of, input_of}
+use Rattle.log_entry.specs.Entries.{count_of, entries, entry_of, input_of, timed_of}
 use Rattle.log_entry.specs.declared.entry.Entry.{Entry}
 use Rattle.log_entry.specs.declared.entry.Entry.TheVariants as entry
 use Rattle.recorder.proofs.Recorded.{Recorded-append, entries-append}
@@ -29,13 +31,13 @@ none_there (Some x) e = absurd cc
 
 -- ---- entries of one move
 
-input_again : (count : ℕ) (i : Input) → input_of (entry_of count i) ≡ Some i
+input_again : (count : ℕ) (i : Input) → input_of (entry_of Logged count i) ≡ Some i
 input_again count (input.Rx port byte) = refl
 input_again count (input.Sent port) = refl
 input_again count (input.Sector drive sector number bytes) = refl
 input_again count (input.Written number) = refl
 
-count_again : (count : ℕ) (i : Input) → count_of (entry_of count i) ≡ count
+count_again : (count : ℕ) (i : Input) → count_of (entry_of Logged count i) ≡ count
 count_again count (input.Rx port byte) = refl
 count_again count (input.Sent port) = refl
 count_again count (input.Sector drive sector number bytes) = refl
@@ -48,12 +50,12 @@ module _ {S : Type 0} (M : Machine S) where
   -- the move that logs an entry gives an operation at its count, or takes its input there
   data Does (s : S) (e : Entry) (t : S) : Type 0 where
     Operates : {o : Operation} → M.step s ≡ Some (t, Some o) → e ≡ entry.Mark (suc (M.count s)) → Does s e t
-    Inputs : {i : Input} → Accepts M s i t → e ≡ entry_of (M.count s) i → Does s e t
+    Inputs : {i : Input} → Accepts M s i t → e ≡ entry_of Logged (M.count s) i → Does s e t
 
   does : (s : S) (e : Entry) (t : S) → Logs M s e t → Does s e t
   does s e t l = go l.move l.runs l.entry
     where
-      go : (move : Move) → Recorded M s (move ∷ []) t → entries (M.count s) (move ∷ []) ≡ e ∷ [] → Does s e t
+      go : (move : Move) → Recorded M s (move ∷ []) t → entries Logged (M.count s) (move ∷ []) ≡ e ∷ [] → Does s e t
       go (Do None) r logged = absurd cc
       go (Do (Some o)) r logged =
           Operates (subst (λ u. M.step s ≡ Some (u, Some o)) r.2 r.1) (sym (the_entry _ e logged))
@@ -75,7 +77,7 @@ module _ {S : Type 0} (M : Machine S) where
       let both : ◌≡◌ {A = Option (S × Option Operation)} (Some (t, None)) (Some (u, None)) = sym a ∙ b in
       ap (state_in t) both
 
-  same_end : (s t u : S) (n m : ℕ) → n ≡ m → Quiet M s n t → Quiet M s m u → t ≡ u
+  pub same_end : (s t u : S) (n m : ℕ) → n ≡ m → Quiet M s n t → Quiet M s m u → t ≡ u
   same_end s t u _ _ e Begin Begin = refl
   same_end s t u _ _ e Begin (More q allowed made) = absurd (omega (arith, e))
   same_end s t u _ _ e (More q allowed made) Begin = absurd (omega (arith, e))
@@ -107,7 +109,8 @@ module _ {S : Type 0} (M : Machine S) where
 
   module _ (counts : Counts M) where
     -- it is past, or a mark at the guest's own count
-    past : (s u : S) (e : Entry) → (count_of e ≤ M.count s) → ((i : Input) → input_of e ≡ Some i → count_of e < M.count s)
+    past : (s u : S) (e : Entry) → (count_of e ≤ M.count s)
+        → ((i : Input) → input_of e ≡ Some i → count_of e < M.count s)
         → Reaches M s e u → ⊥
     past s u e le input_past r = go (does r.last e u r.logs)
       where
@@ -141,9 +144,9 @@ module _ {S : Type 0} (M : Machine S) where
             let one : Some j ≡ Some i = sym (ap input_of is ∙ input_again (M.count r.last) j) ∙ of_e in
             none u (subst (λ k. Accepts M s k u) (let e : j ≡ i = cc in e) (subst (λ t. Accepts M t j u) same a))
 
-    -- an operation came before it, or at its count in place of its input
+    -- an operation came before it, or at its count in place of it if it is no mark
     given_first : (s v t u : S) (n : ℕ) (o : Operation) (e : Entry) → Quiet M s n v → M.step v ≡ Some (t, Some o)
-        → suc (n + M.count s) ≤ count_of e → (input_of e ≡ None → suc (n + M.count s) < count_of e)
+        → suc (n + M.count s) ≤ count_of e → (timed_of e ≡ None → suc (n + M.count s) < count_of e)
         → Reaches M s e u → ⊥
     given_first s v t u n o e q made le mark_later r = go (does r.last e u r.logs)
       where
@@ -159,7 +162,7 @@ module _ {S : Type 0} (M : Machine S) where
         go : Does r.last e u → ⊥
         go (Operates o' is) =
             let count : count_of e ≡ suc (M.count r.last) = ap count_of is in
-            let lt = mark_later (ap input_of is) in
+            let lt = mark_later (ap timed_of is) in
             let b = at in let few = short in omega (arith, count, lt, b, few)
         go (Inputs {i = i} a is) =
             let count : count_of e ≡ M.count r.last = ap count_of is ∙ count_again (M.count r.last) i in
@@ -171,12 +174,13 @@ module _ {S : Type 0} (M : Machine S) where
   refuses s None = (refl, refl)
   refuses s (Some fault) = (refl, refl)
 
-  mark_is : (e : Entry) → input_of e ≡ None → e ≡ entry.Mark (count_of e)
+  mark_is : (e : Entry) → timed_of e ≡ None → e ≡ entry.Mark (count_of e)
   mark_is (entry.Mark count) none = refl
   mark_is (entry.Rx count port byte) none = absurd cc
   mark_is (entry.Sent count port) none = absurd cc
   mark_is (entry.Sector count drive sector number bytes) none = absurd cc
   mark_is (entry.Written count number) none = absurd cc
+  mark_is (entry.Read count drive sector number) none = absurd cc
 
   -- a run of at most this many steps, toward an entry that is this many ahead
   module _ (counts : Counts M) (s t : S) (e : Entry) (turns limit ahead : ℕ)
@@ -215,7 +219,7 @@ module _ {S : Type 0} (M : Machine S) where
         )
 
     pub mark_made : (r : Stopped) (name : OpId) → RunsOn M s limit r t → r.reason ≡ reason.Operation name
-        → r.steps ≡ ahead → input_of e ≡ None → Reaches M s e t
+        → r.steps ≡ ahead → timed_of e ≡ None → Reaches M s e t
     mark_made _ name (AllTurns q) is at none = absurd cc
     mark_made _ name (IsRefused lt q) is at none = absurd cc
     mark_made _ name (Gives {n = n} {t = v} {given = o} lt q allowed made) is at none =
@@ -233,7 +237,7 @@ module _ {S : Type 0} (M : Machine S) where
         }
 
     pub strays : (r : Stopped) (name : OpId) → RunsOn M s limit r t → r.reason ≡ reason.Operation name
-        → (input_of e ≡ None → r.steps ≡ ahead → ⊥) → Follows M s e turns (Ok Differs) t
+        → (timed_of e ≡ None → r.steps ≡ ahead → ⊥) → Follows M s e turns (Ok Differs) t
     strays _ name (AllTurns q) is other = absurd cc
     strays _ name (IsRefused lt q) is other = absurd cc
     strays _ name (Gives {n = n} {t = v} {given = o} lt q allowed made) is other =
@@ -258,16 +262,17 @@ module _ {S : Type 0} (M : Machine S) where
     logs = record {
       move = Take i;
       runs = (t, a, refl);
-      entry = ap (λ c. entry_of c i ∷ []) here ∙ ap (λ f. f ∷ []) (entry_is e i of_e);
+      entry = ap (λ c. entry_of Logged c i ∷ []) here ∙ ap (λ f. f ∷ []) (entry_is e i of_e);
     };
   }
     where
-      entry_is : (e : Entry) (i : Input) → input_of e ≡ Some i → entry_of (count_of e) i ≡ e
+      entry_is : (e : Entry) (i : Input) → input_of e ≡ Some i → entry_of Logged (count_of e) i ≡ e
       entry_is (entry.Mark count) i none = absurd cc
       entry_is (entry.Rx count port byte) i is = cc
       entry_is (entry.Sent count port) i is = cc
       entry_is (entry.Sector count drive sector number bytes) i is = cc
       entry_is (entry.Written count number) i is = cc
+      entry_is (entry.Read count drive sector number) i none = absurd cc
 
   pub input_refused : Counts M → (s t : S) (e : Entry) (i : Input) (turns : ℕ) → M.count s ≡ count_of e
       → input_of e ≡ Some i → t ≡ s → ((u : S) → Accepts M s i u → ⊥) → Follows M s e turns (Ok Differs) t
@@ -297,7 +302,7 @@ module _ {S : Type 0} (M : Machine S) where
 record Unlogged {S : Type 0} (M : Machine S) (s t : S) : Type 0 where
   moves : List Move
   runs : Recorded M s moves t
-  none : entries (M.count s) moves ≡ []
+  none : entries Logged (M.count s) moves ≡ []
 
 unlogged : {S : Type 0} (M : Machine S) → Counts M → (s : S) (n : ℕ) (t : S) → Quiet M s n t → Unlogged M s t
 unlogged M counts s n t Begin = record { moves = []; runs = refl; none = refl }
@@ -307,7 +312,8 @@ unlogged M counts s _ u (More {n = n} {t = t} q allowed made) =
       moves = before.moves ++ Do None ∷ [];
       runs = Recorded-append M s t u before.moves (Do None ∷ []) before.runs (u, made, refl);
       none =
-          entries-append M s t before.moves (Do None ∷ []) counts before.runs ∙ append-nil (entries (M.count s) before.moves)
+          entries-append M Logged s t before.moves (Do None ∷ []) counts before.runs
+          ∙ append-nil (entries Logged (M.count s) before.moves)
           ∙ before.none;
     }
 
@@ -321,9 +327,9 @@ following_is_recording {S} M counts start s list ran = record { quietly = quietl
           moves = ran.moves ++ more.moves;
           runs = Recorded-append M start s t ran.moves more.moves ran.runs more.runs;
           entries_are =
-              entries-append M start s ran.moves more.moves counts ran.runs
-              ∙ ap (λ l. entries (M.count start) ran.moves ++ l) more.none
-              ∙ append-nil (entries (M.count start) ran.moves) ∙ ran.entries_are;
+              entries-append M Logged start s ran.moves more.moves counts ran.runs
+              ∙ ap (λ l. entries Logged (M.count start) ran.moves ++ l) more.none
+              ∙ append-nil (entries Logged (M.count start) ran.moves) ∙ ran.entries_are;
         }
 
     reaches : (e : Entry) (t : S) → Reaches M s e t → Ran M start (list ++ e ∷ []) t × (M.count t ≡ count_of e)
@@ -333,8 +339,8 @@ following_is_recording {S} M counts start s list ran = record { quietly = quietl
             moves = before.moves ++ r.logs.move ∷ [];
             runs = Recorded-append M start r.last t before.moves (r.logs.move ∷ []) before.runs r.logs.runs;
             entries_are =
-                entries-append M start r.last before.moves (r.logs.move ∷ []) counts before.runs
-                ∙ ap (λ l. entries (M.count start) before.moves ++ l) r.logs.entry
+                entries-append M Logged start r.last before.moves (r.logs.move ∷ []) counts before.runs
+                ∙ ap (λ l. entries Logged (M.count start) before.moves ++ l) r.logs.entry
                 ∙ ap (λ l. l ++ e ∷ []) before.entries_are;
           },
           ends (does M r.last e t r.logs),

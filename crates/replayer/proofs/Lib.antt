@@ -7,3 +7,4 @@ pub mod Runs
 pub mod EchoTrace
 pub mod LoggedRun
 pub mod FollowedEntries
+pub mod ReadTrace

@@ -1,5 +1,5 @@
--- A run that a recorder logs call by call, and those of its entries that came to a receiver: for a guest that stands where
--- the run began, they are the next entries of that run.
+-- A run that a recorder logs call by call, and those of its entries that came to a receiver: for a guest that stands
+-- where the run began, they are the next entries of that run.
 use Rattle.std.proofs.Common.{◌≡◌, ℕ, ◌-◌, Bool, false, cond, List, [], ◌∷◌, ◌++◌, drop, Option, Some, None, Result, Ok, Err, refl, sym, ap, subst, ◌∙◌, arith, nat_lt}
 use Rattle.std.specs.List.{slice_get}
 use Rattle.std.proofs.lemmas.Bool.{le-ltb}
@@ -7,6 +7,7 @@ use Rattle.std.proofs.lemmas.List.{take-append-drop}
 use Rattle.guest_board.specs.Machine.{Machine, Move, Take}
 use Rattle.guest_board.specs.Recorded.{Counts}
 use Rattle.guest_board.specs.declared.input.Input.{Input}
+use Rattle.guest_board.specs.declared.reads.Reads.{Reads}
 use Rattle.i8080_words.specs.declared.refusal.Fault.{Fault}
 use Rattle.log_buffer.specs.Log.{Log, log, kept_at}
 use Rattle.log_channel.proofs.SentEntries.{keeps_holding}
@@ -25,25 +26,28 @@ use Rattle.guest_board.specs.declared.running.Stopped.{Stopped}
 -- ---- what is logged
 
 -- some moves were recorded
-abbrev pub Logged : {S : Type 0} → Machine S → S → Log → S → Log → Type 0
-Logged M s before t new = (moves : List Move) × Records M s before moves t new
+abbrev pub Logged : {S : Type 0} → Machine S → Reads → S → Log → S → Log → Type 0
+Logged M reads s before t new = (moves : List Move) × Records M reads s before moves t new
 
-pub advance_logs : {S : Type 0} (M : Machine S) (s t : S) (before new : Log) (turns : ℕ) (refusal : Option Fault)
+pub advance_logs : {S : Type 0} (M : Machine S) (reads : Reads) (s t : S) (before new : Log) (turns : ℕ)
+    (refusal : Option Fault)
     (result : Result Stopped Fault) (a : Stopped) → Counts M → result ≡ Ok a
-    → AdvancesUnless M s before turns refusal result t new → Logged M s before t new
-advance_logs M s t before new turns (Some fault) result a counts made answer =
+    → AdvancesUnless M s before turns refusal result t new → Logged M reads s before t new
+advance_logs M reads s t before new turns (Some fault) result a counts made answer =
     let no : Ok a ≡ Err fault = sym made ∙ answer.0 in absurd cc
-advance_logs M s t before new turns None result a counts made answer =
+advance_logs M reads s t before new turns None result a counts made answer =
     let advances : AdvancesUnless M s before turns None (Ok a) t new =
     subst (λ result. AdvancesUnless M s before turns None result t new) made answer in
-    let steps : RecordsSteps M s before a t new = records_steps M s t before new turns a counts advances.0 in
+    let steps : RecordsSteps M reads s before a t new = records_steps M reads s t before new turns a counts advances.0
+    in
     (steps.moves, steps.records)
 
-pub offer_logs : {S : Type 0} (M : Machine S) (s t : S) (before new : Log) (input : Input) (result : Result ℕ Fault)
-    (index : ℕ) → result ≡ Ok index → Offers M s before input result t new → Logged M s before t new
-offer_logs M s t before new input result index taken answer =
-    let offers : Offers M s before input (Ok index) t new =
-    subst (λ result. Offers M s before input result t new) taken answer in (
+pub offer_logs : {S : Type 0} (M : Machine S) (reads : Reads) (s t : S) (before new : Log) (input : Input)
+    (result : Result ℕ Fault)
+    (index : ℕ) → result ≡ Ok index → Offers M reads s before input result t new → Logged M reads s before t new
+offer_logs M reads s t before new input result index taken answer =
+    let offers : Offers M reads s before input (Ok index) t new =
+    subst (λ result. Offers M reads s before input result t new) taken answer in (
       Take input ∷ [],
       record {
         runs = (t, offers.0, refl);
@@ -53,10 +57,11 @@ offer_logs M s t before new input result index taken answer =
     )
 
 -- two runs, one after the other, are one run, and what both log is what it logs
-pub and_then : {S : Type 0} {M : Machine S} {s t u : S} {before middle new : Log} → Counts M → Logged M s before t middle
-    → Logged M t middle u new → Logged M s before u new
-and_then {S} {M} {s} {t} {u} {before} {middle} {new} counts a b =
-    (a.0 ++ b.0, Records-append M s t u before middle new a.0 b.0 counts a.1 b.1)
+pub and_then : {S : Type 0} {M : Machine S} {reads : Reads} {s t u : S} {before middle new : Log} → Counts M
+    → Logged M reads s before t middle
+    → Logged M reads t middle u new → Logged M reads s before u new
+and_then {S} {M} {reads} {s} {t} {u} {before} {middle} {new} counts a b =
+    (a.0 ++ b.0, Records-append M reads s t u before middle new a.0 b.0 counts a.1 b.1)
 
 -- ---- what is held
 
@@ -82,9 +87,11 @@ holds_next l old new index e bytes result at_0 generation holds kept found answe
 
 -- ---- where a replayer stands
 
-on_trace : {S : Type 0} (M : Machine S) (s t : S) (new : Log) (r : Receiving) → Logged M s (log 0 []) t new
-    → HoldsFirst new.entries [] r → IsOnTrace M s r.entries
-on_trace M s t new r logged holds = record {
+on_trace : {S : Type 0} (M : Machine S) (reads : Reads) (s t : S) (new : Log) (r : Receiving)
+    → Logged M reads s (log 0 []) t new
+    → HoldsFirst new.entries [] r → IsOnTrace M s r.entries None
+on_trace M reads s t new r logged holds = record {
+  reads = reads;
   owes = false;
   moves = logged.0;
   last = t;
@@ -94,15 +101,17 @@ on_trace M s t new r logged holds = record {
     next_ones =
         ap (λ (held : List Entry). held ++ drop r.held new.entries) holds.prefix
         ∙ take-append-drop r.held new.entries ∙ logged.1.pushes;
+    takes = tt;
   };
 }
 
 -- a guest that stands where the recorder began, with an empty log, stands on the run that was logged
-pub repeats : {S : Type 0} (M : Machine S) (start s t : S) (before new sent : Log) (r : Receiving) → s ≡ start
-    → before ≡ log 0 [] → Logged M s before t new → sent ≡ new → HoldsFirst sent.entries [] r
-    → IsOnTrace M start r.entries
-repeats M start s t before new sent r at_start empty logged same holds =
-    on_trace M start t new r
-    (subst (λ s. Logged M s (log 0 []) t new) at_start
-    (subst (λ before. Logged M s before t new) empty logged))
+pub repeats : {S : Type 0} (M : Machine S) (reads : Reads) (start s t : S) (before new sent : Log) (r : Receiving)
+    → s ≡ start
+    → before ≡ log 0 [] → Logged M reads s before t new → sent ≡ new → HoldsFirst sent.entries [] r
+    → IsOnTrace M start r.entries None
+repeats M reads start s t before new sent r at_start empty logged same holds =
+    on_trace M reads start t new r
+    (subst (λ s. Logged M reads s (log 0 []) t new) at_start
+    (subst (λ before. Logged M reads s before t new) empty logged))
     (subst (λ (l : Log). HoldsFirst l.entries [] r) same holds)

@@ -1,20 +1,24 @@
 -- What the first entry that is held allows. If it is at a later count, a step can be executed, and is refused only when
 -- out of memory; it is never at an earlier one; if it is at the machine's count, its input, if it has one, is accepted,
--- and it is popped with that move.
-use Rattle.std.proofs.Common.{◌≡◌, ℕ, ◌<◌, ◌≤◌, true, false, List, [], ◌∷◌, ◌++◌, Option, Some, None, Ok, Err, refl, sym, ap, subst, ◌∙◌, arith, drop, slice_get, cond, is_none}
+-- and it is popped with that move. The input of a read is the sector with the bytes that have come.
+use Rattle.std.proofs.Common.{◌≡◌, ℕ, ◌<◌, ◌≤◌, Bool, true, false, List, [], ◌∷◌, ◌++◌, Option, Some, None, Ok, Err, refl, sym, ap, subst, ◌∙◌, arith, drop, slice_get, cond, is_none, length, eq-eqb}
+use Rattle.std.specs.Prelude.{◌==◌}
 use Rattle.event_callbacks.specs.declared.operations.Operation.{Operation}
 use Rattle.guest_board.specs.Lockstep.{Takes as TakesInput, step_refusal}
 use Rattle.guest_board.specs.Machine.{Machine}
 use Rattle.guest_board.specs.Recorded.{Counts, Accepts}
 use Rattle.guest_board.specs.declared.input.Input.{Input}
+use Rattle.guest_board.specs.declared.input.Input.TheVariants.{Sector}
+use Rattle.guest_board.specs.declared.replay_end.ReplayEnd.TheVariants.{End, Wait}
 use Rattle.i8080_words.specs.declared.refusal.Fault.{Fault}
 use Rattle.i8080_words.specs.declared.refusal.Fault.TheVariants.{Spent, Idle}
-use Rattle.log_entry.specs.Entries.{count_of, entries, input_of}
-use Rattle.log_entry.specs.Standing.{owed, IsOnTrace}
+use Rattle.log_entry.specs.Entries.{count_of, entries, input_of, bare_of, read_of}
+use Rattle.log_entry.specs.Standing.{owed, IsOnTrace, TakesFetched}
 use Rattle.log_entry.specs.declared.entry.Entry.{Entry}
-use Rattle.replayer.specs.Replaying.{Moves, Passes, Takes, Replays}
+use Rattle.log_entry.specs.declared.entry.Entry.TheVariants as entry
+use Rattle.replayer.specs.Replaying.{Moves, Passes, Takes, Reads, Replays, input_with, read_at, wanted, wanted_of, stop_at}
 use Rattle.replayer.specs.Standing.{StaysOn}
-use Rattle.replayer.proofs.Fronts.{same_value, not_behind, NextDoes, next_does, NextTakes, next_takes}
+use Rattle.replayer.proofs.Fronts.{same_value, not_behind, NextDoes, next_does, NextTakes, next_takes, next_reads, none_for, input_not_read}
 use Rattle.replayer.proofs.Standing.{stays_on}
 
 pub front_is : (held : List Entry) (e : Entry) → slice_get held 0 ≡ Some e → held ≡ e ∷ drop 1 held
@@ -22,18 +26,18 @@ front_is [] e h = absurd cc
 front_is (x ∷ xs) e h = ap (λ x. x ∷ xs) (same_value x e h)
 
 -- moves by the entries that are held keep to the run
-pub still_on : {S : Type 0} (M : Machine S) (s t : S) (held left : List Entry) (n : ℕ) → Counts M → IsOnTrace M s held
-    → Replays M s held n t left → IsOnTrace M t left
-still_on M s t held left n counts on moves =
-    let x : StaysOn M s held on.owes on.moves on.last t left =
-    stays_on M s held t on.last left n on.owes on.moves counts moves on.stands in
-    record { owes = x.owes_still; moves = x.rest; last = on.last; stands = x.stands }
+pub still_on : {S : Type 0} (M : Machine S) (s t : S) (held left : List Entry) (fetched still : Option (List ℕ)) (n : ℕ)
+    → Counts M → IsOnTrace M s held fetched → Replays M s held fetched n t left still → IsOnTrace M t left still
+still_on M s t held left fetched still n counts on moves =
+    let x : StaysOn M on.reads s held on.owes on.moves on.last t left still =
+    stays_on M on.reads s held fetched t on.last left still n on.owes on.moves counts moves on.stands in
+    record { reads = on.reads; owes = x.owes_still; moves = x.rest; last = on.last; stands = x.stands }
 
 -- the entries from the first that is held on
-next_ones : {S : Type 0} (M : Machine S) (s : S) (held : List Entry) (e : Entry) (on : IsOnTrace M s held)
-    → slice_get held 0 ≡ Some e
-    → e ∷ (drop 1 held ++ on.stands.later) ≡ owed (M.count s) on.owes ++ entries (M.count s) on.moves
-next_ones M s held e on first =
+next_ones : {S : Type 0} (M : Machine S) (s : S) (held : List Entry) (fetched : Option (List ℕ)) (e : Entry)
+    (on : IsOnTrace M s held fetched) → slice_get held 0 ≡ Some e
+    → e ∷ (drop 1 held ++ on.stands.later) ≡ owed (M.count s) on.owes ++ entries on.reads (M.count s) on.moves
+next_ones M s held fetched e on first =
     ap (λ (h : List Entry). h ++ on.stands.later) (sym (front_is held e first)) ∙ on.stands.next_ones
 
 -- ---- a step
@@ -54,12 +58,12 @@ pub record MayStep {S : Type 0} (M : Machine S) (s : S) : Type 0 where
   pub made : M.step s ≡ Some (t, gives)
   pub allowed : step_refusal M s ≡ None
 
-pub may_step : {S : Type 0} (M : Machine S) (s : S) (held : List Entry) (e : Entry) → Counts M → IsOnTrace M s held
-    → slice_get held 0 ≡ Some e → M.count s < count_of e → MayStep M s
-may_step M s held e counts on first later =
+pub may_step : {S : Type 0} (M : Machine S) (s : S) (held : List Entry) (fetched : Option (List ℕ)) (e : Entry)
+    → Counts M → IsOnTrace M s held fetched → slice_get held 0 ≡ Some e → M.count s < count_of e → MayStep M s
+may_step M s held fetched e counts on first later =
     let next : NextDoes M s on.last on.owes on.moves =
-    next_does M s on.last e (drop 1 held ++ on.stands.later) on.owes on.moves on.stands.runs
-    (next_ones M s held e on first) later in
+    next_does M on.reads s on.last e (drop 1 held ++ on.stands.later) on.owes on.moves on.stands.runs
+    (next_ones M s held fetched e on first) later in
     record {
       t = next.t;
       gives = next.gives;
@@ -69,44 +73,143 @@ may_step M s held e counts on first later =
 
 -- ---- an entry
 
-pub not_before : {S : Type 0} (M : Machine S) (s : S) (held : List Entry) (e : Entry) → IsOnTrace M s held
-    → slice_get held 0 ≡ Some e → M.count s ≤ count_of e
-not_before M s held e on first =
-    not_behind (M.count s) e (drop 1 held ++ on.stands.later) on.owes on.moves (next_ones M s held e on first)
+pub not_before : {S : Type 0} (M : Machine S) (s : S) (held : List Entry) (fetched : Option (List ℕ)) (e : Entry)
+    → IsOnTrace M s held fetched → slice_get held 0 ≡ Some e → M.count s ≤ count_of e
+not_before M s held fetched e on first =
+    not_behind on.reads (M.count s) e (drop 1 held ++ on.stands.later) on.owes on.moves
+    (next_ones M s held fetched e on first)
 
-stands_at : {S : Type 0} (M : Machine S) (s : S) (held : List Entry) (e : Entry) → IsOnTrace M s held
-    → slice_get held 0 ≡ Some e → (M.count s < count_of e → ⊥) → M.count s ≡ count_of e
-stands_at M s held e on first no_later = let le = not_before M s held e on first in omega arith
+stands_at : {S : Type 0} (M : Machine S) (s : S) (held : List Entry) (fetched : Option (List ℕ)) (e : Entry)
+    → IsOnTrace M s held fetched → slice_get held 0 ≡ Some e → (M.count s < count_of e → ⊥) → M.count s ≡ count_of e
+stands_at M s held fetched e on first no_later = let le = not_before M s held fetched e on first in omega arith
+
+-- the bytes that have come are for the first entry
+first_takes : {S : Type 0} (M : Machine S) (s : S) (held : List Entry) (fetched : Option (List ℕ)) (e : Entry)
+    (on : IsOnTrace M s held fetched) → slice_get held 0 ≡ Some e → TakesFetched fetched (e ∷ drop 1 held) on.moves
+first_takes M s held fetched e on first =
+    subst (λ h. TakesFetched fetched h on.moves) (front_is held e first) on.stands.takes
 
 pub record MayTake {S : Type 0} (M : Machine S) (s : S) (input : Input) : Type 0 where
   pub t : S
   pub accepts : Accepts M s input t
 
-pub may_take : {S : Type 0} (M : Machine S) (s : S) (held : List Entry) (e : Entry) (input : Input)
-    → IsOnTrace M s held → slice_get held 0 ≡ Some e → (M.count s < count_of e → ⊥) → input_of e ≡ Some input
-    → MayTake M s input
-may_take M s held e input on first no_later has =
-    let next : NextTakes M s on.last e (drop 1 held ++ on.stands.later) on.owes on.moves input =
-    next_takes M s on.last e (drop 1 held ++ on.stands.later) on.owes on.moves input on.stands.runs
-    (next_ones M s held e on first) (stands_at M s held e on first no_later) has in
-    record { t = next.t; accepts = next.accepts }
+-- how an entry gives an input: it carries it, or it is a read whose bytes have come
+data Gives (fetched : Option (List ℕ)) (e : Entry) (input : Input) : Type 0 where
+  Carries : input_of e ≡ Some input → Gives fetched e input
+  ReadsIt : {count drive sector number : ℕ} {bytes : List ℕ} → e ≡ entry.Read count drive sector number
+      → fetched ≡ Some bytes → input ≡ Sector drive sector number bytes → Gives fetched e input
+
+gives : (fetched : Option (List ℕ)) (e : Entry) (input : Input) → input_with fetched e ≡ Some input
+    → Gives fetched e input
+gives fetched (entry.Mark count) input has = absurd cc
+gives fetched (entry.Rx count port byte) input has = Carries has
+gives fetched (entry.Sent count port) input has = Carries has
+gives fetched (entry.Sector count drive sector number bytes) input has = Carries has
+gives fetched (entry.Written count number) input has = Carries has
+gives None (entry.Read count drive sector number) input has = absurd cc
+gives (Some bytes) (entry.Read count drive sector number) input has =
+    ReadsIt refl refl (sym (same_value (Sector drive sector number bytes) input has))
+
+pub may_take : {S : Type 0} (M : Machine S) (s : S) (held : List Entry) (fetched : Option (List ℕ)) (e : Entry)
+    (input : Input) → IsOnTrace M s held fetched → slice_get held 0 ≡ Some e → (M.count s < count_of e → ⊥)
+    → input_with fetched e ≡ Some input → MayTake M s input
+may_take M s held fetched e input on first no_later has = go (gives fetched e input has)
+  where
+    all : e ∷ (drop 1 held ++ on.stands.later) ≡ owed (M.count s) on.owes ++ entries on.reads (M.count s) on.moves
+    all = next_ones M s held fetched e on first
+
+    go : Gives fetched e input → MayTake M s input
+    go (Carries carried) =
+        let next : NextTakes M on.reads s on.last e (drop 1 held ++ on.stands.later) on.owes on.moves input =
+        next_takes M on.reads s on.last e (drop 1 held ++ on.stands.later) on.owes on.moves input on.stands.runs all
+        (stands_at M s held fetched e on first no_later) carried in
+        record { t = next.t; accepts = next.accepts }
+    go (ReadsIt {count = count} {drive = drive} {sector = sector} {number = number} {bytes = bytes} is come takes) =
+        let read = entry.Read count drive sector number in
+        let next : NextTakes M on.reads s on.last read (drop 1 held ++ on.stands.later) on.owes on.moves
+        (Sector drive sector number bytes) =
+        next_reads M on.reads s on.last count drive sector number (drop 1 held) on.stands.later on.owes on.moves bytes
+        on.stands.runs (ap (λ e. e ∷ (drop 1 held ++ on.stands.later)) (sym is) ∙ all)
+        (subst (λ f. TakesFetched f (read ∷ drop 1 held) on.moves) come
+        (subst (λ e. TakesFetched fetched (e ∷ drop 1 held) on.moves) is
+        (first_takes M s held fetched e on first))) in
+        record { t = next.t; accepts = subst (λ i. Accepts M s i next.t) (sym takes) next.accepts }
 
 pub no_refusal : {S : Type 0} (M : Machine S) (s t : S) (input : Input) (fault : Fault) → MayTake M s input
     → TakesInput M s input (Err fault) t → ⊥
 no_refusal M s t input fault may did = let none = may.accepts.allowed in let some = did.0 in cc
 
-pub takes : {S : Type 0} (M : Machine S) (s t : S) (held left : List Entry) (e : Entry) (input : Input)
-    → IsOnTrace M s held → slice_get held 0 ≡ Some e → (M.count s < count_of e → ⊥) → input_of e ≡ Some input
-    → TakesInput M s input (Ok tt) t → left ≡ drop 1 held → Moves M s held t left
-takes M s t held left e input on first no_later has did popped =
-    let may : MayTake M s input = may_take M s held e input on first no_later has in
-    subst (λ left. Moves M s held t left) (sym popped)
-    (Takes (front_is held e first) (stands_at M s held e on first no_later) has
-    (record { is_input = may.accepts.is_input; room = may.accepts.room; allowed = did.0; taken = did.1 }))
+-- after an entry with an input no bytes are kept
+pub takes : {S : Type 0} (M : Machine S) (s t : S) (held left : List Entry) (fetched still : Option (List ℕ))
+    (e : Entry)
+    (input : Input) → IsOnTrace M s held fetched → slice_get held 0 ≡ Some e → (M.count s < count_of e → ⊥)
+    → input_with fetched e ≡ Some input → TakesInput M s input (Ok tt) t → left ≡ drop 1 held → still ≡ None
+    → Moves M s held fetched t left still
+takes {S} M s t held left fetched still e input on first no_later has did popped none =
+    subst (λ still. Moves M s held fetched t left still) (sym none)
+    (subst (λ left. Moves M s held fetched t left None) (sym popped) (go (gives fetched e input has)))
+  where
+    may : MayTake M s input
+    may = may_take M s held fetched e input on first no_later has
 
-pub passes : {S : Type 0} (M : Machine S) (s : S) (held left : List Entry) (e : Entry) → IsOnTrace M s held
-    → slice_get held 0 ≡ Some e → (M.count s < count_of e → ⊥) → input_of e ≡ None → left ≡ drop 1 held
-    → Moves M s held s left
-passes M s held left e on first no_later has popped =
-    subst (λ left. Moves M s held s left) (sym popped)
-    (Passes (front_is held e first) (stands_at M s held e on first no_later) has)
+    accepts : Accepts M s input t
+    accepts =
+        record { is_input = may.accepts.is_input; room = may.accepts.room; allowed = did.0; taken = did.1 }
+
+    at : M.count s ≡ count_of e
+    at = stands_at M s held fetched e on first no_later
+
+    go : Gives fetched e input → Moves M s held fetched t (drop 1 held) None
+    go (Carries carried) =
+        let no_bytes : fetched ≡ None =
+        none_for e (drop 1 held) fetched on.moves (input_not_read e input carried)
+        (first_takes M s held fetched e on first) in
+        subst (λ f. Moves M s held fetched t (drop 1 held) f) no_bytes
+        (Takes (front_is held e first) at carried accepts)
+    go (ReadsIt is come sector_is) =
+        Reads (front_is held e first ∙ ap (λ e. e ∷ drop 1 held) is) (at ∙ ap count_of is) come
+        (subst (λ i. Accepts M s i t) sector_is accepts)
+
+-- ---- a mark
+
+-- it neither has no entry nor waits
+pub ready_none : (empty : Bool) (read : Option (ℕ × ℕ × ℕ))
+    → cond empty (Some End) (cond (is_none read) None (Some Wait)) ≡ None → read ≡ None
+ready_none true read e = absurd cc
+ready_none false None e = refl
+ready_none false (Some read) e = absurd cc
+
+-- so some entry is held
+pub not_empty : {S : Type 0} (M : Machine S) (s : S) (held : List Entry) (fetched : Option (List ℕ))
+    → stop_at M s held fetched ≡ None → held ≡ [] → ⊥
+not_empty M s held fetched ready none =
+    let no : Some End ≡ None = sym (ap (λ h. stop_at M s h fetched) none) ∙ ready in cc
+
+not_waiting : {S : Type 0} (M : Machine S) (s : S) (held : List Entry) (fetched : Option (List ℕ)) (e : Entry)
+    → slice_get held 0 ≡ Some e → M.count s ≡ count_of e → stop_at M s held fetched ≡ None
+    → wanted_of fetched (read_of e) ≡ None
+not_waiting M s held fetched e first at ready =
+    let here : wanted M s held fetched ≡ wanted_of fetched (read_of e) =
+    ap (λ o. wanted_of fetched (read_at (M.count s) o)) first
+    ∙ ap (λ b. wanted_of fetched (cond b (read_of e) None)) (eq-eqb (M.count s) (count_of e) at) in
+    sym here ∙ ready_none (length held == 0) (wanted M s held fetched) ready
+
+-- an entry that gives no input and does not wait for bytes is a mark
+no_input : (fetched : Option (List ℕ)) (e : Entry) → input_with fetched e ≡ None → wanted_of fetched (read_of e) ≡ None
+    → bare_of e ≡ None
+no_input fetched (entry.Mark count) none ready = refl
+no_input fetched (entry.Rx count port byte) none ready = absurd cc
+no_input fetched (entry.Sent count port) none ready = absurd cc
+no_input fetched (entry.Sector count drive sector number bytes) none ready = absurd cc
+no_input fetched (entry.Written count number) none ready = absurd cc
+no_input None (entry.Read count drive sector number) none ready = absurd cc
+no_input (Some bytes) (entry.Read count drive sector number) none ready = absurd cc
+
+pub passes : {S : Type 0} (M : Machine S) (s : S) (held left : List Entry) (fetched : Option (List ℕ)) (e : Entry)
+    → IsOnTrace M s held fetched → slice_get held 0 ≡ Some e → (M.count s < count_of e → ⊥)
+    → input_with fetched e ≡ None → stop_at M s held fetched ≡ None → left ≡ drop 1 held
+    → Moves M s held fetched s left fetched
+passes M s held left fetched e on first no_later none ready popped =
+    let at = stands_at M s held fetched e on first no_later in
+    subst (λ left. Moves M s held fetched s left fetched) (sym popped)
+    (Passes (front_is held e first) at (no_input fetched e none (not_waiting M s held fetched e first at ready)))

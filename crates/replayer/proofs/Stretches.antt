@@ -1,7 +1,7 @@
 -- What a stretch of moves meets. Each step that the machine executes by itself raises its count by one; so as many of
 -- them as the first entry is ahead all begin below its count, and each is a move by the entries. The first of them can
 -- be executed, so it is refused only when out of memory; and an entry at the machine's count is a stretch of one move.
-use Rattle.std.proofs.Common.{◌≡◌, ℕ, ◌+◌, ◌<◌, ◌≤◌, List, ◌∷◌, drop, slice_get, Some, Ok, Err, refl, sym, ap, subst, ◌∙◌, arith}
+use Rattle.std.proofs.Common.{◌≡◌, ℕ, ◌+◌, ◌<◌, ◌≤◌, List, ◌∷◌, drop, slice_get, Option, Some, Ok, Err, refl, sym, ap, subst, ◌∙◌, arith}
 use Rattle.guest_board.proofs.QuietSteps.{none_made, quiet_count}
 use Rattle.guest_board.specs.Lockstep.{step_refusal}
 use Rattle.guest_board.specs.Machine.{Machine}
@@ -18,30 +18,35 @@ use Rattle.replayer.proofs.OneMove.{front_is, MayStep, may_step}
 
 -- ---- steps up to the first entry
 
-replays_quiet : {S : Type 0} (M : Machine S) (s t : S) (held es : List Entry) (e : Entry) (n : ℕ) → Counts M
-    → held ≡ e ∷ es → M.count s + n ≤ count_of e → Quiet M s n t → Replays M s held n t held
-replays_quiet M s t held es e n counts are within NoSteps = Begin
-replays_quiet M s t held es e n counts are within (More {n = m} {t = v} quiet allowed made) =
+replays_quiet : {S : Type 0} (M : Machine S) (s t : S) (held es : List Entry) (fetched : Option (List ℕ)) (e : Entry)
+    (n : ℕ) → Counts M → held ≡ e ∷ es → M.count s + n ≤ count_of e → Quiet M s n t
+    → Replays M s held fetched n t held fetched
+replays_quiet M s t held es fetched e n counts are within NoSteps = Begin
+replays_quiet M s t held es fetched e n counts are within (More {n = m} {t = v} quiet allowed made) =
     let count = quiet_count M s v m counts quiet in
-    Then (replays_quiet M s v held es e m counts are (omega arith) quiet) (Steps are (omega arith) made)
+    Then (replays_quiet M s v held es fetched e m counts are (omega arith) quiet) (Steps are (omega arith) made)
 
 -- a run of no more steps than the first entry is ahead
-replays_run : {S : Type 0} (M : Machine S) (s t : S) (held es : List Entry) (e : Entry) (most : ℕ) (ran : Stopped)
-    → Counts M → held ≡ e ∷ es → M.count s + most ≤ count_of e → RunsOn M s most ran t
-    → (ran.steps ≤ most) × Replays M s held ran.steps t held
-replays_run M s t held es e most ran counts are within (AllTurns quiet) =
-    (omega arith, replays_quiet M s t held es e most counts are within quiet)
-replays_run M s t held es e most ran counts are within (Gives {n = n} {t = v} lt quiet allowed made) =
-    let count = quiet_count M s v n counts quiet in
-    (omega arith, Then (replays_quiet M s v held es e n counts are (omega arith) quiet) (Steps are (omega arith) made))
-replays_run M s t held es e most ran counts are within (IsRefused {n = n} lt quiet) =
-    (omega arith, replays_quiet M s t held es e n counts are (omega arith) quiet)
+replays_run : {S : Type 0} (M : Machine S) (s t : S) (held es : List Entry) (fetched : Option (List ℕ)) (e : Entry)
+    (most : ℕ) (ran : Stopped) → Counts M → held ≡ e ∷ es → M.count s + most ≤ count_of e → RunsOn M s most ran t
+    → (ran.steps ≤ most) × Replays M s held fetched ran.steps t held fetched
+replays_run M s t held es fetched e most ran counts are within (AllTurns quiet) =
+    (omega arith, replays_quiet M s t held es fetched e most counts are within quiet)
+replays_run M s t held es fetched e most ran counts are within (Gives {n = n} {t = v} lt quiet allowed made) =
+    let count = quiet_count M s v n counts quiet in (
+      omega arith,
+      Then (replays_quiet M s v held es fetched e n counts are (omega arith) quiet)
+          (Steps are (omega arith) made),
+    )
+replays_run M s t held es fetched e most ran counts are within (IsRefused {n = n} lt quiet) =
+    (omega arith, replays_quiet M s t held es fetched e n counts are (omega arith) quiet)
 
-pub steps_made : {S : Type 0} (M : Machine S) (s t : S) (held : List Entry) (e : Entry) (turns most : ℕ)
-    (ran : Stopped) → Counts M → slice_get held 0 ≡ Some e → M.count s + most ≤ count_of e → most ≤ turns
-    → RunsOn M s most ran t → 0 < ran.steps → AnswersStretch M s held turns (Ok ran.steps) t held
-steps_made M s t held e turns most ran counts first within few runs some =
-    let all = replays_run M s t held (drop 1 held) e most ran counts (front_is held e first) within runs in
+pub steps_made : {S : Type 0} (M : Machine S) (s t : S) (held : List Entry) (fetched : Option (List ℕ)) (e : Entry)
+    (turns most : ℕ) (ran : Stopped) → Counts M → slice_get held 0 ≡ Some e → M.count s + most ≤ count_of e
+    → most ≤ turns
+    → RunsOn M s most ran t → 0 < ran.steps → AnswersStretch M s held fetched turns (Ok ran.steps) t held fetched
+steps_made M s t held fetched e turns most ran counts first within few runs some =
+    let all = replays_run M s t held (drop 1 held) fetched e most ran counts (front_is held e first) within runs in
     let steps = all.0 in
     (some, omega arith, all.1)
 
@@ -58,23 +63,24 @@ refused_at_once M s t most ran fault some why none (IsRefused {n = n} lt quiet) 
     let here : fault_of (step_refusal M t) ≡ fault = cc in
     (sym here ∙ ap (λ t. fault_of (step_refusal M t)) same, same)
 
-pub needs_memory : {S : Type 0} (M : Machine S) (s t : S) (held : List Entry) (e : Entry) (turns most : ℕ)
-    (ran : Stopped) (fault : Fault) → Counts M → IsOnTrace M s held → slice_get held 0 ≡ Some e
+pub needs_memory : {S : Type 0} (M : Machine S) (s t : S) (held : List Entry) (fetched : Option (List ℕ)) (e : Entry)
+    (turns most : ℕ) (ran : Stopped) (fault : Fault) → Counts M → IsOnTrace M s held fetched → slice_get held 0 ≡ Some e
     → M.count s < count_of e → 0 < most → RunsOn M s most ran t → ran.reason ≡ Refused fault → ran.steps ≡ 0
-    → AnswersStretch M s held turns (Err fault) t held
-needs_memory M s t held e turns most ran fault counts on first later some runs why none =
-    let may : MayStep M s = may_step M s held e counts on first later in
+    → AnswersStretch M s held fetched turns (Err fault) t held fetched
+needs_memory M s t held fetched e turns most ran fault counts on first later some runs why none =
+    let may : MayStep M s = may_step M s held fetched e counts on first later in
     let refused = refused_at_once M s t most ran fault some why none runs in
     let behind : IsBehind M s held =
     record { first = e; rest = drop 1 held; held_are = front_is held e first; later = later } in
-    (refused.0 ∙ ap fault_of may.allowed, behind, refused.1, refl)
+    (refused.0 ∙ ap fault_of may.allowed, behind, refused.1, refl, refl)
 
-pub still_there : {S : Type 0} (M : Machine S) (s t : S) (held : List Entry) → t ≡ s → IsOnTrace M s held
-    → IsOnTrace M t held
-still_there M s t held same on = subst (λ t. IsOnTrace M t held) (sym same) on
+pub still_there : {S : Type 0} (M : Machine S) (s t : S) (held : List Entry) (fetched : Option (List ℕ)) → t ≡ s
+    → IsOnTrace M s held fetched → IsOnTrace M t held fetched
+still_there M s t held fetched same on = subst (λ t. IsOnTrace M t held fetched) (sym same) on
 
 -- ---- an entry
 
-pub one_move : {S : Type 0} (M : Machine S) (s t : S) (held left : List Entry) (turns : ℕ) → 0 < turns
-    → Moves M s held t left → AnswersStretch M s held turns (Ok 1) t left
-one_move M s t held left turns some one = (omega arith, omega arith, Then Begin one)
+pub one_move : {S : Type 0} (M : Machine S) (s t : S) (held left : List Entry) (fetched still : Option (List ℕ))
+    (turns : ℕ) → 0 < turns → Moves M s held fetched t left still
+    → AnswersStretch M s held fetched turns (Ok 1) t left still
+one_move M s t held left fetched still turns some one = (omega arith, omega arith, Then Begin one)

@@ -1,5 +1,5 @@
 -- What a guest does toward an entry that it need not trust: it makes the entry's move exactly if that is the next move
--- that it logs.
+-- that it logs, in a log that carries its sectors.
 use Rattle.std.specs.Prelude.{◌≡◌, ℕ, ◌<◌, ◌≤◌, ◌⊎◌, Bool, true, false, List, [], ◌∷◌, ◌++◌, Some, Result, Ok, Err}
 use Rattle.event_callbacks.specs.declared.operations.Operation.{Operation}
 use Rattle.guest_board.specs.Lockstep.{Executes}
@@ -7,6 +7,7 @@ use Rattle.guest_board.specs.Machine.{Machine, Move}
 use Rattle.guest_board.specs.Recorded.{Accepts, Counts, Recorded}
 use Rattle.guest_board.specs.Running.{Quiet}
 use Rattle.guest_board.specs.declared.input.Input.{Input}
+use Rattle.guest_board.specs.declared.reads.Reads.TheVariants.{Logged}
 use Rattle.i8080_words.specs.declared.refusal.Fault.{Fault}
 use Rattle.log_entry.specs.Entries.{count_of, entries}
 use Rattle.log_entry.specs.declared.entry.Entry.{Entry}
@@ -17,7 +18,7 @@ use Rattle.replayer.specs.declared.following.Followed.TheVariants.{Stepped, Done
 pub record Logs {S : Type 0} (M : Machine S) (s : S) (e : Entry) (t : S) : Type 0 where
   pub move : Move
   pub runs : Recorded M s (move ∷ []) t
-  pub entry : entries (M.count s) (move ∷ []) ≡ e ∷ []
+  pub entry : entries Logged (M.count s) (move ∷ []) ≡ e ∷ []
 
 -- steps that give nothing, then the move that is logged as this entry
 pub record Reaches {S : Type 0} (M : Machine S) (s : S) (e : Entry) (t : S) : Type 0 where
@@ -50,7 +51,7 @@ TakesIf {S} M s input false t = (t ≡ s) × ((u : S) → Accepts M s input u �
 pub record Ran {S : Type 0} (M : Machine S) (start : S) (list : List Entry) (s : S) : Type 0 where
   pub moves : List Move
   pub runs : Recorded M start moves s
-  pub entries_are : entries (M.count start) moves ≡ list
+  pub entries_are : entries Logged (M.count start) moves ≡ list
 
 -- steps that give nothing keep the list, and an entry that is reached is the next of the list, at the guest's count
 pub record GoesOn {S : Type 0} (M : Machine S) (start : S) (list : List Entry) (s : S) : Type 0 where

@@ -22,8 +22,8 @@ pub enum Followed {
 }
 
 /// Executes at most `turns` steps toward an entry's count, or makes the entry's own move there: the step that gives the
-/// operation of a mark, or the input. Refused as the first step is; so `Idle` and `Spent` say that the guest never gets
-/// there by itself.
+/// operation of a mark, or the input. No move logs a read here, since it does not carry its bytes. Refused as the first
+/// step is; so `Idle` and `Spent` say that the guest never gets there by itself.
 pub fn follow<B: Lockstep>(board: &mut B, entry: &Entry, turns: u64) -> R<Followed>
     ensures answer { Follows B.machine (B.state board.old) entry.now turns result (B.state board.new) }
     ensures unchanged { OnErr result (board.new ≡ board.old) }
@@ -51,7 +51,7 @@ fn step_toward<B: Lockstep>(board: &mut B, entry: &Entry, turns: u64) -> R<Follo
     let Stopped { steps, reason } = run(board, turns.min(ahead));
     match reason {
         StopReason::Turns => Ok(Followed::Stepped(steps)),
-        StopReason::Operation(_) if steps == ahead && entry.input().is_none() => Ok(Followed::Done),
+        StopReason::Operation(_) if steps == ahead && entry.timed().is_none() => Ok(Followed::Done),
         StopReason::Operation(_) => Ok(Followed::Differs),
         StopReason::Refused(fault) if steps == 0 => Err(fault),
         StopReason::Refused(_) => Ok(Followed::Stepped(steps)),

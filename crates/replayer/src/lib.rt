@@ -3,6 +3,7 @@
 
 mod following;
 mod laws;
+mod reads;
 mod replay;
 mod replayer;
 #[cfg(test)]

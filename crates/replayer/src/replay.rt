@@ -1,57 +1,81 @@
 //! The moves of a guest by the entries that are held.
-ghost use Rattle.std.specs.Prelude.{◌≡◌, ◌≢◌, ◌<◌, [], OnErr};
+ghost use Rattle.std.specs.Prelude.{◌≡◌, ◌<◌, None, OnErr};
 ghost use Rattle.log_entry.specs.Standing.{IsOnTrace};
-ghost use Rattle.replayer.specs.Replaying.{Answers, AnswersStretch};
+ghost use Rattle.replayer.specs.Replaying as table;
 
+use crate::reads::{input_with, wanted};
 use crate::replayer::Replayed;
-use guest_board::{Lockstep, StopReason};
+use disk_dcdd::SECTOR_BYTES;
+use guest_board::{Lockstep, ReplayEnd, StopReason};
 use i8080_words::R;
 use log_channel::Receiver;
 
 // Makes at most `turns` moves. Refused if none is made because the first runs out of memory.
-pub(crate) fn run<B: Lockstep>(board: &mut B, receiver: &mut Receiver, turns: u64) -> R<Replayed>
-    requires on_trace { IsOnTrace B.machine (B.state board.old) receiver.old.entries }
-    ensures answers { Answers B.machine (B.state board.old) receiver.old.entries turns result (B.state board.new)
-        receiver.new.entries }
+pub(crate) fn run<B: Lockstep>(
+    board: &mut B,
+    fetched: &mut Option<[u8; SECTOR_BYTES]>,
+    receiver: &mut Receiver,
+    turns: u64,
+) -> R<Replayed>
+    requires on_trace { IsOnTrace B.machine (B.state board.old) receiver.old.entries fetched.old }
+    ensures answers { table.Answers B.machine (B.state board.old) receiver.old.entries fetched.old turns result
+        (B.state board.new) receiver.new.entries fetched.new }
     ensures held { receiver.new ≡ record receiver.old { entries = receiver.new.entries } }
-    ensures unchanged { OnErr result ((board.new ≡ board.old) × (receiver.new ≡ receiver.old)) }
+    ensures unchanged { OnErr result
+        ((board.new ≡ board.old) × (fetched.new ≡ fetched.old) × (receiver.new ≡ receiver.old)) }
 {
     let mut moves = 0;
     while moves < turns {
-        if receiver.is_empty() {
-            return Ok(Replayed {
-                moves,
-                at_end: true,
-            });
+        if let Some(why) = stop_at(board, *fetched, receiver) {
+            return Ok(Replayed { moves, why });
         }
-        match stretch(board, receiver, turns - moves) {
+        match stretch(board, fetched, receiver, turns - moves) {
             Ok(made) => moves += made,
             Err(fault) if moves == 0 => return Err(fault),
             Err(_) => {
-                return Ok(Replayed {
-                    moves,
-                    at_end: false,
-                });
+                let why = ReplayEnd::Memory;
+                return Ok(Replayed { moves, why });
             }
         }
     }
-    Ok(Replayed {
-        moves,
-        at_end: receiver.is_empty(),
-    })
+    let why = stop_at(board, *fetched, receiver).unwrap_or(ReplayEnd::Turns);
+    Ok(Replayed { moves, why })
+}
+
+// Why no move can be made at all, apart from memory: no entry is held, or the first waits for bytes.
+fn stop_at<B: Lockstep>(
+    board: &B,
+    fetched: Option<[u8; SECTOR_BYTES]>,
+    receiver: &Receiver,
+) -> Option<ReplayEnd>
+    ensures { result ≡ table.stop_at B.machine (B.state board.now) receiver.now.entries fetched }
+{
+    if receiver.is_empty() {
+        return Some(ReplayEnd::End);
+    }
+    if wanted(board, fetched, receiver).is_some() {
+        return Some(ReplayEnd::Wait);
+    }
+    None
 }
 
 // Executes steps up to the first entry that is held, or takes that entry at its count. Returns how many moves were
 // made, at most `turns`.
-fn stretch<B: Lockstep>(board: &mut B, receiver: &mut Receiver, turns: u64) -> R<u64>
-    requires on_trace { IsOnTrace B.machine (B.state board.old) receiver.old.entries }
+fn stretch<B: Lockstep>(
+    board: &mut B,
+    fetched: &mut Option<[u8; SECTOR_BYTES]>,
+    receiver: &mut Receiver,
+    turns: u64,
+) -> R<u64>
+    requires on_trace { IsOnTrace B.machine (B.state board.old) receiver.old.entries fetched.old }
     requires some { 0 < turns }
-    requires entry { receiver.old.entries ≢ [] }
-    ensures answers { AnswersStretch B.machine (B.state board.old) receiver.old.entries turns result
-        (B.state board.new) receiver.new.entries }
-    ensures on_trace { IsOnTrace B.machine (B.state board.new) receiver.new.entries }
+    requires ready { table.stop_at B.machine (B.state board.old) receiver.old.entries fetched.old ≡ None }
+    ensures answers { table.AnswersStretch B.machine (B.state board.old) receiver.old.entries fetched.old turns result
+        (B.state board.new) receiver.new.entries fetched.new }
+    ensures on_trace { IsOnTrace B.machine (B.state board.new) receiver.new.entries fetched.new }
     ensures held { receiver.new ≡ record receiver.old { entries = receiver.new.entries } }
-    ensures unchanged { OnErr result ((board.new ≡ board.old) × (receiver.new ≡ receiver.old)) }
+    ensures unchanged { OnErr result
+        ((board.new ≡ board.old) × (fetched.new ≡ fetched.old) × (receiver.new ≡ receiver.old)) }
 {
     let Some(front) = receiver.front() else {
         unreachable!()
@@ -67,9 +91,10 @@ fn stretch<B: Lockstep>(board: &mut B, receiver: &mut Receiver, turns: u64) -> R
         };
         return Err(fault);
     }
-    match front.input() {
+    match input_with(*fetched, front) {
         Some(input) => match board.take(input) {
             Ok(()) => {
+                *fetched = None;
                 receiver.pop();
                 Ok(1)
             }

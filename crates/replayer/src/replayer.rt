@@ -1,35 +1,46 @@
 //! A guest that repeats the moves of another.
-ghost use Rattle.std.specs.Prelude.{◌≡◌, ◌≤◌, OnErr};
+ghost use Rattle.std.specs.Prelude.{◌≡◌, ◌<◌, ◌≤◌, IfSome, None, OnErr, OnOk, Some};
+ghost use Rattle.disk_dcdd.specs.Completion.{answered};
+ghost use Rattle.disk_dcdd.specs.declared.controller.TheConstants.{DRIVES};
+ghost use Rattle.disk_dcdd.specs.declared.sector.TheConstants.{SECTORS};
 ghost use Rattle.log_entry.specs.Entries.{last_count};
 ghost use Rattle.log_entry.specs.Standing.{IsOnTrace};
-ghost use Rattle.replayer.specs.Replaying.{Answers};
+ghost use Rattle.replayer.specs.Replaying as table;
 ghost use Rattle.replayer.specs.Standing.{StaysOnEach};
 
+use crate::reads::{is_at, wanted};
 use crate::replay::run;
-use guest_board::Lockstep;
-use i8080_words::R;
+use disk_dcdd::SECTOR_BYTES;
+use guest_board::{Lockstep, ReplayEnd};
+use i8080_words::{Fault, R};
 use log_channel::Receiver;
+use shared_disk::SectorRead;
 
-/// How many moves were made, and whether no entry is held any more.
+/// How many moves were made, and why no more were.
 #[derive(Clone, Copy, Debug, PartialEq, Eq)]
 pub struct Replayed {
     pub moves: u64,
-    pub at_end: bool,
+    pub why: ReplayEnd,
 }
 
 /// A guest that repeats the moves of another, and makes none that the entries do not show (VMware FT, section 2.1,
-/// "deterministic replay").
+/// "deterministic replay"). A sector that the log does not carry comes from the shared disk (section 4.2).
 #[derive(Drop)]
 pub struct Replayer<B> {
     board: B,
+    fetched: Option<[u8; SECTOR_BYTES]>,
 }
 
 impl<B: Lockstep> Replayer<B> {
     /// A guest that repeats from now on.
     pub fn new(board: B) -> Replayer<B>
-        ensures { result.board ≡ board }
+        ensures board { result.board ≡ board }
+        ensures fetched { result.fetched ≡ None }
     {
-        Replayer { board }
+        Replayer {
+            board,
+            fetched: None,
+        }
     }
 
     /// The guest.
@@ -43,24 +54,61 @@ impl<B: Lockstep> Replayer<B> {
     pub fn into_board(self) -> B
         ensures { result ≡ self.board }
     {
-        let Replayer { board } = self;
+        let Replayer { board, fetched: _ } = self;
         board
     }
 
-    /// Makes at most `turns` moves, each of them a step or an entry. Makes fewer only if no entry is held any more or a
-    /// step runs out of memory; `OutOfMemory` is returned only if no move was made.
+    /// Makes at most `turns` moves, each of them a step or an entry. Makes fewer only if no entry is held any more, the
+    /// next one is a read whose bytes have not come, or a step runs out of memory; `OutOfMemory` is returned only if no
+    /// move was made.
     pub fn replay(&mut self, receiver: &mut Receiver, turns: u64) -> R<Replayed>
-        requires on_trace { IsOnTrace B.machine (B.state self.old.board) receiver.old.entries }
-        ensures answers { Answers B.machine (B.state self.old.board) receiver.old.entries turns result
-            (B.state self.new.board) receiver.new.entries }
-        ensures stays { StaysOnEach B.machine (B.state self.old.board) receiver.old.entries (B.state self.new.board)
-            receiver.new.entries }
-        ensures on_trace { IsOnTrace B.machine (B.state self.new.board) receiver.new.entries }
+        requires on_trace { IsOnTrace B.machine (B.state self.old.board) receiver.old.entries self.old.fetched }
+        ensures answers { table.Answers B.machine (B.state self.old.board) receiver.old.entries self.old.fetched turns
+            result (B.state self.new.board) receiver.new.entries self.new.fetched }
+        ensures stays { StaysOnEach B.machine (B.state self.old.board) receiver.old.entries self.old.fetched
+            (B.state self.new.board) receiver.new.entries self.new.fetched }
+        ensures on_trace { IsOnTrace B.machine (B.state self.new.board) receiver.new.entries self.new.fetched }
         ensures below { B.machine.count (B.state self.new.board)
             ≤ last_count (B.machine.count (B.state self.old.board)) receiver.old.entries }
         ensures held { receiver.new ≡ record receiver.old { entries = receiver.new.entries } }
         ensures unchanged { OnErr result ((self.new ≡ self.old) × (receiver.new ≡ receiver.old)) }
     {
-        run(&mut self.board, receiver, turns)
+        run(&mut self.board, &mut self.fetched, receiver, turns)
+    }
+
+    /// The drive, the sector and the number of the read that it waits for: the next entry, at its count, whose bytes have
+    /// not come.
+    pub fn wanted(&self, receiver: &Receiver) -> Option<(u8, u8, u64)>
+        ensures value { result
+            ≡ table.wanted B.machine (B.state self.now.board) receiver.now.entries self.now.fetched }
+        ensures within { IfSome result (λ read. (read.0 < DRIVES) × (read.1 < SECTORS)) }
+    {
+        wanted(&self.board, self.fetched, receiver)
+    }
+
+    /// Keeps the bytes of the sector that it waits for. `NotDue` if it waits for none or for another one, `StaleRead`
+    /// if the shared disk had what another write left there. Allocates no memory.
+    pub fn bytes(&mut self, receiver: &Receiver, read: &SectorRead) -> R<()>
+        requires on_trace { table.bytes_refusal B.machine (B.state self.old.board) receiver.now.entries self.old.fetched
+            read.now ≡ None → IsOnTrace B.machine (B.state self.old.board) receiver.now.entries (Some read.now.bytes) }
+        ensures answer { result ≡ answered (table.bytes_refusal B.machine (B.state self.old.board)
+            receiver.now.entries self.old.fetched read.now) }
+        ensures kept { OnOk result (self.new ≡ record self.old { fetched = Some read.now.bytes }) }
+        ensures on_trace { OnOk result
+            (IsOnTrace B.machine (B.state self.new.board) receiver.now.entries self.new.fetched) }
+        ensures unchanged { OnErr result (self.new ≡ self.old) }
+    {
+        let Some((drive, sector, number)) = self.wanted(receiver) else {
+            return Err(Fault::NotDue);
+        };
+        if !is_at(read, self.board.sector_under(drive, sector)) {
+            return Err(Fault::NotDue);
+        }
+        if number != read.number {
+            return Err(Fault::StaleRead);
+        }
+        let bytes = read.bytes;
+        self.fetched = Some(bytes);
+        Ok(())
     }
 }

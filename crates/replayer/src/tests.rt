@@ -5,10 +5,11 @@ ghost use Rattle.log_entry.specs.Spelling.{IsEntry};
 
 mod boards;
 mod following;
+mod reads;
 
 use crate::{Replayed, Replayer};
 use echo_guest::Echo;
-use guest_board::{Input, Lockstep};
+use guest_board::{Input, Lockstep, Reads, ReplayEnd};
 use i8080_words::{Fault, R};
 use log_buffer::LogBuffer;
 use log_channel::{Packet, Receiver, packets_spell_one_way};
@@ -46,8 +47,8 @@ fn hold(rt: &impl Abort, alloc: Global, receiver: &mut Receiver, generation: u32
     }
 }
 
-fn came(moves: u64, at_end: bool) -> R<Replayed> {
-    Ok(Replayed { moves, at_end })
+fn came(moves: u64, why: ReplayEnd) -> R<Replayed> {
+    Ok(Replayed { moves, why })
 }
 
 #[test]
@@ -58,7 +59,7 @@ fn a_replayer_ends_where_the_recorder_ended(rt: HostRuntime) -> R<()> {
         byte: 0x48,
     };
     let mark = Entry::Mark { count: 2 };
-    let mut recorder = Recorder::new(Echo::new(1), LogBuffer::new(rt.alloc(), 0)?);
+    let mut recorder = Recorder::new(Echo::new(1), LogBuffer::new(rt.alloc(), 0)?, Reads::Logged);
     assert_eq!(rt; recorder.offer(Input::Rx(0, 0x48)), Ok(0));
     assert!(rt; recorder.advance(9).is_ok());
     assert_eq!(rt;
@@ -71,14 +72,20 @@ fn a_replayer_ends_where_the_recorder_ended(rt: HostRuntime) -> R<()> {
     hold(&rt, rt.alloc(), &mut receiver, 1, key);
     hold(&rt, rt.alloc(), &mut receiver, 1, mark);
     let mut replayer = Replayer::new(Echo::new(1));
-    assert_eq!(rt; replayer.replay(&mut receiver, 0), came(0, false));
-    assert_eq!(rt; replayer.replay(&mut receiver, 2), came(2, false));
+    assert_eq!(rt;
+        replayer.replay(&mut receiver, 0),
+        came(0, ReplayEnd::Turns)
+    );
+    assert_eq!(rt;
+        replayer.replay(&mut receiver, 2),
+        came(2, ReplayEnd::Turns)
+    );
     assert_eq!(rt;
         (replayer.board().count(), replayer.board().keys(0)),
         (1, 1)
     );
-    assert_eq!(rt; replayer.replay(&mut receiver, 9), came(2, true));
-    assert_eq!(rt; replayer.replay(&mut receiver, 9), came(0, true));
+    assert_eq!(rt; replayer.replay(&mut receiver, 9), came(2, ReplayEnd::End));
+    assert_eq!(rt; replayer.replay(&mut receiver, 9), came(0, ReplayEnd::End));
     let replayed = replayer.into_board();
     assert_eq!(rt; replayed.count(), recorded.count());
     assert_eq!(rt; replayed.due_byte(0), recorded.due_byte(0));
@@ -96,7 +103,10 @@ fn a_replay_out_of_memory_goes_on_where_it_stopped(rt: HostRuntime) -> R<()> {
     hold(&rt, rt.alloc(), &mut receiver, 1, key);
     hold(&rt, rt.alloc(), &mut receiver, 1, Entry::Mark { count: 2 });
     let mut replayer = Replayer::new(Echo::new(0));
-    assert_eq!(rt; replayer.replay(&mut receiver, 9), came(2, false));
+    assert_eq!(rt;
+        replayer.replay(&mut receiver, 9),
+        came(2, ReplayEnd::Memory)
+    );
     assert_eq!(rt; replayer.replay(&mut receiver, 9), Err(Fault::OutOfMemory));
     assert_eq!(rt; replayer.board().count(), 1);
     Ok(())

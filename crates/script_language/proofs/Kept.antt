@@ -1,14 +1,14 @@
 -- A further line leaves the first bad line unchanged, and leaves the sectors unchanged or adds one, with its own
 -- number. So the sectors are in the order of their lines.
 use Rattle.std.proofs.Common.{◌≡◌, ℕ, ◌+◌, ◌≤◌, ◌⊎◌, inl, inr, List, [], ◌∷◌, ◌++◌, length, Bool, true, false, Option, Some, None, refl, sym, subst, arith}
-use Rattle.std.specs.Prelude.{◌&&◌, ◌==◌, nat_lt, nat_le, if◌then◌else◌}
+use Rattle.std.specs.Prelude.{◌&&◌, ◌==◌, nat_lt, nat_le, if◌then◌else◌, bytes_eq, codes}
 use Rattle.std.specs.Option.{option_map}
 use Rattle.script_language.specs.declared.keyword.Keyword.{Keyword}
 use Rattle.script_language.specs.declared.keyword.Keyword.TheVariants as keyword
 use Rattle.script_language.specs.declared.line.Line.{Line}
 use Rattle.script_language.specs.Words.{Reader, between_of, bytes_of, decimal_of, hexadecimal_of, whole, words_of, ◌>>=◌}
-use Rattle.script_language.specs.Grammar.{bad, between, byte, bytes, is_setup, keyword_of, line_of, of_kind, says}
-use Rattle.script_language.specs.Booting.{Boot, Change, Filled, boot_after, change_of, drives_are, fails_at, fitting, hosts_are, levels_are, memory_from, sector_is, sense_is}
+use Rattle.script_language.specs.Grammar.{bad, between, byte, bytes, is_setup, keyword_of, line_of, of_kind, says, the_word}
+use Rattle.script_language.specs.Booting.{Boot, Change, Filled, boot_after, change_of, drives_are, fails_at, fitting, hosts_are, levels_are, memory_from, reads_are_shared, sector_is, sense_is}
 use Rattle.script_language.specs.Meaning.{Said, unless_bad, with_boot, with_keyword, with_line, with_more, with_words}
 
 -- sectors with at most one more, of this line
@@ -43,6 +43,15 @@ gives_of_kind : {X : Type 0} (P : X → Type 0) (kind : List ℕ → Option ℕ)
 gives_of_kind P kind next h [] = tt
 gives_of_kind P kind next h (word ∷ words) = gives_of_kind-at P next h words (kind word)
 
+gives_word-at : {X : Type 0} (P : X → Type 0) (next : Reader X) → Gives P next
+    → (words : List (List ℕ)) (test : Bool) → OnFound P (if test then next words else None)
+gives_word-at P next h words true = h words
+gives_word-at P next h words false = tt
+
+gives_word : {X : Type 0} (P : X → Type 0) (wanted : List ℕ) (next : Reader X) → Gives P next → Gives P (the_word wanted next)
+gives_word P wanted next h [] = tt
+gives_word P wanted next h (first ∷ words) = gives_word-at P next h words (bytes_eq first wanted)
+
 gives_bytes-at : {X : Type 0} (P : X → Type 0) (next : List ℕ → Reader X) → ((all : List ℕ) → Gives P (next all))
     → (all : Option (List ℕ)) → OnFound P (all >>= λ (all : List ℕ). next all [])
 gives_bytes-at P next h None = tt
@@ -70,6 +79,8 @@ change_places keyword.Sense =
     gives_of_kind Places (hexadecimal_of 2) (λ (switches : ℕ). says (sense_is switches)) (λ switches words line boot. inl refl)
 change_places keyword.Hosts =
     gives_of_kind Places (between_of 2 64) (λ (count : ℕ). says (hosts_are count)) (λ count words line boot. inl refl)
+change_places keyword.Reads =
+    gives_word Places (codes "shared") (says reads_are_shared) (λ words line boot. inl refl)
 change_places keyword.Sector =
     gives_of_kind Places (between_of 0 3) (λ (d : ℕ). between 0 76 (λ (t : ℕ). between 0 31 (λ (s : ℕ). byte (λ (b : ℕ). says (sector_is d t s b))))) (λ d.
     gives_of_kind Places (between_of 0 76) (λ (t : ℕ). between 0 31 (λ (s : ℕ). byte (λ (b : ℕ). says (sector_is d t s b)))) (λ t.

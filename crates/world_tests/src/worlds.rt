@@ -5,6 +5,7 @@ mod copies;
 mod disk;
 mod lines;
 mod outputs;
+mod reads;
 mod refusals;
 mod rows;
 mod shown;

@@ -117,10 +117,12 @@ fn output_fails_at_its_end_too(rt: HostRuntime) -> Result<(), Fail> {
         (11, false, FAILED),
         (11, true, WELL),
     ] {
-        let mut reader: &[u8] = b"send 0 0";
-        let mut writer = FailingWriter { room, flushes };
-        let (status, text) = run_on(&rt, &["script"], &mut reader, &mut writer)?;
-        assert_eq!(rt; (status, text.as_str()), ending, "{room}");
+        for command in ["script", "shell"] {
+            let mut reader: &[u8] = b"send 0 0";
+            let mut writer = FailingWriter { room, flushes };
+            let (status, text) = run_on(&rt, &[command], &mut reader, &mut writer)?;
+            assert_eq!(rt; (status, text.as_str()), ending, "{command} {room}");
+        }
     }
     Ok(())
 }

@@ -1,9 +1,12 @@
 -- Every action keeps the invariant, and the settled moves only go on.
-use Rattle.std.proofs.Common.{[], ◌++◌, ◌∙◌, ◌∷◌, ◌≡◌, ◌≤◌, ◌⊎◌, None, Option, Some, ap, arith, inl, inr, length, max, refl, subst, suc, sym, ℕ}
+use Rattle.std.proofs.Common.{[], ◌++◌, ◌∙◌, ◌∷◌, ◌≡◌, ◌≤◌, ◌⊎◌, List, None, Option, Some, ap, arith, inl, inr, length, max, refl, subst, suc, sym, ℕ}
 use Rattle.std.specs.Prelude.{slice_get}
-use Rattle.pair_protocol.proofs.Words.{Acknowledgement, Acknowledges, Acts, Alone, AloneReleases, AloneSteps, AloneTakes, Among, Arrival, Arrives, Backup, Byte, Change, Copying, Do, Draining, GetsPart, GoesLive, ImagePart, Input, IsCopying, IsPrefix, Joining, Lawful, LogEntry, Machine, MayTake, Node, Operation, Primary, PrimaryReleases, PrimarySteps, PrimaryTakes, Recorded, Released, Replaying, ReplaysInput, ReplaysMark, ReplaysStep, Role, SendsPart, Spare, Take, Tells, Types, World, Write, alone_takes, entries, gets_part, goes_live, halts, hears, joins, keys_covered, operations, passes_input, passes_mark, plainly_steps, primary_steps, primary_takes, refusal_of, sector_record, steps, terminal, timed, winner_in, with_node, with_winner}
-use Rattle.pair_protocol.specs.Change.{Begins, Hears, Holds, HostComes, Joins, Puts, Reads, Sends, Stops, Wins}
-use Rattle.pair_protocol.proofs.Invariant.Acting.{Acting, BackupActs, IsBackupRole, PrimaryActs, acting, acting_backup, acting_primary, acts-no_spare, line_at}
+use Rattle.pair_protocol.proofs.Words.{Acknowledgement, Acknowledges, Acts, Alone, AloneReleases, AloneSteps, AloneTakes, Among, Arrival, Arrives, Backup, Byte, Change, Copying, Do, Draining, Entry, GetsPart, GoesLive, ImagePart, Input, IsCopying, IsPrefix, Joining, Lawful, LogEntry, Machine, MayTake, Node, Operation, Primary, PrimaryReleases, PrimarySteps, PrimaryTakes, Recorded, Released, Replaying, ReplaysInput, ReplaysMark, ReplaysStep, Role, SendsPart, Spare, Take, Tells, Types, World, Write, alone_takes, entries, fetches, gets_part, goes_live, halts, hears, joins, keys_covered, operations, passes_input, passes_mark, passes_read, plainly_steps, primary_steps, primary_takes, refusal_of, sector_record, steps, terminal, timed, winner_in, with_node, with_winner}
+use Rattle.guest_board.specs.declared.input.Input.TheVariants as input
+use Rattle.log_entry.specs.declared.entry.Entry.TheVariants as entry
+use Rattle.pair_protocol.specs.Change as change
+use Rattle.pair_protocol.specs.Change.{Begins, Hears, Holds, HostComes, Joins, Puts, ReadsSector, Sends, Stops, Wins}
+use Rattle.pair_protocol.proofs.Invariant.Acting.{Acting, ActingBackup, BackupActs, IsBackupRole, PrimaryActs, acting, acting_backup, acting_primary, acts-no_spare, line_at}
 use Rattle.pair_protocol.proofs.Invariant.{BackupState, HasReplayed, Inv, IsPrimary, Next}
 use Rattle.pair_protocol.proofs.Keeps.Alone.{alone}
 use Rattle.pair_protocol.proofs.Keeps.Arbiter.{backup-wins, primary-wins}
@@ -16,7 +19,9 @@ use Rattle.pair_protocol.proofs.Keeps.NewGeneration.{keep-begins}
 use Rattle.pair_protocol.proofs.Keeps.Primary.{primary-accepts, primary-does, primary-runs, primary-stays, told-same}
 use Rattle.pair_protocol.proofs.Keeps.PrimaryMoves.{alone-after, made-do, made-take, primary-after_input, primary-after_step}
 use Rattle.pair_protocol.proofs.Keeps.Releases.{alone_frees, frees, released, told_any}
-use Rattle.pair_protocol.proofs.Keeps.Replay.{replayed-input, replayed-mark, replayed-step}
+use Rattle.pair_protocol.proofs.Keeps.Fetched.{AreFetched, IsAnswered}
+use Rattle.pair_protocol.proofs.Keeps.Reads.{primary_took}
+use Rattle.pair_protocol.proofs.Keeps.Replay.{NextInput, replayed-input, replayed-mark, replayed-step, replayed-taken}
 use Rattle.pair_protocol.proofs.Keeps.Terminals.{accepted-longer, keep-hosts, keep-terminal}
 use Rattle.pair_protocol.proofs.Traces.Lists.{among-get, among-split, prefix-append, prefix-length, prefix-refl, same_some}
 use Rattle.pair_protocol.proofs.Traces.Moves.{count-does, count-takes, owns-front, runs-append}
@@ -123,7 +128,7 @@ module _ {S : Type 0} (M : Machine S) (C : Copying S) (w : World S) (i : Inv M C
         log = record {
           copy = cy ∙ q.is_backup.copy;
           start = sy ∙ q.is_backup.start;
-          held = subst (λ es. IsPrefix es (entries (steps l.base) l.own)) (sym hy) q.is_backup.held;
+          held = subst (λ es. IsPrefix es (entries l.reads (steps l.base) l.own)) (sym hy) q.is_backup.held;
         };
       })
       (backup-later M C w i n x q y l.stage later hy roles (λ z. z))
@@ -131,7 +136,7 @@ module _ {S : Type 0} (M : Machine S) (C : Copying S) (w : World S) (i : Inv M C
   -- replay
   replays : (y : Node S) (r : Role) → Acts w n x r → Replaying r → y.role ≡ x.role → y.generation ≡ x.generation →
       y.held ≡ x.held → y.copy ≡ x.copy → y.start ≡ x.start → x.replayed ≤ y.replayed →
-      ((last : S) → IsPrefix x.held (entries (steps (line_at i x).base) (line_at i x).own) →
+      ((last : S) → IsPrefix x.held (entries (line_at i x).reads (steps (line_at i x).base) (line_at i x).own) →
       Recorded M (line_at i x).mid (line_at i x).own last → HasReplayed M (line_at i x) x →
       HasReplayed M (line_at i x) y) → Next M C i.trace (with_node w n y)
   replays y r acts which ry gy hy cy sy later replayed =
@@ -147,27 +152,48 @@ module _ {S : Type 0} (M : Machine S) (C : Copying S) (w : World S) (i : Inv M C
       (replayed o.sound.recorded.0 q.is_backup.held o.sound.recorded.1
       (backup_state-replayed M C o.line x r acts.role_is which s)) s)
 
+-- the same read is of the same sector
+sector-alike : (c drive sector number others k l : ℕ) (bytes : List ℕ) →
+    entry.Read c drive sector number ≡ entry.Read c others k l →
+    input.Sector drive sector number bytes ≡ input.Sector others k l bytes
+sector-alike c drive sector number others k l bytes h = (cc)
+
+-- what the primary took is said of the same read in other words
+took_here : {S : Type 0} (M : Machine S) (C : Copying S) (laws : Lawful M) (w : World S) (i : Inv M C w) (n : ℕ)
+    (x : Node S) (q : ActingBackup M C w i n x) (f : HasReplayed M (line_at i x) x) (bytes : List ℕ)
+    (a : IsAnswered M w.messages x bytes) (e : Entry) (v : Input) →
+    entry.Read (M.count x.machine) a.drive a.sector a.number ≡ e →
+    input.Sector a.drive a.sector a.number bytes ≡ v →
+    NextInput M (line_at i x) (i.each x.generation).sound.recorded.0 x q.is_backup.held
+    (i.each x.generation).sound.recorded.1 f e v
+took_here M C laws w i n x q f bytes a e v same_entry same_input =
+    subst (NextInput M (line_at i x) (i.each x.generation).sound.recorded.0 x q.is_backup.held
+    (i.each x.generation).sound.recorded.1 f e) same_input
+    (subst (λ z. NextInput M (line_at i x) (i.each x.generation).sound.recorded.0 x q.is_backup.held
+    (i.each x.generation).sound.recorded.1 f z (input.Sector a.drive a.sector a.number bytes)) same_entry
+    (primary_took M C laws w i n x q f bytes a))
+
 -- An action keeps the invariant, and the settled moves after it begin with those before it.
 module _ {S : Type 0} (M : Machine S) (C : Copying S) (laws : Lawful M) (copies : IsCopying M C) where
-  pub keep : (w new : World S) (i : Inv M C w) → Change M C w new → Next M C i.trace new
-  keep w new i (PrimarySteps n x s o acts h) = primary_steps_keep M C laws w i n x s o acts h
-  keep w new i (AloneSteps n x s o acts h) = alone_steps_keep M C laws w i n x s o acts h
-  keep w new i (PrimaryTakes n x s v acts may ok h) =
+  pub keep : (w new : World S) (i : Inv M C w) → AreFetched M w → Change M C w new → Next M C i.trace new
+  keep w new i fetched (PrimarySteps n x s o acts h) = primary_steps_keep M C laws w i n x s o acts h
+  keep w new i fetched (AloneSteps n x s o acts h) = alone_steps_keep M C laws w i n x s o acts h
+  keep w new i fetched (PrimaryTakes n x s v acts may ok h) =
       primary_takes_keep M C laws w i n x s v acts may ok h
-  keep w new i (AloneTakes n x s v acts may ok h) = alone_takes_keep M C laws w i n x s v acts may ok h
-  keep w new i (Types p b) =
+  keep w new i fetched (AloneTakes n x s v acts may ok h) = alone_takes_keep M C laws w i n x s v acts may ok h
+  keep w new i fetched (Types p b) =
       keep-terminal M C w i p (record (terminal w p) { typed = (terminal w p).typed ++ b ∷ [] })
       (record { accepts = omega arith; types = prefix-append (terminal w p).typed (b ∷ []) }) (i.global.arrived p)
       (i.global.told p)
-  keep w new i (Sends n x k e acts h) =
+  keep w new i fetched (Sends n x k e acts h) =
       let q = acting_primary M C w i n x acts in
       keep-message M C w i (LogEntry x.generation k e) n x acts.there (acts-no_spare w n x Primary acts (λ k. (cc)))
       (λ j d. d) (λ j. subst (λ es. slice_get es k ≡ Some e) (q.is_primary.logged acts.role_is).log h) tt (λ k. tt)
-  keep w new i (Holds n x m e acts h) =
+  keep w new i fetched (Holds n x m e acts h) =
       let q = acting_backup M C w i n x Backup acts tt in
       backup-holds M C w i n x q e acts.role_is ((i.each x.generation).says.logs (length x.held) e
       (among-get w.messages m (LogEntry x.generation (length x.held) e) h))
-  keep w new i (Acknowledges n x replayed acts few) =
+  keep w new i fetched (Acknowledges n x replayed acts few) =
       let q = acting_backup M C w i n x Backup acts tt in
       let e = ap length q.held in
       let most = (backup_state-replayed M C (line_at i x) x Backup acts.role_is (inl refl) q.is_backup.state).few in
@@ -180,36 +206,60 @@ module _ {S : Type 0} (M : Machine S) (C : Copying S) (laws : Lawful M) (copies 
             (same_some x b (slice_get w.nodes (line_at i x).backup)
             (subst (λ j. slice_get w.nodes j ≡ Some x) q.spot acts.there) u) in omega (arith, few, z)),
       )) tt (λ k. tt)
-  keep w new i (Hears n x m h r acts k) =
+  keep w new i fetched (Hears n x m h r acts k) =
       let a = among-get w.messages m (Acknowledgement x.generation h r) k in
       hears_keep M C w i n x h r acts ((i.each x.generation).says.acks h r a).0
       (λ b u gb nb. (i.each x.generation).reads.told h r b a u gb nb)
-  keep w new i (ReplaysStep n x r e s o acts which g c h) =
+  keep w new i fetched (ReplaysStep n x r e s o acts which g c h) =
       let l = line_at i x in
       replays M C w i n x (plainly_steps x s) r acts which refl refl refl refl refl (omega arith)
       (λ last p run f. replayed-step M l last x p run e s o g c h
       (count-does M laws (l.base ++ f.ms) x.machine s o
       (runs-append M M.boot l.mid x.machine l.base f.ms (i.each x.generation).sound.based f.runs) h) f)
-  keep w new i (ReplaysMark n x r e acts which g c h) =
+  keep w new i fetched (ReplaysMark n x r e acts which g c h) =
       let l = line_at i x in
       replays M C w i n x (passes_mark x) r acts which refl refl refl refl refl (omega arith)
       (λ last p run f. replayed-mark M l last x p run e g c h f)
-  keep w new i (ReplaysInput n x r e v s acts which g c h k) =
+  keep w new i fetched (ReplaysInput n x r e v s acts which g c h k) =
       let l = line_at i x in
       replays M C w i n x (passes_input x s) r acts which refl refl refl refl refl (omega arith)
       (λ last p run f. replayed-input M l last x p run e v s g c h k
       (count-takes M laws (l.base ++ f.ms) x.machine s v
       (runs-append M M.boot l.mid x.machine l.base f.ms (i.each x.generation).sound.based f.runs) k) f)
-  keep w new i (PrimaryReleases n x name o acts h c) =
+  keep w new i fetched (change.Fetches n x r m d s k bytes acts which at brings) =
+      replays M C w i n x (fetches x bytes) r acts which refl refl refl refl refl (omega arith)
+      (λ last p run f. f)
+  keep w new i fetched (change.ReplaysRead n x r d s k bytes t acts which at come h) =
+      let l = line_at i x in
+      let e = entry.Read (M.count x.machine) d s k in
+      let backs_up : IsBackupRole r = elim which [
+        | inl z ↦ subst IsBackupRole (sym z) tt
+        | inr z ↦ subst IsBackupRole (sym z) tt
+      ] in
+      let q = acting_backup M C w i n x r acts backs_up in
+      let g = backup_state-replayed M C l x r acts.role_is which q.is_backup.state in
+      let a = fetched n x acts.there bytes come in
+      let same = same_some (entry.Read (M.count x.machine) a.drive a.sector a.number) e
+      (slice_get x.held x.replayed) a.at at in
+      let v : input.Sector a.drive a.sector a.number bytes ≡ input.Sector d s k bytes = sector-alike _ _ _ _ _ _ _ bytes same in
+      backup_keep M C w i n x (passes_read x t) r acts backs_up
+      (λ z. q.real z) refl refl refl refl (omega arith) (inl (λ z. z))
+      (λ state. backup_state-replays M C l x (passes_read x t) r acts.role_is which refl
+      (replayed-taken M l (i.each x.generation).sound.recorded.0 x q.is_backup.held (i.each x.generation).sound.recorded.1
+      e (input.Sector d s k bytes) t at h
+      (count-takes M laws (l.base ++ g.ms) x.machine t (input.Sector d s k bytes)
+      (runs-append M M.boot l.mid x.machine l.base g.ms (i.each x.generation).sound.based g.runs) h) g
+      (took_here M C laws w i n x q g bytes a e (input.Sector d s k bytes) same v)) state)
+  keep w new i fetched (PrimaryReleases n x name o acts h c) =
       let r = released M C laws w i n x name o acts h c in
       keep-message M C w i (Released o) n x acts.there (acts-no_spare w n x Primary acts (λ k. (cc))) (λ j d. tt) tt
       r (frees M C laws w i n x name o acts h c)
-  keep w new i (AloneReleases n x name o acts h) =
+  keep w new i fetched (AloneReleases n x name o acts h) =
       let a = alone M C w i n x acts in
       let r = laws.given i.trace x.machine name o a.runs h in
       keep-message M C w i (Released o) n x acts.there (acts-no_spare w n x Alone acts (λ k. (cc))) (λ j d. tt) tt
       r (λ k t s b u gb role v z. absurd (alone_frees M C w i n x acts a.at_top k t s b u gb role))
-  keep w new i (Arrives m p k b h) =
+  keep w new i fetched (Arrives m p k b h) =
       let v = i.global.sends (Byte p k b) (among-get w.messages m (Released (Byte p k b)) h) in
       keep-terminal M C w i p (record (terminal w p) {
         arrivals =
@@ -229,26 +279,26 @@ module _ {S : Type 0} (M : Machine S) (C : Copying S) (laws : Lawful M) (copies 
         ]
       ])
       (i.global.told p)
-  keep w new i (Tells n x p r acts which) =
+  keep w new i fetched (Tells n x p r acts which) =
       let d = i.global.told p in
       let c = told_any M C laws w i n x p r acts which in
       keep-terminal M C w i p (record (terminal w p) { told = max (terminal w p).told (keys_covered M x p x.role) })
       (record { accepts = omega arith; types = prefix-refl (terminal w p).typed }) (i.global.arrived p) (omega arith)
-  keep w new i (Stops n x h ns) = stops_keep M C w i n x h ns
-  keep w new i (Wins n x r acts nj ns none) = wins_keep M C w i n x r acts nj ns none
-  keep w new i (GoesLive n x acts h) =
+  keep w new i fetched (Stops n x h ns) = stops_keep M C w i n x h ns
+  keep w new i fetched (Wins n x r acts nj ns none) = wins_keep M C w i n x r acts nj ns none
+  keep w new i fetched (GoesLive n x acts h) =
       let q = acting_backup M C w i n x Draining acts tt in
       let l = line_at i x in
       backup_keep M C w i n x (goes_live x) Draining acts tt (λ k. (cc)) refl refl refl refl (omega arith)
       (inl (λ k. elim k [ inl z ↦ (cc) | inr z ↦ (cc) ]))
       (λ s. backup_state-live M C l x acts.role_is h q.is_backup.log s)
-  keep w new i (Begins n h x y acts there spare_is) =
+  keep w new i fetched (Begins n h x y acts there spare_is) =
       keep-begins M C copies w i n h x y acts there spare_is
-  keep w new i (SendsPart n x s k p acts im h) =
+  keep w new i fetched (SendsPart n x s k p acts im h) =
       let q = acting_primary M C w i n x acts in
       keep-message M C w i (ImagePart x.generation k p) n x acts.there (acts-no_spare w n x Primary acts (λ k. (cc)))
       (λ j d. d) (λ j. subst (λ z. slice_get (C.parts z) k ≡ Some p) (q.is_primary.image s im) h) tt (λ k. tt)
-  keep w new i (GetsPart n x m k p acts h) =
+  keep w new i fetched (GetsPart n x m k p acts h) =
       let q = acting_backup M C w i n x Joining acts tt in
       let o = i.each x.generation in
       let l = o.line in
@@ -256,16 +306,16 @@ module _ {S : Type 0} (M : Machine S) (C : Copying S) (laws : Lawful M) (copies 
       (acts-no_spare w n x Joining acts (λ z. (cc))) refl refl refl refl (omega arith) (inl (λ k. k))
       (λ s. backup_state-part M C l x k p acts.role_is
       (o.says.parts k p (among-get w.messages m (ImagePart x.generation k p) h)) s)
-  keep w new i (Joins n x ps s acts got made) =
+  keep w new i fetched (Joins n x ps s acts got made) =
       let q = acting_backup M C w i n x Joining acts tt in
       let l = line_at i x in
       backup_keep M C w i n x (joins x s) Joining acts tt (λ k. (cc)) refl refl refl refl (omega arith)
       (inr (joining-gathered M C l x acts.role_is q.is_backup.state).1.empty)
       (λ z. backup_state-joins M C laws copies l s x ps acts.role_is got made (i.each x.generation).sound.based
       (λ h. owns-front M [] M.boot l.base l.own ((i.each x.generation).owns h)) z)
-  keep w new i HostComes = keep-hosts M C w i
-  keep w new i (Puts m v h) =
+  keep w new i fetched HostComes = keep-hosts M C w i
+  keep w new i fetched (Puts m v h) =
       keep-puts M C w i v (i.global.sends (Write v) (among-get w.messages m (Released (Write v)) h))
       (among-get w.messages m (Released (Write v)) h)
-  keep w new i (Reads q) =
+  keep w new i fetched (ReadsSector q) =
       keep-reads M C w i q (sector_record M w.puts q).number (sector_record M w.puts q).bytes (record-is M C w i q)

@@ -103,6 +103,7 @@ module _ {S : Type 0} (M : Machine S) (C : Copying S) (w : World S) (i : Inv M C
           (AtTop g refl
           (primary_acts M C w i n x q y (with_own l l.own PrimaryWon) refl refl (record {
             role = inr (alone r, refl);
+            reads = q.is_primary.reads;
             made = q.is_primary.made;
             copy = q.is_primary.copy;
             covered = q.is_primary.covered;
@@ -129,6 +130,7 @@ module _ {S : Type 0} (M : Machine S) (C : Copying S) (w : World S) (i : Inv M C
   primary-lost : (a : Node S) → IsPrimary M l a → IsPrimary M (with_backup l [] BackupWon l.held) a
   primary-lost a p = record {
     role = elim p.role [ inl k ↦ inl k | inr k ↦ absurd (not_won (inr k.1)) ];
+    reads = p.reads;
     made = p.made;
     copy = p.copy;
     covered = p.covered;

@@ -27,6 +27,7 @@ pub primary-held : {S : Type 0} (M : Machine S) (l : Line S) (more : List Move) 
 primary-held M l more held a h p = let c = p.covered in
     record {
       role = p.role;
+      reads = p.reads;
       made = p.made;
       copy = p.copy;
       covered = omega (arith, c, h);
@@ -52,7 +53,7 @@ module _ {S : Type 0} (M : Machine S) (C : Copying S) (w : World S) (i : Inv M C
       (ws : List Winner) →
       Presence M C (slice_set w.nodes n y) w.messages ws i.top new x.generation (with_backup l more stage held) →
       winner_in ws x.generation ≡ winner_at stage l.primary l.backup → length l.held ≤ length held →
-      IsPrefix held (entries (steps l.base) l.own) → ((stage ≡ BackupWon → ⊥) → l.stage ≡ BackupWon → ⊥) →
+      IsPrefix held (entries l.reads (steps l.base) l.own) → ((stage ≡ BackupWon → ⊥) → l.stage ≡ BackupWon → ⊥) →
       IsPrefix (settled (with_backup l more stage held)) new →
       BackupReads w.nodes w.messages i.top x.generation l stage y →
       ((stage ≡ PrimaryWon → ⊥) → l.stage ≡ PrimaryWon → ⊥) → LineOf M C (with_change w n y ws) i.top new x.generation

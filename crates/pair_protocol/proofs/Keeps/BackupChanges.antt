@@ -31,6 +31,7 @@ module _ {S : Type 0} (M : Machine S) (C : Copying S) (l : Line S) where
   pub primary-halts : (a : Node S) → IsPrimary M l a → IsPrimary M l (halts a)
   primary-halts a p = record {
     role = p.role;
+    reads = p.reads;
     made = p.made;
     copy = p.copy;
     covered = p.covered;
@@ -49,6 +50,7 @@ module _ {S : Type 0} (M : Machine S) (C : Copying S) (l : Line S) where
   primary-hears a h r k p = let c = p.covered in
       record {
         role = p.role;
+        reads = p.reads;
         made = p.made;
         copy = p.copy;
         covered = omega arith;
@@ -58,7 +60,7 @@ module _ {S : Type 0} (M : Machine S) (C : Copying S) (l : Line S) where
 
   -- A drained node is alone.
   pub backup_state-live : (b : Node S) → b.role ≡ Draining → b.replayed ≡ length b.held →
-      HoldsLog l.base l.own b.copy b.start b.held → BackupState M C l b → BackupState M C l (goes_live b)
+      HoldsLog l.reads l.base l.own b.copy b.start b.held → BackupState M C l b → BackupState M C l (goes_live b)
   backup_state-live b role done log (AsJoining k s f) = (cc)
   backup_state-live b role done log (AsBackup k s f) = (cc)
   backup_state-live b role done log (AsAlone k s made) = (cc)
@@ -69,7 +71,7 @@ module _ {S : Type 0} (M : Machine S) (C : Copying S) (l : Line S) where
       AsAlone refl s (record {
         runs = subst (λ zs. Runs M l.mid zs b.machine) e f.runs;
         count = f.count ∙ ap (λ zs. steps l.base + steps zs) e;
-        list = held-list l.base l.own b.copy b.held log.copy log.held ∙ ap (λ zs. inputs 0 (l.base ++ zs)) d;
+        list = held-list l.reads l.base l.own b.copy b.held log.copy log.held ∙ ap (λ zs. inputs 0 (l.base ++ zs)) d;
       })
 
 -- Joining.
@@ -178,7 +180,7 @@ module _ {S : Type 0} (M : Machine S) (C : Copying S) (l : Line S) (xs : List Mo
     log = record {
       copy = h.copy;
       start = h.start;
-      held = prefix-trans b.held (entries (steps l.base) l.own) (entries (steps l.base) (l.own ++ xs)) h.held
-          (entries-longer (steps l.base) l.own xs);
+      held = prefix-trans b.held (entries l.reads (steps l.base) l.own) (entries l.reads (steps l.base) (l.own ++ xs)) h.held
+          (entries-longer l.reads (steps l.base) l.own xs);
     };
   }

@@ -1,14 +1,14 @@
 -- The invariant holds of a world at boot.
 use Rattle.std.proofs.Common.{[], ◌∙◌, ◌∷◌, ◌≡◌, ◌≤◌, ◌⊎◌, List, Some, ap, arith, inl, inr, refl, suc, sym, zero, ℕ}
 use Rattle.std.specs.Prelude.{slice_get}
-use Rattle.pair_protocol.proofs.Words.{Among, Arrival, Backup, Byte, Copying, IsPrefix, Lawful, Machine, Move, Node, Primary, Spare, first_node, no_terminal, opening, terminal_in}
+use Rattle.pair_protocol.proofs.Words.{Among, Arrival, Backup, Byte, Copying, IsPrefix, Lawful, Machine, Move, Node, Primary, Spare, first_node, no_terminal, opening, terminal_in, Reads}
 use Rattle.pair_protocol.proofs.Invariant.{AsBackup, AtTop, CameIn, Inv, Line, LineOf, Presence, Undecided, Unused, settled}
 use Rattle.pair_protocol.proofs.Traces.Lists.{same_or_not, same_some}
 
 -- At boot.
 
-pub at_boot : {S : Type 0} (M : Machine S) (C : Copying S) → Lawful M → Inv M C (opening M)
-at_boot {S} M C laws = record {
+pub at_boot : {S : Type 0} (M : Machine S) (C : Copying S) (reads : Reads) → Lawful M → Inv M C (opening M reads)
+at_boot {S} M C reads laws = record {
   top = 1;
   trace = [];
   each = each;
@@ -27,7 +27,7 @@ at_boot {S} M C laws = record {
 }
   where
     nodes : List (Node S)
-    nodes = first_node M Primary ∷ first_node M Backup ∷ []
+    nodes = first_node M reads Primary ∷ first_node M reads Backup ∷ []
 
     arrived : (p : ℕ) (a : Arrival) → Among a (terminal_in (no_terminal ∷ no_terminal ∷ []) p).arrivals →
         Among (Byte p a.number a.byte) []
@@ -41,9 +41,9 @@ at_boot {S} M C laws = record {
     told (suc (suc p)) = omega arith
 
     which : (n : ℕ) (x : Node S) → slice_get nodes n ≡ Some x →
-        ((n ≡ 0) × (x ≡ first_node M Primary)) ⊎ ((n ≡ 1) × (x ≡ first_node M Backup))
-    which zero x h = inl (refl, same_some x (first_node M Primary) (Some x) refl (sym h))
-    which (suc zero) x h = inr (refl, same_some x (first_node M Backup) (Some x) refl (sym h))
+        ((n ≡ 0) × (x ≡ first_node M reads Primary)) ⊎ ((n ≡ 1) × (x ≡ first_node M reads Backup))
+    which zero x h = inl (refl, same_some x (first_node M reads Primary) (Some x) refl (sym h))
+    which (suc zero) x h = inr (refl, same_some x (first_node M reads Backup) (Some x) refl (sym h))
     which (suc (suc n)) x h = (cc)
 
     no_spare : (n : ℕ) (x : Node S) → slice_get nodes n ≡ Some x → x.role ≡ Spare → ⊥
@@ -60,6 +60,7 @@ at_boot {S} M C laws = record {
 
     the_line : Line S
     the_line = record {
+      reads = reads;
       base = [];
       own = [];
       more = [];
@@ -77,7 +78,7 @@ at_boot {S} M C laws = record {
       put = λ n m. absurd m;
     }
 
-    made : (g : ℕ) → Presence M C nodes [] [] 1 [] g the_line → LineOf M C (opening M) 1 [] g
+    made : (g : ℕ) → Presence M C nodes [] [] 1 [] g the_line → LineOf M C (opening M reads) 1 [] g
     made g pr = record {
       line = the_line;
       presence = pr;
@@ -91,7 +92,7 @@ at_boot {S} M C laws = record {
       reads = record {
         heard = λ a b t u ga gb role ns.
             (let z : 0 ≡ a.reported =
-            ap (λ (v : Node S). v.reported) (same_some (first_node M Primary) a (Some a) (sym t) refl) in
+            ap (λ (v : Node S). v.reported) (same_some (first_node M reads Primary) a (Some a) (sym t) refl) in
             omega (arith, z));
         told = λ j r b m u gb ns. absurd m;
         waits = λ t s b u gb role v m. absurd m;
@@ -102,15 +103,16 @@ at_boot {S} M C laws = record {
     nothing [] ys h = (ys, refl)
     nothing (x ∷ xs) ys h = let e = h.1 in (cc)
 
-    each : (g : ℕ) → LineOf M C (opening M) 1 [] g
+    each : (g : ℕ) → LineOf M C (opening M reads) 1 [] g
     each g = elim (same_or_not g 1) [
       | inl e ↦ made g (AtTop e refl
           (record {
-            a = first_node M Primary;
+            a = first_node M reads Primary;
             there = refl;
             generation = sym e;
             is_primary = record {
               role = inl refl;
+              reads = refl;
               made = record { runs = refl; count = laws.counts [] M.boot refl; list = refl };
               copy = refl;
               covered = omega arith;
@@ -119,7 +121,7 @@ at_boot {S} M C laws = record {
             };
           })
           (record {
-            b = first_node M Backup;
+            b = first_node M reads Backup;
             there = refl;
             generation = sym e;
             held = refl;

@@ -65,7 +65,7 @@ module _ {S : Type 0} (M : Machine S) (C : Copying S) (w : World S) (i : Inv M C
       here : slice_get w.nodes l.backup ≡ Some x
       here = subst (λ j. slice_get w.nodes j ≡ Some x) q.spot q.there
 
-  pub backup-holds : x.role ≡ Backup → slice_get (entries (steps l.base) l.own) (length x.held) ≡ Some en →
+  pub backup-holds : x.role ≡ Backup → slice_get (entries l.reads (steps l.base) l.own) (length x.held) ≡ Some en →
       Next M C i.trace (with_node w n y)
   unfolding backup-line
   backup-holds role there = by_state q.is_backup.state q.place
@@ -73,8 +73,8 @@ module _ {S : Type 0} (M : Machine S) (C : Copying S) (w : World S) (i : Inv M C
       few : length l.held ≤ length held
       few = let g = length-append x.held (en ∷ []) in let h = ap length q.held in omega (arith, g, h)
 
-      longer : IsPrefix held (entries (steps l.base) l.own)
-      longer = prefix-next x.held (entries (steps l.base) l.own) en q.is_backup.held there
+      longer : IsPrefix held (entries l.reads (steps l.base) l.own)
+      longer = prefix-next x.held (entries l.reads (steps l.base) l.own) en q.is_backup.held there
 
       new : List Move
       new = settled_moves l.stage l.base l.own l.more (length held)

@@ -18,7 +18,7 @@ NotOf k m = Unit {0}
 
 -- what a message says is true at the line of a generation
 abbrev pub IsTrueAt : {S : Type 0} → Copying S → List (Node S) → Line S → ℕ → Message → Type 0
-IsTrueAt C nodes l k (LogEntry g i e) = k ≡ g → slice_get (entries (steps l.base) l.own) i ≡ Some e
+IsTrueAt C nodes l k (LogEntry g i e) = k ≡ g → slice_get (entries l.reads (steps l.base) l.own) i ≡ Some e
 IsTrueAt {S} C nodes l k (Acknowledgement g h r) = k ≡ g → (h ≤ length l.held) × (r ≤ h)
     × ((b : Node S) → slice_get nodes l.backup ≡ Some b → b.generation ≡ k → r ≤ b.replayed)
 IsTrueAt C nodes l k (ImagePart g i p) = k ≡ g → slice_get (C.parts l.mid) i ≡ Some p

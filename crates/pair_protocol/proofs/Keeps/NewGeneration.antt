@@ -164,6 +164,7 @@ keep-begins {S} M C copies w i n h x y acts there spare_is = record {
     new_line : LineOf M C new (suc x.generation) i.trace (suc x.generation)
     new_line = record {
       line = record {
+        reads = x.reads;
         base = i.trace;
         own = [];
         more = [];
@@ -180,6 +181,7 @@ keep-begins {S} M C copies w i n h x y acts there spare_is = record {
             generation = refl;
             is_primary = record {
               role = inl refl;
+              reads = refl;
               made = record {
                 runs = refl;
                 count = a.count ∙ (let z : steps i.trace ≡ steps i.trace + 0 = omega arith in z);

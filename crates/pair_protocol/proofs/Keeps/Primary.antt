@@ -62,7 +62,7 @@ module _ {S : Type 0} (M : Machine S) (C : Copying S) (w : World S) (i : Inv M C
           based = o.sound.based;
           recorded = run;
           apart = o.sound.apart;
-          held = prefix-trans l.held (entries c l.own) (entries c own) o.sound.held more;
+          held = prefix-trans l.held (entries l.reads c l.own) (entries l.reads c own) o.sound.held more;
         };
         presence = presence;
         members = λ m z t s g. elim (get_set_cases w.nodes n m y z t) [
@@ -71,7 +71,7 @@ module _ {S : Type 0} (M : Machine S) (C : Copying S) (w : World S) (i : Inv M C
         ];
         tied = tied;
         says = record {
-          logs = λ j en k. get-prefix (entries c l.own) (entries c own) j en more (o.says.logs j en k);
+          logs = λ j en k. get-prefix (entries l.reads c l.own) (entries l.reads c own) j en more (o.says.logs j en k);
           acks = o.says.acks;
           parts = o.says.parts;
         };
@@ -97,8 +97,8 @@ module _ {S : Type 0} (M : Machine S) (C : Copying S) (w : World S) (i : Inv M C
       c : ℕ
       c = steps l.base
 
-      more : IsPrefix (entries c l.own) (entries c own)
-      more = subst (λ zs. IsPrefix (entries c l.own) (entries c zs)) longer.1 (entries-longer c l.own longer.0)
+      more : IsPrefix (entries l.reads c l.own) (entries l.reads c own)
+      more = subst (λ zs. IsPrefix (entries l.reads c l.own) (entries l.reads c zs)) longer.1 (entries-longer l.reads c l.own longer.0)
 
       old : (b : Node S) → slice_get (slice_set w.nodes n y) l.backup ≡ Some b → slice_get w.nodes l.backup ≡ Some b
       old b u = elim (get_set_cases w.nodes n l.backup y b u) [
@@ -141,11 +141,11 @@ module _ {S : Type 0} (M : Machine S) (C : Copying S) (w : World S) (i : Inv M C
       own : List Move
       own = l.own ++ m ∷ []
 
-      few : length l.held ≤ length (entries (steps l.base) l.own)
-      few = prefix-length l.held (entries (steps l.base) l.own) o.sound.held
+      few : length l.held ≤ length (entries l.reads (steps l.base) l.own)
+      few = prefix-length l.held (entries l.reads (steps l.base) l.own) o.sound.held
 
       same_cut : cut (length l.held) own ≡ cut (length l.held) l.own
-      same_cut = cut-longer (length l.held) (steps l.base) l.own (m ∷ []) few
+      same_cut = cut-longer l.reads (length l.held) (steps l.base) l.own (m ∷ []) few
 
       here : PrimaryHere M (slice_set w.nodes n y) x.generation (with_own l own l.stage)
       here = primary_acts y (with_own l own l.stage) refl gy is_primary

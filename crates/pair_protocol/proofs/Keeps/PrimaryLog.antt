@@ -1,16 +1,16 @@
 -- The log and the notes of a primary after one more move.
 use Rattle.std.proofs.Common.{[], ◌++◌, ◌+◌, ◌<◌, ◌∙◌, ◌∷◌, ◌≡◌, ◌≤◌, ◌⊎◌, Bool, List, None, Option, Some, ap, append-nil, append_assoc, arith, cond, eq-eqb, false, inl, inr, length, length-append, refl, subst, suc, sym, true, zero, ℕ}
 use Rattle.std.specs.Prelude.{◌&&◌, ◌==◌, slice_get}
-use Rattle.pair_protocol.proofs.Words.{Among, Byte, Do, Entry, Input, IsPrefix, Mark, Move, Note, OpId, Operation, SectorWrite, Take, Write, cut, entries, id_of, inputs, marks, note_of, notes_after, operations, same_name, steps, timed}
+use Rattle.pair_protocol.proofs.Words.{Among, Byte, Do, Entry, Input, IsPrefix, Mark, Move, Note, OpId, Operation, SectorWrite, Take, Write, cut, entries, id_of, inputs, is_read, marks, note_of, notes_after, operations, same_name, steps, timed, Reads}
 use Rattle.event_callbacks.specs.declared.operations.OpId.TheVariants as id
-use Rattle.pair_protocol.specs.Waiting.{is_read, reads_in, up_to_read, waits_for}
+use Rattle.pair_protocol.specs.Waiting.{reads_in, up_to_read, waits_for}
 use Rattle.pair_protocol.proofs.Invariant.{AreNoted, IsNoted}
 use Rattle.pair_protocol.proofs.Traces.Cuts.{among-cut, cut-both}
 use Rattle.pair_protocol.proofs.Traces.Lists.{among-prefix, among-split, bool_cases, get-after, get-front, le-cases}
 use Rattle.pair_protocol.proofs.Traces.Moves.{entries-append, inputs-append, operations-append, operations-prefix, steps-append}
 
-pub entries-longer : (c : ℕ) (xs ys : List Move) → IsPrefix (entries c xs) (entries c (xs ++ ys))
-entries-longer c xs ys = (entries (c + steps xs) ys, sym (entries-append c xs ys))
+pub entries-longer : (reads : Reads) (c : ℕ) (xs ys : List Move) → IsPrefix (entries reads c xs) (entries reads c (xs ++ ys))
+entries-longer reads c xs ys = (entries reads (c + steps xs) ys, sym (entries-append reads c xs ys))
 
 -- an instruction brings no input
 
@@ -46,12 +46,12 @@ same_name-refl (id.Byte p k) = ap (λ c. c && (k == k)) (eq-eqb p p refl) ∙ eq
 same_name-refl (id.Write k) = eq-eqb k k refl
 
 -- the log and the notes after an instruction
-pub log-do : (c k : ℕ) (own : List Move) (log : List Entry) (o : Option Operation) → log ≡ entries c own →
-    k ≡ suc (c + steps own) → log ++ marks k o ≡ entries c (own ++ Do o ∷ [])
-log-do c k own log None h e = append-nil log ∙ h
-    ∙ sym (entries-append c own (Do None ∷ []) ∙ append-nil (entries c own))
-log-do c k own log (Some o) h e = ap (λ j. log ++ Mark j ∷ []) e ∙ ap (λ es. es ++ Mark (suc (c + steps own)) ∷ []) h
-    ∙ sym (entries-append c own (Do (Some o) ∷ []))
+pub log-do : (reads : Reads) (c k : ℕ) (own : List Move) (log : List Entry) (o : Option Operation) → log ≡ entries reads c own →
+    k ≡ suc (c + steps own) → log ++ marks k o ≡ entries reads c (own ++ Do o ∷ [])
+log-do reads c k own log None h e = append-nil log ∙ h
+    ∙ sym (entries-append reads c own (Do None ∷ []) ∙ append-nil (entries reads c own))
+log-do reads c k own log (Some o) h e = ap (λ j. log ++ Mark j ∷ []) e ∙ ap (λ es. es ++ Mark (suc (c + steps own)) ∷ []) h
+    ∙ sym (entries-append reads c own (Do (Some o) ∷ []))
 
 up_to-more : (b : Bool) (n k : ℕ) → k < n → suc k < up_to_read b n
 up_to-more b zero k h = absurd (omega (arith, h))
@@ -70,25 +70,24 @@ reads_before (x ∷ log) zero e h read =
     subst (λ b. 0 < up_to_read b (reads_in log)) (sym (ap is_read same ∙ read)) (up_to-some (reads_in log))
 reads_before (x ∷ log) (suc k) e h read = up_to-more (is_read x) (reads_in log) k (reads_before log k e h read)
 
-pub notes-more : (c : ℕ) (notes : List Note) (own xs : List Move) (o : Operation) → IsNoted c own notes o →
-    IsNoted c (own ++ xs) notes o
-notes-more c notes own xs o h = record {
+pub notes-more : (reads : Reads) (c : ℕ) (notes : List Note) (own xs : List Move) (o : Operation) → IsNoted reads c own notes o →
+    IsNoted reads c (own ++ xs) notes o
+notes-more reads c notes own xs o h = record {
   note = h.note;
   found = h.found;
   given = among-prefix o (operations (cut (suc h.note.index) own))
       (operations (cut (suc h.note.index) (own ++ xs)))
       (operations-prefix (cut (suc h.note.index) own) (cut (suc h.note.index) (own ++ xs))
       (cut-both (suc h.note.index) own xs)) h.given;
-  inside = (let e = ap length (entries-append c own xs) in
-      let f = length-append (entries c own) (entries (c + steps own) xs) in
+  inside = (let e = ap length (entries-append reads c own xs) in
+      let f = length-append (entries reads c own) (entries reads (c + steps own) xs) in
       let i = h.inside in omega (arith, e, f, i));
-  reads = λ w q k e few there read. (let i = h.inside in
-      h.reads w q k e few (get-front (entries c own) (entries (c + steps own) xs) k e (omega (arith, few, i))
-      (subst (λ es. slice_get es k ≡ Some e) (entries-append c own xs) there)) read);
+  waits = λ w q k e few there read. (let i = h.inside in
+      h.waits w q k e few (get-front (entries reads c own) (entries reads (c + steps own) xs) k e (omega (arith, few, i))
+      (subst (λ es. slice_get es k ≡ Some e) (entries-append reads c own xs) there)) read);
 }
 
 mark_no_read : (n : ℕ) (e : Entry) (more : List Entry) → Mark n ∷ [] ≡ e ∷ more → is_read e ≡ true → ⊥
-unfolding is_read
 mark_no_read n e more h read = let same : Mark n ≡ e = (cc) in let f : false ≡ true = ap is_read same ∙ read in (cc)
 
 -- the reads up to a new mark are those of the log before it
@@ -101,41 +100,41 @@ reads_to_mark log n k e few there read = elim (le-cases k (length log) few) [
       absurd (mark_no_read n e r.0 r.1 read))
 ]
 
-pub notes-do : (c : ℕ) (own : List Move) (log : List Entry) (notes : List Note) (o : Option Operation) →
-    log ≡ entries c own → AreNoted c notes own → AreNoted c (notes_after notes log o) (own ++ Do o ∷ [])
-notes-do c own log notes None h k y m =
+pub notes-do : (reads : Reads) (c : ℕ) (own : List Move) (log : List Entry) (notes : List Note) (o : Option Operation) →
+    log ≡ entries reads c own → AreNoted reads c notes own → AreNoted reads c (notes_after notes log o) (own ++ Do o ∷ [])
+notes-do reads c own log notes None h k y m =
     elim (among-split y (operations own) [] (subst (λ zs. Among y zs) (operations-append own (Do None ∷ [])) m))
-    [ inl l ↦ notes-more c notes own (Do None ∷ []) y (k y l) | inr l ↦ absurd l ]
-notes-do c own log notes (Some o) h k y m = go (bool_cases (same_name (id_of y) (id_of o)))
+    [ inl l ↦ notes-more reads c notes own (Do None ∷ []) y (k y l) | inr l ↦ absurd l ]
+notes-do reads c own log notes (Some o) h k y m = go (bool_cases (same_name (id_of y) (id_of o)))
   where
     come : Note
     come = record { name = id_of o; index = length log; after = waits_for o log }
 
-    longer : length (entries c (own ++ Do (Some o) ∷ [])) ≡ suc (length log)
+    longer : length (entries reads c (own ++ Do (Some o) ∷ [])) ≡ suc (length log)
     longer =
-        let e = ap length (entries-append c own (Do (Some o) ∷ [])) in
-        let f = length-append (entries c own) (Mark (suc (c + steps own)) ∷ []) in
+        let e = ap length (entries-append reads c own (Do (Some o) ∷ [])) in
+        let f = length-append (entries reads c own) (Mark (suc (c + steps own)) ∷ []) in
         let d = ap length h in
         omega (arith, e, f, d)
 
     all : Among y (operations (cut (suc (length log)) (own ++ Do (Some o) ∷ [])))
     all = let l = longer in
-        among-cut (suc (length log)) c y (own ++ Do (Some o) ∷ []) (omega (arith, l)) m
+        among-cut reads (suc (length log)) c y (own ++ Do (Some o) ∷ []) (omega (arith, l)) m
 
-    there : (k : ℕ) (e : Entry) → slice_get (entries c (own ++ Do (Some o) ∷ [])) k ≡ Some e →
+    there : (k : ℕ) (e : Entry) → slice_get (entries reads c (own ++ Do (Some o) ∷ [])) k ≡ Some e →
         slice_get (log ++ Mark (suc (c + steps own)) ∷ []) k ≡ Some e
     there k e t = subst (λ es. slice_get (es ++ Mark (suc (c + steps own)) ∷ []) k ≡ Some e) (sym h)
-        (subst (λ es. slice_get es k ≡ Some e) (entries-append c own (Do (Some o) ∷ [])) t)
+        (subst (λ es. slice_get es k ≡ Some e) (entries-append reads c own (Do (Some o) ∷ [])) t)
 
     -- for an operation of this name, the note is the new one
     named : same_name (id_of y) (id_of o) ≡ true → ((w : SectorWrite) → y ≡ Write w → waits_for o log ≡ reads_in log) →
-        IsNoted c (own ++ Do (Some o) ∷ []) (come ∷ notes) y
+        IsNoted reads c (own ++ Do (Some o) ∷ []) (come ∷ notes) y
     named t waits = record {
       note = come;
       found = ap (λ b. cond b (Some come) (note_of notes (id_of y))) t;
       given = all;
       inside = (let l = longer in omega (arith, l));
-      reads = λ w q k e few t read. (let r = reads_to_mark log (suc (c + steps own)) k e few (there k e t) read in
+      waits = λ w q k e few t read. (let r = reads_to_mark log (suc (c + steps own)) k e few (there k e t) read in
           let z = waits w q in omega (arith, r, z));
     }
 
@@ -147,16 +146,16 @@ notes-do c own log notes (Some o) h k y m = go (bool_cases (same_name (id_of y) 
         subst (λ z. same_name (id_of z) (id_of (Byte port number byte)) ≡ true) q t in (cc)
 
     go : (same_name (id_of y) (id_of o) ≡ true) ⊎ (same_name (id_of y) (id_of o) ≡ false) →
-        IsNoted c (own ++ Do (Some o) ∷ []) (come ∷ notes) y
+        IsNoted reads c (own ++ Do (Some o) ∷ []) (come ∷ notes) y
     go (inl t) = named t (write_waits o y t)
     go (inr f) = elim (among-split y (operations own) (o ∷ [])
         (subst (λ zs. Among y zs) (operations-append own (Do (Some o) ∷ [])) m)) [
-          | inl l ↦ (let r = notes-more c notes own (Do (Some o) ∷ []) y (k y l) in record {
+          | inl l ↦ (let r = notes-more reads c notes own (Do (Some o) ∷ []) y (k y l) in record {
             note = r.note;
             found = ap (λ b. cond b (Some come) (note_of notes (id_of y))) f ∙ r.found;
             given = r.given;
             inside = r.inside;
-            reads = r.reads;
+            waits = r.waits;
           })
           | inr (inl l) ↦ (let t : same_name (id_of y) (id_of o) ≡ true = ap (λ z. same_name (id_of y) (id_of z))
               (sym l)

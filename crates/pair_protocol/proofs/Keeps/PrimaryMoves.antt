@@ -117,13 +117,14 @@ module _ {S : Type 0} (M : Machine S) (l : Line S) (a : Node S) (s : S) (p : IsP
   primary-after_step o r h e = let g = p.logged r in
       record {
         role = inl r;
+        reads = p.reads;
         made = made-do M l.mid l.base l.own a.machine s a.list p.made o h e;
         copy = p.copy;
         covered = p.covered;
         image = p.image;
         logged = λ k. record {
-          log = log-do (steps l.base) (M.count s) l.own a.log o g.log (e ∙ ap suc p.count);
-          notes = notes-do (steps l.base) l.own a.log a.notes o g.log g.notes;
+          log = log-do l.reads (steps l.base) (M.count s) l.own a.log o g.log (e ∙ ap suc p.count);
+          notes = notes-do l.reads (steps l.base) l.own a.log a.notes o g.log g.notes;
         };
       }
 
@@ -133,15 +134,17 @@ module _ {S : Type 0} (M : Machine S) (l : Line S) (a : Node S) (s : S) (p : IsP
   primary-after_input i r h e = let g = p.logged r in
       record {
         role = inl r;
+        reads = p.reads;
         made = made-take M l.mid l.base l.own a.machine s a.list p.made i h e;
         copy = p.copy;
         covered = p.covered;
         image = p.image;
         logged = λ k. record {
-          log = ap (λ es. es ++ entry_of (M.count a.machine) i ∷ []) g.log
-              ∙ ap (λ c. entries (steps l.base) l.own ++ entry_of c i ∷ []) p.count
-              ∙ sym (entries-append (steps l.base) l.own (Take i ∷ []));
-          notes = λ o m. notes-more (steps l.base) a.notes l.own (Take i ∷ []) o (g.notes o
+          log = ap (λ es. es ++ entry_of a.reads (M.count a.machine) i ∷ []) g.log
+              ∙ ap (λ z. entries l.reads (steps l.base) l.own ++ entry_of z (M.count a.machine) i ∷ []) p.reads
+              ∙ ap (λ c. entries l.reads (steps l.base) l.own ++ entry_of l.reads c i ∷ []) p.count
+              ∙ sym (entries-append l.reads (steps l.base) l.own (Take i ∷ []));
+          notes = λ o m. notes-more l.reads (steps l.base) a.notes l.own (Take i ∷ []) o (g.notes o
               (subst (λ zs. Among o zs) (operations-append l.own (Take i ∷ []) ∙ append-nil (operations l.own)) m));
         };
       }
@@ -151,6 +154,7 @@ module _ {S : Type 0} (M : Machine S) (l : Line S) (a : Node S) (s : S) (p : IsP
       IsPrimary M (with_own l (l.own ++ m ∷ []) l.stage) (record a { machine = s; list = list })
   alone-after m list r made = record {
     role = p.role;
+    reads = p.reads;
     made = made;
     copy = p.copy;
     covered = p.covered;

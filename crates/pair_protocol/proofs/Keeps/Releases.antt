@@ -81,8 +81,8 @@ module _ {S : Type 0} (M : Machine S) (C : Copying S) (laws : Lawful M) (w : Wor
           let e : x.copy ++ inputs_of (take c x.log) ≡ inputs 0 (l.base ++ cut c l.own) =
           ap (λ ts. ts ++ inputs_of (take c x.log)) q.is_primary.copy
           ∙ ap (λ es. inputs 0 l.base ++ inputs_of (take c es)) (q.is_primary.logged a.role_is).log
-          ∙ ap (λ es. inputs 0 l.base ++ inputs_of es) (sym (entries-cut c (steps l.base) l.own))
-          ∙ ap (λ ts. inputs 0 l.base ++ ts) (inputs_of-entries (steps l.base) (cut c l.own))
+          ∙ ap (λ es. inputs 0 l.base ++ inputs_of es) (sym (entries-cut l.reads c (steps l.base) l.own))
+          ∙ ap (λ ts. inputs 0 l.base ++ ts) (inputs_of-entries l.reads (steps l.base) (cut c l.own))
           ∙ ap (λ j. inputs 0 l.base ++ inputs j (cut c l.own)) (let z : steps l.base ≡ 0 + steps l.base =
           omega arith in z)
           ∙ sym (inputs-append 0 l.base (cut c l.own)) in
@@ -120,9 +120,9 @@ frees {S} M C laws w i n x name o acts pending cover k t s b u gb role v is = pl
         (subst (λ zs. Among o zs) (operations-append l.base l.own)
         (laws.given (l.base ++ l.own) x.machine name o runs pending)))
       where
-        there : slice_get (entries (steps l.base) l.own) j ≡ Some e
-        there = get-prefix b.held (entries (steps l.base) l.own) j e
-            (subst (λ z. IsPrefix z.held (entries (steps l.base) l.own)) same c.is_backup.held) got
+        there : slice_get (entries l.reads (steps l.base) l.own) j ≡ Some e
+        there = get-prefix b.held (entries l.reads (steps l.base) l.own) j e
+            (subst (λ z. IsPrefix z.held (entries l.reads (steps l.base) l.own)) same c.is_backup.held) got
 
         go : Among o (operations l.base) ⊎ Among o (operations l.own) →
             Among (Write v) (operations (l.base ++ cut j l.own))
@@ -144,7 +144,7 @@ frees {S} M C laws w i n x name o acts pending cover k t s b u gb role v is = pl
             (subst (λ z. slice_get w.nodes (i.each z).line.backup ≡ Some b) (t ∙ sym at) u) refl (gb ∙ t ∙ sym at)
             acts.role_is (λ z. elim role [ inl k ↦ (cc) | inr k ↦ (cc) ]) in
             let past : r.note.index < j = le-not j r.note.index (λ few.
-            (let z = r.reads v is j e few there read in omega (arith, z, after, told, low))) in
+            (let z = r.waits v is j e few there read in omega (arith, z, after, told, low))) in
             subst (λ z. Among z (operations (l.base ++ cut j l.own))) is
             (subst (Among o) (sym (operations-append l.base (cut j l.own)))
             (among-right o (operations l.base) (operations (cut j l.own))

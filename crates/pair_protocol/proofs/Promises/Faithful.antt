@@ -8,8 +8,10 @@ use Rattle.pair_protocol.proofs.Invariant.{BackupWon, Inv, PrimaryWon}
 use Rattle.pair_protocol.proofs.Keeps.All.{keep}
 use Rattle.pair_protocol.proofs.Keeps.Alone.{backup-alone}
 use Rattle.pair_protocol.proofs.Keeps.Boot.{at_boot}
+use Rattle.pair_protocol.proofs.Keeps.Fetched.{reached-fetched}
 use Rattle.pair_protocol.proofs.Keeps.Disk.{AsBefore, LatestIs, OfPut, latest_all, latest_is}
 use Rattle.pair_protocol.proofs.Promises.Outputs.{output_is, trace_runs}
+use Rattle.pair_protocol.proofs.Promises.ReadsKept.{reads_are_kept}
 use Rattle.pair_protocol.proofs.Promises.Settling.{highest_is, settled_is, settles_trace}
 use Rattle.pair_protocol.proofs.Traces.Moves.{inputs-append, steps-append}
 
@@ -125,6 +127,7 @@ faithful M C laws w i =
       typed = i.global.came.typed;
       told = i.global.told;
       one_live = live_once M C w i;
+      reads = reads_are_kept M C laws w i;
     }
 
 -- What is settled only grows.
@@ -163,8 +166,9 @@ module _ {S : Type 0} (M : Machine S) (C : Copying S) where
 
   -- Every world that actions reach has the invariant.
   pub reached : Lawful M → IsCopying M C → (w : World S) → Reached M C w → Inv M C w
-  reached laws copies w AtBoot = at_boot M C laws
-  reached laws copies w (After {w = v} r c) = (keep M C laws copies v w (reached laws copies v r) c).inv
+  reached laws copies w (AtBoot reads) = at_boot M C reads laws
+  reached laws copies w (After {w = v} r c) =
+      (keep M C laws copies v w (reached laws copies v r) (reached-fetched M C v r) c).inv
 
 pub alone_is_highest : {S : Type 0} (M : Machine S) (C : Copying S) → Lawful M → IsCopying M C → (w : World S) →
     Reached M C w → (n : ℕ) (x : Node S) → slice_get w.nodes n ≡ Some x → x.role ≡ Alone → x.generation ≡ highest w.nodes

@@ -10,6 +10,7 @@ use Rattle.pair_protocol.specs.Row.{Row}
 use Rattle.pair_protocol.proofs.Invariant.Acting.{Acting, BackupActs, BackupAtTop, BackupEarlier, PrimaryActs, PrimaryAtTop, PrimaryEarlier, acting}
 use Rattle.pair_protocol.proofs.Invariant.{BackupWon, Inv, LineOf, Next, PrimaryWon, Stage, Undecided, settled, winner_at}
 use Rattle.pair_protocol.proofs.Keeps.All.{keep}
+use Rattle.pair_protocol.proofs.Keeps.Fetched.{AreFetched, fetched-keeps, reached-fetched}
 use Rattle.pair_protocol.proofs.Keeps.Arbiter.{winner-longer}
 use Rattle.pair_protocol.proofs.Promises.Faithful.{extends, grows_by, reached}
 use Rattle.pair_protocol.proofs.Promises.Lists.{changes_longer}
@@ -91,15 +92,15 @@ WonList {S} M old new = (list : List Timed) (count : ℕ) (g m : ℕ) (y : Node 
     IsPrefix list (list_of y y.role)
 
 won_list : {S : Type 0} (M : Machine S) (C : Copying S) → Lawful M → IsCopying M C →
-    (w : World S) (i : Inv M C w) (n : ℕ) (x : Node S) → slice_get w.nodes n ≡ Some x → (x.role ≡ Spare → ⊥) →
+    (w : World S) (i : Inv M C w) → AreFetched M w → (n : ℕ) (x : Node S) → slice_get w.nodes n ≡ Some x → (x.role ≡ Spare → ⊥) →
     winner_in w.winners x.generation ≡ None → Change M C w (with_winner w n x) → WonList M w (with_winner w n x)
-won_list {S} M C laws copies w i n x h ns none c list count g m y settled before after there =
+won_list {S} M C laws copies w i f n x h ns none c list count g m y settled before after there =
     let a = winner_added w.winners won g m before after in
     let at_n : slice_get (slice_set w.nodes n (wins x)) n ≡ Some y =
     subst (λ k. slice_get (slice_set w.nodes n (wins x)) k ≡ Some y) (sym a.1) there in
     let y_is : wins x ≡ y = same_some (wins x) y (slice_get (slice_set w.nodes n (wins x)) n)
     (get_set w.nodes n x (wins x) h) at_n in
-    let next = keep M C laws copies w (with_winner w n x) i c in
+    let next = keep M C laws copies w (with_winner w n x) i f c in
     let high : x.generation ≡ highest (slice_set w.nodes n (wins x)) = asks_at_top M C w i n x h ns none
     ∙ sym (highest_is M C w i) ∙ sym (highest_set w.nodes n x (wins x) h refl) in
     let winner : winner_in (w.winners ++ won ∷ []) x.generation ≡ Some n =
@@ -131,9 +132,9 @@ record Winner_is {S : Type 0} (M : Machine S) (w new : World S) (m : ℕ) : Type
   begins : (list : List Timed) (count : ℕ) → Settled M w list count → IsPrefix list (list_of x x.role)
 
 change_wins : {S : Type 0} (M : Machine S) (C : Copying S) → Lawful M → IsCopying M C → (w new : World S) → Inv M C w →
-    Change M C w new → (g m : ℕ) → winner_in w.winners g ≡ None → winner_in new.winners g ≡ Some m →
+    AreFetched M w → Change M C w new → (g m : ℕ) → winner_in w.winners g ≡ None → winner_in new.winners g ≡ Some m →
     Winner_is M w new m
-change_wins {S} M C laws copies w new i (Wins n x role acts nj ns none) g m before after =
+change_wins {S} M C laws copies w new i f (Wins n x role acts nj ns none) g m before after =
     let a = winner_added w.winners (record { generation = x.generation; node = n }) g m before after in
     let there = subst (λ k. slice_get (slice_set w.nodes n (wins x)) k ≡ Some (wins x)) a.1
     (get_set w.nodes n x (wins x) acts.there) in
@@ -141,16 +142,16 @@ change_wins {S} M C laws copies w new i (Wins n x role acts nj ns none) g m befo
       x = wins x;
       there = there;
       begins = λ list count settled.
-          won_list M C laws copies w i n x acts.there (λ k. ns (sym acts.role_is ∙ k)) none
+          won_list M C laws copies w i f n x acts.there (λ k. ns (sym acts.role_is ∙ k)) none
           (Wins n x role acts nj ns none) list count g m (wins x) settled before after there;
     }
-change_wins M C laws copies w new i c g m before after = absurd (cc)
+change_wins M C laws copies w new i f c g m before after = absurd (cc)
 
 -- one action, and more after it that make such winners
 wins_later : {S : Type 0} (M : Machine S) (C : Copying S) (laws : Lawful M) (copies : IsCopying M C) (w v new : World S)
-    (i : Inv M C w) (c : Change M C w v) (cs : Changes M C v new) (next : Next M C i.trace v) → WonList M v new →
+    (i : Inv M C w) (f : AreFetched M w) (c : Change M C w v) (cs : Changes M C v new) (next : Next M C i.trace v) → WonList M v new →
     WonList M w new
-wins_later {S} M C laws copies w v new i c cs next rest list count g m y settled before after there =
+wins_later {S} M C laws copies w v new i f c cs next rest list count g m y settled before after there =
     go (winner_in v.winners g) refl
   where
     go : (o : Option ℕ) → winner_in v.winners g ≡ o → IsPrefix list (list_of y y.role)
@@ -164,7 +165,7 @@ wins_later {S} M C laws copies w v new i c cs next rest list count g m y settled
         let more = winners_all M C v new cs in
         let still : winner_in new.winners g ≡ Some k =
         subst (λ ws. winner_in ws g ≡ Some k) (sym more.1) (winner-longer v.winners more.0 g k e) in
-        let won = change_wins M C laws copies w v i c g m before
+        let won = change_wins M C laws copies w v i f c g m before
         (e ∙ ap Some (same_some k m (winner_in new.winners g) still after)) in
         let later = changes_longer M C v new cs m won.x won.there in
         let is : later.y ≡ y = same_some later.y y (slice_get new.nodes m) later.there there in
@@ -172,23 +173,24 @@ wins_later {S} M C laws copies w v new i c cs next rest list count g m y settled
         (subst (λ (z : Node S). IsPrefix (list_of won.x won.x.role) (list_of z z.role)) is later.longer)
 
 changes_win : {S : Type 0} (M : Machine S) (C : Copying S) → Lawful M → IsCopying M C → (w new : World S) → Inv M C w →
-    Changes M C w new → WonList M w new
-changes_win M C laws copies w new i Stays list count g m y settled before after there = (cc)
-changes_win {S} M C laws copies w new i (Then {mid = v} c cs) list count g m y settled before after there =
-    let next = keep M C laws copies w v i c in
-    wins_later M C laws copies w v new i c cs next (changes_win M C laws copies v new next.inv cs) list count g m y settled
+    AreFetched M w → Changes M C w new → WonList M w new
+changes_win M C laws copies w new i f Stays list count g m y settled before after there = (cc)
+changes_win {S} M C laws copies w new i f (Then {mid = v} c cs) list count g m y settled before after there =
+    let next = keep M C laws copies w v i f c in
+    wins_later M C laws copies w v new i f c cs next (changes_win M C laws copies v new next.inv (fetched-keeps M C w v f c) cs) list count g m y settled
     before after there
 
 pub changes_grow : {S : Type 0} (M : Machine S) (C : Copying S) → Lawful M → IsCopying M C → (w new : World S) →
     Reached M C w → Changes M C w new → Grows M w new
 changes_grow M C laws copies w new h c =
     let i = reached M C laws copies w h in
-    let k = keep_all M C laws copies w new i c in
+    let f = reached-fetched M C w h in
+    let k = keep_all M C laws copies w new i f c in
     record {
       settled = grows_by M C w new i k.inv k.grows;
       winners = λ g n h. (let v = winners_all M C w new c in
           subst (λ ws. winner_in ws g ≡ Some n) (sym v.1) (winner-longer w.winners v.0 g n h));
-      won = changes_win M C laws copies w new i c;
+      won = changes_win M C laws copies w new i f c;
     }
 
 pub row_grows : {S : Type 0} (M : Machine S) (C : Copying S) → Lawful M → IsCopying M C →

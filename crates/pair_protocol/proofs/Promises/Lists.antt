@@ -2,7 +2,7 @@
 -- goes live, begins a generation, joins one or halts keeps it.
 use Rattle.std.proofs.Common.{[], ◌++◌, ◌∙◌, ◌∷◌, ◌≡◌, ◌⊎◌, List, Some, ap, append_assoc, inl, inr, refl, subst, sym, ℕ}
 use Rattle.std.specs.Prelude.{slice_get, slice_set}
-use Rattle.pair_protocol.proofs.Words.{Acts, Alone, Backup, Change, Changes, Copying, Draining, Entry, IsPrefix, Joining, Machine, Node, Primary, Role, Serving, Spare, Stays, Then, Timed, World, alone_takes, begun, gets_part, goes_live, halts, hears, holds, inputs_of, joiner, joins, list_of, passes_input, passes_mark, plainly_steps, primary_steps, primary_takes, spare, wins, won_role}
+use Rattle.pair_protocol.proofs.Words.{Acts, Alone, Backup, Change, Changes, Copying, Draining, Entry, IsPrefix, Joining, Machine, Node, Primary, Role, Serving, Spare, Stays, Then, Timed, World, alone_takes, begun, gets_part, goes_live, halts, hears, holds, inputs_of, joiner, joins, list_of, passes_input, passes_mark, plainly_steps, primary_steps, primary_takes, spare, wins, won_role, fetches, passes_read}
 use Rattle.pair_protocol.specs.Change as change
 use Rattle.pair_protocol.proofs.Traces.Lists.{get-longer, get_set, get_set_other, prefix-refl, prefix-same, prefix-trans, same_or_not, same_some}
 use Rattle.pair_protocol.proofs.Traces.Moves.{inputs_of-append}
@@ -125,6 +125,10 @@ module _ {S : Type 0} (M : Machine S) (C : Copying S) where
       set_longer w.nodes m a (passes_mark a) acts.there (alike a (passes_mark a) refl refl refl refl) n x there
   change_longer w new (change.ReplaysInput m a role e i s acts q h c g v) n x there =
       set_longer w.nodes m a (passes_input a s) acts.there (alike a (passes_input a s) refl refl refl refl) n x there
+  change_longer w new (change.Fetches m a role k d s number bytes acts q h brings) n x there =
+      set_longer w.nodes m a (fetches a bytes) acts.there (alike a (fetches a bytes) refl refl refl refl) n x there
+  change_longer w new (change.ReplaysRead m a role d s number bytes t acts q h come v) n x there =
+      set_longer w.nodes m a (passes_read a t) acts.there (alike a (passes_read a t) refl refl refl refl) n x there
   change_longer w new (change.Stops m a at is) n x there =
       set_longer w.nodes m a (halts a) at (alike a (halts a) refl refl refl refl) n x there
   change_longer w new (change.Wins m a role acts nj ns none) n x there =

@@ -4,22 +4,20 @@ use Rattle.std.proofs.Common.{[], ◌++◌, ◌+◌, ◌∙◌, ◌∷◌, ◌�
 use Rattle.std.proofs.lemmas.List.{take-append-le}
 use Rattle.std.proofs.lemmas.Option.{slice_get_within}
 use Rattle.std.specs.Prelude.{slice_get}
-use Rattle.pair_protocol.proofs.Words.{Among, Backup, Copying, Do, Draining, Input, IsPrefix, IsUnwritten, IsWritten, Lawful, Machine, Mark, Move, Node, Reach, Recorded, Replaying, Runs, SectorAddress, SectorRecord, SectorWrite, Take, World, Write, address_of, count_of, cut, entries, entry_of, input_of, inputs, inputs_of, operations, refusal_of, sector_record, steps, winner_in}
+use Rattle.pair_protocol.proofs.Words.{Among, Backup, Copying, Do, Draining, IsPrefix, IsUnwritten, IsWritten, Lawful, Machine, Mark, Move, Node, Reach, Recorded, Replaying, Runs, SectorAddress, SectorRecord, SectorWrite, Take, World, Write, address_of, count_of, cut, entries, entry_of, inputs, inputs_of, operations, refusal_of, sector_record, steps, winner_in, Reads}
 use Rattle.guest_board.specs.Recorded.{Accepts}
-use Rattle.guest_board.specs.declared.input.Input.TheVariants as input
 use Rattle.guest_board.specs.declared.input.Input.TheVariants.{Sector}
 use Rattle.log_entry.specs.declared.entry.Entry.TheVariants as entry
-use Rattle.pair_protocol.specs.ReadsKept.{ReachedKeepsReads, StillReplays}
-use Rattle.pair_protocol.specs.Waiting.{is_read}
+use Rattle.pair_protocol.specs.ReadsKept.{ReadsKept, StillReplays}
 use Rattle.pair_protocol.proofs.Invariant.Acting.{Acting, BackupActs, PrimaryActs, acting}
 use Rattle.pair_protocol.proofs.Invariant.Settled.{covers-below}
 use Rattle.pair_protocol.proofs.Invariant.{ArePut, AsAlone, AsBackup, AsDraining, AsJoining, BackupState, Inv, Line, LineOf, PrimaryWon, settled, winner_at}
 use Rattle.pair_protocol.proofs.Keeps.Disk.{AsBefore, LatestIs, OfPut, latest_all, latest_is}
 use Rattle.pair_protocol.proofs.Keeps.PrimaryMoves.{sector-passed}
-use Rattle.pair_protocol.proofs.Promises.Faithful.{reached}
+use Rattle.pair_protocol.proofs.Keeps.Reads.{read_move}
 use Rattle.pair_protocol.proofs.Promises.Settling.{highest_is}
 use Rattle.pair_protocol.proofs.Traces.Lists.{get-prefix, prefix-cons, prefix-trans, prefix-under, same_some}
-use Rattle.pair_protocol.proofs.Traces.Moves.{inputs-append, inputs_of-entries, operations-append, owns-prefix, put-prefix, runs-append, steps-append}
+use Rattle.pair_protocol.proofs.Traces.Moves.{count_entry, inputs-append, inputs_of-entries, operations-append, owns-prefix, put-prefix, runs-append, steps-append}
 use Rattle.pair_protocol.proofs.Traces.OneTrace.{one_end, one_trace}
 use Rattle.pair_protocol.proofs.Traces.Recorded.{recorded-prefix, recorded-rest, recorded-runs}
 
@@ -80,38 +78,28 @@ read_is_kept {S} M laws base xs mid s puts drive sector number bytes based run o
         let d = last in
         omega (arith, is, f, l, d)
 
--- the moves before a read of a log
-record Before (c : ℕ) (own : List Move) (k count drive sector number : ℕ) (bytes : List ℕ) : Type 0 where
+-- the moves before a read of a log, and the bytes that its primary took
+record Before (reads : Reads) (c : ℕ) (own : List Move) (k count drive sector number : ℕ) : Type 0 where
   front : List Move
   rest : List Move
+  bytes : List ℕ
   own_is : own ≡ front ++ Take (Sector drive sector number bytes) ∷ rest
-  entries_are : entries c front ≡ take k (entries c own)
+  entries_are : entries reads c front ≡ take k (entries reads c own)
   count_is : count ≡ c + steps front
   operations_are : operations (cut k own) ≡ operations front
   within : IsPrefix front (cut (suc k) own)
 
-entry_input : (c : ℕ) (i : Input) (count drive sector number : ℕ) (bytes : List ℕ)
-    → entry_of c i ≡ entry.Sector count drive sector number bytes
-    → (i ≡ Sector drive sector number bytes) × (count ≡ c)
-entry_input c (input.Rx port byte) count drive sector number bytes h = (cc)
-entry_input c (input.Sent port) count drive sector number bytes h = (cc)
-entry_input c (input.Written n) count drive sector number bytes h = (cc)
-entry_input c (input.Sector d s n bs) count drive sector number bytes h =
-    let e = ap input_of h in (
-      same_some (Sector d s n bs) (Sector drive sector number bytes) (Some (Sector d s n bs)) refl e,
-      sym (ap count_of h),
-    )
-
-before : (c : ℕ) (own : List Move) (k count drive sector number : ℕ) (bytes : List ℕ)
-    → slice_get (entries c own) k ≡ Some (entry.Sector count drive sector number bytes)
-    → Before c own k count drive sector number bytes
-before c [] k count drive sector number bytes h = (cc)
-before c (Do None ∷ own) k count drive sector number bytes h =
-    let b = before (suc c) own k count drive sector number bytes h in
+before : (reads : Reads) (c : ℕ) (own : List Move) (k count drive sector number : ℕ)
+    → slice_get (entries reads c own) k ≡ Some (entry.Read count drive sector number)
+    → Before reads c own k count drive sector number
+before reads c [] k count drive sector number h = (cc)
+before reads c (Do None ∷ own) k count drive sector number h =
+    let b = before reads (suc c) own k count drive sector number h in
     let n = b.count_is in
     record {
       front = Do None ∷ b.front;
       rest = b.rest;
+      bytes = b.bytes;
       own_is = ap (λ zs. Do None ∷ zs) b.own_is;
       entries_are = b.entries_are;
       count_is = omega (arith, n);
@@ -123,50 +111,53 @@ before c (Do None ∷ own) k count drive sector number bytes h =
         → operations (cut k (Do None ∷ own)) ≡ operations (Do None ∷ front)
     quiet zero front e = e
     quiet (suc k) front e = e
-before c (Do (Some o) ∷ own) zero count drive sector number bytes h = (cc)
-before c (Do (Some o) ∷ own) (suc k) count drive sector number bytes h =
-    let b = before (suc c) own k count drive sector number bytes h in
+before reads c (Do (Some o) ∷ own) zero count drive sector number h = (cc)
+before reads c (Do (Some o) ∷ own) (suc k) count drive sector number h =
+    let b = before reads (suc c) own k count drive sector number h in
     let n = b.count_is in
     record {
       front = Do (Some o) ∷ b.front;
       rest = b.rest;
+      bytes = b.bytes;
       own_is = ap (λ zs. Do (Some o) ∷ zs) b.own_is;
       entries_are = ap (λ es. Mark (suc c) ∷ es) b.entries_are;
       count_is = omega (arith, n);
       operations_are = ap (λ os. o ∷ os) b.operations_are;
       within = prefix-cons (Do (Some o)) b.front (cut (suc k) own) b.within;
     }
-before c (Take i ∷ own) zero count drive sector number bytes h =
-    let e = entry_input c i count drive sector number bytes (same_some (entry_of c i) _ (Some (entry_of c i)) refl h) in
-    let n = e.1 in
+before reads c (Take i ∷ own) zero count drive sector number h =
+    let is = same_some (entry_of reads c i) (entry.Read count drive sector number) (Some (entry_of reads c i)) refl h in
+    let e = read_move reads c count drive sector number i is in
+    let n = sym (count_entry reads c i) ∙ ap count_of is in
     record {
       front = [];
       rest = own;
-      own_is = ap (λ j. Take j ∷ own) e.0;
+      bytes = e.0;
+      own_is = ap (λ j. Take j ∷ own) e.1;
       entries_are = refl;
       count_is = omega (arith, n);
       operations_are = refl;
       within = (cut (suc zero) (Take i ∷ own), refl);
     }
-before c (Take i ∷ own) (suc k) count drive sector number bytes h =
-    let b = before c own k count drive sector number bytes h in
+before reads c (Take i ∷ own) (suc k) count drive sector number h =
+    let b = before reads c own k count drive sector number h in
     record {
       front = Take i ∷ b.front;
       rest = b.rest;
+      bytes = b.bytes;
       own_is = ap (λ zs. Take i ∷ zs) b.own_is;
-      entries_are = ap (λ es. entry_of c i ∷ es) b.entries_are;
+      entries_are = ap (λ es. entry_of reads c i ∷ es) b.entries_are;
       count_is = b.count_is;
       operations_are = b.operations_are;
       within = prefix-cons (Take i) b.front (cut (suc k) own) b.within;
     }
 
 reads_kept : {S : Type 0} (M : Machine S) (C : Copying S) (laws : Lawful M) (w : World S) (i : Inv M C w) (n : ℕ)
-    (x : Node S) → StillReplays w n x → (k count drive sector number : ℕ) (bytes : List ℕ) →
-    x.replayed ≤ k → slice_get x.held k ≡ Some (entry.Sector count drive sector number bytes) →
-    is_read (entry.Sector count drive sector number bytes) ≡ true →
+    (x : Node S) → StillReplays w n x → (k count drive sector number : ℕ) →
+    x.replayed ≤ k → slice_get x.held k ≡ Some (entry.Read count drive sector number) →
     (moves : List Move) (r : Reach M (x.copy ++ inputs_of (take k x.held)) count moves) →
     (sector_record M w.puts (M.address r.last drive sector)).number ≡ number
-reads_kept {S} M C laws w i n x still k count drive sector number bytes low got read moves r =
+reads_kept {S} M C laws w i n x still k count drive sector number low got moves r =
     go (acting M C w i n x still.there
     (λ z. by_role (λ q. (cc)) (λ q. (cc)) still.who))
   where
@@ -187,27 +178,27 @@ reads_kept {S} M C laws w i n x still k count drive sector number bytes low got 
         (λ q. elim a.is_primary.role [ inl z ↦ (cc) | inr z ↦ (let y = z.0 in (cc)) ]) still.who)
     go (BackupActs a p) =
         subst (λ v. (sector_record M w.puts (M.address v drive sector)).number ≡ number) (sym same)
-        (read_is_kept M laws l.base b.front l.mid u.0 w.puts drive sector number bytes o.sound.based u.1
+        (read_is_kept M laws l.base b.front l.mid u.0 w.puts drive sector number b.bytes o.sound.based u.1
         accepts.1.allowed
         (put-prefix w.puts (l.base ++ b.front) (l.base ++ l.own) whole o.came.put) written)
       where
-        there : slice_get (entries (steps l.base) l.own) k ≡ Some (entry.Sector count drive sector number bytes)
-        there = get-prefix x.held (entries (steps l.base) l.own) k _ a.is_backup.held got
+        there : slice_get (entries l.reads (steps l.base) l.own) k ≡ Some (entry.Read count drive sector number)
+        there = get-prefix x.held (entries l.reads (steps l.base) l.own) k _ a.is_backup.held got
 
-        b : Before (steps l.base) l.own k count drive sector number bytes
-        b = before (steps l.base) l.own k count drive sector number bytes there
+        b : Before l.reads (steps l.base) l.own k count drive sector number
+        b = before l.reads (steps l.base) l.own k count drive sector number there
 
         whole : IsPrefix (l.base ++ b.front) (l.base ++ l.own)
-        whole = prefix-under l.base b.front l.own (Take (Sector drive sector number bytes) ∷ b.rest, sym b.own_is)
+        whole = prefix-under l.base b.front l.own (Take (Sector drive sector number b.bytes) ∷ b.rest, sym b.own_is)
 
         u : (v : S) × Recorded M l.mid b.front v
         u = recorded-prefix M l.mid o.sound.recorded.0 b.front l.own
-            (Take (Sector drive sector number bytes) ∷ b.rest, sym b.own_is)
+            (Take (Sector drive sector number b.bytes) ∷ b.rest, sym b.own_is)
             o.sound.recorded.1
 
-        accepts : (v : S) × Accepts M u.0 (Sector drive sector number bytes) v × Recorded M v b.rest o.sound.recorded.0
+        accepts : (v : S) × Accepts M u.0 (Sector drive sector number b.bytes) v × Recorded M v b.rest o.sound.recorded.0
         accepts = recorded-rest M l.mid u.0 o.sound.recorded.0 b.front
-            (Take (Sector drive sector number bytes) ∷ b.rest)
+            (Take (Sector drive sector number b.bytes) ∷ b.rest)
             (recorded-runs M l.mid u.0 b.front u.1)
             (subst (λ zs. Recorded M l.mid zs o.sound.recorded.0) b.own_is o.sound.recorded.1)
 
@@ -232,7 +223,7 @@ reads_kept {S} M C laws w i n x still k count drive sector number bytes low got 
         written v m =
             let z = o.reads.waits (still.highest_is ∙ highest_is M C w i) not_primary x
             (subst (λ j. slice_get w.nodes j ≡ Some x) a.spot still.there) refl repeats v
-            (i.global.puts_are v m).1 k _ low got read
+            (i.global.puts_are v m).1 k _ low got refl
             in
             subst (Among (Write v))
             (operations-append l.base (cut k l.own) ∙ ap (λ os. operations l.base ++ os) b.operations_are
@@ -250,7 +241,7 @@ reads_kept {S} M C laws w i n x still k count drive sector number bytes low got 
             (prefix-trans (l.base ++ cut (suc k) l.own) (settled l) i.trace
             (covers-below l.stage l.base l.own l.more (suc k) (length l.held) (omega (arith, few, same))) o.below)
 
-        taken : take k x.held ≡ entries (steps l.base) b.front
+        taken : take k x.held ≡ entries l.reads (steps l.base) b.front
         taken =
             let few = slice_get_within x.held k _ got in
             sym (take-append-le k x.held a.is_backup.held.0 (omega (arith, few))) ∙ ap (take k) a.is_backup.held.1
@@ -260,7 +251,7 @@ reads_kept {S} M C laws w i n x still k count drive sector number bytes low got 
         list_is =
             inputs-append 0 l.base b.front
             ∙ ap (λ c. inputs 0 l.base ++ inputs c b.front) (let z : 0 + steps l.base ≡ steps l.base = omega arith in z)
-            ∙ ap (λ ts. inputs 0 l.base ++ ts) (sym (inputs_of-entries (steps l.base) b.front))
+            ∙ ap (λ ts. inputs 0 l.base ++ ts) (sym (inputs_of-entries l.reads (steps l.base) b.front))
             ∙ ap (λ es. inputs 0 l.base ++ inputs_of es) (sym taken)
             ∙ ap (λ ts. ts ++ inputs_of (take k x.held)) (sym a.is_backup.copy)
 
@@ -278,9 +269,8 @@ reads_kept {S} M C laws w i n x still k count drive sector number bytes low got 
             (subst (λ zs. Runs M M.boot zs r.last)
             (one_trace M (x.copy ++ inputs_of (take k x.held)) count moves (l.base ++ b.front) r trace) r.runs) runs
 
-pub reached_keeps_reads : {S : Type 0} → ReachedKeepsReads S
-reached_keeps_reads M C laws copies w r = record {
-  kept = λ n x still k count drive sector number bytes low got read moves t.
-      reads_kept M C laws w (reached M C laws copies w r) n x still k count drive sector number bytes low got read moves
-      t;
+pub reads_are_kept : {S : Type 0} (M : Machine S) (C : Copying S) → Lawful M → (w : World S) → Inv M C w → ReadsKept M w
+reads_are_kept M C laws w i = record {
+  kept = λ n x still k count drive sector number low got moves t.
+      reads_kept M C laws w i n x still k count drive sector number low got moves t;
 }

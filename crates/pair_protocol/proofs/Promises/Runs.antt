@@ -1,21 +1,23 @@
 -- What a world that actions reach promises, and how one event may change it.
 use Rattle.std.proofs.Common.{◌≡◌, List, ap, length, refl, suc}
-use Rattle.pair_protocol.proofs.Words.{After, AtBoot, Changes, Copying, Faithful, IsCopying, Lawful, Machine, Reached, Stays, Then, World, opening, with_host}
+use Rattle.pair_protocol.proofs.Words.{After, AtBoot, Changes, Copying, Faithful, IsCopying, Lawful, Machine, Reached, Reads, Stays, Then, World, opening, with_host}
 use Rattle.pair_protocol.specs.Change.{HostComes}
 use Rattle.pair_protocol.specs.Event.{Event, Reply}
 use Rattle.pair_protocol.specs.Row.{First, Nothing, Run}
 use Rattle.pair_protocol.proofs.Invariant.{Inv, Next}
 use Rattle.pair_protocol.proofs.Keeps.All.{keep}
+use Rattle.pair_protocol.proofs.Keeps.Fetched.{AreFetched, fetched-keeps}
 use Rattle.pair_protocol.proofs.Promises.Faithful.{faithful, reached}
 use Rattle.pair_protocol.proofs.RowActions.{row_changes}
 use Rattle.pair_protocol.proofs.Traces.Lists.{prefix-refl, prefix-trans}
 
 module _ {S : Type 0} (M : Machine S) (C : Copying S) where
-  pub keep_all : Lawful M → IsCopying M C → (w new : World S) (i : Inv M C w) → Changes M C w new → Next M C i.trace new
-  keep_all laws copies w new i Stays = record { inv = i; grows = prefix-refl i.trace }
-  keep_all laws copies w new i (Then {mid = v} c cs) =
-      let a = keep M C laws copies w v i c in
-      let b = keep_all laws copies v new a.inv cs in
+  pub keep_all : Lawful M → IsCopying M C → (w new : World S) (i : Inv M C w) → AreFetched M w → Changes M C w new →
+      Next M C i.trace new
+  keep_all laws copies w new i f Stays = record { inv = i; grows = prefix-refl i.trace }
+  keep_all laws copies w new i f (Then {mid = v} c cs) =
+      let a = keep M C laws copies w v i f c in
+      let b = keep_all laws copies v new a.inv (fetched-keeps M C w v f c) cs in
       record { inv = b.inv; grows = prefix-trans i.trace a.inv.trace b.inv.trace a.grows b.grows }
 
   pub always_faithful : Lawful M → IsCopying M C → (w : World S) → Reached M C w → Faithful M w
@@ -33,9 +35,9 @@ run_from M C old new events replies h (First {mid = v} {e = e} {events = es} {r 
 run_from M C old new events replies h (Run.HostComes rest) =
     run_from M C (with_host M old) new events replies (After h HostComes) rest
 
-pub run_reaches : {S : Type 0} (M : Machine S) (C : Copying S) (events : List Event) (replies : List Reply)
-    (w : World S) → Run M C (opening M) events replies w → Reached M C w
-run_reaches M C events replies w run = run_from M C (opening M) w events replies AtBoot run
+pub run_reaches : {S : Type 0} (M : Machine S) (C : Copying S) (reads : Reads) (events : List Event) (replies : List Reply)
+    (w : World S) → Run M C (opening M reads) events replies w → Reached M C w
+run_reaches M C reads events replies w run = run_from M C (opening M reads) w events replies (AtBoot reads) run
 
 pub run_replies : {S : Type 0} (M : Machine S) (C : Copying S) (old new : World S) (events : List Event)
     (replies : List Reply) → Run M C old events replies new → length replies ≡ length events

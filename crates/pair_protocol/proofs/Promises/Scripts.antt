@@ -3,15 +3,16 @@ use Rattle.std.proofs.Common.{[], ◌++◌, ◌<◌, ◌∷◌, ◌≡◌, List,
 use Rattle.std.specs.Prelude.{slice_get}
 use Rattle.pair_protocol.proofs.Words.{Acknowledgement, Alone, Copying, LogEntry, Machine, Mark, Node, Primary, World, Write, accepted, first_node, opening, with_host, with_node}
 use Rattle.event_callbacks.specs.declared.operations.OpId.TheVariants as id
+use Rattle.guest_board.specs.declared.reads.Reads.TheVariants.{Logged}
+use Rattle.guest_board.specs.declared.replay_end.ReplayEnd.TheVariants.{End, Wait}
 use Rattle.guest_board.specs.declared.running.StopReason.TheVariants as reason
 use Rattle.i8080_words.specs.declared.refusal.Fault.TheVariants.{WrongRole}
-use Rattle.pair_protocol.specs.Effects.{AtEnd, Gives, Goes, NoneLeft, OneMark, OneStep}
+use Rattle.pair_protocol.specs.Effects.{AtEnd, AwaitsBytes, Gives, Goes, NoneLeft, OneMark, OneRead, OneStep}
 use Rattle.pair_protocol.specs.Event.{Accepted, Acknowledge, Arrive, DeliverLog, Drain, Dropped, Event, MessageIs, MovedAlone, New, Ran, Refused, Release, Reply, Send, Step, Stop, Stopped, Suspect, TakeKey, TypeByte, TypedAt, Won}
-use Rattle.pair_protocol.specs.Examples.{TakesOver, WritesDisk, letter, sector_write, small, small_copying}
+use Rattle.pair_protocol.specs.Examples.{SharesReads, TakesOver, WritesDisk, letter, sector_write, small, small_copying}
 use Rattle.pair_protocol.specs.Lawful.{top}
 use Rattle.pair_protocol.specs.Row.{Accepts, First, Nothing, Refuses, Run}
 use Rattle.pair_protocol.specs.Rows.{AtNode, OfNode}
-use Rattle.pair_protocol.specs.Waiting.{is_read}
 
 -- what a row says of one node
 abbrev at_node : {w new : World ℕ} {n : ℕ} {does : Node ℕ → Node ℕ → Type 0} {x : Node ℕ} (y : Node ℕ) →
@@ -34,7 +35,7 @@ run-append M C old mid new events later replies others (Run.HostComes rest) k =
 
 -- the world once the backup has drained
 abbrev stopped : Node ℕ
-stopped = record (first_node small Primary) {
+stopped = record (first_node small Logged Primary) {
   running = false;
   machine = 6;
   log = Mark 6 ∷ [];
@@ -42,7 +43,7 @@ stopped = record (first_node small Primary) {
 }
 
 abbrev live : Node ℕ
-live = record (first_node small Alone) { machine = 6; held = Mark 6 ∷ []; replayed = 1 }
+live = record (first_node small Logged Alone) { machine = 6; held = Mark 6 ∷ []; replayed = 1 }
 
 abbrev drained : World ℕ
 drained = record {
@@ -61,7 +62,7 @@ abbrev first_replies : List Reply
 first_replies = Ran 6 6 (reason.Operation (id.Byte 0 1)) ∷ MessageIs 0 ∷ New ∷ MessageIs 1 ∷ Stopped ∷ Won ∷ TypedAt 0 ∷ Refused
     WrongRole ∷ MovedAlone 7 ∷ []
 
-until_drained : Run small small_copying (opening small) first_events first_replies drained
+until_drained : Run small small_copying (opening small Logged) first_events first_replies drained
 unfolding top
 until_drained =
     First (Accepts refl (record {
@@ -80,7 +81,7 @@ until_drained =
     (First (Refuses refl refl)
     (First (Accepts refl (record {
       made = _;
-      alone = true;
+      why = End;
       at = record {
         x = _;
         there = refl;
@@ -88,11 +89,11 @@ until_drained =
         done = record {
           z = _;
           replayed = record {
-            moves = OneStep _ 1 None refl (omega arith) refl
-                (OneStep _ 2 None refl (omega arith) refl
-                (OneStep _ 3 None refl (omega arith) refl
-                (OneStep _ 4 None refl (omega arith) refl
-                (OneStep _ 5 None refl (omega arith) refl
+            moves = OneStep _ 1 None refl (let l : 0 < 6 = omega arith in l) refl
+                (OneStep _ 2 None refl (let l : 1 < 6 = omega arith in l) refl
+                (OneStep _ 3 None refl (let l : 2 < 6 = omega arith in l) refl
+                (OneStep _ 4 None refl (let l : 3 < 6 = omega arith in l) refl
+                (OneStep _ 5 None refl (let l : 4 < 6 = omega arith in l) refl
                 (OneStep _ 6 (Some letter) refl (let l : 5 < 6 = omega arith in l) refl (OneMark _ refl refl refl (AtEnd refl)))))));
             some = inl (omega arith);
             ends = refl;
@@ -126,13 +127,13 @@ pub takes_over : TakesOver
 takes_over = (
   after_drained.0,
   run-append small small_copying
-      (opening small) drained after_drained.0 first_events last_events first_replies last_replies until_drained
+      (opening small Logged) drained after_drained.0 first_events last_events first_replies last_replies until_drained
       after_drained.1,
   after_drained.2,
 )
 
 pub writes_disk : WritesDisk
-unfolding top is_read
+unfolding top
 writes_disk = (
   _,
   First (Accepts refl (record {
@@ -171,5 +172,78 @@ writes_disk = (
       (First (Accepts refl (record { number = _; message = refl; input = record { at = at_node _ refl (record { s = 5; takes = refl; after = refl }) refl; reply = refl } }))
       (First (Accepts refl (record { address = _; node = of_node refl (record { drive = _; selected = refl; address_is = refl }); reply = refl; after = refl }))
       Nothing))))))))))))),
+  refl,
+)
+
+pub shares_reads : SharesReads
+unfolding top
+shares_reads = (
+  _,
+  First (Accepts refl (record {
+    made = _;
+    count = _;
+    why = _;
+    at = at_node _ refl (record { advances = Goes 1 refl (Goes 2 refl NoneLeft); some = inr (omega arith); counted = refl }) refl;
+    reply = refl;
+  }))
+      (First (Accepts refl (record { address = _; node = of_node refl (record { drive = _; selected = refl; address_is = refl }); reply = refl; after = refl }))
+      (First (Accepts refl (record {
+        address = _;
+        number = _;
+        bytes = _;
+        message = refl;
+        input = record {
+          at = at_node _ refl (record { s = 3; takes = refl; after = refl }) refl;
+          reply = refl;
+        };
+      }))
+      (First (Accepts refl (record {
+        made = _;
+        count = _;
+        why = _;
+        at = at_node _ refl (record { advances = Gives 4 (Write sector_write) refl; some = inr (omega arith); counted = refl }) refl;
+        reply = refl;
+      }))
+      (First (Accepts refl (record { e = _; node = of_node refl refl; says = record { reply = refl; after = refl } }))
+      (First (Accepts refl (record { e = _; node = of_node refl refl; says = record { reply = refl; after = refl } }))
+      (First (Accepts refl (record { generation = _; index = _; e = _; message = refl; next = true; at = at_node _ refl (refl, refl) refl; reply = refl }))
+      (First (Accepts refl (record { generation = _; index = _; e = _; message = refl; next = true; at = at_node _ refl (refl, refl) refl; reply = refl }))
+      (First (Accepts refl (record { held = _; replayed = _; node = of_node refl (refl, refl); says = record { reply = refl; after = refl } }))
+      (First (Accepts refl (record { generation = _; held = _; replayed = _; message = refl; covered = _; at = at_node _ refl (refl, refl) refl; reply = refl }))
+      (First (Refuses refl refl)
+      (First (Accepts refl (record {
+        made = _;
+        why = Wait;
+        at = at_node _ refl (record {
+          moves = OneStep _ 1 None refl (let l : 0 < 2 = omega arith in l) refl
+              (OneStep _ 2 None refl (let l : 1 < 2 = omega arith in l) refl (AwaitsBytes refl));
+          some = inl (omega arith);
+          ends = refl;
+        }) refl;
+        reply = refl;
+      }))
+      (First (Accepts refl (record {
+        address = _;
+        node = of_node refl (record { drive = _; sector = _; number = _; read = refl; address_is = refl });
+        reply = refl;
+        after = refl;
+      }))
+      (First (Accepts refl (record { address = _; number = _; bytes = _; message = refl; at = at_node _ refl refl refl; reply = refl }))
+      (First (Accepts refl (record {
+        made = _;
+        why = End;
+        at = at_node _ refl (record {
+          moves = OneRead _ _ _ _ 3 refl refl refl
+              (OneStep _ 4 (Some (Write sector_write)) refl (let l : 2 < 3 = omega arith in l) refl
+              (OneMark _ refl refl refl (AtEnd refl)));
+          some = inl (omega arith);
+          ends = refl;
+        }) refl;
+        reply = refl;
+      }))
+      (First (Accepts refl (record { held = _; replayed = _; node = of_node refl (refl, refl); says = record { reply = refl; after = refl } }))
+      (First (Accepts refl (record { generation = _; held = _; replayed = _; message = refl; covered = _; at = at_node _ refl (refl, refl) refl; reply = refl }))
+      (First (Accepts refl (record { o = _; node = of_node refl refl; says = record { reply = refl; after = refl } }))
+      Nothing))))))))))))))))),
   refl,
 )

@@ -81,10 +81,10 @@ module _ {S : Type 0} (M : Machine S) (C : Copying S) (l : Line S) (x : Node S) 
   pub held-settles : x.held ≡ l.held → IsBackup M C l x → settled l ≡ l.base ++ cut (length x.held) l.own →
       (x.copy ++ inputs_of x.held ≡ inputs 0 (settled l)) × (last_count x.start x.held ≡ steps (settled l))
   held-settles held b t =
-      let e = entries-held (steps l.base) l.own x.held b.held in (
-        held-list l.base l.own x.copy x.held b.copy b.held ∙ ap (inputs 0) (sym t),
+      let e = entries-held l.reads (steps l.base) l.own x.held b.held in (
+        held-list l.reads l.base l.own x.copy x.held b.copy b.held ∙ ap (inputs 0) (sym t),
         ap (λ c. last_count c x.held) b.start ∙ ap (last_count (steps l.base)) (sym e)
-            ∙ last-cut (length x.held) (steps l.base) l.own (prefix-length x.held (entries (steps l.base) l.own) b.held)
+            ∙ last-cut l.reads (length x.held) (steps l.base) l.own (prefix-length x.held (entries l.reads (steps l.base) l.own) b.held)
             ∙ sym (steps-append l.base (cut (length x.held) l.own)) ∙ ap steps (sym t),
       )
 

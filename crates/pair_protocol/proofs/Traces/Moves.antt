@@ -1,9 +1,9 @@
 -- Moves joined end to end: their counts, inputs, entries, operations and runs.
 use Rattle.std.proofs.Common.{[], ◌++◌, ◌+◌, ◌∙◌, ◌∷◌, ◌≡◌, ◌≤◌, List, None, Option, Some, ap, append-nil, append_assoc, arith, map, refl, subst, suc, sym, ℕ}
-use Rattle.pair_protocol.proofs.Words.{Do, Entry, Input, IsPrefix, Lawful, Machine, Mark, Move, Operation, Owns, Runs, SectorWrite, Take, Timed, acceptances, accepted_at, bare, byte_to, count_of, entries, entry_of, input_of, inputs, inputs_of, key_at, keys, operations, output, steps, timed, timed_in, timed_of}
+use Rattle.pair_protocol.proofs.Words.{Do, Entry, Input, IsPrefix, Lawful, Machine, Mark, Move, Operation, Owns, Runs, SectorWrite, Take, Timed, acceptances, accepted_at, bare, bare_of, byte_to, count_of, entries, entry_of, input_of, inputs, inputs_of, key_at, keys, operations, output, steps, timed, timed_in, timed_of, Reads}
 use Rattle.guest_board.specs.declared.input.Input.TheVariants as input
+use Rattle.guest_board.specs.declared.reads.Reads.TheVariants.{Logged, Shared}
 use Rattle.guest_trace.specs.declared.timed.Bare.TheVariants.{Written}
-use Rattle.log_entry.specs.declared.entry.Entry.TheVariants as entry
 use Rattle.pair_protocol.proofs.Invariant.{ArePut}
 use Rattle.pair_protocol.proofs.Traces.Lists.{among-prefix, map-append, same_some}
 
@@ -12,15 +12,15 @@ steps-append [] ys = omega arith
 steps-append (Do o ∷ xs) ys = let h = steps-append xs ys in omega arith
 steps-append (Take i ∷ xs) ys = steps-append xs ys
 
-pub entries-append : (c : ℕ) (xs ys : List Move) → entries c (xs ++ ys) ≡ entries c xs ++ entries (c + steps xs) ys
-entries-append c [] ys = let e : c ≡ c + 0 = omega arith in ap (λ k. entries k ys) e
-entries-append c (Do None ∷ xs) ys =
+pub entries-append : (reads : Reads) (c : ℕ) (xs ys : List Move) → entries reads c (xs ++ ys) ≡ entries reads c xs ++ entries reads (c + steps xs) ys
+entries-append reads c [] ys = let e : c ≡ c + 0 = omega arith in ap (λ k. entries reads k ys) e
+entries-append reads c (Do None ∷ xs) ys =
     let e : suc c + steps xs ≡ c + suc (steps xs) = omega arith in
-    entries-append (suc c) xs ys ∙ ap (λ k. entries (suc c) xs ++ entries k ys) e
-entries-append c (Do (Some o) ∷ xs) ys =
+    entries-append reads (suc c) xs ys ∙ ap (λ k. entries reads (suc c) xs ++ entries reads k ys) e
+entries-append reads c (Do (Some o) ∷ xs) ys =
     let e : suc c + steps xs ≡ c + suc (steps xs) = omega arith in
-    ap (λ es. Mark (suc c) ∷ es) (entries-append (suc c) xs ys ∙ ap (λ k. entries (suc c) xs ++ entries k ys) e)
-entries-append c (Take i ∷ xs) ys = ap (λ es. entry_of c i ∷ es) (entries-append c xs ys)
+    ap (λ es. Mark (suc c) ∷ es) (entries-append reads (suc c) xs ys ∙ ap (λ k. entries reads (suc c) xs ++ entries reads k ys) e)
+entries-append reads c (Take i ∷ xs) ys = ap (λ es. entry_of reads c i ∷ es) (entries-append reads c xs ys)
 
 pub inputs-append : (c : ℕ) (xs ys : List Move) → inputs c (xs ++ ys) ≡ inputs c xs ++ inputs (c + steps xs) ys
 inputs-append c [] ys = let e : c ≡ c + 0 = omega arith in ap (λ k. inputs k ys) e
@@ -80,35 +80,42 @@ inputs_of-append (e ∷ xs) ys = ap (λ os. timed_in (timed_of e) ++ os) (inputs
     ∙ sym (append_assoc (timed_in (timed_of e)) (inputs_of xs) (inputs_of ys))
 
 -- the timed input in the entry of an input
-pub timed_entry : (c : ℕ) (i : Input) → timed_in (timed_of (entry_of c i)) ≡ timed c i ∷ []
-timed_entry c (input.Rx port byte) = refl
-timed_entry c i = refl
+pub timed_entry : (reads : Reads) (c : ℕ) (i : Input) → timed_in (timed_of (entry_of reads c i)) ≡ timed c i ∷ []
+timed_entry reads c (input.Rx port byte) = refl
+timed_entry reads c (input.Sent port) = refl
+timed_entry Logged c (input.Sector drive sector number bytes) = refl
+timed_entry Shared c (input.Sector drive sector number bytes) = refl
+timed_entry reads c (input.Written number) = refl
 
--- an entry of an input, and its count
-pub input_entry : (c : ℕ) (i : Input) → input_of (entry_of c i) ≡ Some i
-input_entry c (input.Rx port byte) = refl
-input_entry c i = refl
+-- the input that an entry carries is the one that it was made of
+pub input_entry : (reads : Reads) (c : ℕ) (i j : Input) → input_of (entry_of reads c i) ≡ Some j → i ≡ j
+input_entry reads c (input.Rx port byte) j h = (cc)
+input_entry reads c (input.Sent port) j h = (cc)
+input_entry Logged c (input.Sector drive sector number bytes) j h = (cc)
+input_entry Shared c (input.Sector drive sector number bytes) j h = (cc)
+input_entry reads c (input.Written number) j h = (cc)
 
-pub count_entry : (c : ℕ) (i : Input) → count_of (entry_of c i) ≡ c
-count_entry c (input.Rx port byte) = refl
-count_entry c i = refl
+-- it is no mark
+pub unmarked : (reads : Reads) (c : ℕ) (i : Input) → bare_of (entry_of reads c i) ≡ Some (bare i)
+unmarked reads c (input.Rx port byte) = refl
+unmarked reads c (input.Sent port) = refl
+unmarked Logged c (input.Sector drive sector number bytes) = refl
+unmarked Shared c (input.Sector drive sector number bytes) = refl
+unmarked reads c (input.Written number) = refl
 
--- an entry is the one that its input and its count make
-pub entry_is : (e : Entry) (i : Input) → input_of e ≡ Some i → entry_of (count_of e) i ≡ e
-entry_is (Mark c) i h = (cc)
-entry_is (entry.Rx c port byte) i h =
-    ap (entry_of c) (sym (same_some (input.Rx port byte) i (Some (input.Rx port byte)) refl h))
-entry_is (entry.Sent c port) i h = ap (entry_of c) (sym (same_some (input.Sent port) i (Some (input.Sent port)) refl h))
-entry_is (entry.Sector c d s n bytes) i h =
-    ap (entry_of c) (sym (same_some (input.Sector d s n bytes) i (Some (input.Sector d s n bytes)) refl h))
-entry_is (entry.Written c n) i h = ap (entry_of c) (sym (same_some (input.Written n) i (Some (input.Written n)) refl h))
+pub count_entry : (reads : Reads) (c : ℕ) (i : Input) → count_of (entry_of reads c i) ≡ c
+count_entry reads c (input.Rx port byte) = refl
+count_entry reads c (input.Sent port) = refl
+count_entry Logged c (input.Sector drive sector number bytes) = refl
+count_entry Shared c (input.Sector drive sector number bytes) = refl
+count_entry reads c (input.Written number) = refl
 
-pub inputs_of-entries : (c : ℕ) (ms : List Move) → inputs_of (entries c ms) ≡ inputs c ms
-inputs_of-entries c [] = refl
-inputs_of-entries c (Do None ∷ ms) = inputs_of-entries (suc c) ms
-inputs_of-entries c (Do (Some o) ∷ ms) = inputs_of-entries (suc c) ms
-inputs_of-entries c (Take i ∷ ms) = ap (λ ts. timed_in (timed_of (entry_of c i)) ++ ts) (inputs_of-entries c ms)
-    ∙ ap (λ ts. ts ++ inputs c ms) (timed_entry c i)
+pub inputs_of-entries : (reads : Reads) (c : ℕ) (ms : List Move) → inputs_of (entries reads c ms) ≡ inputs c ms
+inputs_of-entries reads c [] = refl
+inputs_of-entries reads c (Do None ∷ ms) = inputs_of-entries reads (suc c) ms
+inputs_of-entries reads c (Do (Some o) ∷ ms) = inputs_of-entries reads (suc c) ms
+inputs_of-entries reads c (Take i ∷ ms) = ap (λ ts. timed_in (timed_of (entry_of reads c i)) ++ ts) (inputs_of-entries reads c ms)
+    ∙ ap (λ ts. ts ++ inputs c ms) (timed_entry reads c i)
 
 module _ {S : Type 0} (M : Machine S) where
   -- runs

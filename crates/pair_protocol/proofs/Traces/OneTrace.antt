@@ -1,7 +1,7 @@
 -- One trace for each list and count: the count says where an input comes, a step gives what it gives, and the bytes of
 -- a sector are those of the machine's own disk. And what the first entries of a trace give.
 use Rattle.std.proofs.Common.{[], ◌++◌, ◌∙◌, ◌∷◌, ◌≡◌, ◌≤◌, List, None, Option, Some, ap, append-nil, arith, length, refl, subst, suc, sym, take, zero, ℕ}
-use Rattle.pair_protocol.proofs.Words.{Do, Input, Machine, Move, Operation, Own, Owns, Reach, Runs, Take, Timed, bare, cut, entries, image, inputs, inputs_of, last_count, quiet, steps, timed}
+use Rattle.pair_protocol.proofs.Words.{Do, Input, Machine, Move, Operation, Own, Owns, Reach, Runs, Take, Timed, bare, cut, entries, image, inputs, inputs_of, last_count, quiet, steps, timed, Reads}
 use Rattle.guest_board.specs.declared.input.Input.TheVariants as input
 use Rattle.pair_protocol.proofs.Traces.Cuts.{cut-prefix, entries-cut, last-cut}
 use Rattle.pair_protocol.proofs.Traces.Lists.{same_some}
@@ -11,7 +11,7 @@ pub one_end : {S : Type 0} (M : Machine S) (s t u : S) (xs : List Move) → Runs
 one_end M s t u xs h k = runs-rest M s t u xs [] h (subst (λ zs. Runs M s zs u) (sym (append-nil xs)) k)
 
 -- what the log carries of an input, and the machine's own disk, determine the input
-own_once : {S : Type 0} (M : Machine S) (before : List Move) (s : S) (i j : Input) → Own M before s i →
+pub own_once : {S : Type 0} (M : Machine S) (before : List Move) (s : S) (i j : Input) → Own M before s i →
     Own M before s j → bare i ≡ bare j → i ≡ j
 own_once M before s (input.Rx p b) (input.Rx q c) h k e = (cc)
 own_once M before s (input.Sent p) (input.Sent q) h k e = (cc)
@@ -72,11 +72,11 @@ module _ {S : Type 0} (M : Machine S) (list : List Timed) (count : ℕ) where
 
   -- the first entries
 
-  pub first_entries : (n : ℕ) (moves : List Move) → Reach M list count moves → n ≤ length (entries 0 moves) →
-      (entries 0 (cut n moves) ≡ take n (entries 0 moves)) × Reach M (inputs_of (take n (entries 0 moves)))
-      (last_count 0 (take n (entries 0 moves))) (cut n moves)
-  first_entries n moves r h =
-      let e = entries-cut n 0 moves in
+  pub first_entries : (reads : Reads) (n : ℕ) (moves : List Move) → Reach M list count moves → n ≤ length (entries reads 0 moves) →
+      (entries reads 0 (cut n moves) ≡ take n (entries reads 0 moves)) × Reach M (inputs_of (take n (entries reads 0 moves)))
+      (last_count 0 (take n (entries reads 0 moves))) (cut n moves)
+  first_entries reads n moves r h =
+      let e = entries-cut reads n 0 moves in
       let p = cut-prefix n moves in
       let u = runs-prefix M M.boot r.last (cut n moves) moves p r.runs in (
         e,
@@ -84,19 +84,19 @@ module _ {S : Type 0} (M : Machine S) (list : List Timed) (count : ℕ) where
           last = u.0;
           runs = u.1;
           owns = owns-prefix M M.boot (cut n moves) moves p r.owns;
-          list_is = sym (inputs_of-entries 0 (cut n moves)) ∙ ap inputs_of e;
-          count_is = (let k = last-cut n 0 moves h in let l = ap (last_count 0) e in omega arith);
+          list_is = sym (inputs_of-entries reads 0 (cut n moves)) ∙ ap inputs_of e;
+          count_is = (let k = last-cut reads n 0 moves h in let l = ap (last_count 0) e in omega arith);
         },
       )
 
 -- quiet steps
 
-pub quiet_moves : (count : ℕ) (moves : List Move) → entries count moves ≡ [] → moves ≡ quiet (steps moves)
-quiet_moves count [] h = refl
-quiet_moves count (Do None ∷ moves) h = ap (λ ms. Do None ∷ ms) (quiet_moves (suc count) moves h)
-quiet_moves count (Do (Some o) ∷ moves) h = (cc)
-quiet_moves count (Take i ∷ moves) h = (cc)
+pub quiet_moves : (reads : Reads) (count : ℕ) (moves : List Move) → entries reads count moves ≡ [] → moves ≡ quiet (steps moves)
+quiet_moves reads count [] h = refl
+quiet_moves reads count (Do None ∷ moves) h = ap (λ ms. Do None ∷ ms) (quiet_moves reads (suc count) moves h)
+quiet_moves reads count (Do (Some o) ∷ moves) h = (cc)
+quiet_moves reads count (Take i ∷ moves) h = (cc)
 
-pub quiet_entries : (count k : ℕ) → (entries count (quiet k) ≡ []) × (steps (quiet k) ≡ k)
-quiet_entries count zero = (refl, refl)
-quiet_entries count (suc k) = let r = quiet_entries (suc count) k in (r.0, ap suc r.1)
+pub quiet_entries : (reads : Reads) (count k : ℕ) → (entries reads count (quiet k) ≡ []) × (steps (quiet k) ≡ k)
+quiet_entries reads count zero = (refl, refl)
+quiet_entries reads count (suc k) = let r = quiet_entries reads (suc count) k in (r.0, ap suc r.1)

@@ -3,7 +3,7 @@ use super::folds::{Fold, Random};
 use crate::executor::{Stores, effect};
 use crate::step::run;
 use crate::wires::Wires;
-use guest_board::Setup;
+use guest_board::{Reads, Setup};
 use i8080_words::{
     AddressRegister, Fault, Interrupts, Op, Processor, R, Regs, decode, length, of_psw, psw,
 };
@@ -291,6 +291,7 @@ fn random_wires(alloc: Global) -> R<Wires> {
         drives: 1,
         levels: [7, 7, 7],
         sense: 0x00,
+        reads: Reads::Logged,
     };
     Wires::new(alloc, &setup)
 }

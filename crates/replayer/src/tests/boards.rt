@@ -1,5 +1,5 @@
 //! A board repeats what another one recorded, where the closures of both are of different types.
-ghost use Rattle.std.specs.Prelude.{◌≡◌, [], IsTrue, List, OnOk, Some};
+ghost use Rattle.std.specs.Prelude.{◌≡◌, [], IsTrue, List, None, OnOk, Some};
 ghost use Rattle.event_callbacks.specs.Completions.{is_due, done_of};
 ghost use Rattle.event_callbacks.specs.Keeping.{Keeps, kind_of};
 ghost use Rattle.event_callbacks.specs.declared.devices.TheConstants.{SECTOR, SENT, WRITTEN};
@@ -7,6 +7,7 @@ ghost use Rattle.guest_board.specs.Guest.{guest_at_boot};
 ghost use Rattle.guest_board.specs.Inputs.{some_altair};
 ghost use Rattle.guest_board.specs.Lockstep.{HasRoom, IsInput};
 ghost use Rattle.guest_board.specs.Machine.{Move};
+ghost use Rattle.guest_board.specs.declared.reads.Reads.TheVariants.{Logged};
 ghost use Rattle.log_channel.specs.Laws.{HoldsFirst};
 ghost use Rattle.log_channel.specs.Packet.{packet_at};
 ghost use Rattle.log_entry.specs.Standing.{IsOnTrace};
@@ -16,7 +17,7 @@ use super::came;
 use crate::Replayer;
 use disk_dcdd::{SECTOR_BYTES, SectorAddress};
 use event_callbacks::{Callbacks, Completes, Devices, Done, OpId, Operation, plain_completions};
-use guest_board::{Board, Input, Lockstep, Setup, StopReason, Stopped};
+use guest_board::{Board, Input, Lockstep, Reads, ReplayEnd, Setup, StopReason, Stopped};
 use guest_memory::BYTES;
 use i8080_words::{Fault, R};
 use log_buffer::LogBuffer;
@@ -54,7 +55,7 @@ const FIRST_READ: Input = Input::Sector {
 };
 
 // A guest with one drive, and this program at address 0.
-fn setup(alloc: Global, program: &[u8]) -> R<Setup> {
+pub(super) fn setup(alloc: Global, program: &[u8]) -> R<Setup> {
     let mut memory = Vec::from_slice(alloc, program)?;
     memory.resize(BYTES, 0x00)?;
     if memory.len() != BYTES {
@@ -65,6 +66,7 @@ fn setup(alloc: Global, program: &[u8]) -> R<Setup> {
         drives: 1,
         levels: [7; 3],
         sense: 0xff,
+        reads: Reads::Logged,
     })
 }
 
@@ -76,8 +78,10 @@ fn advance<B: Lockstep>(
     steps: u64,
     reason: StopReason,
 )
-    ensures { (moves : List Move) × Records B.machine (B.state recorder.old.board) recorder.old.log moves
-        (B.state recorder.new.board) recorder.new.log }
+    requires { recorder.old.reads ≡ Logged }
+    ensures reads { recorder.new.reads ≡ Logged }
+    ensures records { (moves : List Move) × Records B.machine Logged (B.state recorder.old.board) recorder.old.log
+        moves (B.state recorder.new.board) recorder.new.log }
 {
     match recorder.advance(turns) {
         Ok(advanced) => assert_eq!(rt; advanced, Stopped { steps, reason }),
@@ -87,9 +91,11 @@ fn advance<B: Lockstep>(
 
 // The recorder takes an input, and logs it under this index.
 fn offer<B: Lockstep>(rt: &impl Abort, recorder: &mut Recorder<B>, input: Input, index: u64)
-    requires { IsInput input }
-    ensures { (moves : List Move) × Records B.machine (B.state recorder.old.board) recorder.old.log moves
-        (B.state recorder.new.board) recorder.new.log }
+    requires input { IsInput input }
+    requires reads { recorder.old.reads ≡ Logged }
+    ensures reads { recorder.new.reads ≡ Logged }
+    ensures records { (moves : List Move) × Records B.machine Logged (B.state recorder.old.board) recorder.old.log
+        moves (B.state recorder.new.board) recorder.new.log }
 {
     assert!(rt; has_room(recorder.board(), &input));
     match recorder.offer(input) {
@@ -111,8 +117,10 @@ fn has_room<B: Lockstep>(board: &B, input: &Input) -> bool
 
 // Two keys are sent back, and the byte of the first is accepted.
 fn echo_keys<B: Lockstep>(rt: &impl Abort, recorder: &mut Recorder<B>)
-    ensures { (moves : List Move) × Records B.machine (B.state recorder.old.board) recorder.old.log moves
-        (B.state recorder.new.board) recorder.new.log }
+    requires { recorder.old.reads ≡ Logged }
+    ensures reads { recorder.new.reads ≡ Logged }
+    ensures records { (moves : List Move) × Records B.machine Logged (B.state recorder.old.board) recorder.old.log
+        moves (B.state recorder.new.board) recorder.new.log }
 {
     advance(rt, recorder, 7, 7, StopReason::Turns);
     offer(rt, recorder, Input::Rx(0, 0x48), 0);
@@ -125,8 +133,10 @@ fn echo_keys<B: Lockstep>(rt: &impl Abort, recorder: &mut Recorder<B>)
 
 // A sector comes under the head, and is written.
 fn write_sector<B: Lockstep>(rt: &impl Abort, recorder: &mut Recorder<B>)
-    ensures { (moves : List Move) × Records B.machine (B.state recorder.old.board) recorder.old.log moves
-        (B.state recorder.new.board) recorder.new.log }
+    requires { recorder.old.reads ≡ Logged }
+    ensures reads { recorder.new.reads ≡ Logged }
+    ensures records { (moves : List Move) × Records B.machine Logged (B.state recorder.old.board) recorder.old.log
+        moves (B.state recorder.new.board) recorder.new.log }
 {
     advance(rt, recorder, 10, 10, StopReason::Turns);
     offer(rt, recorder, FIRST_READ, 5);
@@ -199,13 +209,13 @@ fn record_on<T: Completes + Drop, S: Completes + Drop, W: Completes + Drop>(
     callbacks: Callbacks<T, S, W>,
 ) -> R<Board<T, S, W>>
     requires { receiver.old ≡ record { generation = 1; held = 0; entries = [] } }
-    ensures { OnOk result (IsOnTrace some_altair (guest_at_boot setup.now) receiver.new.entries) }
+    ensures { OnOk result (IsOnTrace some_altair (guest_at_boot setup.now) receiver.new.entries None) }
 {
     let board = match Board::boot(rt.alloc(), setup, callbacks) {
         Ok(board) => board,
         Err((_, fault)) => return Err(fault),
     };
-    let mut recorder = Recorder::new(board, LogBuffer::new(rt.alloc(), 0)?);
+    let mut recorder = Recorder::new(board, LogBuffer::new(rt.alloc(), 0)?, Reads::Logged);
     echo_keys(rt, &mut recorder);
     write_sector(rt, &mut recorder);
     deliver_all(rt, recorder.log(), receiver)?;
@@ -220,16 +230,16 @@ fn replay_on<T: Completes + Drop, S: Completes + Drop, W: Completes + Drop>(
     receiver: &mut Receiver,
     callbacks: Callbacks<T, S, W>,
 ) -> R<Board<T, S, W>>
-    requires { IsOnTrace some_altair (guest_at_boot setup.now) receiver.old.entries }
+    requires { IsOnTrace some_altair (guest_at_boot setup.now) receiver.old.entries None }
 {
     let board = match Board::boot(rt.alloc(), setup, callbacks) {
         Ok(board) => board,
         Err((_, fault)) => return Err(fault),
     };
     let mut replayer = Replayer::new(board);
-    assert_eq!(rt; replayer.replay(receiver, 18), came(18, false));
+    assert_eq!(rt; replayer.replay(receiver, 18), came(18, ReplayEnd::Turns));
     assert_eq!(rt; replayer.board().count(), 15);
-    assert_eq!(rt; replayer.replay(receiver, 9999), came(985, true));
+    assert_eq!(rt; replayer.replay(receiver, 9999), came(985, ReplayEnd::End));
     Ok(replayer.into_board())
 }
 

@@ -12,7 +12,7 @@ use crate::worlds::rows::{Altairs, Sent, boot, happen, sent_in};
 use clone_state::Copies;
 use event_callbacks::{Callbacks, Completes, OpId, plain_completions};
 use ft_world::{NodeStatus, World};
-use guest_board::StopReason;
+use guest_board::{Reads, StopReason};
 use i8080_words::{Fault, R};
 use pair_events::{Reply, Role};
 use shared_disk::SectorStore;
@@ -434,7 +434,7 @@ fn run<T: Completes + Drop + Copy, S: Completes + Drop + Copy, W: Completes + Dr
         Row::Drafted => WRITES_A_BYTE.as_slice(),
         _ => FIRST_BYTE.as_slice(),
     };
-    let mut world = boot(alloc, program, sent, sector, written)?;
+    let mut world = boot(alloc, program, Reads::Logged, sent, sector, written)?;
     bring_hosts(&mut world, sent, sector, written)?;
     match row {
         Row::Copied => copied(rt, alloc, &mut world),

@@ -11,19 +11,20 @@ use guest_trace::{Bare, Timed};
 use i8080_words::{Fault, R};
 use pair_events::{Reply, Role};
 
-const FIRST: OpId = OpId::Write(1);
+pub(crate) const FIRST: OpId = OpId::Write(1);
 
 const SECOND: OpId = OpId::Write(2);
 
 // B is 137; drive 0 is selected and its head loaded (OUT 08, OUT 09); at 0009 it waits for a sector, then begins to
 // write it (80 to OUT 09); at 0013 it waits until the sector takes a byte, and gives E5 to OUT 0A, B times; HLT.
-const DISK_WRITE: [u8; 34] = [
+pub(crate) const DISK_WRITE: [u8; 34] = [
     0x06, 0x89, 0xaf, 0xd3, 0x08, 0x3e, 0x04, 0xd3, 0x09, 0xdb, 0x09, 0x0f, 0xda, 0x09, 0x00, 0x3e,
     0x80, 0xd3, 0x09, 0xdb, 0x08, 0x0f, 0xda, 0x13, 0x00, 0x3e, 0xe5, 0xd3, 0x0a, 0x05, 0xc2, 0x13,
     0x00, 0x76,
 ];
 
-fn disk_write() -> [Line; 13] {
+// A sector comes, and is written; the backup holds both entries.
+pub(crate) fn held() -> [Line; 10] {
     [
         (step(0, 10), ran(10, 10, StopReason::Turns)),
         (get(0, 0), message(0)),
@@ -35,13 +36,18 @@ fn disk_write() -> [Line; 13] {
         (log(2, 1), Ok(Reply::New)),
         (ack(1), message(3)),
         (acked(3, 0), Ok(Reply::Held { held: 2 })),
+    ]
+}
+
+fn written() -> [Line; 3] {
+    [
         (release(0, FIRST), message(4)),
         (put(4), message(5)),
         (done(5, 0), Ok(Reply::Taken)),
     ]
 }
 
-const ONE_SECTOR: [Timed; 1] = [Timed {
+pub(crate) const ONE_SECTOR: [Timed; 1] = [Timed {
     count: 10,
     input: Bare::Sector(0, 0),
 }];
@@ -63,9 +69,9 @@ fn after_disk_write() -> End<'static> {
 
 #[test]
 fn a_sector_is_written(rt: HostRuntime) -> R<()> {
-    let lines = disk_write();
+    let (held, written) = (held(), written());
     let end = after_disk_write();
-    check(&rt, &DISK_WRITE, &[&lines], &end)?;
+    check(&rt, &DISK_WRITE, &[&held, &written], &end)?;
     // The write may be put again, and is answered again; it is completed once. The sector had no write before.
     let again = [
         (put(4), message(6)),
@@ -77,7 +83,7 @@ fn a_sector_is_written(rt: HostRuntime) -> R<()> {
         content: Sent::Sector(sector(0, 0, 0x00)),
         ..end
     };
-    check(&rt, &DISK_WRITE, &[&lines, &again], &read)
+    check(&rt, &DISK_WRITE, &[&held, &written, &again], &read)
 }
 
 // C is 1, and then that program from 0002 on, which gives C instead of E5; instead of HLT it has INR C and JMP 0002.

@@ -1,7 +1,7 @@
 //! The lines of a table: events and answers in the words of a script.
 
 use event_callbacks::OpId;
-use guest_board::StopReason;
+use guest_board::{ReplayEnd, StopReason};
 use i8080_words::R;
 use pair_events::{Event, Reply};
 
@@ -72,6 +72,14 @@ pub(crate) fn under(message: u64, node: u64) -> Event {
     Event::GetReply { message, node }
 }
 
+pub(crate) fn fetch(node: u64) -> Event {
+    Event::Fetch { node }
+}
+
+pub(crate) fn fetched(message: u64, node: u64) -> Event {
+    Event::Fetched { message, node }
+}
+
 pub(crate) fn suspect(node: u64) -> Event {
     Event::Suspect { node }
 }
@@ -115,7 +123,7 @@ pub(crate) fn message(number: u64) -> R<Reply> {
     Ok(Reply::Message { message: number })
 }
 
-/// This many moves were made; `at_end` if no entry is left.
-pub(crate) fn moved(moves: u64, at_end: bool) -> R<Reply> {
-    Ok(Reply::Moved { moves, at_end })
+/// This many moves were made, and why no more.
+pub(crate) fn moved(moves: u64, why: ReplayEnd) -> R<Reply> {
+    Ok(Reply::Moved { moves, why })
 }

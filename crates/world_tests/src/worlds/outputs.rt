@@ -8,7 +8,7 @@ use crate::worlds::lines::{
 };
 use crate::worlds::rows::{End, Sent, boot, check, node, sector, stands};
 use event_callbacks::{Completes, OpId, plain_completions};
-use guest_board::StopReason;
+use guest_board::{Reads, StopReason};
 use i8080_words::{Fault, R};
 use pair_events::{Reply, Role};
 use std::alloc::Global;
@@ -144,7 +144,7 @@ fn run_at_once<T: Completes + Drop + Copy, S: Completes + Drop + Copy, W: Comple
         events.push(*event)?;
         wanted.push(*answer)?;
     }
-    let mut world = boot(alloc, program, sent, sector, written)?;
+    let mut world = boot(alloc, program, Reads::Logged, sent, sector, written)?;
     let answers = world.run(alloc, &events)?;
     for answer in &answers {
         if *answer == Err(Fault::OutOfMemory) {

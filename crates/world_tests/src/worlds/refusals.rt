@@ -10,6 +10,7 @@ use crate::worlds::lines::{
 use crate::worlds::outputs::{FIRST_BYTE, after_first_byte, first_byte};
 use crate::worlds::rows::{End, Sent, boot, check, happen, node, sector};
 use event_callbacks::{Callbacks, Completes, OpId, plain_completions};
+use guest_board::{Reads, ReplayEnd};
 use i8080_words::{Fault, R};
 use pair_events::{Reply, Role};
 use std::alloc::Global;
@@ -101,7 +102,7 @@ fn refusals_change_nothing(rt: HostRuntime) -> R<()> {
         (key(0, 0, 0), UNKNOWN),
         (step(7, 1), UNKNOWN),
         (replay(0, 1), Err(Fault::WrongRole)),
-        (replay(1, 5), moved(0, true)),
+        (replay(1, 5), moved(0, ReplayEnd::End)),
     ];
     check(&rt, &[], &[&nothing_there], &at_first())?;
     let end = End {
@@ -129,7 +130,7 @@ fn spare_hosts<T: Completes + Drop + Copy, S: Completes + Drop + Copy, W: Comple
     requires sector { Keeps (S.may sector) (S.gives sector) SECTOR }
     requires written { Keeps (W.may written) (W.gives written) WRITTEN }
 {
-    let mut world = boot(alloc, &[], sent, sector, written)?;
+    let mut world = boot(alloc, &[], Reads::Logged, sent, sector, written)?;
     for number in 2..5 {
         let came = match world.host(Callbacks::of(sent, sector, written)) {
             Err((resources, Fault::OutOfMemory)) => world.host(resources),

@@ -10,7 +10,7 @@ use clone_state::{Copies, DraftedBoard};
 use disk_dcdd::{SECTOR_BYTES, SectorAddress, SectorWrite};
 use event_callbacks::{Callbacks, Completes, plain_completions};
 use ft_world::{Message, NodeStatus, World};
-use guest_board::Setup;
+use guest_board::{Reads, Setup};
 use guest_trace::Timed;
 use i8080_words::{Fault, R};
 use pair_events::Role;
@@ -92,10 +92,11 @@ fn memory(alloc: Global, program: &[u8]) -> R<Vec<u8>>
 /// A pair of Altairs in memory.
 pub(crate) type Altairs<T, S, W> = World<DraftedBoard<T, S, W>, MemoryStore, Callbacks<T, S, W>>;
 
-// A pair boots with this program and one drive.
+// A pair boots with this program and one drive, and its log carries sectors so.
 fn boot_once<T: Completes + Drop, S: Completes + Drop, W: Completes + Drop>(
     alloc: Global,
     program: &[u8],
+    reads: Reads,
     primary: Callbacks<T, S, W>,
     backup: Callbacks<T, S, W>,
 ) -> R<Altairs<T, S, W>> {
@@ -104,6 +105,7 @@ fn boot_once<T: Completes + Drop, S: Completes + Drop, W: Completes + Drop>(
         drives: 1,
         levels: [7; 3],
         sense: 0x00,
+        reads,
     };
     let store = MemoryStore::new(alloc, 1)?;
     new_stores_are_unwritten();
@@ -118,18 +120,25 @@ pub(crate) fn boot<
     T: Completes + Drop + Copy,
     S: Completes + Drop + Copy,
     W: Completes + Drop + Copy,
->(alloc: Global, program: &[u8], sent: T, sector: S, written: W) -> R<Altairs<T, S, W>>
+>(
+    alloc: Global,
+    program: &[u8],
+    reads: Reads,
+    sent: T,
+    sector: S,
+    written: W,
+) -> R<Altairs<T, S, W>>
     requires sent { Keeps (T.may sent) (T.gives sent) SENT }
     requires sector { Keeps (S.may sector) (S.gives sector) SECTOR }
     requires written { Keeps (W.may written) (W.gives written) WRITTEN }
 {
     let primary = Callbacks::of(sent, sector, written);
     let backup = Callbacks::of(sent, sector, written);
-    match boot_once(alloc, program, primary, backup) {
+    match boot_once(alloc, program, reads, primary, backup) {
         Err(Fault::OutOfMemory) => {
             let primary = Callbacks::of(sent, sector, written);
             let backup = Callbacks::of(sent, sector, written);
-            boot_once(alloc, program, primary, backup)
+            boot_once(alloc, program, reads, primary, backup)
         }
         booted => booted,
     }
@@ -215,6 +224,7 @@ pub(crate) fn stands<B: Copies<H> + Drop, D: SectorStore, H: Drop>(
 fn run<T: Completes + Drop + Copy, S: Completes + Drop + Copy, W: Completes + Drop + Copy>(
     rt: &(impl Abort + AllocGlobal),
     program: &[u8],
+    reads: Reads,
     events: &[&[Line]],
     end: &End,
     sent: T,
@@ -225,7 +235,7 @@ fn run<T: Completes + Drop + Copy, S: Completes + Drop + Copy, W: Completes + Dr
     requires sector { Keeps (S.may sector) (S.gives sector) SECTOR }
     requires written { Keeps (W.may written) (W.gives written) WRITTEN }
 {
-    let mut world = boot(rt.alloc(), program, sent, sector, written)?;
+    let mut world = boot(rt.alloc(), program, reads, sent, sector, written)?;
     for part in events {
         happen(rt, rt.alloc(), &mut world, part);
     }
@@ -240,9 +250,21 @@ pub(crate) fn check(
     events: &[&[Line]],
     end: &End,
 ) -> R<()> {
+    check_with(rt, program, Reads::Logged, events, end)
+}
+
+/// Runs the row, with the plain completions and a log that carries sectors so.
+pub(crate) fn check_with(
+    rt: &(impl Abort + AllocGlobal),
+    program: &[u8],
+    reads: Reads,
+    events: &[&[Line]],
+    end: &End,
+) -> R<()> {
     run(
         rt,
         program,
+        reads,
         events,
         end,
         plain_completions::sent,

@@ -6,7 +6,7 @@ use crate::worlds::lines::{
 };
 use crate::worlds::outputs::{FIRST, FIRST_BYTE, after_first_byte};
 use crate::worlds::rows::{End, Sent, check, node, sector};
-use guest_board::StopReason;
+use guest_board::{ReplayEnd, StopReason};
 use guest_trace::{Bare, Timed};
 use i8080_words::{Fault, R};
 use pair_events::{Reply, Role};
@@ -44,7 +44,7 @@ fn a_backup_drains_before_it_goes_on(rt: HostRuntime) -> R<()> {
     check(&rt, &FIRST_BYTE, &[&stops, &all], &alone)?;
     // Three steps are not all: what it holds is settled, but it may not release anything yet.
     let part = [
-        (drain(1, 3), moved(3, false)),
+        (drain(1, 3), moved(3, ReplayEnd::Turns)),
         (release(1, FIRST), Err(Fault::WrongRole)),
         (suspect(1), Ok(Reply::Won)),
     ];
@@ -83,7 +83,7 @@ fn key_is_held() -> [Line; 9] {
         (ack(1), message(1)),
         (acked(1, 0), Ok(Reply::Held { held: 1 })),
         (told(0, 0), Ok(Reply::Told { keys: 1 })),
-        (replay(1, 10), moved(6, true)),
+        (replay(1, 10), moved(6, ReplayEnd::End)),
         (type_byte(0, 0x42), Ok(Reply::Typed { index: 1 })),
     ]
 }

@@ -8,4 +8,4 @@ pub returns : goal.returns
 returns c setup sectors is events replies w run =
     let copies = c.the_image_copies.ensures setup sectors is in
     joining_is_given (altair setup sectors) (image_copy setup.drives) (c.altairs_are_lawful.ensures setup sectors) copies.0
-    copies.1 w (run_reaches (altair setup sectors) (image_copy setup.drives) events replies w run)
+    copies.1 w (run_reaches (altair setup sectors) (image_copy setup.drives) setup.reads events replies w run)

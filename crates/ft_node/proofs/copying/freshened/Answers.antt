@@ -4,5 +4,5 @@ use Rattle.ft_node.proofs.copying.freshened.Goals as goal
 
 pub returns-clause-answer : goal.returns-clause-answer
 returns-clause-answer g c = λ x a.
-    freshens (g.B.Lockstep.state c.args.alone.now.board) (g.B.Lockstep.state c.freshen.new.self) c.args.alone.now.generation x
+    freshens c.args.alone.now.reads (g.B.Lockstep.state c.args.alone.now.board) (g.B.Lockstep.state c.freshen.new.self) c.args.alone.now.generation x
     c.freshen.result c.freshen.ensures.state c.freshen.ensures.full a

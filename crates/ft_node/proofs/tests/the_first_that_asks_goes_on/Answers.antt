@@ -1,5 +1,6 @@
 -- A node that holds nothing may replay.
 use Rattle.std.proofs.Common.{refl}
+use Rattle.guest_board.specs.declared.reads.Reads.TheVariants.{Logged}
 use Rattle.pair_protocol.specs.Copying.{no_copies}
 use Rattle.pair_protocol.specs.Node.{Backup}
 use Rattle.ft_node.proofs.EmptyNodes.{begun, begins, may_replay}
@@ -10,7 +11,7 @@ replay-requires g c = record {
   on_trace =
       let M = g.B.Lockstep.machine in
       let s = g.B.Lockstep.state c.args.second in
-      let x = begun Backup 1 s in
-      may_replay g.B.Lockstep.state M c.backup-backup.result x refl
-      (c.backup-backup.ensures no_copies 1 x (begins M Backup 1 s));
+      let x = begun Backup 1 Logged s in
+      may_replay g.B.Lockstep.state M c.backup-backup.result x refl refl
+      (c.backup-backup.ensures no_copies 1 x (begins M Backup 1 Logged s));
 }

@@ -10,4 +10,4 @@ pub returns-clause-reach : goal.returns-clause-reach
 returns-clause-reach g c M C w new reached changes = changes_reach M C w new reached changes
 
 pub returns-clause-runs : goal.returns-clause-runs
-returns-clause-runs g c M C events replies w run = run_reaches M C events replies w run
+returns-clause-runs g c M C reads events replies w run = run_reaches M C reads events replies w run

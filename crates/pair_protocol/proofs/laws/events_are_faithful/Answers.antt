@@ -4,6 +4,6 @@ use Rattle.pair_protocol.proofs.laws.events_are_faithful.Goals as goal
 
 pub returns : goal.returns
 returns g c = record {
-  faithful = λ M C laws copies events replies w run.
-      always_faithful M C laws copies w (run_reaches M C events replies w run);
+  faithful = λ M C laws copies reads events replies w run.
+      always_faithful M C laws copies w (run_reaches M C reads events replies w run);
 }

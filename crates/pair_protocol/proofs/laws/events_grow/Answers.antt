@@ -7,5 +7,5 @@ pub returns-clause-reached : goal.returns-clause-reached
 returns-clause-reached g c M C laws copies w new e r reached row = row_grows M C laws copies w new e r reached row
 
 pub returns-clause-grows : goal.returns-clause-grows
-returns-clause-grows g c M C laws copies events replies w new e r run row =
-    row_grows M C laws copies w new e r (run_reaches M C events replies w run) row
+returns-clause-grows g c M C laws copies reads events replies w new e r run row =
+    row_grows M C laws copies w new e r (run_reaches M C reads events replies w run) row

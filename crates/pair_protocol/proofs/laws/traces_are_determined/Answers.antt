@@ -9,7 +9,8 @@ pub returns-clause-one_end : goal.returns-clause-one_end
 returns-clause-one_end g c = one_end
 
 pub returns-clause-first_entries : goal.returns-clause-first_entries
-returns-clause-first_entries g c = first_entries
+returns-clause-first_entries g c =
+    λ M reads list count n moves reach few. first_entries M list count reads n moves reach few
 
 pub returns-clause-quiet : goal.returns-clause-quiet
 returns-clause-quiet g c = quiet_moves

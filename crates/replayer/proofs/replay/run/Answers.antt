@@ -1,8 +1,10 @@
 -- What holds at each exit from a replay, by the lemmas of `Runs`.
-use Rattle.std.proofs.Common.{◌-◌, refl, ap, ◌∙◌, arith}
+use Rattle.std.proofs.Common.{◌-◌, refl, sym, ap, ◌∙◌, arith}
+use Rattle.std.specs.Option.{unwrap_or}
+use Rattle.guest_board.specs.declared.replay_end.ReplayEnd.TheVariants.{Turns}
 use Rattle.log_channel.specs.Channel.{Receiving}
 use Rattle.replayer.specs.Replaying.{Begin}
-use Rattle.replayer.proofs.Runs.{goes_on, at_end, refused, stopped, all_turns}
+use Rattle.replayer.proofs.Runs.{goes_on, at_stop, refused, stopped, all_turns}
 use Rattle.replayer.proofs.replay.run.Goals as goal
 
 pub loop-moves-init : goal.loop-moves-init
@@ -11,15 +13,16 @@ loop-moves-init g c = record {
   on_trace = c.requires.on_trace;
   within = omega arith;
   held = refl;
-  unchanged = λ none. (refl, refl);
+  unchanged = λ none. (refl, refl, refl);
 }
 
 pub loop-moves-preserved : goal.loop-moves-preserved
 loop-moves-preserved g c = record {
   replays =
       goes_on g.B.Lockstep.machine (g.B.Lockstep.state c.args.board.now) (g.B.Lockstep.state c.loop-moves.board)
-      c.args.receiver.now.entries c.loop-moves.receiver.entries c.loop-moves.moves
-      (g.B.Lockstep.state c.stretch.new.board) c.stretch.new.receiver.entries c.in-Ok.made
+      c.args.receiver.now.entries c.loop-moves.receiver.entries c.args.fetched.now c.loop-moves.fetched
+      c.loop-moves.moves
+      (g.B.Lockstep.state c.stretch.new.board) c.stretch.new.receiver.entries c.stretch.new.fetched c.in-Ok.made
       c.loop-moves.invariant.replays c.in-Ok.ensures.answers.2;
   on_trace = c.stretch.ensures.on_trace;
   within = let made = c.in-Ok.ensures.answers.1 in let within = c.loop-moves.invariant.within in omega arith;
@@ -29,37 +32,40 @@ loop-moves-preserved g c = record {
   unchanged = λ none. absurd (let made = c.in-Ok.ensures.answers.0 in omega arith);
 }
 
-pub returns-then-is_empty-clause-answers : goal.returns-then-is_empty-clause-answers
-returns-then-is_empty-clause-answers g c =
-    at_end g.B.Lockstep.machine (g.B.Lockstep.state c.args.board.now) (g.B.Lockstep.state c.loop-moves.board)
-    c.args.receiver.now.entries c.loop-moves.receiver.entries c.args.turns c.loop-moves.moves c.loop-moves-test.true
-    c.loop-moves.invariant.replays (c.is_empty.ensures.0 c.if-is_empty.true)
+pub returns-in-Some-clause-answers : goal.returns-in-Some-clause-answers
+returns-in-Some-clause-answers g c =
+    at_stop g.B.Lockstep.machine (g.B.Lockstep.state c.args.board.now) (g.B.Lockstep.state c.loop-moves.board)
+    c.args.receiver.now.entries c.loop-moves.receiver.entries c.args.fetched.now c.loop-moves.fetched c.args.turns
+    c.loop-moves.moves c.in-Some.why c.loop-moves-test.true c.loop-moves.invariant.replays (sym c.in-Some.ensures)
 
 pub returns-in-Err-clause-answers : goal.returns-in-Err-clause-answers
 returns-in-Err-clause-answers g c =
     refused g.B.Lockstep.machine (g.B.Lockstep.state c.args.board.now) (g.B.Lockstep.state c.loop-moves.board)
     (g.B.Lockstep.state c.stretch.new.board) c.args.receiver.now.entries c.loop-moves.receiver.entries
-    c.stretch.new.receiver.entries c.args.turns (c.args.turns - c.loop-moves.moves) c.loop-moves.moves c.in-Err.fault
-    c.loop-moves-test.true c.if-moves-eq0.true c.loop-moves.invariant.replays c.in-Err.ensures.answers
+    c.stretch.new.receiver.entries c.args.fetched.now c.loop-moves.fetched c.stretch.new.fetched c.args.turns
+    (c.args.turns - c.loop-moves.moves) c.loop-moves.moves c.in-Err.fault c.loop-moves-test.true c.if-moves-eq0.true
+    c.loop-moves.invariant.replays c.in-Err.ensures.answers
 
 pub returns-in-Err-clause-unchanged : goal.returns-in-Err-clause-unchanged
 returns-in-Err-clause-unchanged g c =
     let here = c.in-Err.ensures.unchanged in
     let before = c.loop-moves.invariant.unchanged c.if-moves-eq0.true in
-    (here.0 ∙ before.0, here.1 ∙ before.1)
+    (here.0 ∙ before.0, here.1 ∙ before.1, here.2 ∙ before.2)
 
 pub returns-in-Err-2-clause-answers : goal.returns-in-Err-2-clause-answers
 returns-in-Err-2-clause-answers g c =
     let test = c.if-moves-eq0.false in
     stopped g.B.Lockstep.machine (g.B.Lockstep.state c.args.board.now) (g.B.Lockstep.state c.loop-moves.board)
     (g.B.Lockstep.state c.stretch.new.board) c.args.receiver.now.entries c.loop-moves.receiver.entries
-    c.stretch.new.receiver.entries c.args.turns (c.args.turns - c.loop-moves.moves) c.loop-moves.moves c.in-Err.fault
-    c.loop-moves-test.true (omega arith) c.loop-moves.invariant.replays c.in-Err.ensures.answers
+    c.stretch.new.receiver.entries c.args.fetched.now c.loop-moves.fetched c.stretch.new.fetched c.args.turns
+    (c.args.turns - c.loop-moves.moves) c.loop-moves.moves c.in-Err.fault c.loop-moves-test.true (omega arith)
+    c.loop-moves.invariant.replays c.in-Err.ensures.answers
 
 pub returns-clause-answers : goal.returns-clause-answers
 returns-clause-answers g c =
     let within = c.loop-moves.invariant.within in
     let test = c.loop-moves-test.false in
     all_turns g.B.Lockstep.machine (g.B.Lockstep.state c.args.board.now) (g.B.Lockstep.state c.loop-moves.board)
-    c.args.receiver.now.entries c.loop-moves.receiver.entries c.args.turns c.loop-moves.moves c.is_empty-2.result
-    (omega arith) c.loop-moves.invariant.replays c.is_empty-2.ensures
+    c.args.receiver.now.entries c.loop-moves.receiver.entries c.args.fetched.now c.loop-moves.fetched c.args.turns
+    c.loop-moves.moves c.unwrap_or-why.result (omega arith) c.loop-moves.invariant.replays
+    (c.unwrap_or-why.ensures ∙ ap (λ stop. unwrap_or stop Turns) c.stop_at-2.ensures)

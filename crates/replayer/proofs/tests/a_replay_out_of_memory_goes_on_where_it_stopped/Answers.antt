@@ -7,8 +7,10 @@ use Rattle.replayer.proofs.tests.a_replay_out_of_memory_goes_on_where_it_stopped
 pub replay-requires : goal.replay-requires
 replay-requires g c = record {
   on_trace =
-      on_trace c.new-replayer.result.board c.hold-2.new.receiver.entries (c.new-replayer.ensures ∙ c.new.ensures)
+      on_trace c.new-replayer.result.board c.hold-2.new.receiver.entries c.new-replayer.result.fetched
+      (c.new-replayer.ensures.board ∙ c.new.ensures)
       (ap (λ (r : Receiving). r.entries) c.hold-2.ensures
       ∙ ap (λ (r : Receiving). r.entries ++ Mark 2 ∷ [])
-      (c.hold.ensures ∙ ap (λ (r : Receiving). holding r (Rx 0 0 0x48)) c.new-receiver.ensures));
+      (c.hold.ensures ∙ ap (λ (r : Receiving). holding r (Rx 0 0 0x48)) c.new-receiver.ensures))
+      c.new-replayer.ensures.fetched;
 }

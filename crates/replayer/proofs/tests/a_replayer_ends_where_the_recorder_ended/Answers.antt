@@ -7,8 +7,10 @@ use Rattle.replayer.proofs.tests.a_replayer_ends_where_the_recorder_ended.Goals 
 pub replay-requires : goal.replay-requires
 replay-requires g c = record {
   on_trace =
-      on_trace c.new-replayer.result.board c.hold-2.new.receiver.entries (c.new-replayer.ensures ∙ c.new-3.ensures)
+      on_trace c.new-replayer.result.board c.hold-2.new.receiver.entries c.new-replayer.result.fetched
+      (c.new-replayer.ensures.board ∙ c.new-3.ensures)
       (ap (λ (r : Receiving). r.entries) c.hold-2.ensures
       ∙ ap (λ (r : Receiving). r.entries ++ Mark 2 ∷ [])
-      (c.hold.ensures ∙ ap (λ (r : Receiving). holding r (Rx 0 0 0x48)) c.new-receiver.ensures));
+      (c.hold.ensures ∙ ap (λ (r : Receiving). holding r (Rx 0 0 0x48)) c.new-receiver.ensures))
+      c.new-replayer.ensures.fetched;
 }

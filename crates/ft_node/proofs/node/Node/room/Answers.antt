@@ -14,7 +14,7 @@ returns-in-Primary-clause-log g c = λ C drives x is serves.
     let s = g.B.Lockstep.state primary.recorder.board in
     let l = primary.recorder.log in
     let K = HasImage C primary.sender.generation primary.image in
-    let p : IsPrimary M K s l primary.sender primary.coverage x = rw c.in-Primary.is at is in
+    let p : IsPrimary M K primary.recorder.reads s l primary.sender primary.coverage x = rw c.in-Primary.is at is in
     log_answers x l
     (keeps_log M s l primary.sender primary.coverage x p (subst IsWithinLimits c.log.ensures c.stands.ensures))
     ∙ sym (ap refused_by (c.room.ensures ∙ ap room_answer c.log-in-Primary.ensures))

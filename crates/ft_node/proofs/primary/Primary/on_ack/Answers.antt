@@ -12,8 +12,15 @@ pub returns-clause-answer : goal.returns-clause-answer
 returns-clause-answer g c = λ C x p.
     let l = c.args.self.now.recorder.log in
     let sender = c.args.self.now.sender in
-    rw
-    (c.forget.ensures, c.drop_to.ensures, c.log_mut.ensures.value, c.in_ok-covered.ensures.after, c.acknowledge.ensures, c.log-2.ensures)
+    rw (
+      c.forget.ensures,
+      c.drop_to.ensures,
+      c.log_mut.ensures.value,
+      c.acknowledge.ensures,
+      c.replayed.ensures,
+      c.in_ok-covered.ensures.after,
+      c.log-2.ensures,
+    )
     (ack_heard (HasImage C sender.generation None) g.B.Lockstep.machine (g.B.Lockstep.state c.args.self.now.recorder.board) l sender
     c.args.self.now.coverage x (packet_at c.args.bytes.now) c.in_ok-covered.covered p refl
     (c.in_ok-covered.ensures.answer

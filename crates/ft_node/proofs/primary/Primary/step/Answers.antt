@@ -16,7 +16,7 @@ returns-in_err-steps-clause-answer g c = λ C x p.
     let t = g.B.Lockstep.state c.advance.new.self.board in
     let l = c.args.self.now.recorder.log in
     let e = err_from_is_err_and c.from_residual.result c.from_residual.ensures.1 in
-    rw (e.1, e.2)
+    rw (e.1, e.2, c.in_err-steps.ensures.reads)
     (steps_not_made M s t l c.advance.new.self.log c.args.self.now.sender c.args.self.now.coverage x c.args.turns
     c.in_err-steps.field-0.0 p
     (keeps_log M s l c.args.self.now.sender c.args.self.now.coverage x p
@@ -38,14 +38,15 @@ returns-clause-answer g c = λ C x p.
     let s = g.B.Lockstep.state c.args.self.now.recorder.board in
     let t = g.B.Lockstep.state c.advance.new.self.board in
     let l = c.args.self.now.recorder.log in
-    steps_made M s t l c.advance.new.self.log c.args.self.now.sender c.args.self.now.coverage c.note.new.coverage x
+    rw c.in_ok-steps.ensures.reads
+    (steps_made M s t l c.advance.new.self.log c.args.self.now.sender c.args.self.now.coverage c.note.new.coverage x
     c.args.turns c.count.result c.in_ok-steps.field-0 g.met.B.Lockstep.operations p
     (keeps_log M s l c.args.self.now.sender c.args.self.now.coverage x p
     (subst IsWithinLimits c.log.ensures c.stands.ensures))
     c.in_ok-steps.ensures.answer
     (c.count.ensures.value ∙ ap (λ board. M.count (g.B.Lockstep.state board)) c.board.ensures) c.count.ensures.within
     (c.note.ensures
-    ∙ ap (noted c.args.self.now.coverage c.in_ok-steps.field-0.reason) (c.next-mark.ensures ∙ ap next_of c.log-2.ensures))
+    ∙ ap (noted c.args.self.now.coverage c.in_ok-steps.field-0.reason) (c.next-mark.ensures ∙ ap next_of c.log-2.ensures)))
 
 pub returns-in_err-steps-clause-unchanged : goal.returns-in_err-steps-clause-unchanged
 returns-in_err-steps-clause-unchanged g c =

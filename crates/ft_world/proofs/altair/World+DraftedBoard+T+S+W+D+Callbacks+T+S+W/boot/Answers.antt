@@ -33,7 +33,7 @@ returns-clause-ok g c =
     (ap (λ (d : WithDraft). d.board.guest) c.of-backup.ensures ∙ ap (λ (board : OnBoard). board.guest) c.boot_in-2.ensures) c.requires.drives c.requires.unwritten in
     subst
     (λ s. Shows (λ (d : WithDraft). d.board.guest) (λ (d : WithDraft). d.board.guest) some_altair g.D.SectorStore.records
-    c.begin_in.result (beginning some_altair C s records))
+    c.begin_in.result (beginning some_altair C c.args.setup.now.reads s records))
     (ap (λ (d : WithDraft). d.board.guest) c.of-primary.ensures ∙ ap (λ (board : OnBoard). board.guest) c.boot_in.ensures) (c.begin_in.ensures.shows C may)
 
 pub returns-clause-faithful : goal.returns-clause-faithful
@@ -47,5 +47,5 @@ returns-clause-faithful g c =
     (sym c.args.setup.now.memory.ok.0 ∙ c.args.setup.now.whole) c.sizes.ensures.sense c.requires.drives c.requires.whole)
     c.args.setup.now.few (ap (λ (d : WithDraft). d.board.guest) c.of-primary.ensures ∙ ap (λ (board : OnBoard). board.guest) c.boot_in.ensures)
     (ap (λ (d : WithDraft). d.board.guest) c.of-backup.ensures ∙ ap (λ (board : OnBoard). board.guest) c.boot_in-2.ensures) c.requires.drives c.requires.unwritten in
-    subst (λ s. IsFaithful some_altair (beginning some_altair C s records))
+    subst (λ s. IsFaithful some_altair (beginning some_altair C c.args.setup.now.reads s records))
     (ap (λ (d : WithDraft). d.board.guest) c.of-primary.ensures ∙ ap (λ (board : OnBoard). board.guest) c.boot_in.ensures) (c.begin_in.ensures.faithful C may)

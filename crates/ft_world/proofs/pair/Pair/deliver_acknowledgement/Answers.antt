@@ -23,7 +23,7 @@ returns-in_err-station-clause-row g c = λ course h.
     (hears_refused g.B.Lockstep.state g.B.Copies.copied g.B.Lockstep.machine g.D.SectorStore.records (running_of c.args.self.now) course
     c.args.message c.args.node c.in-Some.packet.now c.in_err-station.field-0.0
     c.station_mut.follows.lender-at-none.items brings h
-    (λ generation held spelled. no_call h c.in_err-station.ensures.absent.0 c.in_err-station.ensures.absent.1
+    (λ generation held reports spelled. no_call h c.in_err-station.ensures.absent.0 c.in_err-station.ensures.absent.1
     (rw c.in_err-station.was at c.station_mut.follows.holds-at-none)))
 
 pub returns-in_err-held-clause-row : goal.returns-in_err-held-clause-row
@@ -33,7 +33,7 @@ returns-in_err-held-clause-row g c = λ course h.
     (hears_refused g.B.Lockstep.state g.B.Copies.copied g.B.Lockstep.machine g.D.SectorStore.records (running_of c.args.self.now) course
     c.args.message c.args.node c.in-Some.packet.now c.in_err-held.field-0.0
     (c.station_mut.follows.lender c.deliver_acknowledgement.new.self).items brings h
-    (λ generation held spelled. at_host h c.in_ok-station.ensures.found
+    (λ generation held reports spelled. at_host h c.in_ok-station.ensures.found
     (c.station_mut.follows.holds c.deliver_acknowledgement.new.self (ap is_ok c.in_ok-station.was))
     (λ C drives x is. spelled_ack c.in-Some.packet.now x (Err c.in_err-held.field-0.0) (IsStation g.B.Lockstep.state g.B.Lockstep.machine C drives c.deliver_acknowledgement.new.self) spelled
     (c.in_err-held.ensures.answer C drives x is))))
@@ -44,7 +44,7 @@ returns-clause-row g c = λ course h.
     hears_applies g.B.Lockstep.state g.B.Copies.copied g.B.Lockstep.machine g.D.SectorStore.records (running_of c.args.self.now) course
     c.args.message c.args.node c.in-Some.packet.now c.in_ok-held.held
     (c.station_mut.follows.lender c.deliver_acknowledgement.new.self).items brings h
-    (λ generation held spelled. at_host h c.in_ok-station.ensures.found
+    (λ generation held reports spelled. at_host h c.in_ok-station.ensures.found
     (c.station_mut.follows.holds c.deliver_acknowledgement.new.self (ap is_ok c.in_ok-station.was))
     (λ C drives x is. spelled_ack c.in-Some.packet.now x (Ok c.in_ok-held.held) (IsStation g.B.Lockstep.state g.B.Lockstep.machine C drives c.deliver_acknowledgement.new.self) spelled
     (c.in_ok-held.ensures.answer C drives x is)))

@@ -1,9 +1,6 @@
 -- There is no such node, or it refuses, or it moves by what it still holds, and is alone if none of it is left.
-use Rattle.std.proofs.Common.{Ok, ap, cond, false, is_ok, subst}
-use Rattle.ft_world.specs.Applies.{Applies}
+use Rattle.std.proofs.Common.{ap, is_ok}
 use Rattle.ft_world.specs.Pairs.{running_of}
-use Rattle.pair_events.specs.declared.event.Event.TheVariants as event
-use Rattle.pair_events.specs.declared.reply.Reply.TheVariants as reply
 use Rattle.ft_world.proofs.Applying.{hands_on}
 use Rattle.ft_world.proofs.AtHosts.{at_host, no_call}
 use Rattle.ft_world.proofs.AtMoves.{drains_applies, drains_refused, station_may_replay}
@@ -33,26 +30,10 @@ returns-in_err-drained-clause-row g c = λ course h.
     (at_host h c.in_ok-station.ensures.found
     (c.station_mut.follows.holds c.drain.new.self (ap is_ok c.in_ok-station.was)) c.in_err-drained.ensures.answer))
 
-pub returns-then-drained-clause-row : goal.returns-then-drained-clause-row
-returns-then-drained-clause-row g c = λ course h.
-    let d = c.in_ok-drained.drained in
-    subst
-    (λ b. Applies g.B.Lockstep.state g.B.Copies.copied g.B.Lockstep.machine g.D.SectorStore.records course
-    (event.Drain c.args.node c.args.turns) (Ok (cond b (reply.MovedAlone d.moves) (reply.Moved d.moves false)))
-    (record (running_of c.args.self.now) { hosts = (c.station_mut.follows.lender c.drain.new.self).items })) c.if-drained.true
-    (drains_applies g.B.Lockstep.state g.B.Copies.copied g.B.Lockstep.machine g.D.SectorStore.records (running_of c.args.self.now)
-    course c.args.node c.args.turns d (c.station_mut.follows.lender c.drain.new.self).items h
+pub returns-clause-row : goal.returns-clause-row
+returns-clause-row g c = λ course h.
+    drains_applies g.B.Lockstep.state g.B.Copies.copied g.B.Lockstep.machine g.D.SectorStore.records (running_of c.args.self.now)
+    course c.args.node c.args.turns c.in_ok-drained.drained c.reply_to.result (c.station_mut.follows.lender c.drain.new.self).items
+    c.reply_to.ensures h
     (at_host h c.in_ok-station.ensures.found
-    (c.station_mut.follows.holds c.drain.new.self (ap is_ok c.in_ok-station.was)) c.in_ok-drained.ensures.answer))
-
-pub returns-else-drained-clause-row : goal.returns-else-drained-clause-row
-returns-else-drained-clause-row g c = λ course h.
-    let d = c.in_ok-drained.drained in
-    subst
-    (λ b. Applies g.B.Lockstep.state g.B.Copies.copied g.B.Lockstep.machine g.D.SectorStore.records course
-    (event.Drain c.args.node c.args.turns) (Ok (cond b (reply.MovedAlone d.moves) (reply.Moved d.moves false)))
-    (record (running_of c.args.self.now) { hosts = (c.station_mut.follows.lender c.drain.new.self).items })) c.if-drained.false
-    (drains_applies g.B.Lockstep.state g.B.Copies.copied g.B.Lockstep.machine g.D.SectorStore.records (running_of c.args.self.now)
-    course c.args.node c.args.turns d (c.station_mut.follows.lender c.drain.new.self).items h
-    (at_host h c.in_ok-station.ensures.found
-    (c.station_mut.follows.holds c.drain.new.self (ap is_ok c.in_ok-station.was)) c.in_ok-drained.ensures.answer))
+    (c.station_mut.follows.holds c.drain.new.self (ap is_ok c.in_ok-station.was)) c.in_ok-drained.ensures.answer)

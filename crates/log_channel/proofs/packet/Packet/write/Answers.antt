@@ -1,17 +1,13 @@
-use Rattle.std.proofs.Common.{◌≡◌, ℕ, List, ◌∷◌, ◌++◌, refl, subst, append_assoc}
+use Rattle.std.proofs.Common.{◌≡◌, ℕ, List, ◌∷◌, ◌++◌, subst, append_assoc}
 use Rattle.std.specs.Prelude.{OnOk}
 use Rattle.byteorder.specs.Endian.{big_bytes}
 use Rattle.log_entry.specs.Spelling.{spelling}
 use Rattle.log_channel.specs.Packet.{packet_bytes}
 use Rattle.log_channel.proofs.packet.Packet.write.Goals as goal
 
--- what comes before an entry, or is a whole acknowledgement
+-- what comes before an entry
 abbrev head_bytes : ℕ → ℕ → ℕ → List ℕ
 head_bytes tag generation number = tag ∷ big_bytes 4 generation ++ big_bytes 8 number
-
-pub returns-in_ok-extend_from_slice-in-Ack-clause-ok : goal.returns-in_ok-extend_from_slice-in-Ack-clause-ok
-returns-in_ok-extend_from_slice-in-Ack-clause-ok c =
-    rw (c.in_ok-extend_from_slice-in-Ack.ensures.items, c.head-front-in-Ack.ensures, c.in-Ack.is) refl
 
 pub returns-in_ok-extend_from_slice-in-Log-clause-ok : goal.returns-in_ok-extend_from_slice-in-Log-clause-ok
 returns-in_ok-extend_from_slice-in-Log-clause-ok c =

@@ -1,4 +1,4 @@
-use Rattle.std.proofs.Common.{rules, arith, refl}
+use Rattle.std.proofs.Common.{length, ap, rules, arith, refl}
 use Rattle.log_channel.proofs.HeldEntries.{holds_nothing}
 use Rattle.log_channel.proofs.receiver.Receiver.new.Goals as goal
 
@@ -7,6 +7,7 @@ invariant_of-result c = record {
   first_generation = search rules;
   generation = omega arith;
   held = omega arith;
+  kept = let none = (holds_nothing c.new.result c.new.ensures).1 in omega (arith, ap length none);
   block = (holds_nothing c.new.result c.new.ensures).0;
 }
 

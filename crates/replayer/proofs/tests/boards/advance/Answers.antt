@@ -1,10 +1,11 @@
+use Rattle.guest_board.specs.declared.reads.Reads.TheVariants.{Logged}
 use Rattle.recorder.specs.Recording.{advance_refusal}
 use Rattle.replayer.proofs.LoggedRun.{advance_logs}
 use Rattle.replayer.proofs.tests.boards.advance.Goals as goal
 
-pub returns : goal.returns
-returns g c =
-    advance_logs g.B.Lockstep.machine (g.B.Lockstep.state c.args.recorder.now.board)
+pub returns-clause-records : goal.returns-clause-records
+returns-clause-records g c =
+    advance_logs g.B.Lockstep.machine Logged (g.B.Lockstep.state c.args.recorder.now.board)
     (g.B.Lockstep.state c.advance.new.self.board) c.args.recorder.now.log c.advance.new.self.log c.args.turns
     (advance_refusal g.B.Lockstep.machine (g.B.Lockstep.state c.args.recorder.now.board) c.args.recorder.now.log
     c.args.turns)

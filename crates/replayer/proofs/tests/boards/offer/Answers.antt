@@ -1,8 +1,11 @@
-use Rattle.replayer.proofs.LoggedRun.{offer_logs}
+use Rattle.std.proofs.Common.{subst}
+use Rattle.replayer.proofs.LoggedRun.{Logged, offer_logs}
 use Rattle.replayer.proofs.tests.boards.offer.Goals as goal
 
-pub returns : goal.returns
-returns g c =
-    offer_logs g.B.Lockstep.machine (g.B.Lockstep.state c.args.recorder.now.board)
-    (g.B.Lockstep.state c.offer.new.self.board) c.args.recorder.now.log c.offer.new.self.log c.args.input
-    c.offer.result c.in-Ok.logged c.in-Ok.is c.offer.ensures.after
+pub returns-clause-records : goal.returns-clause-records
+returns-clause-records g c =
+    subst (λ reads. Logged g.B.Lockstep.machine reads (g.B.Lockstep.state c.args.recorder.now.board)
+    c.args.recorder.now.log (g.B.Lockstep.state c.offer.new.self.board) c.offer.new.self.log) c.requires.reads
+    (offer_logs g.B.Lockstep.machine c.args.recorder.now.reads (g.B.Lockstep.state c.args.recorder.now.board)
+    (g.B.Lockstep.state c.offer.new.self.board) c.args.recorder.now.log c.offer.new.self.log c.args.input c.offer.result
+    c.in-Ok.logged c.in-Ok.is c.offer.ensures.after)

@@ -1,0 +1,4 @@
+pub mod Booting
+pub mod Playing
+pub mod Sectors
+pub mod Tracing

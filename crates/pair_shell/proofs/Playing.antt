@@ -1,0 +1,126 @@
+-- A tape grows by an event and its answer, as the run that it says. Nothing but events lengthens it: a line that only
+-- reads leaves the world over the records as it was.
+use Rattle.guest_board.specs.Guest.{Guest}
+use Rattle.std.proofs.Common.{◌≡◌, ◌+◌, ◌∙◌, ◌∷◌, ◌++◌, [], List, Option, Some, None, ap, refl, subst, sym, length}
+use Rattle.std.specs.Prelude.{Result, map}
+use Rattle.std.proofs.lemmas.List.{length-append, map-append}
+use Rattle.guest_board.specs.Machine.{Machine}
+use Rattle.i8080_words.specs.declared.refusal.Fault.{Fault}
+use Rattle.pair_events.specs.declared.event.Event.{Event}
+use Rattle.pair_events.specs.declared.reply.Reply.{Reply}
+use Rattle.pair_protocol.specs.Copying.{Copying}
+use Rattle.pair_protocol.specs.Event as protocol
+use Rattle.pair_protocol.specs.Row.{Row}
+use Rattle.pair_protocol.specs.World.{World}
+use Rattle.ft_world.specs.Applies.{Applies, First, Happens, Nothing, Rows, Runs, Shows}
+use Rattle.ft_world.specs.Running.{Running}
+use Rattle.ft_world.specs.Standing.{Course, machine_of}
+use Rattle.ft_world.specs.Words.{answer_of, event_of}
+use Rattle.ft_world.proofs.Growing.{rows_grow}
+use Rattle.ft_world.proofs.Running.{runs_begin}
+use Rattle.pair_check.specs.Disks.{Disk, over_records, records_in}
+use Rattle.pair_check.proofs.Disks.{records_show, shows_records}
+use Rattle.pair_shell.specs.Sessions.{LinePlays}
+use Rattle.pair_shell.specs.Tapes.{Lengthens, Plays, answers_of, events_of, played}
+use Rattle.pair_shell.specs.declared.tape.Played.{Played}
+
+-- one more row at the end
+rows_then : {S : Type 0} (M : Machine S) (C : Copying S) (w mid new : World S) (events : List protocol.Event)
+    (replies : List protocol.Reply) (e : protocol.Event) (r : protocol.Reply) → Rows M C w events replies mid →
+    Row M C mid e r new → Rows M C w (events ++ e ∷ []) (replies ++ r ∷ []) new
+rows_then M C w mid new events replies e r Nothing row = First row Nothing
+rows_then M C w mid new events replies e r (First {mid = v} {events = es} {replies = rs} first rest) row =
+    First first (rows_then M C v mid new es rs e r rest row)
+
+-- an empty tape: the world over the records is as it was
+pub plays_nothing : {B H S : Type 0} (state : B → S) (copied : B → Guest) (M : Machine S) (old new : Running B H Disk)
+    (tape : List Played) → tape ≡ [] → over_records new ≡ over_records old → Plays state copied M old tape new
+plays_nothing state copied M old new tape none same =
+    subst (λ t. Plays state copied M old t new) (sym none)
+    (λ c shows. runs_begin state copied M (λ records. records) (over_records new) c
+    (subst (λ v. Shows state copied M (λ records. records) v c) (sym same) shows))
+
+-- one more event, with its answer
+plays_then : {B H S : Type 0} (state : B → S) (copied : B → Guest) (M : Machine S) (old mid new : Running B H Disk)
+    (tape : List Played) (one : Played) → Plays state copied M old tape mid → Happens state copied M records_in mid one.event one.answer new
+    → Plays state copied M old (tape ++ one ∷ []) new
+plays_then {S = S} state copied M old mid new tape one before happens c shows = record {
+  after = a.after;
+  rows = rows;
+  each = ap length (map-append (λ (p : Played). p.answer) tape (one ∷ []))
+      ∙ length-append (answers_of tape) (one.answer ∷ []) ∙ ap (λ n. n + 1) so_far.each
+      ∙ sym (length-append (events_of tape) (one.event ∷ []))
+      ∙ sym (ap length (map-append (λ (p : Played). p.event) tape (one ∷ [])));
+  shows = shows_records state copied M new (record c { world = a.after }) a.shows;
+  faithful = a.faithful;
+  grows = rows_grow N c.copying shows.machine.lawful shows.machine.copies c.world a.after (events_of (tape ++ one ∷ []))
+      (map answer_of (answers_of (tape ++ one ∷ []))) shows.reached rows;
+}
+  where
+    N : Machine S
+    N = machine_of M c
+
+    so_far : Runs state copied M (λ records. records) c (events_of tape) (answers_of tape) (over_records mid)
+    so_far = before c shows
+
+    a : Applies state copied M records_in (record c { world = so_far.after }) one.event one.answer new
+    a = happens (record c { world = so_far.after })
+        (records_show state copied M mid (record c { world = so_far.after }) so_far.shows)
+
+    events : map event_of (events_of (tape ++ one ∷ [])) ≡ map event_of (events_of tape) ++ event_of one.event ∷ []
+    events = ap (map event_of) (map-append (λ (p : Played). p.event) tape (one ∷ []))
+        ∙ map-append event_of (events_of tape) (one.event ∷ [])
+
+    answers : map answer_of (answers_of (tape ++ one ∷ []))
+        ≡ map answer_of (answers_of tape) ++ answer_of one.answer ∷ []
+    answers = ap (map answer_of) (map-append (λ (p : Played). p.answer) tape (one ∷ []))
+        ∙ map-append answer_of (answers_of tape) (one.answer ∷ [])
+
+    rows : Rows N c.copying c.world (map event_of (events_of (tape ++ one ∷ [])))
+        (map answer_of (answers_of (tape ++ one ∷ []))) a.after
+    rows = subst (λ rs. Rows N c.copying c.world (map event_of (events_of (tape ++ one ∷ []))) rs a.after) (sym answers)
+        (subst (λ es. Rows N c.copying c.world es (map answer_of (answers_of tape) ++ answer_of one.answer ∷ []) a.after)
+        (sym events)
+        (rows_then N c.copying c.world so_far.after a.after (map event_of (events_of tape)) (map answer_of (answers_of tape))
+        (event_of one.event) (answer_of one.answer) so_far.rows a.row))
+
+-- the same for the tape as it is kept
+pub lengthens : {B H S : Type 0} (state : B → S) (copied : B → Guest) (M : Machine S) (old new : Running B H Disk)
+    (tape longer : List Played) (happened : Event) (answer : Result Reply Fault) → longer ≡ tape ++ played happened answer ∷ []
+    → Happens state copied M records_in old happened answer new → Lengthens state copied M old new tape longer
+lengthens state copied M old new tape longer happened answer is happens before plays =
+    subst (λ t. Plays state copied M before t new) (sym is)
+    (plays_then state copied M before old new tape (played happened answer) plays happens)
+
+-- a tape that stays as it was
+pub lengthens_not : {B H S : Type 0} (state : B → S) (copied : B → Guest) (M : Machine S) (old : Running B H Disk)
+    (tape kept : List Played) → kept ≡ tape → Lengthens state copied M old old tape kept
+lengthens_not state copied M old tape kept same before plays =
+    subst (λ t. Plays state copied M before t old) (sym same) plays
+
+-- a pair that had booted, and one that has not
+module _ {B H S : Type 0} (state : B → S) (copied : B → Guest) (M : Machine S) (Boots : Running B H Disk → Type 0) where
+  pub line_plays : (old new : Running B H Disk) (tape : List Played) (before after : Option (Running B H Disk))
+      → before ≡ Some old → after ≡ Some new → Plays state copied M old tape new
+      → LinePlays state copied M Boots before tape after
+  line_plays old new tape before after was is plays =
+      subst (λ o. LinePlays state copied M Boots o tape after) (sym was)
+      (subst (λ n. LinePlays state copied M Boots (Some old) tape n) (sym is) plays)
+
+  pub line_boots : (booted new : Running B H Disk) (tape : List Played) (before after : Option (Running B H Disk))
+      → before ≡ None → after ≡ Some new → Boots booted → Plays state copied M booted tape new
+      → LinePlays state copied M Boots before tape after
+  line_boots booted new tape before after was is boots plays =
+      subst (λ o. LinePlays state copied M Boots o tape after) (sym was)
+      (subst (λ n. LinePlays state copied M Boots None tape n) (sym is) (booted, (boots, plays)))
+
+  line_nothing : (before : Option (Running B H Disk)) → LinePlays state copied M Boots before [] before
+  line_nothing None = tt
+  line_nothing (Some old) = plays_nothing state copied M old old [] refl refl
+
+  -- a line that makes nothing happen
+  pub line_plays_nothing : (before after : Option (Running B H Disk)) (tape : List Played) → tape ≡ []
+      → after ≡ before → LinePlays state copied M Boots before tape after
+  line_plays_nothing before after tape none same =
+      subst (λ t. LinePlays state copied M Boots before t after) (sym none)
+      (subst (λ n. LinePlays state copied M Boots before [] n) (sym same) (line_nothing before))

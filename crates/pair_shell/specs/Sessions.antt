@@ -1,0 +1,60 @@
+-- What a line does to a session.
+use Rattle.std.specs.Prelude.{◌≡◌, ℕ, Bool, List, Option, Some, None}
+use Rattle.altair_copies.specs.Copies.{image_copy}
+use Rattle.guest_board.specs.Guest.{Guest, guest_at_boot}
+use Rattle.guest_board.specs.Inputs.{some_altair}
+use Rattle.guest_board.specs.Machine.{Machine}
+use Rattle.ft_world.specs.Running.{Running}
+use Rattle.pair_check.specs.Disks.{Disk}
+use Rattle.shell_language.specs.declared.line.ShellLine.{ShellLine}
+use Rattle.shell_language.specs.declared.line.ShellLine.TheVariants as shell
+use Rattle.pair_shell.specs.Booting.{IsBooted}
+use Rattle.pair_shell.specs.Openings.{IsSame}
+use Rattle.pair_shell.specs.Tapes.{IsAnswered, Plays}
+use Rattle.pair_shell.specs.declared.notes.Notes.{Notes}
+use Rattle.pair_shell.specs.declared.opening.Opening.{Opening}
+use Rattle.pair_shell.specs.declared.tape.Played.{Played}
+
+-- a pair has just booted as a session's setup says
+abbrev pub BootsBy : {B H : Type 0} → (B → Guest) → Opening → Running B H Disk → Type 0
+BootsBy state opening v = IsBooted state state some_altair (image_copy opening.setup.guest.drives)
+    opening.setup.guest.reads (guest_at_boot opening.setup.guest) opening.setup.guest.drives opening.setup.hosts opening.sectors.items v
+
+-- A pair that has booted plays the tape of the line. One that boots at this line does so as its setup says, and then
+-- plays the tape.
+abbrev pub LinePlays : {B H S : Type 0} → (B → S) → (B → Guest) → Machine S → (Running B H Disk → Type 0)
+    → Option (Running B H Disk) → List Played → Option (Running B H Disk) → Type 0
+LinePlays state copied M Boots (Some old) tape (Some new) = Plays state copied M old tape new
+LinePlays {B = B} {H = H} state copied M Boots None tape (Some new) =
+    (booted : Running B H Disk) × (Boots booted × Plays state copied M booted tape new)
+LinePlays state copied M Boots (Some old) tape None = ⊥
+LinePlays state copied M Boots None tape None = Unit {0}
+
+-- the same of a pair of Altairs, of which each board shows its guest
+abbrev pub AltairsPlay : {B H : Type 0} → (B → Guest) → Opening → Option (Running B H Disk) → List Played
+    → Option (Running B H Disk) → Type 0
+AltairsPlay guest opening old tape new = LinePlays guest guest some_altair (BootsBy guest opening) old tape new
+
+-- What a line leaves that is an event: it alone has happened, and is answered as in a script. Of others this says nothing.
+abbrev pub IsHeeded : ShellLine → List Played → Bool → List ℕ → List ℕ → Type 0
+IsHeeded (shell.Event happened) tape is_traced old new = IsAnswered happened tape is_traced old new
+IsHeeded _ tape is_traced old new = Unit {0}
+
+-- the same of a text that says some line
+abbrev pub HeedsSaid : Option ShellLine → List Played → Bool → List ℕ → List ℕ → Type 0
+HeedsSaid (Some line) tape is_traced old new = IsHeeded line tape is_traced old new
+HeedsSaid None tape is_traced old new = Unit {0}
+
+-- whether events are traced after a line
+abbrev pub trace_after : Option ShellLine → Bool → Bool
+trace_after (Some (shell.Trace is_on)) is_traced = is_on
+trace_after _ is_traced = is_traced
+
+-- nothing has changed but the tape, which is that of the last line: neither the setup, nor the pair, nor what was noted
+pub record IsAsBefore {X : Type 0} (setup setup' : Opening) (pair pair' : Option X) (noted noted' : Notes)
+    (traced traced' : Bool) : Type 0 where
+  pub opening : IsSame setup setup'
+  pub world : pair' ≡ pair
+  pub book : noted'.book ≡ noted.book
+  pub recent : noted'.recent.items ≡ noted.recent.items
+  pub is_traced : traced' ≡ traced

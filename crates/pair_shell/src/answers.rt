@@ -1,0 +1,126 @@
+//! What lines that are not events answer.
+ghost use Rattle.std.specs.Prelude.{◌≡◌, IfOk};
+ghost use Rattle.pair_shell.specs.Texts.{AddsSome};
+ghost use Rattle.pair_check.specs.Disks.{over_records};
+
+use crate::book::Book;
+use crate::printing::Printed;
+use crate::screen::{Dump, ScreenLine};
+use crate::tape::Played;
+use clone_state::Copies;
+use disk_dcdd::SectorAddress;
+use event_callbacks::PORTS;
+use ft_world::World;
+use i8080_words::Fault;
+use pair_check::{Disk, sector_of};
+use pair_events::{Answer, Reply};
+use shell_language::FORMS;
+use std::alloc::{AllocError, Global};
+
+/// What a terminal has accepted, as text.
+pub fn print_screen<B: Copies<H> + Drop, H: Drop>(
+    world: &World<B, Disk, H>,
+    port: u8,
+    printed: &mut Printed,
+) -> Result<(), AllocError> {
+    if usize::from(port) >= PORTS {
+        return printed.line(&Answer::Refused(Fault::Unknown));
+    }
+    let bytes = world.accepted(port);
+    printed.line(&format_args!("screen {port}: {} bytes", bytes.len()))?;
+    for line in bytes.split_inclusive(|byte| *byte == b'\n') {
+        printed.line(&ScreenLine(line))?;
+    }
+    Ok(())
+}
+
+/// What the disk has in a sector.
+pub fn print_sector<B: Copies<H> + Drop, H: Drop>(
+    world: &mut World<B, Disk, H>,
+    address: SectorAddress,
+    printed: &mut Printed,
+) -> Result<(), AllocError>
+    ensures { over_records world.new ≡ over_records world.old }
+{
+    let read = match sector_of(world, address) {
+        Ok(read) => read,
+        Err(fault) => return printed.line(&Answer::Refused(fault)),
+    };
+    let SectorAddress {
+        drive,
+        track,
+        sector,
+    } = address;
+    printed.line(&format_args!("sector {drive} {track} {sector}: write {}", read.number))?;
+    let mut place = 0usize;
+    for bytes in read.bytes.chunks(16) {
+        printed.line(&Dump { place, bytes })?;
+        place = place.saturating_add(16);
+    }
+    Ok(())
+}
+
+/// The number of the last message.
+pub fn print_last(book: &Book, printed: &mut Printed) -> Result<(), AllocError> {
+    match book.messages().checked_sub(1) {
+        Some(message) => printed.line(&Reply::Message { message }),
+        None => printed.line(&"no message"),
+    }
+}
+
+/// All forms of lines.
+pub fn print_help(printed: &mut Printed) -> Result<(), AllocError> {
+    for form in &FORMS {
+        printed.line(&format_args!("{:<24}{}", form.usage, form.meaning))?;
+    }
+    Ok(())
+}
+
+/// How many events of a tape happened, what was answered to the last one, and how many were refused.
+pub fn print_sum(tape: &[Played], printed: &mut Printed) -> Result<(), AllocError>
+    ensures { IfOk result (λ _. AddsSome printed.old printed.new) }
+{
+    let mut sum = Sum {
+        happened: 0,
+        refused: 0,
+        last: None,
+    };
+    for play in tape {
+        sum.count(play);
+    }
+    printed.line(&sum)
+}
+
+// How many events happened, how many were refused, and the last reply.
+#[derive(Clone, Copy)]
+struct Sum {
+    happened: u64,
+    refused: u64,
+    last: Option<Played>,
+}
+
+impl Sum {
+    fn count(&mut self, play: &Played) {
+        if play.answer.is_ok() {
+            self.happened = self.happened.saturating_add(1);
+        } else {
+            self.refused = self.refused.saturating_add(1);
+        }
+        self.last = Some(*play);
+    }
+}
+
+impl std::fmt::Display for Sum {
+    fn fmt<W: std::fmt::Write>(&self, f: &mut std::fmt::Formatter<W>) -> std::fmt::Result {
+        let Some(last) = self.last else {
+            return write!(f, "nothing to do");
+        };
+        let happened = self.happened;
+        let answer = last.said();
+        write!(f, "{happened} done, the last: {answer}")?;
+        if self.refused > 0 {
+            write!(f, "; {} refused", self.refused)?;
+        }
+        Ok(())
+    }
+}

@@ -1,0 +1,246 @@
+//! The lines after the pair has booted: events and queries.
+ghost use Rattle.std.specs.Prelude.{◌≡◌, [], true, IfOk, string_bytes};
+ghost use Rattle.pair_check.specs.Disks.{over_records};
+ghost use Rattle.pair_shell.specs.Sessions.{IsHeeded};
+ghost use Rattle.pair_shell.specs.Tapes.{Begins, IsAnswered, Plays, Traces, trace_text};
+
+use crate::book::Book;
+use crate::day::Day;
+use crate::opening::Opening;
+use crate::picture::print_picture;
+use crate::plan::Plan;
+use crate::play::{play, play_one};
+use crate::printing::Printed;
+use crate::queries::find;
+use crate::tape::Played;
+use crate::{answers, remaining};
+use clone_state::Copies;
+use ft_world::{NodeStatus, World};
+use i8080_words::Fault;
+use pair_check::{Disk, compare};
+use pair_events::{Answer, Event, Role};
+use shell_language::{Quoted, ShellLine, Turns};
+use std::alloc::{AllocError, Global};
+
+/// How many events a picture shows.
+pub const PICTURE_EVENTS: usize = 24;
+
+/// What was noted since the pair has booted: the book, the events of the last line, and the last events of all.
+#[derive(Drop)]
+pub struct Notes {
+    pub book: Book,
+    pub tape: Vec<Played>,
+    pub recent: Vec<Played>,
+}
+
+impl Notes {
+    /// Nothing has happened yet.
+    pub fn new(alloc: Global) -> Notes {
+        Notes {
+            book: Book::new(alloc),
+            tape: Vec::new(alloc),
+            recent: Vec::new(alloc),
+        }
+    }
+
+    /// Does what a line says, other than one of the setup. The tape has the events that it made.
+    #[tactic(auto, using(crate::proofs::Playing::plays_nothing, crate::proofs::Tracing::begins_nothing, crate::proofs::Tracing::begins_trace, crate::proofs::Tracing::begins_more))]
+    pub fn take<B: Copies<H> + Drop, H: Drop>(
+        &mut self,
+        alloc: Global,
+        opening: &Opening,
+        world: &mut World<B, Disk, H>,
+        line: ShellLine<'_>,
+        printed: &mut Printed,
+    ) -> Result<(), AllocError>
+        requires { self.old.tape.items ≡ [] }
+        ensures played { Plays B.state B.copied B.machine world.old self.new.tape.items world.new }
+        ensures traced { IfOk result (λ _. printed.old.is_traced ≡ true → string_bytes printed.old.text ≡ []
+            → Begins (trace_text self.new.tape.items) (string_bytes printed.new.text)) }
+        ensures heeded { IfOk result (λ _. IsHeeded line.entry self.new.tape.items printed.old.is_traced
+            (string_bytes printed.old.text) (string_bytes printed.new.text)) }
+    {
+        match line {
+            ShellLine::Event(event) => self.happen(alloc, world, event, printed),
+            ShellLine::Query(query) => printed.line(&find(world, query)),
+            ShellLine::SendAll { node } => {
+                let events = remaining::entries_to_send(alloc, &self.book, node)?;
+                self.happen_all(alloc, world, events, printed)
+            }
+            ShellLine::LogAll { node } => {
+                let events = remaining::entries_to_deliver(alloc, &self.book, node)?;
+                self.happen_all(alloc, world, events, printed)
+            }
+            ShellLine::ArriveAll => {
+                let events = remaining::bytes_to_arrive(alloc, &self.book)?;
+                self.happen_all(alloc, world, events, printed)
+            }
+            ShellLine::TypeText { port, text } => {
+                let events = keys_of(alloc, port, text)?;
+                self.happen_all(alloc, world, events, printed)
+            }
+            ShellLine::Run(turns) => self.run(alloc, opening, world, turns, printed),
+            ShellLine::Screen { port } => answers::print_screen(world, port, printed),
+            ShellLine::Sector(address) => answers::print_sector(world, address, printed),
+            ShellLine::Last => answers::print_last(&self.book, printed),
+            ShellLine::Check => check(alloc, opening, world, printed),
+            ShellLine::Picture => print_picture(alloc, &self.book, &self.recent, printed),
+            _ => Ok(()),
+        }
+    }
+
+    // One event, answered as in a script.
+    #[tactic(auto, using(crate::proofs::Tracing::begins_nothing, crate::proofs::Tracing::begins_answer, crate::proofs::Tracing::answered, crate::proofs::Tracing::answered_traced))]
+    fn happen<B: Copies<H> + Drop, H: Drop>(
+        &mut self,
+        alloc: Global,
+        world: &mut World<B, Disk, H>,
+        event: Event,
+        printed: &mut Printed,
+    ) -> Result<(), AllocError>
+        requires { self.old.tape.items ≡ [] }
+        ensures played { Plays B.state B.copied B.machine world.old self.new.tape.items world.new }
+        ensures answered { IfOk result (λ _. IsAnswered event self.new.tape.items printed.old.is_traced
+            (string_bytes printed.old.text) (string_bytes printed.new.text)) }
+    {
+        let answer = play_one(alloc, world, &mut self.book, event, &mut self.tape)?;
+        keep_recent(&mut self.recent, &self.tape)?;
+        if printed.is_traced() {
+            return printed.trace(&self.tape);
+        }
+        printed.line(&Played { event, answer }.said())
+    }
+
+    // Several events, answered together.
+    #[tactic(auto, using(crate::proofs::Playing::plays_nothing, crate::proofs::Tracing::begins_nothing, crate::proofs::Tracing::begins_trace, crate::proofs::Tracing::begins_more))]
+    fn happen_all<B: Copies<H> + Drop, H: Drop>(
+        &mut self,
+        alloc: Global,
+        world: &mut World<B, Disk, H>,
+        events: Vec<Event>,
+        printed: &mut Printed,
+    ) -> Result<(), AllocError>
+        requires { self.old.tape.items ≡ [] }
+        ensures played { Plays B.state B.copied B.machine world.old self.new.tape.items world.new }
+        ensures traced { IfOk result (λ _. printed.old.is_traced ≡ true → string_bytes printed.old.text ≡ []
+            → Begins (trace_text self.new.tape.items) (string_bytes printed.new.text)) }
+    {
+        let mut plan = Plan::of(events);
+        self.play(alloc, world, &mut plan, printed)?;
+        answers::print_sum(&self.tape, printed)
+    }
+
+    // The ordinary day of a pair.
+    #[tactic(auto, using(crate::proofs::Playing::plays_nothing, crate::proofs::Tracing::begins_nothing, crate::proofs::Tracing::begins_trace, crate::proofs::Tracing::begins_more))]
+    fn run<B: Copies<H> + Drop, H: Drop>(
+        &mut self,
+        alloc: Global,
+        opening: &Opening,
+        world: &mut World<B, Disk, H>,
+        turns: Turns,
+        printed: &mut Printed,
+    ) -> Result<(), AllocError>
+        requires { self.old.tape.items ≡ [] }
+        ensures played { Plays B.state B.copied B.machine world.old self.new.tape.items world.new }
+        ensures traced { IfOk result (λ _. printed.old.is_traced ≡ true → string_bytes printed.old.text ≡ []
+            → Begins (trace_text self.new.tape.items) (string_bytes printed.new.text)) }
+    {
+        let backup = match world.node(turns.node) {
+            None => return printed.line(&Answer::Refused(Fault::Unknown)),
+            Some(
+                NodeStatus {
+                    role: Role::Primary,
+                    ..
+                },
+            ) => backup_of(world, opening.setup.hosts),
+            Some(
+                NodeStatus {
+                    role: Role::Alone,
+                    ..
+                },
+            ) => {
+                let (inputs, _) = world.settled();
+                self.book.begin_again(alloc, inputs)?;
+                None
+            }
+            Some(_) => return printed.line(&Answer::Refused(Fault::WrongRole)),
+        };
+        let mut plan = Plan::day(alloc, Day::new(alloc, turns, backup));
+        self.play(alloc, world, &mut plan, printed)?;
+        let count = world.node(turns.node).map_or(0, |status| status.count);
+        match plan.as_day() {
+            Some(day) => {
+                printed.line(&format_args!("ran {} count {count} {}", day.made(), day.ending()))
+            }
+            None => Ok(()),
+        }
+    }
+
+    // Makes the events of a plan happen, and traces them.
+    fn play<B: Copies<H> + Drop, H: Drop>(
+        &mut self,
+        alloc: Global,
+        world: &mut World<B, Disk, H>,
+        plan: &mut Plan,
+        printed: &mut Printed,
+    ) -> Result<(), AllocError>
+        ensures played { Plays B.state B.copied B.machine world.old self.new.tape.items world.new }
+        ensures traced { IfOk result (λ _. Traces printed.old.is_traced self.new.tape.items
+            (string_bytes printed.old.text) (string_bytes printed.new.text)) }
+    {
+        play(alloc, world, &mut self.book, plan, &mut self.tape)?;
+        keep_recent(&mut self.recent, &self.tape)?;
+        printed.trace(&self.tape)
+    }
+}
+
+// Keeps the last events for a picture.
+fn keep_recent(recent: &mut Vec<Played>, tape: &[Played]) -> Result<(), AllocError> {
+    for played in tape {
+        if recent.len() >= PICTURE_EVENTS {
+            recent.remove(0);
+        }
+        recent.push(*played)?;
+    }
+    Ok(())
+}
+
+// The bytes of a text, each typed at a port.
+fn keys_of(alloc: Global, port: u8, text: Quoted<'_>) -> Result<Vec<Event>, AllocError> {
+    let mut events = Vec::new(alloc);
+    for byte in &text.bytes(alloc)? {
+        events.push(Event::TypeByte { port, byte: *byte })?;
+    }
+    Ok(events)
+}
+
+// The backup of a pair, if it has one.
+fn backup_of<B: Copies<H> + Drop, H: Drop>(world: &World<B, Disk, H>, hosts: u8) -> Option<u64> {
+    for node in 0..u64::from(hosts) {
+        if let Some(
+            NodeStatus {
+                role: Role::Backup,
+                ..
+            },
+        ) = world.node(node)
+        {
+            return Some(node);
+        }
+    }
+    None
+}
+
+// Compares what is settled with the single machine.
+fn check<B: Copies<H> + Drop, H: Drop>(
+    alloc: Global,
+    opening: &Opening,
+    world: &mut World<B, Disk, H>,
+    printed: &mut Printed,
+) -> Result<(), AllocError>
+    ensures { over_records world.new ≡ over_records world.old }
+{
+    match compare(alloc, world, &opening.setup.guest, &opening.sectors) {
+        Ok(verdict) => printed.line(&verdict),
+        Err(fault) => printed.line(&Answer::Refused(fault)),
+    }
+}

@@ -1,0 +1,24 @@
+//! What becomes of a line.
+ghost use Rattle.std.specs.Prelude.{◌≡◌, IfOk};
+ghost use Rattle.pair_shell.specs.declared.outcome.Outcome.TheVariants as outcome;
+
+use crate::printing::Printed;
+use shell_language::Mistake;
+use std::alloc::AllocError;
+
+/// What became of a line.
+#[derive(Clone, Copy, Debug, PartialEq, Eq)]
+pub enum Outcome {
+    /// It is wrong: this was told, and nothing changed.
+    Refused,
+    /// It was done.
+    Done,
+}
+
+/// Tells what is wrong.
+pub fn refuse(mistake: Mistake<'_>, printed: &mut Printed) -> Result<Outcome, AllocError>
+    ensures { IfOk result (λ told. told ≡ outcome.Refused) }
+{
+    printed.line(&format_args!("? {mistake}"))?;
+    Ok(Outcome::Refused)
+}

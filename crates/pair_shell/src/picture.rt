@@ -1,0 +1,266 @@
+//! The last events as a diagram: the nodes, the arbiter, the terminals and the disk, a column each.
+
+use crate::book::Book;
+use crate::printing::Printed;
+use crate::tape::Played;
+use event_callbacks::OpId;
+use guest_board::StopReason;
+use i8080_words::{Fault, R};
+use pair_events::{Event, Reply};
+use std::alloc::{AllocError, Global};
+use std::fmt;
+
+// How wide a picture is, and each of its columns.
+const WIDTH: usize = 80;
+
+const COLUMN: usize = 16;
+
+/// The columns, from left to right.
+#[derive(Clone, Copy)]
+enum Column {
+    First,
+    Others,
+    Arbiter,
+    Terminals,
+    Disk,
+}
+
+impl Column {
+    // Node 0 has the first column, all others the second.
+    fn of_node(node: u64) -> Column {
+        if node == 0 {
+            Column::First
+        } else {
+            Column::Others
+        }
+    }
+
+    fn place(self) -> usize {
+        match self {
+            Column::First => 0,
+            Column::Others => COLUMN,
+            Column::Arbiter => 2 * COLUMN,
+            Column::Terminals => 3 * COLUMN,
+            Column::Disk => 4 * COLUMN,
+        }
+    }
+}
+
+// A row: where something happens, from where it came, if from elsewhere.
+#[derive(Clone, Copy)]
+struct Place {
+    at: Column,
+    from: Option<Column>,
+}
+
+/// Prints the events as a picture, oldest first.
+pub fn print_picture(
+    alloc: Global,
+    book: &Book,
+    recent: &[Played],
+    printed: &mut Printed,
+) -> Result<(), AllocError> {
+    printed.line(&"node 0          node 1          arbiter         terminals       disk")?;
+    for play in recent {
+        let words = words_of(alloc, book, play)?;
+        let row = Row::of(place_of(book, play.event), words.as_bytes());
+        printed.line(&row)?;
+    }
+    Ok(())
+}
+
+// Where an event happens.
+fn place_of(book: &Book, event: Event) -> Place {
+    let (at, from) = match event {
+        Event::Step { node, .. }
+        | Event::Send { node, .. }
+        | Event::Acknowledge { node }
+        | Event::Replay { node, .. }
+        | Event::Release { node, .. }
+        | Event::Drain { node, .. }
+        | Event::BeginPair { node, .. }
+        | Event::Freshen { node, .. }
+        | Event::SendPart { node, .. }
+        | Event::Stop { node } => (Column::of_node(node), None),
+        Event::DeliverLog { node, .. } | Event::DeliverAcknowledgement { node, .. } => {
+            (Column::of_node(node), Some(peer_of(node)))
+        }
+        Event::PartComes { message, node } => (Column::of_node(node), sender_of(book, message)),
+        Event::TakeKey { node, .. } | Event::TellSent { node, .. } => {
+            (Column::of_node(node), Some(Column::Terminals))
+        }
+        Event::PutReply { node, .. } | Event::GetReply { node, .. } | Event::Fetched { node, .. } =>
+            (Column::of_node(node), Some(Column::Disk)),
+        Event::TypeByte { .. } => (Column::Terminals, None),
+        Event::Arrive { message } => (Column::Terminals, sender_of(book, message)),
+        Event::Told { node, .. } => (Column::Terminals, Some(Column::of_node(node))),
+        Event::Put { message } => (Column::Disk, sender_of(book, message)),
+        Event::Get { node, .. } | Event::Fetch { node } => {
+            (Column::Disk, Some(Column::of_node(node)))
+        }
+        Event::Suspect { node } => (Column::Arbiter, Some(Column::of_node(node))),
+    };
+    Place { at, from }
+}
+
+// The node that sent a message.
+fn sender_of(book: &Book, message: u64) -> Option<Column> {
+    let letter = book.letter(message)?;
+    let node = letter.sender?;
+    Some(Column::of_node(node))
+}
+
+fn peer_of(node: u64) -> Column {
+    if node == 0 {
+        Column::Others
+    } else {
+        Column::First
+    }
+}
+
+// What is written at the event's place, in the order: message, event, answer.
+fn words_of(alloc: Global, book: &Book, play: &Played) -> Result<String, AllocError> {
+    let shown = Happening {
+        event: play.event,
+        answer: play.answer,
+        is_lost: is_lost(book, play.answer),
+    };
+    format!(in alloc; "{shown}")
+}
+
+// Whether the message that an event sent has reached nobody so far.
+fn is_lost(book: &Book, answer: R<Reply>) -> bool {
+    match answer {
+        Ok(Reply::Message { message }) => match book.letter(message) {
+            Some(letter) => !letter.has_arrived,
+            None => false,
+        },
+        _ => false,
+    }
+}
+
+// An event, as the picture says it.
+#[derive(Clone, Copy)]
+struct Happening {
+    event: Event,
+    answer: R<Reply>,
+    is_lost: bool,
+}
+
+impl fmt::Display for Happening {
+    fn fmt<W: fmt::Write>(&self, f: &mut fmt::Formatter<W>) -> fmt::Result {
+        match self.event {
+            Event::DeliverLog { message, .. } => write!(f, "m{message} ")?,
+            Event::DeliverAcknowledgement { message, .. } => write!(f, "m{message} ")?,
+            Event::Arrive { message } => write!(f, "m{message} ")?,
+            Event::Put { message } => write!(f, "m{message} ")?,
+            Event::PutReply { message, .. } => write!(f, "m{message} ")?,
+            Event::GetReply { message, .. } => write!(f, "m{message} ")?,
+            Event::Fetched { message, .. } => write!(f, "m{message} ")?,
+            Event::Fetch { .. } => write!(f, "fetch ")?,
+            Event::TypeByte { byte, .. } => write!(f, "types {byte:02X} ")?,
+            Event::TakeKey { index, .. } => write!(f, "key {index} ")?,
+            Event::TellSent { number, .. } => write!(f, "sent {number} ")?,
+            Event::Send { index, .. } => write!(f, "entry {index} ")?,
+            Event::Acknowledge { .. } => write!(f, "ack ")?,
+            Event::Release {
+                id: OpId::Byte(port, number),
+                ..
+            } => write!(f, "byte {port} {number} ")?,
+            Event::Release {
+                id: OpId::Write(number),
+                ..
+            } => write!(f, "write {number} ")?,
+            Event::Get { sector, .. } => write!(f, "read {sector} ")?,
+            _ => {}
+        }
+        match self.answer {
+            Ok(Reply::Message { message }) if self.is_lost => write!(f, "m{message}..."),
+            Ok(Reply::Message { message }) => write!(f, "m{message}>"),
+            Ok(
+                Reply::Ran {
+                    steps,
+                    why: StopReason::Operation(OpId::Byte(port, number)),
+                    ..
+                },
+            ) => { write!(f, "{steps}: byte {port} {number}") }
+            Ok(
+                Reply::Ran {
+                    steps,
+                    why: StopReason::Operation(OpId::Write(number)),
+                    ..
+                },
+            ) => { write!(f, "{steps}: write {number}") }
+            Ok(
+                Reply::Ran {
+                    steps,
+                    why: StopReason::Refused(Fault::Idle),
+                    ..
+                },
+            ) => { write!(f, "{steps}: idle") }
+            Ok(Reply::Ran { steps, .. }) => write!(f, "{steps} steps"),
+            Ok(reply) => write!(f, "{reply}"),
+            Err(fault) => write!(f, "refused {}", fault.number()),
+        }
+    }
+}
+
+// A row of the picture, of printable characters.
+#[derive(Clone, Copy)]
+struct Row {
+    cells: [u8; WIDTH],
+}
+
+impl Row {
+    // These words at a place, and an arrow to them from where they came.
+    fn of(place: Place, words: &[u8]) -> Row {
+        let mut row = Row {
+            cells: [b' '; WIDTH],
+        };
+        let at = place.at.place();
+        if let Some(from) = place.from {
+            let from = from.place();
+            if from < at {
+                row.draw(from, at.saturating_sub(2), b'-');
+                row.draw(at.saturating_sub(2), at.saturating_sub(1), b'>');
+            } else {
+                let end = at.saturating_add(words.len().min(COLUMN)).saturating_add(1);
+                row.draw(end, end.saturating_add(1), b'<');
+                row.draw(end.saturating_add(1), from.saturating_add(1), b'-');
+            }
+        }
+        row.write(at, words);
+        row
+    }
+
+    // Fills the cells from one place to before another.
+    fn draw(&mut self, start: usize, end: usize, shown: u8) {
+        for place in start..end {
+            if let Some(cell) = self.cells.get_mut(place) {
+                *cell = shown;
+            }
+        }
+    }
+
+    // Writes words from a place on, as far as the column goes.
+    fn write(&mut self, start: usize, words: &[u8]) {
+        for (place, byte) in words.iter().take(COLUMN).enumerate() {
+            if let Some(cell) = self.cells.get_mut(start.saturating_add(place)) {
+                *cell = *byte;
+            }
+        }
+    }
+}
+
+impl fmt::Display for Row {
+    fn fmt<W: fmt::Write>(&self, f: &mut fmt::Formatter<W>) -> fmt::Result {
+        let mut shown: &[u8] = &self.cells;
+        'spaces: while let [before @ .., b' '] = shown {
+            shown = before;
+        }
+        for byte in shown {
+            write!(f, "{}", char::from(*byte))?;
+        }
+        Ok(())
+    }
+}

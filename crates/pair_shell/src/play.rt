@@ -1,0 +1,91 @@
+//! Events that happen in a pair, one after another, and what was answered to each.
+ghost use Rattle.std.specs.Prelude.{◌≡◌, ◌<◌, [], ◌∷◌, ◌++◌, IfOk, vec_capacity, vec_len};
+ghost use Rattle.ft_world.specs.Applies.{Happens};
+ghost use Rattle.pair_check.specs.Disks.{records_in};
+ghost use Rattle.pair_shell.specs.Tapes.{Lengthens, Plays, played};
+
+use crate::book::Book;
+use crate::plan::Plan;
+use crate::tape::Played;
+use clone_state::Copies;
+use ft_world::World;
+use i8080_words::R;
+use pair_check::Disk;
+use pair_events::{Event, Reply};
+use std::alloc::{AllocError, Global};
+
+/// Makes the events of a plan happen, one after another, each chosen when the one before it was answered. The tape has
+/// exactly these afterwards, with their answers; also if memory for the next one is refused.
+#[tactic(auto, using(crate::proofs::Playing::plays_nothing))]
+pub fn play<B: Copies<H> + Drop, H: Drop>(
+    alloc: Global,
+    world: &mut World<B, Disk, H>,
+    book: &mut Book,
+    plan: &mut Plan,
+    tape: &mut Vec<Played>,
+) -> Result<(), AllocError>
+    ensures { Plays B.state B.copied B.machine world.old tape.new.items world.new }
+{
+    tape.clear();
+    'events: for _ in 0..u64::MAX {
+        let Some(event) = plan.next(book)? else {
+            return Ok(());
+        };
+        let answer = play_next(alloc, world, book, event, tape)?;
+        plan.hear(event, answer);
+    }
+    Ok(())
+}
+
+/// Makes one event happen. The tape has it alone afterwards, with its answer; nothing if memory for it is refused.
+#[tactic(auto, using(crate::proofs::Playing::plays_nothing))]
+pub fn play_one<B: Copies<H> + Drop, H: Drop>(
+    alloc: Global,
+    world: &mut World<B, Disk, H>,
+    book: &mut Book,
+    event: Event,
+    tape: &mut Vec<Played>,
+) -> Result<R<Reply>, AllocError>
+    ensures happened { Plays B.state B.copied B.machine world.old tape.new.items world.new }
+    ensures alone { IfOk result (λ answer. tape.new.items ≡ played event answer ∷ []) }
+{
+    tape.clear();
+    play_next(alloc, world, book, event, tape)
+}
+
+// One more event happens, unless memory for it is refused.
+#[tactic(auto, using(crate::proofs::Playing::lengthens, crate::proofs::Playing::lengthens_not))]
+fn play_next<B: Copies<H> + Drop, H: Drop>(
+    alloc: Global,
+    world: &mut World<B, Disk, H>,
+    book: &mut Book,
+    event: Event,
+    tape: &mut Vec<Played>,
+) -> Result<R<Reply>, AllocError>
+    ensures happened { Lengthens B.state B.copied B.machine world.old world.new tape.old.items tape.new.items }
+    ensures taped { IfOk result (λ answer. tape.new.items ≡ tape.old.items ++ played event answer ∷ []) }
+{
+    tape.reserve(1)?;
+    book.make_room()?;
+    let answer = make(alloc, world, event, tape);
+    book.note(world, event, answer);
+    Ok(answer)
+}
+
+// An event happens, and comes onto the tape with its answer.
+fn make<B: Copies<H> + Drop, H: Drop>(
+    alloc: Global,
+    world: &mut World<B, Disk, H>,
+    event: Event,
+    tape: &mut Vec<Played>,
+) -> R<Reply>
+    requires room { vec_len tape.old < vec_capacity tape.old }
+    ensures happened { Happens B.state B.copied B.machine records_in world.old event result world.new }
+    ensures taped { tape.new.items ≡ tape.old.items ++ played event result ∷ [] }
+{
+    let answer = world.apply(alloc, event);
+    match tape.push(Played { event, answer }) {
+        Ok(()) => answer,
+        Err(_) => unreachable!(),
+    }
+}

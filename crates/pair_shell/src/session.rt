@@ -1,0 +1,178 @@
+//! A session: its setup, the pair once it has booted, and the answers to its lines.
+ghost use Rattle.event_callbacks.specs.declared.devices.TheConstants.{SENT, SECTOR, WRITTEN};
+ghost use Rattle.event_callbacks.specs.Keeping.{Keeps};
+
+use crate::answers::print_help;
+use crate::notes::Notes;
+use crate::opening::Opening;
+use crate::outcome::{Outcome, refuse};
+use crate::pairs::{Altairs, boot};
+use crate::printing::Printed;
+use event_callbacks::Completes;
+use i8080_words::Fault;
+use shell_language::{Mistake, ShellLine, read_line};
+use std::alloc::{AllocError, Global};
+
+/// The shell with its pair.
+#[derive(Drop)]
+pub struct Session<T: Completes + Drop, S: Completes + Drop, W: Completes + Drop> {
+    opening: Opening,
+    world: Option<Altairs<T, S, W>>,
+    notes: Notes,
+    is_traced: bool,
+}
+
+impl<T: Completes + Drop + Copy, S: Completes + Drop + Copy, W: Completes + Drop + Copy> Session<
+    T,
+    S,
+    W,
+> {
+    ghost use Rattle.std.specs.Prelude.{◌≡◌, [], true, IfOk, None, Some, string_bytes};
+    ghost use Rattle.shell_language.specs.Saying.{said};
+    ghost use Rattle.pair_shell.specs.Openings.{IsSame, SetsUp, SetsUpSaid};
+    ghost use Rattle.pair_shell.specs.Sessions.{AltairsPlay, HeedsSaid, IsAsBefore, IsHeeded, trace_after};
+    ghost use Rattle.pair_shell.specs.Tapes.{Begins, trace_text};
+    ghost use Rattle.pair_shell.specs.declared.outcome.Outcome.TheVariants as outcome;
+
+    /// A session before its first line.
+    pub fn new(alloc: Global) -> Result<Self, AllocError> {
+        Ok(Session {
+            opening: Opening::new(alloc)?,
+            world: None,
+            notes: Notes::new(alloc),
+            is_traced: false,
+        })
+    }
+
+    /// Answers a line, which is without its LF and a CR before that. What it makes happen is on the tape, event by event,
+    /// each with its answer; a trace says it line by line. A line that is wrong changes nothing. One that is an event of the
+    /// script language makes that event alone, and is answered as a script is.
+    #[tactic(auto, using(crate::proofs::Playing::line_plays, crate::proofs::Playing::line_boots, crate::proofs::Playing::line_plays_nothing, crate::proofs::Tracing::begins_nothing, crate::proofs::Tracing::heeds_said, crate::proofs::Tracing::sets_up_said, crate::proofs::Tracing::switches, crate::proofs::Tracing::switches_not))]
+    pub fn answer(
+        &mut self,
+        alloc: Global,
+        sent: T,
+        sector: S,
+        written: W,
+        text: &[u8],
+    ) -> Result<(Outcome, String), AllocError>
+        requires sent { Keeps (T.may sent) (T.gives sent) SENT }
+        requires sector { Keeps (S.may sector) (S.gives sector) SECTOR }
+        requires written { Keeps (W.may written) (W.gives written) WRITTEN }
+        ensures played { AltairsPlay (λ d. d.board.guest) self.old.opening self.old.world self.new.notes.tape.items
+            self.new.world }
+        ensures traced { IfOk result (λ told. self.old.is_traced ≡ true
+            → Begins (trace_text self.new.notes.tape.items) (string_bytes told.1)) }
+        ensures heeded { IfOk result (λ told. told.0 ≡ outcome.Done → HeedsSaid (said text.now)
+            self.new.notes.tape.items self.old.is_traced [] (string_bytes told.1)) }
+        ensures wrong { said text.now ≡ None → IfOk result (λ told. told.0 ≡ outcome.Refused) }
+        ensures set { IfOk result (λ told. told.0 ≡ outcome.Done
+            → SetsUpSaid (said text.now) self.old.opening self.new.opening) }
+        ensures switched { self.new.is_traced ≡ trace_after (said text.now) self.old.is_traced }
+        ensures refused { IfOk result (λ told. told.0 ≡ outcome.Refused → IsAsBefore self.old.opening self.new.opening
+            self.old.world self.new.world self.old.notes self.new.notes self.old.is_traced self.new.is_traced) }
+    {
+        self.notes.tape.clear();
+        let mut printed = Printed::new(alloc, self.is_traced);
+        let outcome = match read_line(text) {
+            Ok(line) => self.take(alloc, sent, sector, written, text, line, &mut printed)?,
+            Err(mistake) => refuse(mistake, &mut printed)?,
+        };
+        Ok((outcome, printed.into_text()))
+    }
+
+    // Does what a line says.
+    #[tactic(auto, using(crate::proofs::Playing::line_plays, crate::proofs::Playing::line_boots, crate::proofs::Playing::line_plays_nothing, crate::proofs::Tracing::begins_nothing))]
+    fn take(
+        &mut self,
+        alloc: Global,
+        sent: T,
+        sector: S,
+        written: W,
+        text: &[u8],
+        line: ShellLine<'_>,
+        printed: &mut Printed,
+    ) -> Result<Outcome, AllocError>
+        requires sent { Keeps (T.may sent) (T.gives sent) SENT }
+        requires sector { Keeps (S.may sector) (S.gives sector) SECTOR }
+        requires written { Keeps (W.may written) (W.gives written) WRITTEN }
+        requires empty { self.old.notes.tape.items ≡ [] }
+        requires blank { string_bytes printed.old.text ≡ [] }
+        ensures played { AltairsPlay (λ d. d.board.guest) self.old.opening self.old.world self.new.notes.tape.items
+            self.new.world }
+        ensures traced { IfOk result (λ _. printed.old.is_traced ≡ true
+            → Begins (trace_text self.new.notes.tape.items) (string_bytes printed.new.text)) }
+        ensures heeded { IfOk result (λ told. told ≡ outcome.Done → IsHeeded line.entry self.new.notes.tape.items
+            printed.old.is_traced (string_bytes printed.old.text) (string_bytes printed.new.text)) }
+        ensures set { IfOk result (λ told. told ≡ outcome.Done
+            → SetsUp line.entry self.old.opening self.new.opening) }
+        ensures switched { self.new.is_traced ≡ trace_after (Some line.entry) self.old.is_traced }
+        ensures refused { IfOk result (λ told. told ≡ outcome.Refused → IsAsBefore self.old.opening self.new.opening
+            self.old.world self.new.world self.old.notes self.new.notes self.old.is_traced self.new.is_traced) }
+    {
+        match line {
+            ShellLine::Empty => Ok(Outcome::Done),
+            ShellLine::Trace(is_traced) => {
+                self.is_traced = is_traced;
+                Ok(Outcome::Done)
+            }
+            ShellLine::Help => {
+                print_help(printed)?;
+                Ok(Outcome::Done)
+            }
+            ShellLine::Setup { .. } | ShellLine::SetSector { .. } | ShellLine::Load(_) => {
+                if self.world.is_some() {
+                    return refuse(Mistake::Late { line: text }, printed);
+                }
+                self.opening.take(alloc, text, line, printed)
+            }
+            line => self.take_event(alloc, sent, sector, written, line, printed),
+        }
+    }
+
+    // Does what a line says, other than one of the setup; the pair boots if it has not yet.
+    #[tactic(auto, using(crate::proofs::Playing::line_plays, crate::proofs::Playing::line_boots, crate::proofs::Playing::line_plays_nothing, crate::proofs::Tracing::begins_nothing))]
+    fn take_event(
+        &mut self,
+        alloc: Global,
+        sent: T,
+        sector: S,
+        written: W,
+        line: ShellLine<'_>,
+        printed: &mut Printed,
+    ) -> Result<Outcome, AllocError>
+        requires sent { Keeps (T.may sent) (T.gives sent) SENT }
+        requires sector { Keeps (S.may sector) (S.gives sector) SECTOR }
+        requires written { Keeps (W.may written) (W.gives written) WRITTEN }
+        requires empty { self.old.notes.tape.items ≡ [] }
+        requires blank { string_bytes printed.old.text ≡ [] }
+        ensures played { AltairsPlay (λ d. d.board.guest) self.old.opening self.old.world self.new.notes.tape.items
+            self.new.world }
+        ensures traced { IfOk result (λ _. printed.old.is_traced ≡ true
+            → Begins (trace_text self.new.notes.tape.items) (string_bytes printed.new.text)) }
+        ensures heeded { IfOk result (λ told. told ≡ outcome.Done → IsHeeded line.entry self.new.notes.tape.items
+            printed.old.is_traced (string_bytes printed.old.text) (string_bytes printed.new.text)) }
+        ensures opening { self.new.opening ≡ self.old.opening }
+        ensures switched { self.new.is_traced ≡ self.old.is_traced }
+        ensures refused { IfOk result (λ told. told ≡ outcome.Refused → IsAsBefore self.old.opening self.new.opening
+            self.old.world self.new.world self.old.notes self.new.notes self.old.is_traced self.new.is_traced) }
+    {
+        if let Some(world) = &mut self.world {
+            self.notes.take(alloc, &self.opening, world, line, printed)?;
+            return Ok(Outcome::Done);
+        }
+        let setup = &self.opening.setup;
+        let sectors = &self.opening.sectors;
+        let mut world = match boot(alloc, setup, sectors, sent, sector, written) {
+            Ok(world) => world,
+            Err(Fault::OutOfMemory) => return Err(AllocError),
+            Err(_) => return refuse(self.opening.detached(), printed),
+        };
+        let taken = self
+            .notes
+            .take(alloc, &self.opening, &mut world, line, printed);
+        self.world = Some(world);
+        taken?;
+        Ok(Outcome::Done)
+    }
+}

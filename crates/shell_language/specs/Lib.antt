@@ -1,0 +1,5 @@
+pub mod Lines
+pub mod Quoting
+pub mod Records
+pub mod Saying
+pub mod Spelling

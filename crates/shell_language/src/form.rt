@@ -1,0 +1,171 @@
+//! The forms of lines: a table of what the shell takes, which `help` prints.
+
+use crate::kind::Kind;
+use crate::kind::Kind::{Address, Byte, Bytes, Exactly, Number, Record, Text, Within};
+use crate::mistake::Mistake;
+use script_language::Words;
+
+/// A form of lines: its first word, the words after that, how it is written, and what it does.
+#[derive(Clone, Copy)]
+pub struct Form {
+    pub word: &'static str,
+    pub kinds: &'static [Kind],
+    pub usage: &'static str,
+    pub meaning: &'static str,
+}
+
+// A table of forms, a row each.
+macro_rules! forms {
+    ($([$word:literal, [$($kind:expr),*], $usage:literal, $meaning:literal]),* $(,)?) => {
+        [$(Form { word: $word, kinds: &[$($kind),*], usage: $usage, meaning: $meaning }),*]
+    };
+}
+
+/// All forms, in the order in which `help` prints them.
+#[rattlefmt::skip]
+pub static FORMS: [Form; 52] = forms![
+    ["mem", [Address, Bytes], "mem AAAA HH ..", "setup: these bytes from this address on"],
+    ["load", [Record], "load :LLAAAATTDD..CC", "setup: a record of Intel HEX; the word load may be left out"],
+    ["drives", [Within(1, 4)], "drives N", "setup: 1 to 4 drives"],
+    ["levels", [Within(0, 7), Within(0, 7), Within(0, 7)], "levels P Q D", "setup: the levels of port 0, port 1 and the disk, 0 to 7"],
+    ["sense", [Byte], "sense HH", "setup: the sense switches"],
+    ["hosts", [Within(2, 64)], "hosts N", "setup: 2 to 64 hosts"],
+    ["reads", [Exactly("shared")], "reads shared", "setup: the backup reads sectors from the shared disk itself"],
+    ["sector", [Within(0, 3), Within(0, 76), Within(0, 31), Bytes], "sector D T S HH ..", "setup: 137 times one byte, or up to 137 bytes and zeros"],
+    ["fail", [Number], "fail K", "setup: the K-th access of the disk fails"],
+    ["step", [Number, Number], "step N K", "node N makes at most K steps"],
+    ["type", [Number, Byte], "type P HH", "a byte is typed at port P"],
+    ["type", [Number, Text], "type P \"text\"", "text is typed there; \\r \\n \\\" \\\\ are one byte each"],
+    ["key", [Number, Number, Number], "key N P I", "node N takes key I of port P"],
+    ["send", [Number, Number], "send N I", "primary N sends log entry I"],
+    ["send", [Number, Exactly("all")], "send N all", "all its entries that were not sent yet"],
+    ["log", [Number, Number], "log M N", "log message M reaches backup N"],
+    ["log", [Number, Exactly("all")], "log N all", "all log messages that have reached no node yet reach backup N"],
+    ["ack", [Number], "ack N", "backup N acknowledges what it holds"],
+    ["acked", [Number, Number], "acked M N", "acknowledgement M reaches primary N"],
+    ["replay", [Number, Number], "replay N K", "backup N makes at most K moves"],
+    ["release", [Number, Exactly("byte"), Number, Number], "release N byte P X", "node N sends byte X of port P to its terminal"],
+    ["release", [Number, Exactly("write"), Number], "release N write X", "node N sends write X to the disk"],
+    ["arrive", [Number], "arrive M", "message M, a byte, reaches its terminal"],
+    ["arrive", [Exactly("all")], "arrive all", "all bytes that have not arrived yet do"],
+    ["sent", [Number, Number, Number], "sent N P X", "node N hears that byte X of port P was accepted"],
+    ["told", [Number, Number], "told N P", "the terminal of port P hears how many keys are covered"],
+    ["put", [Number], "put M", "message M, a write, reaches the disk"],
+    ["done", [Number, Number], "done M N", "the disk's answer M to a write reaches node N"],
+    ["get", [Number, Number], "get N I", "the disk reads sector I of the drive and track of node N"],
+    ["under", [Number, Number], "under M N", "sector M reaches node N"],
+    ["fetch", [Number], "fetch N", "the disk reads the sector for which node N waits"],
+    ["fetched", [Number, Number], "fetched M N", "the sector M that it waits for reaches node N"],
+    ["suspect", [Number], "suspect N", "node N suspects its peer, and asks the arbiter"],
+    ["drain", [Number, Number], "drain N K", "node N, which has won, makes at most K moves"],
+    ["pair", [Number, Number], "pair N H", "node N, which is alone, begins a pair with spare host H"],
+    ["freshen", [Number, Number], "freshen N K", "node N, which is alone, copies at most K stale pages early"],
+    ["sendpart", [Number, Number], "sendpart N I", "node N sends part I of its image"],
+    ["part", [Number, Number], "part M N", "message M, a part, arrives at node N"],
+    ["stop", [Number], "stop N", "node N halts for good"],
+    ["run", [Number, Number], "run N K", "the pair's ordinary day, for K turns of node N"],
+    ["run", [Number, Number, Exactly("loss"), Within(0, 100), Number], "run N K loss P SEED", "the same; of 100 messages P are lost, repeated or overtaken"],
+    ["show", [Number], "show P", "the bytes that terminal P has accepted"],
+    ["screen", [Number], "screen P", "the same as text"],
+    ["packet", [Number], "packet M", "the bytes of a message of the log"],
+    ["node", [Number], "node N", "a node's role, generation and count"],
+    ["last", [], "last", "the number of the last message"],
+    ["sector", [Within(0, 3), Within(0, 76), Within(0, 31)], "sector D T S", "what the disk has there"],
+    ["check", [], "check", "compares what is settled with the single machine"],
+    ["picture", [], "picture", "the last events as a diagram"],
+    ["trace", [Exactly("on")], "trace on", "from here on what is printed is a script"],
+    ["trace", [Exactly("off")], "trace off", "no longer"],
+    ["help", [], "help", "this list"],
+];
+
+impl Form {
+    // The first word after the form's own that does not fit, by its place in the line, from 1; none if all do.
+    fn first_wrong<'a>(&'static self, text: &'a [u8]) -> Option<(usize, Mistake<'a>)> {
+        let mut words = Words::of(text);
+        let _ = words.next();
+        let mut place = 2usize;
+        for kind in self.kinds {
+            let Some(word) = words.next() else {
+                return Some((
+                    place,
+                    Mistake::Missing {
+                        place,
+                        form: self,
+                        kind: *kind,
+                    },
+                ));
+            };
+            if !kind.fits(word) {
+                return Some((
+                    place,
+                    Mistake::Wrong {
+                        place,
+                        word,
+                        form: self,
+                        kind: *kind,
+                    },
+                ));
+            }
+            place = place.saturating_add(1);
+        }
+        match self.kinds.last() {
+            Some(Kind::Bytes) => self.wrong_byte(&mut words, place),
+            Some(Kind::Text) => Some((place, Mistake::Text { form: self })),
+            _ => {
+                let word = words.next()?;
+                Some((
+                    place,
+                    Mistake::OneTooMany {
+                        place,
+                        word,
+                        form: self,
+                    },
+                ))
+            }
+        }
+    }
+
+    // The first of the words that are left that is no byte.
+    fn wrong_byte<'a>(
+        &'static self,
+        words: &mut Words<'a>,
+        first: usize,
+    ) -> Option<(usize, Mistake<'a>)> {
+        let mut place = first;
+        'bytes: while let Some(word) = words.next() {
+            if !Kind::Byte.fits(word) {
+                return Some((
+                    place,
+                    Mistake::Wrong {
+                        place,
+                        word,
+                        form: self,
+                        kind: Kind::Byte,
+                    },
+                ));
+            }
+            place = place.saturating_add(1);
+        }
+        None
+    }
+}
+
+/// What is wrong with a line that has no meaning: its first word is none of the forms', or a word does not fit the form
+/// that the line follows the furthest.
+pub fn mistake_in(text: &[u8]) -> Mistake<'_> {
+    let Some(first) = Words::of(text).next() else {
+        return Mistake::Blank;
+    };
+    let mut furthest = (0, Mistake::Unknown { word: first });
+    for form in &FORMS {
+        if form.word.as_bytes() == first {
+            match form.first_wrong(text) {
+                Some((place, mistake)) if place > furthest.0 => furthest = (place, mistake),
+                Some(_) => {}
+                None if furthest.0 == 0 => furthest = (0, Mistake::Range { form }),
+                None => {}
+            }
+        }
+    }
+    furthest.1
+}

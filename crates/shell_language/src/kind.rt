@@ -1,0 +1,55 @@
+//! The kinds of words in a line.
+
+use script_language::Words;
+use std::fmt;
+
+/// What a word of a line has to be.
+#[derive(Clone, Copy)]
+pub enum Kind {
+    /// A decimal number below 2^64.
+    Number,
+    /// A decimal number from one to another.
+    Within(u8, u8),
+    /// A byte, as two hexadecimal digits.
+    Byte,
+    /// An address, as four hexadecimal digits.
+    Address,
+    /// This word.
+    Exactly(&'static str),
+    /// Text in double quotes, which may have spaces; it ends the line.
+    Text,
+    /// A record of Intel HEX, which begins with a colon.
+    Record,
+    /// Bytes, at least one; they end the line.
+    Bytes,
+}
+
+impl Kind {
+    /// Whether a word is of this kind.
+    pub(crate) fn fits(self, word: &[u8]) -> bool {
+        let mut one = Words::of(word);
+        match self {
+            Kind::Number => one.number().is_some(),
+            Kind::Within(least, greatest) => one.number_within(least, greatest).is_some(),
+            Kind::Byte | Kind::Bytes => one.byte().is_some(),
+            Kind::Address => one.address().is_some(),
+            Kind::Exactly(text) => word == text.as_bytes(),
+            Kind::Text => word.starts_with(b"\""),
+            Kind::Record => word.starts_with(b":"),
+        }
+    }
+}
+
+impl fmt::Display for Kind {
+    fn fmt<W: fmt::Write>(&self, f: &mut fmt::Formatter<W>) -> fmt::Result {
+        match self {
+            Kind::Number => write!(f, "a number below 18446744073709551616"),
+            Kind::Within(least, greatest) => write!(f, "a number from {least} to {greatest}"),
+            Kind::Byte | Kind::Bytes => write!(f, "a byte of two hexadecimal digits"),
+            Kind::Address => write!(f, "an address of four hexadecimal digits"),
+            Kind::Exactly(text) => write!(f, "the word {text}"),
+            Kind::Text => write!(f, "text in double quotes"),
+            Kind::Record => write!(f, "a record of Intel HEX"),
+        }
+    }
+}

@@ -1,0 +1,22 @@
+//! The lines of the shell: those of the script language, and those that a person needs besides.
+#![tactic(auto)]
+
+mod form;
+mod kind;
+mod line;
+mod loading;
+mod mistake;
+mod own;
+mod own_lines;
+mod quoted;
+mod reading;
+mod spelled;
+
+pub use form::{FORMS, Form, mistake_in};
+pub use kind::Kind;
+pub use line::{Loss, ShellLine, Turns};
+pub use loading::{Record, RecordMistake, read_record};
+pub use mistake::{LINE_BYTES, Mistake, Shown};
+pub use quoted::Quoted;
+pub use reading::read_line;
+pub use spelled::Spelled;

@@ -1,0 +1,78 @@
+//! What the lines of the shell say.
+
+use crate::loading::Record;
+use crate::quoted::Quoted;
+use disk_dcdd::SectorAddress;
+use pair_events::Event;
+use script_language::{Keyword, Query, Words};
+
+/// What a link does to messages: of 100 it loses, repeats or delays this many, chosen by a seed.
+#[derive(Clone, Copy)]
+pub struct Loss {
+    pub percent: u8,
+    pub seed: u64,
+}
+
+/// Turns of a node, and of the pair around it.
+#[derive(Clone, Copy)]
+pub struct Turns {
+    pub node: u64,
+    pub turns: u64,
+    pub loss: Option<Loss>,
+}
+
+/// What a line says.
+#[derive(Drop)]
+pub enum ShellLine<'a> {
+    /// Nothing: it is empty, or a comment.
+    Empty,
+    /// An event of the script language.
+    Event(Event),
+    /// A query of the script language.
+    Query(Query),
+    /// A setup line of the script language, other than a sector, and the words after its keyword.
+    Setup {
+        keyword: Keyword,
+        words: Words<'a>,
+    },
+    /// The bytes of a sector at boot, from 1 to 137: one alone is each of its bytes, and zeros follow several.
+    SetSector {
+        sector: SectorAddress,
+        bytes: Words<'a>,
+    },
+    /// Bytes that are loaded into memory; none for the last record of a file.
+    Load(Record),
+    /// All entries of a node that were not sent yet are sent.
+    SendAll {
+        node: u64,
+    },
+    /// All log messages that have not reached a node yet reach this one.
+    LogAll {
+        node: u64,
+    },
+    /// All bytes that have not arrived yet arrive.
+    ArriveAll,
+    /// The pair's ordinary day.
+    Run(Turns),
+    /// Text is typed at the terminal of a port.
+    TypeText {
+        port: u8,
+        text: Quoted<'a>,
+    },
+    /// What a terminal has accepted, as text.
+    Screen {
+        port: u8,
+    },
+    /// What the disk has in a sector.
+    Sector(SectorAddress),
+    /// The number of the last message.
+    Last,
+    /// Whether the pair has done what one machine does.
+    Check,
+    /// The last events as a diagram.
+    Picture,
+    /// Whether events are printed as the lines of a script.
+    Trace(bool),
+    /// The list of all lines.
+    Help,
+}

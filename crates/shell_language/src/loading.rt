@@ -1,0 +1,194 @@
+//! Records of Intel HEX, a line each.
+ghost use Rattle.std.specs.Prelude.{◌≡◌, ◌+◌, ◌/◌, ◌%◌, ◌≤◌, Some, None, if◌then◌else◌, length, sum, take};
+ghost use Rattle.std.specs.Result.{result_ok};
+ghost use Rattle.hex.specs.Hex.{decode_of};
+ghost use Rattle.shell_language.specs.Records.{Loaded, by_type, record_by, record_in, record_of};
+
+use std::fmt;
+use std::marker::Model;
+
+// How many bytes of data a record may have.
+const RECORD_BYTES: usize = 255;
+
+// How many bytes a record has besides: its length, its address, its type and its sum.
+const OTHER_BYTES: usize = 5;
+
+const LONGEST: usize = RECORD_BYTES + OTHER_BYTES;
+
+// How many bytes a memory has.
+const MEMORY_BYTES: usize = 65_536;
+
+/// Bytes that are put into memory from an address on; none of them is past FFFF.
+#[derive(Drop)]
+pub struct Record {
+    address: u16,
+    count: u8,
+    // The first `count` of these.
+    bytes: [u8; RECORD_BYTES],
+}
+
+impl Model for Record {
+    ghost Value = { Loaded };
+
+    ghost view = { λ r. record { address = r.address; bytes = take r.count r.bytes } };
+
+    ghost invariant = { λ r. r.address + r.count ≤ 65536 };
+}
+
+/// Why a line is not a record.
+#[derive(Clone, Copy)]
+pub enum RecordMistake {
+    /// There is no colon before, or what follows it is not pairs of hexadecimal digits.
+    Digits,
+    /// It has more or fewer bytes than its first byte says.
+    Length { said: u8, there: usize },
+    /// Its last byte does not bring the sum of all to a multiple of 256; this one would.
+    Sum { wanted: u8, there: u8 },
+    /// Its type is neither 00, data, nor 01, the end.
+    Type(u8),
+    /// Its bytes go past address FFFF.
+    Past(u16),
+}
+
+impl fmt::Display for RecordMistake {
+    fn fmt<W: fmt::Write>(&self, f: &mut fmt::Formatter<W>) -> fmt::Result {
+        match self {
+            RecordMistake::Digits => write!(
+                f,
+                "a record of Intel HEX is a colon and then pairs of hexadecimal digits: `:LLAAAATTDD..CC`"
+            ),
+            RecordMistake::Length { said, there } => write!(
+                f,
+                "the record says that it has {said} bytes of data, and has {there}: `:LLAAAATTDD..CC`"
+            ),
+            RecordMistake::Sum { wanted, there } => write!(
+                f,
+                "the record's sum is wrong: it ends with {there:02X}, and {wanted:02X} is expected"
+            ),
+            RecordMistake::Type(kind) => write!(
+                f,
+                "the record is of type {kind:02X}: 00, data, and 01, the end, are expected"
+            ),
+            RecordMistake::Past(address) => {
+                write!(f, "the record's bytes from {address:04X} on go past FFFF")
+            }
+        }
+    }
+}
+
+impl Record {
+    // These bytes from this address on.
+    fn of(address: u16, given: &[u8]) -> Record
+        requires few { length given.now ≤ 255 }
+        requires within { address + length given.now ≤ 65536 }
+        ensures address { result.address ≡ address }
+        ensures bytes { result.bytes ≡ given.now }
+    {
+        let mut bytes = [0u8; RECORD_BYTES];
+        bytes[..given.len()].copy_from_slice(given);
+        Record {
+            address,
+            count: given.len() as u8,
+            bytes,
+        }
+    }
+
+    /// Where the first byte is put.
+    pub fn address(&self) -> u16
+        ensures { result ≡ self.now.address }
+    {
+        self.address
+    }
+
+    /// The bytes.
+    pub fn bytes(&self) -> &[u8]
+        ensures exact { result.now ≡ self.now.bytes }
+        ensures within { self.now.address + length result.now ≤ 65536 }
+    {
+        &self.bytes[..usize::from(self.count)]
+    }
+}
+
+/// What a line says as a record, from its colon to its sum.
+pub fn read_record(line: &[u8]) -> Result<Record, RecordMistake>
+    ensures { result ≡ record_of line.now }
+{
+    match line {
+        [b':', digits @ ..] => read_digits(digits),
+        _ => Err(RecordMistake::Digits),
+    }
+}
+
+// What the digits of a record say.
+fn read_digits(digits: &[u8]) -> Result<Record, RecordMistake>
+    ensures { result ≡ record_by digits.now }
+{
+    let count = digits.len() / 2;
+    if count > LONGEST {
+        return Err(RecordMistake::Digits);
+    }
+    let mut bytes = [0u8; LONGEST];
+    if !decode(digits, &mut bytes[..count]) {
+        return Err(RecordMistake::Digits);
+    }
+    read_bytes(&bytes[..count])
+}
+
+// Puts the bytes of pairs of digits into a place for as many. `false` if they are none.
+#[tactic(auto, using(crate::proofs::Decoding::decoded))]
+fn decode(digits: &[u8], out: &mut [u8]) -> bool
+    requires { length out.old ≡ length digits.now / 2 }
+    ensures { result_ok (decode_of digits.now) ≡ (if result then Some out.new else None) }
+{
+    match hex::decode_to_slice(digits, out) {
+        Ok(()) => true,
+        Err(_) => false,
+    }
+}
+
+// What the bytes of a record say.
+fn read_bytes(bytes: &[u8]) -> Result<Record, RecordMistake>
+    requires { length bytes.now ≤ 260 }
+    ensures { result ≡ record_in bytes.now }
+{
+    if bytes.len() < OTHER_BYTES {
+        return Err(RecordMistake::Digits);
+    }
+    let there = bytes.len() - OTHER_BYTES;
+    let said = bytes[0];
+    if usize::from(said) != there {
+        return Err(RecordMistake::Length { said, there });
+    }
+    let excess = excess(bytes);
+    if excess != 0 {
+        let there = bytes[bytes.len() - 1];
+        let wanted = ((u16::from(there) + 256 - u16::from(excess)) % 256) as u8;
+        return Err(RecordMistake::Sum { wanted, there });
+    }
+    let address = u16::from(bytes[1]) * 256 + u16::from(bytes[2]);
+    by_type(bytes[3], address, &bytes[4..4 + there])
+}
+
+// How far the sum of bytes is above a multiple of 256.
+fn excess(bytes: &[u8]) -> u8
+    requires { length bytes.now ≤ 260 }
+    ensures { result ≡ sum bytes.now % 256 }
+{
+    let sum: u32 = bytes.iter().map(|byte| u32::from(*byte)).sum();
+    (sum % 256) as u8
+}
+
+// A record of this type.
+fn by_type(kind: u8, address: u16, given: &[u8]) -> Result<Record, RecordMistake>
+    requires { length given.now ≤ 255 }
+    ensures { result ≡ by_type kind address given.now }
+{
+    match kind {
+        0 if usize::from(address) + given.len() > MEMORY_BYTES => {
+            Err(RecordMistake::Past(address))
+        }
+        0 => Ok(Record::of(address, given)),
+        1 => Ok(Record::of(address, &[])),
+        _ => Err(RecordMistake::Type(kind)),
+    }
+}

@@ -1,0 +1,11 @@
+//! Tests of the shell, over its public items: a crate of their own, so that the shell is proved once.
+#![tactic(auto)]
+
+#[cfg(test)]
+mod guests;
+#[cfg(test)]
+mod lines;
+#[cfg(test)]
+mod rows;
+#[cfg(test)]
+mod sessions;
