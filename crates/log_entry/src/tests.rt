@@ -1,7 +1,7 @@
 //! What entries look like in bytes, and that other bytes are no entries.
 
 use crate::{Entry, size};
-use guest_board::Input;
+use guest_board::{Input, Reads};
 use guest_trace::{Bare, Timed};
 use i8080_words::{Fault, R};
 use std::alloc::Global;
@@ -24,6 +24,13 @@ const SECTOR: Entry = Entry::Sector {
     sector: 31,
     number: 7,
     bytes: [0xe5; 137],
+};
+
+const READ: Entry = Entry::Read {
+    count: 10,
+    drive: 3,
+    sector: 31,
+    number: 7,
 };
 
 const WRITTEN: Entry = Entry::Written {
@@ -61,7 +68,9 @@ fn entries_stand_in_bytes(rt: HostRuntime) -> Result<(), Fail> {
         4, 0x3f, 255, 255, 255, 255, 255, 255, 255, 0, 0, 0, 0, 0, 0, 0, 1,
     ];
     expect_front(&rt, alloc, &WRITTEN, &front)?;
-    assert_eq!(rt; size(5), None);
+    let front = [5, 0, 0, 0, 0, 0, 0, 0, 10, 3, 31, 0, 0, 0, 0, 0, 0, 0, 7];
+    expect_front(&rt, alloc, &READ, &front)?;
+    assert_eq!(rt; size(6), None);
     Ok(())
 }
 
@@ -79,7 +88,23 @@ fn entries_have_their_inputs(rt: HostRuntime) {
     for entry in [RX, SENT, SECTOR, WRITTEN] {
         let again = entry
             .input()
-            .map(|input| Entry::of_input(entry.count(), input));
+            .map(|input| Entry::of_input(Reads::Logged, entry.count(), input));
+        assert_eq!(rt; again, Some(entry));
+    }
+}
+
+#[test]
+fn a_sector_of_a_shared_disk_is_logged_without_its_bytes(rt: HostRuntime) {
+    let read = SECTOR
+        .input()
+        .map(|input| Entry::of_input(Reads::Shared, SECTOR.count(), input));
+    assert_eq!(rt; read, Some(READ));
+    assert_eq!(rt; READ.input(), None);
+    assert_eq!(rt; READ.timed(), SECTOR.timed());
+    for entry in [RX, SENT, WRITTEN] {
+        let again = entry
+            .input()
+            .map(|input| Entry::of_input(Reads::Shared, entry.count(), input));
         assert_eq!(rt; again, Some(entry));
     }
 }
@@ -107,11 +132,11 @@ fn expect_no_other(rt: &impl Abort, alloc: Global, entry: &Entry) -> R<()> {
 
 #[test]
 fn other_bytes_are_no_entry(rt: HostRuntime) -> Result<(), Fail> {
-    for entry in [MARK, RX, SENT, SECTOR, WRITTEN] {
+    for entry in [MARK, RX, SENT, SECTOR, READ, WRITTEN] {
         expect_no_other(&rt, rt.alloc(), &entry)?;
     }
     assert_eq!(rt;
-        Entry::read(&[5, 0, 0, 0, 0, 0, 0, 0, 0]),
+        Entry::read(&[6, 0, 0, 0, 0, 0, 0, 0, 0]),
         Err(Fault::Malformed)
     );
     Ok(())
