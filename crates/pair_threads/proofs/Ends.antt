@@ -1,0 +1,290 @@
+-- How a generation ends. The primary's guest has made a run of its list, in which each sector carried what the machine's
+-- own disk had. What terminals and disk have was given in the moves up to any list that has all entries seen: the
+-- primary's, or the backup's. If nothing is outstanding, and all is seen, they have what the whole run gave.
+use Rattle.std.proofs.Common.{◌≡◌, ℕ, ◌≤◌, ◌⊎◌, inl, inr, false, List, [], ◌∷◌, ◌++◌, length, map, take, drop, Option, Some, None, refl, sym, ap, subst, ◌∙◌, arith, length-append, append-nil, append_assoc}
+use Rattle.std.proofs.Math.Seq.{take-length}
+use Rattle.std.proofs.lemmas.List.{take-append-drop}
+use Rattle.std.specs.Prelude.{Contains}
+use Rattle.disk_dcdd.specs.Address.{address_of}
+use Rattle.disk_dcdd.specs.declared.address.SectorAddress.{SectorAddress}
+use Rattle.disk_dcdd.specs.declared.sector.SectorWrite.{SectorWrite}
+use Rattle.event_callbacks.specs.declared.operations.OpId.{OpId}
+use Rattle.event_callbacks.specs.declared.operations.Operation.{Operation}
+use Rattle.event_callbacks.specs.declared.operations.Operation.TheVariants.{Write}
+use Rattle.guest_board.specs.Lockstep.{step_refusal}
+use Rattle.guest_board.specs.Machine.{Machine, Move, Runs}
+use Rattle.guest_board.specs.Outstanding.{ComesAndGoes}
+use Rattle.guest_board.specs.Recorded.{Counts}
+use Rattle.guest_board.specs.declared.reads.Reads.TheVariants.{Logged}
+use Rattle.guest_trace.specs.Reach.{Owns, acceptances, inputs, keys, operations, output}
+use Rattle.i8080_words.specs.declared.refusal.Fault.TheVariants.{Idle}
+use Rattle.log_entry.specs.Entries.{entries, inputs_of, last_count}
+use Rattle.log_entry.specs.declared.entry.Entry.{Entry}
+use Rattle.pair_protocol.specs.Faithful.{IsPrefix, MayHave}
+use Rattle.pair_protocol.specs.Lawful.{Among, IsDone, Lawful}
+use Rattle.pair_protocol.specs.Traces.{cut}
+use Rattle.pair_protocol.specs.World.{accepted_after, sector_record}
+use Rattle.pair_protocol.proofs.Traces.Cuts.{cut-prefix}
+use Rattle.pair_protocol.proofs.Traces.Moves.{acceptances-append, inputs_of-append, inputs_of-entries, keys-append}
+use Rattle.pair_protocol.proofs.Traces.Recorded.{recorded-runs}
+use Rattle.pair_rule.specs.declared.payload.DiskAnswer.TheVariants as answer
+use Rattle.pair_rule.specs.declared.view.PrimaryView.{PrimaryView}
+use Rattle.pair_rule.specs.declared.view.BackupView.{BackupView}
+use Rattle.pair_rule.specs.declared.view.TerminalView.{TerminalView}
+use Rattle.pair_rule.specs.declared.view.DiskView.{DiskView}
+use Rattle.pair_rule.specs.Knowledge.{HasWrite, IsReplied, StartsWith, read_at}
+use Rattle.pair_rule.specs.Seats.{Settled}
+use Rattle.pair_rule.specs.Shown.{arrival_of}
+use Rattle.pair_rule.proofs.ShownGuards.{all_in}
+use Rattle.pair_threads.specs.Ending.{EndsAlone, EndsWell, IsTraceOf, IsWhereItLeads}
+use Rattle.pair_threads.specs.Leading.{Leads, Says, by_port, with_waiting}
+use Rattle.pair_threads.specs.Repeating.{Repeats}
+use Rattle.pair_threads.specs.Stores.{IsFirst, IsStore}
+use Rattle.pair_threads.proofs.AtRest.{all_accepted}
+use Rattle.pair_threads.proofs.Delivered.{at_rest, in_sector, on_screen, whole_screen}
+use Rattle.pair_threads.proofs.FirstEntries.{all_of_it, first_part, given_at_all, given_first, repeated}
+use Rattle.pair_threads.proofs.OneMoment.{StandsOf, stands_of}
+use Rattle.pair_threads.proofs.OwnDisk.{IsReadOf, answered, answers_prefix, owns}
+use Rattle.shared_disk.specs.Records.{record_at}
+use Rattle.shared_disk.specs.declared.disk.SectorRead.{SectorRead}
+use Rattle.shared_disk.specs.declared.store.Record.{Record}
+
+-- ---- lists
+
+begins : (list : List Entry) (o : Option Entry) → StartsWith (with_waiting list o) list
+begins list None = ([], sym (append-nil list))
+begins list (Some e) = (e ∷ [], refl)
+
+through : (all list front : List Entry) → StartsWith all list → StartsWith list front → StartsWith all front
+through all list front (more, is) (some, same) =
+    (some ++ more, is ∙ ap (λ l. l ++ more) same ∙ append_assoc front some more)
+
+-- a list that starts with one that is no shorter is that one
+no_more : (list copy : List Entry) → StartsWith list copy → length list ≤ length copy → copy ≡ list
+no_more list copy ([], is) le = sym (is ∙ append-nil copy)
+no_more list copy (x ∷ more, is) le =
+    absurd (let a = ap length is in let b = length-append copy (x ∷ more) in let c = le in omega (arith, a, b, c))
+
+front_length : (list copy : List Entry) (n : ℕ) → StartsWith list copy → n ≤ length copy → n ≤ length list
+front_length list copy n (more, is) le =
+    (let a = ap length is in let b = length-append copy more in omega (arith, a, b, le))
+
+all_seen : (list copy n : ℕ) → n ≤ copy → n ≡ list → list ≤ copy
+all_seen list copy n le is = omega (arith, le, is)
+
+-- what a list says, a longer one says too
+few : (port : ℕ) (all list : List Entry) (a counted most : ℕ) → StartsWith all list
+    → acceptances port (inputs_of all) ≡ a → a ≤ counted → counted ≤ most → acceptances port (inputs_of list) ≤ most
+few port all list a counted most (more, is) said less le =
+    (let b = ap (λ l. acceptances port (inputs_of l)) is in
+    let c = ap (acceptances port) (inputs_of-append list more) in
+    let d = acceptances-append port (inputs_of list) (inputs_of more) in
+    omega (arith, b, c, d, said, less, le))
+
+some_keys : (port n : ℕ) (typed : List ℕ) (all list : List Entry) → StartsWith all list
+    → keys port (inputs_of all) ≡ take n typed → IsPrefix (keys port (inputs_of list)) typed
+some_keys port n typed all list (more, is) said =
+    let parts : keys port (inputs_of list) ++ keys port (inputs_of more) ≡ take n typed =
+    sym (ap (λ l. keys port (inputs_of l)) is ∙ ap (keys port) (inputs_of-append list more)
+    ∙ keys-append port (inputs_of list) (inputs_of more)) ∙ said in (
+      keys port (inputs_of more) ++ drop n typed,
+      sym (append_assoc (keys port (inputs_of list)) (keys port (inputs_of more)) (drop n typed))
+          ∙ ap (λ l. l ++ drop n typed) parts ∙ take-append-drop n typed,
+    )
+
+all_keys : (port n : ℕ) (typed : List ℕ) (all list : List Entry) → all ≡ list → keys port (inputs_of all) ≡ take n typed
+    → n ≡ length typed → keys port (inputs_of list) ≡ typed
+all_keys port n typed all list same said is =
+    ap (λ l. keys port (inputs_of l)) (sym same) ∙ said ∙ ap (λ n. take n typed) is ∙ take-length typed
+
+nothing_out : {S : Type 0} (M : Machine S) (list : List Entry) (names : List OpId) (view : PrimaryView) (s : S)
+    → Leads M M.boot list names view s → names ≡ [] → (name : OpId) → M.find s name ≡ None
+nothing_out M list names view s leads none name = go (M.find s name) refl
+  where
+    not_there : Contains [] name → ⊥
+    not_there (i, within, is) = omega (arith, within)
+
+    go : (o : Option Operation) → M.find s name ≡ o → M.find s name ≡ None
+    go None is = is
+    go (Some o) is = absurd (not_there (subst (λ l. Contains l name) none (leads.outstanding name o is).named))
+
+all_on_screen : (given accepted a counted most : ℕ) → given ≤ accepted → accepted ≡ a → a ≤ counted → counted ≤ most
+    → given ≤ most
+all_on_screen given accepted a counted most few is less le = omega (arith, few, is, less, le)
+
+module _ {S : Type 0} (M : Machine S) (lawful : Lawful M) (counts : Counts M) (laws : ComesAndGoes M)
+    (primary : PrimaryView) (backup : BackupView) (terminal : TerminalView) (disk : DiskView) (tail held winner : ℕ)
+    (settled : Settled primary backup terminal disk tail held winner) (waiting : Option Entry) (names : List OpId) (s : S)
+    (leads : Leads M M.boot (with_waiting primary.list waiting) names primary s) (typed0 typed1 : List ℕ) (n0 n1 a0 a1 : ℕ)
+    (says : Says (with_waiting primary.list waiting) (by_port (take n0 typed0) (take n1 typed1) []) (by_port a0 a1 0))
+    (less0 : a0 ≤ primary.counted0) (less1 : a1 ≤ primary.counted1) (records : List Record)
+    (store : IsStore M.boot_sector records disk) where
+  abbrev all : List Entry
+  all = with_waiting primary.list waiting
+
+  abbrev screen0 : List ℕ
+  screen0 = accepted_after 0 (map arrival_of terminal.arrivals0)
+
+  abbrev screen1 : List ℕ
+  screen1 = accepted_after 0 (map arrival_of terminal.arrivals1)
+
+  abbrev screens : List (List ℕ)
+  screens = screen0 ∷ screen1 ∷ []
+
+  stands : StandsOf primary backup terminal disk
+  stands = stands_of primary backup terminal disk tail held winner settled
+
+  are : entries Logged 0 leads.moves ≡ all
+  are = ap (λ c. entries Logged c leads.moves) (sym (lawful.counts [] M.boot refl)) ∙ leads.entries_are
+
+  runs : Runs M M.boot leads.moves s
+  runs = recorded-runs M M.boot s leads.moves leads.runs
+
+  issued : (o : Operation) → Among o primary.released → Among o (operations leads.moves)
+  issued o at = given_at_all primary.seen leads.moves o (leads.covered o at)
+
+  -- each answer of a read found what was booted, or a write of the run
+  read_of : (r : SectorRead) → Among (answer.Read r) primary.answers → IsReadOf M leads.moves r
+  read_of r at = record {
+    first = all_in (IsFirst M.boot_sector) disk.given (answer.Read r) store.firsts given;
+    written = go (all_in (IsReplied disk.puts) disk.given (answer.Read r) stands.replies given);
+  }
+    where
+      given : Among (answer.Read r) disk.given
+      given = all_in (λ a. Among a disk.given) primary.answers (answer.Read r) stands.answers at
+
+      go : IsReplied disk.puts (answer.Read r) → (r.number ≡ 0) ⊎ ((w : SectorWrite)
+          × Among (Write w) (operations leads.moves) × (address_of w ≡ read_at r) × (w.number ≡ r.number)
+          × (w.bytes ≡ r.bytes))
+      go (inl none) = inl none
+      go (inr w) = inr (
+        w.0,
+        issued (Write w.0) (all_in (λ w. Among (Write w) primary.released) disk.puts w.0 stands.puts w.1),
+        w.2,
+        w.3,
+        w.4,
+      )
+
+  owned : Owns M [] M.boot leads.moves
+  owned = owns M lawful primary.answers leads.moves s runs read_of [] M.boot leads.moves refl refl leads.runs leads.answered
+
+  -- a write that is done was answered, so it came
+  came : (moves : List Move) (t : S) → IsPrefix moves leads.moves → Runs M M.boot moves t → (n : ℕ) → IsDone n moves
+      → HasWrite disk.puts n
+  came moves t below made n done =
+      all_in (IsReplied disk.puts) disk.given (answer.Written n) stands.replies
+      (all_in (λ a. Among a disk.given) primary.answers (answer.Written n) stands.answers
+      (answered M primary.answers M.boot t 0 moves n made
+      (answers_prefix M primary.answers M.boot moves leads.moves below leads.answered) done))
+
+  in_store : (trace : List Move) (t : S) (address : SectorAddress) (r : Record) → record_at records address ≡ Some r
+      → MayHave M trace t address (sector_record M disk.puts address).bytes → MayHave M trace t address r.bytes
+  in_store trace t address r is has = subst (MayHave M trace t address) (sym (store.kept address r is).1) has
+
+  -- ---- a list that has all entries seen
+
+  alone : (list : List Entry) → StartsWith all list → primary.seen ≤ length list
+      → EndsAlone M typed0 typed1 list screens records
+  alone list start enough = record {
+    keeps = record {
+      trace = trace;
+      s = part.0;
+      is = part.1;
+      outputs = (
+        on_screen M lawful trace part.0 made primary.released given 0 terminal.arrivals0 stands.arrived0
+            (accepts 0 a0 primary.counted0 (length screen0) (says.accepted_are 0) less0 stands.counted0),
+        (
+          on_screen M lawful trace part.0 made primary.released given 1 terminal.arrivals1 stands.arrived1
+              (accepts 1 a1 primary.counted1 (length screen1) (says.accepted_are 1) less1 stands.counted1),
+          tt,
+        ),
+      );
+      disk = λ address r is. in_store trace part.0 address r is
+          (in_sector M lawful trace part.0 made primary.released given disk.puts stands.puts
+          (came trace part.0 (cut-prefix (length list) leads.moves) made) address);
+    };
+    keys0 = some_keys 0 n0 typed0 all list start (says.keys_are 0);
+    keys1 = some_keys 1 n1 typed1 all list start (says.keys_are 1);
+  }
+    where
+      trace : List Move
+      trace = cut (length list) leads.moves
+
+      part : (u : S) × IsTraceOf M list (last_count 0 list) trace u
+      part = first_part M lawful leads.moves s runs owned list start.0 (are ∙ start.1)
+
+      made : Runs M M.boot trace part.0
+      made = subst (Runs M M.boot trace) part.1.ends part.1.reach.runs
+
+      given : (o : Operation) → Among o primary.released → Among o (operations trace)
+      given o at = given_first (length list) primary.seen leads.moves o enough (leads.covered o at)
+
+      accepts : (port a counted most : ℕ) → acceptances port (inputs_of all) ≡ a → a ≤ counted → counted ≤ most
+          → acceptances port (inputs 0 trace) ≤ most
+      accepts port a counted most said less le =
+          subst (λ l. acceptances port l ≤ most) (sym part.1.reach.list_is)
+          (few port all list a counted most start said less le)
+
+  starts : StartsWith all backup.list
+  starts = through all primary.list backup.list (begins primary.list waiting) stands.prefix
+
+  pub primary_alone : EndsAlone M typed0 typed1 primary.list screens records
+  primary_alone =
+      alone primary.list (begins primary.list waiting)
+      (front_length primary.list backup.list primary.seen stands.prefix stands.seen)
+
+  pub backup_alone : EndsAlone M typed0 typed1 backup.list screens records
+  backup_alone = alone backup.list starts stands.seen
+
+  pub backup_where : (t : S) → Repeats M M.boot backup.list false t → IsWhereItLeads M backup.list t
+  backup_where t r = repeated M lawful leads.moves s runs owned backup.list starts.0 (are ∙ starts.1) counts t r
+
+  -- ---- at rest
+
+  module _ (none_waits : waiting ≡ None) (none : names ≡ []) where
+    whole : all ≡ primary.list
+    whole = ap (with_waiting primary.list) none_waits
+
+    free : (name : OpId) → M.find s name ≡ None
+    free = nothing_out M all names primary s leads none
+
+    given_out : (port a counted most : ℕ) → acceptances port (inputs_of all) ≡ a → a ≤ counted → counted ≤ most
+        → length (output port leads.moves) ≤ most
+    given_out port a counted most said less le =
+        all_on_screen (length (output port leads.moves)) (acceptances port (inputs 0 leads.moves)) a counted most
+        (all_accepted M lawful laws port leads.moves s runs free)
+        (ap (acceptances port) (sym (inputs_of-entries Logged 0 leads.moves) ∙ ap inputs_of are) ∙ said) less le
+
+  pub well : waiting ≡ None → names ≡ [] → primary.seen ≡ length primary.list → n0 ≡ length typed0 → n1 ≡ length typed1
+      → step_refusal M s ≡ Some Idle → (t : S) → Repeats M M.boot backup.list false t
+      → EndsWell M typed0 typed1 primary.list screens records s t
+  well none_waits none seen is0 is1 idle t repeats = record {
+    trace = leads.moves;
+    is = all_of_it M lawful leads.moves s runs owned primary.list (are ∙ whole none_waits none);
+    idle = idle;
+    none = free none_waits none;
+    keys0 = all_keys 0 n0 typed0 all primary.list (whole none_waits none) (says.keys_are 0) is0;
+    keys1 = all_keys 1 n1 typed1 all primary.list (whole none_waits none) (says.keys_are 1) is1;
+    outputs = (
+      whole_screen M lawful leads.moves s runs primary.released issued 0 terminal.arrivals0 stands.arrived0
+          (given_out none_waits none 0 a0 primary.counted0 (length screen0) (says.accepted_are 0) less0 stands.counted0),
+      (
+        whole_screen M lawful leads.moves s runs primary.released issued 1 terminal.arrivals1 stands.arrived1
+            (given_out none_waits none 1 a1 primary.counted1 (length screen1) (says.accepted_are 1) less1 stands.counted1),
+        tt,
+      ),
+    );
+    disk = λ address r is. at_rest M leads.moves s address r.bytes (free none_waits none)
+        (in_store leads.moves s address r is
+        (in_sector M lawful leads.moves s runs primary.released issued disk.puts stands.puts
+        (came leads.moves s ([], append-nil leads.moves) runs) address));
+    front = there.0;
+    copied = there.1;
+  }
+    where
+      same : backup.list ≡ primary.list
+      same = no_more primary.list backup.list stands.prefix
+          (all_seen (length primary.list) (length backup.list) primary.seen stands.seen seen)
+
+      there : IsWhereItLeads M primary.list t
+      there = subst (λ l. IsWhereItLeads M l t) same (backup_where t repeats)

@@ -1,0 +1,107 @@
+-- The trace of the first entries of a recorded run, whose sectors are those of the machine's own disk; a second run of
+-- these entries, up to the count of the last, is that trace; and what is acknowledged by them was given in it.
+use Rattle.std.proofs.Common.{◌≡◌, ℕ, zero, suc, ◌<◌, ◌≤◌, inl, inr, false, List, [], ◌∷◌, ◌++◌, length, take, Some, None, refl, sym, ap, subst, ◌∙◌, arith, length-append}
+use Rattle.std.proofs.Math.Seq.{take-append_seam}
+use Rattle.event_callbacks.specs.declared.operations.Operation.{Operation}
+use Rattle.guest_board.specs.Machine.{Machine, Move, Do, Take, Runs}
+use Rattle.guest_board.specs.Recorded.{Counts}
+use Rattle.guest_board.specs.declared.reads.Reads.TheVariants.{Logged}
+use Rattle.guest_trace.specs.Reach.{Owns, Reach, inputs, operations, steps}
+use Rattle.log_entry.specs.Entries.{entries, inputs_of, last_count}
+use Rattle.log_entry.specs.declared.entry.Entry.{Entry}
+use Rattle.pair_protocol.specs.Lawful.{Among, Lawful}
+use Rattle.pair_protocol.specs.Traces.{cut}
+use Rattle.pair_protocol.proofs.Traces.Lists.{among-right}
+use Rattle.pair_protocol.proofs.Traces.Moves.{inputs_of-entries, operations-append, owns-prefix}
+use Rattle.pair_protocol.proofs.Traces.OneTrace.{first_entries}
+use Rattle.pair_protocol.proofs.Traces.Recorded.{recorded-runs}
+use Rattle.pair_rule.specs.Shown.{IsAcknowledged}
+use Rattle.pair_rule.proofs.LongerRuns.{front}
+use Rattle.pair_threads.specs.Ending.{IsTraceOf, IsWhereItLeads}
+use Rattle.pair_threads.specs.Repeating.{Repeats}
+
+no_longer : (list more all : List Entry) → all ≡ list ++ more → length list ≤ length all
+no_longer list more all is = (let a = length-append list more in let b = ap length is in omega (arith, a, b))
+
+-- ---- operations
+
+-- an operation stands in the moves up to its mark
+marked_there : (n c : ℕ) (before rest : List Move) (o : Operation) → length (entries Logged c before) < n
+    → Among o (operations (cut n (before ++ Do (Some o) ∷ rest)))
+marked_there zero c before rest o lt = absurd (omega (arith, lt))
+marked_there (suc n) c [] rest o lt = inl refl
+marked_there (suc n) c (Do None ∷ before) rest o lt = marked_there (suc n) (suc c) before rest o lt
+marked_there (suc n) c (Do (Some p) ∷ before) rest o lt =
+    inr (marked_there n (suc c) before rest o (let l = lt in omega (arith, l)))
+marked_there (suc n) c (Take i ∷ before) rest o lt = marked_there n c before rest o (let l = lt in omega (arith, l))
+
+sooner : (a seen n : ℕ) → a < seen → seen ≤ n → a < n
+sooner a seen n lt le = omega (arith, lt, le)
+
+pub given_first : (n seen : ℕ) (moves : List Move) (o : Operation) → seen ≤ n → IsAcknowledged moves seen o
+    → Among o (operations (cut n moves))
+given_first n seen moves o le a =
+    subst (λ l. Among o (operations (cut n l))) (sym a.given)
+    (marked_there n 0 a.front a.rest o (sooner (length (entries Logged 0 a.front)) seen n a.marked le))
+
+pub given_at_all : (seen : ℕ) (moves : List Move) (o : Operation) → IsAcknowledged moves seen o → Among o (operations moves)
+given_at_all seen moves o a =
+    subst (λ l. Among o (operations l)) (sym a.given)
+    (subst (Among o) (sym (operations-append a.front (Do (Some o) ∷ a.rest)))
+    (among-right o (operations a.front) (o ∷ operations a.rest) (inl refl)))
+
+-- ---- traces
+
+module _ {S : Type 0} (M : Machine S) (lawful : Lawful M) (moves : List Move) (s : S) (runs : Runs M M.boot moves s)
+    (owns : Owns M [] M.boot moves) where
+  reach : Reach M (inputs 0 moves) (steps moves) moves
+  reach = record { last = s; runs = runs; owns = owns; list_is = refl; count_is = refl }
+
+  -- the run of the whole list, at its own count
+  pub all_of_it : (list : List Entry) → entries Logged 0 moves ≡ list → IsTraceOf M list (M.count s) moves s
+  all_of_it list are = record {
+    reach = record {
+      last = s;
+      runs = runs;
+      owns = owns;
+      list_is = sym (inputs_of-entries Logged 0 moves) ∙ ap inputs_of are;
+      count_is = sym (lawful.counts moves s runs);
+    };
+    ends = refl;
+    entries_are = are;
+  }
+
+  module _ (list more : List Entry) (are : entries Logged 0 moves ≡ list ++ more) where
+    -- the run up to the last of the first entries
+    pub first_part : (u : S) × IsTraceOf M list (last_count 0 list) (cut (length list) moves) u
+    first_part =
+        let e : take (length list) (entries Logged 0 moves) ≡ list = ap (take (length list)) are ∙ take-append_seam list more in
+        let f = first_entries M (inputs 0 moves) (steps moves) Logged (length list) moves reach
+        (no_longer list more (entries Logged 0 moves) are) in
+        let r : Reach M (inputs_of list) (last_count 0 list) (cut (length list) moves) =
+        subst (λ l. Reach M (inputs_of l) (last_count 0 l) (cut (length list) moves)) e f.1 in
+        (r.last, record { reach = r; ends = refl; entries_are = f.0 ∙ e })
+
+    -- a run that repeats the first entries
+    pub repeated : Counts M → (t : S) → Repeats M M.boot list false t → IsWhereItLeads M list t
+    repeated counts t r =
+        let boot : M.count M.boot ≡ 0 = lawful.counts [] M.boot refl in
+        let made = recorded-runs M M.boot t r.ran.moves r.ran.runs in
+        let is : entries Logged 0 r.ran.moves ≡ list =
+        ap (λ c. entries Logged c r.ran.moves) (sym boot) ∙ r.ran.entries_are in
+        let at : M.count t ≡ last_count 0 list = r.at refl ∙ ap (λ c. last_count c list) boot in
+        let p = front M counts M.boot t s 0 r.ran.moves moves more boot made (at ∙ ap (last_count 0) (sym is)) runs
+        (are ∙ ap (λ l. l ++ more) (sym is)) in (
+          r.ran.moves,
+          record {
+            reach = record {
+              last = t;
+              runs = made;
+              owns = owns-prefix M M.boot r.ran.moves moves (p.0, sym p.1) owns;
+              list_is = sym (inputs_of-entries Logged 0 r.ran.moves) ∙ ap inputs_of is;
+              count_is = sym (lawful.counts r.ran.moves t made) ∙ at;
+            };
+            ends = refl;
+            entries_are = is;
+          },
+        )

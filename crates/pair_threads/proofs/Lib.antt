@@ -1,0 +1,16 @@
+pub mod Serving
+pub mod Screens
+pub mod Repeating
+pub mod Leading
+pub mod Telling
+pub mod Offering
+pub mod Views
+pub mod Ports
+pub mod OneMoment
+pub mod AtRest
+pub mod Delivered
+pub mod FirstEntries
+pub mod OwnDisk
+pub mod Ends
+pub mod Ending
+pub mod Beginning

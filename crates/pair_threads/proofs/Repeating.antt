@@ -1,0 +1,49 @@
+-- The guest of a backup's worker: entries that come leave what it has repeated as it was; steps towards an entry keep
+-- it, and the entry's own move adds the entry.
+use Rattle.std.proofs.Common.{◌≡◌, ℕ, suc, ◌+◌, ◌<◌, ◌≤◌, Bool, true, false, Ok, List, [], ◌∷◌, ◌++◌, length, take, get_or, refl, sym, ap, subst, ◌∙◌, arith}
+use Rattle.std.proofs.Math.Seq.{take-suc}
+use Rattle.std.proofs.lemmas.List.{take-append-le}
+use Rattle.guest_board.specs.Machine.{Machine}
+use Rattle.guest_board.specs.Recorded.{Counts}
+use Rattle.log_entry.specs.Entries.{count_of, last_count}
+use Rattle.log_entry.specs.declared.entry.Entry.{Entry}
+use Rattle.replayer.specs.Following.{Follows, Reaches}
+use Rattle.replayer.specs.declared.following.Followed.TheVariants.{Stepped}
+use Rattle.replayer.proofs.FollowedEntries.{following_is_recording}
+use Rattle.pair_threads.specs.Repeating.{Repeats}
+
+last_more : (count : ℕ) (list : List Entry) (e : Entry) → last_count count (list ++ e ∷ []) ≡ count_of e
+last_more count [] e = refl
+last_more count (x ∷ list) e = last_more (count_of x) list e
+
+pub at_first : {S : Type 0} (M : Machine S) (boot : S) → Repeats M boot [] false boot
+at_first M boot = record { ran = record { moves = []; runs = refl; entries_are = refl }; at = λ here. refl }
+
+module _ {S : Type 0} (M : Machine S) (boot s : S) (list : List Entry) (between : Bool) where
+  -- one more entry comes
+  pub kept : (replayed : ℕ) (e : Entry) → replayed ≤ length list → Repeats M boot (take replayed list) between s
+      → Repeats M boot (take replayed (list ++ e ∷ [])) between s
+  kept replayed e within r =
+      subst (λ l. Repeats M boot l between s) (sym (take-append-le replayed list (e ∷ []) within)) r
+
+  module _ (counts : Counts M) where
+    pub steps_on : (n turns : ℕ) (e : Entry) (t : S) → Repeats M boot list between s
+        → Follows M s e turns (Ok (Stepped n)) t → Repeats M boot list true t
+    steps_on n turns e t r follows =
+        record {
+          ran = (following_is_recording M counts boot s list r.ran).quietly n t follows.3;
+          at = λ not_between. absurd cc;
+        }
+
+    pub reaches : (e : Entry) (t : S) → Repeats M boot list between s → Reaches M s e t
+        → Repeats M boot (list ++ e ∷ []) false t
+    reaches e t r there =
+        let made = (following_is_recording M counts boot s list r.ran).reaches e t there in
+        record { ran = made.0; at = λ here. made.1 ∙ sym (last_more (M.count boot) list e) }
+
+-- the entries repeated after one more
+pub one_more : (list : List Entry) (replayed : ℕ) (e : Entry) → replayed < length list → e ≡ get_or list replayed e
+    → take (replayed + 1) list ≡ take replayed list ++ e ∷ []
+one_more list replayed e within is =
+    let next : replayed + 1 ≡ suc replayed = omega arith in
+    ap (λ n. take n list) next ∙ take-suc list replayed e within ∙ ap (λ z. take replayed list ++ z ∷ []) (sym is)

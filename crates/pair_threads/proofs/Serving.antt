@@ -1,0 +1,225 @@
+-- The disk's worker. A write that arrives replaces the record of its sector if its number is greater, as the writes
+-- answered do one after another; so a sector that is read has what they left, and if none has, what it booted with.
+use Rattle.std.proofs.Common.{◌≡◌, ℕ, ◌<◌, ◌⊎◌, Bool, true, false, cond, List, [], ◌∷◌, ◌++◌, Some, None, Option, IsSome, inl, inr, refl, sym, ap, subst, ◌∙◌, arith}
+use Rattle.std.proofs.lemmas.Bool.{ltb-true}
+use Rattle.std.specs.Prelude.{nat_lt}
+use Rattle.std.specs.Option.{option_map, option_map_or}
+use Rattle.disk_dcdd.specs.Address.{address_of, same_address}
+use Rattle.disk_dcdd.specs.declared.address.SectorAddress.{SectorAddress}
+use Rattle.disk_dcdd.specs.declared.sector.SectorWrite.{SectorWrite}
+use Rattle.shared_disk.specs.Arrivals.{after_meeting, after_put, read_at, read_of, record_of}
+use Rattle.shared_disk.specs.Records.{IsThere, IsUnwritten, record_at, with_record}
+use Rattle.shared_disk.specs.declared.disk.SectorRead.{SectorRead}
+use Rattle.shared_disk.specs.declared.store.Record.{Record}
+use Rattle.shared_disk.proofs.RecordsBySector.{is_other, is_same, record_at-with_other, record_at-with_same}
+use Rattle.pair_protocol.specs.World.{SectorRecord, latest, record_after}
+use Rattle.pair_protocol.proofs.Traces.Lists.{same_some}
+use Rattle.pair_protocol.proofs.Promises.OneMore.{latest-one}
+use Rattle.pair_rule.specs.declared.mailbox.Mailbox.TheVariants.{Answers}
+use Rattle.pair_rule.specs.declared.payload.DiskAnswer.{DiskAnswer}
+use Rattle.pair_rule.specs.declared.payload.DiskAnswer.TheVariants as answer
+use Rattle.pair_rule.specs.declared.payload.DiskRequest.{DiskRequest}
+use Rattle.pair_rule.specs.declared.payload.DiskRequest.TheVariants as ask
+use Rattle.pair_rule.specs.declared.payload.Payload.TheVariants.{Answer}
+use Rattle.pair_rule.specs.declared.view.Core.{Core}
+use Rattle.pair_rule.specs.declared.view.DiskView.{DiskView}
+use Rattle.pair_rule.specs.Knowledge.{AllAre, put_by}
+use Rattle.pair_rule.specs.Seats.{Fills, Replies}
+use Rattle.pair_rule.proofs.Filled.{all_more}
+use Rattle.pair_threads.specs.Stores.{Has, IsDiskOf, IsFirst, IsStore, Serves, at_boot, bytes_in}
+
+-- ---- a write arrives
+
+abbrev brought : SectorWrite → SectorRecord
+brought write = record { number = write.number; bytes = write.bytes }
+
+own_after : (rs : List Record) (write : SectorWrite) (met r : Record) (k : SectorRecord) (less : Bool) → Has met k
+    → record_at rs (address_of write) ≡ Some met
+    → record_at (cond less (with_record rs (address_of write) (record_of write)) rs) (address_of write) ≡ Some r
+    → Has r (cond less (brought write) k)
+own_after rs write met r k true has at e =
+    let q : record_of write ≡ r = same_some (record_of write) r _
+    (record_at-with_same rs (address_of write) (record_of write) met at) e in
+    (ap (λ (r : Record). r.number) (sym q), ap (λ (r : Record). r.bytes) (sym q))
+own_after rs write met r k false has at e =
+    let q : met ≡ r = same_some met r _ at e in
+    (ap (λ (r : Record). r.number) (sym q) ∙ has.0, ap (λ (r : Record). r.bytes) (sym q) ∙ has.1)
+
+other_after : (rs : List Record) (write : SectorWrite) (a : SectorAddress) (less : Bool)
+    → same_address (address_of write) a ≡ false
+    → record_at (cond less (with_record rs (address_of write) (record_of write)) rs) a ≡ record_at rs a
+other_after rs write a true e =
+    record_at-with_other rs (address_of write) a (record_of write) (is_other (address_of write) a e)
+other_after rs write a false e = refl
+
+module _ (boots : SectorAddress → List ℕ) (rs : List Record) (puts : List SectorWrite) (is : IsDiskOf boots rs puts)
+    (write : SectorWrite) where
+  abbrev kept : SectorAddress → SectorRecord
+  kept a = latest (at_boot (boots a)) puts a
+
+  sector_after : (met : Record) (a : SectorAddress) (r : Record) (here : Bool)
+      → record_at rs (address_of write) ≡ Some met → same_address (address_of write) a ≡ here
+      → record_at (cond (nat_lt met.number write.number) (with_record rs (address_of write) (record_of write)) rs) a
+      ≡ Some r
+      → Has r (cond here (cond (nat_lt (kept a).number write.number) (brought write) (kept a)) (kept a))
+  sector_after met a r false at here e = is a r (sym (other_after rs write a (nat_lt met.number write.number) here) ∙ e)
+  sector_after met a r true at here e =
+      let same : address_of write ≡ a = is_same (address_of write) a here in
+      let has : Has met (kept a) = is a met (subst (λ z. record_at rs z ≡ Some met) same at) in
+      let own : record_at
+      (cond (nat_lt met.number write.number) (with_record rs (address_of write) (record_of write)) rs)
+      (address_of write) ≡ Some r =
+      subst (λ z. record_at
+      (cond (nat_lt met.number write.number) (with_record rs (address_of write) (record_of write)) rs) z ≡ Some r)
+      (sym same) e in
+      subst (λ b. Has r (cond b (brought write) (kept a))) (ap (λ n. nat_lt n write.number) has.0)
+      (own_after rs write met r (kept a) (nat_lt met.number write.number) has at own)
+
+  after_write : (met : Record) → record_at rs (address_of write) ≡ Some met
+      → IsDiskOf boots (after_put rs write) (puts ++ write ∷ [])
+  after_write met at a r e =
+      subst (Has r) (sym (latest-one (at_boot (boots a)) puts write a))
+      (sector_after met a r (same_address (address_of write) a) at refl
+      (subst (λ found. record_at (option_map_or (after_meeting rs write) found rs) a ≡ Some r) at e))
+
+is_there : (o : Option Record) → IsSome o → (met : Record) × (o ≡ Some met)
+is_there None t = absurd cc
+is_there (Some met) t = (met, refl)
+
+pub written : (old new : List Record) (write : SectorWrite) → IsThere old (address_of write) → new ≡ after_put old write
+    → Serves old (ask.Write write) (answer.Written write.number) new
+written old new write there is boots view taken disk =
+    let met = is_there (record_at old (address_of write)) there in (
+      (write, taken, refl),
+      tt,
+      subst (λ t. IsDiskOf boots new (put_by t view.puts)) (sym taken)
+          (subst (λ rs. IsDiskOf boots rs (view.puts ++ write ∷ [])) (sym is)
+          (after_write boots old view.puts disk write met.0 met.1)),
+    )
+
+-- ---- a sector is read
+
+-- writes leave a record as it was, or bring a greater number
+as_it_was : (puts : List SectorWrite) (a : SectorAddress) (p : SectorRecord)
+    → (latest p puts a ≡ p) ⊎ (p.number < (latest p puts a).number)
+as_it_was [] a p = inl refl
+as_it_was (write ∷ puts) a p =
+    go (same_address (address_of write) a) (nat_lt p.number write.number) refl (as_it_was puts a (record_after p write a))
+  where
+    go : (here less : Bool) → nat_lt p.number write.number ≡ less
+        → (latest (cond here (cond less (brought write) p) p) puts a ≡ cond here (cond less (brought write) p) p)
+        ⊎ ((cond here (cond less (brought write) p) p).number
+        < (latest (cond here (cond less (brought write) p) p) puts a).number)
+        → (latest (cond here (cond less (brought write) p) p) puts a ≡ p)
+        ⊎ (p.number < (latest (cond here (cond less (brought write) p) p) puts a).number)
+    go false less e both = both
+    go true false e both = both
+    go true true e (inl same) =
+        let greater : p.number < write.number = ltb-true p.number write.number e in
+        inr (subst (λ (k : SectorRecord). p.number < k.number) (sym same) greater)
+    go true true e (inr more) =
+        let greater : p.number < write.number = ltb-true p.number write.number e in
+        inr (let further = more in omega (arith, greater, further))
+
+-- what has number 0 after the writes is what was there
+still_first : (puts : List SectorWrite) (a : SectorAddress) (bytes : List ℕ) → (latest (at_boot bytes) puts a).number ≡ 0
+    → (latest (at_boot bytes) puts a).bytes ≡ bytes
+still_first puts a bytes zero = go (as_it_was puts a (at_boot bytes))
+  where
+    go : (latest (at_boot bytes) puts a ≡ at_boot bytes) ⊎ (0 < (latest (at_boot bytes) puts a).number)
+        → (latest (at_boot bytes) puts a).bytes ≡ bytes
+    go (inl same) = ap (λ (k : SectorRecord). k.bytes) same
+    go (inr greater) = absurd (omega (arith, zero, greater))
+
+-- of two records under one number: after the same writes both are as before, or they are one
+both_after : (puts : List SectorWrite) (a : SectorAddress) (p q : SectorRecord) → p.number ≡ q.number
+    → ((latest p puts a ≡ p) × (latest q puts a ≡ q)) ⊎ (latest p puts a ≡ latest q puts a)
+both_after [] a p q same = inl (refl, refl)
+both_after (write ∷ puts) a p q same =
+    go (same_address (address_of write) a) (nat_lt p.number write.number) (ap (λ n. nat_lt n write.number) (sym same))
+    (both_after puts a p q same)
+  where
+    go : (here less : Bool) → nat_lt q.number write.number ≡ less
+        → ((latest p puts a ≡ p) × (latest q puts a ≡ q)) ⊎ (latest p puts a ≡ latest q puts a)
+        → ((latest (cond here (cond less (brought write) p) p) puts a ≡ p)
+        × (latest (cond here (cond (nat_lt q.number write.number) (brought write) q) q) puts a ≡ q))
+        ⊎ (latest (cond here (cond less (brought write) p) p) puts a
+        ≡ latest (cond here (cond (nat_lt q.number write.number) (brought write) q) q) puts a)
+    go false less e both = both
+    go true true e both = inr (ap (λ b. latest (cond b (brought write) q) puts a) (sym e))
+    go true false e both =
+        subst (λ b. ((latest p puts a ≡ p) × (latest (cond b (brought write) q) puts a ≡ q))
+        ⊎ (latest p puts a ≡ latest (cond b (brought write) q) puts a)) (sym e) both
+
+-- what was read is what the writes leave of a sector that booted with it
+read_again : (puts : List SectorWrite) (a : SectorAddress) (bytes : List ℕ) (n : ℕ) (found : List ℕ)
+    → latest (at_boot bytes) puts a ≡ record { number = n; bytes = found }
+    → latest (at_boot found) puts a ≡ record { number = n; bytes = found }
+read_again puts a bytes n found is = go (both_after puts a (at_boot bytes) (at_boot found) refl)
+  where
+    go : ((latest (at_boot bytes) puts a ≡ at_boot bytes) × (latest (at_boot found) puts a ≡ at_boot found))
+        ⊎ (latest (at_boot bytes) puts a ≡ latest (at_boot found) puts a)
+        → latest (at_boot found) puts a ≡ record { number = n; bytes = found }
+    go (inl as_before) =
+        let e : at_boot bytes ≡ record { number = n; bytes = found } = sym as_before.0 ∙ is in
+        as_before.1 ∙ ap (λ m. record { number = m; bytes = found }) (ap (λ (k : SectorRecord). k.number) e)
+    go (inr same) = sym same ∙ is
+
+record_is : (k : SectorRecord) (n : ℕ) (bytes : List ℕ) → n ≡ k.number → bytes ≡ k.bytes
+    → k ≡ record { number = n; bytes = bytes }
+record_is k n bytes e d =
+    subst (λ m. k ≡ record { number = m; bytes = bytes }) (sym e)
+    (subst (λ b. k ≡ record { number = k.number; bytes = b }) (sym d) refl)
+
+pub read : (old new : List Record) (address : SectorAddress) (r : SectorRead) → read_at old address ≡ Some r → new ≡ old
+    → Serves old (ask.Read address) (answer.Read r) new
+read old new address r is same boots view taken disk = go (record_at old address) refl is
+  where
+    there : IsDiskOf boots new (put_by view.taken view.puts)
+    there = subst (λ t. IsDiskOf boots new (put_by t view.puts)) (sym taken)
+        (subst (λ rs. IsDiskOf boots rs view.puts) (sym same) disk)
+
+    go : (found : Option Record) → record_at old address ≡ found → option_map (read_of address) found ≡ Some r
+        → Replies view (answer.Read r) × IsFirst boots (answer.Read r) × IsDiskOf boots new (put_by view.taken view.puts)
+    go None at e = absurd cc
+    go (Some met) at e =
+        let came : read_of address met ≡ r = same_some (read_of address met) r _ refl e in
+        let has : Has met (latest (at_boot (boots address)) view.puts address) = disk address met at in
+        subst (λ z. Replies view (answer.Read z) × IsFirst boots (answer.Read z)
+        × IsDiskOf boots new (put_by view.taken view.puts)) came (
+          (
+            address,
+            taken,
+            refl,
+            read_again view.puts address (boots address) met.number met.bytes
+                (record_is (latest (at_boot (boots address)) view.puts address) met.number met.bytes has.0 has.1),
+          ),
+          (λ zero. has.1 ∙ still_first view.puts address (boots address) (sym has.0 ∙ zero)),
+          there,
+        )
+
+-- ---- the worker's turn
+
+-- an answer is given
+pub replied : (boots : SectorAddress → List ℕ) (old new : List Record) (request : DiskRequest) (a : DiskAnswer)
+    (core after : Core) → Serves old request a new → core.known.disk.taken ≡ Some request
+    → Fills Answers (Answer a) core after → IsStore boots old core.known.disk → IsStore boots new after.known.disk
+replied boots old new request a core after serves taken fills store =
+    let served = serves boots core.known.disk taken store.kept in
+    subst (λ (c : Core). IsStore boots new c.known.disk) (sym fills.0.1) record {
+      kept = served.2;
+      firsts = all_more core.known.disk.given a (IsFirst boots) store.firsts served.1;
+    }
+
+-- ---- the beginning
+
+first_sectors : (records : List Record) → IsUnwritten records → IsDiskOf (bytes_in records) records []
+first_sectors records unwritten a r at =
+    (unwritten a r at, ap (λ found. option_map_or (λ (x : Record). x.bytes) found []) (sym at))
+
+pub first_disk : (records : List Record) (view : DiskView) → view.puts ≡ [] → view.given ≡ [] → IsUnwritten records
+    → IsStore (bytes_in records) records view
+first_disk records view no_puts none_given unwritten = record {
+  kept = subst (λ puts. IsDiskOf (bytes_in records) records puts) (sym no_puts) (first_sectors records unwritten);
+  firsts = subst (λ given. AllAre given (IsFirst (bytes_in records))) (sym none_given) tt;
+}

@@ -1,0 +1,21 @@
+-- A byte that is outstanding is released once all is acknowledged.
+use Rattle.std.proofs.Common.{ap, refl, sym, length, ◌∙◌}
+use Rattle.event_callbacks.specs.declared.operations.OpId.TheVariants as id
+use Rattle.event_callbacks.specs.declared.operations.Operation.TheVariants.{Byte}
+use Rattle.pair_threads.proofs.Views.{emitted, releases, with_release, works_on}
+use Rattle.pair_threads.proofs.primary.PrimaryWorker.give.Goals as goal
+
+pub returns : goal.returns
+returns g c =
+    let M = g.B.Lockstep.machine in
+    let old = c.args.self.now in
+    let view = old.seat.core.known.primary in
+    let byte = Byte c.args.port c.args.number c.args.byte in
+    record {
+      works =
+          works_on g.B.Lockstep.state M old c.emit.new.self (with_release view byte)
+          c.emit.ensures.same (emitted old.seat.core c.emit.new.self.core c.args.port byte c.emit.ensures.emitted) refl
+          (λ boot taken accepted leads. releases g.B.Lockstep.state M boot view taken accepted old.guest leads
+          g.met.B.Lockstep.counts g.met.B.Lockstep.operations (id.Byte c.args.port c.args.number) byte c.requires.due
+          c.requires.covered.0 (sym old.saw ∙ c.requires.covered.1 ∙ ap length old.same));
+    }

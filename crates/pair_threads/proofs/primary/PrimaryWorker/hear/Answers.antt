@@ -1,0 +1,18 @@
+-- What the disk answers is one more of its answers.
+use Rattle.std.proofs.Common.{refl}
+use Rattle.pair_threads.proofs.Views.{heard_one, hears, with_answer, works_on}
+use Rattle.pair_threads.proofs.primary.PrimaryWorker.hear.Goals as goal
+
+pub returns-in-Some : goal.returns-in-Some
+returns-in-Some g c =
+    let M = g.B.Lockstep.machine in
+    let old = c.args.self.now in
+    let view = old.seat.core.known.primary in
+    let a = c.in-Some.answer in
+    record {
+      works =
+          works_on g.B.Lockstep.state M old c.answer.new.self (with_answer view a) c.answer.ensures.same
+          (heard_one old.seat.core c.answer.new.self.core a c.in-Some.ensures.taken) refl
+          (λ boot taken accepted leads. hears g.B.Lockstep.state M boot view taken accepted old.guest leads
+          g.met.B.Lockstep.counts g.met.B.Lockstep.operations a);
+    }

@@ -1,0 +1,35 @@
+-- What the workers are taken apart into, and who goes on alone.
+use Rattle.std.proofs.Common.{ap, sym, ◌∙◌, not, Vec, Global}
+use Rattle.std.proofs.lemmas.Bool.{false≢true}
+use Rattle.std.specs.Option.{is_some}
+use Rattle.log_entry.specs.declared.entry.Entry.{Entry}
+use Rattle.pair_rule.specs.Seats.{Seat}
+use Rattle.pair_threads.proofs.Ending.{ends, ends_so, settled_so}
+use Rattle.pair_threads.proofs.run.conclude.Goals as goal
+use Rattle.pair_threads.proofs.run.conclude.Goals.{else-contested-via-then-contested+else-is_none, else-contested-via-else-contested}
+
+pub returns-clause-ends : goal.returns-clause-ends
+returns-clause-ends g c = λ boot first typed0 typed1 lawful leads at store.
+    let p = c.args.primary in
+    let b = c.args.backup in
+    let parts = c.take_apart-parts.ensures in
+    let closed = c.close-closed.result in
+    let settled = settled_so _ p.seat.core.known.primary _ b.seat.core.known.backup _
+    c.args.terminal.seat.core.known.terminal _ c.args.disk.seat.core.known.disk closed.tail closed.held closed.winner
+    (ap (λ (x : Seat). x.core.known.primary) parts.seats.0) (ap (λ (x : Seat). x.core.known.backup) parts.seats.1)
+    (ap (λ (x : Seat). x.core.known.terminal) parts.seats.2) (ap (λ (x : Seat). x.core.known.disk) parts.seats.3)
+    c.close-closed.ensures in
+    let goes = c.winner_of-winner.result in
+    ends_so _ typed0 typed1 p.port0.typed.items p.port1.typed.items goes closed.held _ _ _ _ _ _ _ _ _ _ _ _ leads.0 leads.1
+    (ap (λ (v : Vec Entry Global). v.items) parts.lists.0) (ap (λ (v : Vec Entry Global). v.items) parts.lists.1)
+    parts.screens (ap g.D.SectorStore.records parts.disk) (ap g.B.Lockstep.state parts.boards.0)
+    (ap g.B.Lockstep.state parts.boards.1)
+    (ends g.B.Lockstep.state g.B.Lockstep.machine g.met.B.Lockstep.counts g.met.B.Lockstep.operations boot first lawful p b
+    c.args.terminal.seat.core.known.terminal c.args.disk.seat.core.known.disk closed.tail closed.held closed.winner settled
+    (g.D.SectorStore.records c.args.disk.disk) leads.2 at store c.args.contested c.requires.rests c.requires.repeated
+    goes c.winner_of-winner.ensures
+    (λ none. elim c.else-contested.branch [
+      | else-contested-via-then-contested+else-is_none w ↦
+          absurd (false≢true (sym (ap is_some none) ∙ w.is_none.ensures ∙ ap not w.if-is_none.false))
+      | else-contested-via-else-contested w ↦ w.if-contested.false
+    ]))

@@ -1,0 +1,43 @@
+-- The disk's worker begins with what was booted; and the workers' ends are of what was given to them.
+use Rattle.std.proofs.Common.{ap, sym, subst, ◌∙◌, Vec, Global, ℕ}
+use Rattle.pair_rule.specs.Seats.{Seat}
+use Rattle.pair_rule.specs.declared.view.Core.{Core}
+use Rattle.pair_threads.specs.Primary.{WorkerLeads}
+use Rattle.pair_threads.specs.Repeating.{IsAt}
+use Rattle.pair_threads.specs.Stores.{IsStore, bytes_in}
+use Rattle.shared_disk.specs.Records.{IsUnwritten}
+use Rattle.pair_threads.proofs.Ending.{on_ok}
+use Rattle.pair_threads.proofs.Serving.{first_disk}
+use Rattle.pair_threads.proofs.run.run_generation.Goals as goal
+
+pub work-served-requires-clause-disk : goal.work-served-requires-clause-disk
+work-served-requires-clause-disk g c κs within =
+    let made = c.new-5.ensures in
+    let opened = c.in_ok-fabric.ensures in
+    let store = first_disk (g.D.SectorStore.records c.new-5.result.disk) c.new-5.result.seat.core.known.disk
+    (ap (λ (x : Seat). x.core.known.disk.puts) made.seat ∙ ap (λ (x : Core). x.known.disk.puts) opened.disk)
+    (ap (λ (x : Seat). x.core.known.disk.given) made.seat ∙ ap (λ (x : Core). x.known.disk.given) opened.disk)
+    (subst IsUnwritten (sym (ap g.D.SectorStore.records made.disk)) c.requires.unwritten) in (
+      ap (λ (x : Seat). x.table) made.seat ∙ opened.one.4,
+      (bytes_in (g.D.SectorStore.records c.new-5.result.disk), store),
+      store,
+    )
+
+pub returns-clause-ends : goal.returns-clause-ends
+returns-clause-ends g c =
+    let served = c.work-served in
+    let state = g.B.Lockstep.state in
+    let records = g.D.SectorStore.records in
+    c.finish.ensures.ends (state c.args.workers.primary) (records c.args.workers.disk) c.args.workers.typed0.items
+    c.args.workers.typed1.items c.requires.lawful
+    (on_ok served.result.primary.1 (λ end. (
+      ap (λ (v : Vec ℕ Global). v.items) (end.0.1 ∙ c.new.ensures.plan.1),
+      ap (λ (v : Vec ℕ Global). v.items) (end.0.2 ∙ c.new.ensures.plan.2),
+      subst (λ b. WorkerLeads state g.B.Lockstep.machine b served.result.primary.0) (ap state c.new.ensures.board) end.0.3,
+    )) served.ensures.primary.1)
+    (on_ok served.result.backup.1
+    (λ end. subst (λ b. IsAt state g.B.Lockstep.machine b served.result.backup.0.guest)
+    (ap state c.new-3.ensures.board ∙ c.requires.alike) end.0.1) served.ensures.backup.1)
+    (on_ok served.result.disk.1
+    (λ end. subst (λ r. IsStore (bytes_in r) (records served.result.disk.0.disk) served.result.disk.0.seat.core.known.disk)
+    (ap records c.new-5.ensures.disk) end.0) served.ensures.disk.1)

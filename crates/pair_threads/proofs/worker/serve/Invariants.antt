@@ -1,0 +1,7 @@
+-- A worker keeps its table, is ready, and is what it came from.
+use Rattle.std.proofs.Common.{◌≡◌}
+use Rattle.pair_threads.proofs.worker.serve.Given as goal
+
+abbrev pub invariant-loop-number : goal.invariant-loop-number
+invariant-loop-number g l =
+    (g.W.Worker.table l.worker ≡ l.fabric) × g.W.Worker.ready l.worker × g.W.Worker.came l.initial.worker l.worker

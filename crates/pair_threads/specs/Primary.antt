@@ -1,0 +1,43 @@
+-- A primary's worker: what it goes on with, what it may ask of the disk, and how it is at rest.
+use Rattle.std.specs.Prelude.{◌≡◌, ℕ, true, List, [], length, take, vec_len, Some, None}
+use Rattle.event_callbacks.specs.declared.operations.OpId.TheVariants as id
+use Rattle.event_callbacks.specs.declared.operations.Operation.TheVariants.{Write}
+use Rattle.guest_board.specs.Machine.{Machine}
+use Rattle.pair_rule.specs.declared.payload.DiskRequest.{DiskRequest}
+use Rattle.pair_rule.specs.declared.payload.DiskRequest.TheVariants as ask
+use Rattle.pair_threads.specs.declared.primary.PrimaryWorker.{PrimaryWorker}
+use Rattle.pair_threads.specs.declared.port_inputs.PortInputs.{PortInputs}
+use Rattle.pair_threads.specs.Leading.{IsLeading, by_port}
+
+-- the keys of a port that were taken
+abbrev pub keys_taken : PortInputs → List ℕ
+keys_taken p = take p.taken p.typed.items
+
+-- its guest has made the run of its seat's list and of the entry that waits, in which it took what is said to be taken
+abbrev pub WorkerLeads : {B S : Type 0} → (B → S) → Machine S → S → PrimaryWorker B → Type 0
+WorkerLeads state M boot w =
+    IsLeading state M boot w.seat.core.known.primary (by_port (keys_taken w.port0) (keys_taken w.port1) [])
+    (by_port w.port0.accepted w.port1.accepted 0) w.guest
+
+-- it goes on so, at its table, with its plan and what was typed, and without asking to go on alone
+abbrev pub Works : {B S : Type 0} → (B → S) → Machine S → PrimaryWorker B → PrimaryWorker B → Type 0
+Works {B} {S} state M old new =
+    (new.seat.table ≡ old.seat.table) × (new.seat.core.known.primary.winner ≡ old.seat.core.known.primary.winner)
+    × (new.plan ≡ old.plan) × (new.port0.typed ≡ old.port0.typed) × (new.port1.typed ≡ old.port1.typed)
+    × ((boot : S) → WorkerLeads state M boot old → WorkerLeads state M boot new)
+
+-- it may ask this: a write only if it is outstanding, and all that its guest did is acknowledged
+abbrev pub MayAsk : {B S : Type 0} → (B → S) → Machine S → PrimaryWorker B → DiskRequest → Type 0
+MayAsk state M w (ask.Write write) =
+    (M.find (state w.guest.board) (id.Write write.number) ≡ Some (Write write)) × (w.guest.waiting ≡ None)
+    × (w.seen ≡ length w.list.items)
+MayAsk state M w (ask.Read address) = Unit {0}
+
+-- its guest idles with all keys taken, nothing is outstanding, and all entries are acknowledged
+pub record IsAtRest {B : Type 0} (w : PrimaryWorker B) : Type 0 where
+  pub idle : w.guest.idle ≡ true
+  pub none : w.guest.given.items ≡ []
+  pub none_waits : w.guest.waiting ≡ None
+  pub all0 : w.port0.taken ≡ vec_len w.port0.typed
+  pub all1 : w.port1.taken ≡ vec_len w.port1.typed
+  pub acknowledged : w.seen ≡ length w.list.items

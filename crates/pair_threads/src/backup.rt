@@ -1,0 +1,193 @@
+//! The backup's worker: it takes packets, acknowledges its list, repeats its entries, and may go on alone.
+ghost use Rattle.std.specs.Prelude.{◌≡◌, ◌<◌, ◌≤◌, cond, [], false, true, vec_len, IsTrue, OnOk};
+ghost use Rattle.pair_rule.specs.declared.view.Core.{Core};
+ghost use Rattle.pair_threads.specs.Repeating.{GoesOn, IsAt};
+ghost use Rattle.pair_threads.specs.Turns.{Leaves};
+
+use crate::plan::Plan;
+use crate::repeater::Repeater;
+use crate::signals::Told;
+use crate::worker::{Turn, Worker};
+use guest_board::Lockstep;
+use i8080_words::{Fault, R};
+use pair_rule::{BackupSeat, Fabric};
+use std::alloc::Global;
+
+// What the next turn does.
+#[derive(Debug, Clone, Copy, PartialEq, Eq)]
+enum Chore {
+    Take,
+    Hold,
+    Replay,
+}
+
+/// The backup's seat, and its guest with the list that it took.
+#[derive(Drop)]
+pub(crate) struct BackupWorker<B> {
+    pub(crate) seat: BackupSeat,
+    pub(crate) guest: Repeater<B>,
+    held: u64,
+    won: bool,
+    chore: Chore,
+    plan: Plan,
+    ghost same: { guest.list.items ≡ seat.core.known.backup.list },
+}
+
+impl<B: Lockstep> BackupWorker<B> {
+    /// A backup that has taken nothing yet.
+    pub(crate) fn new(alloc: Global, seat: BackupSeat, board: B, plan: Plan) -> BackupWorker<B>
+        requires { seat.core.known.backup.list ≡ [] }
+        ensures seat { result.seat ≡ seat }
+        ensures board { result.guest.board ≡ board }
+        ensures plan { (result.plan ≡ plan) × (result.won ≡ false) }
+        ensures at { IsAt B.state B.machine (B.state board) result.guest }
+    {
+        BackupWorker {
+            seat,
+            guest: Repeater::new(alloc, board),
+            held: 0,
+            won: false,
+            chore: Chore::Take,
+            plan,
+        }
+    }
+
+    // Takes the packet that came.
+    fn take(&mut self, fabric: &Fabric) -> R<Turn>
+        requires table { self.old.seat.table ≡ fabric.now }
+        requires before { self.old.seat.core.known.backup.winner ≡ 0 }
+        ensures table { self.new.seat.table ≡ self.old.seat.table }
+        ensures before { self.new.seat.core.known.backup.winner ≡ 0 }
+        ensures same { (self.new.plan ≡ self.old.plan) × (self.new.won ≡ self.old.won) }
+        ensures goes_on { OnOk result (GoesOn B.state B.machine self.old.guest self.new.guest) }
+        ensures leaves { Leaves result (Unit {0}) ⊥ }
+    {
+        if !self.seat.has_swaps_left() {
+            return Err(Fault::Stalled);
+        }
+        self.guest.list.reserve(1)?;
+        match self.seat.take(fabric) {
+            Some(packet) => {
+                if packet.index == self.guest.list.len() as u64 {
+                    self.guest.hear(packet.entry);
+                }
+                Ok(Turn::Moved)
+            }
+            None => Ok(self.pace()),
+        }
+    }
+
+    // Acknowledges the list, if it has grown.
+    fn hold(&mut self, fabric: &Fabric)
+        requires table { self.old.seat.table ≡ fabric.now }
+        requires before { self.old.seat.core.known.backup.winner ≡ 0 }
+        ensures table { self.new.seat.table ≡ self.old.seat.table }
+        ensures before { self.new.seat.core.known.backup.winner ≡ 0 }
+        ensures same { (self.new.plan ≡ self.old.plan) × (self.new.won ≡ self.old.won) × (self.new.guest ≡ self.old.guest) }
+    {
+        if self.held != self.guest.list.len() as u64 {
+            self.held = self.seat.hold(fabric);
+        }
+    }
+
+    // Asks to go on alone. If it has won, it repeats what it still holds.
+    fn contest(&mut self, fabric: &Fabric) -> Turn
+        requires table { self.old.seat.table ≡ fabric.now }
+        requires before { self.old.seat.core.known.backup.winner ≡ 0 }
+        requires not_yet { self.old.won ≡ false }
+        ensures table { self.new.seat.table ≡ self.old.seat.table }
+        ensures same { (self.new.plan ≡ self.old.plan) × (self.new.guest ≡ self.old.guest) }
+        ensures leaves { Leaves (Ok result) (self.new.seat.core.known.backup.winner ≡ cond self.new.won 2 0)
+            (self.new.seat.core.known.backup.winner ≡ 1) }
+    {
+        if self.seat.contest(fabric).is_err() {
+            return Turn::Ends;
+        }
+        self.won = true;
+        Turn::Moved
+    }
+
+    // Repeats what it still holds, after it has won.
+    fn drain(&mut self) -> R<Turn>
+        ensures seat { self.new.seat ≡ self.old.seat }
+        ensures same { (self.new.plan ≡ self.old.plan) × (self.new.won ≡ self.old.won) }
+        ensures goes_on { OnOk result (GoesOn B.state B.machine self.old.guest self.new.guest) }
+        ensures leaves { Leaves result (Unit {0}) (self.new.guest.replayed ≡ vec_len self.new.guest.list) }
+    {
+        if self.guest.has_replayed_all() {
+            return Ok(Turn::Ends);
+        }
+        self.guest.replay(self.plan.steps)?;
+        Ok(Turn::Moved)
+    }
+
+    // Whether anything is left to repeat.
+    fn pace(&self) -> Turn
+        ensures { Leaves (Ok result) (Unit {0}) ⊥ }
+    {
+        if self.guest.has_replayed_all() {
+            Turn::Waits
+        } else {
+            Turn::Moved
+        }
+    }
+
+    // Takes, acknowledges or repeats, in rotation.
+    fn follow(&mut self, fabric: &Fabric) -> R<Turn>
+        requires table { self.old.seat.table ≡ fabric.now }
+        requires before { self.old.seat.core.known.backup.winner ≡ 0 }
+        ensures table { self.new.seat.table ≡ self.old.seat.table }
+        ensures before { self.new.seat.core.known.backup.winner ≡ 0 }
+        ensures same { (self.new.plan ≡ self.old.plan) × (self.new.won ≡ self.old.won) }
+        ensures goes_on { OnOk result (GoesOn B.state B.machine self.old.guest self.new.guest) }
+        ensures leaves { Leaves result (Unit {0}) ⊥ }
+    {
+        match self.chore {
+            Chore::Take => {
+                self.chore = Chore::Hold;
+                self.take(fabric)
+            }
+            Chore::Hold => {
+                self.chore = Chore::Replay;
+                self.hold(fabric);
+                Ok(self.pace())
+            }
+            Chore::Replay => {
+                self.chore = Chore::Take;
+                self.guest.replay(self.plan.steps)?;
+                Ok(self.pace())
+            }
+        }
+    }
+}
+
+impl<B: Lockstep> Worker for BackupWorker<B> {
+    ghost use Rattle.std.specs.Prelude.{◌≡◌, ◌⊎◌, cond, false, vec_len};
+    ghost use Rattle.pair_threads.specs.Repeating.{IsAt};
+
+    ghost table = { λ w. w.seat.table };
+
+    ghost ready = { λ w. w.seat.core.known.backup.winner ≡ cond w.won 2 0 };
+
+    ghost came = { λ first w. (w.plan ≡ first.plan) × IsAt B.state B.machine (B.state first.guest.board) w.guest };
+
+    ghost ended = { λ w. (w.plan.contested ≡ false) ⊎ (w.seat.core.known.backup.winner ≡ 2)
+        → w.guest.replayed ≡ vec_len w.guest.list };
+
+    fn turn(&mut self, fabric: &Fabric, number: u64) -> R<Turn> {
+        if self.won {
+            return self.drain();
+        }
+        if self.plan.contests_at == Some(number) {
+            return Ok(self.contest(fabric));
+        }
+        self.follow(fabric)
+    }
+
+    fn may_end(&self, told: Told) -> bool {
+        if self.won || !told.primary_ended {
+            return false;
+        }
+        self.plan.contested || self.guest.has_replayed_all()
+    }
+}

@@ -1,0 +1,47 @@
+//! What a primary's worker does, in rotation.
+
+/// What one turn of a primary's worker does.
+#[derive(Debug, Clone, Copy, PartialEq, Eq)]
+pub(crate) enum Chore {
+    /// Post the next entry that is not acknowledged.
+    Post,
+    /// See how many entries are acknowledged.
+    See,
+    /// Let the guest run.
+    Run,
+    /// Take a key of the port that has its turn.
+    Key,
+    /// Give its oldest byte to its terminal.
+    Emit,
+    /// See how many of its bytes are accepted.
+    Count,
+    /// Take an acceptance.
+    Accept,
+    /// Ask the disk for a write, or for the sector that is due.
+    Ask,
+    /// See what the disk answers.
+    Answer,
+    /// Take what it answered.
+    Complete,
+}
+
+/// How many turns without a change make a rotation over both ports.
+pub(crate) const ROTATION: u8 = 20;
+
+impl Chore {
+    /// What comes after it.
+    pub(crate) fn next(self) -> Chore {
+        match self {
+            Chore::Post => Chore::See,
+            Chore::See => Chore::Run,
+            Chore::Run => Chore::Key,
+            Chore::Key => Chore::Emit,
+            Chore::Emit => Chore::Count,
+            Chore::Count => Chore::Accept,
+            Chore::Accept => Chore::Ask,
+            Chore::Ask => Chore::Answer,
+            Chore::Answer => Chore::Complete,
+            Chore::Complete => Chore::Post,
+        }
+    }
+}

@@ -1,0 +1,85 @@
+//! The disk's worker: it serves one request after another.
+ghost use Rattle.std.specs.Prelude.{◌≡◌, Some, IsTrue, IfOk, OnErr, OnOk};
+ghost use Rattle.pair_rule.specs.declared.payload.DiskRequest.{DiskRequest};
+ghost use Rattle.pair_threads.specs.Stores.{Serves};
+
+use crate::signals::Told;
+use crate::worker::{Turn, Worker};
+use i8080_words::{Fault, R};
+use pair_rule::{DiskAnswer, DiskRequest, DiskSeat, Fabric};
+use shared_disk::{SectorStore, SharedDisk};
+
+/// The disk's seat, and the disk.
+#[derive(Drop)]
+pub(crate) struct DiskWorker<D: SectorStore> {
+    pub(crate) seat: DiskSeat,
+    pub(crate) disk: SharedDisk<D>,
+    // The request that was taken and not answered yet.
+    request: Option<DiskRequest>,
+    ghost taken: { (r : DiskRequest) → request ≡ Some r → seat.core.known.disk.taken ≡ Some r },
+}
+
+impl<D: SectorStore> DiskWorker<D> {
+    pub(crate) fn new(seat: DiskSeat, disk: SharedDisk<D>) -> DiskWorker<D>
+        ensures seat { result.seat ≡ seat }
+        ensures disk { result.disk ≡ disk }
+    {
+        DiskWorker {
+            seat,
+            disk,
+            request: None,
+        }
+    }
+}
+
+// What the disk does about a request, and its answer. If it fails, nothing has changed.
+fn answer<D: SectorStore>(disk: &mut SharedDisk<D>, request: &DiskRequest) -> R<DiskAnswer>
+    ensures serves { IfOk result (λ a. Serves (D.records disk.old) request.now a (D.records disk.new)) }
+    ensures unchanged { OnErr result (D.records disk.new ≡ D.records disk.old) }
+{
+    match request {
+        DiskRequest::Write(write) => {
+            disk.put(write)?;
+            Ok(DiskAnswer::Written(write.number))
+        }
+        DiskRequest::Read(address) => Ok(DiskAnswer::Read(disk.get(*address)?)),
+    }
+}
+
+impl<D: SectorStore> Worker for DiskWorker<D> {
+    ghost use Rattle.std.specs.Prelude.{ℕ, List};
+    ghost use Rattle.disk_dcdd.specs.declared.address.SectorAddress.{SectorAddress};
+    ghost use Rattle.pair_threads.specs.Stores.{IsStore, bytes_in};
+
+    ghost table = { λ w. w.seat.table };
+
+    ghost ready = { λ w. (boots : SectorAddress → List ℕ) × IsStore boots (D.records w.disk) w.seat.core.known.disk };
+
+    ghost came = { λ first w. IsStore (bytes_in (D.records first.disk)) (D.records w.disk) w.seat.core.known.disk };
+
+    ghost ended = { λ w. Unit {0} };
+
+    // A request that the disk fails is tried again at the next turn.
+    fn turn(&mut self, fabric: &Fabric, _number: u64) -> R<Turn> {
+        if !self.seat.has_swaps_left() {
+            return Err(Fault::Stalled);
+        }
+        let Some(request) = self.request else {
+            self.request = self.seat.take_request(fabric);
+            return Ok(match self.request {
+                Some(_) => Turn::Moved,
+                None => Turn::Waits,
+            });
+        };
+        let Ok(answer) = answer(&mut self.disk, &request) else {
+            return Ok(Turn::Waits);
+        };
+        self.seat.reply(fabric, answer);
+        self.request = None;
+        Ok(Turn::Moved)
+    }
+
+    fn may_end(&self, told: Told) -> bool {
+        told.primary_ended && told.backup_ended
+    }
+}

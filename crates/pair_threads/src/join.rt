@@ -1,0 +1,138 @@
+//! The five workers of a generation on threads.
+ghost use Rattle.std.specs.Thread.{IsSync};
+ghost use Rattle.pair_threads.specs.Served.{HasServed, MayBegin};
+
+use crate::gate::{Gate, Who};
+use crate::signals::Signals;
+use crate::worker::{Worker, serve};
+use i8080_words::R;
+use pair_rule::{Fabric, MOST_SWAPS};
+use std::thread::{Threads, join};
+use std::time::Clock;
+
+/// One thing for each seat.
+#[derive(Drop)]
+pub(crate) struct Five<P, L, B, T, D> {
+    pub(crate) primary: P,
+    pub(crate) link: L,
+    pub(crate) backup: B,
+    pub(crate) terminal: T,
+    pub(crate) disk: D,
+}
+
+/// A worker after its turns, and what it came to.
+pub(crate) type Served<W> = (W, R<()>);
+
+/// The five workers at once, each on a thread of its own, with this many turns at most for the primary and for the backup.
+pub(crate) fn work<
+    P: Worker + Send + Drop,
+    L: Worker + Send + Drop,
+    B: Worker + Send + Drop,
+    T: Worker + Send + Drop,
+    D: Worker + Send + Drop,
+    G: Gate + Sync,
+    H: Threads + Clock + Sync,
+>(
+    rt: &H,
+    five: Five<P, L, B, T, D>,
+    fabric: &Fabric,
+    gate: &G,
+    turns: u64,
+) -> Five<Served<P>, Served<L>, Served<B>, Served<T>, Served<D>>
+    requires primary { MayBegin P.table P.ready P.came fabric.now five.primary }
+    requires link { MayBegin L.table L.ready L.came fabric.now five.link }
+    requires backup { MayBegin B.table B.ready B.came fabric.now five.backup }
+    requires terminal { MayBegin T.table T.ready T.came fabric.now five.terminal }
+    requires disk { MayBegin D.table D.ready D.came fabric.now five.disk }
+    ensures primary { HasServed P.table P.came P.ended fabric.now five.primary result.primary }
+    ensures link { HasServed L.table L.came L.ended fabric.now five.link result.link }
+    ensures backup { HasServed B.table B.came B.ended fabric.now five.backup result.backup }
+    ensures terminal { HasServed T.table T.came T.ended fabric.now five.terminal result.terminal }
+    ensures disk { HasServed D.table D.came D.ended fabric.now five.disk result.disk }
+{
+    let Five {
+        primary,
+        link,
+        backup,
+        terminal,
+        disk,
+    } = five;
+    let told = Signals::new();
+    let signals = &told;
+    let (primary, (backup, (link, (terminal, disk)))) = join(
+        rt,
+        move || -> (P, R<()>)
+            requires { MayBegin P.table P.ready P.came fabric.now primary }
+            ensures { HasServed P.table P.came P.ended fabric.entry.now primary result }
+        { serve(rt, primary, Who::Primary, fabric, gate, signals, turns) },
+        move || -> ((B, R<()>), ((L, R<()>), ((T, R<()>), (D, R<()>))))
+            requires { MayBegin B.table B.ready B.came fabric.now backup
+                × MayBegin L.table L.ready L.came fabric.now link
+                × MayBegin T.table T.ready T.came fabric.now terminal
+                × MayBegin D.table D.ready D.came fabric.now disk × IsSync H.row }
+            ensures { HasServed B.table B.came B.ended fabric.entry.now backup result.0
+                × HasServed L.table L.came L.ended fabric.entry.now link result.1.0
+                × HasServed T.table T.came T.ended fabric.entry.now terminal result.1.1.0
+                × HasServed D.table D.came D.ended fabric.entry.now disk result.1.1.1 }
+        {
+            join(
+                rt,
+                move || -> (B, R<()>)
+                    requires { MayBegin B.table B.ready B.came fabric.now backup }
+                    ensures { HasServed B.table B.came B.ended fabric.entry.now backup result }
+                { serve(rt, backup, Who::Backup, fabric, gate, signals, turns) },
+                move || -> ((L, R<()>), ((T, R<()>), (D, R<()>)))
+                    requires { MayBegin L.table L.ready L.came fabric.now link
+                        × MayBegin T.table T.ready T.came fabric.now terminal
+                        × MayBegin D.table D.ready D.came fabric.now disk × IsSync H.row }
+                    ensures { HasServed L.table L.came L.ended fabric.entry.now link result.0
+                        × HasServed T.table T.came T.ended fabric.entry.now terminal result.1.0
+                        × HasServed D.table D.came D.ended fabric.entry.now disk result.1.1 }
+                {
+                    join(
+                        rt,
+                        move || -> (L, R<()>)
+                            requires { MayBegin L.table L.ready L.came fabric.now link }
+                            ensures { HasServed L.table L.came L.ended fabric.entry.now link result }
+                        { serve(rt, link, Who::Link, fabric, gate, signals, MOST_SWAPS) },
+                        move || -> ((T, R<()>), (D, R<()>))
+                            requires { MayBegin T.table T.ready T.came fabric.now terminal
+                                × MayBegin D.table D.ready D.came fabric.now disk × IsSync H.row }
+                            ensures { HasServed T.table T.came T.ended fabric.entry.now terminal result.0
+                                × HasServed D.table D.came D.ended fabric.entry.now disk result.1 }
+                        {
+                            join(
+                                rt,
+                                move || -> (T, R<()>)
+                                    requires { MayBegin T.table T.ready T.came fabric.now terminal }
+                                    ensures { HasServed T.table T.came T.ended fabric.entry.now terminal result }
+                                {
+                                    serve(
+                                        rt,
+                                        terminal,
+                                        Who::Terminal,
+                                        fabric,
+                                        gate,
+                                        signals,
+                                        MOST_SWAPS,
+                                    )
+                                },
+                                move || -> (D, R<()>)
+                                    requires { MayBegin D.table D.ready D.came fabric.now disk }
+                                    ensures { HasServed D.table D.came D.ended fabric.entry.now disk result }
+                                { serve(rt, disk, Who::Disk, fabric, gate, signals, MOST_SWAPS) },
+                            )
+                        },
+                    )
+                },
+            )
+        },
+    );
+    Five {
+        primary,
+        link,
+        backup,
+        terminal,
+        disk,
+    }
+}

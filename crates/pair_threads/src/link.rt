@@ -1,0 +1,88 @@
+//! The link's worker: it carries packets, loses them, and brings them twice.
+ghost use Rattle.std.specs.Prelude.{◌≡◌, IsTrue};
+
+use crate::signals::Told;
+use crate::worker::{Turn, Worker};
+use i8080_words::{Fault, R};
+use pair_rule::{Fabric, LinkSeat};
+
+/// What becomes of a packet.
+#[derive(Debug, Clone, Copy, PartialEq, Eq)]
+pub enum Fate {
+    /// It is brought.
+    Pass,
+    /// It is lost.
+    Drop,
+    /// It is brought twice.
+    Twice,
+}
+
+/// The link's seat, and the fates of its packets in order; the last fate is that of all further packets, and without any
+/// each packet is brought.
+#[derive(Drop)]
+pub(crate) struct LinkWorker {
+    pub(crate) seat: LinkSeat,
+    fates: Vec<Fate>,
+    packets: usize,
+    // The fate of the packet in the seat's hand, if it has one.
+    fate: Option<Fate>,
+}
+
+impl LinkWorker {
+    pub(crate) fn new(seat: LinkSeat, fates: Vec<Fate>) -> LinkWorker
+        ensures { result.seat ≡ seat }
+    {
+        LinkWorker {
+            seat,
+            fates,
+            packets: 0,
+            fate: None,
+        }
+    }
+}
+
+// The fate of a packet.
+fn fate_of(fates: &[Fate], packet: usize) -> Fate {
+    match fates.get(packet).or(fates.last()) {
+        Some(fate) => *fate,
+        None => Fate::Pass,
+    }
+}
+
+impl Worker for LinkWorker {
+    ghost table = { λ w. w.seat.table };
+
+    ghost ready = { λ w. Unit {0} };
+
+    ghost came = { λ first w. Unit {0} };
+
+    ghost ended = { λ w. Unit {0} };
+
+    fn turn(&mut self, fabric: &Fabric, _number: u64) -> R<Turn> {
+        if !self.seat.has_swaps_left() {
+            return Err(Fault::Stalled);
+        }
+        let Some(fate) = self.fate else {
+            if !self.seat.carry_out(fabric) {
+                return Ok(Turn::Waits);
+            }
+            self.fate = Some(fate_of(&self.fates, self.packets));
+            self.packets = self.packets.saturating_add(1);
+            return Ok(Turn::Moved);
+        };
+        self.fate = None;
+        match fate {
+            Fate::Pass => self.seat.carry_in(fabric, false),
+            Fate::Drop => self.seat.discard(fabric),
+            Fate::Twice => {
+                self.seat.carry_in(fabric, true);
+                self.fate = Some(Fate::Pass);
+            }
+        }
+        Ok(Turn::Moved)
+    }
+
+    fn may_end(&self, told: Told) -> bool {
+        told.primary_ended && told.backup_ended
+    }
+}

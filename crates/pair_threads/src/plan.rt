@@ -1,0 +1,28 @@
+//! What a worker with a guest is told before it begins.
+ghost use Rattle.std.specs.Prelude.{◌≡◌, true, IsSome};
+
+/// When a worker asks to go on alone, and how far its guest moves in one turn.
+#[derive(Debug, Clone, Copy, PartialEq, Eq)]
+pub(crate) struct Plan {
+    /// The turn at which it asks to go on alone, if it does.
+    pub(crate) contests_at: Option<u64>,
+    /// Whether it or the other one asks.
+    pub(crate) contested: bool,
+    /// How many steps its guest may make in one turn.
+    pub(crate) steps: u64,
+    ghost told: { IsSome contests_at → contested ≡ true },
+}
+
+impl Plan {
+    /// A plan; whether it is contested says also whether the other one asks.
+    pub(crate) fn new(contests_at: Option<u64>, contested: bool, steps: u64) -> Plan
+        requires told { IsSome contests_at → contested ≡ true }
+        ensures { result.contested ≡ contested }
+    {
+        Plan {
+            contests_at,
+            contested,
+            steps: steps.max(1),
+        }
+    }
+}

@@ -1,0 +1,268 @@
+//! The chores of a primary's worker at its guest, the link and the terminals.
+ghost use Rattle.std.specs.Prelude.{◌≡◌, ◌<◌, IsTrue, None, OnOk, Some, length};
+ghost use Rattle.event_callbacks.specs.declared.devices.TheConstants.{PORTS};
+ghost use Rattle.event_callbacks.specs.declared.operations.OpId.TheVariants as id;
+ghost use Rattle.event_callbacks.specs.declared.operations.Operation.TheVariants.{Byte};
+ghost use Rattle.pair_rule.specs.Seats.{HasSwapsLeft};
+ghost use Rattle.pair_threads.specs.Primary.{IsAtRest, Works};
+
+use super::PrimaryWorker;
+use guest_board::Lockstep;
+use i8080_words::{Fault, R};
+use pair_rule::Fabric;
+
+/// How many steps a guest makes between two keys, unless it idles: about those of an 8080 between two bytes of a line at
+/// 9,600 baud.
+const KEY_STEPS: u64 = 300;
+
+impl<B: Lockstep> PrimaryWorker<B> {
+    // Posts the next entry that is not acknowledged, the first of them after the last. Whether it was posted for the
+    // first time.
+    #[tactic(auto, using(crate::proofs::Leading::at_index))]
+    pub(super) fn post(&mut self, fabric: &Fabric) -> bool
+        requires table { self.old.seat.table ≡ fabric.now }
+        requires before { self.old.seat.core.known.primary.winner ≡ 0 }
+        requires swaps { HasSwapsLeft self.old.seat.core }
+        ensures works { Works B.state B.machine self.old self.new }
+    {
+        let length = self.list.len() as u64;
+        if self.next < self.seen || self.next >= length {
+            self.next = self.seen;
+        }
+        if self.next >= length {
+            return false;
+        }
+        self.seat
+            .post(fabric, self.next, &self.list[self.next as usize]);
+        self.next += 1;
+        let is_new = self.next > self.posted;
+        self.posted = self.posted.max(self.next);
+        is_new
+    }
+
+    // Sees how many entries are acknowledged.
+    pub(super) fn see(&mut self, fabric: &Fabric) -> bool
+        requires table { self.old.seat.table ≡ fabric.now }
+        requires before { self.old.seat.core.known.primary.winner ≡ 0 }
+        ensures works { Works B.state B.machine self.old self.new }
+    {
+        let before = self.seen;
+        self.seen = self.seat.see(fabric);
+        self.full = false;
+        self.seen != before
+    }
+
+    // Lets the guest run, unless an entry of it waits.
+    pub(super) fn run(&mut self) -> R<bool>
+        ensures works { OnOk result (Works B.state B.machine self.old self.new) }
+        ensures seat { self.new.seat ≡ self.old.seat }
+    {
+        if self.guest.waiting.is_some() {
+            return Ok(false);
+        }
+        match self.guest.run(self.plan.steps) {
+            Ok(moved) => {
+                if !moved {
+                    self.key_count = 0;
+                }
+                Ok(moved)
+            }
+            Err(Fault::OutOfMemory) => Err(Fault::OutOfMemory),
+            Err(_) => Err(Fault::Stalled),
+        }
+    }
+
+    // Takes a key, if the guest has had time for the one before.
+    pub(super) fn take_key(&mut self, port: u8) -> bool
+        requires port { port < PORTS }
+        ensures works { Works B.state B.machine self.old self.new }
+    {
+        let count = self.guest.board.count();
+        if count < self.key_count || !self.may_take_new() {
+            return false;
+        }
+        let moved = self.next_key(port);
+        if moved {
+            self.key_count = count.saturating_add(KEY_STEPS);
+        }
+        moved
+    }
+
+    // Takes the next key of a port.
+    fn next_key(&mut self, port: u8) -> bool
+        requires free { self.old.guest.waiting ≡ None }
+        requires port { port < PORTS }
+        ensures works { Works B.state B.machine self.old self.new }
+    {
+        if port == 0 {
+            self.take_key0()
+        } else {
+            self.take_key1()
+        }
+    }
+
+    // Takes the next key of port 0.
+    fn take_key0(&mut self) -> bool
+        requires free { self.old.guest.waiting ≡ None }
+        ensures works { Works B.state B.machine self.old self.new }
+    {
+        let Some(byte) = self.port0.next() else {
+            return false;
+        };
+        if !self.guest.key(0, byte) {
+            return false;
+        }
+        self.port0.taken += 1;
+        true
+    }
+
+    // Takes the next key of port 1.
+    fn take_key1(&mut self) -> bool
+        requires free { self.old.guest.waiting ≡ None }
+        ensures works { Works B.state B.machine self.old self.new }
+    {
+        let Some(byte) = self.port1.next() else {
+            return false;
+        };
+        if !self.guest.key(1, byte) {
+            return false;
+        }
+        self.port1.taken += 1;
+        true
+    }
+
+    // Gives the oldest byte of a port to its terminal, if all is acknowledged. Whether it was given for the first time.
+    pub(super) fn emit(&mut self, fabric: &Fabric, port: u8) -> bool
+        requires table { self.old.seat.table ≡ fabric.now }
+        requires before { self.old.seat.core.known.primary.winner ≡ 0 }
+        requires swaps { HasSwapsLeft self.old.seat.core }
+        requires port { port < PORTS }
+        ensures works { Works B.state B.machine self.old self.new }
+    {
+        match self.guest.due_byte(port) {
+            Some((number, byte)) if self.is_covered() && number > self.counted(port) => {
+                self.give(fabric, port, number, byte)
+            }
+            _ => false,
+        }
+    }
+
+    // Gives an outstanding byte to its terminal. Whether it was given for the first time.
+    fn give(&mut self, fabric: &Fabric, port: u8, number: u64, byte: u8) -> bool
+        requires table { self.old.seat.table ≡ fabric.now }
+        requires before { self.old.seat.core.known.primary.winner ≡ 0 }
+        requires swaps { HasSwapsLeft self.old.seat.core }
+        requires port { port < PORTS }
+        requires due { B.machine.find (B.state self.old.guest.board) (id.Byte port number) ≡ Some (Byte port number byte) }
+        requires covered { (self.old.guest.waiting ≡ None) × (self.old.seen ≡ length self.old.list.items) }
+        ensures works { Works B.state B.machine self.old self.new }
+    {
+        self.seat.emit(fabric, port, number, byte);
+        let is_new = number > self.emitted[port as usize];
+        self.emitted[port as usize] = number;
+        is_new
+    }
+
+    // How many bytes of a port are accepted, as it saw last.
+    fn counted(&self, port: u8) -> u64 {
+        if port == 0 {
+            self.counted0
+        } else {
+            self.counted1
+        }
+    }
+
+    // Sees how many bytes of a port are accepted, if one is out.
+    pub(super) fn count(&mut self, fabric: &Fabric, port: u8) -> bool
+        requires table { self.old.seat.table ≡ fabric.now }
+        requires before { self.old.seat.core.known.primary.winner ≡ 0 }
+        requires port { port < PORTS }
+        ensures works { Works B.state B.machine self.old self.new }
+    {
+        if self.guest.board.due_byte(port).is_none() {
+            return false;
+        }
+        if port == 0 {
+            self.count0(fabric)
+        } else {
+            self.count1(fabric)
+        }
+    }
+
+    // Sees how many bytes of port 0 are accepted.
+    fn count0(&mut self, fabric: &Fabric) -> bool
+        requires table { self.old.seat.table ≡ fabric.now }
+        requires before { self.old.seat.core.known.primary.winner ≡ 0 }
+        ensures works { Works B.state B.machine self.old self.new }
+    {
+        let before = self.counted0;
+        self.counted0 = self.seat.counted(fabric, 0);
+        self.counted0 != before
+    }
+
+    // Sees how many bytes of port 1 are accepted.
+    fn count1(&mut self, fabric: &Fabric) -> bool
+        requires table { self.old.seat.table ≡ fabric.now }
+        requires before { self.old.seat.core.known.primary.winner ≡ 0 }
+        ensures works { Works B.state B.machine self.old self.new }
+    {
+        let before = self.counted1;
+        self.counted1 = self.seat.counted(fabric, 1);
+        self.counted1 != before
+    }
+
+    // Takes the acceptance of the oldest byte of a port, if it was accepted.
+    pub(super) fn accept(&mut self, port: u8) -> bool
+        requires port { port < PORTS }
+        ensures works { Works B.state B.machine self.old self.new }
+    {
+        if self.guest.waiting.is_some() {
+            return false;
+        }
+        if port == 0 {
+            self.accept0()
+        } else {
+            self.accept1()
+        }
+    }
+
+    // Takes an acceptance at port 0, if its terminal has accepted more bytes than the guest was told.
+    fn accept0(&mut self) -> bool
+        requires free { self.old.guest.waiting ≡ None }
+        ensures works { Works B.state B.machine self.old self.new }
+    {
+        if self.port0.accepted >= self.counted0 || !self.guest.sent(0) {
+            return false;
+        }
+        self.port0.accepted += 1;
+        true
+    }
+
+    // Takes an acceptance at port 1, if its terminal has accepted more bytes than the guest was told.
+    fn accept1(&mut self) -> bool
+        requires free { self.old.guest.waiting ≡ None }
+        ensures works { Works B.state B.machine self.old self.new }
+    {
+        if self.port1.accepted >= self.counted1 || !self.guest.sent(1) {
+            return false;
+        }
+        self.port1.accepted += 1;
+        true
+    }
+
+    // Whether a run that nobody is to go on from alone is at its end: the guest idles with all keys taken, nothing is
+    // outstanding, in flight or due, and all is acknowledged.
+    pub(super) fn is_at_its_end(&self) -> bool
+        ensures { IsTrue result → IsAtRest self.now }
+    {
+        !self.plan.contested
+            && self.is_covered()
+            && self.guest.given.is_empty()
+            && !self.asked
+            && self.answer.is_none()
+            && self.port0.is_taken()
+            && self.port1.is_taken()
+            && self.guest.idle
+            && self.due_sector().is_none()
+    }
+}

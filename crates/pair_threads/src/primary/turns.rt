@@ -1,0 +1,184 @@
+//! The turns of a primary's worker: what waits is appended, and otherwise its chores come in rotation.
+ghost use Rattle.std.specs.Prelude.{◌≡◌, ◌↔◌, [], length, None, Some, IsTrue, OnOk};
+ghost use Rattle.event_callbacks.specs.declared.operations.OpId.{OpId};
+ghost use Rattle.pair_rule.specs.Seats.{HasSwapsLeft};
+ghost use Rattle.pair_threads.specs.Primary.{IsAtRest, WorkerLeads, Works};
+ghost use Rattle.pair_threads.specs.Turns.{Leaves};
+
+use super::PrimaryWorker;
+use crate::chore::{Chore, ROTATION};
+use crate::plan::Plan;
+use crate::port_inputs::PortInputs;
+use crate::recording::Recording;
+use crate::signals::Told;
+use crate::worker::{Turn, Worker};
+use guest_board::Lockstep;
+use i8080_words::{Fault, R};
+use log_entry::Entry;
+use pair_rule::{Fabric, PrimarySeat};
+use std::alloc::Global;
+
+impl<B: Lockstep> PrimaryWorker<B> {
+    pub(crate) fn new(
+        alloc: Global,
+        seat: PrimarySeat,
+        board: B,
+        typed0: Vec<u8>,
+        typed1: Vec<u8>,
+        plan: Plan,
+    ) -> PrimaryWorker<B>
+        requires list { seat.core.known.primary.list ≡ [] }
+        requires blank { (seat.core.known.primary.seen ≡ 0) × (seat.core.known.primary.released ≡ []) }
+        requires uncounted { (seat.core.known.primary.counted0 ≡ 0) × (seat.core.known.primary.counted1 ≡ 0) }
+        requires none { (name : OpId) → B.machine.find (B.state board) name ≡ None }
+        ensures seat { result.seat ≡ seat }
+        ensures board { result.guest.board ≡ board }
+        ensures plan { (result.plan ≡ plan) × (result.port0.typed ≡ typed0) × (result.port1.typed ≡ typed1) }
+        ensures leads { WorkerLeads B.state B.machine (B.state board) result }
+    {
+        PrimaryWorker {
+            seat,
+            list: Vec::new(alloc),
+            guest: Recording::new(alloc, board),
+            port0: PortInputs::new(typed0),
+            port1: PortInputs::new(typed1),
+            seen: 0,
+            counted0: 0,
+            counted1: 0,
+            next: 0,
+            full: false,
+            posted: 0,
+            emitted: [0; 2],
+            asked: false,
+            answer: None,
+            sector: 0,
+            key_count: 0,
+            chore: Chore::Post,
+            second: false,
+            fruitless: 0,
+            plan,
+        }
+    }
+
+    // Gives the list the entry that waits, unless the log is full.
+    pub(super) fn append(&mut self, fabric: &Fabric, entry: Entry) -> R<Turn>
+        requires table { self.old.seat.table ≡ fabric.now }
+        requires before { self.old.seat.core.known.primary.winner ≡ 0 }
+        requires waits { self.old.guest.waiting ≡ Some entry }
+        ensures works { OnOk result (Works B.state B.machine self.old self.new) }
+        ensures table { self.new.seat.table ≡ self.old.seat.table }
+        ensures goes_on { Leaves result (Unit {0}) ⊥ }
+    {
+        self.list.reserve(1)?;
+        match self.seat.append(fabric, entry) {
+            Ok(_) => {
+                self.list.push_reserved(entry);
+                self.guest.waiting = None;
+                Ok(Turn::Moved)
+            }
+            Err(Fault::LogFull) => {
+                self.full = true;
+                Ok(Turn::Waits)
+            }
+            Err(_) => Err(Fault::Stalled),
+        }
+    }
+
+    // Whether everything that its guest did is in the list, and acknowledged.
+    pub(super) fn is_covered(&self) -> bool
+        ensures { IsTrue result ↔ ((self.now.guest.waiting ≡ None) × (self.now.seen ≡ length self.now.list.items)) }
+    {
+        self.guest.waiting.is_none() && self.seen == self.list.len() as u64
+    }
+
+    // Whether its guest may take a new input: nothing that it gave waits for an acknowledgement.
+    pub(super) fn may_take_new(&self) -> bool
+        ensures { IsTrue result → self.now.guest.waiting ≡ None }
+    {
+        self.guest.waiting.is_none() && (self.guest.given.is_empty() || self.is_covered())
+    }
+
+    // Does one chore. Whether it changed anything.
+    fn attempt(&mut self, fabric: &Fabric) -> R<bool>
+        requires table { self.old.seat.table ≡ fabric.now }
+        requires before { self.old.seat.core.known.primary.winner ≡ 0 }
+        requires swaps { HasSwapsLeft self.old.seat.core }
+        ensures works { OnOk result (Works B.state B.machine self.old self.new) }
+        ensures table { self.new.seat.table ≡ self.old.seat.table }
+    {
+        let port = if self.second { 1 } else { 0 };
+        match self.chore {
+            Chore::Post => Ok(self.post(fabric)),
+            Chore::See => Ok(self.see(fabric)),
+            Chore::Run => self.run(),
+            Chore::Key => Ok(self.take_key(port)),
+            Chore::Emit => Ok(self.emit(fabric, port)),
+            Chore::Count => Ok(self.count(fabric, port)),
+            Chore::Accept => Ok(self.accept(port)),
+            Chore::Ask => Ok(self.ask(fabric)),
+            Chore::Answer => Ok(self.hear(fabric)),
+            Chore::Complete => {
+                self.second = !self.second;
+                Ok(self.complete())
+            }
+        }
+    }
+
+    // Does the next chore.
+    fn work(&mut self, fabric: &Fabric) -> R<Turn>
+        requires table { self.old.seat.table ≡ fabric.now }
+        requires before { self.old.seat.core.known.primary.winner ≡ 0 }
+        requires swaps { HasSwapsLeft self.old.seat.core }
+        ensures works { OnOk result (Works B.state B.machine self.old self.new) }
+        ensures table { self.new.seat.table ≡ self.old.seat.table }
+        ensures leaves { Leaves result (Unit {0}) (IsAtRest self.new) }
+    {
+        if self.chore == Chore::Run && self.is_at_its_end() {
+            return Ok(Turn::Ends);
+        }
+        let moved = self.attempt(fabric)?;
+        self.chore = self.chore.next();
+        if moved {
+            self.fruitless = 0;
+            return Ok(Turn::Moved);
+        }
+        if self.fruitless < ROTATION {
+            self.fruitless += 1;
+            return Ok(Turn::Moved);
+        }
+        Ok(Turn::Waits)
+    }
+}
+
+impl<B: Lockstep> Worker for PrimaryWorker<B> {
+    ghost use Rattle.std.specs.Prelude.{◌≡◌, false};
+    ghost use Rattle.pair_threads.specs.Primary.{IsAtRest, WorkerLeads};
+
+    ghost table = { λ w. w.seat.table };
+
+    ghost ready = { λ w. w.seat.core.known.primary.winner ≡ 0 };
+
+    ghost came = { λ first w. (w.plan ≡ first.plan) × (w.port0.typed ≡ first.port0.typed)
+        × (w.port1.typed ≡ first.port1.typed) × WorkerLeads B.state B.machine (B.state first.guest.board) w };
+
+    ghost ended = { λ w. w.plan.contested ≡ false → IsAtRest w };
+
+    fn turn(&mut self, fabric: &Fabric, number: u64) -> R<Turn> {
+        if !self.seat.has_swaps_left() {
+            return Err(Fault::Stalled);
+        }
+        if self.plan.contests_at == Some(number) {
+            let _ = self.seat.contest(fabric);
+            return Ok(Turn::Ends);
+        }
+        let waiting = self.guest.waiting;
+        match waiting {
+            Some(entry) if !self.full => self.append(fabric, entry),
+            _ => self.work(fabric),
+        }
+    }
+
+    fn may_end(&self, told: Told) -> bool {
+        self.plan.contested && told.backup_ended
+    }
+}

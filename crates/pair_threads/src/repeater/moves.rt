@@ -1,0 +1,66 @@
+//! How a backup's guest repeats the entries of its list.
+ghost use Rattle.std.specs.Prelude.{◌≡◌, ◌<◌, ◌↔◌, ◌++◌, [], ◌∷◌, vec_len, vec_capacity, IsTrue, OnOk};
+ghost use Rattle.pair_threads.specs.Repeating.{GoesOn, IsAt};
+
+use super::Repeater;
+use guest_board::Lockstep;
+use i8080_words::{Fault, R};
+use log_entry::Entry;
+use replayer::{Followed, follow};
+use std::alloc::Global;
+
+impl<B: Lockstep> Repeater<B> {
+    /// A guest at boot, with an empty list.
+    pub(crate) fn new(alloc: Global, board: B) -> Repeater<B>
+        ensures board { result.board ≡ board }
+        ensures list { result.list.items ≡ [] }
+        ensures at { IsAt B.state B.machine (B.state board) result }
+    {
+        Repeater {
+            list: Vec::new(alloc),
+            board,
+            replayed: 0,
+            between: false,
+        }
+    }
+
+    /// Whether it has repeated the whole list.
+    pub(crate) fn has_replayed_all(&self) -> bool
+        ensures { IsTrue result ↔ (self.now.replayed ≡ vec_len self.now.list) }
+    {
+        self.replayed == self.list.len()
+    }
+
+    /// An entry comes.
+    pub(crate) fn hear(&mut self, entry: Entry)
+        requires room { vec_len self.old.list < vec_capacity self.old.list }
+        ensures list { self.new.list.items ≡ self.old.list.items ++ entry ∷ [] }
+        ensures goes_on { GoesOn B.state B.machine self.old self.new }
+    {
+        self.list.push_reserved(entry);
+    }
+
+    /// Makes at most so many steps towards the next entry, or that entry's move. `Stalled` if it cannot.
+    pub(crate) fn replay(&mut self, steps: u64) -> R<()>
+        ensures list { self.new.list ≡ self.old.list }
+        ensures goes_on { OnOk result (GoesOn B.state B.machine self.old self.new) }
+    {
+        if self.replayed >= self.list.len() {
+            return Ok(());
+        }
+        let entry = self.list[self.replayed];
+        match follow(&mut self.board, &entry, steps) {
+            Ok(Followed::Stepped(_)) => {
+                self.between = true;
+                Ok(())
+            }
+            Ok(Followed::Done) => {
+                self.between = false;
+                self.replayed += 1;
+                Ok(())
+            }
+            Err(Fault::OutOfMemory) => Err(Fault::OutOfMemory),
+            Ok(Followed::Differs) | Err(_) => Err(Fault::Stalled),
+        }
+    }
+}

@@ -1,0 +1,277 @@
+//! One generation on threads.
+ghost use Rattle.std.specs.Prelude.{◌≡◌, ◌⊎◌, ℕ, List, [], ◌∷◌, None, Some, false, length, map, vec_len, IfOk, IsOk, OnOk};
+ghost use Rattle.guest_board.specs.Machine.{booted_from};
+ghost use Rattle.pair_protocol.specs.Lawful.{Lawful};
+ghost use Rattle.pair_rule.specs.Knowledge.{StartsWith};
+ghost use Rattle.pair_rule.specs.Threads.{bytes_accepted};
+ghost use Rattle.pair_threads.specs.Ending.{EndsBy, winner_named};
+ghost use Rattle.pair_threads.specs.Primary.{IsAtRest, WorkerLeads};
+ghost use Rattle.pair_threads.specs.Repeating.{IsAt};
+ghost use Rattle.pair_threads.specs.Stores.{IsStore, bytes_in};
+ghost use Rattle.shared_disk.specs.Records.{IsUnwritten};
+ghost use Rattle.shared_disk.specs.declared.store.Record.{Record};
+
+use crate::backup::BackupWorker;
+use crate::disk::DiskWorker;
+use crate::gate::{Gate, Who};
+use crate::join::{Five, Served, work};
+use crate::link::LinkWorker;
+use crate::plan::Plan;
+use crate::primary::PrimaryWorker;
+use crate::recording::Recording;
+use crate::repeater::Repeater;
+use crate::terminal::TerminalWorker;
+use crate::workers::{GenerationEnd, Workers};
+use guest_board::Lockstep;
+use i8080_words::{Fault, R};
+use log_entry::Entry;
+use pair_rule::{Fabric, FiveSeats};
+use shared_disk::{SectorStore, SharedDisk};
+use std::alloc::Global;
+use std::thread::Threads;
+use std::time::Clock;
+
+// Who goes on alone, by the word of the table.
+fn winner_of(word: u64) -> Option<Who>
+    ensures { result ≡ winner_named word }
+{
+    match word {
+        0 => None,
+        1 => Some(Who::Primary),
+        _ => Some(Who::Backup),
+    }
+}
+
+// The refusal of two workers together: out of memory before anything else.
+fn failure_of(one: R<()>, other: R<()>) -> R<()>
+    ensures { OnOk result (IsOk one × IsOk other) }
+{
+    match (one, other) {
+        (Ok(()), Ok(())) => Ok(()),
+        (Err(Fault::OutOfMemory), _) | (_, Err(Fault::OutOfMemory)) => Err(Fault::OutOfMemory),
+        _ => Err(Fault::Stalled),
+    }
+}
+
+// The seats and what is beside them, of workers that are at their ends.
+#[derive(Drop)]
+struct Parts<B, D: SectorStore> {
+    seats: FiveSeats,
+    primary_list: Vec<Entry>,
+    backup_list: Vec<Entry>,
+    primary_board: B,
+    backup_board: B,
+    accepted: [Vec<u8>; 2],
+    disk: SharedDisk<D>,
+}
+
+// Takes the workers apart.
+fn take_apart<B: Lockstep + Drop, D: SectorStore>(
+    primary: PrimaryWorker<B>,
+    link: LinkWorker,
+    backup: BackupWorker<B>,
+    terminal: TerminalWorker,
+    disk: DiskWorker<D>,
+) -> Parts<B, D>
+    ensures seats { (result.seats.primary ≡ primary.seat) × (result.seats.backup ≡ backup.seat)
+        × (result.seats.terminal ≡ terminal.seat) × (result.seats.disk ≡ disk.seat) }
+    ensures lists { (result.primary_list ≡ primary.list) × (result.backup_list ≡ backup.guest.list) }
+    ensures boards { (result.primary_board ≡ primary.guest.board) × (result.backup_board ≡ backup.guest.board) }
+    ensures disk { result.disk ≡ disk.disk }
+    ensures screens { map (λ v. v.items) result.accepted
+        ≡ bytes_accepted 0 terminal.seat.core.known ∷ bytes_accepted 1 terminal.seat.core.known ∷ [] }
+{
+    let PrimaryWorker {
+        seat: primary_seat,
+        list: primary_list,
+        guest: primary_guest,
+        ..
+    } = primary;
+    let BackupWorker {
+        seat: backup_seat,
+        guest: backup_guest,
+        ..
+    } = backup;
+    let TerminalWorker {
+        seat: terminal_seat,
+        accepted0,
+        accepted1,
+        ..
+    } = terminal;
+    let DiskWorker {
+        seat: disk_seat,
+        disk,
+        ..
+    } = disk;
+    let LinkWorker {
+        seat: link_seat,
+        ..
+    } = link;
+    let Recording {
+        board: primary_board,
+        ..
+    } = primary_guest;
+    let Repeater {
+        list: backup_list,
+        board: backup_board,
+        ..
+    } = backup_guest;
+    Parts {
+        seats: FiveSeats {
+            primary: primary_seat,
+            link: link_seat,
+            backup: backup_seat,
+            terminal: terminal_seat,
+            disk: disk_seat,
+        },
+        primary_list,
+        backup_list,
+        primary_board,
+        backup_board,
+        accepted: [accepted0, accepted1],
+        disk,
+    }
+}
+
+// The workers of a generation after their turns.
+type AllServed<B, D> = Five<
+    Served<PrimaryWorker<B>>,
+    Served<LinkWorker>,
+    Served<BackupWorker<B>>,
+    Served<TerminalWorker>,
+    Served<DiskWorker<D>>,
+>;
+
+// What workers end with that are all at their ends.
+#[tactic(auto, using(crate::proofs::Ending::starts, crate::proofs::Ending::ends))]
+fn conclude<B: Lockstep + Drop, D: SectorStore>(
+    fabric: Fabric,
+    primary: PrimaryWorker<B>,
+    link: LinkWorker,
+    backup: BackupWorker<B>,
+    terminal: TerminalWorker,
+    disk: DiskWorker<D>,
+    contested: bool,
+) -> R<GenerationEnd<B, D>>
+    requires tables { (primary.seat.table ≡ fabric) × (backup.seat.table ≡ fabric) × (terminal.seat.table ≡ fabric)
+        × (disk.seat.table ≡ fabric) }
+    requires rests { contested ≡ false → IsAtRest primary }
+    requires repeated { (contested ≡ false) ⊎ (backup.seat.core.known.backup.winner ≡ 2)
+        → backup.guest.replayed ≡ vec_len backup.guest.list }
+    ensures prefix { IfOk result (λ e. StartsWith e.primary.items e.backup.items) }
+    ensures ends { (boot : B.State) (first : List Record) (typed0 typed1 : List ℕ)
+        → Lawful (booted_from B.machine boot (bytes_in first))
+        → (primary.port0.typed.items ≡ typed0) × (primary.port1.typed.items ≡ typed1)
+        × WorkerLeads B.state B.machine boot primary → IsAt B.state B.machine boot backup.guest
+        → IsStore (bytes_in first) (D.records disk.disk) disk.seat.core.known.disk
+        → IfOk result (λ e. EndsBy (booted_from B.machine boot (bytes_in first)) typed0 typed1 e.winner e.primary.items
+        e.backup.items e.held (map (λ v. v.items) e.accepted) (D.records e.disk) (B.state e.primary_board)
+        (B.state e.backup_board)) }
+{
+    let parts = take_apart(primary, link, backup, terminal, disk);
+    let Parts {
+        seats,
+        primary_list,
+        backup_list,
+        primary_board,
+        backup_board,
+        accepted,
+        disk,
+    } = parts;
+    let closed = fabric.close(seats);
+    let winner = winner_of(closed.winner);
+    if contested && winner.is_none() {
+        return Err(Fault::Stalled);
+    }
+    Ok(GenerationEnd {
+        primary: primary_list,
+        backup: backup_list,
+        primary_board,
+        backup_board,
+        held: closed.held,
+        winner,
+        accepted,
+        disk,
+    })
+}
+
+// What workers ended with, if all of them are at their ends.
+fn finish<B: Lockstep + Drop, D: SectorStore>(
+    fabric: Fabric,
+    five: AllServed<B, D>,
+    contested: bool,
+) -> R<GenerationEnd<B, D>>
+    requires primary { (five.primary.0.seat.table ≡ fabric) × OnOk five.primary.1 (contested ≡ false → IsAtRest five.primary.0) }
+    requires backup { (five.backup.0.seat.table ≡ fabric)
+        × OnOk five.backup.1 ((contested ≡ false) ⊎ (five.backup.0.seat.core.known.backup.winner ≡ 2)
+        → five.backup.0.guest.replayed ≡ vec_len five.backup.0.guest.list) }
+    requires others { (five.terminal.0.seat.table ≡ fabric) × (five.disk.0.seat.table ≡ fabric) }
+    ensures prefix { IfOk result (λ e. StartsWith e.primary.items e.backup.items) }
+    ensures ends { (boot : B.State) (first : List Record) (typed0 typed1 : List ℕ)
+        → Lawful (booted_from B.machine boot (bytes_in first))
+        → OnOk five.primary.1 ((five.primary.0.port0.typed.items ≡ typed0) × (five.primary.0.port1.typed.items ≡ typed1)
+        × WorkerLeads B.state B.machine boot five.primary.0)
+        → OnOk five.backup.1 (IsAt B.state B.machine boot five.backup.0.guest)
+        → OnOk five.disk.1 (IsStore (bytes_in first) (D.records five.disk.0.disk) five.disk.0.seat.core.known.disk)
+        → IfOk result (λ e. EndsBy (booted_from B.machine boot (bytes_in first)) typed0 typed1 e.winner e.primary.items
+        e.backup.items e.held (map (λ v. v.items) e.accepted) (D.records e.disk) (B.state e.primary_board)
+        (B.state e.backup_board)) }
+{
+    let Five {
+        primary: (primary, primary_end),
+        link: (link, link_end),
+        backup: (backup, backup_end),
+        terminal: (terminal, terminal_end),
+        disk: (disk, disk_end),
+    } = five;
+    failure_of(
+        failure_of(primary_end, backup_end),
+        failure_of(link_end, failure_of(terminal_end, disk_end)),
+    )?;
+    conclude(fabric, primary, link, backup, terminal, disk, contested)
+}
+
+/// Runs one generation, a worker for each of the five seats on a thread of its own, with this many turns at most for the
+/// primary and for the backup. If nobody is to go on alone, it ends well when the guest idles, all keys are taken, nothing
+/// is outstanding, and all entries are acknowledged and repeated; otherwise when it is decided who goes on alone, and a
+/// backup that does has repeated its list. `Stalled` if it does not end so; `OutOfMemory`.
+#[tactic(auto, using(crate::proofs::Beginning::nothing_yet, crate::proofs::Serving::first_disk))]
+pub fn run_generation<
+    B: Lockstep + Send + Drop,
+    D: SectorStore + Send,
+    G: Gate + Sync,
+    T: Threads + Clock + Sync,
+>(rt: &T, alloc: Global, workers: Workers<B, D>, gate: &G, turns: u64) -> R<GenerationEnd<B, D>>
+    requires lawful { Lawful (booted_from B.machine (B.state workers.primary) (bytes_in (D.records workers.disk))) }
+    requires alike { B.state workers.backup ≡ B.state workers.primary }
+    requires unwritten { IsUnwritten (D.records workers.disk) }
+    ensures prefix { IfOk result (λ e. StartsWith e.primary.items e.backup.items) }
+    ensures ends { IfOk result (λ e. EndsBy (booted_from B.machine (B.state workers.primary) (bytes_in (D.records workers.disk)))
+        workers.typed0.items workers.typed1.items e.winner e.primary.items e.backup.items e.held
+        (map (λ v. v.items) e.accepted) (D.records e.disk) (B.state e.primary_board) (B.state e.backup_board)) }
+{
+    let (fabric, seats) = Fabric::open(alloc, 1)?;
+    let Workers {
+        primary,
+        backup,
+        disk,
+        typed0,
+        typed1,
+        fates,
+        primary_contests,
+        backup_contests,
+        steps,
+    } = workers;
+    let contested = primary_contests.is_some() || backup_contests.is_some();
+    let lead = Plan::new(primary_contests, contested, steps);
+    let follow = Plan::new(backup_contests, contested, steps);
+    let five = Five {
+        primary: PrimaryWorker::new(alloc, seats.primary, primary, typed0, typed1, lead),
+        link: LinkWorker::new(seats.link, fates),
+        backup: BackupWorker::new(alloc, seats.backup, backup, follow),
+        terminal: TerminalWorker::new(alloc, seats.terminal),
+        disk: DiskWorker::new(seats.disk, disk),
+    };
+    let served = work(rt, five, &fabric, gate, turns);
+    finish(fabric, served, contested)
+}

@@ -1,0 +1,53 @@
+//! What the workers tell each other beside the table. No contract rests on it.
+
+use crate::gate::Who;
+use std::sync::atomic::{AtomicBool, Ordering};
+
+/// Who is at its end, and whether the run has failed.
+#[derive(Drop)]
+pub(crate) struct Signals {
+    primary: AtomicBool,
+    backup: AtomicBool,
+    failed: AtomicBool,
+}
+
+/// The signals as a worker found them.
+#[derive(Debug, Clone, Copy, PartialEq, Eq)]
+pub(crate) struct Told {
+    pub(crate) primary_ended: bool,
+    pub(crate) backup_ended: bool,
+}
+
+impl Signals {
+    pub(crate) fn new() -> Signals {
+        Signals {
+            primary: AtomicBool::new(false),
+            backup: AtomicBool::new(false),
+            failed: AtomicBool::new(false),
+        }
+    }
+
+    pub(crate) fn told(&self) -> Told {
+        Told {
+            primary_ended: self.primary.load(Ordering::SeqCst),
+            backup_ended: self.backup.load(Ordering::SeqCst),
+        }
+    }
+
+    pub(crate) fn has_failed(&self) -> bool {
+        self.failed.load(Ordering::SeqCst)
+    }
+
+    /// A worker is at its end. The others need not hear it of link, terminals and disk.
+    pub(crate) fn ends(&self, who: Who) {
+        match who {
+            Who::Primary => self.primary.store(true, Ordering::SeqCst),
+            Who::Backup => self.backup.store(true, Ordering::SeqCst),
+            Who::Link | Who::Terminal | Who::Disk => {}
+        }
+    }
+
+    pub(crate) fn fails(&self) {
+        self.failed.store(true, Ordering::SeqCst);
+    }
+}

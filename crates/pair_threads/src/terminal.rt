@@ -1,0 +1,137 @@
+//! The worker of the two terminals: it takes bytes, counts them, and keeps those that are accepted.
+ghost use Rattle.std.specs.Prelude.{◌≡◌, ◌++◌, ◌<◌, [], length, vec_len, vec_capacity, IsTrue, None, Some, OnOk, true, false};
+ghost use Rattle.pair_rule.specs.declared.payload.PortByte.{PortByte};
+ghost use Rattle.pair_rule.specs.Threads.{bytes_accepted};
+ghost use Rattle.pair_threads.specs.Screens.{HasInHand, next_byte};
+
+use crate::signals::Told;
+use crate::worker::{Turn, Worker};
+use i8080_words::{Fault, R};
+use pair_rule::{Fabric, PortByte, TerminalSeat};
+use std::alloc::Global;
+
+/// The terminals' seat, and what each of them has accepted.
+#[derive(Drop)]
+pub(crate) struct TerminalWorker {
+    pub(crate) seat: TerminalSeat,
+    pub(crate) accepted0: Vec<u8>,
+    pub(crate) accepted1: Vec<u8>,
+    // Whether it is the second port's turn, and the byte that was taken there and not counted yet.
+    second: bool,
+    hand: Option<PortByte>,
+    ghost screen0: { accepted0.items ≡ bytes_accepted 0 seat.core.known },
+    ghost screen1: { accepted1.items ≡ bytes_accepted 1 seat.core.known },
+    ghost in_hand: { (byte : PortByte) → hand ≡ Some byte → HasInHand second byte seat.core.known },
+}
+
+// A byte arrives at a terminal, which accepts it if it is the next one.
+fn accept(accepted: &mut Vec<u8>, byte: PortByte)
+    requires room { vec_len accepted.old < vec_capacity accepted.old }
+    ensures { accepted.new.items ≡ accepted.old.items ++ next_byte (length accepted.old.items) byte }
+{
+    if byte.number > 0 && byte.number - 1 == accepted.len() as u64 {
+        accepted.push_reserved(byte.byte);
+    }
+}
+
+impl TerminalWorker {
+    /// Terminals at which nothing has arrived yet.
+    pub(crate) fn new(alloc: Global, seat: TerminalSeat) -> TerminalWorker
+        requires first { bytes_accepted 0 seat.core.known ≡ [] }
+        requires second { bytes_accepted 1 seat.core.known ≡ [] }
+        ensures seat { result.seat ≡ seat }
+    {
+        TerminalWorker {
+            seat,
+            accepted0: Vec::new(alloc),
+            accepted1: Vec::new(alloc),
+            second: false,
+            hand: None,
+        }
+    }
+
+    // Counts the byte in hand, and keeps it if it is accepted. The other port is next.
+    fn count(&mut self, fabric: &Fabric, byte: PortByte) -> R<()>
+        requires table { self.old.seat.table ≡ fabric.now }
+        requires hand { self.old.hand ≡ Some byte }
+        ensures table { self.new.seat.table ≡ self.old.seat.table }
+    {
+        if self.second {
+            self.count1(fabric, byte)
+        } else {
+            self.count0(fabric, byte)
+        }
+    }
+
+    // Counts the byte in hand at port 0.
+    fn count0(&mut self, fabric: &Fabric, byte: PortByte) -> R<()>
+        requires table { self.old.seat.table ≡ fabric.now }
+        requires hand { self.old.hand ≡ Some byte }
+        requires first { self.old.second ≡ false }
+        ensures table { self.new.seat.table ≡ self.old.seat.table }
+    {
+        self.accepted0.reserve(1)?;
+        self.seat.count(fabric, 0);
+        accept(&mut self.accepted0, byte);
+        self.second = true;
+        self.hand = None;
+        Ok(())
+    }
+
+    // Counts the byte in hand at port 1.
+    fn count1(&mut self, fabric: &Fabric, byte: PortByte) -> R<()>
+        requires table { self.old.seat.table ≡ fabric.now }
+        requires hand { self.old.hand ≡ Some byte }
+        requires second { self.old.second ≡ true }
+        ensures table { self.new.seat.table ≡ self.old.seat.table }
+    {
+        self.accepted1.reserve(1)?;
+        self.seat.count(fabric, 1);
+        accept(&mut self.accepted1, byte);
+        self.second = false;
+        self.hand = None;
+        Ok(())
+    }
+
+    // Takes the byte that is in the box of the port whose turn it is; of an empty one the other port is next.
+    fn take(&mut self, fabric: &Fabric) -> R<Turn>
+        requires table { self.old.seat.table ≡ fabric.now }
+        requires hand { self.old.hand ≡ None }
+        ensures table { self.new.seat.table ≡ self.old.seat.table }
+    {
+        if !self.seat.has_swaps_left() {
+            return Err(Fault::Stalled);
+        }
+        let port = if self.second { 1 } else { 0 };
+        self.hand = self.seat.take_byte(fabric, port);
+        if self.hand.is_some() {
+            return Ok(Turn::Moved);
+        }
+        self.second = !self.second;
+        Ok(Turn::Waits)
+    }
+}
+
+impl Worker for TerminalWorker {
+    ghost table = { λ w. w.seat.table };
+
+    ghost ready = { λ w. Unit {0} };
+
+    ghost came = { λ first w. Unit {0} };
+
+    ghost ended = { λ w. Unit {0} };
+
+    fn turn(&mut self, fabric: &Fabric, _number: u64) -> R<Turn> {
+        match self.hand {
+            Some(byte) => {
+                self.count(fabric, byte)?;
+                Ok(Turn::Moved)
+            }
+            None => self.take(fabric),
+        }
+    }
+
+    fn may_end(&self, told: Told) -> bool {
+        told.primary_ended && told.backup_ended
+    }
+}

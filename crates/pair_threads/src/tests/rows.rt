@@ -1,0 +1,155 @@
+//! Pairs of Altairs on threads, from boot to their ends.
+ghost use Rattle.std.specs.Prelude.{◌≡◌, IsTrue};
+
+use super::gates::{Closed, Together};
+use super::pairs::{Case, Want, alone, ends, is_refused, is_won};
+use crate::{Fate, Gate, OpenGate, Who};
+use event_callbacks::plain_completions;
+use i8080_words::{Fault, R};
+use std::alloc::Global;
+use std::process::Abort;
+use std::thread::Threads;
+use std::time::Clock;
+
+// MVI A,03; OUT 10; MVI A,15; OUT 10: port 0 is reset, and set; then MVI A,48; OUT 11; HLT.
+const FIRST_BYTE: [u8; 13] = [
+    0x3e, 0x03, 0xd3, 0x10, 0x3e, 0x15, 0xd3, 0x10, 0x3e, 0x48, 0xd3, 0x11, 0x76,
+];
+
+// B is 137; drive 0 is selected and its head loaded (OUT 08, OUT 09); at 0009 it waits for a sector, then begins to
+// write it (80 to OUT 09); at 0013 it waits until the sector takes a byte, and gives E5 to OUT 0A, B times; HLT.
+const DISK_WRITE: [u8; 34] = [
+    0x06, 0x89, 0xaf, 0xd3, 0x08, 0x3e, 0x04, 0xd3, 0x09, 0xdb, 0x09, 0x0f, 0xda, 0x09, 0x00, 0x3e,
+    0x80, 0xd3, 0x09, 0xdb, 0x08, 0x0f, 0xda, 0x13, 0x00, 0x3e, 0xe5, 0xd3, 0x0a, 0x05, 0xc2, 0x13,
+    0x00, 0x76,
+];
+
+// Port 0 is reset, and set; then two keys are read as they come (IN 10, RRC, JNC), and each is sent back; HLT.
+const TWO_KEYS: [u8; 25] = [
+    0x3e, 0x03, 0xd3, 0x10, 0x3e, 0x15, 0xd3, 0x10, 0x06, 0x02, 0xdb, 0x10, 0x0f, 0xd2, 0x0a, 0x00,
+    0xdb, 0x11, 0xd3, 0x11, 0x05, 0xc2, 0x0a, 0x00, 0x76,
+];
+
+// It jumps to itself.
+const FOREVER: [u8; 3] = [0xc3, 0x00, 0x00];
+
+// The byte goes out once its mark is acknowledged: a mark and an acceptance.
+fn first_byte() -> Want<'static> {
+    Want {
+        entries: 2,
+        accepted: &[0x48],
+        count: Some(7),
+        write: 0,
+    }
+}
+
+// Runs a case with the plain completions, through threads that wait for each other.
+fn together<H: Threads + Clock + Sync + Abort>(rt: &H, alloc: Global, case: &Case, want: &Want) -> R<()> {
+    ends(
+        rt,
+        alloc,
+        case,
+        &Together::new(),
+        want,
+        plain_completions::sent,
+        plain_completions::sector,
+        plain_completions::written,
+    )
+}
+
+fn stalls<G: Gate + Sync, H: Threads + Clock + Sync + Abort>(rt: &H, alloc: Global, case: &Case, gate: &G) {
+    let refusal = is_refused(
+        rt,
+        alloc,
+        case,
+        gate,
+        plain_completions::sent,
+        plain_completions::sector,
+        plain_completions::written,
+    );
+    assert_eq!(rt; refusal, Some(Fault::Stalled));
+}
+
+#[test]
+fn a_byte_goes_out(rt: HostRuntime) -> R<()> {
+    together(&rt, rt.alloc(), &alone(&FIRST_BYTE), &first_byte())
+}
+
+#[test]
+fn packets_are_lost_and_come_twice(rt: HostRuntime) -> R<()> {
+    let mut lossy = alone(&FIRST_BYTE);
+    lossy.fates = &[Fate::Drop, Fate::Twice];
+    together(&rt, rt.alloc(), &lossy, &first_byte())
+}
+
+fn wins<H: Threads + Clock + Sync + Abort>(rt: &H, alloc: Global, case: &Case, winner: Who) -> R<()> {
+    is_won(
+        rt,
+        alloc,
+        case,
+        &Together::new(),
+        winner,
+        plain_completions::sent,
+        plain_completions::sector,
+        plain_completions::written,
+    )
+}
+
+#[test]
+fn a_backup_goes_on_alone(rt: HostRuntime) -> R<()> {
+    let mut contested = alone(&FIRST_BYTE);
+    contested.backup_contests = Some(1_000);
+    wins(&rt, rt.alloc(), &contested, Who::Backup)
+}
+
+#[test]
+fn a_primary_goes_on_alone(rt: HostRuntime) -> R<()> {
+    let mut contested = alone(&FIRST_BYTE);
+    contested.primary_contests = Some(1_000);
+    wins(&rt, rt.alloc(), &contested, Who::Primary)
+}
+
+#[test]
+fn a_sector_is_written(rt: HostRuntime) -> R<()> {
+    let want = Want {
+        entries: 4,
+        accepted: &[],
+        count: None,
+        write: 1,
+    };
+    together(&rt, rt.alloc(), &alone(&DISK_WRITE), &want)
+}
+
+// Two keys, two marks, two acceptances, with many steps in a turn.
+#[test]
+fn keys_come_back(rt: HostRuntime) -> R<()> {
+    let mut echo = alone(&TWO_KEYS);
+    echo.typed = &[0x41, 0x42];
+    echo.steps = 10_000;
+    let want = Want {
+        entries: 6,
+        accepted: &[0x41, 0x42],
+        count: None,
+        write: 0,
+    };
+    together(&rt, rt.alloc(), &echo, &want)
+}
+
+#[test]
+fn a_guest_without_end_stalls(rt: HostRuntime) {
+    let mut endless = alone(&FOREVER);
+    endless.turns = 10;
+    stalls(&rt, rt.alloc(), &endless, &OpenGate);
+}
+
+#[test]
+fn a_closed_gate_stalls(rt: HostRuntime) {
+    stalls(&rt, rt.alloc(), &alone(&FIRST_BYTE), &Closed);
+}
+
+#[test]
+fn no_turns_stall(rt: HostRuntime) {
+    let mut none = alone(&FIRST_BYTE);
+    none.turns = 0;
+    stalls(&rt, rt.alloc(), &none, &OpenGate);
+}

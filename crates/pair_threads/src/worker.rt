@@ -1,0 +1,117 @@
+//! What all workers have in common, and the loop that serves each of them.
+ghost use Rattle.std.specs.Prelude.{◌≡◌, IsTrue, OnOk};
+ghost use Rattle.pair_threads.specs.Turns.{Leaves};
+
+use crate::gate::{Gate, Who};
+use crate::signals::{Signals, Told};
+use i8080_words::{Fault, R};
+use pair_rule::Fabric;
+use std::thread;
+use std::time::{Clock, Duration};
+
+/// What a turn came to.
+#[derive(Debug, Clone, Copy, PartialEq, Eq)]
+pub(crate) enum Turn {
+    /// It changed something.
+    Moved,
+    /// It found nothing to do.
+    Waits,
+    /// The worker is at its end.
+    Ends,
+}
+
+/// A seat with all that its thread keeps beside it.
+pub(crate) trait Worker {
+    ghost use Rattle.atomic_table.specs.Seated.{TableId};
+
+    // The table of its seat.
+    ghost table: { Self → TableId };
+
+    // What holds before each turn.
+    ghost ready: { Self → Type 0 };
+
+    // What a worker is to the one that began.
+    ghost came: { Self → Self → Type 0 };
+
+    // What holds of a worker that is at its end.
+    ghost ended: { Self → Type 0 };
+
+    /// Makes one call of its seat at most, or lets its guest move. Refused if nothing can come of the run any more:
+    /// `OutOfMemory`, and `Stalled` otherwise.
+    fn turn(&mut self, fabric: &Fabric, number: u64) -> R<Turn>
+        requires table { table self.old ≡ fabric.now }
+        requires ready { ready self.old }
+        ensures table { table self.new ≡ table self.old }
+        ensures came { (first : Self) → came first self.old → OnOk result (came first self.new) }
+        ensures leaves { Leaves result (ready self.new) (ended self.new) };
+
+    /// Whether it is at its end by what it was told.
+    fn may_end(&self, told: Told) -> bool
+        requires ready { ready self.now }
+        ensures ended { IsTrue result → ended self.now };
+}
+
+// How many turns in a row may find nothing to do before a worker sleeps, and for how many microseconds it then does.
+const PATIENCE: u32 = 1_000;
+const NAP_MICROS: u64 = 50;
+
+// Lets the other threads get on, after this many turns in a row that found nothing to do.
+fn wait<C: Clock>(clock: &C, fruitless: u32) {
+    if fruitless < PATIENCE {
+        thread::yield_now();
+    } else {
+        thread::sleep(clock, Duration::from_micros(NAP_MICROS));
+    }
+}
+
+/// Lets a worker have its turns, this many at most, until it is at its end. `Stalled` if it is not after all of them, if
+/// the gate ends the run, or if another worker has failed.
+pub(crate) fn serve<C: Clock, W: Worker, G: Gate>(
+    clock: &C,
+    mut worker: W,
+    who: Who,
+    fabric: &Fabric,
+    gate: &G,
+    signals: &Signals,
+    turns: u64,
+) -> (W, R<()>)
+    requires table { W.table worker ≡ fabric.now }
+    requires ready { W.ready worker }
+    requires came { W.came worker worker }
+    ensures table { W.table result.0 ≡ fabric.now }
+    ensures came { OnOk result.1 (W.came worker result.0) }
+    ensures ended { OnOk result.1 (W.ended result.0) }
+{
+    let mut fruitless = 0u32;
+    for number in 0..turns {
+        if signals.has_failed() {
+            return (worker, Err(Fault::Stalled));
+        }
+        if worker.may_end(signals.told()) {
+            signals.ends(who);
+            return (worker, Ok(()));
+        }
+        if !gate.enter(who, number) {
+            break;
+        }
+        let turn = worker.turn(fabric, number);
+        gate.leave(who, number);
+        match turn {
+            Ok(Turn::Moved) => fruitless = 0,
+            Ok(Turn::Waits) => {
+                fruitless = fruitless.saturating_add(1);
+                wait(clock, fruitless);
+            }
+            Ok(Turn::Ends) => {
+                signals.ends(who);
+                return (worker, Ok(()));
+            }
+            Err(fault) => {
+                signals.fails();
+                return (worker, Err(fault));
+            }
+        }
+    }
+    signals.fails();
+    (worker, Err(Fault::Stalled))
+}
