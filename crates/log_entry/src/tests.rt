@@ -86,25 +86,19 @@ fn entries_have_their_inputs(rt: HostRuntime) {
     assert_eq!(rt; SECTOR.timed(), Some(timed));
     assert_eq!(rt; SENT.count(), 9);
     for entry in [RX, SENT, SECTOR, WRITTEN] {
-        let again = entry
-            .input()
-            .map(|input| Entry::of_input(Reads::Logged, entry.count(), input));
+        let again = entry.input().map(|input| Entry::of_input(Reads::Logged, entry.count(), input));
         assert_eq!(rt; again, Some(entry));
     }
 }
 
 #[test]
 fn a_sector_of_a_shared_disk_is_logged_without_its_bytes(rt: HostRuntime) {
-    let read = SECTOR
-        .input()
-        .map(|input| Entry::of_input(Reads::Shared, SECTOR.count(), input));
+    let read = SECTOR.input().map(|input| Entry::of_input(Reads::Shared, SECTOR.count(), input));
     assert_eq!(rt; read, Some(READ));
     assert_eq!(rt; READ.input(), None);
     assert_eq!(rt; READ.timed(), SECTOR.timed());
     for entry in [RX, SENT, WRITTEN] {
-        let again = entry
-            .input()
-            .map(|input| Entry::of_input(Reads::Shared, entry.count(), input));
+        let again = entry.input().map(|input| Entry::of_input(Reads::Shared, entry.count(), input));
         assert_eq!(rt; again, Some(entry));
     }
 }

@@ -53,6 +53,7 @@ pub(crate) trait Worker {
 
 // How many turns in a row may find nothing to do before a worker sleeps, and for how many microseconds it then does.
 const PATIENCE: u32 = 1_000;
+
 const NAP_MICROS: u64 = 50;
 
 // Lets the other threads get on, after this many turns in a row that found nothing to do.

@@ -44,7 +44,12 @@ fn first_byte() -> Want<'static> {
 }
 
 // Runs a case with the plain completions, through threads that wait for each other.
-fn together<H: Threads + Clock + Sync + Abort>(rt: &H, alloc: Global, case: &Case, want: &Want) -> R<()> {
+fn together<H: Threads + Clock + Sync + Abort>(
+    rt: &H,
+    alloc: Global,
+    case: &Case,
+    want: &Want,
+) -> R<()> {
     ends(
         rt,
         alloc,
@@ -57,7 +62,12 @@ fn together<H: Threads + Clock + Sync + Abort>(rt: &H, alloc: Global, case: &Cas
     )
 }
 
-fn stalls<G: Gate + Sync, H: Threads + Clock + Sync + Abort>(rt: &H, alloc: Global, case: &Case, gate: &G) {
+fn stalls<G: Gate + Sync, H: Threads + Clock + Sync + Abort>(
+    rt: &H,
+    alloc: Global,
+    case: &Case,
+    gate: &G,
+) {
     let refusal = is_refused(
         rt,
         alloc,
@@ -82,7 +92,12 @@ fn packets_are_lost_and_come_twice(rt: HostRuntime) -> R<()> {
     together(&rt, rt.alloc(), &lossy, &first_byte())
 }
 
-fn wins<H: Threads + Clock + Sync + Abort>(rt: &H, alloc: Global, case: &Case, winner: Who) -> R<()> {
+fn wins<H: Threads + Clock + Sync + Abort>(
+    rt: &H,
+    alloc: Global,
+    case: &Case,
+    winner: Who,
+) -> R<()> {
     is_won(
         rt,
         alloc,
