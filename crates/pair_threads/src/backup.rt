@@ -13,6 +13,9 @@ use i8080_words::{Fault, R};
 use pair_rule::{BackupSeat, Fabric};
 use std::alloc::Global;
 
+// How many steps its guest makes at most between two looks at its box.
+const STEPS: u64 = 2_000;
+
 // What the next turn does.
 #[derive(Debug, Clone, Copy, PartialEq, Eq)]
 enum Chore {
@@ -154,7 +157,7 @@ impl<B: Lockstep> BackupWorker<B> {
             }
             Chore::Replay => {
                 self.chore = Chore::Take;
-                self.guest.replay(self.plan.steps)?;
+                self.guest.replay(self.plan.steps.min(STEPS))?;
                 Ok(self.pace())
             }
         }

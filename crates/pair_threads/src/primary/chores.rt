@@ -1,5 +1,5 @@
 //! The chores of a primary's worker at its guest, the link and the terminals.
-ghost use Rattle.std.specs.Prelude.{◌≡◌, ◌<◌, IsTrue, None, OnOk, Some, length};
+ghost use Rattle.std.specs.Prelude.{◌≡◌, ◌<◌, IfSome, IsTrue, None, OnOk, Some, length};
 ghost use Rattle.event_callbacks.specs.declared.devices.TheConstants.{PORTS};
 ghost use Rattle.event_callbacks.specs.declared.operations.OpId.TheVariants as id;
 ghost use Rattle.event_callbacks.specs.declared.operations.Operation.TheVariants.{Byte};
@@ -14,6 +14,10 @@ use pair_rule::Fabric;
 /// How many steps a guest makes between two keys, unless it idles: about those of an 8080 between two bytes of a line at
 /// 9,600 baud.
 const KEY_STEPS: u64 = 300;
+
+/// How many steps a guest makes at most in a turn while one operation of it is outstanding, and a share of them while
+/// several are: so its bytes leave soon, and a guest that waits for its window does not wait for its own turns.
+const SHORT_STEPS: u64 = 2_000;
 
 impl<B: Lockstep> PrimaryWorker<B> {
     // Posts the next entry that is not acknowledged, the first of them after the last. Whether it was posted for the
@@ -60,7 +64,8 @@ impl<B: Lockstep> PrimaryWorker<B> {
         if self.guest.waiting.is_some() {
             return Ok(false);
         }
-        match self.guest.run(self.plan.steps) {
+        let steps = self.steps();
+        match self.guest.run(steps) {
             Ok(moved) => {
                 if !moved {
                     self.key_count = 0;
@@ -69,6 +74,16 @@ impl<B: Lockstep> PrimaryWorker<B> {
             }
             Err(Fault::OutOfMemory) => Err(Fault::OutOfMemory),
             Err(_) => Err(Fault::Stalled),
+        }
+    }
+
+    // How many steps the guest may make in this turn: the fewer, the more of what it gave or asked is in flight.
+    fn steps(&self) -> u64 {
+        let asked = self.asked || self.answer.is_some();
+        let in_flight = self.guest.given.len() as u64 + u64::from(asked);
+        match SHORT_STEPS.checked_div(in_flight) {
+            Some(share) => share.min(self.plan.steps),
+            None => self.plan.steps,
         }
     }
 
@@ -131,7 +146,7 @@ impl<B: Lockstep> PrimaryWorker<B> {
         true
     }
 
-    // Gives the oldest byte of a port to its terminal, if all is acknowledged. Whether it was given for the first time.
+    // Gives the next byte of a port to its terminal, if all is acknowledged. Whether it was given for the first time.
     pub(super) fn emit(&mut self, fabric: &Fabric, port: u8) -> bool
         requires table { self.old.seat.table ≡ fabric.now }
         requires before { self.old.seat.core.known.primary.winner ≡ 0 }
@@ -139,12 +154,20 @@ impl<B: Lockstep> PrimaryWorker<B> {
         requires port { port < PORTS }
         ensures works { Works B.state B.machine self.old self.new }
     {
-        match self.guest.due_byte(port) {
-            Some((number, byte)) if self.is_covered() && number > self.counted(port) => {
-                self.give(fabric, port, number, byte)
-            }
+        match self.due_byte(port) {
+            Some((number, byte)) if self.is_covered() => self.give(fabric, port, number, byte),
             _ => false,
         }
+    }
+
+    // The first byte of a port that its terminal has not accepted, as far as was seen, if the guest has given it.
+    fn due_byte(&self, port: u8) -> Option<(u64, u8)>
+        requires { port < PORTS }
+        ensures { IfSome result (λ b. B.machine.find (B.state self.now.guest.board) (id.Byte port b.0) ≡ Some (Byte port b.0 b.1)) }
+    {
+        let number = self.counted(port).checked_add(1)?;
+        let byte = self.guest.byte(port, number)?;
+        Some((number, byte))
     }
 
     // Gives an outstanding byte to its terminal. Whether it was given for the first time.
@@ -211,12 +234,13 @@ impl<B: Lockstep> PrimaryWorker<B> {
         self.counted1 != before
     }
 
-    // Takes the acceptance of the oldest byte of a port, if it was accepted.
+    // Takes the acceptance of the oldest byte of a port, if it was accepted. While more bytes may be given, it waits: its
+    // entry would have to be acknowledged before the next of them.
     pub(super) fn accept(&mut self, port: u8) -> bool
         requires port { port < PORTS }
         ensures works { Works B.state B.machine self.old self.new }
     {
-        if self.guest.waiting.is_some() {
+        if self.guest.waiting.is_some() || self.may_emit(port) {
             return false;
         }
         if port == 0 {
@@ -224,6 +248,13 @@ impl<B: Lockstep> PrimaryWorker<B> {
         } else {
             self.accept1()
         }
+    }
+
+    // Whether a byte of a port may be given.
+    fn may_emit(&self, port: u8) -> bool
+        requires { port < PORTS }
+    {
+        self.is_covered() && self.due_byte(port).is_some()
     }
 
     // Takes an acceptance at port 0, if its terminal has accepted more bytes than the guest was told.

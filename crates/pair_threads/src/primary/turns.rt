@@ -98,6 +98,11 @@ impl<B: Lockstep> PrimaryWorker<B> {
         self.guest.waiting.is_none() && (self.guest.given.is_empty() || self.is_covered())
     }
 
+    // Whether port 1 has a key that is not taken, or a byte that is not accepted. Otherwise each rotation is port 0's.
+    fn has_work_at_1(&self) -> bool {
+        !self.port1.is_taken() || self.guest.board.due_byte(1).is_some()
+    }
+
     // Does one chore. Whether it changed anything.
     fn attempt(&mut self, fabric: &Fabric) -> R<bool>
         requires table { self.old.seat.table ≡ fabric.now }
@@ -118,7 +123,7 @@ impl<B: Lockstep> PrimaryWorker<B> {
             Chore::Ask => Ok(self.ask(fabric)),
             Chore::Answer => Ok(self.hear(fabric)),
             Chore::Complete => {
-                self.second = !self.second;
+                self.second = !self.second && self.has_work_at_1();
                 Ok(self.complete())
             }
         }

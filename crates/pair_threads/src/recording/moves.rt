@@ -154,14 +154,13 @@ impl<B: Lockstep> Recording<B> {
         })
     }
 
-    /// The oldest byte of a port that is not accepted: its number and the byte.
-    pub(crate) fn due_byte(&self, port: u8) -> Option<(u64, u8)>
+    /// The byte of this number that was given at a port, if it is outstanding.
+    pub(crate) fn byte(&self, port: u8, number: u64) -> Option<u8>
         requires { port < PORTS }
-        ensures { IfSome result (λ b. B.machine.find (B.state self.now.board) (id.Byte port b.0) ≡ Some (Byte port b.0 b.1)) }
+        ensures { IfSome result (λ byte. B.machine.find (B.state self.now.board) (id.Byte port number) ≡ Some (Byte port number byte)) }
     {
-        let number = self.board.due_byte(port)?;
         match self.board.outstanding(OpId::Byte(port, number)) {
-            Some(Operation::Byte { byte, .. }) => Some((number, *byte)),
+            Some(Operation::Byte { byte, .. }) => Some(*byte),
             _ => None,
         }
     }

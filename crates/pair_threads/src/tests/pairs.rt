@@ -11,19 +11,23 @@ use disk_dcdd::SectorAddress;
 use event_callbacks::{Callbacks, Completes};
 use guest_board::{Board, Lockstep, Reads, Setup};
 use i8080_words::{Fault, R};
-use shared_disk::{MemoryStore, SharedDisk};
+use shared_disk::{FailOnce, MemoryStore, SharedDisk};
 use std::alloc::Global;
 use std::process::Abort;
 use std::thread::Threads;
 use std::time::Clock;
 
-/// What a pair runs: a program at 0000, what is typed at port 0, the fates of the packets, when primary and backup ask to
-/// go on alone, how many steps a turn may have, and how many turns there are.
+/// Records of which one read or write fails if a case says so.
+pub(super) type Store = FailOnce<MemoryStore>;
+
+/// What a pair runs: a program at 0000, what is typed at port 0, the fates of the packets, which access of the disk fails
+/// (0 if none), when primary and backup ask to go on alone, how many steps a turn may have, and how many turns there are.
 #[derive(Clone, Copy)]
 pub(super) struct Case<'a> {
     pub(super) program: &'a [u8],
     pub(super) typed: &'a [u8],
     pub(super) fates: &'a [Fate],
+    pub(super) fails: u64,
     pub(super) primary_contests: Option<u64>,
     pub(super) backup_contests: Option<u64>,
     pub(super) steps: u64,
@@ -36,6 +40,7 @@ pub(super) fn alone(program: &[u8]) -> Case<'_> {
         program,
         typed: &[],
         fates: &[],
+        fails: 0,
         primary_contests: None,
         backup_contests: None,
         steps: 1,
@@ -95,7 +100,7 @@ fn run_setup<
     sent: T,
     sector: S,
     written: W,
-) -> R<GenerationEnd<Board<T, S, W>, MemoryStore>>
+) -> R<GenerationEnd<Board<T, S, W>, Store>>
     requires sent { Keeps (T.may sent) (T.gives sent) SENT }
     requires sector { Keeps (S.may sector) (S.gives sector) SECTOR }
     requires written { Keeps (W.may written) (W.gives written) WRITTEN }
@@ -104,7 +109,7 @@ fn run_setup<
     let workers = Workers {
         primary: boot(alloc, setup, Callbacks::of(sent, sector, written))?,
         backup: boot(alloc, setup, Callbacks::of(sent, sector, written))?,
-        disk: unwritten_disk(alloc)?,
+        disk: unwritten_disk(alloc, case.fails)?,
         typed0: Vec::from_slice(alloc, case.typed)?,
         typed1: Vec::new(alloc),
         fates: Vec::from_slice(alloc, case.fates)?,
@@ -115,12 +120,12 @@ fn run_setup<
     run_generation(rt, alloc, workers, gate, case.turns)
 }
 
-// A disk of one drive, on which nothing is written.
-fn unwritten_disk(alloc: Global) -> R<SharedDisk<MemoryStore>>
-    ensures { IfOk result (λ disk. IsUnwritten disk) }
+// A disk of one drive, on which nothing is written, and of which this access fails.
+fn unwritten_disk(alloc: Global, fails: u64) -> R<SharedDisk<Store>>
+    ensures { IfOk result (λ disk. IsUnwritten disk.store) }
 {
     let store = MemoryStore::at_boot(alloc, 1, &[])?;
-    Ok(SharedDisk::new(store))
+    Ok(SharedDisk::new(FailOnce::new(store, fails)))
 }
 
 // Runs a pair of Altairs with one drive.
@@ -138,7 +143,7 @@ fn run<
     sent: T,
     sector: S,
     written: W,
-) -> R<GenerationEnd<Board<T, S, W>, MemoryStore>>
+) -> R<GenerationEnd<Board<T, S, W>, Store>>
     requires sent { Keeps (T.may sent) (T.gives sent) SENT }
     requires sector { Keeps (S.may sector) (S.gives sector) SECTOR }
     requires written { Keeps (W.may written) (W.gives written) WRITTEN }

@@ -85,6 +85,14 @@ fn a_byte_goes_out(rt: HostRuntime) -> R<()> {
     together(&rt, rt.alloc(), &alone(&FIRST_BYTE), &first_byte())
 }
 
+// More fates than there are packets.
+#[test]
+fn fates_are_left_over(rt: HostRuntime) -> R<()> {
+    let mut many = alone(&FIRST_BYTE);
+    many.fates = &[Fate::Pass; 100];
+    together(&rt, rt.alloc(), &many, &first_byte())
+}
+
 #[test]
 fn packets_are_lost_and_come_twice(rt: HostRuntime) -> R<()> {
     let mut lossy = alone(&FIRST_BYTE);
@@ -124,15 +132,30 @@ fn a_primary_goes_on_alone(rt: HostRuntime) -> R<()> {
     wins(&rt, rt.alloc(), &contested, Who::Primary)
 }
 
-#[test]
-fn a_sector_is_written(rt: HostRuntime) -> R<()> {
-    let want = Want {
+// The sector that is read, the mark of the write, its completion, and the sector that comes under the head next.
+fn sector_written() -> Want<'static> {
+    Want {
         entries: 4,
         accepted: &[],
         count: None,
         write: 1,
-    };
-    together(&rt, rt.alloc(), &alone(&DISK_WRITE), &want)
+    }
+}
+
+#[test]
+fn a_sector_is_written(rt: HostRuntime) -> R<()> {
+    together(&rt, rt.alloc(), &alone(&DISK_WRITE), &sector_written())
+}
+
+// The disk fails at each of its first accesses in turn, and is asked again.
+#[test]
+fn a_disk_that_fails_is_asked_again(rt: HostRuntime) -> R<()> {
+    for fails in 1..5 {
+        let mut failing = alone(&DISK_WRITE);
+        failing.fails = fails;
+        together(&rt, rt.alloc(), &failing, &sector_written())?;
+    }
+    Ok(())
 }
 
 // Two keys, two marks, two acceptances, with many steps in a turn.
@@ -155,6 +178,15 @@ fn a_guest_without_end_stalls(rt: HostRuntime) {
     let mut endless = alone(&FOREVER);
     endless.turns = 10;
     stalls(&rt, rt.alloc(), &endless, &OpenGate);
+}
+
+// Who is to ask at a turn that never comes does not, and the run is not decided.
+#[test]
+fn a_contest_that_never_comes_stalls(rt: HostRuntime) {
+    let mut late = alone(&FIRST_BYTE);
+    late.turns = 2_000;
+    late.primary_contests = Some(2_000);
+    stalls(&rt, rt.alloc(), &late, &OpenGate);
 }
 
 #[test]

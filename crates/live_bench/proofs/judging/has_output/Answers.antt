@@ -1,0 +1,17 @@
+-- If the accepted bytes are the first ones, what is left after them is the only rest.
+use Rattle.std.proofs.Common.{Some, None, true≢false, sym}
+use Rattle.std.proofs.lemmas.Bool.Decides.{Decides-eqb}
+use Rattle.std.proofs.lemmas.Slice.Eq.{strip_prefix_is}
+use Rattle.live_bench.proofs.Fronts.{output_is, is_output}
+use Rattle.live_bench.proofs.judging.has_output.Goals as goal
+
+pub returns-in-Some : goal.returns-in-Some
+returns-in-Some c =
+    let all = strip_prefix_is Decides-eqb c.args.output.now c.args.accepted.now (Some c.in-Some.missing)
+    c.in-Some.ensures.cases in
+    (output_is _ _ _ _ all, is_output _ _ _ _ all)
+
+pub returns-in-None : goal.returns-in-None
+returns-in-None c =
+    let none = strip_prefix_is Decides-eqb c.args.output.now c.args.accepted.now None c.in-None.ensures.cases in
+    ((λ no. absurd (true≢false (sym no))), λ front. absurd (none front.missing front.all))

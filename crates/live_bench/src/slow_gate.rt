@@ -1,0 +1,37 @@
+//! A gate that delays one of the workers.
+
+use pair_threads::{Gate, Who};
+use std::thread;
+
+// An odd number whose multiples look random.
+const SPREAD: u64 = 0x9e37_79b9_7f4a_7c15;
+
+/// Lets everybody pass; one worker, if there is one, only after so many yields at one of so many turns.
+#[derive(Clone, Copy, Debug, PartialEq, Eq)]
+pub struct SlowGate {
+    pub who: Option<Who>,
+    pub seed: u64,
+    pub every: u64,
+    pub yields: u32,
+}
+
+impl SlowGate {
+    // Whether a worker is delayed at this turn.
+    fn delays(&self, who: Who, turn: u64) -> bool {
+        let random = turn.wrapping_add(self.seed).wrapping_mul(SPREAD) >> 32;
+        self.who == Some(who) && random % self.every.max(1) == 0
+    }
+}
+
+impl Gate for SlowGate {
+    fn enter(&self, who: Who, turn: u64) -> bool {
+        if self.delays(who, turn) {
+            for _ in 0..self.yields {
+                thread::yield_now();
+            }
+        }
+        true
+    }
+
+    fn leave(&self, _who: Who, _turn: u64) {}
+}
