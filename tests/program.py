@@ -12,7 +12,7 @@ CRATE = TOP / "crates/pair_main"
 COMMANDS = ("script", "check")
 
 # The words that begin lines of the setup, which have no answer.
-SETUP = {"mem", "drives", "levels", "sense", "hosts", "sector", "fail"}
+SETUP = {"mem", "drives", "levels", "sense", "hosts", "reads", "sector", "fail"}
 
 # How a run ended: its status, and what is on standard output and on standard error.
 Ending = namedtuple("Ending", "status output said")

@@ -6,6 +6,7 @@
 #include <stdio.h>
 #include <stdlib.h>
 
+// Threads may ask at the same time.
 static unsigned long asked, refused;
 
 static void *next(const char *name) {
@@ -29,7 +30,7 @@ __attribute__((destructor)) static void end(void) {
 }
 
 static int is_refused(void) {
-  if (++asked != refused) return 0;
+  if (__atomic_add_fetch(&asked, 1, __ATOMIC_SEQ_CST) != refused) return 0;
   errno = ENOMEM;
   return 1;
 }

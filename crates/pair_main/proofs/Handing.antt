@@ -74,8 +74,8 @@ fails_after n lines failure.OutOfMemory old mid next new more all k h =
     (n + h.0, (let few : h.0 ≤ 1 = h.1 in omega arith), adds_more n h.0 old mid next new all k h.2)
 fails_after n lines failure.InputOrOutput old mid next new more all k h = tt
 fails_after n lines (failure.CommandLine text) old mid next new more all k h = h
-fails_after n lines failure.NotLive old mid next new more all k h = h
 fails_after n lines (failure.BadScript line) old mid next new more all k h = h
+fails_after n lines failure.Stalled old mid next new more all k h = h
 fails_after n lines failure.Differs old mid next new more all k h = h
 
 -- if input or output fails, nothing is claimed
@@ -109,7 +109,7 @@ settled_kept (Some a) (Some b) None first rest none p q = absurd q
 settled_kept (Some a) (Some b) (Some c) first rest none p q = q ∙ p ∙ ap (λ l. a ++ l) none ∙ append-nil a
 
 module _ (a b c : Option (List ℕ)) (first rest : List ℕ) (none : first ≡ []) (q : Appends b c rest) where
-  settled_line : (shown : Option (List ℕ)) → AddsLine shown (append_known a first) (append_known b rest)
+  pub settled_line : (shown : Option (List ℕ)) → AddsLine shown (append_known a first) (append_known b rest)
       → AddsLine shown a c
   settled_line shown one = record {
     line = one.line;
@@ -130,8 +130,8 @@ module _ (a b c : Option (List ℕ)) (first rest : List ℕ) (none : first ≡ [
   settled_answers_but lines failure.OutOfMemory h = (h.0, h.1, settled_lines h.0 h.2)
   settled_answers_but lines failure.InputOrOutput h = tt
   settled_answers_but lines (failure.CommandLine text) h = h
-  settled_answers_but lines failure.NotLive h = h
   settled_answers_but lines (failure.BadScript line) h = h
+  settled_answers_but lines failure.Stalled h = h
   settled_answers_but lines failure.Differs h = h
 
   settled_but : (holds : Verdict → Type 0) (e : Failure) → PrintsBut holds e (append_known a first) (append_known b rest)
@@ -139,8 +139,8 @@ module _ (a b c : Option (List ℕ)) (first rest : List ℕ) (none : first ≡ [
   settled_but holds failure.OutOfMemory h = settled_kept a b c first rest none h q
   settled_but holds failure.InputOrOutput h = tt
   settled_but holds (failure.CommandLine text) h = h
-  settled_but holds failure.NotLive h = h
   settled_but holds (failure.BadScript line) h = h
+  settled_but holds failure.Stalled h = h
   settled_but holds failure.Differs h = (h.0, settled_line _ h.1)
 
   pub settled_prints : (order : Order) (lines : ℕ) (holds : Verdict → Type 0) (result : Result (Unit {0}) Failure)

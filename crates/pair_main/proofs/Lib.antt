@@ -1,3 +1,4 @@
 pub mod Handing
+pub mod Living
 pub mod Runs
 pub mod Sessions

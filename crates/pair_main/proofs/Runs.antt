@@ -1,6 +1,7 @@
 -- What a command prints is a run of the program.
 use Rattle.std.proofs.Common.{ℕ, Option, List, Result, Ok, Err}
 use Rattle.std.specs.Prelude.{⊤}
+use Rattle.pair_main.specs.Living.{PrintsLive, typed_in}
 use Rattle.pair_main.specs.Printing.{Prints}
 use Rattle.pair_main.specs.Runs.{IsObeyed, IsRun}
 use Rattle.pair_main.specs.Sessions.{Answers}
@@ -8,7 +9,10 @@ use Rattle.pair_main.specs.declared.failure.Failure.{Failure}
 use Rattle.pair_main.specs.declared.failure.Failure.TheVariants as failure
 use Rattle.pair_main.specs.declared.options.Order.{Order}
 use Rattle.pair_main.specs.declared.options.Order.TheVariants.{Script, Check}
-use Rattle.pair_main.specs.declared.options.Request.TheVariants.{Run, Shell}
+use Rattle.pair_main.specs.declared.live.LiveOrder.{LiveOrder}
+use Rattle.pair_main.specs.declared.options.Request.TheVariants.{Run, Live, Shell}
+use Rattle.script_language.specs.declared.line.Line.{Line}
+use Rattle.script_language.specs.declared.setup.ScriptSetup.{ScriptSetup}
 
 module _ {R W : Type 0} (contents : W → Option (List ℕ)) (reader reader' : R) (writer writer' : W) where
   by_script : (order : Order) (lines : ℕ) (result : Result (Unit {0}) Failure)
@@ -29,10 +33,10 @@ module _ {R W : Type 0} (contents : W → Option (List ℕ)) (reader reader' : R
   is_run order lines (Err failure.InputOrOutput) h = by_script order lines (Err failure.InputOrOutput) h
   is_run order lines (Err failure.Differs) h = by_script order lines (Err failure.Differs) h
   is_run Script lines (Err (failure.CommandLine text)) h = absurd h
-  is_run Script lines (Err failure.NotLive) h = absurd h
+  is_run Script lines (Err failure.Stalled) h = absurd h
   is_run Script lines (Err (failure.BadScript line)) h = absurd h
   is_run Check lines (Err (failure.CommandLine text)) h = absurd h
-  is_run Check lines (Err failure.NotLive) h = absurd h
+  is_run Check lines (Err failure.Stalled) h = absurd h
   is_run Check lines (Err (failure.BadScript line)) h = absurd h
 
   -- so is what a session answers
@@ -41,7 +45,24 @@ module _ {R W : Type 0} (contents : W → Option (List ℕ)) (reader reader' : R
   is_session (Ok done) h = by_session (Ok done) h
   is_session (Err failure.OutOfMemory) h = by_session (Err failure.OutOfMemory) h
   is_session (Err failure.InputOrOutput) h = by_session (Err failure.InputOrOutput) h
+  is_session (Err failure.Stalled) h = absurd h
   is_session (Err failure.Differs) h = absurd h
   is_session (Err (failure.CommandLine text)) h = absurd h
-  is_session (Err failure.NotLive) h = absurd h
   is_session (Err (failure.BadScript line)) h = absurd h
+
+  by_threads : (order : LiveOrder) (setup : ScriptSetup) (lines : List Line) (result : Result (Unit {0}) Failure)
+      → PrintsLive setup (typed_in 0 lines) (typed_in 1 lines) result (contents writer) (contents writer')
+      → IsObeyed result (contents writer) (contents writer')
+  by_threads order setup lines result h = record { request = Live order; obeys = (setup, lines, h) }
+
+  -- and what a pair on threads prints
+  pub is_live : (order : LiveOrder) (setup : ScriptSetup) (lines : List Line) (result : Result (Unit {0}) Failure)
+      → PrintsLive setup (typed_in 0 lines) (typed_in 1 lines) result (contents writer) (contents writer')
+      → IsRun contents reader reader' writer writer' result
+  is_live order setup lines (Ok done) h = by_threads order setup lines (Ok done) h
+  is_live order setup lines (Err failure.OutOfMemory) h = by_threads order setup lines (Err failure.OutOfMemory) h
+  is_live order setup lines (Err failure.InputOrOutput) h = by_threads order setup lines (Err failure.InputOrOutput) h
+  is_live order setup lines (Err failure.Stalled) h = by_threads order setup lines (Err failure.Stalled) h
+  is_live order setup lines (Err failure.Differs) h = absurd h
+  is_live order setup lines (Err (failure.CommandLine text)) h = absurd h
+  is_live order setup lines (Err (failure.BadScript line)) h = absurd h

@@ -19,8 +19,8 @@ fails_then : (e : Failure) (old mid new : Option (List ℕ)) → Writes old mid 
 fails_then failure.OutOfMemory old mid new first h = writes_more old mid new first h
 fails_then failure.InputOrOutput old mid new first h = tt
 fails_then (failure.CommandLine text) old mid new first h = h
-fails_then failure.NotLive old mid new first h = h
 fails_then (failure.BadScript line) old mid new first h = h
+fails_then failure.Stalled old mid new first h = h
 fails_then failure.Differs old mid new first h = h
 
 -- the lines of a block, or the last line, are answered after the others

@@ -1,3 +1,4 @@
+pub mod Living
 pub mod Printing
 pub mod Reports
 pub mod Runs

@@ -2,19 +2,21 @@
 use Rattle.std.specs.Prelude.{◌≡◌, ℕ, ◌⊎◌, ⊤, Bool, true, false, Option, List, [], Result, Ok, Err}
 use Rattle.std.specs.Cow.{cow_str_bytes}
 use Rattle.std.specs.declared.borrow.CowStr.{CowStr}
+use Rattle.pair_main.specs.Living.{PrintsLive, typed_in}
 use Rattle.pair_main.specs.Printing.{Prints}
 use Rattle.pair_main.specs.Sessions.{Answers}
 use Rattle.pair_main.specs.Statuses.{EndsBy}
 use Rattle.pair_main.specs.declared.failure.Failure.{Failure}
-use Rattle.pair_main.specs.declared.failure.Failure.TheVariants.{CommandLine, NotLive, BadScript}
-use Rattle.pair_main.specs.declared.failure.Failure.TheVariants.{OutOfMemory, InputOrOutput, Differs}
+use Rattle.pair_main.specs.declared.failure.Failure.TheVariants.{CommandLine, BadScript}
+use Rattle.pair_main.specs.declared.failure.Failure.TheVariants.{OutOfMemory, InputOrOutput, Stalled, Differs}
 use Rattle.pair_main.specs.declared.options.Request.{Request}
-use Rattle.pair_main.specs.declared.options.Request.TheVariants.{Run, Shell}
+use Rattle.pair_main.specs.declared.options.Request.TheVariants.{Run, Live, Shell}
+use Rattle.script_language.specs.declared.line.Line.{Line}
+use Rattle.script_language.specs.declared.setup.ScriptSetup.{ScriptSetup}
 
 -- what may be wrong before anything is read, and what may be wrong with what is read
 abbrev pub is_of_command_line : Failure → Bool
 is_of_command_line (CommandLine text) = true
-is_of_command_line NotLive = true
 is_of_command_line OutOfMemory = true
 is_of_command_line _ = false
 
@@ -24,9 +26,11 @@ is_of_input OutOfMemory = true
 is_of_input InputOrOutput = true
 is_of_input _ = false
 
--- what a command prints: a script of some lines is run by an order, or lines are answered as they come
+-- what a command prints: a script of some lines is run by an order, a pair runs on threads, or lines are answered as they come
 abbrev pub Obeys : Request → Result (Unit {0}) Failure → Option (List ℕ) → Option (List ℕ) → Type 0
 Obeys (Run order) result old new = (lines : ℕ) × Prints order lines (λ verdict. ⊤) result old new
+Obeys (Live order) result old new =
+    (setup : ScriptSetup) × (lines : List Line) × PrintsLive setup (typed_in 0 lines) (typed_in 1 lines) result old new
 Obeys Shell result old new = Answers result old new
 
 -- some command was obeyed
@@ -38,10 +42,10 @@ module _ {R W : Type 0} (contents : W → Option (List ℕ)) (reader reader' : R
   -- what a failure leaves: a refused command line reads nothing, and a refused script prints nothing
   abbrev pub Leaves : Failure → Type 0
   Leaves (CommandLine text) = (reader' ≡ reader) × (writer' ≡ writer)
-  Leaves NotLive = (reader' ≡ reader) × (writer' ≡ writer)
   Leaves (BadScript line) = writer' ≡ writer
   Leaves OutOfMemory = IsObeyed (Err OutOfMemory) (contents writer) (contents writer')
   Leaves InputOrOutput = IsObeyed (Err InputOrOutput) (contents writer) (contents writer')
+  Leaves Stalled = IsObeyed (Err Stalled) (contents writer) (contents writer')
   Leaves Differs = IsObeyed (Err Differs) (contents writer) (contents writer')
 
   abbrev pub IsRun : Result (Unit {0}) Failure → Type 0

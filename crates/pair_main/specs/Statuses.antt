@@ -4,8 +4,8 @@ use Rattle.std.specs.Fmt.{decimal}
 use Rattle.std.specs.Cow.{cow_str_bytes}
 use Rattle.std.specs.declared.borrow.CowStr.{CowStr}
 use Rattle.pair_main.specs.declared.failure.Failure.{Failure}
-use Rattle.pair_main.specs.declared.failure.Failure.TheVariants.{CommandLine, NotLive, BadScript}
-use Rattle.pair_main.specs.declared.failure.Failure.TheVariants.{OutOfMemory, InputOrOutput, Differs}
+use Rattle.pair_main.specs.declared.failure.Failure.TheVariants.{CommandLine, BadScript}
+use Rattle.pair_main.specs.declared.failure.Failure.TheVariants.{OutOfMemory, InputOrOutput, Stalled, Differs}
 use Rattle.script_language.specs.declared.error.InputError.{InputError}
 use Rattle.script_language.specs.declared.error.InputError.TheVariants as input
 use Rattle.script_language.specs.declared.error.ScriptError.{ScriptError}
@@ -21,22 +21,22 @@ of_script (script.BadScript line) = BadScript line
 of_script script.OutOfMemory = OutOfMemory
 
 -- the exit status of a failure; 2 if the command line is refused, or asks for help or the version. A run that ends well
--- has 0, and 6 is kept for a pair on threads that stalls.
+-- has 0.
 abbrev pub status_of : Failure → ℕ
 status_of (CommandLine text) = 2
-status_of NotLive = 2
 status_of (BadScript line) = 3
 status_of OutOfMemory = 4
 status_of InputOrOutput = 5
+status_of Stalled = 6
 status_of Differs = 7
 
 -- its text for standard error; that a pair differs is told on standard output
 abbrev pub text_of : Failure → List ℕ
 text_of (CommandLine text) = string_bytes text
-text_of NotLive = codes "pair live: not there yet; `pair script` and `pair check` run a pair step by step"
 text_of (BadScript line) = codes "bad script at line " ++ decimal line
 text_of OutOfMemory = codes "out of memory"
 text_of InputOrOutput = codes "input or output failed"
+text_of Stalled = codes "stalled"
 text_of Differs = []
 
 -- a status and a text are those of a failure

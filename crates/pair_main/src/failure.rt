@@ -15,20 +15,17 @@ use std::io;
 pub enum Failure {
     /// The command line was refused, or asks for help or the version; the text is for the user.
     CommandLine(String),
-    /// A pair on threads was asked for.
-    NotLive,
     /// The number of the first bad line of the script, from 1.
     BadScript(u64),
     /// The allocator refused memory.
     OutOfMemory,
     /// The input could not be read, or the output could not be written.
     InputOrOutput,
+    /// A pair on threads was not at its end after all of its turns.
+    Stalled,
     /// The pair and the single machine differ.
     Differs,
 }
-
-const NOT_LIVE: &str =
-    "pair live: not there yet; `pair script` and `pair check` run a pair step by step";
 
 impl Failure {
     /// The exit status, and the text for standard error. If memory for the text is refused, both are those of that
@@ -38,13 +35,13 @@ impl Failure {
     {
         match self {
             Failure::CommandLine(text) => (2, CowStr::Owned(text)),
-            Failure::NotLive => (2, CowStr::Borrowed(NOT_LIVE)),
             Failure::BadScript(line) => match format!(in alloc; "bad script at line {line}") {
                 Ok(text) => (3, CowStr::Owned(text)),
                 Err(_) => out_of_memory(),
             },
             Failure::OutOfMemory => out_of_memory(),
             Failure::InputOrOutput => (5, CowStr::Borrowed("input or output failed")),
+            Failure::Stalled => (6, CowStr::Borrowed("stalled")),
             Failure::Differs => (7, CowStr::Borrowed("")),
         }
     }

@@ -2,6 +2,7 @@
 #![tactic(auto)]
 
 mod failure;
+mod live;
 mod options;
 mod program;
 mod report;
@@ -25,7 +26,7 @@ fn main(rt: HostRuntime) -> ExitCode {
     };
     let mut reader = rt.reader();
     let mut writer = io::writer(&rt);
-    let (status, text) = run_program(alloc, &arguments, &mut reader, &mut writer);
+    let (status, text) = run_program(&rt, alloc, &arguments, &mut reader, &mut writer);
     if !text.is_empty() {
         let _ = eprintln!(rt; "{text}");
     }

@@ -3,15 +3,20 @@ ghost use Rattle.std.specs.Prelude.{◌≡◌, IfErr, true};
 ghost use Rattle.pair_main.specs.Runs.{is_of_command_line};
 
 use crate::failure::Failure;
+use crate::live::LiveOrder;
+use clap::builder::ValueParser;
 use clap::error::ErrorKind;
-use clap::{Command, Error};
+use clap::{Arg, ArgMatches, Command, Error};
+use pair_threads::Fate;
 use std::alloc::Global;
 
 /// What the command line asks for.
-#[derive(Clone, Copy, Debug, PartialEq, Eq)]
+#[derive(Drop, Debug, PartialEq, Eq)]
 pub enum Request {
     /// To run a script.
     Run(Order),
+    /// To run a pair on threads.
+    Live(LiveOrder),
     /// To answer lines as they come.
     Shell,
 }
@@ -43,11 +48,23 @@ show 0
 END
 
 Exit status: 0 the run ended; 2 this text, or a command line that is none; 3 a bad
-script; 4 out of memory; 5 input or output failed; 7 `check` found a difference.";
+script; 4 out of memory; 5 input or output failed; 6 a pair on threads stalled; 7
+`check` found a difference.";
 
 const SCRIPT_USAGE: &str = "pair script < FILE (the script comes from standard input)";
 
 const SHELL_USAGE: &str = "pair shell (lines come from standard input)";
+
+const LIVE_USAGE: &str =
+    "pair live [OPTIONS] < FILE (setup and `type` lines come from standard input)";
+
+// The names of the fates of a packet: it is brought, it is lost, it is brought twice.
+static FATES: &[&str] = &["pass", "drop", "twice"];
+
+// How many turns there are at most, and how many if the command line does not say.
+const MOST_TURNS: u64 = 1_000_000_000;
+
+const TURNS: u64 = 1_000_000;
 
 const CHECK_USAGE: &str = "pair check < FILE (the script comes from standard input)";
 
@@ -56,14 +73,12 @@ pub fn request_of(alloc: Global, arguments: &[String]) -> Result<Request, Failur
     ensures { IfErr result (λ e. is_of_command_line e ≡ true) }
 {
     match parse(alloc, arguments) {
-        Ok(Some(request)) => Ok(request),
-        Ok(None) => Err(Failure::NotLive),
+        Ok(request) => Ok(request),
         Err(error) => Err(refusal(alloc, &error)),
     }
 }
 
-// The request; `None` if a pair on threads is asked for.
-fn parse(alloc: Global, arguments: &[String]) -> Result<Option<Request>, Error> {
+fn parse(alloc: Global, arguments: &[String]) -> Result<Request, Error> {
     let script = Command::new(alloc, "script")
         .about("Runs a script, and prints a line for each event and query")
         .override_usage(SCRIPT_USAGE);
@@ -73,7 +88,6 @@ fn parse(alloc: Global, arguments: &[String]) -> Result<Option<Request>, Error> 
     let shell = Command::new(alloc, "shell")
         .about("Answers lines as they come; the line `help` lists them all")
         .override_usage(SHELL_USAGE);
-    let live = Command::new(alloc, "live").about("Runs a pair on threads (not there yet)");
     let pair = Command::new(alloc, "pair")
         .bin_name("pair")?
         .version("0.1.0")
@@ -83,13 +97,71 @@ fn parse(alloc: Global, arguments: &[String]) -> Result<Option<Request>, Error> 
         .subcommand(script)?
         .subcommand(check)?
         .subcommand(shell)?
-        .subcommand(live)?;
+        .subcommand(live_command(alloc)?)?;
     let matches = pair.try_get_matches_from(arguments)?;
     match matches.subcommand() {
-        Some(("check", _)) => Ok(Some(Request::Run(Order::Check))),
-        Some(("shell", _)) => Ok(Some(Request::Shell)),
-        Some(("live", _)) => Ok(None),
-        _ => Ok(Some(Request::Run(Order::Script))),
+        Some(("check", _)) => Ok(Request::Run(Order::Check)),
+        Some(("shell", _)) => Ok(Request::Shell),
+        Some(("live", live)) => Ok(Request::Live(live_order(alloc, live)?)),
+        _ => Ok(Request::Run(Order::Script)),
+    }
+}
+
+// The command that runs a pair on threads.
+fn live_command<'a>(alloc: Global) -> Result<Command<'a>, Error> {
+    let turns = turn(alloc, "turns", 1)
+        .help("How many turns the primary and the backup have at most")
+        .default_value("1000000");
+    let link = Arg::new(alloc, "link")
+        .long("link")
+        .value_name("FATES")
+        .value_delimiter(',')
+        .value_parser(ValueParser::Names(FATES))
+        .help("The fates of the packets, in order; the last is that of all others");
+    let command = Command::new(alloc, "live")
+        .about("Runs a pair on threads, and prints what its terminals have accepted")
+        .override_usage(LIVE_USAGE)
+        .arg(turns)?
+        .arg(turn(alloc, "primary-asks", 0).help(
+            "The turn at which the primary asks to go on alone",
+        ))?
+        .arg(turn(alloc, "backup-asks", 0).help(
+            "The turn at which the backup asks to go on alone",
+        ))?
+        .arg(link)?;
+    Ok(command)
+}
+
+// An option whose value is a number of turns, at least this many.
+fn turn<'a>(alloc: Global, name: &'a str, least: u64) -> Arg<'a> {
+    Arg::new(alloc, name)
+        .long(name)
+        .value_name("N")
+        .value_parser(ValueParser::unsigned(least, MOST_TURNS))
+}
+
+// What the words after `live` say.
+fn live_order(alloc: Global, matches: &ArgMatches<'_>) -> Result<LiveOrder, Error> {
+    let mut link = Vec::new(alloc);
+    if let Some(words) = matches.get_strs("link") {
+        for word in words {
+            link.push(fate_of(word))?;
+        }
+    }
+    Ok(LiveOrder {
+        turns: matches.get_one("turns").unwrap_or(TURNS),
+        primary_asks: matches.get_one("primary-asks"),
+        backup_asks: matches.get_one("backup-asks"),
+        link,
+    })
+}
+
+// The fate of a packet, by its name.
+fn fate_of(word: &str) -> Fate {
+    match word {
+        "drop" => Fate::Drop,
+        "twice" => Fate::Twice,
+        _ => Fate::Pass,
     }
 }
 

@@ -1,5 +1,5 @@
 //! A pair of Altairs, from its boot to the end of a script.
-ghost use Rattle.std.specs.Prelude.{◌≡◌, length, ⊤};
+ghost use Rattle.std.specs.Prelude.{◌≡◌, IfOk, length, map, ⊤};
 ghost use Rattle.event_callbacks.specs.declared.devices.TheConstants.{SENT, SECTOR, WRITTEN};
 ghost use Rattle.event_callbacks.specs.Keeping.{Keeps};
 ghost use Rattle.ft_world.specs.Applies.{Shows};
@@ -10,6 +10,7 @@ ghost use Rattle.pair_check.specs.Comparing.{IsVerdictOn};
 ghost use Rattle.pair_check.specs.Disks.{records_in, over_records};
 ghost use Rattle.pair_main.specs.Printing.{AnswersLines, Prints, PrintsVerdict};
 ghost use Rattle.pair_main.specs.Reports.{handed};
+ghost use Rattle.script_language.specs.Scripts.{boot_write};
 
 use crate::failure::Failure;
 use crate::options::Order;
@@ -87,8 +88,10 @@ fn check<B: Copies<H> + Drop, H: Drop, O: Write + Drop>(
     }
 }
 
-// The sectors at boot, as writes that come before every write of a guest.
-fn writes_of(alloc: Global, sectors: &[BootSector]) -> R<Vec<SectorWrite>> {
+/// The sectors at boot, as writes that come before every write of a guest.
+pub fn writes_of(alloc: Global, sectors: &[BootSector]) -> R<Vec<SectorWrite>>
+    ensures { IfOk result (λ writes. writes.items ≡ map boot_write sectors.now) }
+{
     let mut writes = Vec::with_capacity(alloc, sectors.len())?;
     for sector in sectors {
         writes.push(sector.write())?;

@@ -3,6 +3,7 @@ mod copies;
 mod device_faults;
 mod endings;
 mod examples;
+mod live;
 mod rows;
 mod shells;
 
@@ -11,6 +12,8 @@ use std::alloc::{AllocError, Global};
 use std::io::{Read, Write};
 use std::process::Abort;
 use std::test::Fail;
+use std::thread::Threads;
+use std::time::Clock;
 
 // How a run ends: its status and its text for standard error.
 type Ending<'a> = (u8, &'a str);
@@ -29,19 +32,19 @@ fn command_line(alloc: Global, words: &[&str]) -> Result<Vec<String>, AllocError
 
 // The status and the text of the program on these words.
 fn run_on<R: Read + Drop, W: Write + Drop>(
-    rt: &impl AllocGlobal,
+    rt: &(impl AllocGlobal + Threads + Clock + Sync),
     words: &[&str],
     reader: &mut R,
     writer: &mut W,
 ) -> Result<(u8, String), Fail> {
     let arguments = command_line(rt.alloc(), words)?;
-    let (status, text) = run_program(rt.alloc(), &arguments, reader, writer);
+    let (status, text) = run_program(rt, rt.alloc(), &arguments, reader, writer);
     Ok((status, String::from_str(rt.alloc(), text.as_str())?))
 }
 
 // A command on this script prints this, and ends like this.
 fn expect(
-    rt: &(impl Abort + AllocGlobal),
+    rt: &(impl Abort + AllocGlobal + Threads + Clock + Sync),
     command: &str,
     script: &[u8],
     output: &str,

@@ -128,7 +128,7 @@ fn output_fails_at_its_end_too(rt: HostRuntime) -> Result<(), Fail> {
 }
 
 // Words after the program's name, and what the text about them says.
-static COMMAND_LINES: [(&[&str], &str); 11] = [
+static COMMAND_LINES: [(&[&str], &str); 12] = [
     (&[], "Usage: pair <COMMAND>"),
     (&["--help"], "Usage: pair <COMMAND>"),
     (&["help"], "pair script << END"),
@@ -138,8 +138,9 @@ static COMMAND_LINES: [(&[&str], &str); 11] = [
     (&["script", "first"], "the script comes from standard input"),
     (&["check", "first"], "pair check < FILE"),
     (&["check", "--quiet"], "--quiet"),
-    (&["live"], "not there yet"),
-    (&["live", "first"], "Usage: pair live"),
+    (&["live", "first"], "pair live [OPTIONS] < FILE"),
+    (&["live", "--turns", "0"], "--turns"),
+    (&["live", "--link", "pass,lose"], "lose"),
 ];
 
 #[test]

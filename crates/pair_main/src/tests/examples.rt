@@ -119,6 +119,33 @@ alone 1 count 973
     check: "same 973\n",
 };
 
+const EARLY_PAGES: Example = Example {
+    script: b"# A copy that was begun early. The guest stores 48 at 2000, and halts; hosts 0 and 1 are the pair, and host 2 is spare:
+#   0000 MVI A,48  STA 2000  HLT
+hosts 3
+mem 0000 3E 48 32 00 20 76
+# Node 0 asks the arbiter, has won, and is alone. It copies the pages of its machine while nobody waits for them.
+suspect 0
+freshen 0 256
+# The guest goes on, and writes to one page, which is stale now.
+step 0 10
+freshen 0 0
+# A generation begins, and host 2 joins. Only that page is copied now: it is page 20, and part 33 of the image.
+pair 0 2
+sendpart 0 33
+packet 0
+",
+    output: "won
+stale 0
+ran 3 count 3 idle
+stale 1
+generation 2
+message 0
+50 00 00 00 02 00 21 48 00 00 00 00 00 00 00 00 00 00 00 00 00 00 00 00 00 00 00 00 00 00 00 00 00 00 00 00 00 00 00 00 00 00 00 00 00 00 00 00 00 00 00 00 00 00 00 00 00 00 00 00 00 00 00 00 00 00 00 00 00 00 00 00 00 00 00 00 00 00 00 00 00 00 00 00 00 00 00 00 00 00 00 00 00 00 00 00 00 00 00 00 00 00 00 00 00 00 00 00 00 00 00 00 00 00 00 00 00 00 00 00 00 00 00 00 00 00 00 00 00 00 00 00 00 00 00 00 00 00 00 00 00 00 00 00 00 00 00 00 00 00 00 00 00 00 00 00 00 00 00 00 00 00 00 00 00 00 00 00 00 00 00 00 00 00 00 00 00 00 00 00 00 00 00 00 00 00 00 00 00 00 00 00 00 00 00 00 00 00 00 00 00 00 00 00 00 00 00 00 00 00 00 00 00 00 00 00 00 00 00 00 00 00 00 00 00 00 00 00 00 00 00 00 00 00 00 00 00 00 00 00 00 00 00 00 00 00 00 00 00 00 00 00 00 00 00 00 00 00 00 00 00 00 00
+",
+    check: "same 3\n",
+};
+
 const ECHO: Example = Example {
     script: b"# A guest that waits for keys by interrupt and echoes each. Port 0 is set to 8N1 with its receive interrupt, then the
 # guest halts; the interrupt is RST 7, which reads the key and sends it:
@@ -349,6 +376,68 @@ port 0: 48
     check: "same 6\n",
 };
 
+const SHARED_READ: Example = Example {
+    script: b"# A backup that reads the disk itself. The guest of disk_write.script, in a pair whose log carries no sectors: the entry of
+# a sector says which one came, and the number of the write that left it so.
+drives 1
+reads shared
+mem 0000 06 89 AF D3 08 3E 04 D3 09 DB 09 0F DA 09 00 3E 80 D3 09 DB 08 0F DA 13 00 3E E5 D3 0A 05 C2 13 00 76
+# The disk reads sector 0, and the primary takes it. Its entry is a packet of 32 bytes; with the sector's bytes it has 169.
+step 0 10
+get 0 0
+under 0 0
+step 0 2000
+send 0 0
+packet 1
+send 0 1
+log 1 1
+log 2 1
+ack 1
+packet 3
+acked 3 0
+# The backup holds the mark of the write, but it has replayed nothing: a write that left now could overwrite the sector
+# before the backup has read it.
+release 0 write 1
+# The primary fails. The backup wins, comes to the read, and waits for the bytes. The disk still has them.
+stop 0
+suspect 1
+drain 1 2000
+fetch 1
+fetched 4 1
+drain 1 2000
+# Now it is alone, and the write leaves.
+release 1 write 1
+put 5
+done 6 1
+node 1
+",
+    output: "ran 10 count 10 turns
+message 0
+taken
+ran 963 count 973 write 1
+message 1
+4C 00 00 00 01 00 00 00 00 00 00 00 00 05 00 00 00 00 00 00 00 0A 00 00 00 00 00 00 00 00 00 00
+message 2
+new
+new
+message 3
+42 00 00 00 01 00 00 00 00 00 00 00 02 00 00 00 00 00 00 00 00
+held 2
+refused 12
+stopped
+won
+moved 10 wait
+message 4
+taken
+moved 965 alone
+message 5
+message 6
+taken
+alone 1 count 973
+",
+    check: "same 973\n",
+};
+
 const STALE_READ: Example = Example {
     script: b"# A read that is overtaken by a write. The guest of disk_write.script runs alone this time.
 drives 1
@@ -392,10 +481,12 @@ fn examples_print_what_stands_beside_them(rt: HostRuntime) -> Result<(), Fail> {
         CONTEST,
         DEVICE_FAULT,
         DISK_WRITE,
+        EARLY_PAGES,
         ECHO,
         FAILOVER,
         FIRST_BYTE,
         REPEAT_ARRIVAL,
+        SHARED_READ,
         STALE_READ,
     ];
     for example in examples {
