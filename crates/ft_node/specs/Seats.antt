@@ -70,7 +70,7 @@ stale_at stale (seat.Draining d) = None
 stale_at stale (seat.Alone a) = Some (stale a.board)
 stale_at stale (seat.Halted h) = None
 
--- at most so many of them were copied, and this many are left
+-- at most this many of them were copied, and how many are left
 pub record AreFreshened {B : Type 0} {H : Type 0} (stale : B → ℕ) (pages left : ℕ)
     (old new : code.Node B H) : Type 0 where
   pub before : ℕ

@@ -30,8 +30,8 @@ use std::alloc::Global;
 use std::mem;
 
 impl<B: Copies<H> + Drop, H: Drop> Node<B, H> {
-    /// The generation that an alone node may begin, for a machine of so many drives and a log that carries its sectors as
-    /// that of its own generation. `Spent` if that of the node is the greatest.
+    /// The generation that an alone node may begin, for a machine with its drives, and with a log that carries sectors as the
+    /// log of its own generation does. `Spent` if that of the node is the greatest.
     pub fn next_generation(&self) -> R<NextGeneration>
         ensures answer { (C : Copying B.State) (drives : ℕ) (x : protocol.Node B.State)
             → CopiesAs B.state B.copied drives C.parts C.part_count C.assemble
@@ -71,8 +71,8 @@ impl<B: Copies<H> + Drop, H: Drop> Node<B, H> {
         }
     }
 
-    /// Copies the lowest stale pages of an alone node's machine, at most so many, for the image with which it may begin
-    /// the next generation. How many are stale then. `OutOfMemory` if the allocator refuses.
+    /// Copies the lowest stale pages of an alone node's machine, `pages` at most, for the image with which it may begin
+    /// the next generation. Returns how many are stale then. `OutOfMemory` if the allocator refuses.
     pub fn freshen(&mut self, alloc: Global, pages: u64) -> R<u64>
         ensures answer { (C : Copying B.State) (drives : ℕ) (x : protocol.Node B.State)
             → IsNode B.state B.machine C drives self.old x
@@ -123,7 +123,7 @@ impl<B: Copies<H> + Drop, H: Drop> Node<B, H> {
     }
 }
 
-// The generation after this one, for so many drives.
+// The generation after this one, for a machine with this many drives.
 #[tactic(auto, using(crate::proofs::BegunPairs::next_if, crate::proofs::BegunPairs::no_next))]
 fn next_of(generation: u32, drives: u8, reads: Reads) -> R<NextGeneration>
     requires some { 1 ≤ drives }

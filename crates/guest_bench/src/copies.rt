@@ -44,7 +44,7 @@ impl Made {
     }
 }
 
-/// Boots a board with these closures, and makes this of it so many times. Returns how many parts of images there were in
+/// Boots a board with these closures, and makes this of it, this many times. Returns how many parts of images there were in
 /// all; of a draft, how many stale pages.
 pub fn run<T: Completes + Drop + Copy, S: Completes + Drop + Copy, W: Completes + Drop + Copy>(
     alloc: Global,

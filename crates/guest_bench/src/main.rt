@@ -85,7 +85,7 @@ fn run_single(alloc: Global, bytes: Vec<u8>, steps: u64) -> Result<Regs> {
     Ok(regs)
 }
 
-// Makes this of a board so many times.
+// Makes this of a board, this many times.
 fn run_copies(alloc: Global, bytes: Vec<u8>, made: Made, times: u64) -> Result<u64> {
     let setup = setup_of(bytes)?;
     let all = copies::run(

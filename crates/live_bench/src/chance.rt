@@ -27,7 +27,7 @@ impl Chance {
         self.generator.next_word() % limit.max(1)
     }
 
-    /// One of so many times.
+    /// Whether this happens, which happens once in `times` cases.
     pub fn is_one_of(&mut self, times: u32) -> bool {
         self.below(times) == 0
     }

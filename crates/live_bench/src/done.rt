@@ -40,17 +40,17 @@ fn word(number: u64) -> u16 {
     number.clamp(1, 65535) as u16
 }
 
-/// A guest that computes about so many steps, and prints a byte about each 100,000.
+/// A guest that computes for about this many steps, and prints a byte about every 100,000.
 pub fn computing(alloc: Global, steps: u64) -> R<Case> {
     Case::quiet(alloc, &computer(word(steps / ROUND_STEPS)))
 }
 
-/// A guest that prints so many bytes.
+/// A guest that prints this many bytes.
 pub fn printing(alloc: Global, bytes: u64) -> R<Case> {
     Case::quiet(alloc, &many_bytes(word(bytes)))
 }
 
-/// A guest that echoes so many keys, each when its port takes it.
+/// A guest that echoes this many keys, each when its port takes it.
 pub fn echoing(alloc: Global, keys: u64) -> R<Case> {
     let mut case = Case::quiet(alloc, &KEEPER)?;
     let mut typed = Vec::new(alloc);

@@ -11,7 +11,7 @@ pub enum Guest {
     Stores,
 }
 
-/// Prints so many bytes at port 0, the complements at port 1, as each takes them, and halts.
+/// Prints this many bytes at port 0, the complements at port 1, as each takes them, and halts.
 pub fn printer(bytes: u8) -> [u8; 40] {
     [
         0x3e, 0x03, // 0000 MVI A,03
@@ -61,8 +61,8 @@ pub const ECHO: [u8; 61] = [
     0xc9, // 003C RET
 ];
 
-/// Reads a sector and sums its bytes, writes the next one from the sum, and prints the sum; so many times, each second
-/// time a track further in; and halts.
+/// Reads a sector and sums its bytes, writes the next one from the sum, and prints the sum, this many times, every second
+/// time a track further in; then halts.
 pub fn storer(rounds: u8) -> [u8; 90] {
     [
         0x31, 0x00, 0x80, // 0000 LXI SP,8000
@@ -119,7 +119,7 @@ pub fn storer(rounds: u8) -> [u8; 90] {
 /// How many instructions the guest that computes makes before each byte.
 pub const ROUND_STEPS: u64 = 100_045;
 
-/// Computes and prints a byte, so many times, and halts: each byte after 65 times 256 sums in memory.
+/// Computes and prints a byte, this many times, and halts: each byte after 65 times 256 sums in memory.
 pub fn computer(rounds: u16) -> [u8; 47] {
     let [low, high] = rounds.to_le_bytes();
     [
@@ -188,7 +188,7 @@ pub const KEEPER: [u8; 64] = [
     0xc9, // 003F RET
 ];
 
-/// Prints so many bytes at port 0 as it takes them, and halts.
+/// Prints this many bytes at port 0 as it takes them, and halts.
 pub fn many_bytes(bytes: u16) -> [u8; 28] {
     let [low, high] = bytes.to_le_bytes();
     [

@@ -1,18 +1,18 @@
 //! One machine that has run on the inputs of a list, and what a pair has next to it.
+ghost use Rattle.std.specs.Prelude.{◌↔◌, ◌<◌, IsOk};
+ghost use Rattle.pair_protocol.specs.Faithful.{IsAllBut};
+ghost use Rattle.plain_single.specs.Alone.{output_of};
 
 use crate::case::Case;
 use crate::difference::Difference;
-use crate::judging::{has_output, is_brought, never_fall};
 use disk_dcdd::{SECTORS, SectorAddress, TRACKS};
 use guest_trace::Timed;
 use i8080_words::{Fault, R};
 use log_entry::Entry;
+use pair_check::{WINDOW, is_all_but, may_have, never_fall};
 use plain_single::Single;
 use shared_disk::{MemoryStore, SharedDisk};
 use std::alloc::Global;
-
-// How many bytes of a port its terminal may not have accepted when one goes on alone.
-const WINDOW: usize = 16;
 
 /// How far a pair has come.
 #[derive(Clone, Copy, Debug, PartialEq, Eq)]
@@ -70,6 +70,18 @@ fn has_keys(
     }
 }
 
+// Whether a terminal has accepted what the machine has sent to its port, or all of it but the last `window` bytes.
+fn has_output(single: &Single, port: u8, accepted: &[u8], window: usize) -> Result<(), Difference>
+    requires { port < 2 }
+    ensures { IsOk result ↔ IsAllBut window accepted.now (output_of single.now port) }
+{
+    if is_all_but(window, accepted, single.outputs(port)) {
+        Ok(())
+    } else {
+        Err(Difference::Output(port))
+    }
+}
+
 impl Machine {
     /// Runs a machine on the inputs of a list to this count.
     pub fn follow(
@@ -110,13 +122,8 @@ impl Machine {
             Reached::All => 0,
             Reached::Last => WINDOW,
         };
-        if !has_output(first, self.single.outputs(0), window) {
-            return Err(Difference::Output(0));
-        }
-        if !has_output(second, self.single.outputs(1), window) {
-            return Err(Difference::Output(1));
-        }
-        Ok(())
+        has_output(&self.single, 0, first, window)?;
+        has_output(&self.single, 1, second, window)
     }
 
     /// Whether each sector has what the machine's disk has, or what an outstanding write brings.
@@ -159,10 +166,9 @@ impl Machine {
         let Ok(read) = disk.get(address) else {
             return false;
         };
-        if read.bytes == self.single.image(address) {
-            return true;
+        match reached {
+            Reached::All => read.bytes == self.single.image(address),
+            Reached::Last => may_have(&self.single, &self.inputs, address, &read.bytes),
         }
-        reached == Reached::Last
-            && is_brought(self.single.writes(), &self.inputs, address, &read.bytes)
     }
 }

@@ -10,7 +10,6 @@ mod compare;
 mod difference;
 mod done;
 mod guests;
-mod judging;
 mod machine;
 mod pair;
 mod runs;
@@ -69,7 +68,7 @@ fn in_pair<H: Threads + Sync + Clock>(rt: &H, alloc: Global, case: &Case) -> R<D
     )
 }
 
-// Runs about so many steps alone with the plain completions.
+// Runs a guest alone for about this many steps, with the plain completions.
 fn by_itself(alloc: Global, steps: u64) -> R<Done> {
     run_alone(
         alloc,

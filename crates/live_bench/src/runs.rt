@@ -24,7 +24,7 @@ pub struct Find {
     difference: Difference,
 }
 
-/// Makes so many runs whose completions are these closures. The first that does not end as one machine does is an error.
+/// Makes `count` runs whose completions are these closures. The first that does not end as one machine does is an error.
 pub fn make_runs<
     H: Threads + Sync + Clock,
     T: Completes + Drop + Copy + Send,

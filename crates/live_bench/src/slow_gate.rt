@@ -6,7 +6,7 @@ use std::thread;
 // An odd number whose multiples look random.
 const SPREAD: u64 = 0x9e37_79b9_7f4a_7c15;
 
-/// Lets everybody pass; one worker, if there is one, only after so many yields at one of so many turns.
+/// Lets everybody pass, but delays one worker, if there is one: at one turn of `every`, for `yields` yields.
 #[derive(Clone, Copy, Debug, PartialEq, Eq)]
 pub struct SlowGate {
     pub who: Option<Who>,

@@ -18,9 +18,10 @@ use Rattle.guest_trace.specs.declared.timed.Timed.{Timed}
 use Rattle.ft_world.specs.Applies.{Shows}
 use Rattle.ft_world.specs.Running.{Running}
 use Rattle.ft_world.specs.Standing.{Course, machine_of}
+use Rattle.pair_protocol.specs.Faithful.{IsAllBut}
 use Rattle.shared_disk.specs.Records.{IsThere}
 use Rattle.shared_disk.specs.declared.store.Record.{Record}
-use Rattle.pair_check.specs.Comparing.{Deeds, IsAlike, IsAnswer, Alike, Unlike, Lacks, IsFront, IsVerdict, Ran, MayHave, deeds_of}
+use Rattle.pair_check.specs.Comparing.{Deeds, IsAlike, IsAnswer, Alike, Unlike, Lacks, IsVerdict, Ran, MayHave, deeds_of}
 use Rattle.pair_check.specs.Sectors.{EachOf, IsBad, SomeOf, address_at}
 use Rattle.pair_check.specs.declared.verdict.Verdict.TheVariants.{Same, Differs}
 
@@ -59,7 +60,7 @@ module _ (drives : ℕ) (d : Deeds) (records : List Record) (output : ℕ → Li
   Bad address = (IsThere records address → ⊥) ⊎ (Good address → ⊥)
 
   -- the outputs are not alike
-  pub unlike_output : (((port : ℕ) → port < 2 → IsFront (d.accepted port) (output port)) → ⊥)
+  pub unlike_output : (((port : ℕ) → port < 2 → IsAllBut 16 (d.accepted port) (output port)) → ⊥)
       → IsAnswer drives d records output writes image false
   unlike_output not = Unlike (λ alike. not alike.outputs)
 
@@ -77,7 +78,7 @@ module _ (drives : ℕ) (d : Deeds) (records : List Record) (output : ℕ → Li
       Unlike (λ alike. bad (alike.disk (address_at drive track sector) (there_at drives drive track sector on_drive on_track on_sector)))
 
   -- they are, and the sectors decide
-  pub by_sectors : (answer : Bool) → ((port : ℕ) → port < 2 → IsFront (d.accepted port) (output port))
+  pub by_sectors : (answer : Bool) → ((port : ℕ) → port < 2 → IsAllBut 16 (d.accepted port) (output port))
       → (answer ≡ true → EachOf drives (λ drive. EachOf TRACKS (λ track. EachOf SECTORS (λ sector. Good (address_at drive track sector)))))
       → (answer ≡ false → SomeOf drives (λ drive. SomeOf TRACKS (λ track. SomeOf SECTORS (λ sector. Bad (address_at drive track sector)))))
       → IsAnswer drives d records output writes image answer
@@ -89,7 +90,7 @@ alike_by : (drives : ℕ) (d : Deeds) (output output' : ℕ → List ℕ) (write
     → ((address : SectorAddress) → IsTrue (has_sector drives address) → image address ≡ image' address)
     → IsAlike drives d output writes image → IsAlike drives d output' writes' image'
 alike_by drives d output output' writes writes' image image' o w i alike = record {
-  outputs = λ port p. subst (λ bytes. IsFront (d.accepted port) bytes) (o port p) (alike.outputs port p);
+  outputs = λ port p. subst (λ bytes. IsAllBut 16 (d.accepted port) bytes) (o port p) (alike.outputs port p);
   disk = λ address is.
       subst (λ ws. MayHave (image' address) ws d.settled address (d.sector address)) w
       (subst (λ bytes. MayHave bytes writes d.settled address (d.sector address)) (i address is) (alike.disk address is));

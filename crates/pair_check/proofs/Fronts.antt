@@ -1,7 +1,7 @@
 -- If the accepted bytes are the first of an output, the rest after them is all that is missing.
 use Rattle.std.proofs.Common.{◌≡◌, ℕ, ◌+◌, ◌≤◌, List, ◌++◌, length, length-append, IsTrue, leb, sym, ap, ◌∙◌, arith}
 use Rattle.std.proofs.lemmas.Bool.{leb-true, le-leb}
-use Rattle.pair_check.specs.Comparing.{IsFront}
+use Rattle.pair_protocol.specs.Faithful.{IsAllBut}
 
 -- two rests after the same bytes are equally long
 rests : (accepted one other : List ℕ) → accepted ++ one ≡ accepted ++ other → length one ≡ length other
@@ -10,14 +10,12 @@ rests accepted one other same =
     = sym (length-append accepted one) ∙ ap length same ∙ length-append accepted other in
     omega arith
 
-pub front_is : (accepted output rest : List ℕ) → output ≡ accepted ++ rest → IsTrue (leb (length rest) 16)
-    → IsFront accepted output
-front_is accepted output rest all few =
-    record { missing = rest; all = all; few = leb-true (length rest) 16 few }
+pub all_but_few : (window : ℕ) (accepted output rest : List ℕ) → output ≡ accepted ++ rest
+    → IsTrue (leb (length rest) window) → IsAllBut window accepted output
+all_but_few window accepted output rest all few = (rest, sym all, leb-true (length rest) window few)
 
-pub is_front : (accepted output rest : List ℕ) → output ≡ accepted ++ rest → IsFront accepted output
-    → IsTrue (leb (length rest) 16)
-is_front accepted output rest all front =
-    let longer : length rest ≡ length front.missing = rests accepted rest front.missing (sym all ∙ front.all) in
-    let few : length front.missing ≤ 16 = front.few in
-    le-leb (length rest) 16 (omega arith)
+pub rest_is_few : (window : ℕ) (accepted output rest : List ℕ) → output ≡ accepted ++ rest
+    → IsAllBut window accepted output → IsTrue (leb (length rest) window)
+rest_is_few window accepted output rest all (missing, is, few) =
+    let longer : length rest ≡ length missing = rests accepted rest missing (sym all ∙ sym is) in
+    le-leb (length rest) window (omega arith)

@@ -1,5 +1,5 @@
 -- Whether a pair has done what one never-failing machine does.
-use Rattle.std.specs.Prelude.{◌≡◌, ◌≢◌, ℕ, ◌<◌, ◌≤◌, ◌⊎◌, Bool, true, false, if◌then◌else◌, IsTrue, List, ◌++◌, length, All, Any}
+use Rattle.std.specs.Prelude.{◌≡◌, ◌≢◌, ℕ, ◌<◌, ◌⊎◌, Bool, true, false, if◌then◌else◌, IsTrue, List, All, Any}
 use Rattle.disk_dcdd.specs.Address.{address_of, has_sector}
 use Rattle.disk_dcdd.specs.declared.address.SectorAddress.{SectorAddress}
 use Rattle.disk_dcdd.specs.declared.sector.SectorWrite.{SectorWrite}
@@ -11,18 +11,13 @@ use Rattle.guest_trace.specs.Reach.{Reach, output, writes, image}
 use Rattle.plain_single.specs.Reaching.{Fails, NeverFall}
 use Rattle.guest_trace.specs.declared.timed.Bare.TheVariants.{Written}
 use Rattle.guest_trace.specs.declared.timed.Timed.{Timed}
+use Rattle.pair_protocol.specs.Faithful.{IsAllBut}
 use Rattle.pair_protocol.specs.Settled.{Settled}
 use Rattle.pair_protocol.specs.World.{World, accepted, sector_record}
 use Rattle.shared_disk.specs.Records.{IsThere}
 use Rattle.shared_disk.specs.declared.store.Record.{Record}
 use Rattle.pair_check.specs.declared.verdict.Verdict.{Verdict}
 use Rattle.pair_check.specs.declared.verdict.Verdict.TheVariants.{Same, Differs}
-
--- a terminal has accepted the output, or all of it but at most its last sixteen bytes
-pub record IsFront (accepted output : List ℕ) : Type 0 where
-  pub missing : List ℕ
-  pub all : output ≡ accepted ++ missing
-  pub few : length missing ≤ 16
 
 -- no input says that the write of this number is done
 abbrev pub IsUndone : List Timed → ℕ → Type 0
@@ -46,10 +41,11 @@ pub record Deeds : Type 0 where
   pub sector : SectorAddress → List ℕ
   pub settled : List Timed
 
--- the pair has done the same as a machine of this many drives with this output at each port, these writes and this disk
+-- the pair has done the same as a machine of this many drives with this output at each port, these writes and this disk:
+-- each terminal has accepted the output, or all of it but at most its last sixteen bytes
 pub record IsAlike (drives : ℕ) (d : Deeds) (output : ℕ → List ℕ) (writes : List SectorWrite)
     (image : SectorAddress → List ℕ) : Type 0 where
-  pub outputs : (port : ℕ) → port < 2 → IsFront (d.accepted port) (output port)
+  pub outputs : (port : ℕ) → port < 2 → IsAllBut 16 (d.accepted port) (output port)
   pub disk : (address : SectorAddress) → IsTrue (has_sector drives address)
       → MayHave (image address) writes d.settled address (d.sector address)
 

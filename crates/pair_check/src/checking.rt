@@ -6,15 +6,16 @@ ghost use Rattle.guest_board.specs.Guest.{altair};
 ghost use Rattle.i8080_words.specs.declared.refusal.Fault.TheVariants.{OutOfMemory};
 ghost use Rattle.plain_single.specs.Alone.{output_of};
 ghost use Rattle.plain_single.specs.Image.{boot_sectors, sector_at};
+ghost use Rattle.pair_protocol.specs.Faithful.{IsAllBut};
 ghost use Rattle.pair_protocol.specs.World.{accepted};
 ghost use Rattle.ft_world.specs.Applies.{Shows};
 ghost use Rattle.ft_world.specs.Standing.{Course, machine_of};
-ghost use Rattle.pair_check.specs.Comparing.{IsAnswer, IsFront, IsVerdictOn, deeds_of};
+ghost use Rattle.pair_check.specs.Comparing.{IsAnswer, IsVerdictOn, deeds_of};
 ghost use Rattle.pair_check.specs.Disks.{records_in, over_records};
 ghost use Rattle.pair_check.specs.Sectors.{EachOf, IsBad, IsGood, SomeOf, Tells, address_at};
 
 use crate::disk::{Disk, sector_of};
-use crate::judging::{is_front, may_have, never_fall};
+use crate::judging::{WINDOW, is_all_but, may_have, never_fall};
 use crate::verdict::Verdict;
 use clone_state::Copies;
 use disk_dcdd::{SECTORS, SectorAddress, SectorWrite, TRACKS};
@@ -79,9 +80,10 @@ fn is_alike<B: Copies<H> + Drop, H: Drop>(
 // Whether each terminal has accepted what the machine has sent, or all but the end of it.
 fn has_output<B: Copies<H> + Drop, H: Drop>(world: &World<B, Disk, H>, single: &Single) -> bool
     ensures { (c : Course B.State) → Shows B.state B.copied B.machine records_in world.now c
-        → IsTrue result ↔ ((port : ℕ) → port < 2 → IsFront (accepted c.world port) (output_of single.now port)) }
+        → IsTrue result ↔ ((port : ℕ) → port < 2 → IsAllBut 16 (accepted c.world port) (output_of single.now port)) }
 {
-    is_front(world.accepted(0), single.outputs(0)) && is_front(world.accepted(1), single.outputs(1))
+    is_all_but(WINDOW, world.accepted(0), single.outputs(0))
+        && is_all_but(WINDOW, world.accepted(1), single.outputs(1))
 }
 
 // Whether each sector has what the machine's disk has, or what an outstanding write brings.

@@ -1,6 +1,7 @@
 //! What terminals and sectors may have, by the run of one never-failing machine.
 ghost use Rattle.std.specs.Prelude.{◌↔◌, Any, IsTrue};
-ghost use Rattle.pair_check.specs.Comparing.{Brings, IsFront, IsUndone, MayHave};
+ghost use Rattle.pair_protocol.specs.Faithful.{IsAllBut};
+ghost use Rattle.pair_check.specs.Comparing.{Brings, IsUndone, MayHave};
 ghost use Rattle.plain_single.specs.Image.{sector_at};
 ghost use Rattle.plain_single.specs.Reaching.{NeverFall};
 
@@ -8,8 +9,8 @@ use disk_dcdd::{SECTOR_BYTES, SectorAddress, SectorWrite};
 use guest_trace::{Bare, Timed};
 use plain_single::Single;
 
-// How many bytes of a port its terminal may not have accepted yet.
-const WINDOW: usize = 16;
+/// How many bytes of a port its terminal may not have accepted yet: as many as the port's transmitter holds.
+pub const WINDOW: usize = serial_2sio::WINDOW as usize;
 
 /// Whether the counts of the inputs never fall.
 pub fn never_fall(inputs: &[Timed]) -> bool
@@ -25,17 +26,18 @@ pub fn never_fall(inputs: &[Timed]) -> bool
     true
 }
 
-/// Whether a terminal has accepted the output, or all of it but the bytes of a window.
-pub fn is_front(accepted: &[u8], output: &[u8]) -> bool
-    ensures { IsTrue result ↔ IsFront accepted.now output.now }
+/// Whether a terminal has accepted the output of a port, or all of it but at most its last `window` bytes.
+pub fn is_all_but(window: usize, accepted: &[u8], output: &[u8]) -> bool
+    ensures { IsTrue result ↔ IsAllBut window accepted.now output.now }
 {
     match output.strip_prefix(accepted) {
-        Some(missing) => missing.len() <= WINDOW,
+        Some(missing) => missing.len() <= window,
         None => false,
     }
 }
 
-/// Whether a sector may have these bytes after the machine has run from these inputs.
+/// Whether a sector may have these bytes after the machine has run from these inputs: those of the machine's own disk, or
+/// those of a write that no input says is done.
 pub fn may_have(
     single: &Single,
     inputs: &[Timed],

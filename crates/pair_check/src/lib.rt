@@ -8,4 +8,5 @@ mod verdict;
 
 pub use checking::compare;
 pub use disk::{Disk, sector_of};
+pub use judging::{WINDOW, is_all_but, may_have, never_fall};
 pub use verdict::Verdict;

@@ -102,7 +102,7 @@ abbrev pub MovesSome : {S : Type 0} → Machine S → Node S → ℕ → ℕ →
 MovesSome M x turns made =
     (1 ≤ made) ⊎ (turns ≡ 0) ⊎ (x.replayed ≡ length x.held) ⊎ (is_none (wanted M x) ≡ false)
 
--- why a node that was to make so many moves made so many: nothing is left, it waits for bytes, all were made, or a step
+-- why a node that was to make `turns` moves made `made` of them: nothing is left, it waits for bytes, all were made, or a step
 -- ran out of memory
 abbrev pub replay_end : {S : Type 0} → Machine S → Node S → ℕ → ℕ → ReplayEnd
 replay_end M y turns made =

@@ -46,7 +46,7 @@ two_names i j = go (same_name i j) refl
 
 -- ---- the last step that gave what is outstanding
 
--- the note of an operation that the moves gave, after so many entries
+-- the note of an operation that the moves gave, after this many entries
 pub record Noted (log : List Entry) (count : ℕ) (moves : List Move) (o : Operation) (note : Option Note) : Type 0 where
   pub front : List Move
   pub rest : List Move

@@ -133,7 +133,7 @@ abbrev pub counted_at : ℕ → Knowledge → ℕ
 counted_at zero k = k.primary.counted0
 counted_at (suc port) k = k.primary.counted1
 
--- at the moment of the step so many bytes of the port were accepted
+-- at the moment of the step this many bytes of the port were accepted
 abbrev pub WasAccepted : ℕ → Knowledge → ℕ → Type 0
 WasAccepted port own r = (all : Knowledge) × Moment Primary own all × (r ≡ accepted_at port all)
 

@@ -67,8 +67,8 @@ pub record MayAppend (k : Knowledge) : Type 0 where
   pub room : length k.primary.list < k.primary.seen + 256
 
 -- what a primary was told of the input that its list then ends with: the keys of the list are the first of those typed;
--- so many bytes are counted; the disk has answered, and the sector is the one under the head. Threads log their sectors
--- with the bytes, so none is told of a read
+-- the bytes that it says are accepted are counted; the disk has answered, and the sector is the one under the head. Threads
+-- log their sectors with the bytes, so none is told of a read
 abbrev pub IsTold : {S : Type 0} → Machine S → List ℕ → List ℕ → Knowledge → S → Entry → Type 0
 IsTold M typed0 typed1 k s (Mark count) = Unit {0}
 IsTold M typed0 typed1 k s (Rx count port byte) =

@@ -151,7 +151,7 @@ IsSentBy list helds (Released o) = Unit {0}
 IsSentBy list helds (WriteDone n) = Unit {0}
 IsSentBy list helds (SectorRead address n bytes) = Unit {0}
 
--- a step of the moves gave the operation, and so many entries are acknowledged that its mark is one of them
+-- a step of the moves gave the operation, and its mark is one of the entries that are acknowledged
 pub record IsAcknowledged (moves : List Move) (seen : ℕ) (o : Operation) : Type 0 where
   pub front : List Move
   pub rest : List Move

@@ -14,13 +14,13 @@ use Rattle.ft_world.specs.Running.{Running}
 use Rattle.ft_world.specs.Standing.{machine_of}
 use Rattle.pair_check.specs.Disks.{Disk, records_in}
 
--- a pair, and spare hosts that came after it, up to so many hosts
+-- a pair, and spare hosts that came after it, up to this many hosts
 pub data HostsCome {S : Type 0} (M : Machine S) (w : World S) : ℕ → World S → Type 0 where
   Pair : HostsCome M w 2 w
   Spare : {hosts : ℕ} {v : World S} → HostsCome M w hosts v → HostsCome M w (hosts + 1) (with_host M v)
 
--- What is shown once a pair has booted: the world that it begins with, whose log carries sectors so, and so many hosts. Its
--- disk has these sectors, and nothing is written on it.
+-- What is shown once a pair has booted: the world that it begins with, whose log carries sectors like this, and this many
+-- hosts. Its disk has these sectors, and nothing is written on it.
 pub record IsBooted {B H S : Type 0} (state : B → S) (copied : B → Guest) (M : Machine S) (C : Copying S) (reads : Reads) (boot : S)
     (drives hosts : ℕ) (sectors : List SectorWrite) (v : Running B H Disk) : Type 0 where
   pub store : List Record

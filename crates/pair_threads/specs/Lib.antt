@@ -1,5 +1,6 @@
 pub mod Turns
 pub mod Served
+pub mod Fates
 pub mod Screens
 pub mod Stores
 pub mod Repeating

@@ -1,5 +1,9 @@
 //! The link's worker: it carries packets, loses them, and brings them twice.
-ghost use Rattle.std.specs.Prelude.{◌≡◌, IsTrue};
+ghost use Rattle.std.specs.Prelude.{◌≡◌, ◌<◌, ◌^◌, IsTrue, Some};
+ghost use Rattle.pair_rule.specs.Seats.{swaps_at};
+ghost use Rattle.pair_rule.specs.declared.mailbox.Mailbox.TheVariants.{Inbox};
+ghost use Rattle.pair_rule.specs.declared.payload.Packet.{Packet};
+ghost use Rattle.pair_threads.specs.Fates.{IsDealtWith, fate_at};
 
 use crate::signals::Told;
 use crate::worker::{Turn, Worker};
@@ -39,14 +43,34 @@ impl LinkWorker {
             fate: None,
         }
     }
+
+    // Does with the packet in the seat's hand what its fate says.
+    fn deal(&mut self, fabric: &Fabric, fate: Fate)
+        requires table { self.old.seat.table ≡ fabric.now }
+        requires few { swaps_at self.old.seat.core.fills Inbox < 2 ^ 40 }
+        ensures table { self.new.seat.table ≡ self.old.seat.table }
+        ensures dealt { (p : Packet) → self.old.seat.hand ≡ Some p
+            → IsDealtWith fate p self.old.seat self.new.seat self.new.fate }
+    {
+        self.fate = None;
+        match fate {
+            Fate::Pass => self.seat.carry_in(fabric, false),
+            Fate::Drop => self.seat.discard(fabric),
+            Fate::Twice => {
+                self.seat.carry_in(fabric, true);
+                self.fate = Some(Fate::Pass);
+            }
+        }
+    }
 }
 
-// The fate of a packet.
-fn fate_of(fates: &[Fate], packet: usize) -> Fate {
-    match fates.get(packet).or(fates.last()) {
-        Some(fate) => *fate,
-        None => Fate::Pass,
-    }
+// The fate of a packet, by how many were taken out before it.
+fn fate_of(fates: &[Fate], packet: usize) -> Fate
+    ensures { result ≡ fate_at fates.now packet }
+{
+    let own = fates.get(packet).copied();
+    let last = fates.last().copied();
+    own.or(last).unwrap_or(Fate::Pass)
 }
 
 impl Worker for LinkWorker {
@@ -70,15 +94,7 @@ impl Worker for LinkWorker {
             self.packets = self.packets.saturating_add(1);
             return Ok(Turn::Moved);
         };
-        self.fate = None;
-        match fate {
-            Fate::Pass => self.seat.carry_in(fabric, false),
-            Fate::Drop => self.seat.discard(fabric),
-            Fate::Twice => {
-                self.seat.carry_in(fabric, true);
-                self.fate = Some(Fate::Pass);
-            }
-        }
+        self.deal(fabric, fate);
         Ok(Turn::Moved)
     }
 

@@ -22,7 +22,7 @@ pub struct Cast {
 }
 
 impl Cast {
-    /// The cast of a world with so many hosts.
+    /// The cast of a world with this many hosts.
     pub fn of<B: Copies<H> + Drop, H: Drop>(world: &World<B, Disk, H>, hosts: u64) -> Cast {
         let mut cast = Cast {
             hosts,

@@ -38,7 +38,7 @@ impl Chance {
         first.saturating_add(self.below(many))
     }
 
-    /// Whether this happens, which happens in so many of 100 cases.
+    /// Whether this happens, which happens in `percent` of 100 cases.
     pub fn is(&mut self, percent: u64) -> bool {
         self.below(100) < percent
     }

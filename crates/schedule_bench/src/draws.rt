@@ -13,7 +13,7 @@ pub fn step(cast: &Cast, turns: u64, chance: &mut Chance) -> Option<Event> {
     Some(Event::Step { node, turns })
 }
 
-// Some turns, seldom none or all of so many.
+// Some turns, `most` at most: seldom none, or all of them.
 fn some_turns(most: u64, chance: &mut Chance) -> u64 {
     match chance.below(10) {
         0 => chance.below(4),

@@ -27,7 +27,7 @@ use std::alloc::Global;
 use std::env;
 use tally::Tally;
 
-// Pairs, one after another, until there were so many events. Returns the event after which one differed.
+// Pairs, one after another, until there were this many events. Returns the event after which one differed.
 fn run(alloc: Global, seed: u64, events: u64, tally: &mut Tally) -> Result<Option<Event>> {
     let mut chance = Chance::new(seed);
     for _ in 0..events {

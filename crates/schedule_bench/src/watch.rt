@@ -5,12 +5,12 @@ ghost use Rattle.schedule_bench.specs.Judging.{tells};
 use i8080_words::{Fault, R};
 use pair_events::{Event, Reply};
 
-// After so many events a pair is compared in any case.
+// After this many events a pair is compared in any case.
 const MOST_EVENTS: u64 = 5;
 
-/// How many events came since a comparison, and how many comparisons there were. A comparison reads the whole disk; so
-/// that a device fails at an event, none is made after this many, until the device has failed or so many events have
-/// come.
+/// How many events came since a comparison, and how many comparisons there were. A comparison reads the whole disk. So
+/// that a device fails at an event and not in a comparison, none is made after `pause` comparisons, until the device has
+/// failed or `patience` events have come.
 #[derive(Clone, Copy)]
 pub struct Watch {
     events: u64,
@@ -20,7 +20,7 @@ pub struct Watch {
 }
 
 impl Watch {
-    /// A pair that is compared at once, and pauses after so many comparisons for at most so many events.
+    /// A pair that is compared at once, and pauses after `pause` comparisons, for `patience` events at most.
     pub fn new(pause: u64, patience: u64) -> Watch {
         Watch {
             events: 0,

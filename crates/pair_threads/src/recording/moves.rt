@@ -35,7 +35,7 @@ impl<B: Lockstep> Recording<B> {
         }
     }
 
-    /// Executes at most so many steps, up to the first that gives an operation, whose mark then waits. Whether it has
+    /// Executes `steps` steps at most, up to the first that gives an operation, whose mark then waits. Whether it has
     /// made one. `OutOfMemory`, and `Spent` if a number is at its greatest.
     #[tactic(auto, using(crate::proofs::Leading::made_all, crate::proofs::Leading::stopped_there, crate::proofs::Leading::gave_one, crate::proofs::Leading::idles_there, crate::proofs::Telling::says_mark))]
     pub(crate) fn run(&mut self, steps: u64) -> R<bool>

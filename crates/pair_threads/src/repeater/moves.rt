@@ -40,7 +40,7 @@ impl<B: Lockstep> Repeater<B> {
         self.list.push_reserved(entry);
     }
 
-    /// Makes at most so many steps towards the next entry, or that entry's move. `Stalled` if it cannot.
+    /// Makes `steps` steps at most towards the next entry, or that entry's move. `Stalled` if it cannot.
     pub(crate) fn replay(&mut self, steps: u64) -> R<()>
         ensures list { self.new.list ≡ self.old.list }
         ensures goes_on { OnOk result (GoesOn B.state B.machine self.old self.new) }
