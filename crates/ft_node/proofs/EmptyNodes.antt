@@ -10,36 +10,15 @@ use Rattle.i8080_words.specs.declared.refusal.Fault.{Fault}
 use Rattle.log_entry.specs.Standing.{IsOnTrace}
 use Rattle.log_entry.specs.declared.entry.Entry.{Entry}
 use Rattle.pair_protocol.specs.Copying.{no_copies}
-use Rattle.pair_protocol.specs.Node.{Node, Role, halts, wins}
+use Rattle.pair_protocol.specs.Node.{Node, Role, blank, halts, wins}
 use Rattle.ft_node.specs.Calls as calls
 use Rattle.ft_node.specs.Seats.{IsNode, MayReplay}
 use Rattle.ft_node.specs.declared.node.Node as code
 use Rattle.ft_node.specs.declared.node.Node.TheVariants as seat
 
--- a node of the protocol that begins with this guest
-abbrev pub begun : {S : Type 0} → Role → ℕ → Reads → S → Node S
-begun role generation reads s = record {
-  role = role;
-  running = true;
-  generation = generation;
-  reads = reads;
-  machine = s;
-  list = [];
-  copy = [];
-  start = 0;
-  held = [];
-  replayed = 0;
-  fetched = None;
-  log = [];
-  covered = 0;
-  reported = 0;
-  notes = [];
-  image = None;
-  parts = [];
-}
-
+-- such a node begins
 pub begins : {S : Type 0} (M : Machine S) (role : Role) (generation : ℕ) (reads : Reads) (s : S)
-    → calls.Begins M role generation reads s (begun role generation reads s)
+    → calls.Begins M role generation reads s (blank role generation reads s)
 begins M role generation reads s = record {
   role_is = refl;
   up = refl;

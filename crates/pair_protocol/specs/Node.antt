@@ -91,14 +91,14 @@ won_role Spare = Spare
 
 -- ---- nodes as they begin
 
--- a node at boot, in generation 1
-abbrev pub first_node : {S : Type 0} → Machine S → Reads → Role → Node S
-first_node M reads role = record {
+-- a node that has taken no input yet, and holds and has logged no entry
+abbrev pub blank : {S : Type 0} → Role → ℕ → Reads → S → Node S
+blank role generation reads s = record {
   role = role;
   running = true;
-  generation = 1;
+  generation = generation;
   reads = reads;
-  machine = M.boot;
+  machine = s;
   list = [];
   copy = [];
   start = 0;
@@ -112,70 +112,29 @@ first_node M reads role = record {
   image = None;
   parts = [];
 }
+
+-- a node at boot, in generation 1
+abbrev pub first_node : {S : Type 0} → Machine S → Reads → Role → Node S
+first_node M reads role = blank role 1 reads M.boot
 
 -- a host that has just come
 abbrev pub spare : {S : Type 0} → Machine S → Node S
-spare M = record {
-  role = Spare;
-  running = true;
-  generation = 0;
-  reads = Logged;
-  machine = M.boot;
-  list = [];
-  copy = [];
-  start = 0;
-  held = [];
-  replayed = 0;
-  fetched = None;
-  log = [];
-  covered = 0;
-  reported = 0;
-  notes = [];
-  image = None;
-  parts = [];
-}
+spare M = blank Spare 0 Logged M.boot
 
 -- an alone node begins the next generation as its primary, with an empty log and an image of itself
 abbrev pub begun : {S : Type 0} → Machine S → Node S → Node S
-begun M x = record {
-  role = Primary;
-  running = true;
-  generation = suc x.generation;
-  reads = x.reads;
-  machine = x.machine;
+begun M x = record (blank Primary (suc x.generation) x.reads x.machine) {
   list = x.list;
   copy = x.list;
   start = M.count x.machine;
-  held = [];
-  replayed = 0;
-  fetched = None;
-  log = [];
-  covered = 0;
-  reported = 0;
-  notes = [];
   image = Some x.machine;
-  parts = [];
 }
 
 -- and a host joins it, with no part of the image yet
 abbrev pub joiner : {S : Type 0} → Machine S → Copying S → Node S → Node S
-joiner M C x = record {
-  role = Joining;
-  running = true;
-  generation = suc x.generation;
-  reads = x.reads;
-  machine = M.boot;
-  list = [];
+joiner M C x = record (blank Joining (suc x.generation) x.reads M.boot) {
   copy = x.list;
   start = M.count x.machine;
-  held = [];
-  replayed = 0;
-  fetched = None;
-  log = [];
-  covered = 0;
-  reported = 0;
-  notes = [];
-  image = None;
   parts = replicate C.part_count None;
 }
 

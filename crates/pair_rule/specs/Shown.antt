@@ -13,7 +13,7 @@ use Rattle.pair_protocol.specs.Lawful.{Among, IsDone}
 use Rattle.pair_protocol.specs.Copying.{Copying}
 use Rattle.pair_protocol.specs.Event.{Event, Reply}
 use Rattle.pair_protocol.specs.Row.{Row}
-use Rattle.pair_protocol.specs.Node.{Node, Note, Role, Primary, Backup, Draining, Alone, notes_after}
+use Rattle.pair_protocol.specs.Node.{Node, Note, Role, Primary, Backup, Draining, Alone, blank, notes_after}
 use Rattle.pair_protocol.specs.World.{World, Message, LogEntry, Acknowledgement, ImagePart, Released, WriteDone, SectorRead, Terminal, Arrival, Winner}
 use Rattle.pair_rule.specs.declared.payload.DiskAnswer.TheVariants.{Written, Read}
 use Rattle.disk_dcdd.specs.declared.sector.SectorWrite.{SectorWrite}
@@ -77,45 +77,18 @@ backup_runs _ = true
 
 -- the primary has the list, stands at its last count, and is covered as far as it has seen; the backup holds its list
 abbrev pub primary_node : {S : Type 0} → Visible → List Move → S → Node S
-primary_node v moves s = record {
-  role = primary_role v.winner;
+primary_node v moves s = record (blank (primary_role v.winner) 1 Logged s) {
   running = primary_runs v.winner;
-  generation = 1;
-  reads = Logged;
-  machine = s;
   list = inputs_of v.list;
-  copy = [];
-  start = 0;
-  held = [];
-  replayed = 0;
-  fetched = None;
   log = v.list;
   covered = v.seen;
-  reported = 0;
   notes = notes_from 0 [] [] moves;
-  image = None;
-  parts = [];
 }
 
 abbrev pub backup_node : {S : Type 0} → Machine S → Visible → Node S
-backup_node M v = record {
-  role = backup_role v.backup.winner;
+backup_node M v = record (blank (backup_role v.backup.winner) 1 Logged M.boot) {
   running = backup_runs v.backup.winner;
-  generation = 1;
-  reads = Logged;
-  machine = M.boot;
-  list = [];
-  copy = [];
-  start = 0;
   held = v.backup.list;
-  replayed = 0;
-  fetched = None;
-  log = [];
-  covered = 0;
-  reported = 0;
-  notes = [];
-  image = None;
-  parts = [];
 }
 
 -- ---- what stands beside them

@@ -32,21 +32,36 @@ fn read(number: u64, byte: u8) -> SectorRead {
     }
 }
 
+// What is read at 0/0/5.
+fn gets<D: SectorStore>(rt: &impl Abort, disk: &mut SharedDisk<D>, wanted: R<SectorRead>) {
+    assert_eq!(rt; disk.get(FIVE), wanted);
+}
+
+// What a put comes to.
+fn puts<D: SectorStore>(
+    rt: &impl Abort,
+    disk: &mut SharedDisk<D>,
+    write: &SectorWrite,
+    wanted: R<()>,
+) {
+    assert_eq!(rt; disk.put(write), wanted);
+}
+
 #[test]
 fn a_stale_put_changes_nothing(rt: HostRuntime) -> R<()> {
     let mut store = MemoryStore::new(rt.alloc(), 1)?;
     assert_eq!(rt; store.set_boot(FIVE, [0xe5; SECTOR_BYTES]), Ok(()));
     let mut disk = SharedDisk::new(store);
-    assert_eq!(rt; disk.get(FIVE), Ok(read(0, 0xe5)));
+    gets(&rt, &mut disk, Ok(read(0, 0xe5)));
     for (number, byte) in [(1, 0x01), (2, 0x02), (1, 0x01), (2, 0x03)] {
-        assert_eq!(rt; disk.put(&write(number, byte)), Ok(()));
+        puts(&rt, &mut disk, &write(number, byte), Ok(()));
     }
-    assert_eq!(rt; disk.get(FIVE), Ok(read(2, 0x02)));
+    gets(&rt, &mut disk, Ok(read(2, 0x02)));
     let first = SectorWrite {
         sector: 31,
         ..write(1, 0x04)
     };
-    assert_eq!(rt; disk.put(&first), Ok(()));
+    puts(&rt, &mut disk, &first, Ok(()));
     let thirty_one = SectorAddress { sector: 31, ..FIVE };
     let found = disk.get(thirty_one).unwrap_or(read(9, 0x00));
     assert_eq!(rt; found.number, 1);
@@ -57,9 +72,9 @@ fn a_stale_put_changes_nothing(rt: HostRuntime) -> R<()> {
 fn the_later_of_two_boot_sectors_stands(rt: HostRuntime) -> R<()> {
     let sectors = [write(9, 0x01), write(3, 0xe5)];
     let mut disk = SharedDisk::new(MemoryStore::at_boot(rt.alloc(), 1, &sectors)?);
-    assert_eq!(rt; disk.get(FIVE), Ok(read(0, 0xe5)));
-    assert_eq!(rt; disk.put(&write(1, 0x02)), Ok(()));
-    assert_eq!(rt; disk.get(FIVE), Ok(read(1, 0x02)));
+    gets(&rt, &mut disk, Ok(read(0, 0xe5)));
+    puts(&rt, &mut disk, &write(1, 0x02), Ok(()));
+    gets(&rt, &mut disk, Ok(read(1, 0x02)));
     let other = SectorAddress { sector: 6, ..FIVE };
     let found = disk.get(other).unwrap_or(read(9, 0x01));
     assert_eq!(rt; found.bytes, [0; SECTOR_BYTES]);
@@ -88,7 +103,7 @@ fn only_the_sectors_of_the_drives_are_there(rt: HostRuntime) -> R<()> {
         track: 77,
         ..write(1, 0x01)
     };
-    assert_eq!(rt; disk.put(&outside), Err(Fault::Unknown));
+    puts(&rt, &mut disk, &outside, Err(Fault::Unknown));
     Ok(())
 }
 
@@ -103,10 +118,10 @@ fn a_failed_write_has_not_arrived(rt: HostRuntime) -> R<()> {
     // A put is a read, and then a write.
     for access in [1, 2] {
         let mut disk = failing(&rt, access)?;
-        assert_eq!(rt; disk.put(&write(1, 0x01)), Err(Fault::DeviceFault));
-        assert_eq!(rt; disk.get(FIVE), Ok(read(0, 0x00)));
-        assert_eq!(rt; disk.put(&write(1, 0x01)), Ok(()));
-        assert_eq!(rt; disk.get(FIVE), Ok(read(1, 0x01)));
+        puts(&rt, &mut disk, &write(1, 0x01), Err(Fault::DeviceFault));
+        gets(&rt, &mut disk, Ok(read(0, 0x00)));
+        puts(&rt, &mut disk, &write(1, 0x01), Ok(()));
+        gets(&rt, &mut disk, Ok(read(1, 0x01)));
     }
     Ok(())
 }
@@ -159,9 +174,9 @@ fn a_refused_access_is_not_counted(rt: HostRuntime) -> R<()> {
     };
     let mut disk = failing(&rt, 1)?;
     assert_eq!(rt; disk.get(far), Err(Fault::Unknown));
-    assert_eq!(rt; disk.put(&outside), Err(Fault::Unknown));
-    assert_eq!(rt; disk.get(FIVE), Err(Fault::DeviceFault));
-    assert_eq!(rt; disk.get(FIVE), Ok(read(0, 0x00)));
+    puts(&rt, &mut disk, &outside, Err(Fault::Unknown));
+    gets(&rt, &mut disk, Err(Fault::DeviceFault));
+    gets(&rt, &mut disk, Ok(read(0, 0x00)));
     Ok(())
 }
 

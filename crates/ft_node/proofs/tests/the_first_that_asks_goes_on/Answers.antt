@@ -2,8 +2,8 @@
 use Rattle.std.proofs.Common.{refl}
 use Rattle.guest_board.specs.declared.reads.Reads.TheVariants.{Logged}
 use Rattle.pair_protocol.specs.Copying.{no_copies}
-use Rattle.pair_protocol.specs.Node.{Backup}
-use Rattle.ft_node.proofs.EmptyNodes.{begun, begins, may_replay}
+use Rattle.pair_protocol.specs.Node.{Backup, blank}
+use Rattle.ft_node.proofs.EmptyNodes.{begins, may_replay}
 use Rattle.ft_node.proofs.tests.the_first_that_asks_goes_on.Goals as goal
 
 pub replay-requires : goal.replay-requires
@@ -11,7 +11,7 @@ replay-requires g c = record {
   on_trace =
       let M = g.B.Lockstep.machine in
       let s = g.B.Lockstep.state c.args.second in
-      let x = begun Backup 1 Logged s in
+      let x = blank Backup 1 Logged s in
       may_replay g.B.Lockstep.state M c.backup-backup.result x refl refl
       (c.backup-backup.ensures no_copies 1 x (begins M Backup 1 Logged s));
 }
