@@ -1,7 +1,7 @@
 //! One machine that has run on the inputs of a list, and what a pair has next to it.
 ghost use Rattle.std.specs.Prelude.{◌↔◌, ◌<◌, IsOk};
 ghost use Rattle.pair_protocol.specs.Faithful.{IsAllBut};
-ghost use Rattle.plain_single.specs.Alone.{output_of};
+ghost use Rattle.plain_single.specs.SingleState.{output_of};
 
 use crate::case::Case;
 use crate::difference::Difference;

@@ -10,7 +10,7 @@ use Rattle.disk_dcdd.specs.declared.sector.TheConstants.{SECTORS}
 use Rattle.disk_dcdd.specs.declared.controller.TheConstants.{DRIVES}
 use Rattle.guest_board.specs.Guest.{Guest}
 use Rattle.guest_board.specs.Machine.{Machine}
-use Rattle.plain_single.specs.Alone.{Alone, output_of}
+use Rattle.plain_single.specs.SingleState.{SingleState, output_of}
 use Rattle.plain_single.specs.Image.{IsSector, sector_at}
 use Rattle.guest_trace.specs.Reach.{Reach, output, writes, image}
 use Rattle.plain_single.specs.Reaching.{RunsTo}
@@ -111,7 +111,7 @@ answer_alike drives d records output output' writes writes' image image' false o
     Lacks address is missing
 
 -- a sector that is bad for every world that is shown is bad for one of them
-pub some_bad : {B H S : Type 0} (state : B → S) (copied : B → Guest) (M : Machine S) (v : Running B H (List Record)) (single : Alone)
+pub some_bad : {B H S : Type 0} (state : B → S) (copied : B → Guest) (M : Machine S) (v : Running B H (List Record)) (single : SingleState)
     (settled : List Timed) (drives : ℕ) (c : Course S) → Shows state copied M (λ records. records) v c
     → SomeOf drives (λ drive. SomeOf TRACKS (λ track. SomeOf SECTORS
     (λ sector. IsBad state copied M v single settled (address_at drive track sector))))
@@ -137,7 +137,7 @@ is_sector drives few address on =
     record { drive = omega arith; place = parts.0 }
 
 -- the verdict of a machine that runs to the count
-pub verdict_of : (M : Machine Guest) (drives : ℕ) (d : Deeds) (records : List Record) (count : ℕ) (a : Alone)
+pub verdict_of : (M : Machine Guest) (drives : ℕ) (d : Deeds) (records : List Record) (count : ℕ) (a : SingleState)
     (answer : Bool) → drives ≤ DRIVES → RunsTo M d.settled count a
     → IsAnswer drives d records (output_of a) a.behind.writes (sector_at a.disk) answer
     → IsVerdict M drives d records count (if answer then Same count else Differs)

@@ -3,7 +3,7 @@ use Rattle.guest_board.specs.Guest.{Guest}
 use Rattle.std.specs.Prelude.{◌≡◌, ℕ, ◌<◌, ◌⊎◌, Bool, false, IsTrue, List}
 use Rattle.disk_dcdd.specs.declared.address.SectorAddress.{SectorAddress}
 use Rattle.guest_board.specs.Machine.{Machine}
-use Rattle.plain_single.specs.Alone.{Alone}
+use Rattle.plain_single.specs.SingleState.{SingleState}
 use Rattle.plain_single.specs.Image.{sector_at}
 use Rattle.guest_trace.specs.declared.timed.Timed.{Timed}
 use Rattle.pair_protocol.specs.World.{sector_record}
@@ -19,14 +19,14 @@ abbrev pub address_at : ℕ → ℕ → ℕ → SectorAddress
 address_at drive track sector = record { drive = drive; track = track; sector = sector }
 
 -- a sector of the world may have the bytes that it has
-abbrev pub IsGood : {B H S : Type 0} → (B → S) → (B → Guest) → Machine S → Running B H (List Record) → Alone → List Timed
+abbrev pub IsGood : {B H S : Type 0} → (B → S) → (B → Guest) → Machine S → Running B H (List Record) → SingleState → List Timed
     → SectorAddress → Type 0
 IsGood {S = S} state copied M v single settled address = (c : Course S) → Shows state copied M (λ records. records) v c
     → MayHave (sector_at single.disk address) single.behind.writes settled address
     (sector_record (machine_of M c) c.world.puts address).bytes
 
 -- it may not, or the disk has no such sector
-abbrev pub IsBad : {B H S : Type 0} → (B → S) → (B → Guest) → Machine S → Running B H (List Record) → Alone → List Timed
+abbrev pub IsBad : {B H S : Type 0} → (B → S) → (B → Guest) → Machine S → Running B H (List Record) → SingleState → List Timed
     → SectorAddress → Type 0
 IsBad {S = S} state copied M v single settled address = (IsThere v.disk address → ⊥)
     ⊎ ((c : Course S) → Shows state copied M (λ records. records) v c

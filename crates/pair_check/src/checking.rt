@@ -4,7 +4,7 @@ ghost use Rattle.disk_dcdd.specs.declared.drive.TheConstants.{TRACKS};
 ghost use Rattle.disk_dcdd.specs.declared.sector.TheConstants.{SECTORS};
 ghost use Rattle.guest_board.specs.Guest.{altair};
 ghost use Rattle.i8080_words.specs.declared.refusal.Fault.TheVariants.{OutOfMemory};
-ghost use Rattle.plain_single.specs.Alone.{output_of};
+ghost use Rattle.plain_single.specs.SingleState.{output_of};
 ghost use Rattle.plain_single.specs.Image.{boot_sectors, sector_at};
 ghost use Rattle.pair_protocol.specs.Faithful.{IsAllBut};
 ghost use Rattle.pair_protocol.specs.World.{accepted};

@@ -95,7 +95,7 @@ does_deliver_acknowledgement M C w m n r new p d =
     (d.message ∙ ap (λ z. Some (Acknowledgement z d.held d.replayed)) g))
 
 pub does_replay : {S : Type 0} (M : Machine S) (C : Copying S) (w : World S) (n turns : ℕ) (r : Reply) (new : World S) →
-    refusal M C w (Replay n turns) ≡ None → row.Replaying M w n turns r new → Changes M C w new
+    refusal M C w (Replay n turns) ≡ None → row.ReplaysHeld M w n turns r new → Changes M C w new
 does_replay M C w n turns r new p d =
     let x = d.at.x in
     let q = (node-passed (slice_get w.nodes n) x replay_refusal d.at.there p).1 in

@@ -92,7 +92,7 @@ pub record DeliversAcknowledgement {S : Type 0} (w : World S) (m n : ℕ) (r : R
   pub at : AtNode w n (Heard held replayed covered) new
   pub reply : r ≡ HeldIs covered
 
-pub record Replaying {S : Type 0} (M : Machine S) (w : World S) (n turns : ℕ) (r : Reply) (new : World S) : Type 0 where
+pub record ReplaysHeld {S : Type 0} (M : Machine S) (w : World S) (n turns : ℕ) (r : Reply) (new : World S) : Type 0 where
   pub made : ℕ
   pub why : ReplayEnd
   pub at : AtNode w n (Replayed M turns made why) new
@@ -222,7 +222,7 @@ Does M C w (Send n index) r new = Sends w n index r new
 Does M C w (DeliverLog m n) r new = DeliversLog w m n r new
 Does M C w (Acknowledge n) r new = Acknowledges w n r new
 Does M C w (DeliverAcknowledgement m n) r new = DeliversAcknowledgement w m n r new
-Does M C w (Replay n turns) r new = Replaying M w n turns r new
+Does M C w (Replay n turns) r new = ReplaysHeld M w n turns r new
 Does M C w (Release n name) r new = Releases M w n name r new
 Does M C w (Arrive m) r new = Arrives w m r new
 Does M C w (TellSent n port number) r new = Takes M w n (input.Sent port) r new

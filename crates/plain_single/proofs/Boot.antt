@@ -4,12 +4,12 @@ use Rattle.i8080_words.specs.Steps.{at_reset}
 use Rattle.disk_dcdd.specs.declared.address.SectorAddress.{SectorAddress}
 use Rattle.guest_board.specs.Guest.{altair, guest_at_boot}
 use Rattle.guest_board.specs.declared.setup.Setup.{Setup}
-use Rattle.plain_single.specs.Alone.{Alone}
+use Rattle.plain_single.specs.SingleState.{SingleState}
 use Rattle.plain_single.specs.Behind.{behind_at_boot}
 use Rattle.plain_single.specs.Image.{IsSector, sector_at}
 use Rattle.plain_single.specs.Reaching.{IsAtBoot, StandsAt}
 
-pub at_boot : (setup : Setup) (sectors : SectorAddress → List ℕ) (a : Alone)
+pub at_boot : (setup : Setup) (sectors : SectorAddress → List ℕ) (a : SingleState)
     → a.processor ≡ at_reset → a.behind ≡ behind_at_boot setup → a.count ≡ 0 → a.levels ≡ setup.levels
     → ((address : SectorAddress) → IsSector address → sector_at a.disk address ≡ sectors address)
     → IsAtBoot (altair setup sectors) a
@@ -22,7 +22,7 @@ at_boot setup sectors a p b n l d = record {
 }
 
 -- such a machine is at the end of the trace of no moves
-pub at_first : (setup : Setup) (sectors : SectorAddress → List ℕ) (a : Alone)
+pub at_first : (setup : Setup) (sectors : SectorAddress → List ℕ) (a : SingleState)
     → IsAtBoot (altair setup sectors) a → StandsAt (altair setup sectors) [] a
 at_first setup sectors a x = record {
   moves = [];

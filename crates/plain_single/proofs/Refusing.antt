@@ -20,7 +20,7 @@ use Rattle.guest_board.specs.Machine.{Machine}
 use Rattle.guest_board.specs.declared.input.Input.{Input}
 use Rattle.guest_board.specs.declared.input.Input.TheVariants as input
 use Rattle.guest_board.specs.declared.setup.Setup.{Setup}
-use Rattle.plain_single.specs.Alone.{Alone, guest_with, input_refusal, may_take_key, may_accept}
+use Rattle.plain_single.specs.SingleState.{SingleState, guest_with, input_refusal, may_take_key, may_accept}
 use Rattle.plain_single.specs.Behind.{devices_of}
 use Rattle.guest_trace.specs.Reach.{bare}
 use Rattle.plain_single.specs.Reaching.{StandsAt, IsRefused, MeetsRefused, Fails, FailsBefore, refusal_at}
@@ -66,7 +66,7 @@ not_written : (b : Bool) (f : Fault) → (if b then None else Some faults.NotDue
 not_written true f e = absurd (cc)
 not_written false f e = (refl, cc)
 
-none_for : (a : Alone) (o : Operations) (c : List ℕ) (i : Input) (f : Fault)
+none_for : (a : SingleState) (o : Operations) (c : List ℕ) (i : Input) (f : Fault)
     → input_refusal a (bare i) ≡ Some f → take_from (guest_with a o c) i ≡ None
 none_for a o c (input.Rx port byte) f e =
     where_false (guest.may_take_key (guest_with a o c) port) _
@@ -82,7 +82,7 @@ none_for a o c (input.Written number) f e =
     where_false (completion.is_outstanding a.behind.disk number) _
     (not_written (completion.is_outstanding a.behind.disk number) f e).0
 
-why_refused : (setup : Setup) (sectors : SectorAddress → List ℕ) (a : Alone)
+why_refused : (setup : Setup) (sectors : SectorAddress → List ℕ) (a : SingleState)
     (o : Operations) (c : List ℕ) (b : Bare) (f : Fault)
     → input_refusal a b ≡ Some f → f ≡ refusal_at (altair setup sectors) (guest_with a o c) b
 why_refused setup sectors a o c (Rx port byte) f e = (not_due (may_take_key a.behind port) f e).1
@@ -94,7 +94,7 @@ why_refused setup sectors a o c (Sector drive sector) f e =
 why_refused setup sectors a o c (Written number) f e =
     (not_written (completion.is_outstanding a.behind.disk number) f e).1
 
-refuses : (setup : Setup) (sectors : SectorAddress → List ℕ) (a : Alone)
+refuses : (setup : Setup) (sectors : SectorAddress → List ℕ) (a : SingleState)
     (o : Operations) (c : List ℕ) (b : Bare) (f : Fault)
     → input_refusal a b ≡ Some f → IsRefused (altair setup sectors) (guest_with a o c) b f
 refuses setup sectors a o c b f e = record {
@@ -122,7 +122,7 @@ meets : (M : Machine Guest) (list : List Timed) (count : ℕ) (f : Fault) → (f
 meets M list count f (inl e) x = subst (Fails M list count) (sym e) (subst (MeetsRefused M list count) e x)
 meets M list count f (inr e) x = subst (Fails M list count) (sym e) (subst (MeetsRefused M list count) e x)
 
-pub fails_by_input : (setup : Setup) (sectors : SectorAddress → List ℕ) (before after : List Timed) (a : Alone) (t : Timed) (count : ℕ) (f : Fault)
+pub fails_by_input : (setup : Setup) (sectors : SectorAddress → List ℕ) (before after : List Timed) (a : SingleState) (t : Timed) (count : ℕ) (f : Fault)
     → StandsAt (altair setup sectors) before a → a.count ≡ t.count → t.count ≤ count → input_refusal a t.input ≡ Some f
     → Fails (altair setup sectors) (before ++ t ∷ after) count f
 fails_by_input setup sectors before after a t count f x at due e =
@@ -143,7 +143,7 @@ fails_by_input setup sectors before after a t count f x at due e =
       refused = r;
     })
 
-pub fails_by_rest : (setup : Setup) (sectors : SectorAddress → List ℕ) (before after : List Timed) (a : Alone) (t : Timed) (count : ℕ)
+pub fails_by_rest : (setup : Setup) (sectors : SectorAddress → List ℕ) (before after : List Timed) (a : SingleState) (t : Timed) (count : ℕ)
     → StandsAt (altair setup sectors) before a → a.count ≡ count → count < t.count
     → Fails (altair setup sectors) (before ++ t ∷ after) count faults.Idle
 fails_by_rest setup sectors before after a t count x at late = inr (record {

@@ -12,7 +12,7 @@ use Rattle.event_callbacks.specs.declared.operations.Operation.TheVariants.{Byte
 use Rattle.guest_board.specs.Guest.{Guest, altair, step_from, next, wired_after, is_spent, is_idle}
 use Rattle.guest_board.specs.Machine.{Machine, Do}
 use Rattle.guest_board.specs.declared.setup.Setup.{Setup}
-use Rattle.plain_single.specs.Alone.{Alone, guest_with, guest_of, step_refusal, RefusesStep, after_step}
+use Rattle.plain_single.specs.SingleState.{SingleState, guest_with, guest_of, step_refusal, RefusesStep, after_step}
 use Rattle.plain_single.specs.Behind.{with_byte, with_write}
 use Rattle.guest_trace.specs.Reach.{image_from}
 use Rattle.plain_single.specs.Reaching.{StandsAt, StopsBy, is_spent_at, FailsBefore}
@@ -45,7 +45,7 @@ image_same issued a bytes (Some (Write w)) = refl
 
 -- ---- one more step
 
-pub steps_on : (last : ℕ) (setup : Setup) (sectors : SectorAddress → List ℕ) (list : List Timed) (a : Alone)
+pub steps_on : (last : ℕ) (setup : Setup) (sectors : SectorAddress → List ℕ) (list : List Timed) (a : SingleState)
     → StandsAt (altair setup sectors) list a → step_refusal last a ≡ None
     → StandsAt (altair setup sectors) list (after_step a)
 steps_on last setup sectors list a x e =
@@ -80,7 +80,7 @@ steps_on last setup sectors list a x e =
 -- ---- no more steps
 
 -- the trace ends at the machine's count, if it executes no step there
-stops_at : (setup : Setup) (sectors : SectorAddress → List ℕ) (list : List Timed) (a : Alone) (target last : ℕ) (is_spent : Bool)
+stops_at : (setup : Setup) (sectors : SectorAddress → List ℕ) (list : List Timed) (a : SingleState) (target last : ℕ) (is_spent : Bool)
     → (x : StandsAt (altair setup sectors) list a) → a.count < target → step_from x.reach.last ≡ None
     → is_spent_at (altair setup sectors) last x.reach.last ≡ is_spent
     → StopsBy (altair setup sectors) list target last is_spent
@@ -110,7 +110,7 @@ cases false true true fault e = inr (inl (refl, refl, refl, cc))
 cases false true false fault e = inr (inr (refl, refl, refl, cc))
 cases false false past fault e = absurd (cc)
 
-pub fails_at : (setup : Setup) (sectors : SectorAddress → List ℕ) (list : List Timed) (a : Alone) (target last : ℕ) (fault : Fault)
+pub fails_at : (setup : Setup) (sectors : SectorAddress → List ℕ) (list : List Timed) (a : SingleState) (target last : ℕ) (fault : Fault)
     → StandsAt (altair setup sectors) list a → a.count < target → step_refusal last a ≡ Some fault
     → FailsBefore (altair setup sectors) list target last fault
 fails_at setup sectors list a target last fault x early e =
@@ -134,7 +134,7 @@ fails_at setup sectors list a target last fault x early e =
     ]
 
 -- so it does if a step is refused for any reason but memory, of which nothing is said
-pub refused_step : (setup : Setup) (sectors : SectorAddress → List ℕ) (list : List Timed) (a : Alone) (target last : ℕ) (fault : Fault)
+pub refused_step : (setup : Setup) (sectors : SectorAddress → List ℕ) (list : List Timed) (a : SingleState) (target last : ℕ) (fault : Fault)
     → StandsAt (altair setup sectors) list a → a.count < target → RefusesStep last a fault
     → FailsBefore (altair setup sectors) list target last fault
 refused_step setup sectors list a target last faults.OutOfMemory x early e = tt

@@ -15,7 +15,7 @@ use Rattle.event_callbacks.specs.Operations.{Operations}
 use Rattle.event_callbacks.specs.declared.devices.Devices.{Devices}
 use Rattle.guest_board.specs.Guest.{Guest, step_of, wired, wired_after, with_given, step_from, next, is_spent, is_idle}
 use Rattle.guest_board.specs.Ports.{Wired, device_at, devices_after_in, after_byte, after_serial_data, after_disk_data, after_out, after_access}
-use Rattle.plain_single.specs.Alone.{Alone, guest_with, guest_of, idle_towards, step_refusal, after_step}
+use Rattle.plain_single.specs.SingleState.{SingleState, guest_with, guest_of, idle_towards, step_refusal, after_step}
 
 -- ---- two ports at all times
 
@@ -95,12 +95,12 @@ may_step true idle fault e = absurd (cc)
 may_step false true fault e = absurd (cc)
 may_step false false fault e = refl
 
-wired_two : (a : Alone) → HasTwo (wired_after (guest_of a))
+wired_two : (a : SingleState) → HasTwo (wired_after (guest_of a))
 unfolding wired_after
 wired_two a = accesses_two (step_of (guest_of a)).accesses (wired (guest_of a)) (record { ports = refl; issued = refl })
 
 -- a guest by its ports and what they have sent
-unfoldable built : Processor → Wired → Alone → Operations → List ℕ → List serial.Port → List ℕ → Guest
+unfoldable built : Processor → Wired → SingleState → Operations → List ℕ → List serial.Port → List ℕ → Guest
 built p w a o c ports issued = record {
   processor = p;
   memory = w.memory;
@@ -115,7 +115,7 @@ built p w a o c ports issued = record {
 }
 
 -- the guest after wiring that has two ports
-pub next_is : (a : Alone) (o : Operations) (c : List ℕ)
+pub next_is : (a : SingleState) (o : Operations) (c : List ℕ)
     → guest_with (after_step a) (next (guest_with a o c)).operations (next (guest_with a o c)).completed
     ≡ next (guest_with a o c)
 unfolding step_of wired_after built
@@ -126,7 +126,7 @@ next_is a o c =
     ap (λ ports. built p w a o c ports sent) (both serial.at_boot w.devices.ports (wired_two a).ports)
     ∙ ap (λ issued. built p w a o c w.devices.ports issued) (both 0 w.issued (wired_two a).issued)
 
-pub step_is : (last : ℕ) (a : Alone) (o : Operations) (c : List ℕ) → step_refusal last a ≡ None
+pub step_is : (last : ℕ) (a : SingleState) (o : Operations) (c : List ℕ) → step_refusal last a ≡ None
     → step_from (guest_with a o c) ≡ Some (next (guest_with a o c), (wired_after (guest_of a)).given)
 unfolding step_of wired_after
 step_is last a o c e = rw (may_step (is_spent (guest_of a)) (is_idle (guest_of a)) (idle_towards last) e) refl

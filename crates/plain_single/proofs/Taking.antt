@@ -16,7 +16,7 @@ use Rattle.guest_board.specs.Machine.{Machine, Move, Take}
 use Rattle.guest_board.specs.declared.input.Input.{Input}
 use Rattle.guest_board.specs.declared.input.Input.TheVariants as input
 use Rattle.guest_board.specs.declared.setup.Setup.{Setup}
-use Rattle.plain_single.specs.Alone.{Alone, StandsFor, guest_with, input_refusal, may_take_key, may_accept, address_under, after_taking, disk_after, ReadsSector}
+use Rattle.plain_single.specs.SingleState.{SingleState, StandsFor, guest_with, input_refusal, may_take_key, may_accept, address_under, after_taking, disk_after, ReadsSector}
 use Rattle.plain_single.specs.Behind.{devices_of}
 use Rattle.plain_single.specs.Image.{IsSector, sector_at}
 use Rattle.guest_trace.specs.Reach.{Own, bare, timed, steps, image, image_from, writes}
@@ -44,7 +44,7 @@ neither zeroth first x y e f = rw (e, f) refl
 absent : (below x : Bool) → below ≡ false → (below && x) ≡ false
 absent below x e = rw e refl
 
-pub same_keys : (a : Alone) (o : Operations) (c : List ℕ) (port : ℕ)
+pub same_keys : (a : SingleState) (o : Operations) (c : List ℕ) (port : ℕ)
     → guest.may_take_key (guest_with a o c) port ≡ may_take_key a.behind port
 same_keys a o c zero = refl
 same_keys a o c (suc zero) = refl
@@ -52,7 +52,7 @@ same_keys a o c (suc (suc n)) =
     absent (nat_lt (suc (suc n)) 2) _ (no_port n)
     ∙ sym (neither (suc (suc n) == 0) (suc (suc n) == 1) _ _ (not_zero n) (not_one n))
 
-pub same_accept : (a : Alone) (port : ℕ) → is_due (devices_of a.behind) (done.Sent port) ≡ may_accept a.behind port
+pub same_accept : (a : SingleState) (port : ℕ) → is_due (devices_of a.behind) (done.Sent port) ≡ may_accept a.behind port
 same_accept a zero = refl
 same_accept a (suc zero) = refl
 same_accept a (suc (suc n)) =
@@ -66,7 +66,7 @@ is_taken false e = absurd (cc)
 -- ---- an input that is taken
 
 -- a move of the guest that takes the input with what the disk has, and what stays unchanged
-pub record IsTaken (M : Machine Guest) (moves : List Move) (last : Guest) (a : Alone) (b : Bare)
+pub record IsTaken (M : Machine Guest) (moves : List Move) (last : Guest) (a : SingleState) (b : Bare)
     (disk : List (List ℕ)) : Type 0 where
   pub i : Input
   pub is : bare i ≡ b
@@ -83,7 +83,7 @@ pub record IsTaken (M : Machine Guest) (moves : List Move) (last : Guest) (a : A
 where_true : (b : Bool) (u : Guest) → b ≡ true → (if b then Some u else None) ≡ Some u
 where_true b u e = rw e refl
 
-key_taken : (setup : Setup) (sectors : SectorAddress → List ℕ) (moves : List Move) (a : Alone)
+key_taken : (setup : Setup) (sectors : SectorAddress → List ℕ) (moves : List Move) (a : SingleState)
     (o : Operations) (c : List ℕ) (disk : List (List ℕ))
     (port byte : ℕ) → may_take_key a.behind port ≡ true
     → IsTaken (altair setup sectors) moves (guest_with a o c) a (Rx port byte) disk
@@ -114,7 +114,7 @@ key_taken setup sectors moves a o c disk (suc zero) byte e = record {
 key_taken setup sectors moves a o c disk (suc (suc n)) byte e =
     absurd (false≢true (sym (neither (suc (suc n) == 0) (suc (suc n) == 1) _ _ (not_zero n) (not_one n)) ∙ e))
 
-accept_taken : (setup : Setup) (sectors : SectorAddress → List ℕ) (moves : List Move) (a : Alone)
+accept_taken : (setup : Setup) (sectors : SectorAddress → List ℕ) (moves : List Move) (a : SingleState)
     (o : Operations) (c : List ℕ) (disk : List (List ℕ))
     (port : ℕ) → may_accept a.behind port ≡ true
     → IsTaken (altair setup sectors) moves (guest_with a o c) a (Sent port) disk
@@ -153,7 +153,7 @@ sector_due true true true e = absurd (cc)
 sector_due true false busy e = absurd (cc)
 sector_due false due busy e = absurd (cc)
 
-sector_taken : (setup : Setup) (sectors : SectorAddress → List ℕ) (moves : List Move) (a : Alone)
+sector_taken : (setup : Setup) (sectors : SectorAddress → List ℕ) (moves : List Move) (a : SingleState)
     (o : Operations) (c : List ℕ) (disk : List (List ℕ))
     (drive sector : ℕ) → input_refusal a (Sector drive sector) ≡ None
     → sector_at a.disk (address_under a.behind.disk drive sector)
@@ -181,7 +181,7 @@ is_outstanding : (b : Bool) → (if b then None else Some faults.NotDue) ≡ Non
 is_outstanding true e = refl
 is_outstanding false e = absurd (cc)
 
-written_taken : (setup : Setup) (sectors : SectorAddress → List ℕ) (moves : List Move) (a : Alone)
+written_taken : (setup : Setup) (sectors : SectorAddress → List ℕ) (moves : List Move) (a : SingleState)
     (o : Operations) (c : List ℕ) (disk : List (List ℕ))
     (number : ℕ) → input_refusal a (Written number) ≡ None
     → IsTaken (altair setup sectors) moves (guest_with a o c) a (Written number) disk
@@ -199,7 +199,7 @@ written_taken setup sectors moves a o c disk number e = record {
   image = λ address. refl;
 }
 
-taken : (setup : Setup) (sectors : SectorAddress → List ℕ) (moves : List Move) (a : Alone)
+taken : (setup : Setup) (sectors : SectorAddress → List ℕ) (moves : List Move) (a : SingleState)
     (o : Operations) (c : List ℕ) (disk : List (List ℕ)) (b : Bare)
     → input_refusal a b ≡ None → ReadsSector a b
     → ((address : SectorAddress) → IsSector address → sector_at a.disk address ≡ image (altair setup sectors) moves address)
@@ -221,7 +221,7 @@ with_bare t b = record { count = t.count; input = b }
 same_count : (n m k : ℕ) → n ≡ m → k ≡ m → 0 + n ≡ k
 same_count n m k e h = omega (arith, e, h)
 
-pub takes_on : (setup : Setup) (sectors : SectorAddress → List ℕ) (list : List Timed) (a : Alone) (t : Timed)
+pub takes_on : (setup : Setup) (sectors : SectorAddress → List ℕ) (list : List Timed) (a : SingleState) (t : Timed)
     (disk : List (List ℕ))
     → StandsAt (altair setup sectors) list a → input_refusal a t.input ≡ None → ReadsSector a t.input
     → t.count ≡ a.count

@@ -1,4 +1,4 @@
-pub mod Alone
+pub mod SingleState
 pub mod Awaited
 pub mod Behind
 pub mod Drives

@@ -7,7 +7,7 @@ use Rattle.i8080_words.specs.declared.limits.TheConstants.{GREATEST_NUMBER}
 use Rattle.guest_board.specs.Guest.{Guest}
 use Rattle.guest_board.specs.Machine.{Machine, Move}
 use Rattle.guest_board.specs.declared.input.Input.{Input}
-use Rattle.plain_single.specs.Alone.{Alone, StandsFor}
+use Rattle.plain_single.specs.SingleState.{SingleState, StandsFor}
 use Rattle.plain_single.specs.Image.{IsSector, sector_at}
 use Rattle.guest_trace.specs.Reach.{Reach, bare, output, writes, image}
 use Rattle.guest_trace.specs.declared.timed.Bare.{Bare}
@@ -23,7 +23,7 @@ NeverFall from (t ∷ ts) = (from ≤ t.count) × NeverFall t.count ts
 
 -- the single machine is where moves from boot lead: it stands for the guest there, with what the moves sent, wrote and
 -- put on the disk
-pub record StandsAfter (M : Machine Guest) (moves : List Move) (last : Guest) (a : Alone) : Type 0 where
+pub record StandsAfter (M : Machine Guest) (moves : List Move) (last : Guest) (a : SingleState) : Type 0 where
   pub guest : StandsFor a last
   pub first : a.behind.first.output ≡ output 0 moves
   pub second : a.behind.second.output ≡ output 1 moves
@@ -31,17 +31,17 @@ pub record StandsAfter (M : Machine Guest) (moves : List Move) (last : Guest) (a
   pub disk : (address : SectorAddress) → IsSector address → sector_at a.disk address ≡ image M moves address
 
 -- it is at boot
-abbrev pub IsAtBoot : Machine Guest → Alone → Type 0
+abbrev pub IsAtBoot : Machine Guest → SingleState → Type 0
 IsAtBoot M a = StandsAfter M [] M.boot a
 
 -- it is at the end of the trace with these inputs
-pub record StandsAt (M : Machine Guest) (list : List Timed) (a : Alone) : Type 0 where
+pub record StandsAt (M : Machine Guest) (list : List Timed) (a : SingleState) : Type 0 where
   pub moves : List Move
   pub reach : Reach M list a.count moves
   pub stands : StandsAfter M moves reach.last a
 
 -- and it has reached this count
-pub record RunsTo (M : Machine Guest) (list : List Timed) (count : ℕ) (a : Alone) : Type 0 where
+pub record RunsTo (M : Machine Guest) (list : List Timed) (count : ℕ) (a : SingleState) : Type 0 where
   pub stands : StandsAt M list a
   pub count_is : a.count ≡ count
 

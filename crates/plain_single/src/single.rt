@@ -5,7 +5,7 @@ ghost use Rattle.guest_board.specs.Guest.{altair};
 ghost use Rattle.guest_board.specs.Machine.{Move};
 ghost use Rattle.guest_board.specs.declared.setup.Setup.{Setup};
 ghost use Rattle.i8080_words.specs.declared.refusal.Fault.TheVariants.{OutOfMemory};
-ghost use Rattle.plain_single.specs.Alone.{output_of};
+ghost use Rattle.plain_single.specs.SingleState.{output_of};
 ghost use Rattle.plain_single.specs.Executor.{byte_at};
 ghost use Rattle.plain_single.specs.Image.{boot_sectors, sector_at};
 ghost use Rattle.guest_trace.specs.Reach.{Reach};
@@ -26,11 +26,11 @@ pub struct Single {
 }
 
 impl Model for Single {
-    ghost use Rattle.plain_single.specs.Alone.{Alone, alone_of};
+    ghost use Rattle.plain_single.specs.SingleState.{SingleState, state_of};
 
-    ghost Value = { Alone };
+    ghost Value = { SingleState };
 
-    ghost view = { λ single. alone_of single.machine };
+    ghost view = { λ single. state_of single.machine };
 }
 
 impl Single {

@@ -5,7 +5,7 @@ ghost use Rattle.disk_dcdd.specs.declared.address.SectorAddress.{SectorAddress};
 ghost use Rattle.guest_board.specs.Guest.{altair};
 ghost use Rattle.guest_board.specs.declared.setup.Setup.{Setup};
 ghost use Rattle.i8080_words.specs.Steps.{at_reset};
-ghost use Rattle.plain_single.specs.Alone.{alone_of};
+ghost use Rattle.plain_single.specs.SingleState.{state_of};
 ghost use Rattle.plain_single.specs.Behind.{behind_of, behind_at_boot};
 ghost use Rattle.plain_single.specs.Image.{IsSector, sector_at, boot_sectors};
 ghost use Rattle.plain_single.specs.Reaching.{NeverFall, StandsAt, Fails, FailsBefore};
@@ -48,7 +48,7 @@ impl Machine {
 
     /// A copy of the machine.
     pub(crate) fn copy(&self, alloc: Global) -> R<Self>
-        ensures ok { IfOk result (λ machine. alone_of machine ≡ alone_of self.now) }
+        ensures ok { IfOk result (λ machine. state_of machine ≡ state_of self.now) }
         ensures only_memory { IfErr result (λ fault. fault ≡ OutOfMemory) }
     {
         let disk = self.disk.copy(alloc)?;
@@ -67,11 +67,11 @@ impl Machine {
         requires rising { NeverFall self.old.count inputs.now }
         requires within { self.old.count ≤ last }
         ensures ok { IfOk result (λ _. (setup : Setup) (sectors : SectorAddress → List ℕ)
-            → StandsAt (altair setup sectors) [] (alone_of self.old)
-            → StandsAt (altair setup sectors) inputs.now (alone_of self.new)) }
+            → StandsAt (altair setup sectors) [] (state_of self.old)
+            → StandsAt (altair setup sectors) inputs.now (state_of self.new)) }
         ensures count { IfOk result (λ _. self.new.count ≡ last) }
         ensures refused { IfErr result (λ fault. (setup : Setup) (sectors : SectorAddress → List ℕ)
-            → StandsAt (altair setup sectors) [] (alone_of self.old)
+            → StandsAt (altair setup sectors) [] (state_of self.old)
             → Fails (altair setup sectors) inputs.now last fault) }
     {
         for timed in inputs {
@@ -85,12 +85,12 @@ impl Machine {
         requires rising { self.old.count ≤ timed.count }
         requires within { self.old.count ≤ last }
         ensures ok { IfOk result (λ _. (setup : Setup) (sectors : SectorAddress → List ℕ) (before : List Timed)
-            → StandsAt (altair setup sectors) before (alone_of self.old)
-            → StandsAt (altair setup sectors) (before ++ timed ∷ []) (alone_of self.new)) }
+            → StandsAt (altair setup sectors) before (state_of self.old)
+            → StandsAt (altair setup sectors) (before ++ timed ∷ []) (state_of self.new)) }
         ensures count { IfOk result (λ _. self.new.count ≡ timed.count) }
         ensures due { IfOk result (λ _. timed.count ≤ last) }
         ensures refused { IfErr result (λ fault. (setup : Setup) (sectors : SectorAddress → List ℕ)
-            (before after : List Timed) → StandsAt (altair setup sectors) before (alone_of self.old)
+            (before after : List Timed) → StandsAt (altair setup sectors) before (state_of self.old)
             → Fails (altair setup sectors) (before ++ timed ∷ after) last fault) }
     {
         self.advance(timed.count.min(last), last)?;
@@ -104,11 +104,11 @@ impl Machine {
     #[tactic(auto, using(crate::proofs::Standing::refused_step))]
     fn advance(&mut self, target: u64, last: u64) -> R<()>
         ensures ok { IfOk result (λ _. (setup : Setup) (sectors : SectorAddress → List ℕ) (list : List Timed)
-            → StandsAt (altair setup sectors) list (alone_of self.old)
-            → StandsAt (altair setup sectors) list (alone_of self.new)) }
+            → StandsAt (altair setup sectors) list (state_of self.old)
+            → StandsAt (altair setup sectors) list (state_of self.new)) }
         ensures count { IfOk result (λ _. self.old.count ≤ target → self.new.count ≡ target) }
         ensures refused { IfErr result (λ fault. (setup : Setup) (sectors : SectorAddress → List ℕ) (list : List Timed)
-            → StandsAt (altair setup sectors) list (alone_of self.old)
+            → StandsAt (altair setup sectors) list (state_of self.old)
             → FailsBefore (altair setup sectors) list target last fault) }
     {
         for _ in self.count..target {

@@ -5,7 +5,7 @@ ghost use Rattle.i8080_words.specs.Steps as steps;
 ghost use Rattle.i8080_words.specs.declared.refusal.Fault.TheVariants.{OutOfMemory};
 ghost use Rattle.guest_board.specs.Guest as guest;
 ghost use Rattle.guest_board.specs.Ports.{memory_byte, port_byte, after_access};
-ghost use Rattle.plain_single.specs.Alone.{idle_towards as idle_towards_of, alone_of, step_refusal, RefusesStep, after_step};
+ghost use Rattle.plain_single.specs.SingleState.{idle_towards as idle_towards_of, state_of, step_refusal, RefusesStep, after_step};
 ghost use Rattle.plain_single.specs.Behind.{behind_of, devices_of, wired_of, after_wired, is_full};
 
 use super::Machine;
@@ -30,9 +30,9 @@ impl Machine {
     /// halted and hears no request, `Spent` if that count is past the limit and `Idle` if not.
     #[tactic(auto, unfolding(guest_board::specs::Guest::step_of, guest_board::specs::Guest::wired_after))]
     pub(crate) fn step(&mut self, last: u64) -> R<()>
-        ensures can { IfOk result (λ _. step_refusal last (alone_of self.old) ≡ None) }
-        ensures after { IfOk result (λ _. alone_of self.new ≡ after_step (alone_of self.old)) }
-        ensures refused { IfErr result (λ fault. RefusesStep last (alone_of self.old) fault) }
+        ensures can { IfOk result (λ _. step_refusal last (state_of self.old) ≡ None) }
+        ensures after { IfOk result (λ _. state_of self.new ≡ after_step (state_of self.old)) }
+        ensures refused { IfErr result (λ fault. RefusesStep last (state_of self.old) fault) }
     {
         if self.count >= GREATEST_NUMBER || self.wires.is_spent() {
             return Err(Fault::Spent);

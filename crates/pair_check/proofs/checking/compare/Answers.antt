@@ -2,7 +2,7 @@
 use Rattle.std.proofs.Common.{◌≡◌, sym, ◌∙◌, subst, refl, true≢false, true, false}
 use Rattle.guest_board.specs.Guest.{altair}
 use Rattle.ft_world.specs.Standing.{machine_of}
-use Rattle.plain_single.specs.Alone.{output_of}
+use Rattle.plain_single.specs.SingleState.{output_of}
 use Rattle.plain_single.specs.Image.{boot_sectors, sector_at}
 use Rattle.plain_single.specs.Reaching.{Fails, NeverFall, RunsTo}
 use Rattle.pair_check.specs.Comparing.{IsAnswer, Falls, Stops, deeds_of}

@@ -1,7 +1,7 @@
 -- The outputs are not alike, or the sectors decide.
 use Rattle.std.proofs.Common.{sym, ◌∙◌, subst, true≢false}
 use Rattle.ft_world.specs.Standing.{machine_of}
-use Rattle.plain_single.specs.Alone.{output_of}
+use Rattle.plain_single.specs.SingleState.{output_of}
 use Rattle.plain_single.specs.Image.{sector_at}
 use Rattle.pair_check.specs.Disks.{over_records}
 use Rattle.pair_check.specs.Comparing.{IsAnswer, deeds_of}

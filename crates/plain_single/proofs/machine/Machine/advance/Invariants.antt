@@ -3,7 +3,7 @@ use Rattle.std.proofs.Common.{◌≡◌, ℕ, List}
 use Rattle.disk_dcdd.specs.declared.address.SectorAddress.{SectorAddress}
 use Rattle.guest_board.specs.Guest.{altair}
 use Rattle.guest_board.specs.declared.setup.Setup.{Setup}
-use Rattle.plain_single.specs.Alone.{alone_of}
+use Rattle.plain_single.specs.SingleState.{state_of}
 use Rattle.plain_single.specs.Reaching.{StandsAt}
 use Rattle.guest_trace.specs.declared.timed.Timed.{Timed}
 use Rattle.plain_single.proofs.machine.Machine.advance.Given as goal
@@ -12,6 +12,6 @@ abbrev pub invariant-loop : goal.invariant-loop
 invariant-loop l = record {
   count : l.self.count ≡ l.counter;
   stands : (setup : Setup) (sectors : SectorAddress → List ℕ) (list : List Timed)
-      → StandsAt (altair setup sectors) list (alone_of l.fn.self)
-      → StandsAt (altair setup sectors) list (alone_of l.self);
+      → StandsAt (altair setup sectors) list (state_of l.fn.self)
+      → StandsAt (altair setup sectors) list (state_of l.self);
 }

@@ -2,7 +2,7 @@
 use Rattle.std.proofs.Common.{◌≡◌, ◌+◌, take, drop, sym, subst, arith}
 use Rattle.std.proofs.lemmas.List.{take_all}
 use Rattle.guest_board.specs.Guest.{altair}
-use Rattle.plain_single.specs.Alone.{alone_of}
+use Rattle.plain_single.specs.SingleState.{state_of}
 use Rattle.plain_single.specs.Reaching.{StandsAt, Fails}
 use Rattle.plain_single.proofs.Refusing.{fails_last, handed_on, refused_as, at_item}
 use Rattle.plain_single.proofs.machine.Machine.follow.Goals as goal
@@ -22,5 +22,5 @@ returns-clause-refused c =
     refused_as c.advance.result _ _ c.advance.ensures.refused (λ fault p. λ setup sectors x.
     fails_last (altair setup sectors) c.args.inputs.now c.args.last fault
     (p setup sectors c.args.inputs.now
-    (subst (λ list. StandsAt (altair setup sectors) list (alone_of c.loop-timed.self)) all
+    (subst (λ list. StandsAt (altair setup sectors) list (state_of c.loop-timed.self)) all
     (c.loop-timed.invariant.stands setup sectors x))))

@@ -1,7 +1,7 @@
 -- The machine runs to the input's count, and then the input is taken.
 use Rattle.std.proofs.Common.{◌≡◌, ◌<◌, ◌≤◌, [], ◌∷◌, ◌++◌, sym, subst, arith}
 use Rattle.guest_board.specs.Guest.{altair}
-use Rattle.plain_single.specs.Alone.{alone_of, input_refusal}
+use Rattle.plain_single.specs.SingleState.{state_of, input_refusal}
 use Rattle.plain_single.specs.Reaching.{StandsAt, Fails, FailsBefore}
 use Rattle.plain_single.proofs.Taking.{takes_on}
 use Rattle.plain_single.proofs.Refusing.{fails_before, fails_by_input, fails_by_rest, handed_on, taken_or_not, not_taken, at_input, at_last}
@@ -23,7 +23,7 @@ returns-then-timed-last-clause-refused c = λ setup sectors before after x.
     c.requires.rising c.requires.within
     (subst (λ n. c.args.self.now.count ≤ n → c.advance.new.self.count ≡ n) c.min.ensures c.in_ok-advance.ensures.count)
     (omega (arith, late)) in
-    fails_by_rest setup sectors before after (alone_of c.advance.new.self) c.args.timed c.args.last
+    fails_by_rest setup sectors before after (state_of c.advance.new.self) c.args.timed c.args.last
     (c.in_ok-advance.ensures.ok setup sectors before x) at late
 
 pub returns-clause-ok : goal.returns-clause-ok
@@ -33,11 +33,11 @@ returns-clause-ok c =
     c.requires.rising c.requires.within
     (subst (λ n. c.args.self.now.count ≤ n → c.advance.new.self.count ≡ n) c.min.ensures c.in_ok-advance.ensures.count)
     (omega arith) in
-    taken_or_not c.take.result (input_refusal (alone_of c.advance.new.self) c.args.timed.input)
+    taken_or_not c.take.result (input_refusal (state_of c.advance.new.self) c.args.timed.input)
     c.take.ensures.answer c.take.ensures.after c.take.ensures.sector c.take.ensures.disk
     (λ none after sector disk. λ setup sectors before x.
     subst (StandsAt (altair setup sectors) (before ++ c.args.timed ∷ [])) (sym after)
-    (takes_on setup sectors before (alone_of c.advance.new.self) c.args.timed c.take.new.self.disk.sectors.items
+    (takes_on setup sectors before (state_of c.advance.new.self) c.args.timed c.take.new.self.disk.sectors.items
     (c.in_ok-advance.ensures.ok setup sectors before x) none sector (sym at) disk))
 
 pub returns-clause-refused : goal.returns-clause-refused
@@ -48,7 +48,7 @@ returns-clause-refused c =
     c.requires.rising c.requires.within
     (subst (λ n. c.args.self.now.count ≤ n → c.advance.new.self.count ≡ n) c.min.ensures c.in_ok-advance.ensures.count)
     due in
-    not_taken c.take.result (input_refusal (alone_of c.advance.new.self) c.args.timed.input) _ c.take.ensures.answer
+    not_taken c.take.result (input_refusal (state_of c.advance.new.self) c.args.timed.input) _ c.take.ensures.answer
     (λ fault some. λ setup sectors before after x.
-    fails_by_input setup sectors before after (alone_of c.advance.new.self) c.args.timed c.args.last fault
+    fails_by_input setup sectors before after (state_of c.advance.new.self) c.args.timed c.args.last fault
     (c.in_ok-advance.ensures.ok setup sectors before x) at due some)

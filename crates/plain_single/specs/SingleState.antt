@@ -21,7 +21,7 @@ use Rattle.guest_trace.specs.declared.timed.Bare.{Bare}
 use Rattle.guest_trace.specs.declared.timed.Bare.TheVariants.{Rx, Sent, Sector, Written}
 
 -- the processor, what it is wired to, the disk by its places, the count and the interrupt levels
-pub record Alone : Type 0 where
+pub record SingleState : Type 0 where
   pub processor : Processor
   pub behind : Behind
   pub disk : List (List ℕ)
@@ -29,8 +29,8 @@ pub record Alone : Type 0 where
   pub levels : List ℕ
 
 -- what the fields mean
-abbrev pub alone_of : Machine → Alone
-alone_of m = record {
+abbrev pub state_of : Machine → SingleState
+state_of m = record {
   processor = m.processor;
   behind = behind_of m.wires;
   disk = m.disk.sectors.items;
@@ -39,11 +39,11 @@ alone_of m = record {
 }
 
 -- the output of a port
-abbrev pub output_of : Alone → ℕ → List ℕ
+abbrev pub output_of : SingleState → ℕ → List ℕ
 output_of a port = if port == 0 then a.behind.first.output else a.behind.second.output
 
 -- the guest with these parts, with outstanding operations and last completed writes, which nothing here depends on
-abbrev pub guest_with : Alone → Operations → List ℕ → Guest
+abbrev pub guest_with : SingleState → Operations → List ℕ → Guest
 guest_with a operations completed = record {
   processor = a.processor;
   memory = a.behind.memory;
@@ -57,11 +57,11 @@ guest_with a operations completed = record {
   sense = a.behind.sense;
 }
 
-abbrev pub guest_of : Alone → Guest
+abbrev pub guest_of : SingleState → Guest
 guest_of a = guest_with a map.empty []
 
 -- it is that guest in all but the outstanding operations and the last completed writes
-abbrev pub StandsFor : Alone → Guest → Type 0
+abbrev pub StandsFor : SingleState → Guest → Type 0
 StandsFor a g = guest_with a g.operations g.completed ≡ g
 
 -- ---- a step
@@ -71,17 +71,17 @@ abbrev pub idle_towards : ℕ → Fault
 idle_towards last = if nat_lt GREATEST_NUMBER last then Spent else Idle
 
 -- why no step is executed on the way to a count: a number is spent, or else the machine idles
-abbrev pub step_refusal : ℕ → Alone → Option Fault
+abbrev pub step_refusal : ℕ → SingleState → Option Fault
 step_refusal last a =
     if is_spent (guest_of a) then Some Spent else if is_idle (guest_of a) then Some (idle_towards last) else None
 
 -- a step is refused for that reason, or out of memory
-abbrev pub RefusesStep : ℕ → Alone → Fault → Type 0
+abbrev pub RefusesStep : ℕ → SingleState → Fault → Type 0
 RefusesStep last a OutOfMemory = Unit {0}
 RefusesStep last a fault = step_refusal last a ≡ Some fault
 
 -- after a step
-abbrev pub after_step : Alone → Alone
+abbrev pub after_step : SingleState → SingleState
 after_step a = record {
   processor = (step_of (guest_of a)).after;
   behind = after_wired a.behind (wired_after (guest_of a));
@@ -106,7 +106,7 @@ abbrev pub address_under : drives.Drives → ℕ → ℕ → SectorAddress
 address_under d drive sector = record { drive = drive; track = (drives.drive_of d drive).track; sector = sector }
 
 -- why an input is refused
-abbrev pub input_refusal : Alone → Bare → Option Fault
+abbrev pub input_refusal : SingleState → Bare → Option Fault
 input_refusal a (Rx port byte) = due_unless (may_take_key a.behind port)
 input_refusal a (Sent port) = due_unless (may_accept a.behind port)
 input_refusal a (Sector drive sector) =
@@ -126,7 +126,7 @@ after_accept b port =
     then record b { first = serial_line.with_port b.first (serial.after_sent b.first.port) }
     else record b { second = serial_line.with_port b.second (serial.after_sent b.second.port) }
 
-abbrev pub after_input : Alone → Bare → Behind
+abbrev pub after_input : SingleState → Bare → Behind
 after_input a (Rx port byte) = after_key a.behind port byte
 after_input a (Sent port) = after_accept a.behind port
 after_input a (Sector drive sector) = record a.behind {
@@ -135,18 +135,18 @@ after_input a (Sector drive sector) = record a.behind {
 after_input a (Written number) = record a.behind { disk = completion.after_written a.behind.disk number }
 
 -- what a sector of the disk has after an input
-abbrev pub disk_after : Alone → Bare → SectorAddress → List ℕ
+abbrev pub disk_after : SingleState → Bare → SectorAddress → List ℕ
 disk_after a (Rx port byte) address = sector_at a.disk address
 disk_after a (Sent port) address = sector_at a.disk address
 disk_after a (Sector drive sector) address = sector_at a.disk address
 disk_after a (Written number) address = bytes_after (reverse a.behind.writes) number address (sector_at a.disk address)
 
 -- after an input that left the disk in this state
-abbrev pub after_taking : Alone → Bare → List (List ℕ) → Alone
+abbrev pub after_taking : SingleState → Bare → List (List ℕ) → SingleState
 after_taking a input disk = record a { behind = after_input a input; disk = disk }
 
 -- if a sector comes under the head, a drive has it
-abbrev pub ReadsSector : Alone → Bare → Type 0
+abbrev pub ReadsSector : SingleState → Bare → Type 0
 ReadsSector a (Sector drive sector) = IsSector (address_under a.behind.disk drive sector)
 ReadsSector a (Rx port byte) = Unit {0}
 ReadsSector a (Sent port) = Unit {0}
