@@ -133,7 +133,7 @@ fn image<T: Completes, S: Completes, W: Completes>(
     }
 }
 
-// A part of it, likewise.
+// A part of it, at the second attempt if memory is refused at the first.
 fn part(alloc: Global, image: &Image, index: u16) -> R<Vec<u8>> {
     match image.part(alloc, index) {
         Err(Fault::OutOfMemory) => image.part(alloc, index),

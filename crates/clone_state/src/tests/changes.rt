@@ -1,10 +1,12 @@
 //! Bytes that are almost a part: a beginning of one, one with a byte after it, and one with a byte changed.
 
 use super::gathering::copied;
+use super::old_versions::in_version_01;
 use super::part;
 use crate::reading::message_of;
 use event_callbacks::plain_completions;
 use i8080_words::R;
+use std::alloc::Global;
 use std::process::Abort;
 use std::test::Fail;
 
@@ -50,20 +52,24 @@ fn expect_whole(rt: &impl Abort, bytes: &mut Vec<u8>) -> R<()> {
     Ok(())
 }
 
-// What the changes of this part give was counted by hand, from the table of the image in docs/FORMATS.md and what the
-// board of these tests has.
-fn expect(rt: &(impl Abort + AllocGlobal), index: u16, wanted: Answers) -> R<()> {
+// A part of the image of the board of these tests.
+fn part_of_it(alloc: Global, index: u16) -> R<Vec<u8>> {
     let image = copied(
-        rt.alloc(),
+        alloc,
         plain_completions::sent,
         plain_completions::sector,
         plain_completions::written,
     )?;
-    let mut bytes = part(rt.alloc(), &image, index)?;
-    expect_whole(rt, &mut bytes)?;
+    part(alloc, &image, index)
+}
+
+// What the changes of a part give was counted by hand, from the table of the image in docs/FORMATS.md and what the board
+// of these tests has.
+fn expect(rt: &impl Abort, bytes: &mut Vec<u8>, wanted: Answers) -> R<()> {
+    expect_whole(rt, bytes)?;
     let mut answers = (0, 0, 0);
     for place in 0..bytes.len() {
-        answers = changed_at(&mut bytes, place, answers);
+        answers = changed_at(bytes, place, answers);
     }
     assert_eq!(rt; answers, wanted);
     Ok(())
@@ -71,18 +77,31 @@ fn expect(rt: &(impl Abort + AllocGlobal), index: u16, wanted: Answers) -> R<()>
 
 #[test]
 fn almost_a_first_part(rt: HostRuntime) -> Result<(), Fail> {
-    expect(&rt, 0, (85_644, 1_019, 57_157))?;
+    let mut bytes = part_of_it(rt.alloc(), 0)?;
+    expect(&rt, &mut bytes, (85_644, 1_019, 57_157))?;
+    Ok(())
+}
+
+// Two parts fewer than in version 02: a port has no number of bytes that could be 2 or 3, all that port 0 sent.
+#[test]
+fn almost_a_first_part_in_version_01(rt: HostRuntime) -> Result<(), Fail> {
+    let first = part_of_it(rt.alloc(), 0)?;
+    let mut bytes = in_version_01(rt.alloc(), &first)?;
+    assert_eq!(rt; bytes.len(), 534);
+    expect(&rt, &mut bytes, (85_642, 1_019, 49_509))?;
     Ok(())
 }
 
 #[test]
 fn almost_a_page(rt: HostRuntime) -> Result<(), Fail> {
-    expect(&rt, 1, (65_535, 1_019, 511))?;
+    let mut bytes = part_of_it(rt.alloc(), 1)?;
+    expect(&rt, &mut bytes, (65_535, 1_019, 511))?;
     Ok(())
 }
 
 #[test]
 fn almost_a_table(rt: HostRuntime) -> Result<(), Fail> {
-    expect(&rt, 258, (59_214, 1_019, 6_832))?;
+    let mut bytes = part_of_it(rt.alloc(), 258)?;
+    expect(&rt, &mut bytes, (59_214, 1_019, 6_832))?;
     Ok(())
 }

@@ -11,7 +11,7 @@ use std::alloc::Global;
 use std::process::Abort;
 use std::test::Fail;
 
-// At most so many pages are copied, at the second attempt if memory is refused at the first. How many are stale then.
+// Copies this many pages at most, at the second attempt if memory is refused at the first. Returns how many are stale then.
 fn freshen<T: Completes + Drop, S: Completes + Drop, W: Completes + Drop>(
     alloc: Global,
     guest: &mut DraftedBoard<T, S, W>,
@@ -23,7 +23,7 @@ fn freshen<T: Completes + Drop, S: Completes + Drop, W: Completes + Drop>(
     }
 }
 
-// The image in the draft, at the second attempt likewise: the draft serves again.
+// The image in the draft, at the second attempt if memory is refused at the first: the draft serves again.
 fn image_of_draft<T: Completes + Drop, S: Completes + Drop, W: Completes + Drop>(
     alloc: Global,
     guest: &mut DraftedBoard<T, S, W>,

@@ -12,7 +12,7 @@ use std::process::Abort;
 use std::test::Fail;
 
 // The message of a first part with its ports in version 01: port 0 is not ready, since 48 is not accepted, and port 1 is.
-fn in_version_01(alloc: Global, first: &[u8]) -> R<Vec<u8>> {
+pub(super) fn in_version_01(alloc: Global, first: &[u8]) -> R<Vec<u8>> {
     let mut old = Vec::from_slice(alloc, first.get(..67).unwrap_or_default())?;
     if let Some(version) = old.get_mut(7) {
         *version = 0x01;
