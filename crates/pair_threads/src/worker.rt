@@ -51,17 +51,20 @@ pub(crate) trait Worker {
         ensures ended { IsTrue result → ended self.now };
 }
 
-// How many turns in a row may find nothing to do before a worker sleeps, and for how many microseconds it then does.
-const PATIENCE: u32 = 1_000;
+// How many turns in a row may find nothing to do before a worker sleeps.
+const PATIENCE: u32 = 400;
 
-const NAP_MICROS: u64 = 50;
+// For how many microseconds it sleeps at most.
+const LONGEST_NAP: u32 = 500;
 
-// Lets the other threads get on, after this many turns in a row that found nothing to do.
+// Lets the other threads get on, after this many turns in a row that found nothing to do: at first by a yield, then by a
+// sleep that is a microsecond longer each time.
 fn wait<C: Clock>(clock: &C, fruitless: u32) {
     if fruitless < PATIENCE {
         thread::yield_now();
     } else {
-        thread::sleep(clock, Duration::from_micros(NAP_MICROS));
+        let micros = (fruitless - PATIENCE).min(LONGEST_NAP);
+        thread::sleep(clock, Duration::from_micros(u64::from(micros)));
     }
 }
 
