@@ -14,4 +14,4 @@ returns-in-Some c =
 pub returns-in-None : goal.returns-in-None
 returns-in-None c =
     let none = strip_prefix_is Decides-eqb c.args.output.now c.args.accepted.now None c.in-None.ensures.cases in
-    ((λ no. absurd (true≢false (sym no))), λ but. absurd (none but.0 (sym but.1.0)))
+    ((λ no. absurd (true≢false (sym no))), λ but. absurd (none but.0 (sym but.1)))
