@@ -1,11 +1,15 @@
 //! What the workers tell each other beside the table. No contract rests on it.
 
 use crate::gate::Who;
-use std::sync::atomic::{AtomicBool, Ordering};
+use std::sync::atomic::{AtomicBool, AtomicU64, Ordering};
 
-/// Who is at its end, and whether the run has failed.
+// How many workers there are.
+const WORKERS: u64 = 5;
+
+/// How many workers have begun, who is at its end, and whether the run has failed.
 #[derive(Drop)]
 pub(crate) struct Signals {
+    begun: AtomicU64,
     primary: AtomicBool,
     backup: AtomicBool,
     failed: AtomicBool,
@@ -21,10 +25,19 @@ pub(crate) struct Told {
 impl Signals {
     pub(crate) fn new() -> Signals {
         Signals {
+            begun: AtomicU64::new(0),
             primary: AtomicBool::new(false),
             backup: AtomicBool::new(false),
             failed: AtomicBool::new(false),
         }
+    }
+
+    pub(crate) fn begins(&self) {
+        let _ = self.begun.fetch_add(1, Ordering::SeqCst);
+    }
+
+    pub(crate) fn have_all_begun(&self) -> bool {
+        self.begun.load(Ordering::SeqCst) >= WORKERS
     }
 
     pub(crate) fn told(&self) -> Told {

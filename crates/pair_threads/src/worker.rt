@@ -68,8 +68,23 @@ fn wait<C: Clock>(clock: &C, fruitless: u32) {
     }
 }
 
+// How often a worker waits at most until all have begun: for about ten seconds.
+const MOST_WAITS: u32 = 20_000;
+
+// Waits until all workers have begun, or one has failed. If no thread can be made for one of them, it begins only after
+// another one has come back.
+fn all_begin<C: Clock>(clock: &C, signals: &Signals) -> bool {
+    for waited in 0..MOST_WAITS {
+        if signals.have_all_begun() || signals.has_failed() {
+            return true;
+        }
+        wait(clock, waited);
+    }
+    false
+}
+
 /// Lets a worker have its turns, this many at most, until it is at its end. `Stalled` if it is not after all of them, if
-/// the gate ends the run, or if another worker has failed.
+/// the gate ends the run, or if another worker has failed; `OutOfMemory` if the others have no threads to begin on.
 pub(crate) fn serve<C: Clock, W: Worker, G: Gate>(
     clock: &C,
     mut worker: W,
@@ -86,6 +101,11 @@ pub(crate) fn serve<C: Clock, W: Worker, G: Gate>(
     ensures came { OnOk result.1 (W.came worker result.0) }
     ensures ended { OnOk result.1 (W.ended result.0) }
 {
+    signals.begins();
+    if !all_begin(clock, signals) {
+        signals.fails();
+        return (worker, Err(Fault::OutOfMemory));
+    }
     let mut fruitless = 0u32;
     for number in 0..turns {
         if signals.has_failed() {
