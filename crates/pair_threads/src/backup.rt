@@ -13,8 +13,9 @@ use i8080_words::{Fault, R};
 use pair_rule::{BackupSeat, Fabric};
 use std::alloc::Global;
 
-// How many steps its guest makes at most between two looks at its box.
-const STEPS: u64 = 2_000;
+// How many steps its guest makes at most before it looks at its box again, after an entry came. As long as none comes, it
+// makes twice as many each time.
+const STEPS: u64 = 1_000;
 
 // What the next turn does.
 #[derive(Debug, Clone, Copy, PartialEq, Eq)]
@@ -32,6 +33,8 @@ pub(crate) struct BackupWorker<B> {
     held: u64,
     won: bool,
     chore: Chore,
+    // How many steps its guest makes at most before the next look.
+    stride: u64,
     plan: Plan,
     ghost same: { guest.list.items ≡ seat.core.known.backup.list },
 }
@@ -51,6 +54,7 @@ impl<B: Lockstep> BackupWorker<B> {
             held: 0,
             won: false,
             chore: Chore::Take,
+            stride: STEPS,
             plan,
         }
     }
@@ -72,11 +76,15 @@ impl<B: Lockstep> BackupWorker<B> {
         match self.seat.take(fabric) {
             Some(packet) => {
                 if packet.index == self.guest.list.len() as u64 {
+                    self.stride = STEPS;
                     self.guest.hear(packet.entry);
                 }
                 Ok(Turn::Moved)
             }
-            None => Ok(self.pace()),
+            None => {
+                self.stride = self.stride.saturating_mul(2);
+                Ok(self.pace())
+            }
         }
     }
 
@@ -157,7 +165,7 @@ impl<B: Lockstep> BackupWorker<B> {
             }
             Chore::Replay => {
                 self.chore = Chore::Take;
-                self.guest.replay(self.plan.steps.min(STEPS))?;
+                self.guest.replay(self.plan.steps.min(self.stride))?;
                 Ok(self.pace())
             }
         }

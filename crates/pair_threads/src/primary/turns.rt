@@ -176,8 +176,7 @@ impl<B: Lockstep> Worker for PrimaryWorker<B> {
             let _ = self.seat.contest(fabric);
             return Ok(Turn::Ends);
         }
-        let waiting = self.guest.waiting;
-        match waiting {
+        match self.guest.waiting {
             Some(entry) if !self.full => self.append(fabric, entry),
             _ => self.work(fabric),
         }
