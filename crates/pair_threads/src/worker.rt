@@ -3,11 +3,11 @@ ghost use Rattle.std.specs.Prelude.{◌≡◌, IsTrue, OnOk};
 ghost use Rattle.pair_threads.specs.Turns.{Leaves};
 
 use crate::gate::{Gate, Who};
+use crate::patience::Patience;
 use crate::signals::{Signals, Told};
 use i8080_words::{Fault, R};
 use pair_rule::Fabric;
-use std::thread;
-use std::time::{Clock, Duration};
+use std::time::Clock;
 
 /// What a turn came to.
 #[derive(Debug, Clone, Copy, PartialEq, Eq)]
@@ -51,34 +51,18 @@ pub(crate) trait Worker {
         ensures ended { IsTrue result → ended self.now };
 }
 
-// How many turns in a row may find nothing to do before a worker sleeps.
-const PATIENCE: u32 = 400;
-
-// For how many microseconds it sleeps at most.
-const LONGEST_NAP: u32 = 500;
-
-// Lets the other threads get on, after this many turns in a row that found nothing to do: at first by a yield, then by a
-// sleep that is a microsecond longer each time.
-fn wait<C: Clock>(clock: &C, fruitless: u32) {
-    if fruitless < PATIENCE {
-        thread::yield_now();
-    } else {
-        let micros = (fruitless - PATIENCE).min(LONGEST_NAP);
-        thread::sleep(clock, Duration::from_micros(u64::from(micros)));
-    }
-}
-
 // How often a worker waits at most until all have begun: for about ten seconds.
 const MOST_WAITS: u32 = 20_000;
 
 // Waits until all workers have begun, or one has failed. If no thread can be made for one of them, it begins only after
 // another one has come back.
 fn all_begin<C: Clock>(clock: &C, signals: &Signals) -> bool {
+    let patience = Patience::new();
     for waited in 0..MOST_WAITS {
         if signals.have_all_begun() || signals.has_failed() {
             return true;
         }
-        wait(clock, waited);
+        patience.wait(clock, waited);
     }
     false
 }
@@ -106,6 +90,7 @@ pub(crate) fn serve<C: Clock, W: Worker, G: Gate>(
         signals.fails();
         return (worker, Err(Fault::OutOfMemory));
     }
+    let mut patience = Patience::new();
     let mut fruitless = 0u32;
     for number in 0..turns {
         if signals.has_failed() {
@@ -121,10 +106,13 @@ pub(crate) fn serve<C: Clock, W: Worker, G: Gate>(
         let turn = worker.turn(fabric, number);
         gate.leave(who, number);
         match turn {
-            Ok(Turn::Moved) => fruitless = 0,
+            Ok(Turn::Moved) => {
+                patience.learn(fruitless);
+                fruitless = 0;
+            }
             Ok(Turn::Waits) => {
                 fruitless = fruitless.saturating_add(1);
-                wait(clock, fruitless);
+                patience.wait(clock, fruitless);
             }
             Ok(Turn::Ends) => {
                 signals.ends(who);
