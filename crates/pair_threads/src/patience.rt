@@ -38,16 +38,16 @@ impl Patience {
         }
     }
 
-    /// Something was found after this many turns that found nothing. If the worker had slept often, it yields least often from
-    /// now on; if it had just begun to sleep, a few times more.
+    /// Something was found after this many turns that found nothing. If the worker had slept often, it yields half as often
+    /// from now on; if it had just begun to sleep, twice as often.
     pub(crate) fn learn(&mut self, fruitless: u32) {
         if fruitless < self.yields {
             return;
         }
         self.yields = if fruitless - self.yields < MANY_NAPS {
-            self.yields.saturating_add(LEAST_YIELDS).min(MOST_YIELDS)
+            self.yields.saturating_mul(2).min(MOST_YIELDS)
         } else {
-            LEAST_YIELDS
+            (self.yields / 2).max(LEAST_YIELDS)
         };
     }
 }
