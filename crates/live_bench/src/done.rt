@@ -9,6 +9,7 @@ use event_callbacks::Completes;
 use guest_board::Lockstep;
 use i8080_words::R;
 use log_entry::Entry;
+use pair_threads::Gate;
 use std::alloc::Global;
 use std::fmt;
 use std::thread::Threads;
@@ -66,18 +67,19 @@ pub fn idling(alloc: Global, turns: u64) -> R<Case> {
     Ok(case)
 }
 
-/// Runs a pair whose completions are these closures.
+/// Runs a pair through a gate. Its completions are these closures.
 pub fn run_pair<
     H: Threads + Sync + Clock,
+    G: Gate + Sync,
     T: Completes + Drop + Copy + Send,
     S: Completes + Drop + Copy + Send,
     W: Completes + Drop + Copy + Send,
->(rt: &H, alloc: Global, case: &Case, sent: T, sector: S, written: W) -> R<Done>
+>(rt: &H, alloc: Global, case: &Case, gate: &G, sent: T, sector: S, written: W) -> R<Done>
     requires sent { Keeps (T.may sent) (T.gives sent) SENT }
     requires sector { Keeps (S.may sector) (S.gives sector) SECTOR }
     requires written { Keeps (W.may written) (W.gives written) WRITTEN }
 {
-    let end = pair::run(rt, alloc, case, sent, sector, written)?;
+    let end = pair::run(rt, alloc, case, gate, sent, sector, written)?;
     let [first, second] = &end.accepted;
     Ok(Done {
         steps: end.primary_board.count(),

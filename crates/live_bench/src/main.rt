@@ -14,6 +14,7 @@ mod machine;
 mod pair;
 mod runs;
 mod slow_gate;
+mod stopwatch;
 
 use alone::run_alone;
 use anyhow::{Result, bail};
@@ -21,11 +22,13 @@ use case::Case;
 use done::{Done, computing, echoing, idling, printing, run_pair};
 use event_callbacks::plain_completions;
 use i8080_words::R;
+use pair_threads::Gate;
 use runs::{Find, make_runs};
 use std::alloc::Global;
 use std::env;
 use std::thread::Threads;
-use std::time::Clock;
+use std::time::{Clock, Instant};
+use stopwatch::Stopwatch;
 
 // The case of a word and a number, if it is one that a pair runs to be timed.
 fn case_of(alloc: Global, what: &str, number: u64) -> R<Option<Case>> {
@@ -56,12 +59,18 @@ fn check<H: Threads + Sync + Clock>(
     )
 }
 
-// Runs a case in a pair with the plain completions.
-fn in_pair<H: Threads + Sync + Clock>(rt: &H, alloc: Global, case: &Case) -> R<Done> {
+// Runs a case in a pair through a gate, with the plain completions.
+fn in_pair<H: Threads + Sync + Clock, G: Gate + Sync>(
+    rt: &H,
+    alloc: Global,
+    case: &Case,
+    gate: &G,
+) -> R<Done> {
     run_pair(
         rt,
         alloc,
         case,
+        gate,
         plain_completions::sent,
         plain_completions::sector,
         plain_completions::written,
@@ -88,7 +97,8 @@ fn number_of(word: Option<String>) -> Result<Option<u64>> {
 }
 
 // Arguments: `runs`, a seed and how many; `alone` and how many steps; or what a pair is timed at, how many steps, keys,
-// bytes or turns, and how many steps its guests may make in a turn.
+// bytes or turns, and how many steps its guests may make in a turn. What is timed prints how long it took, a pair how long
+// its primary and how long its backup.
 fn main(rt: HostRuntime) -> Result<()> {
     let mut words = env::args(&rt)?.skip(1);
     let (what, number) = (words.next(), number_of(words.next())?);
@@ -105,13 +115,24 @@ fn main(rt: HostRuntime) -> Result<()> {
         return Ok(());
     }
     if what.as_str() == "alone" {
-        println!(rt; "{}", by_itself(rt.alloc(), number)?)?;
+        let start = Instant::now(&rt)?;
+        let done = by_itself(rt.alloc(), number)?;
+        println!(rt;
+            "{done} in {} microseconds",
+            start.elapsed(&rt)?.as_micros()
+        )?;
         return Ok(());
     }
     let Some(mut case) = case_of(rt.alloc(), &what, number)? else {
         bail!("nothing to run is called {what:?}");
     };
     case.steps = more.unwrap_or(case.steps);
-    println!(rt; "{}", in_pair(&rt, rt.alloc(), &case)?)?;
+    let stopwatch = Stopwatch::start(&rt)?;
+    let done = in_pair(&rt, rt.alloc(), &case, &stopwatch)?;
+    println!(rt;
+        "{done} in {} and {} microseconds",
+        stopwatch.primary(),
+        stopwatch.backup()
+    )?;
     Ok(())
 }

@@ -11,15 +11,16 @@ use disk_dcdd::SectorWrite;
 use event_callbacks::{Callbacks, Completes};
 use guest_board::{Board, Setup};
 use i8080_words::R;
-use pair_threads::{GenerationEnd, Workers, run_generation};
+use pair_threads::{Gate, GenerationEnd, Workers, run_generation};
 use shared_disk::{MemoryStore, SharedDisk};
 use std::alloc::Global;
 use std::thread::Threads;
 use std::time::Clock;
 
-/// Runs a pair whose completions are these closures.
+/// Runs a pair through a gate. Its completions are these closures.
 pub fn run<
     H: Threads + Sync + Clock,
+    G: Gate + Sync,
     T: Completes + Drop + Copy + Send,
     S: Completes + Drop + Copy + Send,
     W: Completes + Drop + Copy + Send,
@@ -27,6 +28,7 @@ pub fn run<
     rt: &H,
     alloc: Global,
     case: &Case,
+    gate: &G,
     sent: T,
     sector: S,
     written: W,
@@ -48,7 +50,7 @@ pub fn run<
         backup_contests: case.backup_contests,
         steps: case.steps,
     };
-    run_generation(rt, alloc, workers, &case.gate, case.turns)
+    run_generation(rt, alloc, workers, gate, case.turns)
 }
 
 // The disk at boot.

@@ -67,7 +67,7 @@ fn make_run<
     requires written { Keeps (W.may written) (W.gives written) WRITTEN }
 {
     let case = case_of(alloc, &mut Chance::new(seed, number))?;
-    match run(rt, alloc, &case, sent, sector, written) {
+    match run(rt, alloc, &case, &case.gate, sent, sector, written) {
         Ok(_) if case.stalls => Err(Difference::Ended),
         Ok(end) => compare(alloc, &case, end),
         Err(fault) => refused(&case, fault),

@@ -37,6 +37,7 @@ pub(crate) struct BackupWorker<B> {
     stride: u64,
     plan: Plan,
     ghost same: { guest.list.items ≡ seat.core.known.backup.list },
+    ghost strides: { 1000 ≤ stride },
 }
 
 impl<B: Lockstep> BackupWorker<B> {
@@ -200,5 +201,9 @@ impl<B: Lockstep> Worker for BackupWorker<B> {
             return false;
         }
         self.plan.contested || self.guest.has_replayed_all()
+    }
+
+    fn is_held_up(&self) -> bool {
+        false
     }
 }

@@ -3,26 +3,26 @@
 /// What one turn of a primary's worker does.
 #[derive(Debug, Clone, Copy, PartialEq, Eq)]
 pub(crate) enum Chore {
-    /// Post the next entry that is not acknowledged.
-    Post,
     /// See how many entries are acknowledged.
     See,
-    /// Let the guest run.
-    Run,
-    /// Take a key of the port that has its turn.
-    Key,
-    /// Give its oldest byte to its terminal.
+    /// Give the oldest byte of the port that has its turn to its terminal.
     Emit,
     /// See how many of its bytes are accepted.
     Count,
     /// Take an acceptance.
     Accept,
+    /// Take a key of that port.
+    Key,
     /// Ask the disk for a write, or for the sector that is due.
     Ask,
     /// See what the disk answers.
     Answer,
     /// Take what it answered.
     Complete,
+    /// Post the next entry that is not acknowledged.
+    Post,
+    /// Let the guest run.
+    Run,
 }
 
 /// How many turns without a change make a rotation over both ports.
@@ -32,16 +32,16 @@ impl Chore {
     /// What comes after it.
     pub(crate) fn next(self) -> Chore {
         match self {
-            Chore::Post => Chore::See,
-            Chore::See => Chore::Run,
-            Chore::Run => Chore::Key,
-            Chore::Key => Chore::Emit,
+            Chore::See => Chore::Emit,
             Chore::Emit => Chore::Count,
             Chore::Count => Chore::Accept,
-            Chore::Accept => Chore::Ask,
+            Chore::Accept => Chore::Key,
+            Chore::Key => Chore::Ask,
             Chore::Ask => Chore::Answer,
             Chore::Answer => Chore::Complete,
             Chore::Complete => Chore::Post,
+            Chore::Post => Chore::Run,
+            Chore::Run => Chore::See,
         }
     }
 }

@@ -82,4 +82,8 @@ impl<D: SectorStore> Worker for DiskWorker<D> {
     fn may_end(&self, told: Told) -> bool {
         told.primary_ended && told.backup_ended
     }
+
+    fn is_held_up(&self) -> bool {
+        false
+    }
 }

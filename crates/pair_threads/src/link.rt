@@ -101,4 +101,8 @@ impl Worker for LinkWorker {
     fn may_end(&self, told: Told) -> bool {
         told.primary_ended && told.backup_ended
     }
+
+    fn is_held_up(&self) -> bool {
+        false
+    }
 }

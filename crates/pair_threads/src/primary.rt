@@ -42,6 +42,8 @@ pub(crate) struct PrimaryWorker<B> {
     chore: Chore,
     second: bool,
     fruitless: u8,
+    // Whether its guest was held up when it had run last.
+    held_up: bool,
     plan: Plan,
     ghost same: { list.items ≡ seat.core.known.primary.list },
     ghost saw: { seen ≡ seat.core.known.primary.seen },

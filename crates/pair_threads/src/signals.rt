@@ -6,12 +6,13 @@ use std::sync::atomic::{AtomicBool, AtomicU64, Ordering};
 // How many workers there are.
 const WORKERS: u64 = 5;
 
-/// How many workers have begun, who is at its end, and whether the run has failed.
+/// How many workers have begun, who is at its end, whether the guest is held up, and whether the run has failed.
 #[derive(Drop)]
 pub(crate) struct Signals {
     begun: AtomicU64,
     primary: AtomicBool,
     backup: AtomicBool,
+    held_up: AtomicBool,
     failed: AtomicBool,
 }
 
@@ -28,6 +29,7 @@ impl Signals {
             begun: AtomicU64::new(0),
             primary: AtomicBool::new(false),
             backup: AtomicBool::new(false),
+            held_up: AtomicBool::new(false),
             failed: AtomicBool::new(false),
         }
     }
@@ -45,6 +47,15 @@ impl Signals {
             primary_ended: self.primary.load(Ordering::SeqCst),
             backup_ended: self.backup.load(Ordering::SeqCst),
         }
+    }
+
+    /// A guest is held up from now on, or no longer.
+    pub(crate) fn holds_up(&self, held_up: bool) {
+        self.held_up.store(held_up, Ordering::SeqCst);
+    }
+
+    pub(crate) fn is_held_up(&self) -> bool {
+        self.held_up.load(Ordering::SeqCst)
     }
 
     pub(crate) fn has_failed(&self) -> bool {

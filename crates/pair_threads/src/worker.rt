@@ -3,7 +3,7 @@ ghost use Rattle.std.specs.Prelude.{◌≡◌, IsTrue, OnOk};
 ghost use Rattle.pair_threads.specs.Turns.{Leaves};
 
 use crate::gate::{Gate, Who};
-use crate::patience::Patience;
+use crate::rest::Rest;
 use crate::signals::{Signals, Told};
 use i8080_words::{Fault, R};
 use pair_rule::Fabric;
@@ -49,6 +49,9 @@ pub(crate) trait Worker {
     fn may_end(&self, told: Told) -> bool
         requires ready { ready self.now }
         ensures ended { IsTrue result → ended self.now };
+
+    /// Whether its guest can get on only if the other workers do.
+    fn is_held_up(&self) -> bool;
 }
 
 // How often a worker waits at most until all have begun: for about ten seconds.
@@ -57,12 +60,11 @@ const MOST_WAITS: u32 = 20_000;
 // Waits until all workers have begun, or one has failed. If no thread can be made for one of them, it begins only after
 // another one has come back.
 fn all_begin<C: Clock>(clock: &C, signals: &Signals) -> bool {
-    let patience = Patience::new();
     for waited in 0..MOST_WAITS {
         if signals.have_all_begun() || signals.has_failed() {
             return true;
         }
-        patience.wait(clock, waited);
+        Rest::after(waited, true).take(clock);
     }
     false
 }
@@ -90,8 +92,8 @@ pub(crate) fn serve<C: Clock, W: Worker, G: Gate>(
         signals.fails();
         return (worker, Err(Fault::OutOfMemory));
     }
-    let mut patience = Patience::new();
     let mut fruitless = 0u32;
+    let mut held_up = false;
     for number in 0..turns {
         if signals.has_failed() {
             return (worker, Err(Fault::Stalled));
@@ -105,14 +107,15 @@ pub(crate) fn serve<C: Clock, W: Worker, G: Gate>(
         }
         let turn = worker.turn(fabric, number);
         gate.leave(who, number);
+        if worker.is_held_up() != held_up {
+            held_up = !held_up;
+            signals.holds_up(held_up);
+        }
         match turn {
-            Ok(Turn::Moved) => {
-                patience.learn(fruitless);
-                fruitless = 0;
-            }
+            Ok(Turn::Moved) => fruitless = 0,
             Ok(Turn::Waits) => {
+                Rest::after(fruitless, signals.is_held_up()).take(clock);
                 fruitless = fruitless.saturating_add(1);
-                patience.wait(clock, fruitless);
             }
             Ok(Turn::Ends) => {
                 signals.ends(who);

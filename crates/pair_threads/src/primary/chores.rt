@@ -70,6 +70,7 @@ impl<B: Lockstep> PrimaryWorker<B> {
                 if !moved {
                     self.key_count = 0;
                 }
+                self.held_up = self.guest.is_held_up();
                 Ok(moved)
             }
             Err(Fault::OutOfMemory) => Err(Fault::OutOfMemory),

@@ -56,6 +56,7 @@ impl<B: Lockstep> PrimaryWorker<B> {
             chore: Chore::Post,
             second: false,
             fruitless: 0,
+            held_up: false,
             plan,
         }
     }
@@ -184,5 +185,9 @@ impl<B: Lockstep> Worker for PrimaryWorker<B> {
 
     fn may_end(&self, told: Told) -> bool {
         self.plan.contested && told.backup_ended
+    }
+
+    fn is_held_up(&self) -> bool {
+        self.held_up || !self.port0.is_taken() || !self.port1.is_taken()
     }
 }

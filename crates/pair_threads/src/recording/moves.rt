@@ -154,6 +154,11 @@ impl<B: Lockstep> Recording<B> {
         })
     }
 
+    /// Whether it gets on only if others do something: it idles, has just given an operation, or has several outstanding.
+    pub(crate) fn is_held_up(&self) -> bool {
+        self.idle || self.waiting.is_some() || self.given.len() > 1
+    }
+
     /// The byte of this number that was given at a port, if it is outstanding.
     pub(crate) fn byte(&self, port: u8, number: u64) -> Option<u8>
         requires { port < PORTS }
