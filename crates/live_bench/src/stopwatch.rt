@@ -8,7 +8,8 @@ use std::time::{Clock, Instant};
 // From one note to the next, so that the clock is read once in some hundred microseconds of a guest that computes.
 const TURNS: u64 = 64;
 
-/// The microseconds from the start to the last note of the primary's turns, and of the backup's.
+/// The microseconds from the start to the last note of the primary's turns, and of the backup's: up to 63 turns before the
+/// last of them.
 #[derive(Drop)]
 pub struct Stopwatch<'a, C: Clock> {
     clock: &'a C,
@@ -28,13 +29,12 @@ impl<'a, C: Clock> Stopwatch<'a, C> {
         })
     }
 
-    /// How many microseconds after the start the primary had its last turns: when its guest had done all, and each of its
-    /// bytes was accepted.
+    /// When the primary had its last turns, to within 64 of them: its guest had done all, and each of its bytes was accepted.
     pub fn primary(&self) -> u64 {
         self.primary.load(Ordering::SeqCst)
     }
 
-    /// How many microseconds after the start the backup had its last turns: when its guest had repeated all.
+    /// When the backup had its last turns, to within 64 of them: its guest had repeated all.
     pub fn backup(&self) -> u64 {
         self.backup.load(Ordering::SeqCst)
     }

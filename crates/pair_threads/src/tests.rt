@@ -3,3 +3,4 @@ mod gates;
 mod pairs;
 mod rests;
 mod rows;
+mod turns;

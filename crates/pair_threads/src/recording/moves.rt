@@ -1,5 +1,5 @@
 //! How a primary's guest moves.
-ghost use Rattle.std.specs.Prelude.{◌≡◌, ◌≢◌, ◌<◌, ◌↔◌, [], None, Some, true, false, OnOk, Contains};
+ghost use Rattle.std.specs.Prelude.{◌≡◌, ◌≢◌, ◌<◌, ◌↔◌, ◌⊎◌, [], None, Some, true, false, length, Contains, IsTrue, OnOk};
 ghost use Rattle.event_callbacks.specs.declared.devices.TheConstants.{PORTS};
 ghost use Rattle.event_callbacks.specs.declared.operations.OpId.{OpId};
 ghost use Rattle.event_callbacks.specs.declared.operations.OpId.TheVariants as id;
@@ -155,7 +155,9 @@ impl<B: Lockstep> Recording<B> {
     }
 
     /// Whether it gets on only if others do something: it idles, has just given an operation, or has several outstanding.
-    pub(crate) fn is_held_up(&self) -> bool {
+    pub(crate) fn is_held_up(&self) -> bool
+        ensures { IsTrue result ↔ ((self.now.idle ≡ true) ⊎ ((self.now.waiting ≢ None) ⊎ (1 < length self.now.given.items))) }
+    {
         self.idle || self.waiting.is_some() || self.given.len() > 1
     }
 
