@@ -1,7 +1,7 @@
-//! Gates that hold the first turns of the workers.
+//! Gates that hold the first turns of the workers, or count them all.
 
 use crate::{Gate, Who};
-use std::sync::atomic::{AtomicBool, Ordering};
+use std::sync::atomic::{AtomicBool, AtomicU64, Ordering};
 use std::thread;
 
 /// Holds the first turn of primary and backup until both have begun, and that of terminals and disk until the primary
@@ -64,4 +64,39 @@ impl Gate for Closed {
     }
 
     fn leave(&self, _who: Who, _turn: u64) {}
+}
+
+/// Holds nobody, and counts the turns that were entered, and those that were left.
+#[derive(Drop)]
+pub(super) struct Turnstile {
+    entered: AtomicU64,
+    left: AtomicU64,
+}
+
+impl Turnstile {
+    pub(super) fn new() -> Turnstile {
+        Turnstile {
+            entered: AtomicU64::new(0),
+            left: AtomicU64::new(0),
+        }
+    }
+
+    pub(super) fn entered(&self) -> u64 {
+        self.entered.load(Ordering::SeqCst)
+    }
+
+    pub(super) fn left(&self) -> u64 {
+        self.left.load(Ordering::SeqCst)
+    }
+}
+
+impl Gate for Turnstile {
+    fn enter(&self, _who: Who, _turn: u64) -> bool {
+        let _ = self.entered.fetch_add(1, Ordering::SeqCst);
+        true
+    }
+
+    fn leave(&self, _who: Who, _turn: u64) {
+        let _ = self.left.fetch_add(1, Ordering::SeqCst);
+    }
 }

@@ -74,12 +74,12 @@ fn boot<T: Completes + Drop, S: Completes + Drop, W: Completes + Drop>(
     }
 }
 
-/// How a pair is to end that nobody leaves: how many entries are in both lists and acknowledged, what the terminal of
-/// port 0 has accepted, the count of the primary's guest if it is always the same, and the number of the last write of sector 0 of track 0.
+/// How a pair is to end that nobody leaves: how many entries are in both lists and acknowledged, what the terminals of
+/// both ports have accepted, the count of the primary's guest if it is always the same, and the number of the last write of sector 0 of track 0.
 #[derive(Clone, Copy)]
 pub(super) struct Want<'a> {
     pub(super) entries: usize,
-    pub(super) accepted: &'a [u8],
+    pub(super) accepted: [&'a [u8]; 2],
     pub(super) count: Option<u64>,
     pub(super) write: u64,
 }
@@ -188,9 +188,9 @@ pub(super) fn ends<
     assert_eq!(rt; end.primary.len(), entries);
     assert!(rt; end.primary.as_slice() == end.backup.as_slice());
     assert_eq!(rt; end.held, entries as u64);
-    let accepted = want.accepted;
-    assert_eq!(rt; end.accepted[0].as_slice(), accepted);
-    assert!(rt; end.accepted[1].is_empty());
+    let [first, second] = want.accepted;
+    assert_eq!(rt; end.accepted[0].as_slice(), first);
+    assert_eq!(rt; end.accepted[1].as_slice(), second);
     let address = SectorAddress {
         drive: 0,
         track: 0,

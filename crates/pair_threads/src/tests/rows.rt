@@ -1,7 +1,7 @@
 //! Pairs of Altairs on threads, from boot to their ends.
 ghost use Rattle.std.specs.Prelude.{◌≡◌, IsTrue};
 
-use super::gates::{Closed, Together};
+use super::gates::{Closed, Together, Turnstile};
 use super::pairs::{Case, Want, alone, ends, is_refused, is_won};
 use crate::{Fate, Gate, OpenGate, Who};
 use event_callbacks::plain_completions;
@@ -9,11 +9,16 @@ use i8080_words::{Fault, R};
 use std::alloc::Global;
 use std::process::Abort;
 use std::thread::Threads;
-use std::time::Clock;
+use std::time::{Clock, Instant};
 
 // MVI A,03; OUT 10; MVI A,15; OUT 10: port 0 is reset, and set; then MVI A,48; OUT 11; HLT.
 const FIRST_BYTE: [u8; 13] = [
     0x3e, 0x03, 0xd3, 0x10, 0x3e, 0x15, 0xd3, 0x10, 0x3e, 0x48, 0xd3, 0x11, 0x76,
+];
+
+// The same at port 1.
+const FIRST_BYTE_AT_1: [u8; 13] = [
+    0x3e, 0x03, 0xd3, 0x12, 0x3e, 0x15, 0xd3, 0x12, 0x3e, 0x48, 0xd3, 0x13, 0x76,
 ];
 
 // B is 137; drive 0 is selected and its head loaded (OUT 08, OUT 09); at 0009 it waits for a sector, then begins to
@@ -30,6 +35,18 @@ const TWO_KEYS: [u8; 25] = [
     0xdb, 0x11, 0xd3, 0x11, 0x05, 0xc2, 0x0a, 0x00, 0x76,
 ];
 
+// Port 0 is set with its receive interrupt, and the guest halts with interrupts on, time and again; at 0038 a key is read, and
+// sent back.
+const KEYS_BY_INTERRUPT: [u8; 61] = [
+    0x31, 0x00, 0x80, 0x3e, 0x95, 0xd3, 0x10, 0xfb, 0x76, 0xc3, 0x07, 0x00, 0x00, 0x00, 0x00, 0x00,
+    0x00, 0x00, 0x00, 0x00, 0x00, 0x00, 0x00, 0x00, 0x00, 0x00, 0x00, 0x00, 0x00, 0x00, 0x00, 0x00,
+    0x00, 0x00, 0x00, 0x00, 0x00, 0x00, 0x00, 0x00, 0x00, 0x00, 0x00, 0x00, 0x00, 0x00, 0x00, 0x00,
+    0x00, 0x00, 0x00, 0x00, 0x00, 0x00, 0x00, 0x00, 0xdb, 0x11, 0xd3, 0x11, 0xc9,
+];
+
+// It halts.
+const HALT: [u8; 1] = [0x76];
+
 // It jumps to itself.
 const FOREVER: [u8; 3] = [0xc3, 0x00, 0x00];
 
@@ -37,29 +54,40 @@ const FOREVER: [u8; 3] = [0xc3, 0x00, 0x00];
 fn first_byte() -> Want<'static> {
     Want {
         entries: 2,
-        accepted: &[0x48],
+        accepted: [&[0x48], &[]],
         count: Some(7),
         write: 0,
     }
 }
 
-// Runs a case with the plain completions, through threads that wait for each other.
-fn together<H: Threads + Clock + Sync + Abort>(
+// Runs a case with the plain completions through a gate.
+fn through<G: Gate + Sync, H: Threads + Clock + Sync + Abort>(
     rt: &H,
     alloc: Global,
     case: &Case,
+    gate: &G,
     want: &Want,
 ) -> R<()> {
     ends(
         rt,
         alloc,
         case,
-        &Together::new(),
+        gate,
         want,
         plain_completions::sent,
         plain_completions::sector,
         plain_completions::written,
     )
+}
+
+// Runs a case on threads that wait for each other.
+fn together<H: Threads + Clock + Sync + Abort>(
+    rt: &H,
+    alloc: Global,
+    case: &Case,
+    want: &Want,
+) -> R<()> {
+    through(rt, alloc, case, &Together::new(), want)
 }
 
 fn stalls<G: Gate + Sync, H: Threads + Clock + Sync + Abort>(
@@ -83,6 +111,28 @@ fn stalls<G: Gate + Sync, H: Threads + Clock + Sync + Abort>(
 #[test]
 fn a_byte_goes_out(rt: HostRuntime) -> R<()> {
     together(&rt, rt.alloc(), &alone(&FIRST_BYTE), &first_byte())
+}
+
+#[test]
+fn a_byte_goes_out_at_port_1(rt: HostRuntime) -> R<()> {
+    let mut want = first_byte();
+    want.accepted = [&[], &[0x48]];
+    together(&rt, rt.alloc(), &alone(&FIRST_BYTE_AT_1), &want)
+}
+
+#[test]
+fn each_turn_leaves_the_gate(rt: HostRuntime) -> R<()> {
+    let turnstile = Turnstile::new();
+    through(
+        &rt,
+        rt.alloc(),
+        &alone(&FIRST_BYTE),
+        &turnstile,
+        &first_byte(),
+    )?;
+    assert!(rt; turnstile.entered() > 0);
+    assert_eq!(rt; turnstile.left(), turnstile.entered());
+    Ok(())
 }
 
 // More fates than there are packets.
@@ -132,11 +182,28 @@ fn a_primary_goes_on_alone(rt: HostRuntime) -> R<()> {
     wins(&rt, rt.alloc(), &contested, Who::Primary)
 }
 
+// A backup that finds nothing in 2,400 turns sleeps after 2,000 of them at the latest: for 175 milliseconds in all. Without
+// sleeps a machine with processors to spare takes some milliseconds.
+#[test]
+fn a_pair_that_waits_sleeps(rt: HostRuntime) -> R<()> {
+    let mut waits = alone(&HALT);
+    waits.backup_contests = Some(2_400);
+    let Ok(start) = Instant::now(&rt) else {
+        return Err(Fault::Stalled);
+    };
+    wins(&rt, rt.alloc(), &waits, Who::Backup)?;
+    let Ok(passed) = start.elapsed(&rt) else {
+        return Err(Fault::Stalled);
+    };
+    assert!(rt; passed.as_millis() >= 175);
+    Ok(())
+}
+
 // The sector that is read, the mark of the write, its completion, and the sector that comes under the head next.
 fn sector_written() -> Want<'static> {
     Want {
         entries: 4,
-        accepted: &[],
+        accepted: [&[], &[]],
         count: None,
         write: 1,
     }
@@ -159,18 +226,32 @@ fn a_disk_that_fails_is_asked_again(rt: HostRuntime) -> R<()> {
 }
 
 // Two keys, two marks, two acceptances, with many steps in a turn.
-#[test]
-fn keys_come_back(rt: HostRuntime) -> R<()> {
-    let mut echo = alone(&TWO_KEYS);
+fn two_keys_come_back<H: Threads + Clock + Sync + Abort>(
+    rt: &H,
+    alloc: Global,
+    program: &[u8],
+) -> R<()> {
+    let mut echo = alone(program);
     echo.typed = &[0x41, 0x42];
     echo.steps = 10_000;
     let want = Want {
         entries: 6,
-        accepted: &[0x41, 0x42],
+        accepted: [&[0x41, 0x42], &[]],
         count: None,
         write: 0,
     };
-    together(&rt, rt.alloc(), &echo, &want)
+    together(rt, alloc, &echo, &want)
+}
+
+#[test]
+fn keys_come_back(rt: HostRuntime) -> R<()> {
+    two_keys_come_back(&rt, rt.alloc(), &TWO_KEYS)
+}
+
+// Between keys no count grows.
+#[test]
+fn keys_come_back_from_a_guest_that_idles(rt: HostRuntime) -> R<()> {
+    two_keys_come_back(&rt, rt.alloc(), &KEYS_BY_INTERRUPT)
 }
 
 #[test]
