@@ -29,12 +29,13 @@ impl<'a, C: Clock> Stopwatch<'a, C> {
         })
     }
 
-    /// When the primary had its last turns, to within 64 of them: its guest had done all, and each of its bytes was accepted.
+    /// How many microseconds after the start the primary had its last turns, to within 64 of them: its guest had done all,
+    /// and each of its bytes was accepted.
     pub fn primary(&self) -> u64 {
         self.primary.load(Ordering::SeqCst)
     }
 
-    /// When the backup had its last turns, to within 64 of them: its guest had repeated all.
+    /// How many microseconds after the start the backup had its last turns, to within 64 of them: its guest had repeated all.
     pub fn backup(&self) -> u64 {
         self.backup.load(Ordering::SeqCst)
     }
