@@ -31,6 +31,7 @@ pub mod Refusing
 pub mod Settling
 pub mod Growing
 pub mod Running
+pub mod Chaining
 pub mod Lending
 pub mod Counting
 pub mod Choices

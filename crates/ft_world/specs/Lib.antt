@@ -11,4 +11,5 @@ pub mod Lending
 pub mod Opening
 pub mod Applies
 pub mod Beginning
+pub mod Chaining
 pub mod Choices

@@ -6,6 +6,7 @@ ghost use Rattle.pair_protocol.specs.World.{with_host};
 ghost use Rattle.ft_world.specs.Applies.{Happens, IsFaithful, Runs, Shows, ShowsSome};
 ghost use Rattle.ft_world.specs.Applies.{failures_over, failures_told};
 ghost use Rattle.ft_world.specs.Beginning.{MayBegin, MayBeginSome, beginning};
+ghost use Rattle.ft_world.specs.Chaining.{HaveApplied};
 ghost use Rattle.ft_world.specs.Standing.{Course, machine_of};
 ghost use Rattle.ft_world.specs.Freshened.{TellsStale};
 ghost use Rattle.ft_world.specs.Pairs.{running_of};
@@ -111,6 +112,8 @@ impl<B: Copies<H> + Drop, D: SectorStore, H: Drop> Pair<B, D, H> {
         ensures ok { IfOk result (λ answers. (c : Course B.State)
             → Shows B.state B.copied B.machine D.records (running_of self.old) c
             → Runs B.state B.copied B.machine D.records c events.now answers.items (running_of self.new)) }
+        ensures each { IfOk result (λ answers. HaveApplied B.state B.copied B.machine D.records D.failures B.stale
+            (running_of self.old) events.now answers.items (running_of self.new)) }
         ensures counted { IfOk result (λ answers. D.failures self.new.disk
             ≡ D.failures self.old.disk + failures_over events.now answers.items) }
         ensures spares { SparesLeft self.old.hosts.items self.new.hosts.items }

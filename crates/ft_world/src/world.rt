@@ -44,6 +44,7 @@ impl<B: Copies<H> + Drop, D: SectorStore, H: Drop> World<B, D, H> {
     ghost use Rattle.ft_world.specs.Applies.{Happens, IsFaithful, IsSectorOf, Runs, Shows};
     ghost use Rattle.ft_world.specs.Applies.{failures_over, failures_told};
     ghost use Rattle.ft_world.specs.Beginning.{MayBegin, MayBeginSome, beginning};
+    ghost use Rattle.ft_world.specs.Chaining.{HaveApplied};
     ghost use Rattle.ft_world.specs.Freshened.{TellsStale};
     ghost use Rattle.ft_world.specs.Shows.{Agree, IsStatusAt};
     ghost use Rattle.ft_world.specs.Standing.{Course, machine_of};
@@ -116,6 +117,8 @@ impl<B: Copies<H> + Drop, D: SectorStore, H: Drop> World<B, D, H> {
     pub fn run(&mut self, alloc: Global, events: &[Event]) -> R<Vec<R<Reply>>>
         ensures ok { IfOk result (λ answers. (c : Course B.State) → Shows B.state B.copied B.machine D.records self.old c
             → Runs B.state B.copied B.machine D.records c events.now answers.items self.new) }
+        ensures each { IfOk result (λ answers. HaveApplied B.state B.copied B.machine D.records D.failures B.stale
+            self.old events.now answers.items self.new) }
         ensures counted { IfOk result (λ answers. D.failures self.new.disk
             ≡ D.failures self.old.disk + failures_over events.now answers.items) }
         ensures spares { SparesLeft self.old.hosts self.new.hosts }

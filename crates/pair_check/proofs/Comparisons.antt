@@ -99,7 +99,7 @@ module _ (drives : ℕ) (d : Deeds) (records : List Record) (output : ℕ → Li
   by_sectors true outputs all some = Alike (record { outputs = outputs; disk = good_all (all refl) })
   by_sectors false outputs all some = bad_some (some refl)
 
-alike_by : (drives : ℕ) (d : Deeds) (output output' : ℕ → List ℕ) (writes writes' : List SectorWrite)
+pub alike_by : (drives : ℕ) (d : Deeds) (output output' : ℕ → List ℕ) (writes writes' : List SectorWrite)
     (image image' : SectorAddress → List ℕ) → ((port : ℕ) → port < 2 → output port ≡ output' port) → writes ≡ writes'
     → ((address : SectorAddress) → IsTrue (has_sector drives address) → image address ≡ image' address)
     → IsAlike drives d output writes image → IsAlike drives d output' writes' image'

@@ -1,6 +1,5 @@
 -- What a command prints is a run of the program.
 use Rattle.std.proofs.Common.{ℕ, Option, List, Result, Ok, Err}
-use Rattle.std.specs.Prelude.{⊤}
 use Rattle.pair_main.specs.Living.{PrintsLive, typed_in}
 use Rattle.pair_main.specs.Printing.{Prints}
 use Rattle.pair_main.specs.Runs.{IsObeyed, IsRun}
@@ -15,29 +14,29 @@ use Rattle.script_language.specs.declared.line.Line.{Line}
 use Rattle.script_language.specs.declared.setup.ScriptSetup.{ScriptSetup}
 
 module _ {R W : Type 0} (contents : W → Option (List ℕ)) (reader reader' : R) (writer writer' : W) where
-  by_script : (order : Order) (lines : ℕ) (result : Result (Unit {0}) Failure)
-      → Prints order lines (λ verdict. ⊤) result (contents writer) (contents writer')
+  by_script : (order : Order) (setup : ScriptSetup) (lines : List Line) (result : Result (Unit {0}) Failure)
+      → Prints order setup lines result (contents writer) (contents writer')
       → IsObeyed result (contents writer) (contents writer')
-  by_script order lines result h = record { request = Run order; obeys = (lines, h) }
+  by_script order setup lines result h = record { request = Run order; obeys = (setup, lines, h) }
 
   by_session : (result : Result (Unit {0}) Failure) → Answers result (contents writer) (contents writer')
       → IsObeyed result (contents writer) (contents writer')
   by_session result h = record { request = Shell; obeys = h }
 
   -- what a run of a script prints is a run of the program, whatever was read
-  pub is_run : (order : Order) (lines : ℕ) (result : Result (Unit {0}) Failure)
-      → Prints order lines (λ verdict. ⊤) result (contents writer) (contents writer')
+  pub is_run : (order : Order) (setup : ScriptSetup) (lines : List Line) (result : Result (Unit {0}) Failure)
+      → Prints order setup lines result (contents writer) (contents writer')
       → IsRun contents reader reader' writer writer' result
-  is_run order lines (Ok done) h = by_script order lines (Ok done) h
-  is_run order lines (Err failure.OutOfMemory) h = by_script order lines (Err failure.OutOfMemory) h
-  is_run order lines (Err failure.InputOrOutput) h = by_script order lines (Err failure.InputOrOutput) h
-  is_run order lines (Err failure.Differs) h = by_script order lines (Err failure.Differs) h
-  is_run Script lines (Err (failure.CommandLine text)) h = absurd h
-  is_run Script lines (Err failure.Stalled) h = absurd h
-  is_run Script lines (Err (failure.BadScript line)) h = absurd h
-  is_run Check lines (Err (failure.CommandLine text)) h = absurd h
-  is_run Check lines (Err failure.Stalled) h = absurd h
-  is_run Check lines (Err (failure.BadScript line)) h = absurd h
+  is_run order setup lines (Ok done) h = by_script order setup lines (Ok done) h
+  is_run order setup lines (Err failure.OutOfMemory) h = by_script order setup lines (Err failure.OutOfMemory) h
+  is_run order setup lines (Err failure.InputOrOutput) h = by_script order setup lines (Err failure.InputOrOutput) h
+  is_run order setup lines (Err failure.Differs) h = by_script order setup lines (Err failure.Differs) h
+  is_run Script setup lines (Err (failure.CommandLine text)) h = absurd h.1
+  is_run Script setup lines (Err failure.Stalled) h = absurd h.1
+  is_run Script setup lines (Err (failure.BadScript line)) h = absurd h.1
+  is_run Check setup lines (Err (failure.CommandLine text)) h = absurd h.1
+  is_run Check setup lines (Err failure.Stalled) h = absurd h.1
+  is_run Check setup lines (Err (failure.BadScript line)) h = absurd h.1
 
   -- so is what a session answers
   pub is_session : (result : Result (Unit {0}) Failure) → Answers result (contents writer) (contents writer')

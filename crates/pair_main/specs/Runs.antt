@@ -1,5 +1,5 @@
 -- One run of the program: what it has read and printed, and how it ends.
-use Rattle.std.specs.Prelude.{◌≡◌, ℕ, ◌⊎◌, ⊤, Bool, true, false, Option, List, [], Result, Ok, Err}
+use Rattle.std.specs.Prelude.{◌≡◌, ℕ, ◌⊎◌, Bool, true, false, Option, List, [], Result, Ok, Err}
 use Rattle.std.specs.Cow.{cow_str_bytes}
 use Rattle.std.specs.declared.borrow.CowStr.{CowStr}
 use Rattle.pair_main.specs.Living.{PrintsLive, typed_in}
@@ -28,7 +28,7 @@ is_of_input _ = false
 
 -- what a command prints: a script of some lines is run by an order, a pair runs on threads, or lines are answered as they come
 abbrev pub Obeys : Request → Result (Unit {0}) Failure → Option (List ℕ) → Option (List ℕ) → Type 0
-Obeys (Run order) result old new = (lines : ℕ) × Prints order lines (λ verdict. ⊤) result old new
+Obeys (Run order) result old new = (setup : ScriptSetup) × (lines : List Line) × Prints order setup lines result old new
 Obeys (Live order) result old new =
     (setup : ScriptSetup) × (lines : List Line) × PrintsLive setup (typed_in 0 lines) (typed_in 1 lines) result old new
 Obeys Shell result old new = Answers result old new

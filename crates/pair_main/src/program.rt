@@ -1,5 +1,5 @@
 //! One run of the program.
-ghost use Rattle.std.specs.Prelude.{◌≡◌, IfErr, length, true, ⊤};
+ghost use Rattle.std.specs.Prelude.{◌≡◌, IfErr, true};
 ghost use Rattle.pair_main.specs.Living.{PrintsLive, typed_in};
 ghost use Rattle.pair_main.specs.Printing.{Prints};
 ghost use Rattle.pair_main.specs.Runs.{IsRun, IsEnding, is_of_input};
@@ -90,7 +90,7 @@ fn run_script<W: Write + Drop>(
     script: &Script,
     writer: &mut W,
 ) -> Result<(), Failure>
-    ensures { Prints order (length script.now.lines.items) (λ verdict. ⊤) result
+    ensures { Prints order script.now.setup script.now.lines.items result
         (W.contents writer.old) (W.contents writer.new) }
 {
     let mut report = Report::new(alloc);

@@ -1,5 +1,5 @@
 //! A pair of Altairs, from its boot to the end of a script.
-ghost use Rattle.std.specs.Prelude.{◌≡◌, IfOk, length, map, ⊤};
+ghost use Rattle.std.specs.Prelude.{◌≡◌, ◌∷◌, [], IfErr, IfOk, OnOk, map};
 ghost use Rattle.event_callbacks.specs.declared.devices.TheConstants.{SENT, SECTOR, WRITTEN};
 ghost use Rattle.event_callbacks.specs.Keeping.{Keeps};
 ghost use Rattle.ft_world.specs.Applies.{Shows};
@@ -8,8 +8,10 @@ ghost use Rattle.guest_board.specs.Guest.{altair};
 ghost use Rattle.plain_single.specs.Image.{boot_sectors};
 ghost use Rattle.pair_check.specs.Comparing.{IsVerdictOn};
 ghost use Rattle.pair_check.specs.Disks.{records_in, over_records};
-ghost use Rattle.pair_main.specs.Printing.{AnswersLines, Prints, PrintsVerdict};
+ghost use Rattle.pair_events.specs.Printed.{answer_text};
+ghost use Rattle.pair_main.specs.Printing.{AnswersLines, HandsNone, Prints, PrintsVerdict};
 ghost use Rattle.pair_main.specs.Reports.{handed};
+ghost use Rattle.pair_main.specs.Running.{HasHappened, HaveAnswers, HaveHappened};
 ghost use Rattle.script_language.specs.Scripts.{boot_write};
 
 use crate::failure::Failure;
@@ -17,11 +19,11 @@ use crate::options::Order;
 use crate::report::Report;
 use clone_state::{Copies, DraftedBoard};
 use disk_dcdd::SectorWrite;
-use event_callbacks::Completes;
+use event_callbacks::{Callbacks, Completes};
 use ft_world::World;
 use guest_board::Setup;
 use i8080_words::R;
-use pair_check::{Disk, Verdict, compare};
+use pair_check::{Disk, Verdict, compare, faithful_pairs_are_alike};
 use pair_events::{Answer, Event};
 use pair_shell::{boot, find};
 use script_language::{BootSector, Line, Script};
@@ -48,9 +50,10 @@ pub fn run<
     requires sent { Keeps (T.may sent) (T.gives sent) SENT }
     requires sector { Keeps (S.may sector) (S.gives sector) SECTOR }
     requires written { Keeps (W.may written) (W.gives written) WRITTEN }
-    ensures { Prints order (length script.now.lines.items) (λ verdict. ⊤) result
+    ensures { Prints order script.now.setup script.now.lines.items result
         (handed (O.contents writer.old) report.old) (handed (O.contents writer.new) report.new) }
 {
+    faithful_pairs_are_alike::<DraftedBoard<T, S, W>, Callbacks<T, S, W>>();
     let setup = &script.setup;
     let sectors = writes_of(alloc, &setup.sectors)?;
     let mut world = boot(alloc, setup, &sectors, sent, sector, written)?;
@@ -75,8 +78,6 @@ fn check<B: Copies<H> + Drop, H: Drop, O: Write + Drop>(
     ensures verdict { (c : Course B.State) → Shows B.state B.copied B.machine records_in world.old c
         → PrintsVerdict (IsVerdictOn (altair setup.now (boot_sectors sectors.now)) setup.now.drives
         (machine_of B.machine c) c.world world.old.disk.store) result
-        (handed (O.contents writer.old) report.old) (handed (O.contents writer.new) report.new) }
-    ensures printed { PrintsVerdict (λ verdict. ⊤) result
         (handed (O.contents writer.old) report.old) (handed (O.contents writer.new) report.new) }
     ensures unchanged { over_records world.new ≡ over_records world.old }
 {
@@ -104,11 +105,23 @@ fn run_silently<B: Copies<H> + Drop, H: Drop>(
     alloc: Global,
     world: &mut World<B, Disk, H>,
     lines: &[Line],
-) {
+)
+    ensures { (c : Course B.State) → Shows B.state B.copied B.machine records_in world.old c
+        → HaveHappened B.state B.copied B.machine c lines.now world.new }
+{
     for line in lines {
-        if let Line::Event(event) = line {
-            let _ = world.apply(alloc, *event);
-        }
+        pass(alloc, world, *line);
+    }
+}
+
+// Makes a line's event happen, if it has one.
+#[tactic(auto, using(crate::proofs::Lines::passes_event, crate::proofs::Lines::passes_query))]
+fn pass<B: Copies<H> + Drop, H: Drop>(alloc: Global, world: &mut World<B, Disk, H>, line: Line)
+    ensures { (c : Course B.State) → Shows B.state B.copied B.machine records_in world.old c
+        → HaveHappened B.state B.copied B.machine c (line ∷ []) world.new }
+{
+    if let Line::Event(event) = line {
+        let _ = world.apply(alloc, event);
     }
 }
 
@@ -120,7 +133,8 @@ fn answer_each<B: Copies<H> + Drop, H: Drop, O: Write + Drop>(
     report: &mut Report,
     writer: &mut O,
 ) -> Result<(), Failure>
-    ensures { AnswersLines (length lines.now) result
+    ensures { (c : Course B.State) → Shows B.state B.copied B.machine records_in world.old c
+        → AnswersLines (machine_of B.machine c) c.copying c.world lines.now result
         (handed (O.contents writer.old) report.old) (handed (O.contents writer.new) report.new) }
 {
     for line in lines {
@@ -141,7 +155,7 @@ fn turns_of(line: Line) -> u64 {
 }
 
 // Answers a line.
-#[tactic(auto, using(crate::proofs::Handing::answered))]
+#[tactic(auto, using(crate::proofs::Lines::event_answers, crate::proofs::Lines::query_answers, crate::proofs::Handing::hands_none))]
 fn answer<B: Copies<H> + Drop, H: Drop, O: Write + Drop>(
     alloc: Global,
     world: &mut World<B, Disk, H>,
@@ -149,17 +163,32 @@ fn answer<B: Copies<H> + Drop, H: Drop, O: Write + Drop>(
     report: &mut Report,
     writer: &mut O,
 ) -> Result<(), Failure>
-    ensures { AnswersLines 1 result
-        (handed (O.contents writer.old) report.old) (handed (O.contents writer.new) report.new) }
+    ensures answered { OnOk result ((c : Course B.State) → Shows B.state B.copied B.machine records_in world.old c
+        → HaveAnswers B.state B.copied B.machine c (line ∷ []) world.new
+        (handed (O.contents writer.old) report.old) (handed (O.contents writer.new) report.new)) }
+    ensures failed { IfErr result (λ e. HandsNone e
+        (handed (O.contents writer.old) report.old) (handed (O.contents writer.new) report.new)) }
 {
     match line {
         Line::Event(event) => {
-            let answer = match world.apply(alloc, event) {
-                Ok(reply) => Answer::Reply(reply),
-                Err(fault) => Answer::Refused(fault),
-            };
+            let answer = happen(alloc, world, event);
             report.line(writer, &answer)
         }
         Line::Query(query) => report.line(writer, &find(world, query)),
+    }
+}
+
+// Makes an event happen, and answers it.
+fn happen<B: Copies<H> + Drop, H: Drop>(
+    alloc: Global,
+    world: &mut World<B, Disk, H>,
+    event: Event,
+) -> Answer<'static>
+    ensures { (c : Course B.State) → Shows B.state B.copied B.machine records_in world.old c
+        → HasHappened B.state B.copied B.machine c event (answer_text result) world.new }
+{
+    match world.apply(alloc, event) {
+        Ok(reply) => Answer::Reply(reply),
+        Err(fault) => Answer::Refused(fault),
     }
 }

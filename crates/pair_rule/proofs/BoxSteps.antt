@@ -10,6 +10,9 @@ use Rattle.pair_rule.specs.declared.view.Core.{Core}
 use Rattle.pair_rule.specs.declared.view.SeatView.{SeatView}
 use Rattle.pair_rule.specs.Boxes.{box_index, Who, seat_index, filler, emptier, slot_of, is_full, number_of, full_word, empty_word, Boxed, filler_met, side}
 use Rattle.pair_rule.specs.Knowledge.{words_of, Fits, CanFill, after_fill, after_empty, WhereSome}
+use Rattle.pair_rule.specs.Histories.{AsksNot, MayPut}
+use Rattle.pair_rule.specs.Histories as plain
+use Rattle.pair_rule.proofs.Histories.{asks_same, may_put}
 use Rattle.pair_rule.specs.Rules.{Same, has, Facts, Rule, new_side}
 use Rattle.pair_rule.specs.Kinds.{Mine, side_at, filled, emptied, found_empty, with_core, Filled, Emptied, fills, empties}
 use Rattle.pair_rule.proofs.Slots.{swapped, found, within, or_both}
@@ -84,12 +87,14 @@ module _ (g : ℕ) (s : Table) (r : Rule g s) (id : ℕ) (v : SeatView) (at : ge
     fill_goes : (q : Payload) → has v (filler b) → get_elem? v.core.hands (seat_index (filler b)) ≡ some hand
         → get_elem? v.core.has_slot (seat_index (filler b)) ≡ some true
         → new ≡ full_word ((side_at v.core.fills (box_index b)).number + 1) hand → CanFill b v.core.known q
+        → MayPut b v.core.known q
         → Goes g s.words s.homes s.views (5 + box_index b) id (v, (hand, Some q) ∷ []) (λ _. new)
         (fills (5 + box_index b) (v, (hand, Some q) ∷ []))
-    fill_goes q mine hands has_slot is can =
+    fill_goes q mine hands has_slot is can may =
         let f = r.facts in let o = own (filler b) mine in let sides : side_at v.core.fills (box_index b) ≡ side_at core.fills
         (box_index b) = or_both v.core.fills core.fills (box_index b) new_side (o.fills b refl) in
-        let k = fill_keeps core.known f.stands b q (can_same b q v.core.known core.known o.generation o.known can) in
+        let could = can_same b q v.core.known core.known o.generation o.known can in
+        let k = fill_keeps core.known f.stands b q could in
         let l = local_fill b q in
         let y : Side → Side = λ z. side (z.number + 1) (filler_met (is_full word) word z.met) (Some q) in
         let full = f.laid.full (box_index b) word (at_here g r.boxes s.homes core f b hand) in
@@ -103,7 +108,8 @@ module _ (g : ℕ) (s : Table) (r : Rule g s) (id : ℕ) (v : SeatView) (at : ge
         (y (side_at core.fills (box_index b))) t z core refl ne e)
         (subst (λ z. Facts g (set r.boxes (box_index b) z) (swapped s.homes hand (Some q) (slot_of word)) (filled b q word core))
         (sym (is ∙ ap (λ (z : Side). full_word (z.number + 1) hand) sides))
-        (fill_facts g r.boxes s.homes core f b hand q (sym o.hand ∙ hands) (sym o.has_slot ∙ has_slot) l k.0 k.1))
+        (fill_facts g r.boxes s.homes core f b hand q (sym o.hand ∙ hands) (sym o.has_slot ∙ has_slot) l k.0 k.1
+        (plain.Goes f.ran (plain.Fills b q (may_put b q v.core.known core.known o.known may) could))))
         full.0 full.1
         (λ small c e. let same = one_box b c (let z : 5 + box_index b ≡ 5 + box_index c = e in omega arith) in
         subst (λ (z : Mailbox). Filled z (v, (hand, Some q) ∷ []) word
@@ -113,14 +119,14 @@ module _ (g : ℕ) (s : Table) (r : Rule g s) (id : ℕ) (v : SeatView) (at : ge
               (same_load ((hand, Some q) ∷ []) hand h q p refl has),
         ))
 
-    empty_goes : (x : Option Payload) → has v (emptier b) → get_elem? v.core.hands (seat_index (emptier b)) ≡ some hand
+    empty_goes : (x : Option Payload) → AsksNot (emptier b) v.core.known → has v (emptier b) → get_elem? v.core.hands (seat_index (emptier b)) ≡ some hand
         → get_elem? v.core.has_slot (seat_index (emptier b)) ≡ some true
         → new ≡ empty_word ((side_at v.core.empties (box_index b)).number + 1) hand
         → (full : Bool) → is_full word ≡ full
         → Boxed word s.homes (side_at core.fills (box_index b)) (side_at core.empties (box_index b)) full
         → Goes g s.words s.homes s.views (5 + box_index b) id (v, (hand, x) ∷ []) (λ _. new)
         (empties (5 + box_index b) (v, (hand, x) ∷ []))
-    empty_goes x mine hands has_slot is true said box =
+    empty_goes x asks mine hands has_slot is true said box =
         let f = r.facts in let o = own (emptier b) mine in let sides : side_at v.core.empties (box_index b) ≡ side_at core.empties
         (box_index b) = or_both v.core.empties core.empties (box_index b) new_side (o.empties b refl) in
         let q : Payload = box.3.0 in
@@ -142,7 +148,8 @@ module _ (g : ℕ) (s : Table) (r : Rule g s) (id : ℕ) (v : SeatView) (at : ge
         (y (side_at core.empties (box_index b))) t z core refl ne e)
         (subst (λ z. Facts g (set r.boxes (box_index b) z) (swapped s.homes hand x (slot_of word)) (emptied b q word core))
         (sym (is ∙ ap (λ (z : Side). empty_word (z.number + 1) hand) sides))
-        (empty_facts g r.boxes s.homes core f b hand q x (sym o.hand ∙ hands) (sym o.has_slot ∙ has_slot) l k box))
+        (empty_facts g r.boxes s.homes core f b hand q x (sym o.hand ∙ hands) (sym o.has_slot ∙ has_slot) l k
+        (plain.Goes f.ran (plain.Empties b q (asks_same (emptier b) v.core.known core.known o.known asks) fit)) box))
         (Some q) box.3.2
         (λ small c e. let same = one_box b c (let w : 5 + box_index b ≡ 5 + box_index c = e in omega arith) in (
           (Some q, refl, small),
@@ -152,7 +159,7 @@ module _ (g : ℕ) (s : Table) (r : Rule g s) (id : ℕ) (v : SeatView) (at : ge
               (sym said)
               (q, (core.known, record { stands = f.stands; generation = o.generation; same = o.known }, fit), refl, met, refl)),
         ))
-    empty_goes x mine hands has_slot is false said box =
+    empty_goes x asks mine hands has_slot is false said box =
         let f = r.facts in let o = own (emptier b) mine in let sides : side_at v.core.empties (box_index b) ≡ side_at core.empties
         (box_index b) = or_both v.core.empties core.empties (box_index b) new_side (o.empties b refl) in
         let l = nothing (emptier b) in
@@ -180,18 +187,19 @@ pub fill_allowed : (g n id : ℕ) (me : Mine) (b : Mailbox) (hand new : ℕ) (q 
     → get_elem? me.0.core.hands (seat_index (filler b)) ≡ some hand
     → get_elem? me.0.core.has_slot (seat_index (filler b)) ≡ some true
     → me.1 ≡ (hand, Some q) ∷ [] → new ≡ full_word ((side_at me.0.core.fills (box_index b)).number + 1) hand
-    → CanFill b me.0.core.known q → Allows (Rule g) n id me (5 + box_index b) (λ _. new) (fills (5 + box_index b) me)
-fill_allowed g n id me b hand new q mine hands has_slot holds is can s r deep at _ =
+    → CanFill b me.0.core.known q → MayPut b me.0.core.known q → Allows (Rule g) n id me (5 + box_index b) (λ _. new) (fills (5 + box_index b) me)
+fill_allowed g n id me b hand new q mine hands has_slot holds is can may s r deep at _ =
     subst (λ c. Goes g s.words s.homes s.views (5 + box_index b) id (me.0, c) (λ _. new) (fills (5 + box_index b) (me.0, c)))
-    (sym holds) (fill_goes g s r id me.0 at b hand new q mine hands has_slot is can)
+    (sym holds) (fill_goes g s r id me.0 at b hand new q mine hands has_slot is can may)
 
-pub empty_allowed : (g n id : ℕ) (me : Mine) (b : Mailbox) (hand new : ℕ) (x : Option Payload) → has me.0 (emptier b)
+pub empty_allowed : (g n id : ℕ) (me : Mine) (b : Mailbox) (hand new : ℕ) (x : Option Payload)
+    → AsksNot (emptier b) me.0.core.known → has me.0 (emptier b)
     → get_elem? me.0.core.hands (seat_index (emptier b)) ≡ some hand
     → get_elem? me.0.core.has_slot (seat_index (emptier b)) ≡ some true
     → me.1 ≡ (hand, x) ∷ [] → new ≡ empty_word ((side_at me.0.core.empties (box_index b)).number + 1) hand
     → Allows (Rule g) n id me (5 + box_index b) (λ _. new) (empties (5 + box_index b) me)
-empty_allowed g n id me b hand new x mine hands has_slot holds is s r deep at _ =
+empty_allowed g n id me b hand new x asks mine hands has_slot holds is s r deep at _ =
     subst (λ c. Goes g s.words s.homes s.views (5 + box_index b) id (me.0, c) (λ _. new) (empties (5 + box_index b) (me.0, c)))
     (sym holds)
-    (empty_goes g s r id me.0 at b hand new x mine hands has_slot is (is_full (get_or r.boxes (box_index b) 0)) refl
+    (empty_goes g s r id me.0 at b hand new x asks mine hands has_slot is (is_full (get_or r.boxes (box_index b) 0)) refl
     (box g r.boxes s.homes r.core r.facts b hand))

@@ -13,6 +13,7 @@ use Rattle.pair_rule.specs.declared.view.Core.{Core}
 use Rattle.pair_rule.specs.declared.view.SeatView.{SeatView}
 use Rattle.pair_rule.specs.Boxes.{Homes, box_index, Who, seat_index, filler, emptier, slot_of, is_full, number_of, full_word, empty_word, Boxed, filler_met, side, Laid, Boxes}
 use Rattle.pair_rule.specs.Knowledge.{words_of, Fits, Stands, after_fill, after_empty, WhereSome}
+use Rattle.pair_rule.specs.Histories.{PlainRun}
 use Rattle.pair_rule.specs.Rules.{Sized, Same, Facts, Rule, new_side}
 use Rattle.pair_rule.specs.Kinds.{Mine, side_at, filled, emptied, found_empty}
 use Rattle.pair_rule.proofs.Slots as slots
@@ -218,9 +219,10 @@ module _ (g : ℕ) (boxes : List ℕ) (homes : Homes) (c : Core) (f : Facts g bo
   pub fill_facts : (q : Payload) → get_elem? c.hands (seat_index (filler b)) ≡ some hand
       → get_elem? c.has_slot (seat_index (filler b)) ≡ some true
       → Local (filler b) (after_fill b q) → Keeps (after_fill b q) c.known → Fits b (after_fill b q c.known) q
+      → PlainRun (after_fill b q c.known)
       → Facts g (set boxes (box_index b) (full_word ((side_at c.fills (box_index b)).number + 1) hand))
       (swapped homes hand (Some q) (slot_of here)) (filled b q here c)
-  fill_facts q at has_slot l k fit = let n : ℕ = (side_at c.fills (box_index b)).number + 1 in let new : ℕ = full_word n hand in
+  fill_facts q at has_slot l k fit ran = let n : ℕ = (side_at c.fills (box_index b)).number + 1 in let new : ℕ = full_word n hand in
       let near : hand < 16 = (let z = small (filler b) at in omega arith) in let is : slot_of new ≡ hand =
       slot_full n hand near in
       let y : Side = side n (filler_met (is_full here) here (side_at c.fills (box_index b)).met) (Some q) in record {
@@ -239,6 +241,7 @@ module _ (g : ℕ) (boxes : List ℕ) (homes : Homes) (c : Core) (f : Facts g bo
             (Fits j (after_fill b q c.known)) (k.fits j) (f.fitting j z t.1))
             (at_set c.fills (box_index b) (box_index j) y z e);
         stands = k.stands;
+        ran = ran;
       }
 
   fits_on : (turn : Knowledge → Knowledge) → Keeps turn c.known → (j : Mailbox) (z : Side)
@@ -248,11 +251,11 @@ module _ (g : ℕ) (boxes : List ℕ) (homes : Homes) (c : Core) (f : Facts g bo
   -- what an emptying leaves: of a full box, and of an empty one
   pub empty_facts : (q : Payload) (x : Option Payload) → get_elem? c.hands (seat_index (emptier b)) ≡ some hand
       → get_elem? c.has_slot (seat_index (emptier b)) ≡ some true
-      → Local (emptier b) (after_empty b q) → Keeps (after_empty b q) c.known
+      → Local (emptier b) (after_empty b q) → Keeps (after_empty b q) c.known → PlainRun (after_empty b q c.known)
       → Boxed here homes (side_at c.fills (box_index b)) (side_at c.empties (box_index b)) true
       → Facts g (set boxes (box_index b) (empty_word ((side_at c.empties (box_index b)).number + 1) hand))
       (swapped homes hand x (slot_of here)) (emptied b q here c)
-  empty_facts q x at has_slot l k full = let n : ℕ = (side_at c.empties (box_index b)).number + 1 in let new : ℕ =
+  empty_facts q x at has_slot l k ran full = let n : ℕ = (side_at c.empties (box_index b)).number + 1 in let new : ℕ =
       empty_word n hand in
       let near : hand < 16 = (let z = small (emptier b) at in omega arith) in let is : slot_of new ≡ hand =
       slot_empty n hand near in
@@ -266,6 +269,7 @@ module _ (g : ℕ) (boxes : List ℕ) (homes : Homes) (c : Core) (f : Facts g bo
             (side_at c.empties (box_index b)) hand x (Some q) near (in_box (emptier b) x at new is) full);
         fitting = fits_on (after_empty b q) k;
         stands = k.stands;
+        ran = ran;
       }
 
   pub found_facts : (x : Option Payload) → get_elem? c.hands (seat_index (emptier b)) ≡ some hand
@@ -287,4 +291,5 @@ module _ (g : ℕ) (boxes : List ℕ) (homes : Homes) (c : Core) (f : Facts g bo
             (in_box (emptier b) x at new is) none);
         fitting = f.fitting;
         stands = f.stands;
+        ran = f.ran;
       }

@@ -17,11 +17,12 @@ use Rattle.pair_rule.specs.declared.payload.DiskRequest.TheVariants as ask
 use Rattle.pair_rule.specs.declared.payload.DiskAnswer.{DiskAnswer}
 use Rattle.pair_rule.specs.declared.payload.DiskAnswer.TheVariants as answer
 use Rattle.pair_rule.specs.declared.view.Arrived.{Arrived}
+use Rattle.pair_rule.specs.declared.view.PrimaryCall.{PrimaryCall}
 use Rattle.pair_rule.specs.declared.view.PrimaryView.{PrimaryView}
 use Rattle.pair_rule.specs.declared.view.DiskView.{DiskView}
 use Rattle.pair_rule.specs.declared.view.Knowledge.{Knowledge}
 use Rattle.pair_rule.specs.Boxes.{filler, emptier}
-use Rattle.pair_rule.specs.Knowledge.{IsEntryOf, IsByteOf, IsAsked, IsReplied, Fits, WhereSome, AllAre, PortStands, Stands, grown, put_by, released_by, after_fill, after_empty, CanFill}
+use Rattle.pair_rule.specs.Knowledge.{IsEntryOf, IsByteOf, IsAsked, IsReplied, Fits, WhereSome, AllAre, PortStands, Stands, grown, put_by, with_release, with_request, after_fill, after_empty, CanFill}
 use Rattle.pair_rule.specs.Rules.{SamePart}
 use Rattle.pair_rule.proofs.Parts.{Local, nothing, on_primary, on_link, on_backup, on_terminal, on_disk}
 use Rattle.pair_rule.proofs.BoxSwaps.{Keeps, keeps_all}
@@ -77,15 +78,15 @@ replied_more t puts (answer.Read r) (inr i) = inr (i.0, put_more t puts i.0 i.1,
 pub local_fill : (b : Mailbox) (q : Payload) → Local (filler b) (after_fill b q)
 local_fill Outbox q = nothing _
 local_fill Inbox q = nothing _
-local_fill Bytes0 (Out o) = on_primary (λ p. record p { released = p.released ++ o ∷ [] })
+local_fill Bytes0 (Out o) = on_primary (with_release o)
 local_fill Bytes0 (Log p) = nothing _
 local_fill Bytes0 (Request r) = nothing _
 local_fill Bytes0 (Answer a) = nothing _
-local_fill Bytes1 (Out o) = on_primary (λ p. record p { released = p.released ++ o ∷ [] })
+local_fill Bytes1 (Out o) = on_primary (with_release o)
 local_fill Bytes1 (Log p) = nothing _
 local_fill Bytes1 (Request r) = nothing _
 local_fill Bytes1 (Answer a) = nothing _
-local_fill Requests (Request r) = on_primary (λ p. record p { released = released_by p.released r })
+local_fill Requests (Request r) = on_primary (with_request r)
 local_fill Requests (Log p) = nothing _
 local_fill Requests (Out o) = nothing _
 local_fill Requests (Answer a) = nothing _
@@ -132,8 +133,9 @@ port_more port counted released more hand arrivals p = record {
 
 module _ (k : Knowledge) (s : Stands k) where
   -- the primary released more
-  released : (more : List Operation) → Stands (record k { primary = record k.primary { released = k.primary.released ++ more } })
-  released more = record {
+  released : (more : List Operation) (calls : List PrimaryCall)
+      → Stands (record k { primary = record k.primary { released = k.primary.released ++ more; calls = calls } })
+  released more calls = record {
     log = s.log;
     decided = s.decided;
     port0 = port_more 0 k.primary.counted0 k.primary.released more k.terminal.hand0 k.terminal.arrivals0 s.port0;
@@ -164,9 +166,17 @@ module _ (k : Knowledge) (s : Stands k) where
   released_fits more Requests (Answer a) f = f
   released_fits more Answers x f = f
 
-  release_keeps : (more : List Operation)
-      → Keeps (λ k. record k { primary = record k.primary { released = k.primary.released ++ more } }) k
-  release_keeps more = record { stands = released more; words = refl; fits = released_fits more }
+  release_keeps : (o : Operation) → Keeps (λ k. record k { primary = with_release o k.primary }) k
+  release_keeps o = record {
+    stands = released (o ∷ []) (with_release o k.primary).calls;
+    words = refl;
+    fits = λ b x f. refit b x (released_fits (o ∷ []) b x f);
+  }
+    where
+      refit : (b : Mailbox) (x : Payload)
+          → Fits b (record k { primary = record k.primary { released = k.primary.released ++ o ∷ [] } }) x
+          → Fits b (record k { primary = with_release o k.primary }) x
+      refit b x f = f
 
   -- the disk answered
   abbrev answered : DiskAnswer → Knowledge
@@ -217,18 +227,18 @@ module _ (k : Knowledge) (s : Stands k) where
   fill_keeps Inbox (Request r) can = absurd can
   fill_keeps Inbox (Answer a) can = absurd can
   fill_keeps Bytes0 (Out (Byte to number byte)) can =
-      (release_keeps (Byte to number byte ∷ []), (can, among_last (Byte to number byte) k.primary.released))
+      (release_keeps (Byte to number byte), (can, among_last (Byte to number byte) k.primary.released))
   fill_keeps Bytes0 (Out (Write w)) can = absurd can
   fill_keeps Bytes0 (Log p) can = absurd can
   fill_keeps Bytes0 (Request r) can = absurd can
   fill_keeps Bytes0 (Answer a) can = absurd can
   fill_keeps Bytes1 (Out (Byte to number byte)) can =
-      (release_keeps (Byte to number byte ∷ []), (can, among_last (Byte to number byte) k.primary.released))
+      (release_keeps (Byte to number byte), (can, among_last (Byte to number byte) k.primary.released))
   fill_keeps Bytes1 (Out (Write w)) can = absurd can
   fill_keeps Bytes1 (Log p) can = absurd can
   fill_keeps Bytes1 (Request r) can = absurd can
   fill_keeps Bytes1 (Answer a) can = absurd can
-  fill_keeps Requests (Request (ask.Write w)) can = (release_keeps (Write w ∷ []), among_last (Write w) k.primary.released)
+  fill_keeps Requests (Request (ask.Write w)) can = (release_keeps (Write w), among_last (Write w) k.primary.released)
   fill_keeps Requests (Request (ask.Read a)) can = (keeps_all k s, tt)
   fill_keeps Requests (Log p) can = absurd can
   fill_keeps Requests (Out o) can = absurd can

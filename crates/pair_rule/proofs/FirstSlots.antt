@@ -63,6 +63,7 @@ module _ (g : ℕ) (boxes : List ℕ) (homes : Homes) (c : Core) (f : Facts g bo
         (home_else boxes c.hands c.has_slot homes f.laid (seat_index s) h at y (box_index j) w aw) _ (f.boxed j w p q aw ap' aq);
     fitting = f.fitting;
     stands = f.stands;
+    ran = f.ran;
   }
 
 module _ (g : ℕ) (s : Table) (r : Rule g s) (id : ℕ) (v : SeatView) (at : get_elem? s.views id ≡ some v) (n : Who)

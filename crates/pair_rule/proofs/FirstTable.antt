@@ -10,6 +10,7 @@ use Rattle.pair_rule.specs.declared.view.Knowledge.{Knowledge}
 use Rattle.pair_rule.specs.declared.view.SeatView.{SeatView}
 use Rattle.pair_rule.specs.Boxes.{slot_of, is_full, Boxed, Homes, box_index, Who, Primary, Link, Backup, Terminal, Disk}
 use Rattle.pair_rule.specs.Knowledge.{Fits, Stands, WhereSome}
+use Rattle.pair_rule.specs.Histories.{Opens}
 use Rattle.pair_rule.specs.Rules.{SamePart, Sized, Same, has, Rule, first_known, first_core, first_view, new_side}
 
 abbrev homes0 : Homes
@@ -139,5 +140,6 @@ opens g = let v : SeatView = first_view g in record {
     fitting = λ b f e. let z = box0 b in subst (λ (x : Side). WhereSome x.last (Fits b (first_known g)))
         (some-injective new_side f (sym z.1 ∙ e)) tt;
     stands = first_stands g;
+    ran = Opens g;
   };
 }

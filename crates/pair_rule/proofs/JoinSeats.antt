@@ -15,6 +15,7 @@ use Rattle.pair_rule.specs.declared.view.Core.{Core}
 use Rattle.pair_rule.specs.declared.view.SeatView.{SeatView}
 use Rattle.pair_rule.specs.Boxes.{box_index, Who, Primary, Link, Backup, Terminal, Disk, seat_index, filler, emptier}
 use Rattle.pair_rule.specs.Knowledge.{words_of, Stands}
+use Rattle.pair_rule.specs.Histories.{PlainRun}
 use Rattle.pair_rule.specs.Rules.{SamePart, Sized, Same, Has, has, Rule, new_side}
 use Rattle.pair_rule.specs.Kinds.{side_at, which, mixed, know_of, part_of, with_part, spent_view}
 use Rattle.pair_rule.proofs.Slots.{at_or}
@@ -212,11 +213,12 @@ joins g id v i w s leads lacks mine single st r here apart there =
 -- the last words, and what a seat that has every part knows, are those of one moment: the words are those that it gives
 pub settles : (g id : ℕ) (v : SeatView) (ws : List ℕ) (xs : List (Option Payload)) → has v Primary → has v Backup → has v Terminal
     → has v Disk → Final (Seen (Rule g) id v) ws xs
-    → (k : Knowledge) × Stands k × (k.primary ≡ v.core.known.primary) × (k.backup ≡ v.core.known.backup) ×
+    → (k : Knowledge) × Stands k × PlainRun k × (k.primary ≡ v.core.known.primary) × (k.backup ≡ v.core.known.backup) ×
     (k.terminal ≡ v.core.known.terminal) × (k.disk ≡ v.core.known.disk) × ((boxes : List ℕ) × (ws ≡ words_of k ++ boxes))
 settles g id v ws xs p b t d f = let st : Table = f.0 in let r : Rule g st = f.1.0 in let at = f.1.1 in (
   r.core.known,
   r.facts.stands,
+  r.facts.ran,
   sym ((r.seats Primary).only id v at p).1.known,
   sym ((r.seats Backup).only id v at b).1.known,
   sym ((r.seats Terminal).only id v at t).1.known,

@@ -22,7 +22,7 @@ use Rattle.pair_rule.specs.declared.payload.Payload.TheVariants.{Answer}
 use Rattle.pair_rule.specs.declared.payload.DiskRequest.TheVariants as ask
 use Rattle.pair_rule.specs.declared.payload.DiskAnswer.{DiskAnswer}
 use Rattle.pair_rule.specs.declared.payload.DiskAnswer.TheVariants as answer
-use Rattle.pair_rule.specs.Knowledge.{WhereSome, IsAsked, Stands, after_fill, put_by, arrives, byte_arrived}
+use Rattle.pair_rule.specs.Knowledge.{WhereSome, IsAsked, Stands, after_fill, put_by, arrives, byte_arrived, with_release}
 use Rattle.pair_rule.specs.Shown.{Visible, visible, terminals_of, arrival_of, notes_from, hand_of, Sent, Shows, ShowsVisible, Leads}
 use Rattle.guest_trace.specs.Reach.{operations}
 use Rattle.pair_rule.proofs.Filled.{among_last, put_more}
@@ -63,7 +63,7 @@ module _ {S : Type 0} (M : Machine S) (C : Copying S) (typed0 typed1 : List ℕ)
   pub release_leads : (o : Operation) → Among o (operations z.moves) → IsAcknowledged z.moves k.primary.seen o
       → no_such w (id_of o) ≡ None → k.primary.winner ≡ 0 → M.find z.s (id_of o) ≡ Some o
       → covers k.primary.seen 0 (note_of (notes_from 0 [] [] z.moves) (id_of o)) ≡ true
-      → Leads M C typed0 typed1 (record k { primary = record k.primary { released = k.primary.released ++ o ∷ [] } }) w
+      → Leads M C typed0 typed1 (record k { primary = with_release o k.primary }) w
       (λ events. events ≡ Release 0 (id_of o) ∷ [])
   release_leads o given marked there none found covered = record {
     events = Release 0 (id_of o) ∷ [];

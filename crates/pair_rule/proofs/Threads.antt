@@ -1,5 +1,5 @@
 -- Step after step, what is known is shown by a faithful world.
-use Rattle.std.proofs.Common.{◌≡◌, ℕ, zero, suc, ◌<◌, Bool, true, false, ◌==◌, ◌&&◌, List, refl, ap, subst, arith, inl, inr, Option, Some, None}
+use Rattle.std.proofs.Common.{◌≡◌, ℕ, zero, suc, ◌<◌, Bool, true, false, ◌==◌, ◌&&◌, List, ◌++◌, refl, ap, subst, arith, inl, inr, Option, Some, None}
 use Rattle.std.specs.Option.{option_map_or}
 use Rattle.disk_dcdd.specs.declared.address.SectorAddress.{SectorAddress}
 use Rattle.guest_board.specs.Guest.{altair}
@@ -14,10 +14,12 @@ use Rattle.pair_protocol.specs.Copying.{Copying, IsCopying, no_copies}
 use Rattle.pair_protocol.specs.Faithful.{Faithful, IsAllBut, IsPrefix, MayHave}
 use Rattle.pair_protocol.specs.Lawful.{Lawful}
 use Rattle.pair_protocol.specs.Laws.{RowIsChanges, ChangesReach, ReachedIsFaithful, ReachedGrows}
-use Rattle.pair_protocol.specs.World.{World, accepted_in, sector_record, terminal_in}
+use Rattle.pair_protocol.specs.Event.{Event, Reply}
+use Rattle.guest_board.specs.declared.reads.Reads.TheVariants.{Logged}
+use Rattle.pair_protocol.specs.World.{World, opening, accepted_in, sector_record, terminal_in}
 use Rattle.pair_rule.specs.declared.view.Knowledge.{Knowledge}
 use Rattle.pair_rule.specs.Law.{ReadsSelected, Runnable, typed_at}
-use Rattle.pair_rule.specs.Shown.{Shows}
+use Rattle.pair_rule.specs.Shown.{First, Happens, Nothing, Shows}
 use Rattle.pair_rule.specs.Threads.{Goes, IsShown, Opens, PrimaryIsTold, Promises, ThreadsAreFaithful, bytes_accepted}
 use Rattle.pair_rule.proofs.Beginning.{starts_shown}
 use Rattle.pair_rule.proofs.Law.{steps_stay_faithful}
@@ -53,18 +55,28 @@ module _ {S : Type 0} (M : Machine S) (C : Copying S) (typed0 typed1 : List ℕ)
   }
 
 pub shown : {S : Type 0} (M : Machine S) (C : Copying S) (typed0 typed1 : List ℕ) (k : Knowledge) (w : World S) → Stands k
-    → PrimaryIsTold typed0 typed1 k.primary → Shows M typed0 typed1 k w → Reached M C w → Faithful M w
-    → IsShown M C typed0 typed1 k
-shown M C typed0 typed1 k w st told z reached f = record {
+    → PrimaryIsTold typed0 typed1 k.primary → Shows M typed0 typed1 k w → (events : List Event) (replies : List Reply)
+    → Happens M C (opening M Logged) events replies w → Reached M C w → Faithful M w → IsShown M C typed0 typed1 k
+shown M C typed0 typed1 k w st told z events replies happened reached f = record {
   stands = st;
   told = told;
   world = w;
   shows = z;
   marked = accepted_marked M typed0 typed1 k w st told z;
+  events = events;
+  replies = replies;
+  happened = happened;
   reached = reached;
   faithful = f;
   promises = promises M C typed0 typed1 k w z f;
 }
+
+-- events after events
+happens_more : {S : Type 0} (M : Machine S) (C : Copying S) (a b c : World S) (es fs : List Event) (rs qs : List Reply)
+    → Happens M C a es rs b → Happens M C b fs qs c → Happens M C a (es ++ fs) (rs ++ qs) c
+happens_more M C a b c _ fs _ qs Nothing then = then
+happens_more M C a b c _ fs _ qs (First {mid = mid} {events = es} {replies = rs} row rest) then =
+    First row (happens_more M C mid b c es fs rs qs rest then)
 
 -- a step of the table leads from what is shown to what is shown
 next_shown : {S : Type 0} → RowIsChanges S → ChangesReach S → ReachedIsFaithful S → ReachedGrows S
@@ -74,15 +86,17 @@ next_shown rows changes faithful grow M C may copies typed0 typed1 k new s is = 
   | inl t ↦ (let l = steps_stay_faithful rows changes faithful grow M C may copies typed0 typed1 k new s.world s.shows s.stands
       s.reached t in
       shown M C typed0 typed1 new l.leads.new is.stands
-      (thread_told M typed0 typed1 k s.told new t) l.leads.shows l.reached l.faithful)
+      (thread_told M typed0 typed1 k s.told new t) l.leads.shows (s.events ++ l.leads.events) (s.replies ++ l.leads.replies)
+      (happens_more M C (opening M Logged) s.world l.leads.new s.events l.leads.events s.replies l.leads.replies s.happened
+      l.leads.run) l.reached l.faithful)
   | inr q ↦ shown M C typed0 typed1 new s.world is.stands (silent_told M typed0 typed1 k s.told new q)
-      (silent_shows M typed0 typed1 k new s.world s.shows q) s.reached s.faithful
+      (silent_shows M typed0 typed1 k new s.world s.shows q) s.events s.replies s.happened s.reached s.faithful
 ]
 
 pub runs_shown : {S : Type 0} → RowIsChanges S → ChangesReach S → ReachedIsFaithful S → ReachedGrows S → ThreadsAreFaithful S
 runs_shown rows changes faithful grow M C may copies typed0 typed1 k (Opens generation) =
     let b = starts_shown rows changes M C may.lawful typed0 typed1 generation in shown M C typed0 typed1 k b.world b.stands
-    (nothing_told typed0 typed1) b.shows b.reached (faithful M C may.lawful copies b.world b.reached)
+    (nothing_told typed0 typed1) b.shows b.events b.replies b.run b.reached (faithful M C may.lawful copies b.world b.reached)
 runs_shown rows changes faithful grow M C may copies typed0 typed1 new (Goes {k = k} run step) =
     let s = runs_shown rows changes faithful grow M C may copies typed0 typed1 k run in
     next_shown rows changes faithful grow M C may copies typed0 typed1 k new s (table_steps M typed0 typed1 k new s.stands step)

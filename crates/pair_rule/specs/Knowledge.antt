@@ -22,6 +22,10 @@ use Rattle.shared_disk.specs.declared.disk.SectorRead.{SectorRead}
 use Rattle.pair_rule.specs.declared.view.Arrived.{Arrived}
 use Rattle.pair_rule.specs.declared.view.DiskView.{DiskView}
 use Rattle.pair_rule.specs.declared.view.Knowledge.{Knowledge}
+use Rattle.pair_rule.specs.declared.view.PrimaryCall.{PrimaryCall}
+use Rattle.pair_rule.specs.declared.view.PrimaryCall.TheVariants.{Appended, Released}
+use Rattle.pair_rule.specs.declared.view.PrimaryView.{PrimaryView}
+use Rattle.pair_protocol.specs.World.{latest}
 
 -- ---- the words that what is known gives
 
@@ -169,11 +173,28 @@ abbrev pub released_by : List Operation → DiskRequest → List Operation
 released_by released (ask.Write w) = released ++ Write w ∷ []
 released_by released (ask.Read a) = released
 
+-- the calls of the primary that promise something: an entry was appended, an operation released
+abbrev pub with_entry : Entry → PrimaryView → PrimaryView
+with_entry e p = record p {
+  list = p.list ++ e ∷ [];
+  calls = Appended p.list p.counted0 p.counted1 p.answers e ∷ p.calls;
+}
+
+abbrev pub with_release : Operation → PrimaryView → PrimaryView
+with_release o p = record p { released = p.released ++ o ∷ []; calls = Released p.list p.seen o ∷ p.calls }
+
+abbrev pub calls_by : DiskRequest → PrimaryView → List PrimaryCall
+calls_by (ask.Write w) p = Released p.list p.seen (Write w) ∷ p.calls
+calls_by (ask.Read a) p = p.calls
+
+abbrev pub with_request : DiskRequest → PrimaryView → PrimaryView
+with_request r p = record p { released = released_by p.released r; calls = calls_by r p }
+
 -- what the seat that fills a box knows then
 abbrev pub after_fill : Mailbox → Payload → Knowledge → Knowledge
-after_fill Bytes0 (Out o) k = record k { primary = record k.primary { released = k.primary.released ++ o ∷ [] } }
-after_fill Bytes1 (Out o) k = record k { primary = record k.primary { released = k.primary.released ++ o ∷ [] } }
-after_fill Requests (Request r) k = record k { primary = record k.primary { released = released_by k.primary.released r } }
+after_fill Bytes0 (Out o) k = record k { primary = with_release o k.primary }
+after_fill Bytes1 (Out o) k = record k { primary = with_release o k.primary }
+after_fill Requests (Request r) k = record k { primary = with_request r k.primary }
 after_fill Answers (Answer a) k = record k {
   disk = record k.disk {
     puts = put_by k.disk.taken k.disk.puts;
@@ -194,7 +215,7 @@ after_empty _ _ k = k
 
 -- the list, what was seen, and what is acknowledged grow
 abbrev pub appended : Entry → Knowledge → Knowledge
-appended e k = record k { primary = record k.primary { list = k.primary.list ++ e ∷ [] } }
+appended e k = record k { primary = with_entry e k.primary }
 
 abbrev pub saw : ℕ → Knowledge → Knowledge
 saw n k = record k { primary = record k.primary { seen = n } }
@@ -239,6 +260,15 @@ CanFill Bytes1 k (Out (Byte to number byte)) = to ≡ 1
 CanFill Requests k (Request r) = Unit {0}
 CanFill Answers k (Answer a) = IsReplied (put_by k.disk.taken k.disk.puts) a
 CanFill _ k _ = ⊥
+
+-- it is the answer to the request that was taken last: for a read what the greatest answered write there left, or the
+-- sector as it was, with number 0
+abbrev pub Replies : DiskView → DiskAnswer → Type 0
+Replies d (answer.Written n) = (w : SectorWrite) × (d.taken ≡ Some (ask.Write w)) × (n ≡ w.number)
+Replies d (answer.Read r) =
+    (a : SectorAddress) × (d.taken ≡ Some (ask.Read a))
+    × (a ≡ record { drive = r.drive; track = r.track; sector = r.sector })
+    × (latest (record { number = 0; bytes = r.bytes }) d.puts a ≡ record { number = r.number; bytes = r.bytes })
 
 -- the number that the terminal writes is the number accepted with the byte in hand
 abbrev pub accepted_with : ℕ → Knowledge → ℕ

@@ -31,8 +31,9 @@ use Rattle.pair_rule.specs.declared.payload.Packet.{Packet}
 use Rattle.pair_rule.specs.declared.payload.Payload.TheVariants.{Log, Out, Request, Answer}
 use Rattle.pair_rule.specs.declared.view.Knowledge.{Knowledge}
 use Rattle.pair_rule.specs.Kinds.{counted_at}
-use Rattle.pair_rule.specs.Knowledge.{last_or, read_at, IsEntryOf, Stands, held, saw, saw_count, primary_asked, backup_asked, byte_arrived, appended, after_empty, after_fill}
+use Rattle.pair_rule.specs.Knowledge.{last_or, read_at, IsEntryOf, Stands, held, saw, saw_count, primary_asked, backup_asked, byte_arrived, appended, after_empty, after_fill, with_release}
 use Rattle.pair_rule.specs.Rules.{first_known}
+pub use Rattle.pair_rule.specs.Histories.{MayAppend}
 use Rattle.pair_rule.specs.Shown.{notes_from, hand_of, Shows, Leads, Happens}
 
 -- ---- what a step asks of the thread that makes it
@@ -59,12 +60,6 @@ pub record HasLonger {S : Type 0} (M : Machine S) (list : List Entry) (e : Entry
   pub makes : Recorded M before (move ∷ []) after
   pub entries_are : entries Logged 0 (moves ++ move ∷ []) ≡ list ++ e ∷ []
   pub count : M.count after ≡ count_of e
-
--- a primary appends where it has not asked and its log is not full
-pub record MayAppend (k : Knowledge) : Type 0 where
-  pub asks_not : k.primary.winner ≡ 0
-  pub few : length k.primary.list < top
-  pub room : length k.primary.list < k.primary.seen + 256
 
 -- what a primary was told of the input that its list then ends with: the keys of the list are the first of those typed;
 -- the bytes that it says are accepted are counted; the disk has answered, and the sector is the one under the head. Threads
@@ -94,7 +89,7 @@ IsCovered M k run o =
 
 -- what is known after a release
 abbrev pub with_released : Operation → Knowledge → Knowledge
-with_released o k = record k { primary = record k.primary { released = k.primary.released ++ o ∷ [] } }
+with_released o k = record k { primary = with_release o k.primary }
 
 -- ---- the steps
 

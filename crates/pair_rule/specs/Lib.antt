@@ -1,5 +1,6 @@
 pub mod Boxes
 pub mod Knowledge
+pub mod Histories
 pub mod Rules
 pub mod Kinds
 pub mod Seats

@@ -10,6 +10,8 @@ use Rattle.pair_rule.specs.declared.view.Knowledge.{Knowledge}
 use Rattle.pair_rule.specs.declared.view.Core.{Core}
 use Rattle.pair_rule.specs.declared.view.SeatView.{SeatView}
 use Rattle.pair_rule.specs.Boxes.{Homes, box_index, Who, Primary, Link, Backup, Terminal, Disk, seat_index, filler, emptier, side, Laid, Boxes}
+pub use Rattle.pair_rule.specs.Histories.{first_known}
+use Rattle.pair_rule.specs.Histories.{PlainRun}
 use Rattle.pair_rule.specs.Knowledge.{words_of, Fits, WhereSome, Stands}
 
 -- a seat knows the same
@@ -61,6 +63,7 @@ pub record Facts (g : ℕ) (boxes : List ℕ) (homes : Homes) (c : Core) : Type 
   pub boxed : Boxes boxes homes c.fills c.empties
   pub fitting : (b : Mailbox) (f : Side) → get_elem? c.fills (box_index b) ≡ some f → WhereSome f.last (Fits b c.known)
   pub stands : Stands c.known
+  pub ran : PlainRun c.known
 
 -- the rule: words, views and slots of the table are those of one core
 pub record Rule (g : ℕ) (s : State (Option Payload) SeatView) : Type 0 where
@@ -70,17 +73,6 @@ pub record Rule (g : ℕ) (s : State (Option Payload) SeatView) : Type 0 where
   pub at : Who → ℕ
   pub seats : (n : Who) → Has s.views core n (at n)
   pub facts : Facts g boxes s.homes core
-
--- what is known at the start
-abbrev pub first_known : ℕ → Knowledge
-first_known g = record {
-  generation = g;
-  primary = record { list = []; seen = 0; winner = 0; counted0 = 0; counted1 = 0; released = []; answers = [] };
-  link = None;
-  backup = record { list = []; held_values = []; winner = 0 };
-  terminal = record { arrivals0 = []; arrivals1 = []; hand0 = None; hand1 = None };
-  disk = record { taken = None; puts = []; given = [] };
-}
 
 -- a side before any swap
 abbrev pub new_side : Side

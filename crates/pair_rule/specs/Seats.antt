@@ -8,7 +8,6 @@ use Rattle.log_entry.specs.declared.entry.Entry.{Entry}
 use Rattle.i8080_words.specs.declared.refusal.Fault.{Fault}
 use Rattle.i8080_words.specs.declared.refusal.Fault.TheVariants.{LogFull, Spent}
 use Rattle.pair_protocol.specs.Lawful.{top}
-use Rattle.pair_protocol.specs.World.{latest}
 use Rattle.std.specs.List.{list_all}
 use Rattle.pair_rule.specs.declared.mailbox.Mailbox.{Mailbox}
 use Rattle.pair_rule.specs.declared.mailbox.Mailbox.TheVariants.{Inbox}
@@ -16,9 +15,6 @@ use Rattle.pair_rule.specs.declared.payload.Packet.{Packet}
 use Rattle.pair_rule.specs.declared.payload.Payload.{Payload}
 use Rattle.pair_rule.specs.declared.payload.Payload.TheVariants.{Out}
 use Rattle.pair_rule.specs.declared.payload.PortByte.{PortByte}
-use Rattle.pair_rule.specs.declared.payload.DiskRequest.TheVariants as ask
-use Rattle.pair_rule.specs.declared.payload.DiskAnswer.{DiskAnswer}
-use Rattle.pair_rule.specs.declared.payload.DiskAnswer.TheVariants as answer
 use Rattle.pair_rule.specs.declared.view.PrimaryView.{PrimaryView}
 use Rattle.pair_rule.specs.declared.view.BackupView.{BackupView}
 use Rattle.pair_rule.specs.declared.view.TerminalView.{TerminalView}
@@ -26,9 +22,9 @@ use Rattle.pair_rule.specs.declared.view.DiskView.{DiskView}
 use Rattle.pair_rule.specs.declared.view.Knowledge.{Knowledge}
 use Rattle.pair_rule.specs.declared.view.Side.{Side}
 use Rattle.pair_rule.specs.declared.view.Core.{Core}
-use Rattle.disk_dcdd.specs.declared.sector.SectorWrite.{SectorWrite}
-use Rattle.disk_dcdd.specs.declared.address.SectorAddress.{SectorAddress}
 use Rattle.pair_rule.specs.Boxes.{Who, Primary, Link, Backup, Terminal, seat_index, box_index}
+use Rattle.pair_rule.specs.Histories.{PlainRun}
+pub use Rattle.pair_rule.specs.Knowledge.{Replies}
 use Rattle.pair_rule.specs.Knowledge.{grown, accepted_after, last_or, winner_of, Stands}
 use Rattle.atomic_table.specs.Seated.{TableId}
 use Rattle.pair_rule.specs.Rules.{has, Sized, first_core}
@@ -167,20 +163,12 @@ Empties b None old new =
     ((r : ℕ) × (new ≡ found_empty b r old)) × (swaps_at new.empties b ≡ swaps_at old.empties b + 1)
     × (met_at new.empties b ≡ met_at old.empties b)
 
--- it is the answer to the request that was taken last: for a read what the greatest answered write there left, or the
--- sector as it was, with number 0
-abbrev pub Replies : DiskView → DiskAnswer → Type 0
-Replies d (answer.Written n) = (w : SectorWrite) × (d.taken ≡ Some (ask.Write w)) × (n ≡ w.number)
-Replies d (answer.Read r) =
-    (a : SectorAddress) × (d.taken ≡ Some (ask.Read a))
-    × (a ≡ record { drive = r.drive; track = r.track; sector = r.sector })
-    × (latest (record { number = 0; bytes = r.bytes }) d.puts a ≡ record { number = r.number; bytes = r.bytes })
-
--- the words, and what the seats know, are those of one moment
+-- the words, and what the seats know, are those of one moment, to which the steps of the table led
 pub record Settled (primary : PrimaryView) (backup : BackupView) (terminal : TerminalView) (disk : DiskView)
     (tail held winner : ℕ) : Type 0 where
   pub known : Knowledge
   pub stands : Stands known
+  pub ran : PlainRun known
   pub primary_is : known.primary ≡ primary
   pub backup_is : known.backup ≡ backup
   pub terminal_is : known.terminal ≡ terminal

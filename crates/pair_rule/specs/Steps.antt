@@ -16,12 +16,7 @@ use Rattle.pair_rule.specs.Boxes.{Who, Primary, Backup, filler, emptier}
 use Rattle.pair_rule.specs.Knowledge.{CanFill, Fits, Stands, accepted_at, after_empty, after_fill, appended, backup_asked, byte_arrived, held, last_or, primary_asked, read_at, saw, saw_count, winner_of}
 use Rattle.pair_rule.specs.Law.{HasLonger, HasRun, IsCovered, IsTold, MayAppend, SilentStep, ThreadStep}
 use Rattle.pair_rule.specs.Seats.{Replies}
-
--- a seat that has asked the arbiter makes no further step
-abbrev pub AsksNot : Who → Knowledge → Type 0
-AsksNot Primary k = k.primary.winner ≡ 0
-AsksNot Backup k = k.backup.winner ≡ 0
-AsksNot _ k = Unit {0}
+pub use Rattle.pair_rule.specs.Histories.{AsksNot}
 
 -- an operation is given away only if it is covered
 abbrev pub MayRelease : {S : Type 0} (M : Machine S) → Knowledge → Operation → Type 0

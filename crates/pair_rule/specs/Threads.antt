@@ -1,9 +1,10 @@
 -- What the threads of a generation promise, whatever steps they make.
-use Rattle.std.specs.Prelude.{◌≡◌, ℕ, zero, suc, ◌<◌, ◌≤◌, List, map}
+use Rattle.std.specs.Prelude.{◌≡◌, ℕ, zero, suc, ◌<◌, ◌≤◌, List, [], map}
 use Rattle.disk_dcdd.specs.declared.address.SectorAddress.{SectorAddress}
 use Rattle.event_callbacks.specs.declared.operations.Operation.TheVariants.{Byte}
 use Rattle.guest_board.specs.Guest.{altair}
 use Rattle.guest_board.specs.Machine.{Machine, Move}
+use Rattle.guest_board.specs.declared.reads.Reads.TheVariants.{Logged}
 use Rattle.guest_board.specs.declared.setup.Setup.{Setup}
 use Rattle.log_entry.specs.Entries.{inputs_of}
 use Rattle.log_entry.specs.declared.entry.Entry.{Entry}
@@ -14,24 +15,64 @@ use Rattle.pair_protocol.specs.Change.{Reached}
 use Rattle.pair_protocol.specs.Copying.{Copying, IsCopying, no_copies}
 use Rattle.pair_protocol.specs.Faithful.{Faithful, IsAllBut, IsPrefix, MayHave}
 use Rattle.pair_protocol.specs.Lawful.{Among}
-use Rattle.pair_protocol.specs.World.{World, accepted_after, sector_record}
+use Rattle.pair_protocol.specs.Event.{Event, Reply}
+use Rattle.pair_protocol.specs.World.{World, accepted_after, opening, sector_record}
 use Rattle.shared_disk.specs.declared.disk.SectorRead.{SectorRead}
 use Rattle.pair_rule.specs.declared.payload.DiskAnswer.{DiskAnswer}
 use Rattle.pair_rule.specs.declared.payload.DiskAnswer.TheVariants as answer
 use Rattle.pair_rule.specs.declared.view.Arrived.{Arrived}
 use Rattle.pair_rule.specs.declared.view.Knowledge.{Knowledge}
 use Rattle.pair_rule.specs.declared.view.PrimaryView.{PrimaryView}
-use Rattle.pair_rule.specs.Knowledge.{Stands}
-use Rattle.pair_rule.specs.Law.{Runnable, typed_at}
+use Rattle.pair_rule.specs.declared.view.PrimaryCall.{PrimaryCall}
+use Rattle.pair_rule.specs.declared.view.PrimaryCall.TheVariants.{Appended, Released}
+use Rattle.pair_rule.specs.Histories.{PlainRun}
+use Rattle.pair_rule.specs.Knowledge.{AllAre, Stands}
+use Rattle.pair_rule.specs.Law.{HasLonger, IsTold, Runnable, typed_at}
 use Rattle.pair_rule.specs.Rules.{first_known}
-use Rattle.pair_rule.specs.Shown.{IsAcknowledged, Shows, arrival_of}
-use Rattle.pair_rule.specs.Steps.{TableStep}
+use Rattle.pair_rule.specs.Shown.{Happens, IsAcknowledged, Shows, arrival_of}
+use Rattle.pair_rule.specs.Steps.{MayRelease, ReadsBoot, TableStep}
 
 -- what is known after steps of the threads, one after another, in a generation at whose terminals these bytes were typed
 pub data ThreadRun {S : Type 0} (M : Machine S) (typed0 typed1 : List ℕ) : Knowledge → Type 0 where
   Opens : (generation : ℕ) → ThreadRun M typed0 typed1 (first_known generation)
   Goes : {k new : Knowledge} → ThreadRun M typed0 typed1 k → TableStep M typed0 typed1 k new →
       ThreadRun M typed0 typed1 new
+
+-- ---- promises, call by call
+
+-- what a primary knew when it made a call
+abbrev pub knew : List Entry → ℕ → ℕ → ℕ → List DiskAnswer → Knowledge
+knew list seen counted0 counted1 answers = record (first_known 0) {
+  primary = record {
+    list = list;
+    seen = seen;
+    winner = 0;
+    counted0 = counted0;
+    counted1 = counted1;
+    released = [];
+    answers = answers;
+    calls = [];
+  };
+}
+
+-- it kept its promise: the entry that it appended is the next one of a run, and was told; what it released was outstanding
+-- and covered
+abbrev pub CallKept : {S : Type 0} → Machine S → List ℕ → List ℕ → PrimaryCall → Type 0
+CallKept M typed0 typed1 (Appended list counted0 counted1 answers e) =
+    (run : HasLonger M list e) × IsTold M typed0 typed1 (knew list 0 counted0 counted1 answers) run.before e
+CallKept M typed0 typed1 (Released list seen o) = MayRelease M (knew list seen 0 0 []) o
+
+-- all calls of a primary, and all answers of a disk
+pub record AreKept {S : Type 0} (M : Machine S) (typed0 typed1 : List ℕ) (calls : List PrimaryCall)
+    (given : List DiskAnswer) : Type 0 where
+  pub calls_kept : AllAre calls (CallKept M typed0 typed1)
+  pub reads_kept : AllAre given (ReadsBoot M)
+
+-- steps of the table that keep all promises are steps of the threads
+abbrev pub KeptStepsAreThreads : Type 0 → Type 0
+KeptStepsAreThreads S =
+    (M : Machine S) (typed0 typed1 : List ℕ) (k : Knowledge) → PlainRun k →
+    AreKept M typed0 typed1 k.primary.calls k.disk.given → ThreadRun M typed0 typed1 k
 
 -- the bytes of a port that its terminal has accepted
 abbrev pub arrivals_at : ℕ → Knowledge → List Arrived
@@ -89,6 +130,10 @@ pub record IsShown {S : Type 0} (M : Machine S) (C : Copying S) (typed0 typed1 :
   -- each byte that the primary's list says is accepted has its mark below what the primary has seen
   pub marked : (port number : ℕ) → port < 2 → 0 < number → number ≤ acceptances port (inputs_of k.primary.list) →
       ByteIsAcknowledged shows.moves k.primary.seen port number
+  -- it is reached from the opening by events of a script, in which the bytes are typed first
+  pub events : List Event
+  pub replies : List Reply
+  pub happened : Happens M C (opening M Logged) events replies world
   pub reached : Reached M C world
   pub faithful : Faithful M world
   pub promises : Promises M typed0 typed1 k

@@ -1,7 +1,7 @@
 //! What the threads of a generation are: a pair, one event after another. Nothing here runs.
 ghost use Rattle.pair_rule.specs.Law.{SilentStepsShow, StartsShown, StepsAreEvents, StepsAreFaithful};
 ghost use Rattle.pair_rule.specs.Steps.{TableStepsAreSteps};
-ghost use Rattle.pair_rule.specs.Threads.{AltairsAreRunnable, AltairThreadsAreFaithful, ThreadsAreFaithful};
+ghost use Rattle.pair_rule.specs.Threads.{AltairsAreRunnable, AltairThreadsAreFaithful, KeptStepsAreThreads, ThreadsAreFaithful};
 
 use altair_laws::altairs_are_lawful;
 use guest_board::{boards_count, boards_issue_and_complete};
@@ -39,6 +39,12 @@ pub fn steps_are_faithful<S>()
     actions_are_faithful::<S>();
     events_grow::<S>();
 }
+
+/// The steps of the table that led to what is known are steps of the threads, if each call of the primary and each answer of
+/// the disk kept its promise: so the law below is of them.
+pub fn kept_steps_are_threads<S>()
+    ensures threads { KeptStepsAreThreads S }
+{}
 
 /// Whatever steps the threads of a generation make, in whatever order: the terminals have accepted the output of one
 /// machine that never fails, or all of it but the last bytes of a window; the disk holds what that machine wrote, or

@@ -21,8 +21,8 @@ pub use close::Closed;
 pub use disk::DiskSeat;
 pub use fabric::Fabric;
 pub use laws::{
-    altair_threads_are_faithful, silent_steps_are_shown, starts_are_shown, steps_are_events,
-    steps_are_faithful, table_steps_are_steps, threads_are_faithful,
+    altair_threads_are_faithful, kept_steps_are_threads, silent_steps_are_shown, starts_are_shown,
+    steps_are_events, steps_are_faithful, table_steps_are_steps, threads_are_faithful,
 };
 pub use link::LinkSeat;
 pub use open::FiveSeats;

@@ -1,6 +1,7 @@
 //! How a seat steps, whichever it is.
 ghost use Rattle.std.specs.Prelude.{◌≡◌, ◌&&◌, ◌^◌, ◌<◌, ◌≤◌, Some, length, length as len};
 ghost use Rattle.pair_rule.specs.Boxes.{filler, emptier, Primary, Backup, Terminal};
+ghost use Rattle.pair_rule.specs.Histories.{AsksNot, MayAppend, MayPut};
 ghost use Rattle.pair_rule.specs.Knowledge.{CanFill, appended, saw, held, primary_asked, backup_asked, accepted_with, byte_arrived, saw_count};
 ghost use Rattle.pair_rule.specs.Kinds.{WasHeld, WasWinner, WasAccepted, filled, emptied, with_core, with_known, counted_at};
 ghost use Rattle.pair_rule.specs.Seats.{Keeps, Fills, Empties, swaps_at, all_below};
@@ -38,6 +39,7 @@ impl SeatState {
         requires seat { Keeps (filler mailbox) self.old.seat.me self.old.slot self.old.fills self.old.empties }
         requires few { swaps_at self.old.seat.me.0.core.fills mailbox < 2 ^ 40 }
         requires can { CanFill mailbox self.old.seat.me.0.core.known payload }
+        requires may { MayPut mailbox self.old.seat.me.0.core.known payload }
         ensures table { self.new.seat.table_id ≡ self.old.seat.table_id }
         ensures seat { Keeps (filler mailbox) self.new.seat.me self.new.slot self.new.fills self.new.empties }
         ensures filled { Fills mailbox payload self.old.seat.me.0.core self.new.seat.me.0.core }
@@ -57,6 +59,7 @@ impl SeatState {
         requires table { self.old.seat.table_id ≡ fabric.now }
         requires seat { Keeps (emptier mailbox) self.old.seat.me self.old.slot self.old.fills self.old.empties }
         requires few { swaps_at self.old.seat.me.0.core.empties mailbox < 2 ^ 40 }
+        requires before { AsksNot (emptier mailbox) self.old.seat.me.0.core.known }
         ensures table { self.new.seat.table_id ≡ self.old.seat.table_id }
         ensures seat { Keeps (emptier mailbox) self.new.seat.me self.new.slot self.new.fills self.new.empties }
         ensures emptied { Empties mailbox result self.old.seat.me.0.core self.new.seat.me.0.core }
@@ -80,6 +83,7 @@ impl SeatState {
         requires table { self.old.seat.table_id ≡ fabric.now }
         requires seat { Keeps Primary self.old.seat.me self.old.slot self.old.fills self.old.empties }
         requires room { length self.old.seat.me.0.core.known.primary.list < 2 ^ 62 }
+        requires may { MayAppend self.old.seat.me.0.core.known }
         ensures table { self.new.seat.table_id ≡ self.old.seat.table_id }
         ensures seat { Keeps Primary self.new.seat.me self.new.slot self.new.fills self.new.empties }
         ensures index { result ≡ length self.old.seat.me.0.core.known.primary.list }
@@ -93,6 +97,7 @@ impl SeatState {
     // What the backup has acknowledged.
     pub(crate) fn see(&mut self, fabric: &Fabric) -> u64
         requires table { self.old.seat.table_id ≡ fabric.now }
+        requires before { self.old.seat.me.0.core.known.primary.winner ≡ 0 }
         requires seat { Keeps Primary self.old.seat.me self.old.slot self.old.fills self.old.empties }
         ensures table { self.new.seat.table_id ≡ self.old.seat.table_id }
         ensures seat { Keeps Primary self.new.seat.me self.new.slot self.new.fills self.new.empties }
@@ -107,6 +112,7 @@ impl SeatState {
     // Acknowledges the backup's list.
     pub(crate) fn hold(&mut self, fabric: &Fabric, length: u64)
         requires table { self.old.seat.table_id ≡ fabric.now }
+        requires before { self.old.seat.me.0.core.known.backup.winner ≡ 0 }
         requires seat { Keeps Backup self.old.seat.me self.old.slot self.old.fills self.old.empties }
         requires all { length ≡ len self.old.seat.me.0.core.known.backup.list }
         ensures table { self.new.seat.table_id ≡ self.old.seat.table_id }
@@ -138,6 +144,7 @@ impl SeatState {
     // Asks for the primary who goes on alone.
     pub(crate) fn contest_primary(&mut self, fabric: &Fabric) -> u64
         requires table { self.old.seat.table_id ≡ fabric.now }
+        requires before { self.old.seat.me.0.core.known.primary.winner ≡ 0 }
         requires seat { Keeps Primary self.old.seat.me self.old.slot self.old.fills self.old.empties }
         ensures table { self.new.seat.table_id ≡ self.old.seat.table_id }
         ensures seat { Keeps Primary self.new.seat.me self.new.slot self.new.fills self.new.empties }
@@ -154,6 +161,7 @@ impl SeatState {
     // Asks for the backup who goes on alone.
     pub(crate) fn contest_backup(&mut self, fabric: &Fabric) -> u64
         requires table { self.old.seat.table_id ≡ fabric.now }
+        requires before { self.old.seat.me.0.core.known.backup.winner ≡ 0 }
         requires seat { Keeps Backup self.old.seat.me self.old.slot self.old.fills self.old.empties }
         ensures table { self.new.seat.table_id ≡ self.old.seat.table_id }
         ensures seat { Keeps Backup self.new.seat.me self.new.slot self.new.fills self.new.empties }
@@ -170,6 +178,7 @@ impl SeatState {
     // How many bytes of a port its terminal has counted.
     pub(crate) fn counted(&mut self, fabric: &Fabric, port: u8) -> u64
         requires table { self.old.seat.table_id ≡ fabric.now }
+        requires before { self.old.seat.me.0.core.known.primary.winner ≡ 0 }
         requires seat { Keeps Primary self.old.seat.me self.old.slot self.old.fills self.old.empties }
         requires port { port < 2 }
         ensures table { self.new.seat.table_id ≡ self.old.seat.table_id }

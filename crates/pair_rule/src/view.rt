@@ -19,7 +19,23 @@ pub struct Arrived {
     pub byte: u8,
 }
 
-/// What the primary knows.
+/// A call of the primary that promises something, and what it promises it of: the list, and what it had been told.
+pub enum PrimaryCall {
+    Appended {
+        list: LinkedList<Entry>,
+        counted0: u64,
+        counted1: u64,
+        answers: LinkedList<DiskAnswer>,
+        entry: Entry,
+    },
+    Released {
+        list: LinkedList<Entry>,
+        seen: u64,
+        operation: Operation,
+    },
+}
+
+/// What the primary knows, and its calls that promise something, the last one first.
 pub struct PrimaryView {
     pub list: LinkedList<Entry>,
     pub seen: u64,
@@ -28,6 +44,7 @@ pub struct PrimaryView {
     pub counted1: u64,
     pub released: LinkedList<Operation>,
     pub answers: LinkedList<DiskAnswer>,
+    pub calls: LinkedList<PrimaryCall>,
 }
 
 /// What the backup knows.

@@ -31,6 +31,7 @@ use Rattle.pair_threads.specs.Leading.{AreAnswers, Leads, with_waiting}
 use Rattle.pair_threads.specs.Primary.{IsAtRest, WorkerLeads}
 use Rattle.pair_threads.specs.Repeating.{IsAt, Repeats}
 use Rattle.pair_threads.specs.Stores.{IsStore, bytes_in}
+use Rattle.pair_threads.proofs.Views.{leads_there}
 use Rattle.pair_threads.proofs.Ends.{backup_alone, backup_where, primary_alone, well}
 use Rattle.disk_dcdd.specs.declared.address.SectorAddress.{SectorAddress}
 use Rattle.shared_disk.specs.declared.store.Record.{Record}
@@ -38,23 +39,6 @@ use Rattle.shared_disk.specs.declared.store.Record.{Record}
 -- ---- the machine that boots elsewhere
 
 module _ {S : Type 0} (N : Machine S) (start : S) (sectors : SectorAddress → List ℕ) where
-  are_answers : (answers : List DiskAnswer) (s : S) (moves : List Move) → AreAnswers N answers s moves
-      → AreAnswers (booted_from N start sectors) answers s moves
-  are_answers answers s [] all = all
-  are_answers answers s (Do gives ∷ moves) all = λ u made. are_answers answers u moves (all u made)
-  are_answers answers s (Take input ∷ moves) all = (all.0, λ u made. are_answers answers u moves (all.1 u made))
-
-  leads_there : (boot : S) (list : List Entry) (names : List OpId) (view : PrimaryView) (s : S)
-      → Leads N boot list names view s → Leads (booted_from N start sectors) boot list names view s
-  leads_there boot list names view s leads = record {
-    moves = leads.moves;
-    runs = Recorded-booted N start sectors boot s leads.moves leads.runs;
-    entries_are = leads.entries_are;
-    outstanding = leads.outstanding;
-    covered = leads.covered;
-    answered = are_answers view.answers boot leads.moves leads.answered;
-  }
-
   repeats_there : (boot : S) (list : List Entry) (between : Bool) (s : S) → Repeats N boot list between s
       → Repeats (booted_from N start sectors) boot list between s
   repeats_there boot list between s repeats = record {

@@ -32,6 +32,7 @@ use Rattle.pair_rule.specs.Shown.{IsAcknowledged}
 use Rattle.pair_rule.specs.declared.payload.DiskAnswer.{DiskAnswer}
 use Rattle.pair_rule.specs.declared.payload.DiskAnswer.TheVariants as answer
 use Rattle.pair_rule.specs.declared.view.PrimaryView.{PrimaryView}
+use Rattle.pair_rule.specs.Knowledge.{with_release}
 use Rattle.pair_rule.proofs.Filled.{among_last, among_more}
 use Rattle.pair_rule.proofs.ShownNodes.{among_either, later_covered, longer_covered}
 use Rattle.recorder.proofs.Recorded.{Recorded-append, entries-append}
@@ -219,7 +220,7 @@ module _ {S : Type 0} (M : Machine S) (counts : Counts M) (laws : ComesAndGoes M
   }
 
   pub releases : (name : OpId) (o : Operation) → M.find s name ≡ Some o → view.seen ≡ length list
-      → Leads M boot list names (record view { released = view.released ++ o ∷ [] }) s
+      → Leads M boot list names (with_release o view) s
   releases name o found all = record {
     moves = leads.moves;
     runs = leads.runs;

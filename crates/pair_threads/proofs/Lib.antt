@@ -5,6 +5,7 @@ pub mod Leading
 pub mod Telling
 pub mod Offering
 pub mod Views
+pub mod KeptCalls
 pub mod Ports
 pub mod OneMoment
 pub mod AtRest
@@ -14,3 +15,4 @@ pub mod OwnDisk
 pub mod Ends
 pub mod Ending
 pub mod Beginning
+pub mod Shown

@@ -1,13 +1,17 @@
 -- What each call of its seat leaves of a primary's view, and how a guest leads on under it.
-use Rattle.std.proofs.Common.{◌≡◌, ℕ, zero, suc, ◌≤◌, inl, inr, List, [], ◌∷◌, ◌++◌, length, Some, None, refl, sym, ap, subst, ◌∙◌}
-use Rattle.std.specs.Prelude.{◌-◌, slice_get}
+use Rattle.std.proofs.Common.{◌≡◌, ℕ, zero, suc, ◌≤◌, inl, inr, List, [], ◌∷◌, ◌++◌, length, Some, None, refl, sym, ap, subst, ◌∙◌, arith, eqb, true, Option}
+use Rattle.std.specs.Prelude.{◌-◌, IsSome, slice_get}
+use Rattle.std.specs.Option.{option_eq}
 use Rattle.disk_dcdd.specs.declared.address.SectorAddress.{SectorAddress}
 use Rattle.disk_dcdd.specs.declared.sector.SectorWrite.{SectorWrite}
 use Rattle.event_callbacks.specs.declared.operations.OpId.{OpId}
 use Rattle.event_callbacks.specs.declared.operations.OpId.TheVariants as id
 use Rattle.event_callbacks.specs.declared.operations.Operation.{Operation}
 use Rattle.event_callbacks.specs.declared.operations.Operation.TheVariants.{Write}
-use Rattle.guest_board.specs.Machine.{Machine}
+use Rattle.event_callbacks.specs.Operations.{id_of}
+use Rattle.guest_board.specs.Machine.{Machine, Move, Do, Take, booted_from}
+use Rattle.guest_board.proofs.Booted.{Counts-booted, Recorded-booted}
+use Rattle.log_entry.specs.declared.entry.Entry.{Entry}
 use Rattle.guest_board.specs.Outstanding.{ComesAndGoes}
 use Rattle.guest_board.specs.Recorded.{Counts}
 use Rattle.pair_protocol.specs.Lawful.{Among}
@@ -19,18 +23,45 @@ use Rattle.pair_rule.specs.declared.payload.Payload.TheVariants.{Out, Request, A
 use Rattle.pair_rule.specs.declared.view.Core.{Core}
 use Rattle.pair_rule.specs.declared.view.PrimaryView.{PrimaryView}
 use Rattle.pair_rule.specs.Boxes.{port_box}
+use Rattle.pair_rule.specs.Kinds.{with_known}
+use Rattle.pair_rule.specs.Knowledge as knowledge
+use Rattle.pair_rule.specs.Knowledge.{appended}
 use Rattle.pair_rule.specs.Seats.{Empties, Fills, Seat}
-use Rattle.pair_threads.specs.Leading.{IsLeading, by_port, with_waiting}
-use Rattle.pair_threads.specs.Primary.{MayAsk, WorkerLeads, keys_taken}
+use Rattle.pair_rule.specs.Shown.{IsAcknowledged}
+use Rattle.pair_threads.specs.Ending.{HasAsked}
+use Rattle.pair_threads.specs.Leading.{AreAnswers, IdlesIf, IsLeading, Leads, Says, by_port, with_waiting}
+use Rattle.pair_threads.specs.Primary.{CallsKept, MayAsk, WorkerKeeps, WorkerLeads, Works, keys_taken}
+use Rattle.pair_threads.specs.declared.plan.Plan.{Plan}
 use Rattle.pair_threads.specs.declared.primary.PrimaryWorker.{PrimaryWorker}
 use Rattle.pair_threads.specs.declared.recording.Recording.{Recording}
-use Rattle.pair_threads.proofs.Leading as leading
+use Rattle.pair_threads.proofs.KeptCalls.{append_kept, release_kept}
+use Rattle.pair_threads.proofs.Leading as moving
+
+-- ---- the machine that boots elsewhere
+
+module _ {S : Type 0} (N : Machine S) (start : S) (sectors : SectorAddress → List ℕ) where
+  are_answers : (answers : List DiskAnswer) (s : S) (moves : List Move) → AreAnswers N answers s moves
+      → AreAnswers (booted_from N start sectors) answers s moves
+  are_answers answers s [] all = all
+  are_answers answers s (Do gives ∷ moves) all = λ u made. are_answers answers u moves (all u made)
+  are_answers answers s (Take input ∷ moves) all = (all.0, λ u made. are_answers answers u moves (all.1 u made))
+
+  pub leads_there : (boot : S) (list : List Entry) (names : List OpId) (view : PrimaryView) (s : S)
+      → Leads N boot list names view s → Leads (booted_from N start sectors) boot list names view s
+  leads_there boot list names view s leads = record {
+    moves = leads.moves;
+    runs = Recorded-booted N start sectors boot s leads.moves leads.runs;
+    entries_are = leads.entries_are;
+    outstanding = leads.outstanding;
+    covered = leads.covered;
+    answered = are_answers view.answers boot leads.moves leads.answered;
+  }
 
 -- ---- the views
 
 -- a view with one more of what was released, and with one more answer
 abbrev pub with_release : PrimaryView → Operation → PrimaryView
-with_release view o = record view { released = view.released ++ o ∷ [] }
+with_release view o = knowledge.with_release o view
 
 abbrev pub with_answer : PrimaryView → DiskAnswer → PrimaryView
 with_answer view a = record view { answers = view.answers ++ a ∷ [] }
@@ -71,7 +102,7 @@ module _ {B S : Type 0} (state : B → S) (M : Machine S) (boot : S) (view : Pri
     (counts : Counts M) (laws : ComesAndGoes M) where
   pub sees : (more : ℕ) → view.seen ≤ more → IsLeading state M boot (record view { seen = more }) taken accepted guest
   sees more le = (
-    leading.sees M counts laws boot (state guest.board) (with_waiting view.list guest.waiting) guest.given.items view
+    moving.sees M counts laws boot (state guest.board) (with_waiting view.list guest.waiting) guest.given.items view
         leads.0 more le,
     leads.1,
     leads.2,
@@ -79,7 +110,7 @@ module _ {B S : Type 0} (state : B → S) (M : Machine S) (boot : S) (view : Pri
 
   pub hears : (a : DiskAnswer) → IsLeading state M boot (with_answer view a) taken accepted guest
   hears a = (
-    leading.hears M counts laws boot (state guest.board) (with_waiting view.list guest.waiting) guest.given.items view
+    moving.hears M counts laws boot (state guest.board) (with_waiting view.list guest.waiting) guest.given.items view
         leads.0 a,
     leads.1,
     leads.2,
@@ -89,11 +120,37 @@ module _ {B S : Type 0} (state : B → S) (M : Machine S) (boot : S) (view : Pri
   pub releases : (name : OpId) (o : Operation) → M.find (state guest.board) name ≡ Some o → guest.waiting ≡ None
       → view.seen ≡ length view.list → IsLeading state M boot (with_release view o) taken accepted guest
   releases name o found waits seen = (
-    leading.releases M counts laws boot (state guest.board) (with_waiting view.list guest.waiting) guest.given.items
+    moving.releases M counts laws boot (state guest.board) (with_waiting view.list guest.waiting) guest.given.items
         view leads.0 name o found (seen ∙ ap (λ w. length (with_waiting view.list w)) (sym waits)),
     leads.1,
     leads.2,
   )
+
+  -- what is counted is seen, and a seat asks who goes on alone
+  same_leads : (other : PrimaryView) → other.list ≡ view.list → other.seen ≡ view.seen → other.released ≡ view.released
+      → other.answers ≡ view.answers → IsLeading state M boot other taken accepted guest
+  same_leads other list seen released answers = (
+    record {
+      moves = leads.0.moves;
+      runs = leads.0.runs;
+      entries_are = leads.0.entries_are ∙ ap (λ l. with_waiting l guest.waiting) (sym list);
+      outstanding = leads.0.outstanding;
+      covered = λ o at. subst (λ n. IsAcknowledged leads.0.moves n o) (sym seen)
+          (leads.0.covered o (subst (Among o) released at));
+      answered = subst (λ a. AreAnswers M a boot leads.0.moves) (sym answers) leads.0.answered;
+    },
+    leads.1,
+    subst (λ l. Says (with_waiting l guest.waiting) taken accepted) (sym list) leads.2,
+  )
+
+  pub counts_at0 : (n : ℕ) → IsLeading state M boot (record view { counted0 = n }) taken accepted guest
+  counts_at0 n = same_leads (record view { counted0 = n }) refl refl refl refl
+
+  pub counts_at1 : (n : ℕ) → IsLeading state M boot (record view { counted1 = n }) taken accepted guest
+  counts_at1 n = same_leads (record view { counted1 = n }) refl refl refl refl
+
+  pub asks_alone : (n : ℕ) → IsLeading state M boot (record view { winner = n }) taken accepted guest
+  asks_alone n = same_leads (record view { winner = n }) refl refl refl refl
 
 -- ---- a worker of which the seat changes
 
@@ -105,6 +162,7 @@ WorksAt {B} {S} state M old seat =
     × ((boot : S) → WorkerLeads state M boot old → IsLeading state M boot seat.core.known.primary
     (by_port (keys_taken old.port0) (keys_taken old.port1) []) (by_port old.port0.accepted old.port1.accepted 0)
     old.guest)
+    × ((boot : S) → WorkerLeads state M boot old → WorkerKeeps M boot old → CallsKept M boot old.port0.typed.items old.port1.typed.items seat.core.known.primary.calls)
 
 module _ {B S : Type 0} (state : B → S) (M : Machine S) (old : PrimaryWorker B) (seat : Seat) (sight : PrimaryView) where
   -- so it does if its guest leads on under the view that the seat has
@@ -113,8 +171,10 @@ module _ {B S : Type 0} (state : B → S) (M : Machine S) (old : PrimaryWorker B
       → ((boot : S) (taken : ℕ → List ℕ) (accepted : ℕ → ℕ)
       → IsLeading state M boot old.seat.core.known.primary taken accepted old.guest
       → IsLeading state M boot sight taken accepted old.guest)
+      → ((boot : S) → WorkerLeads state M boot old → WorkerKeeps M boot old
+      → CallsKept M boot old.port0.typed.items old.port1.typed.items sight.calls)
       → WorksAt state M old seat
-  works_on table view winner turn = (
+  works_on table view winner turn keeps = (
     table,
     ap (λ (v : PrimaryView). v.winner) view ∙ winner,
     refl,
@@ -124,7 +184,97 @@ module _ {B S : Type 0} (state : B → S) (M : Machine S) (old : PrimaryWorker B
         (by_port old.port0.accepted old.port1.accepted 0) old.guest) (sym view)
         (turn boot (by_port (keys_taken old.port0) (keys_taken old.port1) [])
         (by_port old.port0.accepted old.port1.accepted 0) leads),
+    λ boot leads kept. subst (λ (v : PrimaryView). CallsKept M boot old.port0.typed.items old.port1.typed.items v.calls)
+        (sym view) (keeps boot leads kept),
   )
+
+-- so it does if its seat stays as it was
+pub stays : {B S : Type 0} (state : B → S) (M : Machine S) (old : PrimaryWorker B) (seat : Seat) → seat ≡ old.seat
+    → WorksAt state M old seat
+stays state M old seat is = subst (WorksAt state M old) (sym is)
+    (refl, refl, refl, refl, refl, λ boot leads. leads, λ boot leads kept. kept)
+
+-- what its guest has given may be released once all is acknowledged
+module _ {B S : Type 0} (state : B → S) (M : Machine S) (counts : Counts M) (old : PrimaryWorker B) (boot : S)
+    (leading : WorkerLeads state M boot old) (kept : WorkerKeeps M boot old) where
+  pub release_promised : (o : Operation) → M.find (state old.guest.board) (id_of o) ≡ Some o → old.guest.waiting ≡ None
+      → old.seen ≡ length old.list.items
+      → CallsKept M boot old.port0.typed.items old.port1.typed.items (with_release old.seat.core.known.primary o).calls
+  release_promised o found waits seen zero_at sectors =
+      let view = old.seat.core.known.primary in
+      let leads : Leads M boot view.list old.guest.given.items view (state old.guest.board) =
+      subst (λ w. Leads M boot (with_waiting view.list w) old.guest.given.items view (state old.guest.board)) waits
+      leading.0 in (
+        release_kept (booted_from M boot sectors) (Counts-booted M boot sectors counts) zero_at old.guest.given.items view
+            (state old.guest.board) old.port0.typed.items old.port1.typed.items o
+            (leads_there M boot sectors boot view.list old.guest.given.items view (state old.guest.board) leads) found
+            (sym old.saw ∙ seen ∙ ap length old.same),
+        kept zero_at sectors,
+      )
+
+  pub append_promised : (e : Entry) → old.guest.waiting ≡ Some e
+      → CallsKept M boot old.port0.typed.items old.port1.typed.items
+      (knowledge.with_entry e old.seat.core.known.primary).calls
+  append_promised e waits zero_at sectors =
+      let view = old.seat.core.known.primary in
+      let all : with_waiting view.list old.guest.waiting ≡ view.list ++ e ∷ [] = ap (with_waiting view.list) waits in
+      let leads : Leads M boot (view.list ++ e ∷ []) old.guest.given.items view (state old.guest.board) =
+      subst (λ l. Leads M boot l old.guest.given.items view (state old.guest.board)) all leading.0 in (
+        append_kept (booted_from M boot sectors) (Counts-booted M boot sectors counts) zero_at old.guest.given.items view
+            (state old.guest.board) old.port0.typed.items old.port1.typed.items e
+            (leads_there M boot sectors boot (view.list ++ e ∷ []) old.guest.given.items view (state old.guest.board) leads)
+            old.port0.taken old.port1.taken old.port0.accepted old.port1.accepted
+            (subst (λ l. Says l (by_port (keys_taken old.port0) (keys_taken old.port1) [])
+            (by_port old.port0.accepted old.port1.accepted 0)) all leading.2)
+            (let a = old.accepted.0 in let b = old.saw_counted.0 in omega (arith, a, b))
+            (let a = old.accepted.1 in let b = old.saw_counted.1 in omega (arith, a, b)),
+        kept zero_at sectors,
+      )
+
+-- a worker whose entry is appended leads on with nothing that waits, and has kept what it promised
+module _ {B S : Type 0} (state : B → S) (M : Machine S) (counts : Counts M) (old : PrimaryWorker B) (e : Entry) (seat : Seat)
+    (table : seat.table ≡ old.seat.table) (is : seat.core ≡ with_known (appended e) old.seat.core)
+    (waits : old.guest.waiting ≡ Some e) where
+  abbrev after : Recording B
+  after = record old.guest { waiting = None }
+
+  pub appends : (seat.table ≡ old.seat.table) × (seat.core.known.primary.winner ≡ old.seat.core.known.primary.winner)
+      × (old.plan ≡ old.plan) × (old.port0.typed ≡ old.port0.typed) × (old.port1.typed ≡ old.port1.typed)
+      × ((boot : S) → WorkerLeads state M boot old → IsLeading state M boot seat.core.known.primary
+      (by_port (keys_taken old.port0) (keys_taken old.port1) []) (by_port old.port0.accepted old.port1.accepted 0)
+      after)
+      × ((boot : S) → WorkerLeads state M boot old → WorkerKeeps M boot old
+      → CallsKept M boot old.port0.typed.items old.port1.typed.items seat.core.known.primary.calls)
+  appends = (
+    table,
+    ap (λ (c : Core). c.known.primary.winner) is,
+    refl,
+    refl,
+    refl,
+    λ boot leads.
+        let view = old.seat.core.known.primary in
+        let taken = by_port (keys_taken old.port0) (keys_taken old.port1) [] in
+        let accepted = by_port old.port0.accepted old.port1.accepted 0 in
+        let now = subst (λ w. Leads M boot (with_waiting view.list w) old.guest.given.items view (state old.guest.board)
+        × IdlesIf M old.guest.idle (state old.guest.board) × Says (with_waiting view.list w) taken accepted) waits leads in
+        subst (λ (c : Core). IsLeading state M boot c.known.primary taken accepted after) (sym is)
+        (there boot view now.0, now.1, now.2),
+    λ boot leads kept. subst
+        (λ (c : Core). CallsKept M boot old.port0.typed.items old.port1.typed.items c.known.primary.calls) (sym is)
+        (append_promised state M counts old boot leads kept e waits),
+  )
+    where
+      there : (boot : S) (view : PrimaryView)
+          → Leads M boot (view.list ++ e ∷ []) old.guest.given.items view (state old.guest.board)
+          → Leads M boot (view.list ++ e ∷ []) old.guest.given.items (knowledge.with_entry e view) (state old.guest.board)
+      there boot view l = record {
+        moves = l.moves;
+        runs = l.runs;
+        entries_are = l.entries_are;
+        outstanding = l.outstanding;
+        covered = l.covered;
+        answered = l.answered;
+      }
 
 -- a worker that asks what it may works on
 module _ {B S : Type 0} (state : B → S) (M : Machine S) (counts : Counts M) (laws : ComesAndGoes M)
@@ -137,6 +287,48 @@ module _ {B S : Type 0} (state : B → S) (M : Machine S) (counts : Counts M) (l
       (asked_write old.seat.core seat.core w fills) refl
       (λ boot taken accepted leads. releases state M boot old.seat.core.known.primary taken accepted old.guest leads
       counts laws (id.Write w.number) (Write w) may.0 may.1 (sym old.saw ∙ may.2 ∙ ap length old.same))
+      (λ boot leads kept. release_promised state M counts old boot leads kept (Write w) may.0 may.1 may.2)
   asks (ask.Read a) may fills =
       works_on state M old seat old.seat.core.known.primary table (asked_read old.seat.core seat.core a fills) refl
-      (λ boot taken accepted leads. leads)
+      (λ boot taken accepted leads. leads) (λ boot leads kept. kept)
+
+-- ---- what a worker is to the one that began
+
+abbrev pub Came : {B S : Type 0} → (B → S) → Machine S → PrimaryWorker B → PrimaryWorker B → Type 0
+Came state M first w =
+    (w.plan ≡ first.plan) × (w.port0.typed ≡ first.port0.typed) × (w.port1.typed ≡ first.port1.typed)
+    × HasAsked w.plan.contests_at w.seat.core.known.primary.winner
+    × WorkerLeads state M (state first.guest.board) w × WorkerKeeps M (state first.guest.board) w
+
+pub came_on : {B S : Type 0} (state : B → S) (M : Machine S) (first old new : PrimaryWorker B) → Came state M first old
+    → Works state M old new → Came state M first new
+came_on state M first old new came works = (
+  works.2 ∙ came.0,
+  works.3 ∙ came.1,
+  works.4 ∙ came.2,
+  subst (λ (p : Plan). HasAsked p.contests_at new.seat.core.known.primary.winner) (sym works.2)
+      (subst (HasAsked old.plan.contests_at) (sym works.1) came.3),
+  works.5 (state first.guest.board) came.4,
+  works.6 (state first.guest.board) came.4 came.5,
+)
+
+-- a turn at which it is to ask
+pub some_at : (o : Option ℕ) (n : ℕ) → option_eq eqb o (Some n) ≡ true → IsSome o
+some_at None n is = absurd cc
+some_at (Some m) n is = refl
+
+-- a worker that asks who goes on alone
+module _ {B S : Type 0} (state : B → S) (M : Machine S) (counts : Counts M) (laws : ComesAndGoes M)
+    (old : PrimaryWorker B) (seat : Seat) (n : ℕ) (boot : S)
+    (is : seat.core.known.primary ≡ record old.seat.core.known.primary { winner = n }) where
+  pub leads_alone : WorkerLeads state M boot old → IsLeading state M boot seat.core.known.primary
+      (by_port (keys_taken old.port0) (keys_taken old.port1) []) (by_port old.port0.accepted old.port1.accepted 0) old.guest
+  leads_alone leads = subst (λ v. IsLeading state M boot v (by_port (keys_taken old.port0) (keys_taken old.port1) [])
+      (by_port old.port0.accepted old.port1.accepted 0) old.guest) (sym is)
+      (asks_alone state M boot old.seat.core.known.primary (by_port (keys_taken old.port0) (keys_taken old.port1) [])
+      (by_port old.port0.accepted old.port1.accepted 0) old.guest leads counts laws n)
+
+  pub keeps_alone : WorkerKeeps M boot old
+      → CallsKept M boot old.port0.typed.items old.port1.typed.items seat.core.known.primary.calls
+  keeps_alone kept = subst (λ (v : PrimaryView). CallsKept M boot old.port0.typed.items old.port1.typed.items v.calls)
+      (sym is) kept

@@ -1,13 +1,14 @@
 -- How a generation on threads ends: the trace of one machine that never fails, on the inputs of a list, is what the guests
 -- have done, what the terminals have accepted, and what the disk holds.
-use Rattle.std.specs.Prelude.{◌≡◌, ℕ, zero, suc, ◌+◌, length, List, [], ◌∷◌, Option, Some, None}
+use Rattle.std.specs.Prelude.{◌≡◌, ◌⊎◌, ℕ, zero, suc, ◌+◌, length, List, [], ◌∷◌, Option, Some, None, IsSome}
 use Rattle.disk_dcdd.specs.declared.address.SectorAddress.{SectorAddress}
 use Rattle.event_callbacks.specs.declared.operations.OpId.{OpId}
 use Rattle.guest_board.specs.Lockstep.{step_refusal}
 use Rattle.guest_board.specs.Machine.{Machine, Move}
 use Rattle.guest_board.specs.declared.reads.Reads.TheVariants.{Logged}
 use Rattle.guest_trace.specs.Reach.{Reach, image, keys, output}
-use Rattle.i8080_words.specs.declared.refusal.Fault.TheVariants.{Idle}
+use Rattle.i8080_words.specs.declared.refusal.Fault.{Fault}
+use Rattle.i8080_words.specs.declared.refusal.Fault.TheVariants.{Idle, OutOfMemory, Stalled}
 use Rattle.log_entry.specs.Entries.{entries, inputs_of, last_count}
 use Rattle.log_entry.specs.declared.entry.Entry.{Entry}
 use Rattle.pair_protocol.specs.Faithful.{IsAllBut, IsPrefix, MayHave}
@@ -21,6 +22,21 @@ abbrev pub winner_named : ℕ → Option Who
 winner_named zero = None
 winner_named (suc zero) = Some Primary
 winner_named (suc (suc n)) = Some Backup
+
+-- a seat whose view names a winner has asked, so it was to ask at a turn
+abbrev pub HasAsked : Option ℕ → ℕ → Type 0
+HasAsked contests_at winner = (winner ≡ 0) ⊎ IsSome contests_at
+
+-- whoever goes on alone was to ask for it at a turn; if nobody does, nobody was to ask
+abbrev pub WonBy : Option ℕ → Option ℕ → Option Who → Type 0
+WonBy primary_contests backup_contests None = (primary_contests ≡ None) × (backup_contests ≡ None)
+WonBy primary_contests backup_contests (Some Primary) = IsSome primary_contests
+WonBy primary_contests backup_contests (Some Backup) = IsSome backup_contests
+WonBy primary_contests backup_contests (Some who) = ⊥
+
+-- the two ways in which a run comes to no end
+abbrev pub IsEnding : Fault → Type 0
+IsEnding fault = (fault ≡ OutOfMemory) ⊎ (fault ≡ Stalled)
 
 -- the trace of the machine on the inputs of the list ends at a count in this state, and its entries are the list
 pub record IsTraceOf {S : Type 0} (M : Machine S) (list : List Entry) (count : ℕ) (trace : List Move) (s : S) : Type 0 where

@@ -7,3 +7,4 @@ pub mod Repeating
 pub mod Leading
 pub mod Primary
 pub mod Ending
+pub mod Shown

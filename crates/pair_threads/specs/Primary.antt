@@ -2,7 +2,11 @@
 use Rattle.std.specs.Prelude.{◌≡◌, ℕ, true, List, [], length, take, vec_len, Some, None}
 use Rattle.event_callbacks.specs.declared.operations.OpId.TheVariants as id
 use Rattle.event_callbacks.specs.declared.operations.Operation.TheVariants.{Write}
-use Rattle.guest_board.specs.Machine.{Machine}
+use Rattle.disk_dcdd.specs.declared.address.SectorAddress.{SectorAddress}
+use Rattle.guest_board.specs.Machine.{Machine, booted_from}
+use Rattle.pair_rule.specs.declared.view.PrimaryCall.{PrimaryCall}
+use Rattle.pair_rule.specs.Knowledge.{AllAre}
+use Rattle.pair_rule.specs.Threads.{CallKept}
 use Rattle.pair_rule.specs.declared.payload.DiskRequest.{DiskRequest}
 use Rattle.pair_rule.specs.declared.payload.DiskRequest.TheVariants as ask
 use Rattle.pair_threads.specs.declared.primary.PrimaryWorker.{PrimaryWorker}
@@ -19,12 +23,22 @@ WorkerLeads state M boot w =
     IsLeading state M boot w.seat.core.known.primary (by_port (keys_taken w.port0) (keys_taken w.port1) [])
     (by_port w.port0.accepted w.port1.accepted 0) w.guest
 
--- it goes on so, at its table, with its plan and what was typed, and without asking to go on alone
+-- all calls of a seat kept their promises, for the machine that boots there with any sectors
+abbrev pub CallsKept : {S : Type 0} → Machine S → S → List ℕ → List ℕ → List PrimaryCall → Type 0
+CallsKept M boot typed0 typed1 calls =
+    M.count boot ≡ 0 → (sectors : SectorAddress → List ℕ) →
+    AllAre calls (CallKept (booted_from M boot sectors) typed0 typed1)
+
+abbrev pub WorkerKeeps : {B S : Type 0} → Machine S → S → PrimaryWorker B → Type 0
+WorkerKeeps M boot w = CallsKept M boot w.port0.typed.items w.port1.typed.items w.seat.core.known.primary.calls
+
+-- it goes on so, keeping what its calls promise, at its table, with its plan and what was typed, and without asking to go on alone
 abbrev pub Works : {B S : Type 0} → (B → S) → Machine S → PrimaryWorker B → PrimaryWorker B → Type 0
 Works {B} {S} state M old new =
     (new.seat.table ≡ old.seat.table) × (new.seat.core.known.primary.winner ≡ old.seat.core.known.primary.winner)
     × (new.plan ≡ old.plan) × (new.port0.typed ≡ old.port0.typed) × (new.port1.typed ≡ old.port1.typed)
     × ((boot : S) → WorkerLeads state M boot old → WorkerLeads state M boot new)
+    × ((boot : S) → WorkerLeads state M boot old → WorkerKeeps M boot old → WorkerKeeps M boot new)
 
 -- it may ask this: a write only if it is outstanding, and all that its guest did is acknowledged
 abbrev pub MayAsk : {B S : Type 0} → (B → S) → Machine S → PrimaryWorker B → DiskRequest → Type 0

@@ -175,13 +175,15 @@ impl<B: Lockstep> BackupWorker<B> {
 
 impl<B: Lockstep> Worker for BackupWorker<B> {
     ghost use Rattle.std.specs.Prelude.{◌≡◌, ◌⊎◌, cond, false, vec_len};
+    ghost use Rattle.pair_threads.specs.Ending.{HasAsked};
     ghost use Rattle.pair_threads.specs.Repeating.{IsAt};
 
     ghost table = { λ w. w.seat.table };
 
     ghost ready = { λ w. w.seat.core.known.backup.winner ≡ cond w.won 2 0 };
 
-    ghost came = { λ first w. (w.plan ≡ first.plan) × IsAt B.state B.machine (B.state first.guest.board) w.guest };
+    ghost came = { λ first w. (w.plan ≡ first.plan) × HasAsked w.plan.contests_at w.seat.core.known.backup.winner
+        × IsAt B.state B.machine (B.state first.guest.board) w.guest };
 
     ghost ended = { λ w. (w.plan.contested ≡ false) ⊎ (w.seat.core.known.backup.winner ≡ 2)
         → w.guest.replayed ≡ vec_len w.guest.list };

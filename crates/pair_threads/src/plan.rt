@@ -17,7 +17,7 @@ impl Plan {
     /// A plan; whether it is contested says also whether the other one asks.
     pub(crate) fn new(contests_at: Option<u64>, contested: bool, steps: u64) -> Plan
         requires told { IsSome contests_at → contested ≡ true }
-        ensures { result.contested ≡ contested }
+        ensures { (result.contests_at ≡ contests_at) × (result.contested ≡ contested) }
     {
         Plan {
             contests_at,

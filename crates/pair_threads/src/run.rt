@@ -1,12 +1,13 @@
 //! One generation on threads.
-ghost use Rattle.std.specs.Prelude.{◌≡◌, ◌⊎◌, ℕ, List, [], ◌∷◌, None, Some, false, length, map, vec_len, IfOk, IsOk, OnOk};
+ghost use Rattle.std.specs.Prelude.{◌≡◌, ◌⊎◌, ℕ, List, [], ◌∷◌, Option, None, Some, false, length, map, vec_len, IfErr, IfOk, IsOk, OnOk};
 ghost use Rattle.guest_board.specs.Machine.{booted_from};
 ghost use Rattle.pair_protocol.specs.Lawful.{Lawful};
-ghost use Rattle.pair_rule.specs.Knowledge.{StartsWith};
+ghost use Rattle.pair_rule.specs.Knowledge.{StartsWith, last_or};
 ghost use Rattle.pair_rule.specs.Threads.{bytes_accepted};
-ghost use Rattle.pair_threads.specs.Ending.{EndsBy, winner_named};
-ghost use Rattle.pair_threads.specs.Primary.{IsAtRest, WorkerLeads};
+ghost use Rattle.pair_threads.specs.Ending.{EndsBy, HasAsked, IsEnding, WonBy, winner_named};
+ghost use Rattle.pair_threads.specs.Primary.{IsAtRest, WorkerKeeps, WorkerLeads};
 ghost use Rattle.pair_threads.specs.Repeating.{IsAt};
+ghost use Rattle.pair_threads.specs.Shown.{IsOfRun};
 ghost use Rattle.pair_threads.specs.Stores.{IsStore, bytes_in};
 ghost use Rattle.shared_disk.specs.Records.{IsUnwritten};
 ghost use Rattle.shared_disk.specs.declared.store.Record.{Record};
@@ -44,7 +45,8 @@ fn winner_of(word: u64) -> Option<Who>
 
 // The refusal of two workers together: out of memory before anything else.
 fn failure_of(one: R<()>, other: R<()>) -> R<()>
-    ensures { OnOk result (IsOk one × IsOk other) }
+    ensures both { OnOk result (IsOk one × IsOk other) }
+    ensures refused { IfErr result IsEnding }
 {
     match (one, other) {
         (Ok(()), Ok(())) => Ok(()),
@@ -156,8 +158,16 @@ fn conclude<B: Lockstep + Drop, D: SectorStore>(
     requires tables { (primary.seat.table ≡ fabric) × (backup.seat.table ≡ fabric) × (terminal.seat.table ≡ fabric)
         × (disk.seat.table ≡ fabric) }
     requires rests { contested ≡ false → IsAtRest primary }
+    requires plans { (primary.plan.contested ≡ contested) × (backup.plan.contested ≡ contested) }
+    requires asked { HasAsked primary.plan.contests_at primary.seat.core.known.primary.winner
+        × HasAsked backup.plan.contests_at backup.seat.core.known.backup.winner }
     requires repeated { (contested ≡ false) ⊎ (backup.seat.core.known.backup.winner ≡ 2)
         → backup.guest.replayed ≡ vec_len backup.guest.list }
+    ensures refused { IfErr result IsEnding }
+    ensures decided { IfOk result (λ e. WonBy primary.plan.contests_at backup.plan.contests_at e.winner) }
+    ensures lists { IfOk result (λ e. (e.primary ≡ primary.list) × (e.backup ≡ backup.guest.list)
+        × (e.held ≡ last_or 0 backup.seat.core.known.backup.held_values)) }
+    ensures boards { IfOk result (λ e. (e.primary_board ≡ primary.guest.board) × (e.backup_board ≡ backup.guest.board)) }
     ensures prefix { IfOk result (λ e. StartsWith e.primary.items e.backup.items) }
     ensures ends { (boot : B.State) (first : List Record) (typed0 typed1 : List ℕ)
         → Lawful (booted_from B.machine boot (bytes_in first))
@@ -165,6 +175,15 @@ fn conclude<B: Lockstep + Drop, D: SectorStore>(
         × WorkerLeads B.state B.machine boot primary → IsAt B.state B.machine boot backup.guest
         → IsStore (bytes_in first) (D.records disk.disk) disk.seat.core.known.disk
         → IfOk result (λ e. EndsBy (booted_from B.machine boot (bytes_in first)) typed0 typed1 e.winner e.primary.items
+        e.backup.items e.held (map (λ v. v.items) e.accepted) (D.records e.disk) (B.state e.primary_board)
+        (B.state e.backup_board)) }
+    ensures ran { (boot : B.State) (first : List Record) (typed0 typed1 : List ℕ)
+        → Lawful (booted_from B.machine boot (bytes_in first))
+        → (primary.port0.typed.items ≡ typed0) × (primary.port1.typed.items ≡ typed1)
+        × WorkerLeads B.state B.machine boot primary → WorkerKeeps B.machine boot primary
+        → IsAt B.state B.machine boot backup.guest
+        → IsStore (bytes_in first) (D.records disk.disk) disk.seat.core.known.disk
+        → IfOk result (λ e. IsOfRun (booted_from B.machine boot (bytes_in first)) typed0 typed1 e.winner e.primary.items
         e.backup.items e.held (map (λ v. v.items) e.accepted) (D.records e.disk) (B.state e.primary_board)
         (B.state e.backup_board)) }
 {
@@ -202,10 +221,17 @@ fn finish<B: Lockstep + Drop, D: SectorStore>(
     contested: bool,
 ) -> R<GenerationEnd<B, D>>
     requires primary { (five.primary.0.seat.table ≡ fabric) × OnOk five.primary.1 (contested ≡ false → IsAtRest five.primary.0) }
+    requires primary_asked { OnOk five.primary.1 ((five.primary.0.plan.contested ≡ contested)
+        × HasAsked five.primary.0.plan.contests_at five.primary.0.seat.core.known.primary.winner) }
+    requires backup_asked { OnOk five.backup.1 ((five.backup.0.plan.contested ≡ contested)
+        × HasAsked five.backup.0.plan.contests_at five.backup.0.seat.core.known.backup.winner) }
     requires backup { (five.backup.0.seat.table ≡ fabric)
         × OnOk five.backup.1 ((contested ≡ false) ⊎ (five.backup.0.seat.core.known.backup.winner ≡ 2)
         → five.backup.0.guest.replayed ≡ vec_len five.backup.0.guest.list) }
     requires others { (five.terminal.0.seat.table ≡ fabric) × (five.disk.0.seat.table ≡ fabric) }
+    ensures refused { IfErr result IsEnding }
+    ensures decided { (first second : Option ℕ) → OnOk five.primary.1 (five.primary.0.plan.contests_at ≡ first)
+        → OnOk five.backup.1 (five.backup.0.plan.contests_at ≡ second) → IfOk result (λ e. WonBy first second e.winner) }
     ensures prefix { IfOk result (λ e. StartsWith e.primary.items e.backup.items) }
     ensures ends { (boot : B.State) (first : List Record) (typed0 typed1 : List ℕ)
         → Lawful (booted_from B.machine boot (bytes_in first))
@@ -214,6 +240,16 @@ fn finish<B: Lockstep + Drop, D: SectorStore>(
         → OnOk five.backup.1 (IsAt B.state B.machine boot five.backup.0.guest)
         → OnOk five.disk.1 (IsStore (bytes_in first) (D.records five.disk.0.disk) five.disk.0.seat.core.known.disk)
         → IfOk result (λ e. EndsBy (booted_from B.machine boot (bytes_in first)) typed0 typed1 e.winner e.primary.items
+        e.backup.items e.held (map (λ v. v.items) e.accepted) (D.records e.disk) (B.state e.primary_board)
+        (B.state e.backup_board)) }
+    ensures ran { (boot : B.State) (first : List Record) (typed0 typed1 : List ℕ)
+        → Lawful (booted_from B.machine boot (bytes_in first))
+        → OnOk five.primary.1 ((five.primary.0.port0.typed.items ≡ typed0) × (five.primary.0.port1.typed.items ≡ typed1)
+        × WorkerLeads B.state B.machine boot five.primary.0)
+        → OnOk five.primary.1 (WorkerKeeps B.machine boot five.primary.0)
+        → OnOk five.backup.1 (IsAt B.state B.machine boot five.backup.0.guest)
+        → OnOk five.disk.1 (IsStore (bytes_in first) (D.records five.disk.0.disk) five.disk.0.seat.core.known.disk)
+        → IfOk result (λ e. IsOfRun (booted_from B.machine boot (bytes_in first)) typed0 typed1 e.winner e.primary.items
         e.backup.items e.held (map (λ v. v.items) e.accepted) (D.records e.disk) (B.state e.primary_board)
         (B.state e.backup_board)) }
 {
@@ -245,8 +281,13 @@ pub fn run_generation<
     requires lawful { Lawful (booted_from B.machine (B.state workers.primary) (bytes_in (D.records workers.disk))) }
     requires alike { B.state workers.backup ≡ B.state workers.primary }
     requires unwritten { IsUnwritten (D.records workers.disk) }
+    ensures refused { IfErr result IsEnding }
+    ensures decided { IfOk result (λ e. WonBy workers.primary_contests workers.backup_contests e.winner) }
     ensures prefix { IfOk result (λ e. StartsWith e.primary.items e.backup.items) }
     ensures ends { IfOk result (λ e. EndsBy (booted_from B.machine (B.state workers.primary) (bytes_in (D.records workers.disk)))
+        workers.typed0.items workers.typed1.items e.winner e.primary.items e.backup.items e.held
+        (map (λ v. v.items) e.accepted) (D.records e.disk) (B.state e.primary_board) (B.state e.backup_board)) }
+    ensures ran { IfOk result (λ e. IsOfRun (booted_from B.machine (B.state workers.primary) (bytes_in (D.records workers.disk)))
         workers.typed0.items workers.typed1.items e.winner e.primary.items e.backup.items e.held
         (map (λ v. v.items) e.accepted) (D.records e.disk) (B.state e.primary_board) (B.state e.backup_board)) }
 {

@@ -263,7 +263,10 @@ impl<B: Lockstep> PrimaryWorker<B> {
         requires free { self.old.guest.waiting ≡ None }
         ensures works { Works B.state B.machine self.old self.new }
     {
-        if self.port0.accepted >= self.counted0 || !self.guest.sent(0) {
+        if self.port0.accepted >= self.counted0 {
+            return false;
+        }
+        if !self.guest.sent(0) {
             return false;
         }
         self.port0.accepted += 1;
@@ -275,7 +278,10 @@ impl<B: Lockstep> PrimaryWorker<B> {
         requires free { self.old.guest.waiting ≡ None }
         ensures works { Works B.state B.machine self.old self.new }
     {
-        if self.port1.accepted >= self.counted1 || !self.guest.sent(1) {
+        if self.port1.accepted >= self.counted1 {
+            return false;
+        }
+        if !self.guest.sent(1) {
             return false;
         }
         self.port1.accepted += 1;

@@ -2,7 +2,7 @@
 ghost use Rattle.std.specs.Prelude.{◌≡◌, ◌↔◌, [], length, None, Some, IsTrue, OnOk};
 ghost use Rattle.event_callbacks.specs.declared.operations.OpId.{OpId};
 ghost use Rattle.pair_rule.specs.Seats.{HasSwapsLeft};
-ghost use Rattle.pair_threads.specs.Primary.{IsAtRest, WorkerLeads, Works};
+ghost use Rattle.pair_threads.specs.Primary.{IsAtRest, WorkerKeeps, WorkerLeads, Works};
 ghost use Rattle.pair_threads.specs.Turns.{Leaves};
 
 use super::PrimaryWorker;
@@ -28,13 +28,15 @@ impl<B: Lockstep> PrimaryWorker<B> {
         plan: Plan,
     ) -> PrimaryWorker<B>
         requires list { seat.core.known.primary.list ≡ [] }
-        requires blank { (seat.core.known.primary.seen ≡ 0) × (seat.core.known.primary.released ≡ []) }
+        requires blank { (seat.core.known.primary.seen ≡ 0) × (seat.core.known.primary.released ≡ [])
+            × (seat.core.known.primary.calls ≡ []) }
         requires uncounted { (seat.core.known.primary.counted0 ≡ 0) × (seat.core.known.primary.counted1 ≡ 0) }
         requires none { (name : OpId) → B.machine.find (B.state board) name ≡ None }
         ensures seat { result.seat ≡ seat }
         ensures board { result.guest.board ≡ board }
         ensures plan { (result.plan ≡ plan) × (result.port0.typed ≡ typed0) × (result.port1.typed ≡ typed1) }
         ensures leads { WorkerLeads B.state B.machine (B.state board) result }
+        ensures keeps { WorkerKeeps B.machine (B.state board) result }
     {
         PrimaryWorker {
             seat,
@@ -158,14 +160,17 @@ impl<B: Lockstep> PrimaryWorker<B> {
 
 impl<B: Lockstep> Worker for PrimaryWorker<B> {
     ghost use Rattle.std.specs.Prelude.{◌≡◌, false};
-    ghost use Rattle.pair_threads.specs.Primary.{IsAtRest, WorkerLeads};
+    ghost use Rattle.pair_threads.specs.Ending.{HasAsked};
+    ghost use Rattle.pair_threads.specs.Primary.{IsAtRest, WorkerKeeps, WorkerLeads};
 
     ghost table = { λ w. w.seat.table };
 
     ghost ready = { λ w. w.seat.core.known.primary.winner ≡ 0 };
 
     ghost came = { λ first w. (w.plan ≡ first.plan) × (w.port0.typed ≡ first.port0.typed)
-        × (w.port1.typed ≡ first.port1.typed) × WorkerLeads B.state B.machine (B.state first.guest.board) w };
+        × (w.port1.typed ≡ first.port1.typed) × HasAsked w.plan.contests_at w.seat.core.known.primary.winner
+        × WorkerLeads B.state B.machine (B.state first.guest.board) w
+        × WorkerKeeps B.machine (B.state first.guest.board) w };
 
     ghost ended = { λ w. w.plan.contested ≡ false → IsAtRest w };
 

@@ -1,8 +1,9 @@
 -- The disk's worker begins with what was booted; and the workers' ends are of what was given to them.
 use Rattle.std.proofs.Common.{ap, sym, subst, ◌∙◌, Vec, Global, ℕ}
 use Rattle.pair_rule.specs.Seats.{Seat}
+use Rattle.pair_threads.specs.declared.plan.Plan.{Plan}
 use Rattle.pair_rule.specs.declared.view.Core.{Core}
-use Rattle.pair_threads.specs.Primary.{WorkerLeads}
+use Rattle.pair_threads.specs.Primary.{WorkerKeeps, WorkerLeads}
 use Rattle.pair_threads.specs.Repeating.{IsAt}
 use Rattle.pair_threads.specs.Stores.{IsStore, bytes_in}
 use Rattle.shared_disk.specs.Records.{IsUnwritten}
@@ -33,11 +34,41 @@ returns-clause-ends g c =
     (on_ok served.result.primary.1 (λ end. (
       ap (λ (v : Vec ℕ Global). v.items) (end.0.1 ∙ c.new.ensures.plan.1),
       ap (λ (v : Vec ℕ Global). v.items) (end.0.2 ∙ c.new.ensures.plan.2),
-      subst (λ b. WorkerLeads state g.B.Lockstep.machine b served.result.primary.0) (ap state c.new.ensures.board) end.0.3,
+      subst (λ b. WorkerLeads state g.B.Lockstep.machine b served.result.primary.0) (ap state c.new.ensures.board) end.0.4,
     )) served.ensures.primary.1)
     (on_ok served.result.backup.1
     (λ end. subst (λ b. IsAt state g.B.Lockstep.machine b served.result.backup.0.guest)
-    (ap state c.new-3.ensures.board ∙ c.requires.alike) end.0.1) served.ensures.backup.1)
+    (ap state c.new-3.ensures.board ∙ c.requires.alike) end.0.2) served.ensures.backup.1)
+    (on_ok served.result.disk.1
+    (λ end. subst (λ r. IsStore (bytes_in r) (records served.result.disk.0.disk) served.result.disk.0.seat.core.known.disk)
+    (ap records c.new-5.ensures.disk) end.0) served.ensures.disk.1)
+
+pub returns-clause-decided : goal.returns-clause-decided
+returns-clause-decided g c =
+    let served = c.work-served in
+    c.finish.ensures.decided c.args.workers.primary_contests c.args.workers.backup_contests
+    (on_ok served.result.primary.1 (λ end. ap (λ (p : Plan). p.contests_at) (end.0.0 ∙ c.new.ensures.plan.0)
+    ∙ c.new-lead.ensures.0) served.ensures.primary.1)
+    (on_ok served.result.backup.1 (λ end. ap (λ (p : Plan). p.contests_at) (end.0.0 ∙ c.new-3.ensures.plan.0)
+    ∙ c.new-follow.ensures.0) served.ensures.backup.1)
+
+pub returns-clause-ran : goal.returns-clause-ran
+returns-clause-ran g c =
+    let served = c.work-served in
+    let state = g.B.Lockstep.state in
+    let records = g.D.SectorStore.records in
+    c.finish.ensures.ran (state c.args.workers.primary) (records c.args.workers.disk) c.args.workers.typed0.items
+    c.args.workers.typed1.items c.requires.lawful
+    (on_ok served.result.primary.1 (λ end. (
+      ap (λ (v : Vec ℕ Global). v.items) (end.0.1 ∙ c.new.ensures.plan.1),
+      ap (λ (v : Vec ℕ Global). v.items) (end.0.2 ∙ c.new.ensures.plan.2),
+      subst (λ b. WorkerLeads state g.B.Lockstep.machine b served.result.primary.0) (ap state c.new.ensures.board) end.0.4,
+    )) served.ensures.primary.1)
+    (on_ok served.result.primary.1 (λ end. subst (λ b. WorkerKeeps g.B.Lockstep.machine b served.result.primary.0)
+    (ap state c.new.ensures.board) end.0.5) served.ensures.primary.1)
+    (on_ok served.result.backup.1
+    (λ end. subst (λ b. IsAt state g.B.Lockstep.machine b served.result.backup.0.guest)
+    (ap state c.new-3.ensures.board ∙ c.requires.alike) end.0.2) served.ensures.backup.1)
     (on_ok served.result.disk.1
     (λ end. subst (λ r. IsStore (bytes_in r) (records served.result.disk.0.disk) served.result.disk.0.seat.core.known.disk)
     (ap records c.new-5.ensures.disk) end.0) served.ensures.disk.1)

@@ -2,9 +2,11 @@
 use Rattle.std.proofs.Common.{◌≡◌, ◌+◌, ◌∙◌, [], ap, arith, get_or, subst, sym}
 use Rattle.std.proofs.lemmas.List.{take_all}
 use Rattle.ft_world.specs.Applies.{Runs, failures_over}
+use Rattle.ft_world.specs.Chaining.{HaveApplied, Nothing}
 use Rattle.ft_world.specs.Pairs.{running_of}
 use Rattle.pair_events.specs.declared.event.Event.TheVariants as event
 use Rattle.ft_world.proofs.Applying.{goes_on}
+use Rattle.ft_world.proofs.Chaining.{applied_on}
 use Rattle.ft_world.proofs.Counting.{counts_on}
 use Rattle.ft_world.proofs.Running.{runs_begin, runs_on}
 use Rattle.ft_world.proofs.SpareHosts.{after_event, left_here, left_then}
@@ -20,6 +22,10 @@ loop-event-init g c = record {
       (sym c.in_ok-answers.ensures.items)
       (runs_begin g.B.Lockstep.state g.B.Copies.copied g.B.Lockstep.machine g.D.SectorStore.records (running_of c.args.self.now) course
       h);
+  each = subst
+      (λ answers. HaveApplied g.B.Lockstep.state g.B.Copies.copied g.B.Lockstep.machine g.D.SectorStore.records
+      g.D.SectorStore.failures g.B.Copies.stale (running_of c.args.self.now) [] answers (running_of c.args.self.now))
+      (sym c.in_ok-answers.ensures.items) Nothing;
   counted = omega arith;
   spares = left_here c.args.self.now.hosts.items;
   many = c.in_ok-answers.ensures.len;
@@ -38,6 +44,17 @@ loop-event-preserved g c = record {
       c.loop-event.event-index (event.Step 0 0) c.loop-event.answers.items c.push.new.self.items
       c.apply-answer.result h c.loop-event-test.true
       c.in-Ok.ensures.items (c.loop-event.invariant.runs course h) c.apply-answer.ensures.row;
+  each = applied_on g.B.Lockstep.state g.B.Copies.copied g.B.Lockstep.machine g.D.SectorStore.records
+      g.D.SectorStore.failures g.B.Copies.stale (running_of c.args.self.now) (running_of c.loop-event.self)
+      (running_of c.apply-answer.new.self) c.args.events.now c.loop-event.event-index (event.Step 0 0)
+      c.loop-event.answers.items c.push.new.self.items c.apply-answer.result c.loop-event-test.true c.in-Ok.ensures.items
+      c.loop-event.invariant.each (record {
+        row = c.apply-answer.ensures.row;
+        counted = c.apply-answer.ensures.counted;
+        unchanged = c.apply-answer.ensures.unchanged;
+        spares = c.apply-answer.ensures.spares;
+        told_stale = c.apply-answer.ensures.stale;
+      });
   counted = counts_on c.args.events.now c.loop-event.event-index (event.Step 0 0) c.loop-event.answers.items
       c.push.new.self.items c.apply-answer.result (g.D.SectorStore.failures c.args.self.now.disk)
       (g.D.SectorStore.failures c.loop-event.self.disk) (g.D.SectorStore.failures c.apply-answer.new.self.disk)
@@ -57,6 +74,14 @@ returns-clause-ok g c = λ course h.
     c.loop-event.answers.items (running_of c.loop-event.self))
     (take_all c.loop-event.event-index c.args.events.now c.loop-event-test.false)
     (c.loop-event.invariant.runs course h)
+
+pub returns-clause-each : goal.returns-clause-each
+returns-clause-each g c =
+    subst
+    (λ events. HaveApplied g.B.Lockstep.state g.B.Copies.copied g.B.Lockstep.machine g.D.SectorStore.records
+    g.D.SectorStore.failures g.B.Copies.stale (running_of c.args.self.now) events c.loop-event.answers.items
+    (running_of c.loop-event.self))
+    (take_all c.loop-event.event-index c.args.events.now c.loop-event-test.false) c.loop-event.invariant.each
 
 pub returns-clause-counted : goal.returns-clause-counted
 returns-clause-counted g c =

@@ -2,6 +2,7 @@
 use Rattle.std.proofs.Common.{◌≡◌, ◌+◌, ◌≤◌, length, take}
 use Rattle.std.specs.Prelude.{vec_capacity, vec_len}
 use Rattle.ft_world.specs.Applies.{Runs, Shows, ShowsSome, failures_over}
+use Rattle.ft_world.specs.Chaining.{HaveApplied}
 use Rattle.ft_world.specs.Pairs.{running_of}
 use Rattle.ft_world.specs.Standing.{Course}
 use Rattle.ft_world.specs.Staying.{SparesLeft}
@@ -14,6 +15,9 @@ invariant-loop-event g l = record {
       → Shows g.B.Lockstep.state g.B.Copies.copied g.B.Lockstep.machine g.D.SectorStore.records (running_of l.fn.self) c
       → Runs g.B.Lockstep.state g.B.Copies.copied g.B.Lockstep.machine g.D.SectorStore.records c (take l.event-index l.fn.events)
       l.answers.items (running_of l.self);
+  each : HaveApplied g.B.Lockstep.state g.B.Copies.copied g.B.Lockstep.machine g.D.SectorStore.records
+      g.D.SectorStore.failures g.B.Copies.stale (running_of l.fn.self) (take l.event-index l.fn.events) l.answers.items
+      (running_of l.self);
   counted : g.D.SectorStore.failures l.self.disk
       ≡ g.D.SectorStore.failures l.fn.self.disk + failures_over (take l.event-index l.fn.events) l.answers.items;
   spares : SparesLeft l.fn.self.hosts.items l.self.hosts.items;

@@ -1,6 +1,7 @@
 use Rattle.std.proofs.Common.{ap, sym, ◌∙◌, subst, arith, length, ◌<◌, ◌^◌}
 use Rattle.pair_rule.specs.Knowledge.{appended}
 use Rattle.pair_rule.specs.Boxes.{Primary}
+use Rattle.pair_rule.specs.Histories.{MayAppend}
 use Rattle.pair_rule.specs.Kinds.{Mine, with_core, with_known}
 use Rattle.pair_rule.proofs.WordSteps.{append_allowed}
 use Rattle.pair_rule.proofs.SeatsHold.{put_in, still_holds, still_keeps, knows_keeps}
@@ -12,7 +13,8 @@ fetch_add-requires c = let e = c.exchange.ensures in let k = c.requires.seat in 
       e.0 ∙ c.requires.table ∙ sym c.fabric.view_is,
       omega arith,
       append_allowed _ _ _ _ c.args.self.now.slot c.args.packet j.mine (ap (λ (m : Mine). m.1) put)
-          (subst (λ (m : Mine). length m.0.core.known.primary.list < 2 ^ 62) (sym put) c.requires.room),
+          (subst (λ (m : Mine). length m.0.core.known.primary.list < 2 ^ 62) (sym put) c.requires.room)
+          (subst (λ (m : Mine). MayAppend m.0.core.known) (sym put) c.requires.may),
     )
 
 pub returns-clause-seat : goal.returns-clause-seat

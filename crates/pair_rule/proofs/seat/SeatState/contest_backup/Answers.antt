@@ -7,7 +7,7 @@ use Rattle.pair_rule.proofs.seat.SeatState.contest_backup.Goals as goal
 
 pub compare_exchange-requires : goal.compare_exchange-requires
 compare_exchange-requires c = let w = c.fabric.invariant.0 in
-    (c.requires.table ∙ sym c.fabric.view_is, omega arith, contest_backup_allowed _ _ _ _ c.requires.seat.holds.mine)
+    (c.requires.table ∙ sym c.fabric.view_is, omega arith, contest_backup_allowed _ _ _ _ c.requires.before c.requires.seat.holds.mine)
 
 pub returns-clause-seat : goal.returns-clause-seat
 returns-clause-seat c = let t = c.compare_exchange.ensures.2 in knows_keeps Backup _ _ _ _ _

@@ -10,7 +10,7 @@ load-requires c = let w = c.fabric.invariant.0 in let p =
     c.requires.port in (
       c.requires.table ∙ sym c.fabric.view_is,
       omega arith,
-      sees_count_at_allowed _ _ _ _ _ p c.requires.seat.holds.mine,
+      sees_count_at_allowed _ _ _ _ _ p c.requires.before c.requires.seat.holds.mine,
     )
 
 pub returns-clause-seat : goal.returns-clause-seat

@@ -23,7 +23,7 @@ swap-found-requires c =
           c.args.self.now.seat.id c.args.self.now.seat.me word
           (λ _. (get_or c.args.self.now.empties (c.word_of-word.result - 5) 0 + 1) * 32 + c.args.self.now.slot)
           (empties word c.args.self.now.seat.me)) (sym at)
-          (empty_allowed _ _ _ c.args.self.now.seat.me c.args.mailbox c.args.self.now.slot _ h.one.0 h.mine h.hand h.has_slot
+          (empty_allowed _ _ _ c.args.self.now.seat.me c.args.mailbox c.args.self.now.slot _ h.one.0 c.requires.before h.mine h.hand h.has_slot
           h.one.1
           (ap (λ (n : ℕ). empty_word (n + 1) c.args.self.now.slot) kept)),
     )

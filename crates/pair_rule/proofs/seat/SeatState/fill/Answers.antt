@@ -2,6 +2,7 @@ use Rattle.std.proofs.Common.{ap, sym, ◌∙◌, subst, refl, ◌+◌, ◌*◌,
 use Rattle.atomic_table.specs.Table.{Allows}
 use Rattle.pair_rule.specs.Boxes.{box_index, filler, full_word, slot_of}
 use Rattle.pair_rule.specs.Knowledge.{CanFill}
+use Rattle.pair_rule.specs.Histories.{MayPut}
 use Rattle.pair_rule.specs.Rules.{Rule}
 use Rattle.pair_rule.specs.Kinds.{Mine, side_at, filled, fills}
 use Rattle.pair_rule.specs.declared.view.SeatView.{SeatView}
@@ -30,7 +31,8 @@ swap-found-requires c =
           (ap (λ (m : Mine). m.1) put)
           (ap (λ (n : ℕ). full_word (n + 1) c.args.self.now.slot)
           (kept ∙ ap (λ (m : Mine). (side_at m.0.core.fills (box_index c.args.mailbox)).number) (sym put)))
-          (subst (λ (m : Mine). CanFill c.args.mailbox m.0.core.known c.args.payload) (sym put) c.requires.can)),
+          (subst (λ (m : Mine). CanFill c.args.mailbox m.0.core.known c.args.payload) (sym put) c.requires.can)
+          (subst (λ (m : Mine). MayPut c.args.mailbox m.0.core.known c.args.payload) (sym put) c.requires.may)),
     )
 
 pub returns-clause-seat : goal.returns-clause-seat

@@ -7,7 +7,7 @@ use Rattle.pair_rule.proofs.seat.SeatState.see.Goals as goal
 
 pub load-requires : goal.load-requires
 load-requires c = let w = c.fabric.invariant.0 in
-    (c.requires.table ∙ sym c.fabric.view_is, omega arith, see_allowed _ _ _ _ c.requires.seat.holds.mine)
+    (c.requires.table ∙ sym c.fabric.view_is, omega arith, see_allowed _ _ _ _ c.requires.before c.requires.seat.holds.mine)
 
 pub returns-clause-seat : goal.returns-clause-seat
 returns-clause-seat c = let t = c.load.ensures.2 in knows_keeps Primary _ _ _ _ _ (saw c.load.result) c.requires.seat t.0 t.4

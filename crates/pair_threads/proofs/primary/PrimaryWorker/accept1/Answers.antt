@@ -13,5 +13,6 @@ returns g c = record {
     refl,
     λ boot leads. acceptance_of_second g.B.Lockstep.state g.B.Lockstep.machine c.args.self.now c.sent.new.self boot leads
         (c.sent.ensures.onward c.if-not-sent.false),
+    λ boot leads kept. kept,
   );
 }

@@ -18,5 +18,6 @@ returns-in-Some g c =
         first.3,
         first.4,
         λ boot leads. second.5 boot (first.5 boot leads),
+        λ boot leads kept. second.6 boot (first.5 boot leads) (first.6 boot leads kept),
       );
     }

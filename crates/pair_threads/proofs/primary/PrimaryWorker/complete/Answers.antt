@@ -15,6 +15,7 @@ returns-in-Written g c = record {
     λ boot leads. answered g.B.Lockstep.state g.B.Lockstep.machine c.args.self.now c.written.new.self boot leads
         (Written c.in-Written.number) (c.in-Some.is ∙ ap Some c.in-Written.is) c.written.result
         c.written.ensures.refused c.written.ensures.onward,
+    λ boot leads kept. kept,
   );
 }
 
@@ -31,5 +32,8 @@ returns-then-sector g c =
         λ boot leads. passed.5 boot (answered g.B.Lockstep.state g.B.Lockstep.machine c.args.self.now c.sector.new.self
             boot leads (Read c.in-Read.read) (c.in-Some.is ∙ ap Some c.in-Read.is) c.sector.result
             c.sector.ensures.refused c.sector.ensures.onward),
+        λ boot leads kept. passed.6 boot (answered g.B.Lockstep.state g.B.Lockstep.machine c.args.self.now c.sector.new.self
+            boot leads (Read c.in-Read.read) (c.in-Some.is ∙ ap Some c.in-Read.is) c.sector.result
+            c.sector.ensures.refused c.sector.ensures.onward) kept,
       );
     }

@@ -2,7 +2,7 @@
 use Rattle.std.proofs.Common.{ap, refl, sym, length, ◌∙◌}
 use Rattle.event_callbacks.specs.declared.operations.OpId.TheVariants as id
 use Rattle.event_callbacks.specs.declared.operations.Operation.TheVariants.{Byte}
-use Rattle.pair_threads.proofs.Views.{emitted, releases, with_release, works_on}
+use Rattle.pair_threads.proofs.Views.{emitted, release_promised, releases, with_release, works_on}
 use Rattle.pair_threads.proofs.primary.PrimaryWorker.give.Goals as goal
 
 pub returns : goal.returns
@@ -17,5 +17,7 @@ returns g c =
           c.emit.ensures.same (emitted old.seat.core c.emit.new.self.core c.args.port byte c.emit.ensures.emitted) refl
           (λ boot taken accepted leads. releases g.B.Lockstep.state M boot view taken accepted old.guest leads
           g.met.B.Lockstep.counts g.met.B.Lockstep.operations (id.Byte c.args.port c.args.number) byte c.requires.due
-          c.requires.covered.0 (sym old.saw ∙ c.requires.covered.1 ∙ ap length old.same));
+          c.requires.covered.0 (sym old.saw ∙ c.requires.covered.1 ∙ ap length old.same))
+          (λ boot leads kept. release_promised g.B.Lockstep.state M g.met.B.Lockstep.counts old boot leads kept byte c.requires.due
+          c.requires.covered.0 c.requires.covered.1);
     }

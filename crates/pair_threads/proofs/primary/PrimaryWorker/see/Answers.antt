@@ -14,5 +14,6 @@ returns g c =
           works_on g.B.Lockstep.state M old c.see-self.new.self (record view { seen = c.see-self.result })
           c.see-self.ensures.same (ap (λ (k : Core). k.known.primary) c.see-self.ensures.view) refl
           (λ boot taken accepted leads. sees g.B.Lockstep.state M boot view taken accepted old.guest leads
-          g.met.B.Lockstep.counts g.met.B.Lockstep.operations c.see-self.result c.see-self.ensures.later.0);
+          g.met.B.Lockstep.counts g.met.B.Lockstep.operations c.see-self.result c.see-self.ensures.later.0)
+          (λ boot leads kept. kept);
     }

@@ -13,5 +13,6 @@ returns g c = record {
     refl,
     λ boot leads. key_of_first g.B.Lockstep.state g.B.Lockstep.machine c.args.self.now c.key.new.self boot leads
         c.in-Some.byte (sym c.in-Some.ensures) (c.key.ensures.onward c.if-not-key.false),
+    λ boot leads kept. kept,
   );
 }

@@ -1,0 +1,32 @@
+-- A turn of a primary's worker: it goes on as it came, or asks who goes on alone.
+use Rattle.std.proofs.Common.{ap, inr, sym, ◌∙◌}
+use Rattle.pair_rule.specs.declared.view.Core.{Core}
+use Rattle.pair_threads.proofs.Ending.{on_ok}
+use Rattle.pair_threads.proofs.Views.{came_on, keeps_alone, leads_alone, some_at}
+use Rattle.pair_threads.proofs.primary.turns.PrimaryWorkerWorker.turn.Goals as goal
+
+pub returns-in-Some-clause-came : goal.returns-in-Some-clause-came
+returns-in-Some-clause-came g c = λ first came.
+    on_ok c.append.result (came_on g.B.Lockstep.state g.B.Lockstep.machine first c.args.self.now c.append.new.self came)
+    c.append.ensures.works
+
+pub returns-in_default-clause-came : goal.returns-in_default-clause-came
+returns-in_default-clause-came g c = λ first came.
+    on_ok c.work.result (came_on g.B.Lockstep.state g.B.Lockstep.machine first c.args.self.now c.work.new.self came)
+    c.work.ensures.works
+
+pub returns-then-eq-clause-came : goal.returns-then-eq-clause-came
+returns-then-eq-clause-came g c = λ first came.
+    let old = c.args.self.now in
+    let is = ap (λ (k : Core). k.known.primary) c.contest.ensures.view.3 in
+    let boot = g.B.Lockstep.state first.guest.board in
+    let some = some_at old.plan.contests_at c.args.number (sym c.eq.ensures ∙ c.if-eq.true) in (
+      came.0,
+      came.1,
+      came.2,
+      inr some,
+      leads_alone g.B.Lockstep.state g.B.Lockstep.machine g.met.B.Lockstep.counts g.met.B.Lockstep.operations old
+          c.contest.new.self _ boot is came.4,
+      keeps_alone g.B.Lockstep.state g.B.Lockstep.machine g.met.B.Lockstep.counts g.met.B.Lockstep.operations old
+          c.contest.new.self _ boot is came.5,
+    )

@@ -1,0 +1,43 @@
+-- How a generation ends is what steps of its threads lead to, each of which kept its promise: so a world of the protocol shows
+-- it, which is reached from the opening and faithful.
+use Rattle.std.specs.Prelude.{◌≡◌, ◌≤◌, ℕ, List, [], ◌∷◌, length, take, Option}
+use Rattle.guest_board.specs.Machine.{Machine, Move}
+use Rattle.guest_board.specs.Recorded.{Recorded}
+use Rattle.guest_board.specs.declared.reads.Reads.TheVariants.{Logged}
+use Rattle.log_entry.specs.Entries.{entries}
+use Rattle.log_entry.specs.declared.entry.Entry.{Entry}
+use Rattle.pair_protocol.specs.Copying.{Copying, IsCopying}
+use Rattle.pair_rule.specs.declared.view.Knowledge.{Knowledge}
+use Rattle.pair_rule.specs.Knowledge.{last_or, winner_of}
+use Rattle.pair_rule.specs.Law.{Runnable}
+use Rattle.pair_rule.specs.Threads.{IsShown, ThreadRun, bytes_accepted}
+use Rattle.pair_threads.specs.declared.gate.Who.{Who}
+use Rattle.pair_threads.specs.Ending.{winner_named}
+use Rattle.pair_threads.specs.Leading.{with_waiting}
+use Rattle.pair_threads.specs.Stores.{IsDiskOf}
+use Rattle.shared_disk.specs.declared.store.Record.{Record}
+
+-- a guest has made a recorded run from boot with these entries
+pub record HasMade {S : Type 0} (M : Machine S) (list : List Entry) (s : S) : Type 0 where
+  pub moves : List Move
+  pub recorded : Recorded M M.boot moves s
+  pub entries_are : entries Logged 0 moves ≡ list
+
+-- what steps of the threads led to: the lists, what is acknowledged, who goes on alone, what the terminals have accepted, and
+-- the disk; the primary's guest has made the run of its list, or has one more entry that waits; the backup's has replayed
+-- the first of its own
+pub record IsOfRun {S : Type 0} (M : Machine S) (typed0 typed1 : List ℕ) (winner : Option Who) (primary backup : List Entry)
+    (held : ℕ) (screens : List (List ℕ)) (records : List Record) (s t : S) : Type 0 where
+  pub known : Knowledge
+  pub run : ThreadRun M typed0 typed1 known
+  pub shown : (C : Copying S) → Runnable M → IsCopying M C → IsShown M C typed0 typed1 known
+  pub primary_is : primary ≡ known.primary.list
+  pub backup_is : backup ≡ known.backup.list
+  pub held_is : held ≡ last_or 0 known.backup.held_values
+  pub winner_is : winner ≡ winner_named (winner_of known.primary.winner known.backup.winner)
+  pub screens_are : screens ≡ bytes_accepted 0 known ∷ bytes_accepted 1 known ∷ []
+  pub disk_is : IsDiskOf M.boot_sector records known.disk.puts
+  pub waiting : Option Entry
+  pub primary_at : HasMade M (with_waiting primary waiting) s
+  pub replayed : ℕ
+  pub backup_at : HasMade M (take replayed backup) t
