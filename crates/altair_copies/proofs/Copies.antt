@@ -8,7 +8,7 @@ use Rattle.disk_dcdd.specs.declared.address.SectorAddress.{SectorAddress}
 use Rattle.event_callbacks.specs.declared.operations.OpId.TheVariants as id
 use Rattle.event_callbacks.specs.declared.operations.Operation.TheVariants as operation
 use Rattle.guest_board.specs.Guest.{Guest, altair}
-use Rattle.guest_board.specs.Machine.{Move}
+use Rattle.guest_lockstep.specs.Machine.{Move}
 use Rattle.guest_board.specs.declared.setup.Setup.{Setup}
 use Rattle.clone_state.specs.Laws.{IsCopyable}
 use Rattle.clone_state.specs.Possible.{is_soon, may_halt}

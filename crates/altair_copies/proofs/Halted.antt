@@ -9,9 +9,9 @@ use Rattle.i8080_words.specs.declared.registers.Processor.{Processor}
 use Rattle.disk_dcdd.specs.declared.address.SectorAddress.{SectorAddress}
 use Rattle.guest_board.specs.Guest.{Guest, altair, step_of, take_from, line_of, wired, after_rx, after_sent, after_sector, after_written}
 use Rattle.guest_board.specs.Ports.{memory_byte, port_byte}
-use Rattle.guest_board.specs.Machine.{Move}
-use Rattle.guest_board.specs.declared.input.Input.{Input}
-use Rattle.guest_board.specs.declared.input.Input.TheVariants.{Rx, Sent, Sector, Written}
+use Rattle.guest_lockstep.specs.Machine.{Move}
+use Rattle.guest_lockstep.specs.declared.input.Input.{Input}
+use Rattle.guest_lockstep.specs.declared.input.Input.TheVariants.{Rx, Sent, Sector, Written}
 use Rattle.guest_board.specs.declared.setup.Setup.{Setup}
 use Rattle.altair_copies.proofs.Moves.{is_next}
 use Rattle.pair_protocol.specs.Lawful.{Reaches}

@@ -14,9 +14,9 @@ use Rattle.event_callbacks.specs.Completions.{is_due}
 use Rattle.event_callbacks.specs.declared.devices.Done.TheVariants as done
 use Rattle.event_callbacks.specs.declared.operations.Operation.TheVariants.{Byte, Write}
 use Rattle.guest_board.specs.Guest.{Guest, altair, take_from, may_take_sector, after_sector}
-use Rattle.guest_board.specs.Machine.{Move, Do, Take, Runs}
-use Rattle.guest_board.specs.declared.input.Input.{Input}
-use Rattle.guest_board.specs.declared.input.Input.TheVariants.{Rx, Sent, Sector, Written}
+use Rattle.guest_lockstep.specs.Machine.{Move, Do, Take, Runs}
+use Rattle.guest_lockstep.specs.declared.input.Input.{Input}
+use Rattle.guest_lockstep.specs.declared.input.Input.TheVariants.{Rx, Sent, Sector, Written}
 use Rattle.guest_board.specs.declared.setup.Setup.{Setup}
 use Rattle.guest_trace.specs.Reach.{Own, Owns, bytes_after, image_from}
 use Rattle.altair_laws.specs.Stands.{AltairStands, AreWhole, AreWholeWrites, IsWhole}

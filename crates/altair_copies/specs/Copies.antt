@@ -4,7 +4,7 @@ use Rattle.disk_dcdd.specs.Address.{has_sector}
 use Rattle.disk_dcdd.specs.declared.address.SectorAddress.{SectorAddress}
 use Rattle.disk_dcdd.specs.declared.sector.TheConstants.{SECTOR_BYTES}
 use Rattle.guest_board.specs.Guest.{Guest, altair}
-use Rattle.guest_board.specs.Machine.{Move}
+use Rattle.guest_lockstep.specs.Machine.{Move}
 use Rattle.guest_board.specs.declared.setup.Setup.{Setup}
 use Rattle.guest_memory.specs.declared.memory.TheConstants.{BYTES}
 use Rattle.clone_state.specs.Checkpoint.{checkpoint_of}

@@ -13,10 +13,10 @@ use Rattle.event_callbacks.specs.Completions.{port_of}
 use Rattle.event_callbacks.specs.declared.operations.Operation.{Operation}
 use Rattle.event_callbacks.specs.declared.operations.Operation.TheVariants.{Byte, Write}
 use Rattle.guest_board.specs.Guest.{Guest, guest_at_boot, wired, stepped, take_from, altair, after_rx, after_sent, due_byte, oldest_byte}
-use Rattle.guest_board.specs.Machine.{Move, Do, Take}
+use Rattle.guest_lockstep.specs.Machine.{Move, Do, Take}
 use Rattle.guest_board.specs.Ports.{Wired, after_byte}
-use Rattle.guest_board.specs.declared.input.Input.{Input}
-use Rattle.guest_board.specs.declared.input.Input.TheVariants.{Rx, Sent}
+use Rattle.guest_lockstep.specs.declared.input.Input.{Input}
+use Rattle.guest_lockstep.specs.declared.input.Input.TheVariants.{Rx, Sent}
 use Rattle.guest_board.specs.declared.setup.Setup.{Setup}
 use Rattle.i8080_words.specs.declared.registers.Processor.{Processor}
 use Rattle.guest_trace.specs.Reach.{inputs, output, acceptances}

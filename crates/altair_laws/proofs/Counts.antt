@@ -9,9 +9,9 @@ use Rattle.i8080_words.specs.declared.limits.TheConstants.{GREATEST_NUMBER}
 use Rattle.disk_dcdd.specs.declared.address.SectorAddress.{SectorAddress}
 use Rattle.event_callbacks.specs.declared.operations.Operation.{Operation}
 use Rattle.guest_board.specs.Guest.{Guest, guest_at_boot, take_from, altair, after_rx}
-use Rattle.guest_board.specs.Machine.{Move, Do, Take}
-use Rattle.guest_board.specs.declared.input.Input.{Input}
-use Rattle.guest_board.specs.declared.input.Input.TheVariants.{Rx}
+use Rattle.guest_lockstep.specs.Machine.{Move, Do, Take}
+use Rattle.guest_lockstep.specs.declared.input.Input.{Input}
+use Rattle.guest_lockstep.specs.declared.input.Input.TheVariants.{Rx}
 use Rattle.guest_board.specs.declared.setup.Setup.{Setup}
 use Rattle.guest_trace.specs.Reach.{inputs, steps, keys}
 use Rattle.pair_protocol.specs.Lawful.{Reaches}

@@ -16,9 +16,9 @@ use Rattle.event_callbacks.specs.Completions.{port_of, is_due}
 use Rattle.event_callbacks.specs.declared.devices.Done.TheVariants as done
 use Rattle.event_callbacks.specs.declared.devices.TheConstants.{PORTS}
 use Rattle.guest_board.specs.Guest.{Guest, altair, take_from, after_rx, after_sent, after_sector, may_take_sector}
-use Rattle.guest_board.specs.Lockstep.{IsInput, HasRoom}
-use Rattle.guest_board.specs.declared.input.Input.{Input}
-use Rattle.guest_board.specs.declared.input.Input.TheVariants.{Rx, Sent, Sector, Written}
+use Rattle.guest_lockstep.specs.Lockstep.{IsInput, HasRoom}
+use Rattle.guest_lockstep.specs.declared.input.Input.{Input}
+use Rattle.guest_lockstep.specs.declared.input.Input.TheVariants.{Rx, Sent, Sector, Written}
 use Rattle.guest_board.specs.declared.setup.Setup.{Setup}
 use Rattle.altair_laws.proofs.Drives.{Stands}
 

@@ -3,7 +3,7 @@ use Rattle.std.proofs.Common.{◌≡◌, ℕ, true, cond, List, Some, None, ◌�
 use Rattle.std.specs.Prelude.{◌||◌}
 use Rattle.disk_dcdd.specs.declared.address.SectorAddress.{SectorAddress}
 use Rattle.guest_board.specs.Guest.{Guest, altair, step_from, is_spent, is_idle, next, wired_after}
-use Rattle.guest_board.specs.Machine.{Move}
+use Rattle.guest_lockstep.specs.Machine.{Move}
 use Rattle.guest_board.specs.declared.setup.Setup.{Setup}
 use Rattle.pair_protocol.specs.Lawful.{Lawful, IsUnwritten, IsWritten}
 use Rattle.altair_laws.proofs.Images.{Apart}

@@ -9,10 +9,10 @@ use Rattle.disk_dcdd.specs.Drive as drives
 use Rattle.disk_dcdd.specs.declared.address.SectorAddress.{SectorAddress}
 use Rattle.i8080_words.specs.declared.limits.TheConstants.{GREATEST_NUMBER}
 use Rattle.guest_board.specs.Guest.{Guest, guest_at_boot, wired, stepped, take_from, altair, after_rx, is_spent}
-use Rattle.guest_board.specs.Machine.{Move}
+use Rattle.guest_lockstep.specs.Machine.{Move}
 use Rattle.guest_board.specs.Ports.{Wired}
-use Rattle.guest_board.specs.declared.input.Input.{Input}
-use Rattle.guest_board.specs.declared.input.Input.TheVariants.{Rx}
+use Rattle.guest_lockstep.specs.declared.input.Input.{Input}
+use Rattle.guest_lockstep.specs.declared.input.Input.TheVariants.{Rx}
 use Rattle.guest_board.specs.declared.setup.Setup.{Setup}
 use Rattle.i8080_words.specs.declared.registers.Processor.{Processor}
 use Rattle.altair_laws.specs.Stands.{IsWithin}

@@ -3,8 +3,8 @@
 use Rattle.std.proofs.Common.{◌≡◌, ◌≢◌, true, false, ℕ, ◌+◌, List, [], ◌∷◌, ◌++◌, length, ◌⊎◌, inl, refl, sym, ap, ◌∙◌, subst, append_assoc, append-nil, Option, Some, None, length-append}
 use Rattle.std.specs.Prelude.{◌==◌}
 use Rattle.event_callbacks.specs.declared.operations.Operation.{Operation}
-use Rattle.guest_board.specs.Machine.{Machine, Move, Do, Take, Runs}
-use Rattle.guest_board.specs.declared.input.Input.{Input}
+use Rattle.guest_lockstep.specs.Machine.{Machine, Move, Do, Take, Runs}
+use Rattle.guest_lockstep.specs.declared.input.Input.{Input}
 use Rattle.guest_trace.specs.Reach.{inputs, operations, output, keys}
 use Rattle.pair_protocol.specs.Lawful.{Among}
 use Rattle.pair_protocol.proofs.Traces.Moves.{operations-append, keys_of-append, output-append}

@@ -13,7 +13,7 @@ use Rattle.event_callbacks.specs.Operations.{operation_at}
 use Rattle.event_callbacks.specs.declared.operations.OpId.{OpId}
 use Rattle.event_callbacks.specs.declared.operations.Operation.TheVariants.{Write}
 use Rattle.guest_board.specs.Guest.{Guest, altair, address_under}
-use Rattle.guest_board.specs.Machine.{Move}
+use Rattle.guest_lockstep.specs.Machine.{Move}
 use Rattle.guest_board.specs.declared.setup.Setup.{Setup}
 use Rattle.pair_protocol.specs.Lawful.{Reaches}
 use Rattle.altair_laws.specs.OnDisk.{StaysOnDisk}

@@ -7,9 +7,9 @@ use Rattle.event_callbacks.specs.declared.operations.OpId.{OpId}
 use Rattle.event_callbacks.specs.declared.operations.Operation.{Operation}
 use Rattle.event_callbacks.proofs.Names.{name_cases}
 use Rattle.event_callbacks.proofs.OperationMap.{operation_at-empty, operation_at-with_named, operation_at-with_other, operation_at-without_named, operation_at-without_other}
-use Rattle.guest_board.specs.Machine.{Move, Do, Take}
+use Rattle.guest_lockstep.specs.Machine.{Move, Do, Take}
 use Rattle.guest_board.specs.Guest.{with_given}
-use Rattle.guest_board.specs.declared.input.Input.{Input}
+use Rattle.guest_lockstep.specs.declared.input.Input.{Input}
 use Rattle.guest_trace.specs.Reach.{operations}
 use Rattle.pair_protocol.specs.Lawful.{Among}
 use Rattle.altair_laws.proofs.Moves.{same_some, operations-left, operations-last}

@@ -18,10 +18,10 @@ use Rattle.event_callbacks.specs.declared.operations.Operation.{Operation}
 use Rattle.event_callbacks.specs.declared.operations.Operation.TheVariants.{Write}
 use Rattle.guest_memory.proofs.NewMemory.{only_zeros}
 use Rattle.guest_board.specs.Guest.{Guest, guest_at_boot, wired, take_from, altair, with_completed, after_written, after_sector}
-use Rattle.guest_board.specs.Machine.{Move, Do, Take}
+use Rattle.guest_lockstep.specs.Machine.{Move, Do, Take}
 use Rattle.guest_board.specs.Ports.{Wired}
-use Rattle.guest_board.specs.declared.input.Input.{Input}
-use Rattle.guest_board.specs.declared.input.Input.TheVariants.{Rx, Sector, Written}
+use Rattle.guest_lockstep.specs.declared.input.Input.{Input}
+use Rattle.guest_lockstep.specs.declared.input.Input.TheVariants.{Rx, Sector, Written}
 use Rattle.guest_board.specs.declared.setup.Setup.{Setup}
 use Rattle.i8080_words.specs.declared.registers.Processor.{Processor}
 use Rattle.altair_laws.specs.Stands.{AreWholeWrites, IsWhole, AreWhole, AltairStands}

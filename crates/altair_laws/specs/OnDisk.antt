@@ -5,7 +5,7 @@ use Rattle.disk_dcdd.specs.declared.sector.SectorWrite.{SectorWrite}
 use Rattle.disk_dcdd.specs.declared.sector.TheConstants.{SECTORS}
 use Rattle.event_callbacks.specs.declared.operations.OpId.{OpId}
 use Rattle.event_callbacks.specs.declared.operations.Operation.TheVariants.{Write}
-use Rattle.guest_board.specs.Machine.{Machine, Move}
+use Rattle.guest_lockstep.specs.Machine.{Machine, Move}
 use Rattle.pair_protocol.specs.Lawful.{Reaches}
 
 -- a machine reads and writes only sectors of this many drives

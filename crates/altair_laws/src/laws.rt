@@ -3,7 +3,7 @@ ghost use Rattle.std.specs.Prelude.{ℕ, List};
 ghost use Rattle.disk_dcdd.specs.declared.address.SectorAddress.{SectorAddress};
 ghost use Rattle.guest_board.specs.declared.setup.Setup.{Setup};
 ghost use Rattle.guest_board.specs.Guest.{Guest, altair};
-ghost use Rattle.guest_board.specs.Machine.{Move};
+ghost use Rattle.guest_lockstep.specs.Machine.{Move};
 ghost use Rattle.altair_laws.specs.Pairs.{PairsAreFaithful, PairsGrow};
 ghost use Rattle.altair_laws.specs.Stands.{AltairStands};
 ghost use Rattle.pair_protocol.specs.Lawful.{Lawful, Reaches};

@@ -20,8 +20,8 @@ use Rattle.guest_board.specs.Ports.{Wired, after_access, after_byte, after_disk_
 use Rattle.guest_board.specs.Wiring.{versions_after}
 use Rattle.guest_board.specs.Stepping.{next_versions}
 use Rattle.guest_board.specs.declared.executed.Executed.{Executed}
-use Rattle.guest_board.specs.declared.input.Input.{Input as AnInput}
-use Rattle.guest_board.specs.declared.input.Input.TheVariants as input
+use Rattle.guest_lockstep.specs.declared.input.Input.{Input as AnInput}
+use Rattle.guest_lockstep.specs.declared.input.Input.TheVariants as input
 use Rattle.clone_state.specs.DraftLaws.{IsLater, board_after, memory_of}
 
 pub unchanged : (pages : Pages) → IsLater pages pages

@@ -7,7 +7,7 @@ use Rattle.guest_board.specs.Board.{IsBoard, OnBoard}
 use Rattle.guest_board.specs.Guest.{Guest, take_from}
 use Rattle.guest_board.specs.Stepping.{guest_after, versions_after_answer}
 use Rattle.guest_board.specs.declared.executed.Executed.{Executed}
-use Rattle.guest_board.specs.declared.input.Input.{Input}
+use Rattle.guest_lockstep.specs.declared.input.Input.{Input}
 use Rattle.clone_state.specs.Drafts.{Drafted, IsFreshened, KeepsUp, nothing_copied, stale_pages}
 
 -- the memory of a board

@@ -13,7 +13,7 @@ ghost use Rattle.clone_state.specs.Parts.{guest_in};
 
 use crate::assembly::Assembly;
 use crate::image::Image;
-use guest_board::Lockstep;
+use guest_lockstep::Lockstep;
 use i8080_words::{Fault, R};
 use std::alloc::Global;
 

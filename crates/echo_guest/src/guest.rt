@@ -4,7 +4,7 @@ ghost use Rattle.event_callbacks.specs.declared.operations.Operation.TheVariants
 
 use disk_dcdd::SectorAddress;
 use event_callbacks::{OpId, Operation};
-use guest_board::{Input, Lockstep};
+use guest_lockstep::{Input, Lockstep};
 use i8080_words::{Fault, GREATEST_NUMBER, R};
 use std::marker::Model;
 

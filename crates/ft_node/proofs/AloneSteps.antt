@@ -3,14 +3,14 @@
 use Rattle.std.proofs.Common.{◌≡◌, ℕ, zero, suc, ◌<◌, ◌⊎◌, inl, inr, Bool, true, false, cond, Option, Some, None, is_none, [], ◌∷◌, Ok, Err, refl, sym, ap, subst, ◌∙◌, arith}
 use Rattle.event_callbacks.specs.declared.operations.OpId.{OpId}
 use Rattle.event_callbacks.specs.declared.operations.Operation.{Operation}
-use Rattle.guest_board.proofs.QuietSteps.{start_allowed, first_allowed, none_made}
-use Rattle.guest_board.specs.Lockstep as lockstep
-use Rattle.guest_board.specs.Machine.{Machine}
-use Rattle.guest_board.specs.Running as running
-use Rattle.guest_board.specs.Running.{RunsOn, fault_of}
-use Rattle.guest_board.specs.declared.reads.Reads.{Reads}
-use Rattle.guest_board.specs.declared.running.StopReason.TheVariants as reason
-use Rattle.guest_board.specs.declared.running.Stopped.{Stopped}
+use Rattle.guest_lockstep.proofs.QuietSteps.{start_allowed, first_allowed, none_made}
+use Rattle.guest_lockstep.specs.Lockstep as lockstep
+use Rattle.guest_lockstep.specs.Machine.{Machine}
+use Rattle.guest_lockstep.specs.Running as running
+use Rattle.guest_lockstep.specs.Running.{RunsOn, fault_of}
+use Rattle.guest_lockstep.specs.declared.reads.Reads.{Reads}
+use Rattle.guest_lockstep.specs.declared.running.StopReason.TheVariants as reason
+use Rattle.guest_lockstep.specs.declared.running.Stopped.{Stopped}
 use Rattle.i8080_words.specs.declared.refusal.Fault.{Fault}
 use Rattle.i8080_words.specs.declared.refusal.Fault.TheVariants.{Spent, Idle}
 use Rattle.pair_protocol.specs.Node.{Node}

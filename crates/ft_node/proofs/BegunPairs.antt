@@ -7,8 +7,8 @@ use Rattle.std.proofs.lemmas.List.{append-nil}
 use Rattle.std.proofs.lemmas.Option.{none-some}
 use Rattle.ft_node.specs.Kept.{ImageParts}
 use Rattle.event_callbacks.specs.declared.devices.TheConstants.{PORTS}
-use Rattle.guest_board.specs.Machine.{Machine}
-use Rattle.guest_board.specs.declared.reads.Reads.{Reads}
+use Rattle.guest_lockstep.specs.Machine.{Machine}
+use Rattle.guest_lockstep.specs.declared.reads.Reads.{Reads}
 use Rattle.guest_trace.specs.Reach.{keys}
 use Rattle.guest_trace.specs.declared.timed.Timed.{Timed}
 use Rattle.i8080_words.specs.declared.refusal.Fault.TheVariants.{OutOfMemory, Spent}

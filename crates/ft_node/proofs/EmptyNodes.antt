@@ -3,9 +3,9 @@ use Rattle.std.proofs.Common.{◌≡◌, ℕ, zero, suc, true, false, Option, So
 use Rattle.arbiter_core.specs.Winners.{winner_of}
 use Rattle.arbiter_core.specs.declared.arbiter.Asking.{Asking}
 use Rattle.arbiter_core.specs.declared.arbiter.Won.{Won}
-use Rattle.guest_board.specs.Machine.{Machine}
-use Rattle.guest_board.specs.declared.reads.Reads.{Reads}
-use Rattle.guest_board.specs.declared.reads.Reads.TheVariants.{Logged}
+use Rattle.guest_lockstep.specs.Machine.{Machine}
+use Rattle.guest_lockstep.specs.declared.reads.Reads.{Reads}
+use Rattle.guest_lockstep.specs.declared.reads.Reads.TheVariants.{Logged}
 use Rattle.i8080_words.specs.declared.refusal.Fault.{Fault}
 use Rattle.log_entry.specs.Standing.{IsOnTrace}
 use Rattle.log_entry.specs.declared.entry.Entry.{Entry}

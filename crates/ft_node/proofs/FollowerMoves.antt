@@ -4,10 +4,10 @@
 use Rattle.std.proofs.Common.{◌≡◌, ℕ, zero, suc, ◌+◌, ◌-◌, ◌≤◌, inl, inr, Bool, true, false, eqb, cond, Option, Some, None, List, [], ◌∷◌, length, drop, Result, Ok, Err, refl, sym, ap, subst, ◌∙◌, arith, length-drop}
 use Rattle.std.specs.Prelude.{is_none, slice_get, ◌==◌, if◌then◌else◌}
 use Rattle.std.proofs.lemmas.Bool.{eq-eqb, eqb-true}
-use Rattle.guest_board.specs.Machine.{Machine}
-use Rattle.guest_board.specs.declared.reads.Reads.{Reads}
-use Rattle.guest_board.specs.declared.replay_end.ReplayEnd.{ReplayEnd}
-use Rattle.guest_board.specs.declared.replay_end.ReplayEnd.TheVariants.{Turns, End, Wait, Memory}
+use Rattle.guest_lockstep.specs.Machine.{Machine}
+use Rattle.guest_lockstep.specs.declared.reads.Reads.{Reads}
+use Rattle.guest_lockstep.specs.declared.replay_end.ReplayEnd.{ReplayEnd}
+use Rattle.guest_lockstep.specs.declared.replay_end.ReplayEnd.TheVariants.{Turns, End, Wait, Memory}
 use Rattle.i8080_words.specs.declared.refusal.Fault.{Fault}
 use Rattle.log_channel.specs.Channel.{Receiving}
 use Rattle.log_entry.specs.declared.entry.Entry.{Entry}

@@ -1,7 +1,7 @@
 -- An alone node whose machine's pages are copied early is the node of the protocol that it was.
 use Rattle.std.proofs.Common.{◌≡◌, ℕ, None, [], ◌∷◌, Result, Ok, Err, refl, sym, subst, ◌∙◌}
 use Rattle.std.specs.Prelude.{IsOkUnless}
-use Rattle.guest_board.specs.declared.reads.Reads.{Reads}
+use Rattle.guest_lockstep.specs.declared.reads.Reads.{Reads}
 use Rattle.i8080_words.specs.declared.refusal.Fault.{Fault}
 use Rattle.i8080_words.specs.declared.refusal.Fault.TheVariants.{OutOfMemory}
 use Rattle.pair_protocol.specs.Node.{Node, Alone}

@@ -1,6 +1,6 @@
 -- A node that is running halts.
 use Rattle.std.proofs.Common.{◌≡◌, ℕ, Ok, ap, not, refl, true}
-use Rattle.guest_board.specs.Machine.{Machine}
+use Rattle.guest_lockstep.specs.Machine.{Machine}
 use Rattle.i8080_words.specs.declared.refusal.Fault.TheVariants.{WrongRole}
 use Rattle.pair_protocol.specs.Copying.{Copying}
 use Rattle.pair_protocol.specs.Node.{Node, halts}

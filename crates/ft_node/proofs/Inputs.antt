@@ -4,10 +4,10 @@ use Rattle.std.proofs.Common.{◌≡◌, ℕ, not, ◌==◌, Option, Some, None,
 use Rattle.disk_dcdd.specs.Address.{same_address}
 use Rattle.disk_dcdd.specs.Completion.{answered}
 use Rattle.disk_dcdd.specs.declared.address.SectorAddress.{SectorAddress}
-use Rattle.guest_board.specs.Machine.{Machine, refusal_of}
-use Rattle.guest_board.specs.declared.input.Input.{Input}
-use Rattle.guest_board.specs.declared.input.Input.TheVariants as input
-use Rattle.guest_board.specs.declared.reads.Reads.{Reads}
+use Rattle.guest_lockstep.specs.Machine.{Machine, refusal_of}
+use Rattle.guest_lockstep.specs.declared.input.Input.{Input}
+use Rattle.guest_lockstep.specs.declared.input.Input.TheVariants as input
+use Rattle.guest_lockstep.specs.declared.reads.Reads.{Reads}
 use Rattle.i8080_words.specs.declared.refusal.Fault.{Fault}
 use Rattle.i8080_words.specs.declared.refusal.Fault.TheVariants.{NotDue, WrongNumber}
 use Rattle.pair_protocol.specs.Copying.{Copying}

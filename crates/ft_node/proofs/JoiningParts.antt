@@ -9,8 +9,8 @@ use Rattle.clone_state.specs.Copies.{CopiesAs, refused_as}
 use Rattle.clone_state.specs.Laws.{IndexesAreWithin}
 use Rattle.clone_state.specs.Parts.{PartMessage, guest_in, message_at}
 use Rattle.guest_board.specs.Guest.{Guest}
-use Rattle.guest_board.specs.Machine.{Machine}
-use Rattle.guest_board.specs.declared.reads.Reads.{Reads}
+use Rattle.guest_lockstep.specs.Machine.{Machine}
+use Rattle.guest_lockstep.specs.declared.reads.Reads.{Reads}
 use Rattle.i8080_words.specs.declared.refusal.Fault.{Fault}
 use Rattle.log_channel.specs.Channel.{Receiving}
 use Rattle.log_entry.specs.Numbers.{◌>>=◌}

@@ -11,8 +11,8 @@ use Rattle.clone_state.specs.Parts.{part_count}
 use Rattle.clone_state.specs.declared.image.Image.{Image}
 use Rattle.ft_node.specs.Kept.{ImageParts, image_of}
 use Rattle.clone_state.specs.Image.{Spells, part_bytes}
-use Rattle.guest_board.specs.Machine.{Machine}
-use Rattle.guest_board.specs.declared.reads.Reads.{Reads}
+use Rattle.guest_lockstep.specs.Machine.{Machine}
+use Rattle.guest_lockstep.specs.declared.reads.Reads.{Reads}
 use Rattle.i8080_words.specs.declared.refusal.Fault.{Fault}
 use Rattle.i8080_words.specs.declared.refusal.Fault.TheVariants.{Unknown}
 use Rattle.log_buffer.specs.Log.{Log}

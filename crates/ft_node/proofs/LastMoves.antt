@@ -3,10 +3,10 @@
 use Rattle.std.proofs.Common.{◌≡◌, ◌≢◌, ℕ, true, false, Bool, cond, is_none, Option, List, length, Ok, Err, refl, sym, subst, ap, ◌∙◌}
 use Rattle.std.specs.Prelude.{◌==◌}
 use Rattle.std.proofs.lemmas.Bool.{eqb-true}
-use Rattle.guest_board.specs.Machine.{Machine}
-use Rattle.guest_board.specs.declared.reads.Reads.{Reads}
-use Rattle.guest_board.specs.declared.replay_end.ReplayEnd.{ReplayEnd}
-use Rattle.guest_board.specs.declared.replay_end.ReplayEnd.TheVariants.{Turns, End, Wait, Memory}
+use Rattle.guest_lockstep.specs.Machine.{Machine}
+use Rattle.guest_lockstep.specs.declared.reads.Reads.{Reads}
+use Rattle.guest_lockstep.specs.declared.replay_end.ReplayEnd.{ReplayEnd}
+use Rattle.guest_lockstep.specs.declared.replay_end.ReplayEnd.TheVariants.{Turns, End, Wait, Memory}
 use Rattle.i8080_words.specs.declared.refusal.Fault.{Fault}
 use Rattle.log_channel.specs.Channel.{Receiving}
 use Rattle.pair_protocol.specs.Node.{Node, Draining, goes_live}

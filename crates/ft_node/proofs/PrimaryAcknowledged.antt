@@ -6,8 +6,8 @@ use Rattle.std.proofs.lemmas.Bool.{ltb-false}
 use Rattle.std.proofs.lemmas.List.{drop-drop}
 use Rattle.std.proofs.lemmas.List.Elements.{All-drop}
 use Rattle.event_callbacks.specs.declared.devices.TheConstants.{PORTS}
-use Rattle.guest_board.specs.Machine.{Machine}
-use Rattle.guest_board.specs.declared.reads.Reads.{Reads}
+use Rattle.guest_lockstep.specs.Machine.{Machine}
+use Rattle.guest_lockstep.specs.declared.reads.Reads.{Reads}
 use Rattle.i8080_words.specs.declared.refusal.Fault.TheVariants.{WrongGeneration, BadAck}
 use Rattle.log_buffer.specs.Log.{Log, log, next_of, dropped_to}
 use Rattle.log_channel.specs.Channel.{Sending, ack_answer, acknowledged}

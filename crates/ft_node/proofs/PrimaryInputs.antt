@@ -4,9 +4,9 @@ use Rattle.std.proofs.Common.{◌≡◌, ℕ, ◌+◌, ◌≤◌, Option, Some, 
 use Rattle.std.proofs.lemmas.List.{drop-append-le, length-drop}
 use Rattle.std.proofs.lemmas.List.Elements.{All-push}
 use Rattle.event_callbacks.specs.declared.operations.OpId.{OpId}
-use Rattle.guest_board.specs.Machine.{Machine}
-use Rattle.guest_board.specs.declared.reads.Reads.{Reads}
-use Rattle.guest_board.specs.declared.input.Input.{Input}
+use Rattle.guest_lockstep.specs.Machine.{Machine}
+use Rattle.guest_lockstep.specs.declared.reads.Reads.{Reads}
+use Rattle.guest_lockstep.specs.declared.input.Input.{Input}
 use Rattle.log_buffer.specs.Log.{Log, log, next_of, pushed, IsWithinLimits}
 use Rattle.log_channel.specs.Channel.{Sending}
 use Rattle.log_entry.specs.Entries.{entry_of}
@@ -21,7 +21,7 @@ use Rattle.recorder.specs.Recording.{Offers}
 use Rattle.ft_node.specs.Calls.{Makes}
 use Rattle.ft_node.specs.Noting.{with_entry}
 use Rattle.ft_node.proofs.LastReads.{last_after}
-use Rattle.guest_board.specs.Outstanding.{ComesAndGoes, completed_by}
+use Rattle.guest_lockstep.specs.Outstanding.{ComesAndGoes, completed_by}
 use Rattle.ft_node.specs.Roles.{IsPrimary}
 use Rattle.ft_node.proofs.PrimaryNotes.{Covers-kept, keeps_all, keeps_others}
 use Rattle.ft_node.proofs.PrimaryNotes as notes

@@ -12,7 +12,7 @@ use Rattle.event_callbacks.specs.declared.operations.OpId.{OpId}
 use Rattle.event_callbacks.specs.declared.operations.OpId.TheVariants as id
 use Rattle.event_callbacks.specs.declared.operations.Operation.{Operation}
 use Rattle.event_callbacks.specs.declared.operations.Operation.TheVariants as operation
-use Rattle.guest_board.specs.Machine.{Machine}
+use Rattle.guest_lockstep.specs.Machine.{Machine}
 use Rattle.log_entry.specs.Entries.{inputs_of, marks}
 use Rattle.log_entry.specs.declared.entry.Entry.{Entry}
 use Rattle.log_entry.specs.declared.entry.Entry.TheVariants as entry
@@ -30,7 +30,7 @@ use Rattle.pair_protocol.specs.Waiting.{reads_in, waits_for}
 use Rattle.pair_protocol.proofs.Keeps.PrimaryLog.{same_name-refl}
 use Rattle.guest_trace.specs.declared.timed.Timed.{Timed}
 use Rattle.guest_trace.specs.Reach as reach
-use Rattle.guest_board.specs.Outstanding.{ComesAndGoes, AreFew}
+use Rattle.guest_lockstep.specs.Outstanding.{ComesAndGoes, AreFew}
 use Rattle.ft_node.specs.Roles.{AreOfOutstanding, Covers, waits_in, waits_of}
 use Rattle.ft_node.proofs.LastReads.{reads_without}
 

@@ -3,19 +3,19 @@
 use Rattle.std.proofs.Common.{◌≡◌, ℕ, Option, Some, None, Ok, refl, ◌∙◌}
 use Rattle.event_callbacks.specs.Operations.{id_of}
 use Rattle.event_callbacks.specs.declared.operations.OpId.{OpId}
-use Rattle.guest_board.specs.Machine.{Machine}
-use Rattle.guest_board.specs.declared.reads.Reads.TheVariants.{Logged}
+use Rattle.guest_lockstep.specs.Machine.{Machine}
+use Rattle.guest_lockstep.specs.declared.reads.Reads.TheVariants.{Logged}
 use Rattle.i8080_words.specs.declared.refusal.Fault.{Fault}
 use Rattle.log_buffer.specs.Log.{Log}
 use Rattle.output_rule.specs.Covering.{Covering, IsCovering}
 use Rattle.recorder.proofs.Advances.{records_steps}
 use Rattle.recorder.proofs.Recorded.{is_run}
-use Rattle.guest_board.specs.Recorded.{Counts}
-use Rattle.guest_board.specs.Running.{Quiet, Begin, More, RunsOn, AllTurns, Gives, IsRefused}
+use Rattle.guest_lockstep.specs.Recorded.{Counts}
+use Rattle.guest_lockstep.specs.Running.{Quiet, Begin, More, RunsOn, AllTurns, Gives, IsRefused}
 use Rattle.recorder.specs.Recording.{AdvancesUnless, AdvancesSome, advance_refusal}
-use Rattle.guest_board.specs.declared.running.Stopped.{Stopped}
+use Rattle.guest_lockstep.specs.declared.running.Stopped.{Stopped}
 use Rattle.ft_node.specs.Noting.{HasPlace}
-use Rattle.guest_board.specs.Outstanding.{ComesAndGoes, AreFew, IsFrugal}
+use Rattle.guest_lockstep.specs.Outstanding.{ComesAndGoes, AreFew, IsFrugal}
 use Rattle.ft_node.specs.Roles.{AreOfOutstanding}
 use Rattle.ft_node.proofs.PrimaryNotes.{AreOfOutstanding-noted, room_for_note}
 

@@ -6,8 +6,8 @@ use Rattle.std.specs.Prelude.{nat_le}
 use Rattle.std.proofs.lemmas.Bool.{le-leb, lt-leb, eq-eqb, ne_eqb, cases_lt}
 use Rattle.std.proofs.lemmas.List.{length-drop}
 use Rattle.i8080_words.specs.declared.limits.TheConstants.{GREATEST_NUMBER}
-use Rattle.guest_board.specs.Lockstep as lockstep
-use Rattle.guest_board.specs.Machine.{Machine}
+use Rattle.guest_lockstep.specs.Lockstep as lockstep
+use Rattle.guest_lockstep.specs.Machine.{Machine}
 use Rattle.i8080_words.specs.declared.refusal.Fault.{Fault}
 use Rattle.i8080_words.specs.declared.refusal.Fault.TheVariants.{WrongRole, LogFull, Spent, Idle}
 use Rattle.log_buffer.specs.Log as buffer

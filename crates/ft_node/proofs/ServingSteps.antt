@@ -3,13 +3,13 @@
 use Rattle.std.proofs.Common.{◌≡◌, ℕ, suc, ◌+◌, ◌-◌, ◌<◌, Bool, true, false, cond, Option, Some, None, is_none, refl, subst, ap, ◌∙◌, arith}
 use Rattle.event_callbacks.specs.Operations.{id_of}
 use Rattle.event_callbacks.specs.declared.operations.Operation.{Operation}
-use Rattle.guest_board.specs.Lockstep.{step_refusal}
-use Rattle.guest_board.specs.Machine.{Machine}
-use Rattle.guest_board.specs.Running.{Quiet, Begin, More, RunsOn, AllTurns, IsRefused, fault_of}
-use Rattle.guest_board.specs.Running as running
-use Rattle.guest_board.specs.declared.running.StopReason.{StopReason}
-use Rattle.guest_board.specs.declared.running.StopReason.TheVariants as reason
-use Rattle.guest_board.specs.declared.running.Stopped.{Stopped}
+use Rattle.guest_lockstep.specs.Lockstep.{step_refusal}
+use Rattle.guest_lockstep.specs.Machine.{Machine}
+use Rattle.guest_lockstep.specs.Running.{Quiet, Begin, More, RunsOn, AllTurns, IsRefused, fault_of}
+use Rattle.guest_lockstep.specs.Running as running
+use Rattle.guest_lockstep.specs.declared.running.StopReason.{StopReason}
+use Rattle.guest_lockstep.specs.declared.running.StopReason.TheVariants as reason
+use Rattle.guest_lockstep.specs.declared.running.Stopped.{Stopped}
 use Rattle.i8080_words.specs.declared.refusal.Fault.{Fault}
 use Rattle.i8080_words.specs.declared.refusal.Fault.TheVariants.{Spent, Idle}
 use Rattle.pair_protocol.specs.Effects.{Advances, NoneLeft, Ends, Waits, Short, Gives, Goes, stepped}

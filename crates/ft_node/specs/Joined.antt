@@ -2,7 +2,7 @@
 -- generation carries sectors.
 use Rattle.std.specs.Prelude.{ℕ}
 use Rattle.clone_state.specs.Assembly.{Gathering}
-use Rattle.guest_board.specs.declared.reads.Reads.{Reads}
+use Rattle.guest_lockstep.specs.declared.reads.Reads.{Reads}
 
 pub record Joined : Type 0 where
   pub gathering : Gathering

@@ -1,7 +1,7 @@
 -- What a primary notes about its log: the operations that a run of its guest gives, and the reads of the shared disk.
 use Rattle.std.specs.Prelude.{ℕ, ◌+◌, ◌<◌, Bool, if◌then◌else◌, length}
-use Rattle.guest_board.specs.declared.running.StopReason.{StopReason}
-use Rattle.guest_board.specs.declared.running.StopReason.TheVariants as reason
+use Rattle.guest_lockstep.specs.declared.running.StopReason.{StopReason}
+use Rattle.guest_lockstep.specs.declared.running.StopReason.TheVariants as reason
 use Rattle.log_entry.specs.Entries.{is_read}
 use Rattle.log_entry.specs.declared.entry.Entry.{Entry}
 use Rattle.output_rule.specs.Covering.{Covering, after_note, after_forget}

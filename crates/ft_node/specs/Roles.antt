@@ -5,12 +5,12 @@ use Rattle.ft_node.specs.Kept.{ImageParts}
 use Rattle.event_callbacks.specs.declared.devices.TheConstants.{PORTS}
 use Rattle.event_callbacks.specs.declared.operations.OpId.{OpId}
 use Rattle.event_callbacks.specs.declared.operations.Operation.{Operation}
-use Rattle.guest_board.specs.Machine.{Machine}
+use Rattle.guest_lockstep.specs.Machine.{Machine}
 use Rattle.log_entry.specs.Spelling.{IsEntry}
 use Rattle.log_buffer.specs.Log.{Log, log}
 use Rattle.log_channel.specs.Channel.{Receiving, Sending}
 use Rattle.output_rule.specs.Covering.{Covering}
-use Rattle.guest_board.specs.declared.reads.Reads.{Reads}
+use Rattle.guest_lockstep.specs.declared.reads.Reads.{Reads}
 use Rattle.output_rule.specs.Notes.{note_of as note_in}
 use Rattle.output_rule.specs.declared.notes.Note as notes
 use Rattle.pair_protocol.specs.Copying.{Copying}

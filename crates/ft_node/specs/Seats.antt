@@ -4,9 +4,9 @@ use Rattle.clone_state.specs.Assembly.{after_forgetting, gathered, machine_in}
 use Rattle.clone_state.specs.Copies.{refused_as}
 use Rattle.clone_state.specs.Parts.{guest_in}
 use Rattle.guest_board.specs.Guest.{Guest}
-use Rattle.guest_board.specs.Machine.{Machine}
-use Rattle.guest_board.specs.Outstanding.{IsFrugal}
-use Rattle.guest_board.specs.declared.input.Input.{Input}
+use Rattle.guest_lockstep.specs.Machine.{Machine}
+use Rattle.guest_lockstep.specs.Outstanding.{IsFrugal}
+use Rattle.guest_lockstep.specs.declared.input.Input.{Input}
 use Rattle.i8080_words.specs.declared.refusal.Fault.{Fault}
 use Rattle.log_buffer.specs.Log.{room_answer}
 use Rattle.log_channel.specs.Channel as channel

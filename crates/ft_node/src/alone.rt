@@ -9,7 +9,7 @@ ghost use Rattle.ft_node.specs.Roles.{IsAlone};
 
 use crate::ran::Ran;
 use event_callbacks::{OpId, Operation};
-use guest_board::{Input, Lockstep, Reads, StopReason, Stopped};
+use guest_lockstep::{Input, Lockstep, Reads, StopReason, Stopped};
 use i8080_words::{Fault, R};
 
 /// A guest that runs with no backup: it logs nothing, and releases whatever it gives (VMware FT, section 2.3, "go
@@ -30,7 +30,7 @@ impl<B: Lockstep> Alone<B> {
             → calls.Steps B.machine turns x result (IsAlone self.new.reads (B.state self.new.board) self.new.generation) }
         ensures unchanged { OnErr result (self.new ≡ self.old) }
     {
-        let Stopped { steps, reason } = guest_board::run(&mut self.board, turns);
+        let Stopped { steps, reason } = guest_lockstep::run(&mut self.board, turns);
         let ran = Ran {
             steps,
             count: self.board.count(),

@@ -9,7 +9,7 @@ ghost use Rattle.replayer.specs.Replaying.{bytes_refusal, place_of};
 ghost use Rattle.ft_node.specs.Roles.{IsFollower};
 
 use disk_dcdd::SectorAddress;
-use guest_board::{Lockstep, Reads};
+use guest_lockstep::{Lockstep, Reads};
 use i8080_words::{Fault, R};
 use log_channel::Receiver;
 use log_entry::Entry;

@@ -23,7 +23,7 @@ use crate::node::Node;
 use crate::primary::Primary;
 use crate::ran::{NextGeneration, PartCame};
 use clone_state::{Copies, Image, parts_make_their_machines};
-use guest_board::Reads;
+use guest_lockstep::Reads;
 use i8080_words::{Fault, R};
 use log_buffer::LogBuffer;
 use std::alloc::Global;

@@ -4,12 +4,12 @@ ghost use Rattle.disk_dcdd.specs.Completion.{answered};
 ghost use Rattle.disk_dcdd.specs.declared.controller.TheConstants.{DRIVES};
 ghost use Rattle.disk_dcdd.specs.declared.sector.TheConstants.{SECTORS};
 ghost use Rattle.event_callbacks.specs.declared.devices.TheConstants.{PORTS};
-ghost use Rattle.guest_board.specs.declared.input.Input.TheVariants as input;
+ghost use Rattle.guest_lockstep.specs.declared.input.Input.TheVariants as input;
 ghost use Rattle.recorder.specs.Recording.{IsDue};
 ghost use Rattle.ft_node.specs.Due as due;
 
 use disk_dcdd::{SECTOR_BYTES, SectorAddress};
-use guest_board::{Input, Lockstep};
+use guest_lockstep::{Input, Lockstep};
 use i8080_words::{Fault, GREATEST_NUMBER, R};
 
 /// The key with an index is the next one of its port, and a number is left for it.

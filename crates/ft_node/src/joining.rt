@@ -8,7 +8,7 @@ use crate::backup::Backup;
 use crate::node::Node;
 use crate::ran::PartCame;
 use clone_state::{Assembly, Copies};
-use guest_board::Reads;
+use guest_lockstep::Reads;
 use i8080_words::R;
 use log_channel::Receiver;
 use replayer::Replayer;

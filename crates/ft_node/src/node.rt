@@ -21,7 +21,7 @@ use crate::ran::Ran;
 use crate::winner::Winner;
 use clone_state::{Assembly, Copies};
 use event_callbacks::PORTS;
-use guest_board::Reads;
+use guest_lockstep::Reads;
 use i8080_words::{Fault, R};
 use log_buffer::LogBuffer;
 use log_channel::Receiver;

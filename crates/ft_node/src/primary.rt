@@ -1,8 +1,8 @@
 //! The primary of a generation.
 ghost use Rattle.std.specs.Prelude.{◌≡◌, ◌<◌, ◌≤◌, ℕ, [], Ok, OnErr, slice_index};
 ghost use Rattle.event_callbacks.specs.declared.devices.TheConstants.{PORTS};
-ghost use Rattle.guest_board.specs.Lockstep.{IsInput};
-ghost use Rattle.guest_board.specs.Outstanding as outstanding;
+ghost use Rattle.guest_lockstep.specs.Lockstep.{IsInput};
+ghost use Rattle.guest_lockstep.specs.Outstanding as outstanding;
 ghost use Rattle.i8080_words.specs.declared.limits.TheConstants.{GREATEST_NUMBER};
 ghost use Rattle.log_buffer.specs.Log as logs;
 ghost use Rattle.log_buffer.specs.Log.{next_of};
@@ -21,7 +21,7 @@ use crate::kept_image::KeptImage;
 use crate::ran::Ran;
 use clone_state::Copies;
 use event_callbacks::{OpId, Operation, PORTS};
-use guest_board::{Input, Lockstep, Reads, StopReason, Stopped};
+use guest_lockstep::{Input, Lockstep, Reads, StopReason, Stopped};
 use i8080_words::{Fault, R};
 use log_buffer::LogBuffer;
 use log_channel::Sender;

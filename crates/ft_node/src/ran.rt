@@ -1,6 +1,6 @@
 //! How far a node got and why no further, what it may begin, and what a part was to it.
 
-use guest_board::{Reads, ReplayEnd, StopReason};
+use guest_lockstep::{Reads, ReplayEnd, StopReason};
 
 /// How many steps were made, how many the guest has made in all, and why no more were made.
 #[derive(Clone, Copy, Debug, PartialEq, Eq)]

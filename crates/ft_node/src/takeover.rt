@@ -15,7 +15,7 @@ use crate::winner::Winner;
 use arbiter_core::{Arbiter, Won};
 use clone_state::Copies;
 use go_live::Draining;
-use guest_board::ReplayEnd;
+use guest_lockstep::ReplayEnd;
 use i8080_words::{Fault, R};
 use std::mem;
 

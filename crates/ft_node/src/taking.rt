@@ -4,7 +4,7 @@ ghost use Rattle.disk_dcdd.specs.Completion.{answered};
 ghost use Rattle.disk_dcdd.specs.declared.controller.TheConstants.{DRIVES};
 ghost use Rattle.disk_dcdd.specs.declared.sector.TheConstants.{SECTORS};
 ghost use Rattle.event_callbacks.specs.declared.devices.TheConstants.{PORTS};
-ghost use Rattle.guest_board.specs.declared.input.Input.TheVariants as input;
+ghost use Rattle.guest_lockstep.specs.declared.input.Input.TheVariants as input;
 ghost use Rattle.pair_protocol.specs.Copying.{Copying};
 ghost use Rattle.pair_protocol.specs.Effects.{Took};
 ghost use Rattle.pair_protocol.specs.Node as protocol;
@@ -17,7 +17,7 @@ use crate::due;
 use crate::node::Node;
 use clone_state::Copies;
 use disk_dcdd::{SECTOR_BYTES, SectorAddress};
-use guest_board::Input;
+use guest_lockstep::Input;
 use i8080_words::{Fault, R};
 
 impl<B: Copies<H> + Drop, H: Drop> Node<B, H> {

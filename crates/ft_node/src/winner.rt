@@ -8,7 +8,7 @@ ghost use Rattle.ft_node.specs.Roles.{IsFollower};
 
 use disk_dcdd::SectorAddress;
 use go_live::Draining;
-use guest_board::{Lockstep, Reads};
+use guest_lockstep::{Lockstep, Reads};
 use i8080_words::{Fault, R};
 use replayer::Replayed;
 use shared_disk::SectorRead;

@@ -8,12 +8,12 @@ use Rattle.std.specs.Option.{option_and_then}
 use Rattle.std.specs.Prelude.{IfErr, IsTrue, Result, if◌then◌else◌, is_none, slice_get, ◌==◌}
 use Rattle.disk_dcdd.specs.Address.{has_sector, same_address}
 use Rattle.disk_dcdd.specs.declared.address.SectorAddress.{SectorAddress}
-use Rattle.guest_board.specs.Machine.{Do, Machine, Move, Take}
-use Rattle.guest_board.specs.Recorded.{Accepts, Recorded}
-use Rattle.guest_board.specs.declared.input.Input.{Input}
-use Rattle.guest_board.specs.declared.input.Input.TheVariants.{Rx, Sector, Sent, Written}
-use Rattle.guest_board.specs.declared.reads.Reads.{Reads}
-use Rattle.guest_board.specs.declared.reads.Reads.TheVariants.{Logged, Shared}
+use Rattle.guest_lockstep.specs.Machine.{Do, Machine, Move, Take}
+use Rattle.guest_lockstep.specs.Recorded.{Accepts, Recorded}
+use Rattle.guest_lockstep.specs.declared.input.Input.{Input}
+use Rattle.guest_lockstep.specs.declared.input.Input.TheVariants.{Rx, Sector, Sent, Written}
+use Rattle.guest_lockstep.specs.declared.reads.Reads.{Reads}
+use Rattle.guest_lockstep.specs.declared.reads.Reads.TheVariants.{Logged, Shared}
 use Rattle.i8080_words.specs.declared.refusal.Fault.{Fault}
 use Rattle.i8080_words.specs.declared.refusal.Fault.TheVariants.{NotDue, OutOfMemory, StaleRead, Unknown}
 use Rattle.log_channel.specs.Channel.{Receiving}

@@ -5,7 +5,7 @@ use Rattle.guest_board.specs.Guest.{Guest}
 use Rattle.std.proofs.Common.{◌≡◌, Bool, Err, List, None, Ok, Some, ap, cond, false, refl, subst, true, ℕ}
 use Rattle.std.specs.Option.{option_and_then}
 use Rattle.std.specs.Prelude.{Option, Result, slice_get, unwrap_or}
-use Rattle.guest_board.specs.Machine.{Machine}
+use Rattle.guest_lockstep.specs.Machine.{Machine}
 use Rattle.i8080_words.specs.declared.refusal.Fault.{Fault}
 use Rattle.i8080_words.specs.declared.refusal.Fault.TheVariants.{Unknown}
 use Rattle.log_channel.specs.Packet.{packet_at}

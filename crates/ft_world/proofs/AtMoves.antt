@@ -5,8 +5,8 @@
 use Rattle.guest_board.specs.Guest.{Guest}
 use Rattle.std.proofs.Common.{◌≡◌, Err, List, Ok, Option, Some, drop, inl, inr, refl, subst, sym, ℕ}
 use Rattle.std.specs.Prelude.{slice_get, ◌<◌}
-use Rattle.guest_board.specs.Machine.{Machine}
-use Rattle.guest_board.specs.declared.reads.Reads.{Reads}
+use Rattle.guest_lockstep.specs.Machine.{Machine}
+use Rattle.guest_lockstep.specs.declared.reads.Reads.{Reads}
 use Rattle.i8080_words.specs.declared.refusal.Fault.{Fault}
 use Rattle.log_channel.specs.Channel.{Receiving}
 use Rattle.log_entry.specs.Standing.{IsOnTrace}

@@ -2,7 +2,7 @@
 -- generation stays, and so does the only node that may be its backup.
 use Rattle.std.proofs.Common.{◌≡◌, [], ◌∷◌, ◌∙◌, List, Some, ap, inl, inr, refl, suc, sym, zero, ℕ}
 use Rattle.std.specs.Prelude.{max, slice_get, slice_set, ◌⊎◌}
-use Rattle.guest_board.specs.Machine.{Machine}
+use Rattle.guest_lockstep.specs.Machine.{Machine}
 use Rattle.shared_disk.specs.declared.store.Record.{Record}
 use Rattle.pair_protocol.specs.Node.{Node}
 use Rattle.pair_protocol.specs.Settled.{highest, is_backup}

@@ -8,7 +8,7 @@ use Rattle.std.specs.Prelude.{is_none, slice_get, slice_index_or, ◌==◌}
 use Rattle.clone_state.specs.Image.{part_bytes}
 use Rattle.clone_state.specs.Parts.{PartMessage, guest_in, message_at}
 use Rattle.clone_state.proofs.PartsRead.{parts_read}
-use Rattle.guest_board.specs.Machine.{Machine}
+use Rattle.guest_lockstep.specs.Machine.{Machine}
 use Rattle.i8080_words.specs.declared.refusal.Fault.{Fault}
 use Rattle.i8080_words.specs.declared.refusal.Fault.TheVariants.{Malformed, Unknown, WrongGeneration}
 use Rattle.shared_disk.specs.declared.store.Record.{Record}

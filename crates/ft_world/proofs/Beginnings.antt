@@ -16,11 +16,11 @@ use Rattle.guest_memory.specs.declared.memory.TheConstants.{BYTES}
 use Rattle.guest_board.specs.Inputs.{some_altair}
 use Rattle.clone_state.specs.DraftedBoard.{BoardsAreCopiedAsGuests, WithDraft}
 use Rattle.clone_state.specs.Copies.{CopiesAs}
-use Rattle.guest_board.specs.Machine.{Machine, booted_from}
-use Rattle.guest_board.specs.Outstanding.{ComesAndGoes, completed_by}
-use Rattle.guest_board.specs.declared.input.Input.{Input}
-use Rattle.guest_board.specs.declared.input.Input.TheVariants.{Rx, Sector, Sent, Written}
-use Rattle.guest_board.specs.declared.reads.Reads.{Reads}
+use Rattle.guest_lockstep.specs.Machine.{Machine, booted_from}
+use Rattle.guest_lockstep.specs.Outstanding.{ComesAndGoes, completed_by}
+use Rattle.guest_lockstep.specs.declared.input.Input.{Input}
+use Rattle.guest_lockstep.specs.declared.input.Input.TheVariants.{Rx, Sector, Sent, Written}
+use Rattle.guest_lockstep.specs.declared.reads.Reads.{Reads}
 use Rattle.guest_board.specs.declared.setup.Setup.{Setup}
 use Rattle.guest_board.specs.MoveLaws.{guests_issue_and_complete}
 use Rattle.shared_disk.specs.Records.{HasDrives, HasWholeSectors, IsUnwritten, record_at}

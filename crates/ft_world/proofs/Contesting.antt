@@ -7,7 +7,7 @@ use Rattle.std.specs.Prelude.{if◌then◌else◌, Option, slice_get, slice_set}
 use Rattle.arbiter_core.specs.Winners.{after_asking, winner_of}
 use Rattle.arbiter_core.specs.declared.arbiter.Asking.{Asking}
 use Rattle.arbiter_core.specs.declared.arbiter.Won.{Won}
-use Rattle.guest_board.specs.Machine.{Machine}
+use Rattle.guest_lockstep.specs.Machine.{Machine}
 use Rattle.i8080_words.specs.declared.refusal.Fault.{Fault}
 use Rattle.i8080_words.specs.declared.refusal.Fault.TheVariants.{Lost, NotWhole, Unknown, WrongRole}
 use Rattle.shared_disk.specs.declared.store.Record.{Record}

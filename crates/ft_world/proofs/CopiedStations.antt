@@ -4,7 +4,7 @@ use Rattle.pair_protocol.specs.Copying.{Copying}
 use Rattle.std.proofs.Common.{◌≡◌, ◌∙◌, ◌∷◌, [], ℕ, Err, List, None, Ok, Option, Result, Some, ap, refl, subst, sym}
 use Rattle.std.specs.Result.{IsErrAnd}
 use Rattle.clone_state.specs.Parts.{PartMessage, part_count}
-use Rattle.guest_board.specs.Machine.{Machine}
+use Rattle.guest_lockstep.specs.Machine.{Machine}
 use Rattle.i8080_words.specs.declared.refusal.Fault.{Fault}
 use Rattle.i8080_words.specs.declared.refusal.Fault.TheVariants.{OutOfMemory}
 use Rattle.pair_protocol.specs.Effects.{GotPart, Again, Comes, Completes}

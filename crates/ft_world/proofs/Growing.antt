@@ -1,7 +1,7 @@
 -- What is settled before rows of events is a beginning of what is settled after them, since rows are actions.
 use Rattle.std.proofs.Common.{List}
 use Rattle.std.specs.Prelude.{map}
-use Rattle.guest_board.specs.Machine.{Machine}
+use Rattle.guest_lockstep.specs.Machine.{Machine}
 use Rattle.pair_protocol.specs.Change.{Changes, Reached, Stays}
 use Rattle.pair_protocol.specs.Copying.{Copying, IsCopying}
 use Rattle.pair_protocol.specs.Event as protocol

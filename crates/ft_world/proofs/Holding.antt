@@ -2,7 +2,7 @@
 -- count of the entry.
 use Rattle.pair_protocol.specs.Copying.{Copying}
 use Rattle.std.proofs.Common.{◌≡◌, ◌∙◌, [], ◌∷◌, ◌++◌, append-nil, append_assoc, List, ℕ, ap, refl, subst, sym}
-use Rattle.guest_board.specs.Machine.{Machine}
+use Rattle.guest_lockstep.specs.Machine.{Machine}
 use Rattle.log_entry.specs.Entries.{count_of, inputs_of, last_count, timed_in, timed_of}
 use Rattle.log_entry.specs.declared.entry.Entry.{Entry}
 use Rattle.pair_protocol.specs.Node.{Node, Backup, holds}

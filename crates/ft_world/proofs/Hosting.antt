@@ -2,7 +2,7 @@
 use Rattle.guest_board.specs.Guest.{Guest}
 use Rattle.std.proofs.Common.{◌≡◌, [], ◌∷◌, ◌++◌, ◌∙◌, Err, List, Ok, Some, ap, false, inl, inr, refl, subst, suc, sym, true, zero, ℕ}
 use Rattle.std.specs.Prelude.{max, OnErr, OnOk, Result, slice_get, ◌⊎◌}
-use Rattle.guest_board.specs.Machine.{Machine}
+use Rattle.guest_lockstep.specs.Machine.{Machine}
 use Rattle.shared_disk.specs.declared.store.Record.{Record}
 use Rattle.pair_protocol.specs.Change.{After, HostComes}
 use Rattle.pair_protocol.specs.Node.{Node, spare}

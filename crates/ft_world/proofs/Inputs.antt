@@ -1,10 +1,10 @@
 -- A station takes an input: the input is appended to its inputs, at the count of its machine.
 use Rattle.pair_protocol.specs.Copying.{Copying}
 use Rattle.std.proofs.Common.{◌≡◌, ℕ, ◌∙◌, [], ◌∷◌, ◌++◌, Some, ap, inl, inr, refl, subst, sym}
-use Rattle.guest_board.specs.Machine.{Machine}
-use Rattle.guest_board.specs.declared.input.Input.{Input}
+use Rattle.guest_lockstep.specs.Machine.{Machine}
+use Rattle.guest_lockstep.specs.declared.input.Input.{Input}
 use Rattle.guest_trace.specs.Reach.{timed}
-use Rattle.guest_board.specs.Recorded.{Counts}
+use Rattle.guest_lockstep.specs.Recorded.{Counts}
 use Rattle.pair_protocol.specs.Change.{Serving}
 use Rattle.pair_protocol.specs.Effects.{Took, took}
 use Rattle.pair_protocol.specs.Node.{Node, Role, Primary, Backup, Joining, Draining, Alone, Spare}

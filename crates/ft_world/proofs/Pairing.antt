@@ -4,7 +4,7 @@ use Rattle.guest_board.specs.Guest.{Guest}
 use Rattle.std.proofs.Common.{◌≡◌, ◌∙◌, ◌≤◌, [], ◌∷◌, ℕ, suc, Err, List, None, Ok, Option, Some, ap, append-nil, arith, false, inl, inr, not, refl, subst, sym, true}
 use Rattle.std.proofs.Math.Nat.{le_antisymm}
 use Rattle.std.specs.Prelude.{if◌then◌else◌, length, slice_get, slice_set}
-use Rattle.guest_board.specs.Machine.{Machine}
+use Rattle.guest_lockstep.specs.Machine.{Machine}
 use Rattle.guest_trace.specs.Reach.{keys}
 use Rattle.guest_trace.specs.declared.timed.Timed.{Timed}
 use Rattle.pair_protocol.specs.Copying.{Copying}

@@ -7,7 +7,7 @@ use Rattle.disk_dcdd.specs.declared.sector.SectorWrite.{SectorWrite}
 use Rattle.event_callbacks.specs.Operations.{id_of}
 use Rattle.event_callbacks.specs.declared.operations.Operation.{Operation}
 use Rattle.event_callbacks.specs.declared.operations.Operation.TheVariants.{Write}
-use Rattle.guest_board.specs.Machine.{Do, Machine, Move, Runs, Take}
+use Rattle.guest_lockstep.specs.Machine.{Do, Machine, Move, Runs, Take}
 use Rattle.guest_trace.specs.Reach.{operations}
 use Rattle.disk_dcdd.specs.Address.{has_sector}
 use Rattle.pair_protocol.specs.Change.{Reached}
@@ -18,7 +18,7 @@ use Rattle.pair_protocol.proofs.Traces.Lists.{among-get}
 use Rattle.pair_protocol.proofs.Traces.Moves.{runs-append}
 use Rattle.pair_protocol.proofs.Promises.Outputs.{trace_runs}
 use Rattle.pair_protocol.proofs.Promises.Faithful.{reached}
-use Rattle.guest_board.specs.Outstanding.{ComesAndGoes}
+use Rattle.guest_lockstep.specs.Outstanding.{ComesAndGoes}
 use Rattle.ft_world.specs.Standing.{IsMachine}
 
 -- an operation was outstanding after some moves from boot

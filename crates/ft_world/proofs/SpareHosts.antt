@@ -7,7 +7,7 @@ use Rattle.std.specs.Prelude.{length, map, slice_get, slice_set}
 use Rattle.i8080_words.specs.declared.refusal.Fault.{Fault}
 use Rattle.i8080_words.specs.declared.refusal.Fault.TheVariants.{Unknown, WrongRole}
 use Rattle.disk_dcdd.specs.Completion.{answered}
-use Rattle.guest_board.specs.Machine.{Machine}
+use Rattle.guest_lockstep.specs.Machine.{Machine}
 use Rattle.ft_world.specs.Lending.{IsSpare, WithStation}
 use Rattle.ft_world.specs.Opening.{HasJoined, HasSpare, JoinsHosts, host_refusal}
 use Rattle.ft_world.specs.declared.opening.Opening.{Opening}

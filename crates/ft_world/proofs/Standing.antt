@@ -3,7 +3,7 @@
 use Rattle.guest_board.specs.Guest.{Guest}
 use Rattle.std.proofs.Common.{◌≡◌, ◌++◌, [], ◌∷◌, List, Some, inl, subst, ℕ}
 use Rattle.std.specs.Prelude.{slice_get}
-use Rattle.guest_board.specs.Machine.{Do, Machine, Move, Runs, Take}
+use Rattle.guest_lockstep.specs.Machine.{Do, Machine, Move, Runs, Take}
 use Rattle.shared_disk.specs.declared.store.Record.{Record}
 use Rattle.pair_protocol.specs.Change.{Reached, Serving}
 use Rattle.pair_protocol.specs.Copying.{Copying, IsCopying}
@@ -11,7 +11,7 @@ use Rattle.pair_protocol.specs.Lawful.{Lawful, Reaches}
 use Rattle.pair_protocol.specs.Node.{Node}
 use Rattle.pair_protocol.specs.World.{World}
 use Rattle.pair_protocol.proofs.Traces.Moves.{runs-append}
-use Rattle.guest_board.specs.Outstanding.{IsFrugal}
+use Rattle.guest_lockstep.specs.Outstanding.{IsFrugal}
 use Rattle.ft_node.specs.Roles.{AreOfOutstanding}
 use Rattle.ft_node.specs.Seats.{IsNode, MayRun}
 use Rattle.ft_node.specs.declared.node.Node as code

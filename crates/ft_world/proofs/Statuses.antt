@@ -3,7 +3,7 @@ use Rattle.pair_protocol.specs.Copying.{Copying}
 use Rattle.std.proofs.Common.{◌≡◌, Err, IfOk, List, Ok, Result, Some, refl, subst, sym, ℕ}
 use Rattle.std.specs.Prelude.{slice_get}
 use Rattle.std.specs.Result.{result_ok}
-use Rattle.guest_board.specs.Machine.{Machine}
+use Rattle.guest_lockstep.specs.Machine.{Machine}
 use Rattle.pair_protocol.specs.Node.{Node}
 use Rattle.pair_protocol.proofs.Traces.Lists.{same_some}
 use Rattle.ft_node.specs.Seats.{IsNode, IsRole}

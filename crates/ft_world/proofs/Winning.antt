@@ -6,7 +6,7 @@ use Rattle.std.specs.Option.{option_map}
 use Rattle.arbiter_core.specs.Winners.{after_asking, winner_of}
 use Rattle.arbiter_core.specs.declared.arbiter.Asking.{Asking}
 use Rattle.arbiter_core.proofs.FirstAskers.{first_askers_win}
-use Rattle.guest_board.specs.Machine.{Machine}
+use Rattle.guest_lockstep.specs.Machine.{Machine}
 use Rattle.shared_disk.specs.declared.store.Record.{Record}
 use Rattle.pair_protocol.specs.Node.{Alone, Backup, Draining, Joining, Node, Primary, Role, Spare, won_role, wins}
 use Rattle.pair_protocol.specs.Settled.{is_backup}

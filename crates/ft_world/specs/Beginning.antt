@@ -4,8 +4,8 @@ use Rattle.std.specs.Prelude.{◌≡◌, ℕ, List, []}
 use Rattle.std.specs.Option.{option_map_or}
 use Rattle.disk_dcdd.specs.declared.address.SectorAddress.{SectorAddress}
 use Rattle.clone_state.specs.Copies.{CopiesAs}
-use Rattle.guest_board.specs.Machine.{Machine, booted_from}
-use Rattle.guest_board.specs.declared.reads.Reads.{Reads}
+use Rattle.guest_lockstep.specs.Machine.{Machine, booted_from}
+use Rattle.guest_lockstep.specs.declared.reads.Reads.{Reads}
 use Rattle.pair_protocol.specs.Copying.{Copying}
 use Rattle.pair_protocol.specs.World.{opening}
 use Rattle.shared_disk.specs.Records.{HasDrives, IsUnwritten, record_at}

@@ -1,7 +1,7 @@
 -- What the terminals of a world accepted and what its disk keeps, as choices over everything that arrived.
 use Rattle.std.specs.Prelude.{ℕ, List, ◌∷◌, map}
 use Rattle.disk_dcdd.specs.declared.address.SectorAddress.{SectorAddress}
-use Rattle.guest_board.specs.Machine.{Machine}
+use Rattle.guest_lockstep.specs.Machine.{Machine}
 use Rattle.shared_disk.specs.Arrivals.{IsGreatest, written_at}
 use Rattle.shared_disk.specs.Records.{boot_record}
 use Rattle.shared_disk.specs.declared.store.Record.{Record}

@@ -5,9 +5,9 @@ use Rattle.arbiter_core.specs.declared.arbiter.Asking.{Asking}
 use Rattle.disk_dcdd.specs.declared.address.SectorAddress.{SectorAddress}
 use Rattle.disk_dcdd.specs.declared.sector.SectorWrite.{SectorWrite}
 use Rattle.event_callbacks.specs.declared.devices.TheConstants.{PORTS}
-use Rattle.guest_board.specs.Machine.{Machine}
-use Rattle.guest_board.specs.declared.replay_end.ReplayEnd.{ReplayEnd}
-use Rattle.guest_board.specs.declared.replay_end.ReplayEnd.TheVariants.{Turns, End, Wait, Memory}
+use Rattle.guest_lockstep.specs.Machine.{Machine}
+use Rattle.guest_lockstep.specs.declared.replay_end.ReplayEnd.{ReplayEnd}
+use Rattle.guest_lockstep.specs.declared.replay_end.ReplayEnd.TheVariants.{Turns, End, Wait, Memory}
 use Rattle.disk_dcdd.specs.Address.{has_sector}
 use Rattle.shared_disk.specs.Records.{IsAt}
 use Rattle.shared_disk.specs.declared.store.Record.{Record}

@@ -2,12 +2,12 @@
 use Rattle.std.specs.Prelude.{◌≡◌, ℕ, ◌≤◌, true, Some, List}
 use Rattle.disk_dcdd.specs.declared.address.SectorAddress.{SectorAddress}
 use Rattle.disk_dcdd.specs.declared.controller.TheConstants.{DRIVES}
-use Rattle.guest_board.specs.Machine.{Machine}
+use Rattle.guest_lockstep.specs.Machine.{Machine}
 use Rattle.pair_protocol.specs.Copying.{Copying, IsCopying, Makes}
 use Rattle.pair_protocol.specs.Lawful.{Lawful}
 use Rattle.altair_laws.specs.OnDisk.{StaysOnDisk}
 use Rattle.pair_protocol.specs.World.{World}
-use Rattle.guest_board.specs.Outstanding.{ComesAndGoes}
+use Rattle.guest_lockstep.specs.Outstanding.{ComesAndGoes}
 
 -- a world of the protocol, where its machines and its disk began, and how the machines are copied
 pub record Course (S : Type 0) : Type 0 where

@@ -4,7 +4,7 @@ ghost use Rattle.i8080_words.specs.declared.refusal.Fault.TheVariants.{OutOfMemo
 ghost use Rattle.guest_trace.specs.Reach.{timed};
 ghost use Rattle.log_entry.specs.Entries.{timed_in, timed_of};
 
-use guest_board::Input;
+use guest_lockstep::Input;
 use guest_trace::{Bare, Timed};
 use i8080_words::R;
 use log_entry::Entry;

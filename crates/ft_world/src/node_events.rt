@@ -12,7 +12,7 @@ use crate::pair::Pair;
 use crate::{devices, hosts, messages};
 use clone_state::Copies;
 use ft_node::Drained;
-use guest_board::ReplayEnd;
+use guest_lockstep::ReplayEnd;
 use i8080_words::{Fault, R};
 use pair_events::Reply;
 use shared_disk::SectorStore;

@@ -5,7 +5,7 @@ ghost use Rattle.clone_state.specs.Parts.{part_count};
 
 use crate::input_list::Inputs;
 use clone_state::Assembly;
-use guest_board::Reads;
+use guest_lockstep::Reads;
 
 /// The generation, an assembly for the parts of its image, none of which came yet, the inputs of the machine that is
 /// copied, the count up to which they settle it, and how the generation's log carries sectors.

@@ -19,7 +19,7 @@ use crate::room::Room;
 use arbiter_core::Arbiter;
 use clone_state::Copies;
 use event_callbacks::PORTS;
-use guest_board::Reads;
+use guest_lockstep::Reads;
 use i8080_words::{Fault, R};
 use pair_events::{Event, Reply};
 use shared_disk::{SectorStore, SharedDisk};

@@ -11,7 +11,7 @@ use crate::host::Host;
 use crate::station::Station;
 use clone_state::Copies;
 use ft_node::Node;
-use guest_board::Reads;
+use guest_lockstep::Reads;
 use i8080_words::R;
 use log_buffer::LogBuffer;
 use std::alloc::Global;

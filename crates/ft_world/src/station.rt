@@ -4,7 +4,7 @@ ghost use Rattle.std.specs.Prelude.{◌≡◌, ℕ, ◌≢◌, ◌<◌, [], None
 ghost use Rattle.disk_dcdd.specs.declared.controller.TheConstants.{DRIVES};
 ghost use Rattle.disk_dcdd.specs.declared.sector.TheConstants.{SECTORS};
 ghost use Rattle.event_callbacks.specs.declared.devices.TheConstants.{PORTS};
-ghost use Rattle.guest_board.specs.declared.input.Input.TheVariants as input;
+ghost use Rattle.guest_lockstep.specs.declared.input.Input.TheVariants as input;
 ghost use Rattle.i8080_words.specs.declared.refusal.Fault.TheVariants.{Lost};
 ghost use Rattle.log_channel.specs.Packet.{packet_at};
 ghost use Rattle.pair_protocol.specs.Effects.{Took, NeedsEntry};
@@ -20,7 +20,7 @@ use arbiter_core::{Arbiter, Won};
 use clone_state::Copies;
 use disk_dcdd::{SECTOR_BYTES, SectorAddress};
 use ft_node::{Drained, Node, Ran};
-use guest_board::{Input, ReplayEnd};
+use guest_lockstep::{Input, ReplayEnd};
 use i8080_words::R;
 use replayer::Replayed;
 use std::alloc::Global;

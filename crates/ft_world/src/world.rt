@@ -6,7 +6,7 @@ use crate::pair::Pair;
 use crate::room::Room;
 use clone_state::Copies;
 use disk_dcdd::SectorAddress;
-use guest_board::Reads;
+use guest_lockstep::Reads;
 use guest_trace::Timed;
 use i8080_words::{Fault, R};
 use pair_events::{Event, Reply};

@@ -9,7 +9,7 @@ ghost use Rattle.log_entry.specs.Standing.{IsOnTrace};
 ghost use Rattle.replayer.specs.Replaying as table;
 ghost use Rattle.replayer.specs.Standing.{StaysOnEach};
 
-use guest_board::Lockstep;
+use guest_lockstep::Lockstep;
 use i8080_words::{Fault, R};
 use log_channel::Receiver;
 use replayer::{Replayed, Replayer};

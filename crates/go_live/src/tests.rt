@@ -5,7 +5,7 @@ ghost use Rattle.log_entry.specs.Spelling.{IsEntry};
 
 use crate::Draining;
 use echo_guest::Echo;
-use guest_board::{Lockstep, ReplayEnd};
+use guest_lockstep::{Lockstep, ReplayEnd};
 use i8080_words::{Fault, R};
 use log_channel::{Packet, Receiver, packets_spell_one_way};
 use log_entry::Entry;

@@ -3,7 +3,8 @@ ghost use Rattle.event_callbacks.specs.declared.devices.TheConstants.{SENT, SECT
 ghost use Rattle.event_callbacks.specs.Keeping.{Keeps};
 
 use event_callbacks::{Callbacks, Completes};
-use guest_board::{Board, Setup, StopReason};
+use guest_board::{Board, Setup};
+use guest_lockstep::StopReason;
 use i8080_words::{R, Regs};
 use std::alloc::Global;
 
@@ -25,7 +26,7 @@ pub fn run<T: Completes + Drop, S: Completes + Drop, W: Completes + Drop>(
         Ok(board) => board,
         Err((_callbacks, fault)) => return Err(fault),
     };
-    match guest_board::run(&mut board, steps).reason {
+    match guest_lockstep::run(&mut board, steps).reason {
         StopReason::Refused(fault) => Err(fault),
         StopReason::Turns | StopReason::Operation(_) => Ok(board.processor().regs),
     }

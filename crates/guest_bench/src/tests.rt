@@ -3,12 +3,13 @@ ghost use Rattle.std.specs.Prelude.{IsTrue};
 ghost use Rattle.event_callbacks.specs.declared.devices.TheConstants.{SENT, SECTOR, WRITTEN};
 ghost use Rattle.event_callbacks.specs.Keeping.{Keeps};
 ghost use Rattle.guest_board.specs.Inputs.{some_altair};
-ghost use Rattle.guest_board.specs.Lockstep.{HasRoom, IsInput};
+ghost use Rattle.guest_lockstep.specs.Lockstep.{HasRoom, IsInput};
 ghost use Rattle.plain_single.specs.Reaching.{NeverFall};
 
 use disk_dcdd::{SECTOR_BYTES, SectorAddress, SectorWrite};
 use event_callbacks::{Callbacks, Completes, Operation, plain_completions};
-use guest_board::{Board, Input, Reads, Setup, StopReason};
+use guest_board::{Board, Setup};
+use guest_lockstep::{Input, Reads, StopReason};
 use guest_trace::{Bare, Timed};
 use i8080_words::{Fault, GREATEST_NUMBER, R};
 use plain_single::Single;
@@ -209,7 +210,7 @@ fn advance<T: Completes, S: Completes, W: Completes>(
 ) -> R<()> {
     let mut left = steps;
     for _ in 0..steps {
-        let stopped = guest_board::run(board, left);
+        let stopped = guest_lockstep::run(board, left);
         left = left.saturating_sub(stopped.steps);
         match stopped.reason {
             StopReason::Turns | StopReason::Refused(Fault::Idle) => return Ok(()),

@@ -10,7 +10,7 @@ use Rattle.event_callbacks.specs.declared.operations.Operation.{Operation}
 use Rattle.guest_board.specs.Ports.{memory_byte, port_byte}
 use Rattle.guest_board.specs.Guest.{Guest, step_of, wired, wired_after, line_of, is_idle, is_spent, step_from, next}
 use Rattle.guest_board.specs.Stepping.{IsAnswer, exec_answer, answer_by, by_name, name_by, guest_after}
-use Rattle.guest_board.specs.Lockstep.{Executes, Steps, StepsUnless, named}
+use Rattle.guest_lockstep.specs.Lockstep.{Executes, Steps, StepsUnless, named}
 use Rattle.guest_board.specs.Inputs.{some_altair}
 use Rattle.guest_board.specs.declared.executed.Step.{Step}
 

@@ -10,9 +10,9 @@ use Rattle.disk_dcdd.specs.Completion.{is_selected, is_sector_due, is_busy_on}
 use Rattle.disk_dcdd.specs.Address.{index_of}
 use Rattle.disk_dcdd.specs.declared.address.SectorAddress.{SectorAddress}
 use Rattle.event_callbacks.specs.Completions.{at_boot}
-use Rattle.guest_board.specs.Machine.{Machine, refusal_of}
+use Rattle.guest_lockstep.specs.Machine.{Machine, refusal_of}
 use Rattle.guest_board.specs.Guest.{Guest, altair, altair_from}
-use Rattle.guest_board.specs.declared.input.Input.{Input}
+use Rattle.guest_lockstep.specs.declared.input.Input.{Input}
 use Rattle.guest_board.specs.declared.setup.Setup.{Setup}
 
 -- a guest without memory, which no setup gives

@@ -1,14 +1,9 @@
-pub mod Machine
 pub mod Parts
 pub mod Ports
 pub mod Guest
-pub mod Lockstep
 pub mod Wiring
 pub mod Board
 pub mod Stepping
 pub mod Inputs
 pub mod Fields
-pub mod Recorded
-pub mod Outstanding
-pub mod Running
 pub mod MoveLaws

@@ -1,9 +1,9 @@
 //! What follows from the definitions alone, for the crates above.
 ghost use Rattle.guest_board.specs.Guest.{Guest};
 ghost use Rattle.guest_board.specs.Inputs.{RefusesAlike, some_altair};
-ghost use Rattle.guest_board.specs.Outstanding.{ComesAndGoes};
-ghost use Rattle.guest_board.specs.Recorded.{Counts};
-ghost use Rattle.guest_board.specs.declared.input.Input.{Input};
+ghost use Rattle.guest_lockstep.specs.Outstanding.{ComesAndGoes};
+ghost use Rattle.guest_lockstep.specs.Recorded.{Counts};
+ghost use Rattle.guest_lockstep.specs.declared.input.Input.{Input};
 
 /// Every Altair refuses alike, whatever setup it booted from and whatever its sectors held: what `Board::check` and
 /// `Board::take` refuse is what the machine of any setup refuses.

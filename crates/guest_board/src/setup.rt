@@ -4,7 +4,7 @@ ghost use Rattle.std.specs.Prelude.{◌≡◌, ℕ, ◌<◌, ◌≤◌, vec_len,
 ghost use Rattle.disk_dcdd.specs.declared.controller.TheConstants.{DRIVES};
 ghost use Rattle.guest_memory.specs.declared.memory.TheConstants.{BYTES};
 
-use crate::reads::Reads;
+use guest_lockstep::Reads;
 
 /// A guest at boot: its memory, how many drives are attached, the interrupt level of port 0, port 1 and the disk (RST n
 /// of the 8080), and the byte of the sense switches, which IN FFh returns; and how a pair logs the sectors that it reads.

@@ -11,7 +11,8 @@ mod rebuilt;
 
 use disk_dcdd::{SECTOR_BYTES, SectorAddress};
 use event_callbacks::{Callbacks, Completes, Devices, Done, OpId, Operation, plain_completions};
-use guest_board::{Board, Executed, Input, Reads, Setup};
+use guest_board::{Board, Executed, Setup};
+use guest_lockstep::{Input, Reads};
 use guest_memory::BYTES;
 use i8080_words::{Fault, R};
 use std::alloc::Global;

@@ -5,9 +5,9 @@ use Rattle.disk_dcdd.specs.declared.address.SectorAddress.{SectorAddress}
 use Rattle.disk_dcdd.specs.declared.sector.SectorWrite.{SectorWrite}
 use Rattle.event_callbacks.specs.declared.operations.Operation.{Operation}
 use Rattle.event_callbacks.specs.declared.operations.Operation.TheVariants.{Byte, Write}
-use Rattle.guest_board.specs.Machine.{Machine, Move, Do, Take, Runs}
-use Rattle.guest_board.specs.declared.input.Input.{Input}
-use Rattle.guest_board.specs.declared.input.Input.TheVariants as input
+use Rattle.guest_lockstep.specs.Machine.{Machine, Move, Do, Take, Runs}
+use Rattle.guest_lockstep.specs.declared.input.Input.{Input}
+use Rattle.guest_lockstep.specs.declared.input.Input.TheVariants as input
 use Rattle.guest_trace.specs.declared.timed.Bare.{Bare}
 use Rattle.guest_trace.specs.declared.timed.Bare.TheVariants.{Rx, Sent, Sector, Written}
 use Rattle.guest_trace.specs.declared.timed.Timed.{Timed}

@@ -6,7 +6,7 @@ use crate::case::Case;
 use crate::done::Done;
 use crate::pair::boot;
 use event_callbacks::{Callbacks, Completes, OpId};
-use guest_board::{Input, Lockstep, StopReason};
+use guest_lockstep::{Input, Lockstep, StopReason};
 use i8080_words::{Fault, R};
 use std::alloc::Global;
 
@@ -41,7 +41,7 @@ pub fn run_alone<T: Completes + Drop, S: Completes + Drop, W: Completes + Drop>(
 
 // Lets a guest run until it prints a byte at port 0, which is accepted at once, or idles. Whether it printed one.
 fn go_on<B: Lockstep>(board: &mut B) -> R<bool> {
-    match guest_board::run(board, u64::MAX).reason {
+    match guest_lockstep::run(board, u64::MAX).reason {
         StopReason::Operation(OpId::Byte(0, _)) => {
             board.take(Input::Sent(0))?;
             Ok(true)

@@ -2,7 +2,8 @@
 
 use crate::slow_gate::SlowGate;
 use disk_dcdd::SectorWrite;
-use guest_board::{Reads, Setup};
+use guest_board::Setup;
+use guest_lockstep::Reads;
 use i8080_words::{Fault, R};
 use pair_threads::{Fate, Who};
 use std::alloc::Global;

@@ -3,7 +3,7 @@
 use crate::case::Case;
 use crate::difference::Difference;
 use crate::machine::{Machine, Reached};
-use guest_board::Lockstep;
+use guest_lockstep::Lockstep;
 use pair_threads::{GenerationEnd, Who};
 use shared_disk::MemoryStore;
 use std::alloc::Global;

@@ -6,7 +6,7 @@ use crate::case::Case;
 use crate::guests::{ECHO, KEEPER, ROUND_STEPS, computer, many_bytes};
 use crate::pair;
 use event_callbacks::Completes;
-use guest_board::Lockstep;
+use guest_lockstep::Lockstep;
 use i8080_words::R;
 use log_entry::Entry;
 use pair_threads::Gate;

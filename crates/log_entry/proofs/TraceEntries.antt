@@ -1,11 +1,11 @@
 -- The entries of a trace, move by move: a step adds a mark or nothing and raises the count, and an input adds its own
 -- entry at the current count. So the inputs come back in order, and no count is below the one before it.
 use Rattle.std.proofs.Common.{◌≡◌, ℕ, suc, ◌+◌, ◌≤◌, List, [], ◌∷◌, Some, None, refl, sym, ap, subst, arith}
-use Rattle.guest_board.specs.Machine.{Move, Do, Take}
-use Rattle.guest_board.specs.declared.input.Input.{Input}
-use Rattle.guest_board.specs.declared.input.Input.TheVariants.{Rx, Sent, Sector, Written}
-use Rattle.guest_board.specs.declared.reads.Reads.{Reads}
-use Rattle.guest_board.specs.declared.reads.Reads.TheVariants.{Logged, Shared}
+use Rattle.guest_lockstep.specs.Machine.{Move, Do, Take}
+use Rattle.guest_lockstep.specs.declared.input.Input.{Input}
+use Rattle.guest_lockstep.specs.declared.input.Input.TheVariants.{Rx, Sent, Sector, Written}
+use Rattle.guest_lockstep.specs.declared.reads.Reads.{Reads}
+use Rattle.guest_lockstep.specs.declared.reads.Reads.TheVariants.{Logged, Shared}
 use Rattle.guest_trace.specs.Reach.{timed, steps}
 use Rattle.guest_trace.specs.declared.timed.Timed.{Timed}
 use Rattle.log_entry.specs.declared.entry.Entry.{Entry}

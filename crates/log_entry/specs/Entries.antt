@@ -2,11 +2,11 @@
 use Rattle.std.specs.Prelude.{ℕ, suc, Bool, true, false, Option, Some, None, List, [], ◌∷◌, ◌++◌}
 use Rattle.std.specs.Option.{option_map}
 use Rattle.event_callbacks.specs.declared.operations.Operation.{Operation}
-use Rattle.guest_board.specs.Machine.{Move, Do, Take}
-use Rattle.guest_board.specs.declared.input.Input.{Input}
-use Rattle.guest_board.specs.declared.input.Input.TheVariants as input
-use Rattle.guest_board.specs.declared.reads.Reads.{Reads}
-use Rattle.guest_board.specs.declared.reads.Reads.TheVariants.{Logged, Shared}
+use Rattle.guest_lockstep.specs.Machine.{Move, Do, Take}
+use Rattle.guest_lockstep.specs.declared.input.Input.{Input}
+use Rattle.guest_lockstep.specs.declared.input.Input.TheVariants as input
+use Rattle.guest_lockstep.specs.declared.reads.Reads.{Reads}
+use Rattle.guest_lockstep.specs.declared.reads.Reads.TheVariants.{Logged, Shared}
 use Rattle.guest_trace.specs.declared.timed.Bare.{Bare}
 use Rattle.guest_trace.specs.declared.timed.Bare.TheVariants as bare
 use Rattle.guest_trace.specs.declared.timed.Timed.{Timed}

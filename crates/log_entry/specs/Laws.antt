@@ -1,7 +1,7 @@
 -- What code that keeps or sends entries may rely on.
 use Rattle.std.specs.Prelude.{◌≡◌, ℕ, ◌+◌, ◌≤◌, List, [], ◌∷◌, Some}
-use Rattle.guest_board.specs.Machine.{Move}
-use Rattle.guest_board.specs.declared.reads.Reads.{Reads}
+use Rattle.guest_lockstep.specs.Machine.{Move}
+use Rattle.guest_lockstep.specs.declared.reads.Reads.{Reads}
 use Rattle.guest_trace.specs.Reach.{inputs, steps}
 use Rattle.log_entry.specs.declared.entry.Entry.{Entry}
 use Rattle.log_entry.specs.Entries.{count_of, entries, inputs_of, last_count}

@@ -3,7 +3,7 @@
 ghost use Rattle.std.specs.Prelude.{◌≡◌, ◌<◌, ◌^◌};
 
 use disk_dcdd::SECTOR_BYTES;
-use guest_board::{Input, Reads};
+use guest_lockstep::{Input, Reads};
 use guest_trace::{Bare, Timed};
 
 /// What one input or one operation appends to the log, with its count (VMware FT, section 2.1, "log entries").
@@ -47,7 +47,7 @@ pub enum Entry {
 }
 
 impl Entry {
-    ghost use Rattle.guest_board.specs.Lockstep.{IsInput, IsNumbered};
+    ghost use Rattle.guest_lockstep.specs.Lockstep.{IsInput, IsNumbered};
     ghost use Rattle.log_entry.specs.Entries.{count_of, entry_of, input_of, read_of, timed_of};
     ghost use Rattle.log_entry.specs.Spelling.{IsEntry};
 

@@ -1,8 +1,8 @@
 //! What follows from the definitions alone.
 
 ghost use Rattle.std.specs.Prelude.{ℕ, List};
-ghost use Rattle.guest_board.specs.Machine.{Move};
-ghost use Rattle.guest_board.specs.declared.reads.Reads.{Reads};
+ghost use Rattle.guest_lockstep.specs.Machine.{Move};
+ghost use Rattle.guest_lockstep.specs.declared.reads.Reads.{Reads};
 ghost use Rattle.log_entry.specs.Laws.{KeepsInputs, OneMeaning, OneSpelling, ReadsAgain, StandInOrder};
 
 /// What is written is read back, nothing else is read as it, and no two entries are written alike.

@@ -1,7 +1,7 @@
 //! What entries look like in bytes, and that other bytes are no entries.
 
 use crate::{Entry, size};
-use guest_board::{Input, Reads};
+use guest_lockstep::{Input, Reads};
 use guest_trace::{Bare, Timed};
 use i8080_words::{Fault, R};
 use std::alloc::Global;

@@ -7,7 +7,7 @@ use Rattle.disk_dcdd.specs.declared.sector.SectorWrite.{SectorWrite}
 use Rattle.event_callbacks.specs.declared.operations.OpId.TheVariants as id
 use Rattle.event_callbacks.specs.declared.operations.Operation.TheVariants.{Byte, Write}
 use Rattle.guest_board.specs.Guest.{altair}
-use Rattle.guest_board.specs.Machine.{Do, Move, Take}
+use Rattle.guest_lockstep.specs.Machine.{Do, Move, Take}
 use Rattle.guest_board.specs.declared.setup.Setup.{Setup}
 use Rattle.guest_trace.specs.Reach.{Reach, image, operations, writes}
 use Rattle.guest_trace.specs.declared.timed.Bare.TheVariants.{Written}

@@ -12,9 +12,9 @@ use Rattle.event_callbacks.specs.declared.operations.OpId.TheVariants as id
 use Rattle.event_callbacks.specs.declared.operations.Operation.{Operation}
 use Rattle.event_callbacks.specs.declared.operations.Operation.TheVariants.{Write}
 use Rattle.guest_board.specs.Guest.{Guest, after_rx, after_sector, after_sent, after_written, altair, oldest_byte, take_from}
-use Rattle.guest_board.specs.Machine.{Do, Move, Take}
-use Rattle.guest_board.specs.declared.input.Input.{Input}
-use Rattle.guest_board.specs.declared.input.Input.TheVariants as input
+use Rattle.guest_lockstep.specs.Machine.{Do, Move, Take}
+use Rattle.guest_lockstep.specs.declared.input.Input.{Input}
+use Rattle.guest_lockstep.specs.declared.input.Input.TheVariants as input
 use Rattle.guest_board.specs.declared.setup.Setup.{Setup}
 use Rattle.guest_trace.specs.Reach.{bare, inputs, steps}
 use Rattle.guest_trace.specs.declared.timed.Bare.TheVariants.{Written}
@@ -98,13 +98,12 @@ gone start moves g u number d h =
     let t = cond_some (is_outstanding g.devices.disk number) (after_written g number) u h in
     let f = any-find (λ (p : Place). p.number == number) g.devices.disk.outstanding t.0 in
     let r = d.from f.0 f.1 in
-    let is : r.0.number ≡ number = ap (λ (p : Place). p.number) r.2 ∙ eqb-true f.0.number number f.2 in
-    (
+    let is : r.0.number ≡ number = ap (λ (p : Place). p.number) r.2 ∙ eqb-true f.0.number number f.2 in (
       r.0,
       d.are_given.given (id.Write r.0.number) (Write r.0) r.1,
       is,
       λ a. (without-cases g.operations (id.Write number) (id.Write r.0.number) (Write r.0)
-      (subst (λ (v : Guest). Has v.operations r.0) (sym t.1) a)).1 (ap id.Write is),
+          (subst (λ (v : Guest). Has v.operations r.0) (sym t.1) a)).1 (ap id.Write is),
     )
 
 dones-take : Apart → (start : SectorAddress → List ℕ) (moves : List Move) (g u : Guest) (i : Input)

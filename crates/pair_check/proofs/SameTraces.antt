@@ -9,9 +9,9 @@ use Rattle.disk_dcdd.specs.declared.address.SectorAddress.{SectorAddress}
 use Rattle.disk_dcdd.specs.declared.sector.TheConstants.{SECTORS}
 use Rattle.event_callbacks.specs.declared.operations.Operation.{Operation}
 use Rattle.guest_board.specs.Guest.{Guest, address_under, after_sector, altair, guest_at_boot, step_from, take_from}
-use Rattle.guest_board.specs.Machine.{Do, Move, Runs, Take}
-use Rattle.guest_board.specs.declared.input.Input.{Input}
-use Rattle.guest_board.specs.declared.input.Input.TheVariants as input
+use Rattle.guest_lockstep.specs.Machine.{Do, Move, Runs, Take}
+use Rattle.guest_lockstep.specs.declared.input.Input.{Input}
+use Rattle.guest_lockstep.specs.declared.input.Input.TheVariants as input
 use Rattle.guest_board.specs.declared.setup.Setup.{Setup}
 use Rattle.guest_trace.specs.Reach.{Own, Owns, Reach, image, image_from, inputs}
 use Rattle.guest_trace.specs.declared.timed.Timed.{Timed}
@@ -65,10 +65,10 @@ module _ (setup : Setup) (one other : SectorAddress → List ℕ) where
     owns_alike before (Take i ∷ moves) s t reach r o = (
       own_alike before s r.0 i reach r.1 o.0,
       λ u h.
-      let same : r.0 ≡ u = same_some r.0 u (take_from s i) r.1 h in
-      owns_alike (before ++ Take i ∷ []) moves u t
-      (runs-append (altair setup one) (guest_at_boot setup) s u before (Take i ∷ []) reach (u, h, refl))
-      (subst (λ v. Runs (altair setup one) v moves t) same r.2) (o.1 u h),
+          let same : r.0 ≡ u = same_some r.0 u (take_from s i) r.1 h in
+          owns_alike (before ++ Take i ∷ []) moves u t
+          (runs-append (altair setup one) (guest_at_boot setup) s u before (Take i ∷ []) reach (u, h, refl))
+          (subst (λ v. Runs (altair setup one) v moves t) same r.2) (o.1 u h),
     )
 
     pub reach_alike : (list : List Timed) (count : ℕ) (moves : List Move) → Reach (altair setup one) list count moves

@@ -10,7 +10,7 @@ use Rattle.disk_dcdd.specs.declared.sector.SectorWrite.{SectorWrite}
 use Rattle.ft_world.proofs.Applying.{shown_is_faithful}
 use Rattle.guest_board.specs.Guest.{Guest, altair}
 use Rattle.guest_board.specs.Inputs.{some_altair}
-use Rattle.guest_board.specs.Machine.{Machine, Move}
+use Rattle.guest_lockstep.specs.Machine.{Machine, Move}
 use Rattle.guest_board.specs.declared.setup.Setup.{Setup}
 use Rattle.guest_trace.specs.Reach.{Reach, image, output, writes}
 use Rattle.guest_trace.specs.declared.timed.Timed.{Timed}

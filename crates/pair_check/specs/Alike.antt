@@ -6,7 +6,7 @@ use Rattle.disk_dcdd.specs.declared.address.SectorAddress.{SectorAddress}
 use Rattle.disk_dcdd.specs.declared.sector.SectorWrite.{SectorWrite}
 use Rattle.guest_board.specs.Guest.{Guest, altair, guest_at_boot}
 use Rattle.guest_board.specs.Inputs.{some_altair}
-use Rattle.guest_board.specs.Machine.{Machine}
+use Rattle.guest_lockstep.specs.Machine.{Machine}
 use Rattle.guest_board.specs.declared.setup.Setup.{Setup}
 use Rattle.guest_trace.specs.Reach.{image, output, writes}
 use Rattle.guest_trace.specs.declared.timed.Timed.{Timed}

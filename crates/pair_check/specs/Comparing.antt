@@ -4,7 +4,7 @@ use Rattle.disk_dcdd.specs.Address.{address_of, has_sector}
 use Rattle.disk_dcdd.specs.declared.address.SectorAddress.{SectorAddress}
 use Rattle.disk_dcdd.specs.declared.sector.SectorWrite.{SectorWrite}
 use Rattle.guest_board.specs.Guest.{Guest}
-use Rattle.guest_board.specs.Machine.{Machine, Move}
+use Rattle.guest_lockstep.specs.Machine.{Machine, Move}
 use Rattle.i8080_words.specs.declared.refusal.Fault.{Fault}
 use Rattle.i8080_words.specs.declared.refusal.Fault.TheVariants.{OutOfMemory}
 use Rattle.guest_trace.specs.Reach.{Reach, output, writes, image}

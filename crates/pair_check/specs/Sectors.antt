@@ -2,7 +2,7 @@
 use Rattle.guest_board.specs.Guest.{Guest}
 use Rattle.std.specs.Prelude.{◌≡◌, ℕ, ◌<◌, ◌⊎◌, Bool, false, IsTrue, List}
 use Rattle.disk_dcdd.specs.declared.address.SectorAddress.{SectorAddress}
-use Rattle.guest_board.specs.Machine.{Machine}
+use Rattle.guest_lockstep.specs.Machine.{Machine}
 use Rattle.plain_single.specs.SingleState.{SingleState}
 use Rattle.plain_single.specs.Image.{sector_at}
 use Rattle.guest_trace.specs.declared.timed.Timed.{Timed}

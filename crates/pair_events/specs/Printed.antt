@@ -3,10 +3,10 @@ use Rattle.std.specs.Prelude.{ℕ, ◌/◌, ◌%◌, true, List, [], ◌∷◌, 
 use Rattle.std.specs.List.{flat_map}
 use Rattle.std.specs.Fmt.{decimal, digit_glyph}
 use Rattle.event_callbacks.specs.declared.operations.OpId.TheVariants as id
-use Rattle.guest_board.specs.declared.replay_end.ReplayEnd.{ReplayEnd}
-use Rattle.guest_board.specs.declared.replay_end.ReplayEnd.TheVariants as ended
-use Rattle.guest_board.specs.declared.running.StopReason.{StopReason}
-use Rattle.guest_board.specs.declared.running.StopReason.TheVariants as stopped
+use Rattle.guest_lockstep.specs.declared.replay_end.ReplayEnd.{ReplayEnd}
+use Rattle.guest_lockstep.specs.declared.replay_end.ReplayEnd.TheVariants as ended
+use Rattle.guest_lockstep.specs.declared.running.StopReason.{StopReason}
+use Rattle.guest_lockstep.specs.declared.running.StopReason.TheVariants as stopped
 use Rattle.i8080_words.specs.declared.refusal.Fault.{Fault}
 use Rattle.i8080_words.specs.declared.refusal.Fault.TheVariants.{Idle, Spent}
 use Rattle.i8080_words.specs.Refusals.{number_of}

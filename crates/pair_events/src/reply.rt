@@ -4,7 +4,7 @@ ghost use Rattle.std.specs.Prelude.{Some};
 ghost use Rattle.pair_events.specs.Printed.{reply_text, role_text, why_text};
 
 use event_callbacks::OpId;
-use guest_board::{ReplayEnd, StopReason};
+use guest_lockstep::{ReplayEnd, StopReason};
 use i8080_words::Fault;
 use std::fmt;
 

@@ -1,7 +1,7 @@
 //! The words of a script's output.
 use crate::{Answer, Event, Reply, Role};
 use event_callbacks::OpId;
-use guest_board::{ReplayEnd, StopReason};
+use guest_lockstep::{ReplayEnd, StopReason};
 use i8080_words::Fault;
 use std::test::Fail;
 

@@ -5,7 +5,7 @@ use Rattle.std.specs.Result.{IsErrAnd}
 use Rattle.std.specs.Io.KnownBytes.{Appends, Keeps, append_known}
 use Rattle.altair_copies.specs.Copies.{image_copy}
 use Rattle.guest_board.specs.Guest.{altair}
-use Rattle.guest_board.specs.Machine.{Machine}
+use Rattle.guest_lockstep.specs.Machine.{Machine}
 use Rattle.pair_protocol.specs.Copying.{Copying}
 use Rattle.pair_protocol.specs.World.{World}
 use Rattle.pair_main.specs.Answering.{AddsAnswers, Answered, Asks, Booted, ByRow, Happen, NoLine, Nothing, Replies, Tells, text_of}
@@ -200,9 +200,11 @@ pub prints_nothing : (order : Order) (setup : ScriptSetup) (lines : List Line) (
     (result : Result (Unit {0}) Failure) (old new : Option (List ℕ)) → IsErrAnd result (λ e. e ≡ failure.OutOfMemory)
     → Keeps old new → Prints order setup lines result old new
 prints_nothing order setup lines booted (Ok done) old new is k = absurd is
-prints_nothing Script setup lines booted (Err e) old new is k =
-    (booted, subst (λ f. AnswersBut (altair setup.guest booted.start) (image_copy setup.guest.drives) booted.world lines f old new)
-    (sym is) (0, booted.world, adds_none (altair setup.guest booted.start) (image_copy setup.guest.drives) booted.world old new k))
+prints_nothing Script setup lines booted (Err e) old new is k = (
+  booted,
+  subst (λ f. AnswersBut (altair setup.guest booted.start) (image_copy setup.guest.drives) booted.world lines f old new)
+      (sym is) (0, booted.world, adds_none (altair setup.guest booted.start) (image_copy setup.guest.drives) booted.world old new k),
+)
 prints_nothing Check setup lines booted (Err e) old new is k =
     (booted, subst (λ f. PrintsBut (IsSameAfter setup booted lines) f old new) (sym is) k)
 

@@ -11,7 +11,7 @@ use Rattle.ft_world.specs.Standing.{Course, machine_of}
 use Rattle.ft_world.specs.Words.{answer_of, event_of}
 use Rattle.ft_world.specs.declared.hosts.NodeStatus.{NodeStatus}
 use Rattle.guest_board.specs.Guest.{Guest}
-use Rattle.guest_board.specs.Machine.{Machine}
+use Rattle.guest_lockstep.specs.Machine.{Machine}
 use Rattle.i8080_words.specs.declared.refusal.Fault.{Fault}
 use Rattle.pair_check.specs.Disks.{Disk, records_in}
 use Rattle.pair_events.specs.declared.event.Event.{Event}

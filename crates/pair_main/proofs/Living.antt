@@ -7,7 +7,7 @@ use Rattle.disk_dcdd.specs.declared.sector.SectorWrite.{SectorWrite}
 use Rattle.disk_dcdd.specs.declared.sector.TheConstants.{SECTOR_BYTES}
 use Rattle.guest_board.specs.Guest.{Guest, guest_at_boot}
 use Rattle.guest_board.specs.Inputs.{some_altair}
-use Rattle.guest_board.specs.Machine.{booted_from}
+use Rattle.guest_lockstep.specs.Machine.{booted_from}
 use Rattle.log_entry.specs.declared.entry.Entry.{Entry}
 use Rattle.pair_main.specs.Living.{AreBooted, EndsOf, PrintsLive, PrintsNone, end_text, typed_by, typed_in, with_byte}
 use Rattle.pair_main.specs.Reports.{AddsLine}

@@ -25,7 +25,7 @@ use Rattle.script_language.specs.declared.line.Line.{Line}
 use Rattle.ft_world.specs.Running.{Running}
 use Rattle.guest_board.specs.Guest.{Guest, altair, guest_at_boot}
 use Rattle.guest_board.specs.Inputs.{some_altair}
-use Rattle.guest_board.specs.Machine.{Machine}
+use Rattle.guest_lockstep.specs.Machine.{Machine}
 use Rattle.pair_check.specs.Alike.{BeginAlike}
 use Rattle.pair_check.specs.Disks.{Disk}
 use Rattle.pair_protocol.specs.World.{World, opening, with_host}
@@ -108,9 +108,11 @@ module _ {B H : Type 0} (state : B → Guest) (setup : ScriptSetup) (lines given
       → AnswersLines (machine_of some_altair c) c.copying c.world given result old new)
       → Prints Script setup lines result old new
   unfolding first booted booted_as
-  prints_answers result old new answers =
-      (booted, subst (λ l. AnswersLines (altair setup.guest (bytes_in b.store)) (image_copy setup.guest.drives) b.world l result
-      old new) same (answers first b.shows))
+  prints_answers result old new answers = (
+    booted,
+    subst (λ l. AnswersLines (altair setup.guest (bytes_in b.store)) (image_copy setup.guest.drives) b.world l result
+        old new) same (answers first b.shows),
+  )
 
   -- by a check
   pub prints_verdict : ShownIsSame B H → (checked : List SectorWrite) → checked ≡ map boot_write setup.sectors.items
@@ -123,20 +125,19 @@ module _ {B H : Type 0} (state : B → Guest) (setup : ScriptSetup) (lines given
       → Prints Check setup lines result old new
   unfolding first booted booted_as
   prints_verdict law checked checked_are after result old new happened verdict =
-      let h = happened first b.shows in
-      (
+      let h = happened first b.shows in (
         booted,
         says_more
-        (IsVerdictOn (altair setup.guest (boot_sectors checked)) setup.guest.drives (altair setup.guest (bytes_in b.store))
-        h.after after.disk.store)
-        (IsSameAfter setup booted lines)
-        (λ found on. record {
-          after = h.after;
-          happen = subst (λ l. Happen (altair setup.guest (bytes_in b.store)) (image_copy setup.guest.drives) b.world l h.after)
-              same h.happen;
-          same = law state state setup.guest checked (bytes_in b.store) h.after after found
-              (subst (λ l. BeginAlike setup.guest.drives (bytes_in b.store) (boot_sectors l)) (sym checked_are) booted.sectors)
-              h.shows on;
-        })
-        result old new (verdict (record first { world = h.after }) h.shows),
+            (IsVerdictOn (altair setup.guest (boot_sectors checked)) setup.guest.drives (altair setup.guest (bytes_in b.store))
+            h.after after.disk.store)
+            (IsSameAfter setup booted lines)
+            (λ found on. record {
+              after = h.after;
+              happen = subst (λ l. Happen (altair setup.guest (bytes_in b.store)) (image_copy setup.guest.drives) b.world l h.after)
+                  same h.happen;
+              same = law state state setup.guest checked (bytes_in b.store) h.after after found
+                  (subst (λ l. BeginAlike setup.guest.drives (bytes_in b.store) (boot_sectors l)) (sym checked_are) booted.sectors)
+                  h.shows on;
+            })
+            result old new (verdict (record first { world = h.after }) h.shows),
       )

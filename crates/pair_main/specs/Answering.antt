@@ -4,7 +4,7 @@ use Rattle.std.specs.Io.KnownBytes.{Appends}
 use Rattle.disk_dcdd.specs.declared.address.SectorAddress.{SectorAddress}
 use Rattle.ft_world.specs.Words.{answer_of, event_of}
 use Rattle.guest_board.specs.Guest.{Guest, altair}
-use Rattle.guest_board.specs.Machine.{Machine}
+use Rattle.guest_lockstep.specs.Machine.{Machine}
 use Rattle.i8080_words.specs.declared.refusal.Fault.{Fault}
 use Rattle.pair_check.specs.Alike.{BeginAlike}
 use Rattle.pair_events.specs.declared.event.Event.{Event}

@@ -3,7 +3,7 @@ use Rattle.std.specs.Prelude.{ℕ, Option, Some, List, Result, MatchResult, take
 use Rattle.std.specs.Io.KnownBytes.{Keeps}
 use Rattle.altair_copies.specs.Copies.{image_copy}
 use Rattle.guest_board.specs.Guest.{Guest, altair}
-use Rattle.guest_board.specs.Machine.{Machine}
+use Rattle.guest_lockstep.specs.Machine.{Machine}
 use Rattle.pair_protocol.specs.Copying.{Copying}
 use Rattle.pair_protocol.specs.World.{World}
 use Rattle.pair_main.specs.Answering.{AddsAnswers, Booted, Happen}

@@ -4,7 +4,7 @@ use Rattle.ft_world.specs.Applies.{Applies, Shows}
 use Rattle.ft_world.specs.Running.{Running}
 use Rattle.ft_world.specs.Standing.{Course, machine_of}
 use Rattle.guest_board.specs.Guest.{Guest}
-use Rattle.guest_board.specs.Machine.{Machine}
+use Rattle.guest_lockstep.specs.Machine.{Machine}
 use Rattle.i8080_words.specs.declared.refusal.Fault.{Fault}
 use Rattle.pair_check.specs.Disks.{Disk, records_in}
 use Rattle.pair_events.specs.declared.event.Event.{Event}

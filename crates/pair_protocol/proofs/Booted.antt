@@ -2,11 +2,11 @@
 -- is carried to the machine that boots elsewhere, and back by the same lemma.
 use Rattle.std.proofs.Common.{◌≡◌, Bool, List, Option, refl, ℕ}
 use Rattle.pair_protocol.proofs.Words.{Entry, Input, Machine, Move, Node, Reads, Role, SectorAddress, booted_from, keys_covered}
-use Rattle.guest_board.proofs.Booted.{Recorded-booted}
+use Rattle.guest_lockstep.proofs.Booted.{Recorded-booted}
 use Rattle.log_entry.specs.Standing.{IsOnTrace, Stands}
 use Rattle.pair_protocol.specs.Effects.{Advances, AtEnd, AwaitsBytes, Drained, Ends, Gives, Goes, IsBehind, NoMemory, NoTurns, NoneLeft, OneInput, OneMark, OneRead, OneStep, Replayed, Replays, Short, Stepped, Took, Waits}
-use Rattle.guest_board.specs.declared.replay_end.ReplayEnd.{ReplayEnd}
-use Rattle.guest_board.specs.declared.running.StopReason.{StopReason}
+use Rattle.guest_lockstep.specs.declared.replay_end.ReplayEnd.{ReplayEnd}
+use Rattle.guest_lockstep.specs.declared.running.StopReason.{StopReason}
 
 -- ---- to the machine that boots elsewhere
 

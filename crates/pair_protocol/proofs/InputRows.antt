@@ -2,7 +2,7 @@
 use Rattle.std.proofs.Common.{◌∙◌, ◌≡◌, ◌≤◌, None, Option, Some, ap, eqb-true, inl, inr, length, ltb-false, not, refl, subst, sym, true, ℕ}
 use Rattle.std.specs.Prelude.{◌==◌, slice_get}
 use Rattle.pair_protocol.proofs.Words.{Acts, AloneTakes, Among, Change, Changes, Copying, Input, Machine, MayTake, Node, PrimaryTakes, Role, SectorRead, Serving, World, WriteDone, accepted, refusal_of, same_address, terminal, with_node}
-use Rattle.guest_board.specs.declared.input.Input.TheVariants as input
+use Rattle.guest_lockstep.specs.declared.input.Input.TheVariants as input
 use Rattle.i8080_words.specs.declared.refusal.Fault.TheVariants.{NotDue, Unknown, WrongNumber}
 use Rattle.pair_protocol.specs.Effects.{took}
 use Rattle.pair_protocol.specs.Event.{GetReply, PutReply, Reply, TakeKey, TellSent}

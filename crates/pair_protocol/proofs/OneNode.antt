@@ -3,7 +3,7 @@ use Rattle.std.proofs.Common.{[], ◌∙◌, ◌∷◌, ◌≡◌, Bool, List, N
 use Rattle.std.specs.Prelude.{◌==◌, slice_get, slice_set}
 use Rattle.pair_protocol.proofs.Words.{Acts, Alone, AloneSteps, Backup, Change, Changes, Copying, Draining, Entry, Joining, Machine, Mark, Node, Operation, Primary, PrimarySteps, Replaying, ReplaysInput, ReplaysMark, ReplaysRead, ReplaysStep, Role, Serving, Spare, Stays, Then, World, count_of, passes_input, passes_mark, passes_read, plainly_steps, read_of, with_node}
 use Rattle.pair_protocol.specs.Effects.{Advances, AtEnd, AwaitsBytes, Ends, Gives, Goes, NoMemory, NoTurns, NoneLeft, OneInput, OneMark, OneRead, OneStep, Replays, Short, Waits, read_at, stepped}
-use Rattle.guest_board.specs.declared.running.StopReason.{StopReason}
+use Rattle.guest_lockstep.specs.declared.running.StopReason.{StopReason}
 use Rattle.log_entry.specs.declared.entry.Entry.TheVariants as entry
 use Rattle.pair_protocol.proofs.Traces.Lists.{get_set, same_some}
 

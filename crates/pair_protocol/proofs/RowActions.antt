@@ -2,9 +2,9 @@
 use Rattle.std.proofs.Common.{[], ◌∙◌, ◌∷◌, ◌≡◌, ◌≤◌, Bool, List, None, Option, Some, ap, arith, cond, eqb-true, false, inl, inr, length, not, refl, subst, suc, sym, true, zero, ℕ}
 use Rattle.std.specs.Prelude.{◌&&◌, ◌==◌, is_none, slice_get}
 use Rattle.pair_protocol.proofs.Words.{Acknowledgement, Acts, Alone, AloneReleases, Backup, Change, Changes, Copying, Draining, Entry, GoesLive, ImagePart, Joining, LogEntry, Machine, Node, OpId, Operation, Primary, PrimaryReleases, Reads, Released, Role, SectorRead, Serving, Spare, Stays, Then, World, acts_as, covers, fetches, gets_part, halts, hears, holds, is_role, joins, keys_covered, note_of, replay_told, same_address, told_by, winner_in, with_message, with_node, with_told, with_winner}
-use Rattle.guest_board.specs.declared.reads.Reads.TheVariants.{Logged, Shared}
-use Rattle.guest_board.specs.declared.replay_end.ReplayEnd.{ReplayEnd}
-use Rattle.guest_board.specs.declared.replay_end.ReplayEnd.TheVariants.{End, Memory, Turns, Wait}
+use Rattle.guest_lockstep.specs.declared.reads.Reads.TheVariants.{Logged, Shared}
+use Rattle.guest_lockstep.specs.declared.replay_end.ReplayEnd.{ReplayEnd}
+use Rattle.guest_lockstep.specs.declared.replay_end.ReplayEnd.TheVariants.{End, Memory, Turns, Wait}
 use Rattle.i8080_words.specs.declared.refusal.Fault.TheVariants.{Lost, NotCovered, NotDue, NotWhole, StaleRead, Unknown, WrongGeneration, WrongRole}
 use Rattle.i8080_words.specs.declared.refusal.Fault.{Fault}
 use Rattle.pair_protocol.specs.Change.{Begins, Joins, ReadsSector, Wins}

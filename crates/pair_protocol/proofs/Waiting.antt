@@ -1,7 +1,7 @@
 -- What a log has for a write to wait for: with logged sectors nothing.
 use Rattle.std.proofs.Common.{[], ◌∙◌, ◌∷◌, ◌≡◌, List, None, Some, ap, false, refl, suc, ℕ}
-use Rattle.guest_board.specs.declared.reads.Reads.TheVariants.{Logged}
-use Rattle.guest_board.specs.declared.input.Input.TheVariants as input
+use Rattle.guest_lockstep.specs.declared.reads.Reads.TheVariants.{Logged}
+use Rattle.guest_lockstep.specs.declared.input.Input.TheVariants as input
 use Rattle.pair_protocol.proofs.Words.{Byte, Do, Input, Move, Operation, Take, Write, entries, entry_of, is_read}
 use Rattle.pair_protocol.specs.Waiting.{reads_in, up_to_read, waits_for}
 

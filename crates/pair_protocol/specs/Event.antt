@@ -1,8 +1,8 @@
 -- The events of a world, one for each row of a script, and their replies.
 use Rattle.std.specs.Prelude.{ℕ, Bool, true, false}
 use Rattle.event_callbacks.specs.declared.operations.OpId.{OpId}
-use Rattle.guest_board.specs.declared.replay_end.ReplayEnd.{ReplayEnd}
-use Rattle.guest_board.specs.declared.running.StopReason.{StopReason}
+use Rattle.guest_lockstep.specs.declared.replay_end.ReplayEnd.{ReplayEnd}
+use Rattle.guest_lockstep.specs.declared.running.StopReason.{StopReason}
 use Rattle.i8080_words.specs.declared.refusal.Fault.{Fault}
 
 -- n is a node, m a message

@@ -1,6 +1,6 @@
 -- How one event may change what is settled: it only grows, and no winner loses.
 use Rattle.std.specs.Prelude.{◌≡◌, ℕ, ◌≤◌, Some, None, List, [], ◌∷◌, ◌++◌, slice_get}
-use Rattle.guest_board.specs.Machine.{Machine}
+use Rattle.guest_lockstep.specs.Machine.{Machine}
 use Rattle.guest_trace.specs.declared.timed.Timed.{Timed}
 use Rattle.pair_protocol.specs.Node.{Node}
 use Rattle.pair_protocol.specs.World.{World, winner_in}

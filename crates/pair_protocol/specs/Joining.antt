@@ -1,6 +1,6 @@
 -- The parts that are sent: each is of a machine that is reached from boot, and a joining node is given those of one.
 use Rattle.std.specs.Prelude.{◌≡◌, ℕ, Some, List, [], slice_get}
-use Rattle.guest_board.specs.Machine.{Machine, Move}
+use Rattle.guest_lockstep.specs.Machine.{Machine, Move}
 use Rattle.guest_trace.specs.Reach.{Owns}
 use Rattle.pair_protocol.specs.Copying.{Copying, IsCopying, Makes}
 use Rattle.pair_protocol.specs.Lawful.{Among, Lawful, Reaches}

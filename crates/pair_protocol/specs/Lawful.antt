@@ -8,10 +8,10 @@ use Rattle.event_callbacks.specs.declared.operations.OpId.{OpId}
 use Rattle.event_callbacks.specs.declared.operations.OpId.TheVariants as id
 use Rattle.event_callbacks.specs.declared.operations.Operation.{Operation}
 use Rattle.event_callbacks.specs.declared.operations.Operation.TheVariants.{Byte, Write}
-use Rattle.guest_board.specs.Lockstep.{IsInput, HasRoom}
-use Rattle.guest_board.specs.Machine.{Machine, Move, Do, Runs, refusal_of}
-use Rattle.guest_board.specs.Outstanding.{AreFew}
-use Rattle.guest_board.specs.declared.input.Input.{Input}
+use Rattle.guest_lockstep.specs.Lockstep.{IsInput, HasRoom}
+use Rattle.guest_lockstep.specs.Machine.{Machine, Move, Do, Runs, refusal_of}
+use Rattle.guest_lockstep.specs.Outstanding.{AreFew}
+use Rattle.guest_lockstep.specs.declared.input.Input.{Input}
 use Rattle.guest_trace.specs.Reach.{inputs, steps, operations, output, keys, acceptances, image}
 use Rattle.guest_trace.specs.declared.timed.Bare.TheVariants.{Written}
 

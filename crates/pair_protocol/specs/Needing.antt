@@ -1,6 +1,6 @@
 -- Which events are never refused as out of memory, and where a replay may stop for lack of it.
 use Rattle.std.specs.Prelude.{◌≡◌, ◌≢◌, ℕ, ◌<◌, ◌⊎◌, Some, is_none, false, length, slice_get}
-use Rattle.guest_board.specs.Machine.{Machine}
+use Rattle.guest_lockstep.specs.Machine.{Machine}
 use Rattle.i8080_words.specs.declared.refusal.Fault.TheVariants.{OutOfMemory}
 use Rattle.log_entry.specs.Entries.{count_of}
 use Rattle.log_entry.specs.declared.entry.Entry.{Entry}

@@ -1,7 +1,7 @@
 -- What holds of each node of a world that actions reach: its machine, the keys that it took, its log, and what it has
 -- still to replay.
 use Rattle.std.specs.Prelude.{◌≡◌, ℕ, ◌≤◌, ◌⊎◌, List, length, drop}
-use Rattle.guest_board.specs.Machine.{Machine, Move}
+use Rattle.guest_lockstep.specs.Machine.{Machine, Move}
 use Rattle.log_entry.specs.Standing.{IsOnTrace}
 use Rattle.guest_trace.specs.Reach.{keys}
 use Rattle.pair_protocol.specs.Lawful.{Reaches}

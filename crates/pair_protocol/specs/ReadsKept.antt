@@ -1,6 +1,6 @@
 -- Reads kept: no read that is still to be replayed finds its bytes overwritten.
 use Rattle.std.specs.Prelude.{◌≡◌, ℕ, ◌≤◌, ◌⊎◌, Some, None, List, ◌++◌, take, slice_get}
-use Rattle.guest_board.specs.Machine.{Machine, Move}
+use Rattle.guest_lockstep.specs.Machine.{Machine, Move}
 use Rattle.log_entry.specs.Entries.{inputs_of}
 use Rattle.log_entry.specs.declared.entry.Entry.TheVariants.{Read}
 use Rattle.guest_trace.specs.Reach.{Reach}

@@ -1,6 +1,6 @@
 -- One row: an event, its reply or refusal, and the world after it. And whole runs.
 use Rattle.std.specs.Prelude.{◌≡◌, ℕ, ◌<◌, IsTrue, Some, None, List, [], ◌∷◌, slice_get}
-use Rattle.guest_board.specs.Machine.{Machine}
+use Rattle.guest_lockstep.specs.Machine.{Machine}
 use Rattle.i8080_words.specs.declared.refusal.Fault.{Fault}
 use Rattle.i8080_words.specs.declared.refusal.Fault.TheVariants.{Lost, DeviceFault, OutOfMemory}
 use Rattle.log_entry.specs.declared.entry.Entry.{Entry}

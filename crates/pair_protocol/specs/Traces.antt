@@ -1,7 +1,7 @@
 -- Facts about traces alone, for the layers above: one trace for each list and count, and what its first entries give.
 use Rattle.std.specs.Prelude.{◌≡◌, ℕ, zero, suc, ◌≤◌, Some, None, List, [], ◌∷◌, length, take, replicate}
-use Rattle.guest_board.specs.Machine.{Machine, Move, Do, Take, Runs}
-use Rattle.guest_board.specs.declared.reads.Reads.{Reads}
+use Rattle.guest_lockstep.specs.Machine.{Machine, Move, Do, Take, Runs}
+use Rattle.guest_lockstep.specs.declared.reads.Reads.{Reads}
 use Rattle.log_entry.specs.Entries.{entries, inputs_of, last_count}
 use Rattle.guest_trace.specs.Reach.{steps, Reach}
 use Rattle.guest_trace.specs.declared.timed.Timed.{Timed}

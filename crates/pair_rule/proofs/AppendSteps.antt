@@ -1,11 +1,11 @@
 -- An append is events of the world: what a run of the longer list says of its last move, and what the primary was told.
 use Rattle.std.proofs.Common.{◌≡◌, ℕ, ◌+◌, ◌≤◌, List, [], ◌∷◌, ◌++◌, length, sym, refl, ap, ◌∙◌, arith, eq-eqb, Option, Some, None, is_none, if◌then◌else◌, slice_get}
-use Rattle.guest_board.specs.Machine.{Machine, Move, Runs, refusal_of, sector_refusal}
-use Rattle.guest_board.specs.Recorded.{Accepts, Recorded}
-use Rattle.guest_board.specs.Running.{Quiet}
-use Rattle.guest_board.specs.declared.input.Input.{Input}
-use Rattle.guest_board.specs.declared.input.Input.TheVariants as input
-use Rattle.guest_board.specs.declared.reads.Reads.TheVariants.{Logged}
+use Rattle.guest_lockstep.specs.Machine.{Machine, Move, Runs, refusal_of, sector_refusal}
+use Rattle.guest_lockstep.specs.Recorded.{Accepts, Recorded}
+use Rattle.guest_lockstep.specs.Running.{Quiet}
+use Rattle.guest_lockstep.specs.declared.input.Input.{Input}
+use Rattle.guest_lockstep.specs.declared.input.Input.TheVariants as input
+use Rattle.guest_lockstep.specs.declared.reads.Reads.TheVariants.{Logged}
 use Rattle.i8080_words.specs.declared.refusal.Fault.TheVariants.{NotDue}
 use Rattle.log_entry.specs.Entries.{entries, entry_of, inputs_of}
 use Rattle.log_entry.specs.declared.entry.Entry.{Entry}

@@ -3,8 +3,8 @@ use Rattle.std.proofs.Common.{◌≡◌, ℕ, zero, suc, ◌+◌, ◌<◌, List,
 use Rattle.event_callbacks.specs.Operations.{id_of}
 use Rattle.event_callbacks.specs.declared.operations.Operation.{Operation}
 use Rattle.event_callbacks.specs.declared.operations.Operation.TheVariants.{Byte}
-use Rattle.guest_board.specs.Machine.{Machine}
-use Rattle.guest_board.specs.declared.reads.Reads.TheVariants.{Logged}
+use Rattle.guest_lockstep.specs.Machine.{Machine}
+use Rattle.guest_lockstep.specs.declared.reads.Reads.TheVariants.{Logged}
 use Rattle.log_entry.specs.Entries.{entries}
 use Rattle.guest_trace.specs.Reach.{steps}
 use Rattle.pair_protocol.specs.Change.{Reached}

@@ -2,7 +2,7 @@
 use Rattle.std.proofs.Common.{◌≡◌, ℕ, zero, suc, ◌<◌, Bool, true, false, List, [], ◌∷◌, ◌++◌, length, refl, ap, ◌⊎◌, inl, inr, ⊎_elim, arith, Option, Some, None, slice_get, nat_le}
 use Rattle.disk_dcdd.specs.Address.{same_address}
 use Rattle.disk_dcdd.specs.declared.address.SectorAddress.{SectorAddress}
-use Rattle.guest_board.specs.Machine.{Machine}
+use Rattle.guest_lockstep.specs.Machine.{Machine}
 use Rattle.guest_trace.specs.declared.timed.Bare.{Bare}
 use Rattle.guest_trace.specs.declared.timed.Bare.TheVariants.{Written}
 use Rattle.i8080_words.specs.declared.limits.TheConstants.{GREATEST_NUMBER}

@@ -1,11 +1,11 @@
 -- Steps that give nothing: the moves that they are, and what these leave as it was.
 use Rattle.std.proofs.Common.{◌≡◌, ℕ, suc, ◌+◌, List, [], ◌∷◌, ◌++◌, sym, refl, ap, ◌∙◌, subst, arith, Bool, true, false, cond, is_none, Option, Some, None, append-nil, append_assoc}
 use Rattle.event_callbacks.specs.declared.operations.Operation.{Operation}
-use Rattle.guest_board.specs.Machine.{Machine, Move, Do, Take}
-use Rattle.guest_board.specs.Recorded.{Counts, Recorded}
-use Rattle.guest_board.specs.Running.{Quiet, Begin, More}
-use Rattle.guest_board.specs.Outstanding.{ComesAndGoes}
-use Rattle.guest_board.specs.declared.reads.Reads.TheVariants.{Logged}
+use Rattle.guest_lockstep.specs.Machine.{Machine, Move, Do, Take}
+use Rattle.guest_lockstep.specs.Recorded.{Counts, Recorded}
+use Rattle.guest_lockstep.specs.Running.{Quiet, Begin, More}
+use Rattle.guest_lockstep.specs.Outstanding.{ComesAndGoes}
+use Rattle.guest_lockstep.specs.declared.reads.Reads.TheVariants.{Logged}
 use Rattle.event_callbacks.specs.declared.operations.OpId.{OpId}
 use Rattle.i8080_words.specs.declared.refusal.Fault.TheVariants.{Spent, Idle}
 use Rattle.log_entry.specs.Entries.{entries, entry_of, marks}

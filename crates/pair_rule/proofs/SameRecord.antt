@@ -7,9 +7,9 @@ use Rattle.disk_dcdd.specs.declared.sector.SectorWrite.{SectorWrite}
 use Rattle.event_callbacks.specs.Operations.{id_of}
 use Rattle.event_callbacks.specs.declared.operations.Operation.{Operation}
 use Rattle.event_callbacks.specs.declared.operations.Operation.TheVariants.{Byte, Write}
-use Rattle.guest_board.specs.Machine.{Machine, Move, Runs, refusal_of, sector_refusal}
-use Rattle.guest_board.specs.Running.{Quiet}
-use Rattle.guest_board.specs.declared.input.Input.TheVariants as input
+use Rattle.guest_lockstep.specs.Machine.{Machine, Move, Runs, refusal_of, sector_refusal}
+use Rattle.guest_lockstep.specs.Running.{Quiet}
+use Rattle.guest_lockstep.specs.declared.input.Input.TheVariants as input
 use Rattle.i8080_words.specs.declared.refusal.Fault.TheVariants.{NotDue, SectorBusy, StaleRead, Unknown}
 use Rattle.guest_trace.specs.Reach.{inputs, operations, steps}
 use Rattle.guest_trace.specs.declared.timed.Timed.{Timed}

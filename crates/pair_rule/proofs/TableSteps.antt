@@ -2,7 +2,7 @@
 use Rattle.std.proofs.Common.{◌≡◌, ℕ, zero, suc, ◌<◌, ◌≤◌, List, sym, refl, ap, ◌∙◌, subst, inl, inr, ◌⊎◌, arith, Option, Some, None}
 use Rattle.event_callbacks.specs.declared.operations.Operation.{Operation}
 use Rattle.event_callbacks.specs.declared.operations.Operation.TheVariants.{Byte, Write}
-use Rattle.guest_board.specs.Machine.{Machine}
+use Rattle.guest_lockstep.specs.Machine.{Machine}
 use Rattle.pair_rule.specs.declared.mailbox.Mailbox.{Mailbox}
 use Rattle.pair_rule.specs.declared.mailbox.Mailbox.TheVariants.{Outbox, Inbox, Bytes0, Bytes1, Requests, Answers}
 use Rattle.pair_rule.specs.declared.payload.DiskAnswer.TheVariants as answer

@@ -2,9 +2,9 @@
 -- copy, and what was sent, accepted and written. Both log the sectors that the primary reads with their bytes.
 use Rattle.std.specs.Prelude.{◌≡◌, ◌⊎◌, ◌<◌, length, ℕ, zero, suc, Bool, true, false, Option, Some, None, List, [], ◌∷◌, ◌++◌, map, slice_get}
 use Rattle.event_callbacks.specs.declared.operations.Operation.{Operation}
-use Rattle.guest_board.specs.Machine.{Machine, Move, Do, Take}
-use Rattle.guest_board.specs.Recorded.{Recorded}
-use Rattle.guest_board.specs.declared.reads.Reads.TheVariants.{Logged}
+use Rattle.guest_lockstep.specs.Machine.{Machine, Move, Do, Take}
+use Rattle.guest_lockstep.specs.Recorded.{Recorded}
+use Rattle.guest_lockstep.specs.declared.reads.Reads.TheVariants.{Logged}
 use Rattle.log_entry.specs.Entries.{entries, entry_of, inputs_of, last_count, marks}
 use Rattle.log_entry.specs.declared.entry.Entry.{Entry}
 use Rattle.guest_trace.specs.Reach.{operations}

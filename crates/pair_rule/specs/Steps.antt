@@ -2,7 +2,7 @@
 use Rattle.std.specs.Prelude.{◌≡◌, ◌⊎◌, ℕ, ◌<◌, List}
 use Rattle.event_callbacks.specs.declared.operations.Operation.{Operation}
 use Rattle.event_callbacks.specs.declared.operations.Operation.TheVariants.{Write}
-use Rattle.guest_board.specs.Machine.{Machine}
+use Rattle.guest_lockstep.specs.Machine.{Machine}
 use Rattle.log_entry.specs.declared.entry.Entry.{Entry}
 use Rattle.pair_rule.specs.declared.mailbox.Mailbox.{Mailbox}
 use Rattle.pair_rule.specs.declared.mailbox.Mailbox.TheVariants.{Bytes0, Bytes1, Requests, Answers}

@@ -2,8 +2,8 @@
 use Rattle.guest_board.specs.Guest.{Guest}
 use Rattle.std.specs.Prelude.{ℕ, ◌+◌, List}
 use Rattle.disk_dcdd.specs.declared.sector.SectorWrite.{SectorWrite}
-use Rattle.guest_board.specs.Machine.{Machine}
-use Rattle.guest_board.specs.declared.reads.Reads.{Reads}
+use Rattle.guest_lockstep.specs.Machine.{Machine}
+use Rattle.guest_lockstep.specs.declared.reads.Reads.{Reads}
 use Rattle.pair_protocol.specs.Copying.{Copying}
 use Rattle.pair_protocol.specs.World.{World, with_host}
 use Rattle.shared_disk.specs.Records.{HasDrives, IsAtBoot, IsUnwritten}

@@ -1,7 +1,7 @@
 -- What a query of the script language finds in a world, as the text that answers it.
 use Rattle.std.specs.Prelude.{◌≡◌, ℕ, List, Option, Some, None, if◌then◌else◌, nat_lt, slice_get}
 use Rattle.i8080_words.specs.declared.refusal.Fault.TheVariants.{Unknown}
-use Rattle.guest_board.specs.Machine.{Machine}
+use Rattle.guest_lockstep.specs.Machine.{Machine}
 use Rattle.pair_events.specs.Printed.{accepted_text, node_text, packet_text, refusal_text}
 use Rattle.pair_protocol.specs.Node.{Node}
 use Rattle.pair_protocol.specs.World as protocol

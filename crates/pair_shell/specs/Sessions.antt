@@ -3,7 +3,7 @@ use Rattle.std.specs.Prelude.{◌≡◌, ℕ, Bool, List, Option, Some, None}
 use Rattle.altair_copies.specs.Copies.{image_copy}
 use Rattle.guest_board.specs.Guest.{Guest, guest_at_boot}
 use Rattle.guest_board.specs.Inputs.{some_altair}
-use Rattle.guest_board.specs.Machine.{Machine}
+use Rattle.guest_lockstep.specs.Machine.{Machine}
 use Rattle.ft_world.specs.Running.{Running}
 use Rattle.pair_check.specs.Disks.{Disk}
 use Rattle.shell_language.specs.declared.line.ShellLine.{ShellLine}

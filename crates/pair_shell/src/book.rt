@@ -3,7 +3,7 @@
 use clone_state::Copies;
 use event_callbacks::{OpId, PORTS};
 use ft_world::{Message, World};
-use guest_board::StopReason;
+use guest_lockstep::StopReason;
 use guest_trace::{Bare, Timed};
 use i8080_words::{Fault, R};
 use pair_check::Disk;

@@ -5,7 +5,7 @@ use crate::ending::Ending;
 use crate::link::{Fate, Link};
 use crate::phase::Phase;
 use event_callbacks::{OpId, PORTS};
-use guest_board::{ReplayEnd, StopReason};
+use guest_lockstep::{ReplayEnd, StopReason};
 use i8080_words::{Fault, R};
 use pair_events::{Event, Reply};
 use shell_language::Turns;

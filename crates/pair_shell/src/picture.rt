@@ -4,7 +4,7 @@ use crate::book::Book;
 use crate::printing::Printed;
 use crate::tape::Played;
 use event_callbacks::OpId;
-use guest_board::StopReason;
+use guest_lockstep::StopReason;
 use i8080_words::{Fault, R};
 use pair_events::{Event, Reply};
 use std::alloc::{AllocError, Global};

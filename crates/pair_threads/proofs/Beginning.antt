@@ -3,7 +3,7 @@ use Rattle.std.proofs.Common.{◌≡◌, ℕ, List, [], Option, Some, None, refl
 use Rattle.disk_dcdd.specs.declared.address.SectorAddress.{SectorAddress}
 use Rattle.event_callbacks.specs.declared.operations.OpId.{OpId}
 use Rattle.event_callbacks.specs.declared.operations.Operation.{Operation}
-use Rattle.guest_board.specs.Machine.{Machine, booted_from}
+use Rattle.guest_lockstep.specs.Machine.{Machine, booted_from}
 use Rattle.pair_protocol.specs.Lawful.{Lawful}
 
 pub nothing_yet : {S : Type 0} (N : Machine S) (boot : S) (sectors : SectorAddress → List ℕ)

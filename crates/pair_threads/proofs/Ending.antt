@@ -6,10 +6,10 @@ use Rattle.std.specs.Prelude.{Result, Ok, Err, IsOk, OnOk}
 use Rattle.std.proofs.Math.Seq.{take-length}
 use Rattle.std.proofs.lemmas.Bool.{false≢true}
 use Rattle.event_callbacks.specs.declared.operations.OpId.{OpId}
-use Rattle.guest_board.specs.Machine.{Machine, Move, Do, Take, booted_from}
-use Rattle.guest_board.specs.Outstanding.{ComesAndGoes}
-use Rattle.guest_board.specs.Recorded.{Counts}
-use Rattle.guest_board.proofs.Booted.{ComesAndGoes-booted, Counts-booted, Recorded-booted}
+use Rattle.guest_lockstep.specs.Machine.{Machine, Move, Do, Take, booted_from}
+use Rattle.guest_lockstep.specs.Outstanding.{ComesAndGoes}
+use Rattle.guest_lockstep.specs.Recorded.{Counts}
+use Rattle.guest_lockstep.proofs.Booted.{ComesAndGoes-booted, Counts-booted, Recorded-booted}
 use Rattle.log_entry.specs.declared.entry.Entry.{Entry}
 use Rattle.pair_protocol.specs.Lawful.{Lawful}
 use Rattle.pair_protocol.specs.World.{accepted_after}

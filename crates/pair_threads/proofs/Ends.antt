@@ -11,11 +11,11 @@ use Rattle.disk_dcdd.specs.declared.sector.SectorWrite.{SectorWrite}
 use Rattle.event_callbacks.specs.declared.operations.OpId.{OpId}
 use Rattle.event_callbacks.specs.declared.operations.Operation.{Operation}
 use Rattle.event_callbacks.specs.declared.operations.Operation.TheVariants.{Write}
-use Rattle.guest_board.specs.Lockstep.{step_refusal}
-use Rattle.guest_board.specs.Machine.{Machine, Move, Runs}
-use Rattle.guest_board.specs.Outstanding.{ComesAndGoes}
-use Rattle.guest_board.specs.Recorded.{Counts}
-use Rattle.guest_board.specs.declared.reads.Reads.TheVariants.{Logged}
+use Rattle.guest_lockstep.specs.Lockstep.{step_refusal}
+use Rattle.guest_lockstep.specs.Machine.{Machine, Move, Runs}
+use Rattle.guest_lockstep.specs.Outstanding.{ComesAndGoes}
+use Rattle.guest_lockstep.specs.Recorded.{Counts}
+use Rattle.guest_lockstep.specs.declared.reads.Reads.TheVariants.{Logged}
 use Rattle.guest_trace.specs.Reach.{Owns, acceptances, inputs, keys, operations, output}
 use Rattle.i8080_words.specs.declared.refusal.Fault.TheVariants.{Idle}
 use Rattle.log_entry.specs.Entries.{entries, inputs_of, last_count}

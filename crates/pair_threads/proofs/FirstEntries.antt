@@ -3,9 +3,9 @@
 use Rattle.std.proofs.Common.{◌≡◌, ℕ, zero, suc, ◌<◌, ◌≤◌, inl, inr, false, List, [], ◌∷◌, ◌++◌, length, take, Some, None, refl, sym, ap, subst, ◌∙◌, arith, length-append}
 use Rattle.std.proofs.Math.Seq.{take-append_seam}
 use Rattle.event_callbacks.specs.declared.operations.Operation.{Operation}
-use Rattle.guest_board.specs.Machine.{Machine, Move, Do, Take, Runs}
-use Rattle.guest_board.specs.Recorded.{Counts}
-use Rattle.guest_board.specs.declared.reads.Reads.TheVariants.{Logged}
+use Rattle.guest_lockstep.specs.Machine.{Machine, Move, Do, Take, Runs}
+use Rattle.guest_lockstep.specs.Recorded.{Counts}
+use Rattle.guest_lockstep.specs.declared.reads.Reads.TheVariants.{Logged}
 use Rattle.guest_trace.specs.Reach.{Owns, Reach, inputs, operations, steps}
 use Rattle.log_entry.specs.Entries.{entries, inputs_of, last_count}
 use Rattle.log_entry.specs.declared.entry.Entry.{Entry}

@@ -6,10 +6,10 @@ use Rattle.disk_dcdd.specs.declared.address.SectorAddress.{SectorAddress}
 use Rattle.disk_dcdd.specs.declared.sector.SectorWrite.{SectorWrite}
 use Rattle.event_callbacks.specs.declared.operations.Operation.{Operation}
 use Rattle.event_callbacks.specs.declared.operations.Operation.TheVariants.{Write}
-use Rattle.guest_board.specs.Machine.{Machine, Move, Do, Take, Runs, refusal_of}
-use Rattle.guest_board.specs.Recorded.{Recorded}
-use Rattle.guest_board.specs.declared.input.Input.{Input}
-use Rattle.guest_board.specs.declared.input.Input.TheVariants as input
+use Rattle.guest_lockstep.specs.Machine.{Machine, Move, Do, Take, Runs, refusal_of}
+use Rattle.guest_lockstep.specs.Recorded.{Recorded}
+use Rattle.guest_lockstep.specs.declared.input.Input.{Input}
+use Rattle.guest_lockstep.specs.declared.input.Input.TheVariants as input
 use Rattle.guest_trace.specs.Reach.{Own, Owns, bare, image, inputs, operations}
 use Rattle.guest_trace.specs.declared.timed.Bare.TheVariants.{Written}
 use Rattle.guest_trace.specs.declared.timed.Timed.{Timed}

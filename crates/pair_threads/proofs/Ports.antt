@@ -1,8 +1,8 @@
 -- A worker's guest after a key or an acceptance of a port, of which one more is said to be taken, and after an answer.
 use Rattle.std.proofs.Common.{◌≡◌, ℕ, zero, suc, ◌+◌, Bool, true, false, List, [], ◌∷◌, ◌++◌, take, Some, refl, sym, ap, subst, ◌∙◌, arith}
 use Rattle.std.specs.Prelude.{slice_get}
-use Rattle.guest_board.specs.Machine.{Machine}
-use Rattle.guest_board.specs.declared.input.Input.TheVariants.{Rx, Sent}
+use Rattle.guest_lockstep.specs.Machine.{Machine}
+use Rattle.guest_lockstep.specs.declared.input.Input.TheVariants.{Rx, Sent}
 use Rattle.pair_rule.specs.declared.payload.DiskAnswer.{DiskAnswer}
 use Rattle.pair_threads.specs.Leading.{HeardOn, IsLeading, TakesOn, by_port}
 use Rattle.pair_threads.specs.Primary.{WorkerLeads, keys_taken}

@@ -1,9 +1,9 @@
 -- What the workers end with is what steps of the threads led to: the table has its steps, and each worker kept what its calls
 -- promise.
 use Rattle.std.proofs.Common.{◌≡◌, ◌≤◌, ℕ, List, [], ◌∷◌, map, take, Option, refl, sym, ap, subst, ◌∙◌}
-use Rattle.guest_board.specs.Machine.{Machine, booted_from}
-use Rattle.guest_board.specs.declared.reads.Reads.TheVariants.{Logged}
-use Rattle.guest_board.proofs.Booted.{Recorded-booted}
+use Rattle.guest_lockstep.specs.Machine.{Machine, booted_from}
+use Rattle.guest_lockstep.specs.declared.reads.Reads.TheVariants.{Logged}
+use Rattle.guest_lockstep.proofs.Booted.{Recorded-booted}
 use Rattle.log_entry.specs.Entries.{entries}
 use Rattle.log_entry.specs.declared.entry.Entry.{Entry}
 use Rattle.pair_protocol.specs.Lawful.{Lawful}

@@ -9,11 +9,11 @@ use Rattle.event_callbacks.specs.declared.operations.OpId.TheVariants as id
 use Rattle.event_callbacks.specs.declared.operations.Operation.{Operation}
 use Rattle.event_callbacks.specs.declared.operations.Operation.TheVariants.{Write}
 use Rattle.event_callbacks.specs.Operations.{id_of}
-use Rattle.guest_board.specs.Machine.{Machine, Move, Do, Take, booted_from}
-use Rattle.guest_board.proofs.Booted.{Counts-booted, Recorded-booted}
+use Rattle.guest_lockstep.specs.Machine.{Machine, Move, Do, Take, booted_from}
+use Rattle.guest_lockstep.proofs.Booted.{Counts-booted, Recorded-booted}
 use Rattle.log_entry.specs.declared.entry.Entry.{Entry}
-use Rattle.guest_board.specs.Outstanding.{ComesAndGoes}
-use Rattle.guest_board.specs.Recorded.{Counts}
+use Rattle.guest_lockstep.specs.Outstanding.{ComesAndGoes}
+use Rattle.guest_lockstep.specs.Recorded.{Counts}
 use Rattle.pair_protocol.specs.Lawful.{Among}
 use Rattle.pair_rule.specs.declared.mailbox.Mailbox.TheVariants.{Requests, Answers}
 use Rattle.pair_rule.specs.declared.payload.DiskAnswer.{DiskAnswer}

@@ -3,9 +3,9 @@
 use Rattle.std.specs.Prelude.{◌≡◌, ◌⊎◌, ℕ, zero, suc, ◌+◌, length, List, [], ◌∷◌, Option, Some, None, IsSome}
 use Rattle.disk_dcdd.specs.declared.address.SectorAddress.{SectorAddress}
 use Rattle.event_callbacks.specs.declared.operations.OpId.{OpId}
-use Rattle.guest_board.specs.Lockstep.{step_refusal}
-use Rattle.guest_board.specs.Machine.{Machine, Move}
-use Rattle.guest_board.specs.declared.reads.Reads.TheVariants.{Logged}
+use Rattle.guest_lockstep.specs.Lockstep.{step_refusal}
+use Rattle.guest_lockstep.specs.Machine.{Machine, Move}
+use Rattle.guest_lockstep.specs.declared.reads.Reads.TheVariants.{Logged}
 use Rattle.guest_trace.specs.Reach.{Reach, image, keys, output}
 use Rattle.i8080_words.specs.declared.refusal.Fault.{Fault}
 use Rattle.i8080_words.specs.declared.refusal.Fault.TheVariants.{Idle, OutOfMemory, Stalled}

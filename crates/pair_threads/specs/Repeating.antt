@@ -1,6 +1,6 @@
 -- How far the guest of a backup's worker has come.
 use Rattle.std.specs.Prelude.{◌≡◌, Bool, false, List, take}
-use Rattle.guest_board.specs.Machine.{Machine}
+use Rattle.guest_lockstep.specs.Machine.{Machine}
 use Rattle.log_entry.specs.Entries.{last_count}
 use Rattle.log_entry.specs.declared.entry.Entry.{Entry}
 use Rattle.pair_threads.specs.declared.repeater.Repeater.{Repeater}

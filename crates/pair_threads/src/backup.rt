@@ -8,7 +8,7 @@ use crate::plan::Plan;
 use crate::repeater::Repeater;
 use crate::signals::Told;
 use crate::worker::{Turn, Worker};
-use guest_board::Lockstep;
+use guest_lockstep::Lockstep;
 use i8080_words::{Fault, R};
 use pair_rule::{BackupSeat, Fabric};
 use std::alloc::Global;

@@ -1,6 +1,6 @@
 //! One generation on threads.
 ghost use Rattle.std.specs.Prelude.{◌≡◌, ◌⊎◌, ℕ, List, [], ◌∷◌, Option, None, Some, false, length, map, vec_len, IfErr, IfOk, IsOk, OnOk};
-ghost use Rattle.guest_board.specs.Machine.{booted_from};
+ghost use Rattle.guest_lockstep.specs.Machine.{booted_from};
 ghost use Rattle.pair_protocol.specs.Lawful.{Lawful};
 ghost use Rattle.pair_rule.specs.Knowledge.{StartsWith, last_or};
 ghost use Rattle.pair_rule.specs.Threads.{bytes_accepted};
@@ -23,7 +23,7 @@ use crate::recording::Recording;
 use crate::repeater::Repeater;
 use crate::terminal::TerminalWorker;
 use crate::workers::{GenerationEnd, Workers};
-use guest_board::Lockstep;
+use guest_lockstep::Lockstep;
 use i8080_words::{Fault, R};
 use log_entry::Entry;
 use pair_rule::{Fabric, FiveSeats};

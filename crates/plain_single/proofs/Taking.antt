@@ -12,9 +12,9 @@ use Rattle.event_callbacks.specs.Operations.{Operations}
 use Rattle.event_callbacks.specs.declared.devices.Done.TheVariants as done
 use Rattle.guest_board.specs.Guest as guest
 use Rattle.guest_board.specs.Guest.{Guest, altair, take_from}
-use Rattle.guest_board.specs.Machine.{Machine, Move, Take}
-use Rattle.guest_board.specs.declared.input.Input.{Input}
-use Rattle.guest_board.specs.declared.input.Input.TheVariants as input
+use Rattle.guest_lockstep.specs.Machine.{Machine, Move, Take}
+use Rattle.guest_lockstep.specs.declared.input.Input.{Input}
+use Rattle.guest_lockstep.specs.declared.input.Input.TheVariants as input
 use Rattle.guest_board.specs.declared.setup.Setup.{Setup}
 use Rattle.plain_single.specs.SingleState.{SingleState, StandsFor, guest_with, input_refusal, may_take_key, may_accept, address_under, after_taking, disk_after, ReadsSector}
 use Rattle.plain_single.specs.Behind.{devices_of}

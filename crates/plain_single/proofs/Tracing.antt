@@ -5,9 +5,9 @@ use Rattle.event_callbacks.specs.declared.operations.Operation.{Operation}
 use Rattle.i8080_words.specs.declared.refusal.Fault.{Fault}
 use Rattle.i8080_words.specs.declared.refusal.Fault.TheVariants as faults
 use Rattle.guest_board.specs.Guest.{Guest}
-use Rattle.guest_board.specs.Machine.{Machine, Move, Do, Take, Runs}
-use Rattle.guest_board.specs.declared.input.Input.{Input}
-use Rattle.guest_board.specs.declared.input.Input.TheVariants as input
+use Rattle.guest_lockstep.specs.Machine.{Machine, Move, Do, Take, Runs}
+use Rattle.guest_lockstep.specs.declared.input.Input.{Input}
+use Rattle.guest_lockstep.specs.declared.input.Input.TheVariants as input
 use Rattle.guest_trace.specs.Reach.{Own, Owns, Reach, bare, image, inputs, steps, timed}
 use Rattle.plain_single.specs.Reaching.{Fails, LeavesInput, MeetsRefused, StopsShort, next_count}
 use Rattle.guest_trace.specs.declared.timed.Timed.{Timed}

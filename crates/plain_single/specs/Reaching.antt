@@ -5,8 +5,8 @@ use Rattle.i8080_words.specs.declared.refusal.Fault.TheVariants.{OutOfMemory, Sp
 use Rattle.disk_dcdd.specs.declared.address.SectorAddress.{SectorAddress}
 use Rattle.i8080_words.specs.declared.limits.TheConstants.{GREATEST_NUMBER}
 use Rattle.guest_board.specs.Guest.{Guest}
-use Rattle.guest_board.specs.Machine.{Machine, Move}
-use Rattle.guest_board.specs.declared.input.Input.{Input}
+use Rattle.guest_lockstep.specs.Machine.{Machine, Move}
+use Rattle.guest_lockstep.specs.declared.input.Input.{Input}
 use Rattle.plain_single.specs.SingleState.{SingleState, StandsFor}
 use Rattle.plain_single.specs.Image.{IsSector, sector_at}
 use Rattle.guest_trace.specs.Reach.{Reach, bare, output, writes, image}

@@ -2,7 +2,7 @@
 ghost use Rattle.std.specs.Prelude.{◌≡◌, ℕ, ◌<◌, IfOk, IfErr, IsOkUnless, List, slice_index};
 ghost use Rattle.disk_dcdd.specs.declared.address.SectorAddress.{SectorAddress};
 ghost use Rattle.guest_board.specs.Guest.{altair};
-ghost use Rattle.guest_board.specs.Machine.{Move};
+ghost use Rattle.guest_lockstep.specs.Machine.{Move};
 ghost use Rattle.guest_board.specs.declared.setup.Setup.{Setup};
 ghost use Rattle.i8080_words.specs.declared.refusal.Fault.TheVariants.{OutOfMemory};
 ghost use Rattle.plain_single.specs.SingleState.{output_of};

@@ -8,7 +8,8 @@ mod walks;
 
 use crate::Single;
 use disk_dcdd::{SECTOR_BYTES, SectorAddress, SectorWrite};
-use guest_board::{Reads, Setup};
+use guest_board::Setup;
+use guest_lockstep::Reads;
 use guest_trace::{Bare, Timed};
 use i8080_words::{Fault, R};
 use std::alloc::Global;

@@ -2,12 +2,12 @@
 -- the first step refuses the advance, and what refuses a later one is only why it stopped.
 use Rattle.std.proofs.Common.{◌≡◌, ℕ, zero, suc, ◌<◌, inl, inr, Option, Some, None, Ok, Err, refl, sym, ap, subst, ◌∙◌, arith}
 use Rattle.event_callbacks.specs.declared.operations.OpId.{OpId}
-use Rattle.guest_board.proofs.QuietSteps.{start_allowed, first_allowed, none_made}
-use Rattle.guest_board.specs.Lockstep.{step_refusal}
-use Rattle.guest_board.specs.Machine.{Machine}
-use Rattle.guest_board.specs.Running.{Begin, RunsOn, AllTurns, Gives, IsRefused, fault_of, stopped}
-use Rattle.guest_board.specs.declared.running.StopReason.TheVariants as reason
-use Rattle.guest_board.specs.declared.running.Stopped.{Stopped}
+use Rattle.guest_lockstep.proofs.QuietSteps.{start_allowed, first_allowed, none_made}
+use Rattle.guest_lockstep.specs.Lockstep.{step_refusal}
+use Rattle.guest_lockstep.specs.Machine.{Machine}
+use Rattle.guest_lockstep.specs.Running.{Begin, RunsOn, AllTurns, Gives, IsRefused, fault_of, stopped}
+use Rattle.guest_lockstep.specs.declared.running.StopReason.TheVariants as reason
+use Rattle.guest_lockstep.specs.declared.running.Stopped.{Stopped}
 use Rattle.i8080_words.specs.declared.refusal.Fault.{Fault}
 use Rattle.log_buffer.specs.Log.{Log}
 use Rattle.recorder.specs.Recording.{advance_refusal, AdvancesUnless, logged}

@@ -1,10 +1,10 @@
 -- What users of a recorder may rely on.
 use Rattle.std.specs.Prelude.{◌≡◌, ℕ, ◌+◌, Ok, List, [], ◌∷◌, ◌++◌}
-use Rattle.guest_board.specs.Machine.{Machine, Move, Take, Runs}
-use Rattle.guest_board.specs.Recorded.{Counts, Recorded}
-use Rattle.guest_board.specs.declared.input.Input.{Input}
-use Rattle.guest_board.specs.declared.reads.Reads.{Reads}
-use Rattle.guest_board.specs.declared.running.Stopped.{Stopped}
+use Rattle.guest_lockstep.specs.Machine.{Machine, Move, Take, Runs}
+use Rattle.guest_lockstep.specs.Recorded.{Counts, Recorded}
+use Rattle.guest_lockstep.specs.declared.input.Input.{Input}
+use Rattle.guest_lockstep.specs.declared.reads.Reads.{Reads}
+use Rattle.guest_lockstep.specs.declared.running.Stopped.{Stopped}
 use Rattle.log_buffer.specs.Log.{Log}
 use Rattle.log_entry.specs.Entries.{entries}
 use Rattle.guest_trace.specs.Reach.{inputs, steps}

@@ -1,14 +1,14 @@
 -- What a recorder does: how far it advances, why it stops, what it takes, and what it pushes.
 use Rattle.std.specs.Prelude.{◌≡◌, ℕ, zero, suc, ◌<◌, ◌⊎◌, Option, Some, None, Result, Ok, Err}
-use Rattle.guest_board.specs.Lockstep.{HasRoom, IsInput, IsNumbered, step_refusal}
-use Rattle.guest_board.specs.Machine.{Machine, refusal_of}
-use Rattle.guest_board.specs.Recorded.{Accepts}
-use Rattle.guest_board.specs.Running.{RunsOn}
-use Rattle.guest_board.specs.declared.input.Input.{Input}
-use Rattle.guest_board.specs.declared.reads.Reads.{Reads}
-use Rattle.guest_board.specs.declared.running.StopReason.{StopReason}
-use Rattle.guest_board.specs.declared.running.StopReason.TheVariants as reason
-use Rattle.guest_board.specs.declared.running.Stopped.{Stopped}
+use Rattle.guest_lockstep.specs.Lockstep.{HasRoom, IsInput, IsNumbered, step_refusal}
+use Rattle.guest_lockstep.specs.Machine.{Machine, refusal_of}
+use Rattle.guest_lockstep.specs.Recorded.{Accepts}
+use Rattle.guest_lockstep.specs.Running.{RunsOn}
+use Rattle.guest_lockstep.specs.declared.input.Input.{Input}
+use Rattle.guest_lockstep.specs.declared.reads.Reads.{Reads}
+use Rattle.guest_lockstep.specs.declared.running.StopReason.{StopReason}
+use Rattle.guest_lockstep.specs.declared.running.StopReason.TheVariants as reason
+use Rattle.guest_lockstep.specs.declared.running.Stopped.{Stopped}
 use Rattle.i8080_words.specs.declared.refusal.Fault.{Fault}
 use Rattle.i8080_words.specs.declared.refusal.Fault.TheVariants.{OutOfMemory}
 use Rattle.log_buffer.specs.Log.{Log, pushed, push_answer, room_answer}

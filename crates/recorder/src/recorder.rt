@@ -1,7 +1,7 @@
 //! A guest with the log of its moves.
 ghost use Rattle.std.specs.Prelude.{◌≡◌, Ok, OnErr, OnOk};
-ghost use Rattle.guest_board.specs.Lockstep.{HasRoom, IsInput};
-ghost use Rattle.guest_board.specs.Machine.{refusal_of};
+ghost use Rattle.guest_lockstep.specs.Lockstep.{HasRoom, IsInput};
+ghost use Rattle.guest_lockstep.specs.Machine.{refusal_of};
 ghost use Rattle.log_buffer.specs.contracts.buffer.LogBuffer as buffer;
 ghost use Rattle.log_buffer.specs.Log.{next_of};
 ghost use Rattle.log_entry.specs.Entries.{entry_of};
@@ -11,7 +11,7 @@ ghost use Rattle.recorder.specs.contracts.recorder.Recorder.{the_row};
 ghost use Rattle.std.specs.Borrow.{Lends, sem};
 
 use crate::run::run;
-use guest_board::{Input, Lockstep, Reads, StopReason, Stopped};
+use guest_lockstep::{Input, Lockstep, Reads, StopReason, Stopped};
 use i8080_words::R;
 use log_buffer::LogBuffer;
 use log_entry::Entry;

@@ -1,11 +1,11 @@
 //! Steps of a guest whose log has room for one entry.
 ghost use Rattle.std.specs.Prelude.{◌≡◌, ◌<◌, Ok, OnErr};
-ghost use Rattle.guest_board.specs.Lockstep.{step_refusal};
+ghost use Rattle.guest_lockstep.specs.Lockstep.{step_refusal};
 ghost use Rattle.log_buffer.specs.Log.{room_answer, pushed};
 ghost use Rattle.log_entry.specs.declared.entry.Entry.TheVariants.{Mark};
 ghost use Rattle.recorder.specs.Recording as table;
 
-use guest_board::{Lockstep, StopReason, Stopped};
+use guest_lockstep::{Lockstep, StopReason, Stopped};
 use i8080_words::R;
 use log_buffer::LogBuffer;
 use log_entry::Entry;
@@ -19,7 +19,7 @@ pub(crate) fn run<B: Lockstep>(board: &mut B, log: &mut LogBuffer, turns: u64) -
         (step_refusal B.machine (B.state board.old)) result (B.state board.new) log.new }
     ensures unchanged { OnErr result ((board.new ≡ board.old) × (log.new ≡ log.old)) }
 {
-    let stopped = guest_board::run(board, turns);
+    let stopped = guest_lockstep::run(board, turns);
     match stopped.reason {
         StopReason::Turns => Ok(stopped),
         StopReason::Operation(_) => {

@@ -1,10 +1,10 @@
 //! A recorder at the limits of its log and of its guest.
-ghost use Rattle.guest_board.specs.Lockstep.{IsInput};
+ghost use Rattle.guest_lockstep.specs.Lockstep.{IsInput};
 
 use crate::Recorder;
 use echo_guest::Echo;
 use event_callbacks::OpId;
-use guest_board::{Input, Lockstep, Reads, StopReason, Stopped};
+use guest_lockstep::{Input, Lockstep, Reads, StopReason, Stopped};
 use i8080_words::{Fault, R};
 use log_buffer::LogBuffer;
 use log_entry::Entry;

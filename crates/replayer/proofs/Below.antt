@@ -2,10 +2,10 @@
 -- machine's own on, and the last of them stays what it was: a step leaves the machine at or below the first, and an
 -- entry is popped when the machine is at its count.
 use Rattle.std.proofs.Common.{◌≡◌, ℕ, suc, ◌≤◌, Bool, true, false, List, [], ◌∷◌, ◌++◌, Option, Some, None, refl, sym, ap, subst, ◌∙◌, arith}
-use Rattle.guest_board.specs.Machine.{Machine, Move, Do, Take}
-use Rattle.guest_board.specs.Recorded.{Counts}
-use Rattle.guest_board.specs.declared.input.Input.TheVariants.{Sector}
-use Rattle.guest_board.specs.declared.reads.Reads.{Reads}
+use Rattle.guest_lockstep.specs.Machine.{Machine, Move, Do, Take}
+use Rattle.guest_lockstep.specs.Recorded.{Counts}
+use Rattle.guest_lockstep.specs.declared.input.Input.TheVariants.{Sector}
+use Rattle.guest_lockstep.specs.declared.reads.Reads.{Reads}
 use Rattle.log_entry.specs.Entries.{count_of, entries, last_count}
 use Rattle.log_entry.specs.Laws.{NeverFalls}
 use Rattle.log_entry.specs.Standing.{owed, IsOnTrace}

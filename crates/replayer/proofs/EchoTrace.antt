@@ -2,9 +2,9 @@
 use Rattle.std.proofs.Common.{eq-eqb, nat_eq, ◌-◌, ◌^◌, ◌≡◌, ℕ, ◌<◌, Bool, true, false, List, [], ◌∷◌, Option, Some, None, Result, Ok, refl, sym, ap, subst, ◌∙◌, arith}
 use Rattle.echo_guest.specs.Echo.{Echo, at_boot, echo}
 use Rattle.event_callbacks.specs.declared.operations.Operation.TheVariants.{Byte}
-use Rattle.guest_board.specs.Machine.{Do, Take}
-use Rattle.guest_board.specs.declared.input.Input.TheVariants as input
-use Rattle.guest_board.specs.declared.reads.Reads.TheVariants.{Logged}
+use Rattle.guest_lockstep.specs.Machine.{Do, Take}
+use Rattle.guest_lockstep.specs.declared.input.Input.TheVariants as input
+use Rattle.guest_lockstep.specs.declared.reads.Reads.TheVariants.{Logged}
 use Rattle.i8080_words.specs.declared.refusal.Fault.{Fault}
 use Rattle.log_channel.specs.Channel.{Receiving, Answers, heard, holding, Next}
 use Rattle.log_channel.specs.declared.packet.Packet.TheVariants.{Log}

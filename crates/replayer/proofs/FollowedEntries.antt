@@ -7,16 +7,16 @@ use Rattle.std.proofs.lemmas.Bool.Decides.{leb_tells}
 use Rattle.std.proofs.lemmas.List.{append-nil}
 use Rattle.event_callbacks.specs.declared.operations.OpId.{OpId}
 use Rattle.event_callbacks.specs.declared.operations.Operation.{Operation}
-use Rattle.guest_board.specs.Lockstep.{Executes, StepsUnless, step_refusal}
-use Rattle.guest_board.specs.Machine.{Machine, Move, Do, Take}
-use Rattle.guest_board.specs.Recorded.{Accepts, Counts, Recorded}
-use Rattle.guest_board.specs.Running.{Quiet, Begin, More, RunsOn, AllTurns, Gives, IsRefused, fault_of}
-use Rattle.guest_board.specs.declared.input.Input.{Input}
-use Rattle.guest_board.specs.declared.input.Input.TheVariants as input
-use Rattle.guest_board.specs.declared.running.StopReason.TheVariants as reason
-use Rattle.guest_board.specs.declared.running.Stopped.{Stopped}
-use Rattle.guest_board.proofs.QuietSteps.{none_made, quiet_count}
-use Rattle.guest_board.specs.declared.reads.Reads.TheVariants.{Logged}
+use Rattle.guest_lockstep.specs.Lockstep.{Executes, StepsUnless, step_refusal}
+use Rattle.guest_lockstep.specs.Machine.{Machine, Move, Do, Take}
+use Rattle.guest_lockstep.specs.Recorded.{Accepts, Counts, Recorded}
+use Rattle.guest_lockstep.specs.Running.{Quiet, Begin, More, RunsOn, AllTurns, Gives, IsRefused, fault_of}
+use Rattle.guest_lockstep.specs.declared.input.Input.{Input}
+use Rattle.guest_lockstep.specs.declared.input.Input.TheVariants as input
+use Rattle.guest_lockstep.specs.declared.running.StopReason.TheVariants as reason
+use Rattle.guest_lockstep.specs.declared.running.Stopped.{Stopped}
+use Rattle.guest_lockstep.proofs.QuietSteps.{none_made, quiet_count}
+use Rattle.guest_lockstep.specs.declared.reads.Reads.TheVariants.{Logged}
 use Rattle.i8080_words.specs.declared.refusal.Fault.{Fault}
 use Rattle.log_entry.specs.Entries.{count_of, entries, entry_of, input_of, timed_of}
 use Rattle.log_entry.specs.declared.entry.Entry.{Entry}

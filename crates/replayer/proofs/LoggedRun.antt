@@ -4,10 +4,10 @@ use Rattle.std.proofs.Common.{◌≡◌, ℕ, ◌-◌, Bool, false, cond, List, 
 use Rattle.std.specs.List.{slice_get}
 use Rattle.std.proofs.lemmas.Bool.{le-ltb}
 use Rattle.std.proofs.lemmas.List.{take-append-drop}
-use Rattle.guest_board.specs.Machine.{Machine, Move, Take}
-use Rattle.guest_board.specs.Recorded.{Counts}
-use Rattle.guest_board.specs.declared.input.Input.{Input}
-use Rattle.guest_board.specs.declared.reads.Reads.{Reads}
+use Rattle.guest_lockstep.specs.Machine.{Machine, Move, Take}
+use Rattle.guest_lockstep.specs.Recorded.{Counts}
+use Rattle.guest_lockstep.specs.declared.input.Input.{Input}
+use Rattle.guest_lockstep.specs.declared.reads.Reads.{Reads}
 use Rattle.i8080_words.specs.declared.refusal.Fault.{Fault}
 use Rattle.log_buffer.specs.Log.{Log, log, kept_at}
 use Rattle.log_channel.proofs.SentEntries.{keeps_holding}
@@ -21,7 +21,7 @@ use Rattle.recorder.proofs.Advances.{records_steps}
 use Rattle.recorder.proofs.Recorded.{Records-append}
 use Rattle.recorder.specs.Laws.{Records, RecordsSteps}
 use Rattle.recorder.specs.Recording.{AdvancesUnless, Offers}
-use Rattle.guest_board.specs.declared.running.Stopped.{Stopped}
+use Rattle.guest_lockstep.specs.declared.running.Stopped.{Stopped}
 
 -- ---- what is logged
 

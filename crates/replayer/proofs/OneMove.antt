@@ -4,12 +4,12 @@
 use Rattle.std.proofs.Common.{◌≡◌, ℕ, ◌<◌, ◌≤◌, Bool, true, false, List, [], ◌∷◌, ◌++◌, Option, Some, None, Ok, Err, refl, sym, ap, subst, ◌∙◌, arith, drop, slice_get, cond, is_none, length, eq-eqb}
 use Rattle.std.specs.Prelude.{◌==◌}
 use Rattle.event_callbacks.specs.declared.operations.Operation.{Operation}
-use Rattle.guest_board.specs.Lockstep.{Takes as TakesInput, step_refusal}
-use Rattle.guest_board.specs.Machine.{Machine}
-use Rattle.guest_board.specs.Recorded.{Counts, Accepts}
-use Rattle.guest_board.specs.declared.input.Input.{Input}
-use Rattle.guest_board.specs.declared.input.Input.TheVariants.{Sector}
-use Rattle.guest_board.specs.declared.replay_end.ReplayEnd.TheVariants.{End, Wait}
+use Rattle.guest_lockstep.specs.Lockstep.{Takes as TakesInput, step_refusal}
+use Rattle.guest_lockstep.specs.Machine.{Machine}
+use Rattle.guest_lockstep.specs.Recorded.{Counts, Accepts}
+use Rattle.guest_lockstep.specs.declared.input.Input.{Input}
+use Rattle.guest_lockstep.specs.declared.input.Input.TheVariants.{Sector}
+use Rattle.guest_lockstep.specs.declared.replay_end.ReplayEnd.TheVariants.{End, Wait}
 use Rattle.i8080_words.specs.declared.refusal.Fault.{Fault}
 use Rattle.i8080_words.specs.declared.refusal.Fault.TheVariants.{Spent, Idle}
 use Rattle.log_entry.specs.Entries.{count_of, entries, input_of, bare_of, read_of}

@@ -1,12 +1,12 @@
 -- A run whose only move takes a sector, in a log that does not carry its bytes.
 use Rattle.std.proofs.Common.{◌≡◌, ℕ, false, List, [], ◌∷◌, Option, Some, None, refl, sym, subst}
-use Rattle.guest_board.specs.Machine.{Machine, Take}
-use Rattle.guest_board.specs.Recorded.{Accepts}
-use Rattle.guest_board.specs.Running.{Quiet, RunsOn, AllTurns, Gives, IsRefused}
-use Rattle.guest_board.specs.declared.input.Input.TheVariants.{Sector}
-use Rattle.guest_board.specs.declared.reads.Reads.TheVariants.{Shared}
-use Rattle.guest_board.specs.declared.running.StopReason.TheVariants as reason
-use Rattle.guest_board.specs.declared.running.Stopped.{Stopped}
+use Rattle.guest_lockstep.specs.Machine.{Machine, Take}
+use Rattle.guest_lockstep.specs.Recorded.{Accepts}
+use Rattle.guest_lockstep.specs.Running.{Quiet, RunsOn, AllTurns, Gives, IsRefused}
+use Rattle.guest_lockstep.specs.declared.input.Input.TheVariants.{Sector}
+use Rattle.guest_lockstep.specs.declared.reads.Reads.TheVariants.{Shared}
+use Rattle.guest_lockstep.specs.declared.running.StopReason.TheVariants as reason
+use Rattle.guest_lockstep.specs.declared.running.Stopped.{Stopped}
 use Rattle.log_entry.specs.Standing.{IsOnTrace, TakesFetched}
 use Rattle.log_entry.specs.declared.entry.Entry.{Entry}
 use Rattle.log_entry.specs.declared.entry.Entry.TheVariants.{Read}

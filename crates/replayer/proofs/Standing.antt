@@ -5,11 +5,11 @@
 use Rattle.std.proofs.Common.{◌≡◌, ℕ, suc, Bool, true, false, List, [], ◌∷◌, ◌++◌, Option, Some, None, refl, sym, ap, subst, ◌∙◌}
 use Rattle.std.proofs.lemmas.List.{append-nil, append_assoc}
 use Rattle.event_callbacks.specs.declared.operations.Operation.{Operation}
-use Rattle.guest_board.specs.Machine.{Machine, Move, Do, Take}
-use Rattle.guest_board.specs.Recorded.{Counts, Accepts, Recorded}
-use Rattle.guest_board.specs.declared.input.Input.{Input}
-use Rattle.guest_board.specs.declared.input.Input.TheVariants.{Sector}
-use Rattle.guest_board.specs.declared.reads.Reads.{Reads}
+use Rattle.guest_lockstep.specs.Machine.{Machine, Move, Do, Take}
+use Rattle.guest_lockstep.specs.Recorded.{Counts, Accepts, Recorded}
+use Rattle.guest_lockstep.specs.declared.input.Input.{Input}
+use Rattle.guest_lockstep.specs.declared.input.Input.TheVariants.{Sector}
+use Rattle.guest_lockstep.specs.declared.reads.Reads.{Reads}
 use Rattle.log_entry.specs.Entries.{entries, marks}
 use Rattle.log_entry.specs.Standing.{owed, Stands, TakesFetched}
 use Rattle.log_entry.specs.declared.entry.Entry.{Entry}

@@ -2,13 +2,13 @@
 -- them as the first entry is ahead all begin below its count, and each is a move by the entries. The first of them can
 -- be executed, so it is refused only when out of memory; and an entry at the machine's count is a stretch of one move.
 use Rattle.std.proofs.Common.{◌≡◌, ℕ, ◌+◌, ◌<◌, ◌≤◌, List, ◌∷◌, drop, slice_get, Option, Some, Ok, Err, refl, sym, ap, subst, ◌∙◌, arith}
-use Rattle.guest_board.proofs.QuietSteps.{none_made, quiet_count}
-use Rattle.guest_board.specs.Lockstep.{step_refusal}
-use Rattle.guest_board.specs.Machine.{Machine}
-use Rattle.guest_board.specs.Recorded.{Counts}
-use Rattle.guest_board.specs.Running.{Quiet, Begin as NoSteps, More, RunsOn, AllTurns, Gives, IsRefused, fault_of}
-use Rattle.guest_board.specs.declared.running.StopReason.TheVariants.{Refused}
-use Rattle.guest_board.specs.declared.running.Stopped.{Stopped}
+use Rattle.guest_lockstep.proofs.QuietSteps.{none_made, quiet_count}
+use Rattle.guest_lockstep.specs.Lockstep.{step_refusal}
+use Rattle.guest_lockstep.specs.Machine.{Machine}
+use Rattle.guest_lockstep.specs.Recorded.{Counts}
+use Rattle.guest_lockstep.specs.Running.{Quiet, Begin as NoSteps, More, RunsOn, AllTurns, Gives, IsRefused, fault_of}
+use Rattle.guest_lockstep.specs.declared.running.StopReason.TheVariants.{Refused}
+use Rattle.guest_lockstep.specs.declared.running.Stopped.{Stopped}
 use Rattle.i8080_words.specs.declared.refusal.Fault.{Fault}
 use Rattle.log_entry.specs.Entries.{count_of}
 use Rattle.log_entry.specs.Standing.{IsOnTrace}

@@ -2,12 +2,12 @@
 -- that it logs, in a log that carries its sectors.
 use Rattle.std.specs.Prelude.{◌≡◌, ℕ, ◌<◌, ◌≤◌, ◌⊎◌, Bool, true, false, List, [], ◌∷◌, ◌++◌, Some, Result, Ok, Err}
 use Rattle.event_callbacks.specs.declared.operations.Operation.{Operation}
-use Rattle.guest_board.specs.Lockstep.{Executes}
-use Rattle.guest_board.specs.Machine.{Machine, Move}
-use Rattle.guest_board.specs.Recorded.{Accepts, Counts, Recorded}
-use Rattle.guest_board.specs.Running.{Quiet}
-use Rattle.guest_board.specs.declared.input.Input.{Input}
-use Rattle.guest_board.specs.declared.reads.Reads.TheVariants.{Logged}
+use Rattle.guest_lockstep.specs.Lockstep.{Executes}
+use Rattle.guest_lockstep.specs.Machine.{Machine, Move}
+use Rattle.guest_lockstep.specs.Recorded.{Accepts, Counts, Recorded}
+use Rattle.guest_lockstep.specs.Running.{Quiet}
+use Rattle.guest_lockstep.specs.declared.input.Input.{Input}
+use Rattle.guest_lockstep.specs.declared.reads.Reads.TheVariants.{Logged}
 use Rattle.i8080_words.specs.declared.refusal.Fault.{Fault}
 use Rattle.log_entry.specs.Entries.{count_of, entries}
 use Rattle.log_entry.specs.declared.entry.Entry.{Entry}

@@ -1,8 +1,8 @@
 -- How a replayer stays on a recorded run.
 use Rattle.std.specs.Prelude.{◌≡◌, ℕ, ◌≤◌, List, ◌++◌, Bool, Option}
-use Rattle.guest_board.specs.Machine.{Machine, Move}
-use Rattle.guest_board.specs.Recorded.{Counts, Recorded}
-use Rattle.guest_board.specs.declared.reads.Reads.{Reads}
+use Rattle.guest_lockstep.specs.Machine.{Machine, Move}
+use Rattle.guest_lockstep.specs.Recorded.{Counts, Recorded}
+use Rattle.guest_lockstep.specs.declared.reads.Reads.{Reads}
 use Rattle.log_entry.specs.Entries.{entries, last_count}
 use Rattle.log_entry.specs.Standing.{owed, Stands, IsOnTrace}
 use Rattle.log_entry.specs.declared.entry.Entry.{Entry}

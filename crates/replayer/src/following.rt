@@ -1,12 +1,12 @@
 //! A guest that makes the moves of entries that it need not trust.
 ghost use Rattle.std.specs.Prelude.{◌≡◌, ◌<◌, ◌↔◌, IsTrue, OnErr};
-ghost use Rattle.guest_board.specs.Lockstep.{IsInput, HasRoom};
+ghost use Rattle.guest_lockstep.specs.Lockstep.{IsInput, HasRoom};
 ghost use Rattle.log_entry.specs.Entries.{count_of, input_of};
 ghost use Rattle.replayer.specs.Following.{Follows, TakesIf};
 
 use disk_dcdd::{DRIVES, SECTORS};
 use event_callbacks::PORTS;
-use guest_board::{Input, Lockstep, StopReason, Stopped, run};
+use guest_lockstep::{Input, Lockstep, StopReason, Stopped, run};
 use i8080_words::{GREATEST_NUMBER, R};
 use log_entry::Entry;
 

@@ -6,7 +6,7 @@ ghost use Rattle.disk_dcdd.specs.declared.sector.TheConstants.{SECTORS};
 ghost use Rattle.replayer.specs.Replaying as table;
 
 use disk_dcdd::{SECTOR_BYTES, SectorAddress};
-use guest_board::{Input, Lockstep};
+use guest_lockstep::{Input, Lockstep};
 use log_channel::Receiver;
 use log_entry::Entry;
 use shared_disk::SectorRead;

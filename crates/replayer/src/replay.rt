@@ -6,7 +6,7 @@ ghost use Rattle.replayer.specs.Replaying as table;
 use crate::reads::{input_with, wanted};
 use crate::replayer::Replayed;
 use disk_dcdd::SECTOR_BYTES;
-use guest_board::{Lockstep, ReplayEnd, StopReason};
+use guest_lockstep::{Lockstep, ReplayEnd, StopReason};
 use i8080_words::R;
 use log_channel::Receiver;
 
@@ -82,7 +82,7 @@ fn stretch<B: Lockstep>(
     };
     let ahead = front.count() - board.count();
     if ahead > 0 {
-        let stopped = guest_board::run(board, turns.min(ahead));
+        let stopped = guest_lockstep::run(board, turns.min(ahead));
         if stopped.steps > 0 {
             return Ok(stopped.steps);
         }

@@ -11,7 +11,7 @@ ghost use Rattle.replayer.specs.Standing.{StaysOnEach};
 use crate::reads::{is_at, wanted};
 use crate::replay::run;
 use disk_dcdd::SECTOR_BYTES;
-use guest_board::{Lockstep, ReplayEnd};
+use guest_lockstep::{Lockstep, ReplayEnd};
 use i8080_words::{Fault, R};
 use log_channel::Receiver;
 use shared_disk::SectorRead;

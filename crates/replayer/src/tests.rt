@@ -9,7 +9,7 @@ mod reads;
 
 use crate::{Replayed, Replayer};
 use echo_guest::Echo;
-use guest_board::{Input, Lockstep, Reads, ReplayEnd};
+use guest_lockstep::{Input, Lockstep, Reads, ReplayEnd};
 use i8080_words::{Fault, R};
 use log_buffer::LogBuffer;
 use log_channel::{Packet, Receiver, packets_spell_one_way};

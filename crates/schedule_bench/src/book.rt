@@ -3,7 +3,7 @@
 use crate::mail::Mail;
 use crate::missing::Missing;
 use event_callbacks::{OpId, PORTS};
-use guest_board::{ReplayEnd, StopReason};
+use guest_lockstep::{ReplayEnd, StopReason};
 use guest_trace::{Bare, Timed};
 use pair_events::{Event, Reply};
 use std::alloc::{AllocError, Global};

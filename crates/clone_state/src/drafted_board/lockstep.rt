@@ -1,7 +1,7 @@
 //! A board with its draft as the layers of a pair see it: it does what the board does, and the draft keeps up.
 ghost use Rattle.std.specs.Prelude.{◌≡◌, OnErr};
 ghost use Rattle.guest_board.specs.Inputs.{some_altair};
-ghost use Rattle.guest_board.specs.Lockstep.{Executes, HasRoom, IsInput, Takes};
+ghost use Rattle.guest_lockstep.specs.Lockstep.{Executes, HasRoom, IsInput, Takes};
 ghost use Rattle.clone_state.specs.DraftedBoard.{KeepsUpWith};
 ghost use Rattle.clone_state.specs.Drafts.{KeepsUp};
 
@@ -9,7 +9,8 @@ use super::DraftedBoard;
 use crate::draft::Draft;
 use disk_dcdd::SectorAddress;
 use event_callbacks::{Completes, OpId, Operation};
-use guest_board::{Board, Executed, Input, Lockstep};
+use guest_board::{Board, Executed};
+use guest_lockstep::{Input, Lockstep};
 use i8080_words::R;
 
 impl<T: Completes, S: Completes, W: Completes> Lockstep for DraftedBoard<T, S, W> {

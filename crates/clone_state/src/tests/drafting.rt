@@ -5,7 +5,7 @@ ghost use Rattle.event_callbacks.specs.declared.devices.TheConstants.{SENT, SECT
 use super::{board, image, part};
 use crate::{Copies, DraftedBoard, Image};
 use event_callbacks::{Callbacks, Completes, plain_completions};
-use guest_board::Lockstep;
+use guest_lockstep::Lockstep;
 use i8080_words::{Fault, R};
 use std::alloc::Global;
 use std::process::Abort;

@@ -6,14 +6,14 @@ ghost use Rattle.event_callbacks.specs.Completions.{is_due, done_of};
 ghost use Rattle.event_callbacks.specs.declared.devices.TheConstants.{PORTS};
 ghost use Rattle.guest_board.specs.Guest as table;
 ghost use Rattle.guest_board.specs.Inputs as inputs;
-ghost use Rattle.guest_board.specs.Lockstep.{IsInput, IsNumbered, HasRoom};
-ghost use Rattle.guest_board.specs.declared.input.Input.TheVariants as input_of;
+ghost use Rattle.guest_lockstep.specs.Lockstep.{IsInput, IsNumbered, HasRoom};
+ghost use Rattle.guest_lockstep.specs.declared.input.Input.TheVariants as input_of;
 
 use super::Board;
 use super::readers::last_completed;
-use crate::input::Input;
 use disk_dcdd::{Controller, SECTOR_BYTES, SectorAddress};
 use event_callbacks::{Callbacks, Completes, Devices, Done, OpId, Operation};
+use guest_lockstep::Input;
 use i8080_words::{Fault, R};
 
 impl<T: Completes, S: Completes, W: Completes> Board<T, S, W> {

@@ -1,10 +1,9 @@
 //! A board as the layers of a pair see it.
 use super::Board;
 use crate::executed::Step;
-use crate::input::Input;
-use crate::lockstep::Lockstep;
 use disk_dcdd::SectorAddress;
 use event_callbacks::{Completes, OpId, Operation};
+use guest_lockstep::{Input, Lockstep};
 use i8080_words::R;
 
 impl<T: Completes, S: Completes, W: Completes> Lockstep for Board<T, S, W> {

@@ -2,7 +2,7 @@
 use Rattle.std.proofs.Common.{[], ◌++◌, ◌∙◌, ◌∷◌, ◌≡◌, ◌≤◌, List, None, Option, Some, ap, append_assoc, arith, inl, inr, length, refl, subst, sym, ℕ}
 use Rattle.std.specs.Prelude.{slice_get, slice_set}
 use Rattle.pair_protocol.proofs.Words.{Copying, Do, Input, IsPrefix, Lawful, Machine, MayTake, Move, Node, Operation, Owns, Primary, Recorded, Runs, Spare, Take, Winner, World, Write, cut, entries, inputs, operations, refusal_of, steps, timed, winner_in, with_node}
-use Rattle.guest_board.specs.Recorded.{Accepts}
+use Rattle.guest_lockstep.specs.Recorded.{Accepts}
 use Rattle.pair_protocol.proofs.Invariant.Acting.{ActingPrimary, PrimaryAtTop, PrimaryEarlier, PrimaryPlace, line_at}
 use Rattle.pair_protocol.proofs.Invariant.Frames.{backup-there, global-grows, relined, with_change, with_own}
 use Rattle.pair_protocol.proofs.Invariant.Settled.{settled-grows, settled-held, settled-longer, settled-won}

@@ -2,7 +2,7 @@
 use Rattle.std.proofs.Common.{[], ◌++◌, ◌+◌, ◌∙◌, ◌∷◌, ◌≡◌, ◌≤◌, ◌⊎◌, Bool, List, None, Option, Some, ap, append-nil, arith, cond, eqb-true, false, inl, inr, length, map, not, refl, subst, suc, sym, true, ℕ}
 use Rattle.std.specs.Prelude.{◌==◌, slice_get}
 use Rattle.pair_protocol.proofs.Words.{Alone, Among, Do, Input, IsPrefix, IsUnwritten, IsWritten, Lawful, Machine, MayTake, Move, Node, Operation, Own, Primary, Runs, SectorAddress, SectorRead, SectorWrite, Take, Timed, World, Write, WriteDone, acceptances, accepted, bare, entries, entry_of, image, inputs, keys, operations, primary_steps, primary_takes, refusal_of, sector_refusal, steps, terminal, timed}
-use Rattle.guest_board.specs.declared.input.Input.TheVariants as input
+use Rattle.guest_lockstep.specs.declared.input.Input.TheVariants as input
 use Rattle.guest_trace.specs.declared.timed.Bare.TheVariants.{Rx, Sent, Written}
 use Rattle.i8080_words.specs.declared.refusal.Fault.TheVariants.{NotDue, SectorBusy, StaleRead}
 use Rattle.pair_protocol.proofs.Invariant.Frames.{with_own}

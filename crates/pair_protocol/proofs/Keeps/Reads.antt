@@ -1,8 +1,8 @@
 -- What the disk answers to a read that a backup has come to is what its primary took there: both are what the machine's own
 -- disk has at that place. So the backup makes its primary's move.
 use Rattle.std.proofs.Common.{[], ◌++◌, ◌∙◌, ◌∷◌, ◌≡◌, ◌⊎◌, List, ap, append-nil, append_assoc, arith, inl, inr, length, refl, subst, sym, ℕ}
-use Rattle.guest_board.specs.declared.input.Input.TheVariants as input
-use Rattle.guest_board.specs.declared.reads.Reads.TheVariants.{Logged, Shared}
+use Rattle.guest_lockstep.specs.declared.input.Input.TheVariants as input
+use Rattle.guest_lockstep.specs.declared.reads.Reads.TheVariants.{Logged, Shared}
 use Rattle.guest_trace.specs.declared.timed.Bare.TheVariants as kind
 use Rattle.log_entry.specs.declared.entry.Entry.TheVariants as entry
 use Rattle.pair_protocol.proofs.Words.{Among, Copying, Do, Entry, Input, IsPrefix, IsUnwritten, IsWritten, Lawful, Machine, Move, Node, Own, Owns, Reads, Runs, SectorAddress, SectorWrite, Take, World, Write, bare, cut, entry_of, image, operations}

@@ -4,7 +4,7 @@
 use Rattle.std.proofs.Common.{[], ◌++◌, ◌+◌, ◌∙◌, ◌∷◌, ◌≡◌, ◌≤◌, ◌⊎◌, List, None, Option, Some, ap, append-nil, arith, drop, false, inl, inr, length, refl, subst, suc, sym, take, true, ℕ}
 use Rattle.std.specs.Prelude.{slice_get}
 use Rattle.pair_protocol.proofs.Words.{Copying, Entry, IsCopying, IsPrefix, Lawful, Machine, Mark, Move, Node, Primary, Reached, Recorded, Replaying, Role, Runs, Serving, Spare, World, cut, entries, inputs, keys, list_of, steps}
-use Rattle.guest_board.specs.declared.input.Input.TheVariants as input
+use Rattle.guest_lockstep.specs.declared.input.Input.TheVariants as input
 use Rattle.log_entry.specs.Standing.{IsOnTrace, TakesFetched}
 use Rattle.log_entry.specs.declared.entry.Entry.TheVariants as entry
 use Rattle.pair_protocol.specs.NodeStands.{NodeStands}

@@ -5,8 +5,8 @@ use Rattle.std.proofs.lemmas.List.{take-append-le}
 use Rattle.std.proofs.lemmas.Option.{slice_get_within}
 use Rattle.std.specs.Prelude.{slice_get}
 use Rattle.pair_protocol.proofs.Words.{Among, Backup, Copying, Do, Draining, IsPrefix, IsUnwritten, IsWritten, Lawful, Machine, Mark, Move, Node, Reach, Recorded, Replaying, Runs, SectorAddress, SectorRecord, SectorWrite, Take, World, Write, address_of, count_of, cut, entries, entry_of, inputs, inputs_of, operations, refusal_of, sector_record, steps, winner_in, Reads}
-use Rattle.guest_board.specs.Recorded.{Accepts}
-use Rattle.guest_board.specs.declared.input.Input.TheVariants.{Sector}
+use Rattle.guest_lockstep.specs.Recorded.{Accepts}
+use Rattle.guest_lockstep.specs.declared.input.Input.TheVariants.{Sector}
 use Rattle.log_entry.specs.declared.entry.Entry.TheVariants as entry
 use Rattle.pair_protocol.specs.ReadsKept.{ReadsKept, StillReplays}
 use Rattle.pair_protocol.proofs.Invariant.Acting.{Acting, BackupActs, PrimaryActs, acting}

@@ -3,9 +3,9 @@ use Rattle.std.proofs.Common.{[], ◌++◌, ◌<◌, ◌∷◌, ◌≡◌, List,
 use Rattle.std.specs.Prelude.{slice_get}
 use Rattle.pair_protocol.proofs.Words.{Acknowledgement, Alone, Copying, LogEntry, Machine, Mark, Node, Primary, World, Write, accepted, first_node, opening, with_host, with_node}
 use Rattle.event_callbacks.specs.declared.operations.OpId.TheVariants as id
-use Rattle.guest_board.specs.declared.reads.Reads.TheVariants.{Logged}
-use Rattle.guest_board.specs.declared.replay_end.ReplayEnd.TheVariants.{End, Wait}
-use Rattle.guest_board.specs.declared.running.StopReason.TheVariants as reason
+use Rattle.guest_lockstep.specs.declared.reads.Reads.TheVariants.{Logged}
+use Rattle.guest_lockstep.specs.declared.replay_end.ReplayEnd.TheVariants.{End, Wait}
+use Rattle.guest_lockstep.specs.declared.running.StopReason.TheVariants as reason
 use Rattle.i8080_words.specs.declared.refusal.Fault.TheVariants.{WrongRole}
 use Rattle.pair_protocol.specs.Effects.{AtEnd, AwaitsBytes, Gives, Goes, NoneLeft, OneMark, OneRead, OneStep}
 use Rattle.pair_protocol.specs.Event.{Accepted, Acknowledge, Arrive, DeliverLog, Drain, Dropped, Event, MessageIs, MovedAlone, New, Ran, Refused, Release, Reply, Send, Step, Stop, Stopped, Suspect, TakeKey, TypeByte, TypedAt, Won}

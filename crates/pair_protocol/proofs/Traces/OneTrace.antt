@@ -2,7 +2,7 @@
 -- a sector are those of the machine's own disk. And what the first entries of a trace give.
 use Rattle.std.proofs.Common.{[], ◌++◌, ◌∙◌, ◌∷◌, ◌≡◌, ◌≤◌, List, None, Option, Some, ap, append-nil, arith, length, refl, subst, suc, sym, take, zero, ℕ}
 use Rattle.pair_protocol.proofs.Words.{Do, Input, Machine, Move, Operation, Own, Owns, Reach, Runs, Take, Timed, bare, cut, entries, image, inputs, inputs_of, last_count, quiet, steps, timed, Reads}
-use Rattle.guest_board.specs.declared.input.Input.TheVariants as input
+use Rattle.guest_lockstep.specs.declared.input.Input.TheVariants as input
 use Rattle.pair_protocol.proofs.Traces.Cuts.{cut-prefix, entries-cut, last-cut}
 use Rattle.pair_protocol.proofs.Traces.Lists.{same_some}
 use Rattle.pair_protocol.proofs.Traces.Moves.{inputs_of-entries, owns-prefix, runs-prefix, runs-rest}

@@ -2,7 +2,7 @@
 -- follows a front; and one more move after it makes another recorded run, if an input there is also accepted.
 use Rattle.std.proofs.Common.{[], ◌++◌, ◌∷◌, ◌≡◌, List, Option, ap, refl, subst, sym}
 use Rattle.pair_protocol.proofs.Words.{Do, Input, IsPrefix, Machine, Move, Operation, Recorded, Runs, Take}
-use Rattle.guest_board.specs.Recorded.{Accepts}
+use Rattle.guest_lockstep.specs.Recorded.{Accepts}
 use Rattle.pair_protocol.proofs.Traces.Lists.{same_some}
 use Rattle.pair_protocol.proofs.Traces.Moves.{runs-rest}
 

@@ -7,7 +7,7 @@ ghost use Rattle.pair_rule.specs.Seats.{HasSwapsLeft};
 ghost use Rattle.pair_threads.specs.Primary.{IsAtRest, Works};
 
 use super::PrimaryWorker;
-use guest_board::Lockstep;
+use guest_lockstep::Lockstep;
 use i8080_words::{Fault, R};
 use pair_rule::Fabric;
 

@@ -8,7 +8,7 @@ ghost use Rattle.pair_threads.specs.Primary.{MayAsk, Works};
 use super::PrimaryWorker;
 use disk_dcdd::{SECTOR_BYTES, SECTORS, SectorAddress, SectorWrite};
 use event_callbacks::{OpId, Operation};
-use guest_board::{Input, Lockstep};
+use guest_lockstep::{Input, Lockstep};
 use i8080_words::Fault;
 use pair_rule::{DiskAnswer, DiskRequest, Fabric};
 

@@ -12,7 +12,7 @@ use crate::port_inputs::PortInputs;
 use crate::recording::Recording;
 use crate::signals::Told;
 use crate::worker::{Turn, Worker};
-use guest_board::Lockstep;
+use guest_lockstep::Lockstep;
 use i8080_words::{Fault, R};
 use log_entry::Entry;
 use pair_rule::{Fabric, PrimarySeat};

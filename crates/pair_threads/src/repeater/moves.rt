@@ -3,7 +3,7 @@ ghost use Rattle.std.specs.Prelude.{◌≡◌, ◌<◌, ◌↔◌, ◌++◌, [],
 ghost use Rattle.pair_threads.specs.Repeating.{GoesOn, IsAt};
 
 use super::Repeater;
-use guest_board::Lockstep;
+use guest_lockstep::Lockstep;
 use i8080_words::{Fault, R};
 use log_entry::Entry;
 use replayer::{Followed, follow};

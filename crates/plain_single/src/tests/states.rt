@@ -3,7 +3,8 @@ use super::folds::{Fold, Random};
 use crate::executor::{Stores, effect};
 use crate::step::run;
 use crate::wires::Wires;
-use guest_board::{Reads, Setup};
+use guest_board::Setup;
+use guest_lockstep::Reads;
 use i8080_words::{
     AddressRegister, Fault, Interrupts, Op, Processor, R, Regs, decode, length, of_psw, psw,
 };

@@ -1,7 +1,7 @@
 //! A guest that follows entries, those of its own run and others.
 use crate::{Followed, follow};
 use echo_guest::Echo;
-use guest_board::Lockstep;
+use guest_lockstep::Lockstep;
 use i8080_words::Fault;
 use log_entry::Entry;
 

@@ -12,7 +12,7 @@ use crate::worlds::rows::{Altairs, Sent, boot, happen, sent_in};
 use clone_state::Copies;
 use event_callbacks::{Callbacks, Completes, OpId, plain_completions};
 use ft_world::{NodeStatus, World};
-use guest_board::{Reads, StopReason};
+use guest_lockstep::{Reads, StopReason};
 use i8080_words::{Fault, R};
 use pair_events::{Reply, Role};
 use shared_disk::SectorStore;

@@ -6,7 +6,7 @@ use crate::worlds::lines::{
 };
 use crate::worlds::rows::{End, Sent, check, node, sector, write};
 use event_callbacks::OpId;
-use guest_board::StopReason;
+use guest_lockstep::StopReason;
 use guest_trace::{Bare, Timed};
 use i8080_words::{Fault, R};
 use pair_events::{Reply, Role};

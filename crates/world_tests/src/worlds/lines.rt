@@ -1,7 +1,7 @@
 //! The lines of a table: events and answers in the words of a script.
 
 use event_callbacks::OpId;
-use guest_board::{ReplayEnd, StopReason};
+use guest_lockstep::{ReplayEnd, StopReason};
 use i8080_words::R;
 use pair_events::{Event, Reply};
 

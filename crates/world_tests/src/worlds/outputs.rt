@@ -8,7 +8,7 @@ use crate::worlds::lines::{
 };
 use crate::worlds::rows::{End, Sent, boot, check, node, sector, stands};
 use event_callbacks::{Completes, OpId, plain_completions};
-use guest_board::{Reads, StopReason};
+use guest_lockstep::{Reads, StopReason};
 use i8080_words::{Fault, R};
 use pair_events::{Reply, Role};
 use std::alloc::Global;

@@ -6,7 +6,7 @@ use crate::worlds::lines::{
     suspect,
 };
 use crate::worlds::rows::{End, Sent, check_with, node, sector, write};
-use guest_board::{Reads, ReplayEnd};
+use guest_lockstep::{Reads, ReplayEnd};
 use guest_trace::{Bare, Timed};
 use i8080_words::{Fault, R};
 use pair_events::{Reply, Role};

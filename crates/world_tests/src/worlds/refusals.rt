@@ -10,7 +10,7 @@ use crate::worlds::lines::{
 use crate::worlds::outputs::{FIRST_BYTE, after_first_byte, first_byte};
 use crate::worlds::rows::{End, Sent, boot, check, happen, node, sector};
 use event_callbacks::{Callbacks, Completes, OpId, plain_completions};
-use guest_board::{Reads, ReplayEnd};
+use guest_lockstep::{Reads, ReplayEnd};
 use i8080_words::{Fault, R};
 use pair_events::{Reply, Role};
 use std::alloc::Global;

@@ -6,7 +6,7 @@ use crate::worlds::lines::{
 };
 use crate::worlds::outputs::{FIRST, FIRST_BYTE, after_first_byte};
 use crate::worlds::rows::{End, Sent, check, node, sector};
-use guest_board::{ReplayEnd, StopReason};
+use guest_lockstep::{ReplayEnd, StopReason};
 use guest_trace::{Bare, Timed};
 use i8080_words::{Fault, R};
 use pair_events::{Reply, Role};

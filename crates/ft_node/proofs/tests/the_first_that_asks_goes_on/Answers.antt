@@ -1,6 +1,6 @@
 -- A node that holds nothing may replay.
 use Rattle.std.proofs.Common.{refl}
-use Rattle.guest_board.specs.declared.reads.Reads.TheVariants.{Logged}
+use Rattle.guest_lockstep.specs.declared.reads.Reads.TheVariants.{Logged}
 use Rattle.pair_protocol.specs.Copying.{no_copies}
 use Rattle.pair_protocol.specs.Node.{Backup, blank}
 use Rattle.ft_node.proofs.EmptyNodes.{begins, may_replay}

@@ -39,12 +39,11 @@ returns-in_err-answer g c = λ course shows.
 
 pub returns : goal.returns
 returns g c = λ course shows.
-    let so_far = c.loop-line.invariant course shows in
-    (
+    let so_far = c.loop-line.invariant course shows in (
       so_far.after,
       subst
-      (λ l. AddsAnswers (machine_of g.B.Lockstep.machine course) course.copying course.world l
-      (handed (g.O.Write.contents c.args.writer.now) c.args.report.now)
-      (handed (g.O.Write.contents c.loop-line.writer) c.loop-line.report) so_far.after)
-      (take_all c.loop-line.line-index c.args.lines.now c.loop-line-test.false) so_far.adds,
+          (λ l. AddsAnswers (machine_of g.B.Lockstep.machine course) course.copying course.world l
+          (handed (g.O.Write.contents c.args.writer.now) c.args.report.now)
+          (handed (g.O.Write.contents c.loop-line.writer) c.loop-line.report) so_far.after)
+          (take_all c.loop-line.line-index c.args.lines.now c.loop-line-test.false) so_far.adds,
     )

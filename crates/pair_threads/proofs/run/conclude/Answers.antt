@@ -4,7 +4,7 @@ use Rattle.std.proofs.lemmas.Bool.{false≢true}
 use Rattle.std.specs.Option.{is_some}
 use Rattle.log_entry.specs.declared.entry.Entry.{Entry}
 use Rattle.pair_rule.specs.Seats.{Seat}
-use Rattle.guest_board.specs.Machine.{booted_from}
+use Rattle.guest_lockstep.specs.Machine.{booted_from}
 use Rattle.pair_threads.specs.Shown.{IsOfRun}
 use Rattle.pair_threads.specs.Stores.{bytes_in}
 use Rattle.pair_threads.proofs.Ending.{ends, ends_so, settled_so}

@@ -1,7 +1,7 @@
 -- What holds at each exit from a replay, by the lemmas of `Runs`.
 use Rattle.std.proofs.Common.{◌-◌, refl, sym, ap, ◌∙◌, arith}
 use Rattle.std.specs.Option.{unwrap_or}
-use Rattle.guest_board.specs.declared.replay_end.ReplayEnd.TheVariants.{Turns}
+use Rattle.guest_lockstep.specs.declared.replay_end.ReplayEnd.TheVariants.{Turns}
 use Rattle.log_channel.specs.Channel.{Receiving}
 use Rattle.replayer.specs.Replaying.{Begin}
 use Rattle.replayer.proofs.Runs.{goes_on, at_stop, refused, stopped, all_turns}

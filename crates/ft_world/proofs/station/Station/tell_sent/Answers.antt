@@ -1,5 +1,5 @@
 -- The node refuses the acceptance, or takes it.
-use Rattle.guest_board.specs.declared.input.Input.TheVariants as input
+use Rattle.guest_lockstep.specs.declared.input.Input.TheVariants as input
 use Rattle.pair_protocol.specs.Effects.{Took}
 use Rattle.pair_protocol.specs.Refusals.{tell_sent_refusal}
 use Rattle.ft_node.specs.Calls.{Ever}

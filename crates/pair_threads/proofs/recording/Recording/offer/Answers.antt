@@ -1,6 +1,6 @@
 -- The input is one more move, and its entry waits.
 use Rattle.std.proofs.Common.{refl, ap, ◌∙◌, Some, false}
-use Rattle.guest_board.specs.declared.reads.Reads.TheVariants.{Logged}
+use Rattle.guest_lockstep.specs.declared.reads.Reads.TheVariants.{Logged}
 use Rattle.log_entry.specs.Entries.{entry_of}
 use Rattle.pair_threads.proofs.Offering.{offers}
 use Rattle.pair_threads.proofs.recording.Recording.offer.Goals as goal

@@ -1,6 +1,6 @@
 -- The acceptance is taken, and then the byte is no longer named.
 use Rattle.std.proofs.Common.{refl}
-use Rattle.guest_board.specs.declared.input.Input.TheVariants as input
+use Rattle.guest_lockstep.specs.declared.input.Input.TheVariants as input
 use Rattle.pair_threads.proofs.Telling.{takes_then}
 use Rattle.pair_threads.proofs.recording.Recording.sent.Goals as goal
 

@@ -1,6 +1,6 @@
 -- The completion is taken, as the disk answered it, and then the write is no longer named.
 use Rattle.std.proofs.Common.{refl}
-use Rattle.guest_board.specs.declared.input.Input.TheVariants as input
+use Rattle.guest_lockstep.specs.declared.input.Input.TheVariants as input
 use Rattle.pair_threads.proofs.Telling.{hears_written, takes_then}
 use Rattle.pair_threads.proofs.recording.Recording.written.Goals as goal
 

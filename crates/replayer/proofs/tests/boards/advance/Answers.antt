@@ -1,4 +1,4 @@
-use Rattle.guest_board.specs.declared.reads.Reads.TheVariants.{Logged}
+use Rattle.guest_lockstep.specs.declared.reads.Reads.TheVariants.{Logged}
 use Rattle.recorder.specs.Recording.{advance_refusal}
 use Rattle.replayer.proofs.LoggedRun.{advance_logs}
 use Rattle.replayer.proofs.tests.boards.advance.Goals as goal

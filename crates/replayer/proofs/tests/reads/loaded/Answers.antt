@@ -1,7 +1,7 @@
 use Rattle.std.proofs.Common.{ap, subst, arith}
 use Rattle.guest_board.specs.Board.{OnBoard}
 use Rattle.guest_board.specs.Inputs.{some_altair}
-use Rattle.guest_board.specs.Running.{Quiet}
+use Rattle.guest_lockstep.specs.Running.{Quiet}
 use Rattle.replayer.proofs.ReadTrace.{all_steps}
 use Rattle.replayer.proofs.tests.reads.loaded.Goals as goal
 

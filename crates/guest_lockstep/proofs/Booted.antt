@@ -3,18 +3,10 @@
 -- itself the second booted elsewhere, and that carries the fact back.
 use Rattle.std.proofs.Common.{◌≡◌, ℕ, List, [], ◌∷◌, refl}
 use Rattle.disk_dcdd.specs.declared.address.SectorAddress.{SectorAddress}
-use Rattle.guest_board.specs.Guest.{altair, guest_at_boot}
-use Rattle.guest_board.specs.Inputs.{some_altair}
-use Rattle.guest_board.specs.Machine.{Machine, Move, Do, Take, Runs, booted_from}
-use Rattle.guest_board.specs.Outstanding.{ComesAndGoes, AreFew, IsFrugal}
-use Rattle.guest_board.specs.Recorded.{Counts, Accepts, Recorded}
-use Rattle.guest_board.specs.declared.input.Input.{Input}
-use Rattle.guest_board.specs.declared.setup.Setup.{Setup}
-
--- the Altair of a setup is some Altair booted elsewhere
-pub altair_booted : (setup : Setup) (sectors : SectorAddress → List ℕ)
-    → altair setup sectors ≡ booted_from some_altair (guest_at_boot setup) sectors
-altair_booted setup sectors = refl
+use Rattle.guest_lockstep.specs.Machine.{Machine, Move, Do, Take, Runs, booted_from}
+use Rattle.guest_lockstep.specs.Outstanding.{ComesAndGoes, AreFew, IsFrugal}
+use Rattle.guest_lockstep.specs.Recorded.{Counts, Accepts, Recorded}
+use Rattle.guest_lockstep.specs.declared.input.Input.{Input}
 
 pub booted_back : {S : Type 0} (M : Machine S) (start : S) (sectors : SectorAddress → List ℕ)
     → booted_from (booted_from M start sectors) M.boot M.boot_sector ≡ M

@@ -5,9 +5,9 @@ use Rattle.event_callbacks.specs.Operations.{id_of}
 use Rattle.event_callbacks.specs.declared.operations.OpId.{OpId}
 use Rattle.event_callbacks.specs.declared.operations.OpId.TheVariants as id
 use Rattle.event_callbacks.specs.declared.operations.Operation.{Operation}
-use Rattle.guest_board.specs.Machine.{Machine, Move, Runs}
-use Rattle.guest_board.specs.declared.input.Input.{Input}
-use Rattle.guest_board.specs.declared.input.Input.TheVariants.{Rx, Sent, Sector, Written}
+use Rattle.guest_lockstep.specs.Machine.{Machine, Move, Runs}
+use Rattle.guest_lockstep.specs.declared.input.Input.{Input}
+use Rattle.guest_lockstep.specs.declared.input.Input.TheVariants.{Rx, Sent, Sector, Written}
 
 -- the name of the operation that an input completes: the byte that is due, or the write
 abbrev pub completed_by : {S : Type 0} → Machine S → S → Input → Option OpId

@@ -1,8 +1,8 @@
 -- What holds at each exit from the steps, by the lemmas of `QuietSteps`.
 use Rattle.std.proofs.Common.{◌∙◌, ◌+◌, arith, refl}
-use Rattle.guest_board.specs.Running.{Begin}
-use Rattle.guest_board.proofs.QuietSteps.{all_turns, gives, goes_on, is_refused, joined_steps}
-use Rattle.guest_board.proofs.running.run.Goals as goal
+use Rattle.guest_lockstep.specs.Running.{Begin}
+use Rattle.guest_lockstep.proofs.QuietSteps.{all_turns, gives, goes_on, is_refused, joined_steps}
+use Rattle.guest_lockstep.proofs.running.run.Goals as goal
 
 pub loop-steps-init : goal.loop-steps-init
 loop-steps-init g c = record { within = omega arith; quiet = Begin; unchanged = λ none. refl }

@@ -1,10 +1,10 @@
 //! What the layers of a pair require of a guest, so that they are proved for any guest.
 ghost use Rattle.std.specs.Prelude.{◌≡◌, ◌<◌, ◌≤◌, ℕ, IfSome, OnErr, OnOk, option_copied};
-ghost use Rattle.guest_board.specs.Machine.{Machine, refusal_of};
-ghost use Rattle.guest_board.specs.Outstanding.{ComesAndGoes};
-ghost use Rattle.guest_board.specs.Recorded.{Counts};
-ghost use Rattle.guest_board.specs.Running.{Quiet};
-ghost use Rattle.guest_board.specs.Lockstep.{Executes, Takes, IsInput, IsNumbered, HasRoom};
+ghost use Rattle.guest_lockstep.specs.Machine.{Machine, refusal_of};
+ghost use Rattle.guest_lockstep.specs.Outstanding.{ComesAndGoes};
+ghost use Rattle.guest_lockstep.specs.Recorded.{Counts};
+ghost use Rattle.guest_lockstep.specs.Running.{Quiet};
+ghost use Rattle.guest_lockstep.specs.Lockstep.{Executes, Takes, IsInput, IsNumbered, HasRoom};
 ghost use Rattle.disk_dcdd.specs.Completion.{answered};
 ghost use Rattle.disk_dcdd.specs.declared.controller.TheConstants.{DRIVES};
 ghost use Rattle.i8080_words.specs.declared.limits.TheConstants.{GREATEST_NUMBER};

@@ -1,9 +1,9 @@
 -- A recorded run: the moves that a recorder makes and that a replayer repeats, and what both require of the machine.
 use Rattle.std.specs.Prelude.{◌≡◌, suc, true, Option, Some, None, List, [], ◌∷◌}
 use Rattle.event_callbacks.specs.declared.operations.Operation.{Operation}
-use Rattle.guest_board.specs.Lockstep.{IsInput, HasRoom}
-use Rattle.guest_board.specs.Machine.{Machine, Move, Do, Take, refusal_of}
-use Rattle.guest_board.specs.declared.input.Input.{Input}
+use Rattle.guest_lockstep.specs.Lockstep.{IsInput, HasRoom}
+use Rattle.guest_lockstep.specs.Machine.{Machine, Move, Do, Take, refusal_of}
+use Rattle.guest_lockstep.specs.declared.input.Input.{Input}
 
 -- a machine that counts its steps: a step raises the count by one, an input leaves it unchanged, and once it is spent
 -- no step is left

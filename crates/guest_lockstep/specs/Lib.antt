@@ -1,0 +1,5 @@
+pub mod Machine
+pub mod Lockstep
+pub mod Recorded
+pub mod Outstanding
+pub mod Running
