@@ -19,8 +19,8 @@ Ending = namedtuple("Ending", "status output said")
 
 
 def build():
-    """Proves and builds the program if it is not built, or if its sources have changed."""
-    subprocess.run([TOP / "pair", "script"], stdin=subprocess.DEVNULL, check=True)
+    """Proves and builds the program if it is not built, or if its sources have changed: a sweep is of the proved program."""
+    subprocess.run([TOP / "prove"], check=True)
 
 
 def run_all(scripts, proved):
