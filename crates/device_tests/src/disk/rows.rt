@@ -2,7 +2,7 @@
 ghost use Rattle.std.specs.Prelude.{◌≤◌};
 ghost use Rattle.disk_dcdd.specs.declared.controller.TheConstants.{DRIVES};
 
-use crate::*;
+use disk_dcdd::*;
 use i8080_words::Fault;
 
 // A controller of this many drives whose selected drive 0 has its head loaded at track 1.

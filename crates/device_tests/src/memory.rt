@@ -1,6 +1,6 @@
 //! Each call on its happy path, at the edges of pages.
 
-use crate::{BYTES, Memory, PAGE_BYTES};
+use guest_memory::{BYTES, Memory, PAGE_BYTES};
 use std::process::Abort;
 use std::test::Fail;
 

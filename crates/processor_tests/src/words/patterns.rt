@@ -1,5 +1,5 @@
 //! Every code, checked against the bit patterns of the manual's instruction summary.
-use crate::{
+use i8080_words::{
     AccumulatorOperation, AluOperation, Condition, Op, Register, RegisterPair, StackPair, decode,
     length, opcode,
 };

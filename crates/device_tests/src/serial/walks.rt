@@ -4,7 +4,7 @@
 //! bytes from h = 2166136261 on: h is exclusive-ored with the byte and multiplied by 16777619 modulo 2^32. Walk r draws
 //! from x = r, begins with a port at boot, and makes 2,000 rounds. A round draws which call it makes, modulo 8, and a
 //! byte for it; it folds what the call returns, and at its end the line.
-use crate::Acia;
+use serial_2sio::Acia;
 
 #[rattlefmt::skip]
 const FOLDED: [u32; 64] = [

@@ -1,5 +1,5 @@
 //! Examples of the arithmetic and the refusals, one for each call.
-use crate::{
+use i8080_words::{
     AddressRegister, Fault, Flags, add8, and8, daa, dad, dcr, inr, of_psw, or8, psw, rotate_left,
     rotate_right, sub8, xor8,
 };

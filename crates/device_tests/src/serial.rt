@@ -1,8 +1,8 @@
 //! What a program on the guest and a terminal see of a port.
 mod walks;
 
-use crate::{Acia, Receiver, WINDOW};
 use i8080_words::Fault;
+use serial_2sio::{Acia, Receiver, WINDOW};
 
 #[test]
 fn an_overrun_shows_after_the_byte_before_it_is_read(rt: HostRuntime) {

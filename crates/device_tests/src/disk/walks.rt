@@ -4,7 +4,7 @@
 //! bytes from h = 2166136261 on: h is exclusive-ored with the byte and multiplied by 16777619 modulo 2^32. Walk r draws
 //! from x = r, has r mod 4 + 1 drives, and makes 2,000 rounds. A round draws which call it makes, modulo 16, and a byte
 //! for it; it folds what the call returns, and at its end the status and the line.
-use crate::*;
+use disk_dcdd::*;
 use i8080_words::{GREATEST_NUMBER, R};
 use std::process::Abort;
 

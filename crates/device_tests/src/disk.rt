@@ -2,7 +2,7 @@
 mod rows;
 mod walks;
 
-use crate::*;
+use disk_dcdd::*;
 use i8080_words::{Fault, GREATEST_NUMBER};
 use std::process::Abort;
 

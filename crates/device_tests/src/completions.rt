@@ -4,8 +4,8 @@ ghost use Rattle.event_callbacks.specs.declared.devices.TheConstants.{SENT, SECT
 ghost use Rattle.event_callbacks.specs.Completions.{is_due, done_of};
 ghost use Rattle.event_callbacks.specs.Keeping.{Keeps, kind_of};
 
-use crate::*;
 use disk_dcdd::{SECTOR_BYTES, SectorWrite};
+use event_callbacks::*;
 use i8080_words::{Fault, GREATEST_NUMBER, R};
 use std::process::Abort;
 

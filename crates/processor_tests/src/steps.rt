@@ -1,10 +1,10 @@
 //! Worked examples of interrupts, HLT and a small program, over a memory of 256 bytes.
 ghost use Rattle.std.specs.Prelude.{◌≡◌};
-ghost use Rattle.i8080_core.specs.Examples.{Wires, byte_at as byte_of_wires, input_byte as input_of_wires, access};
+ghost use Rattle.processor_tests.specs.Examples.{Wires, byte_at as byte_of_wires, input_byte as input_of_wires, access};
 
 mod codes;
 
-use crate::{Bus, Cpu};
+use i8080_core::{Bus, Cpu};
 use i8080_words::{AddressRegister, Interrupts, Processor, Regs, Stepped};
 use std::process::Abort;
 

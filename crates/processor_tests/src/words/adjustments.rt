@@ -1,5 +1,5 @@
 //! Every decimal adjustment, checked against a formula over digits.
-use crate::{daa, psw};
+use i8080_words::{daa, psw};
 
 fn is_even(byte: u8) -> bool {
     let half = byte ^ (byte >> 4);
