@@ -6,11 +6,11 @@ mod folds;
 mod states;
 mod walks;
 
-use crate::Single;
 use disk_dcdd::{SECTOR_BYTES, SectorAddress, SectorWrite};
 use guest_board::{Reads, Setup};
 use guest_trace::{Bare, Timed};
 use i8080_words::{Fault, R};
+use plain_single::Single;
 use std::alloc::Global;
 use std::process::Abort;
 use std::test::Fail;

@@ -1,7 +1,7 @@
 //! The drives in 64 long random walks, each checked against a number from an independent program.
 use super::folds::{Fold, Random};
-use crate::drives::DiskDrives;
 use i8080_words::{GREATEST_NUMBER, R};
+use plain_single::DiskDrives;
 use std::alloc::Global;
 use std::process::Abort;
 use std::test::Fail;

@@ -1,12 +1,10 @@
 //! Every code from 256 random states, checked against a number from an independent program.
 use super::folds::{Fold, Random};
-use crate::executor::{Stores, effect};
-use crate::step::run;
-use crate::wires::Wires;
 use guest_board::{Reads, Setup};
 use i8080_words::{
     AddressRegister, Fault, Interrupts, Op, Processor, R, Regs, decode, length, of_psw, psw,
 };
+use plain_single::{Stores, Wires, effect, run};
 use std::alloc::Global;
 use std::process::Abort;
 use std::test::Fail;
