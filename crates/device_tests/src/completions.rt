@@ -30,6 +30,51 @@ fn write_sector(rt: &impl Abort, devices: &mut Devices) {
     }
 }
 
+// The byte is accepted. Returns the devices as they were.
+fn complete_byte<T: Completes, S: Completes, W: Completes>(
+    rt: &impl Abort,
+    callbacks: &Callbacks<T, S, W>,
+    devices: Devices,
+) -> Devices {
+    let done = Done::Sent(0);
+    assert!(rt; devices.is_due(&done));
+    assert!(rt; !devices.is_due(&Done::Sent(1)));
+    let after = callbacks.fire(devices.copy(), done);
+    assert!(rt; devices.is_due(&done) && !after.is_due(&done));
+    let port = &after.ports[0];
+    assert!(rt; port.unaccepted() == 0 && port.status() == 0x02);
+    devices
+}
+
+// Sector 5 comes.
+fn complete_sector<T: Completes, S: Completes, W: Completes>(
+    rt: &impl Abort,
+    callbacks: &Callbacks<T, S, W>,
+    devices: Devices,
+) -> Devices {
+    let done = Done::Sector(5, BYTES);
+    assert!(rt; devices.is_due(&done));
+    let mut devices = callbacks.fire(devices, done);
+    assert!(rt; !devices.is_due(&done));
+    assert!(rt; devices.disk.position() == 0xca);
+    assert!(rt; devices.disk.data_in() == 0xe5);
+    devices
+}
+
+// A write is done, and its sector can come again.
+fn complete_write<T: Completes, S: Completes, W: Completes>(
+    rt: &impl Abort,
+    callbacks: &Callbacks<T, S, W>,
+    devices: Devices,
+) {
+    assert!(rt; !devices.is_due(&Done::Sector(5, BYTES)));
+    let done = Done::Written(1);
+    assert!(rt; devices.is_due(&done));
+    let devices = callbacks.fire(devices, done);
+    assert!(rt; !devices.is_due(&done));
+    assert!(rt; devices.is_due(&Done::Sector(5, BYTES)));
+}
+
 // Completes each kind once with these closures.
 fn complete_each<T: Completes + Drop, S: Completes + Drop, W: Completes + Drop>(
     rt: &impl Abort,
@@ -42,31 +87,10 @@ fn complete_each<T: Completes + Drop, S: Completes + Drop, W: Completes + Drop>(
     requires written { Keeps (W.may written) (W.gives written) WRITTEN }
 {
     let callbacks = Callbacks::of(sent, sector, written);
-    let devices = devices_with_a_byte(rt);
-
-    let done = Done::Sent(0);
-    assert!(rt; devices.is_due(&done));
-    assert!(rt; !devices.is_due(&Done::Sent(1)));
-    let after = callbacks.fire(devices.copy(), done);
-    assert!(rt; devices.is_due(&done) && !after.is_due(&done));
-    let port = &after.ports[0];
-    assert_eq!(rt; port.unaccepted(), 0);
-    assert_eq!(rt; port.status(), 0x02);
-
-    let done = Done::Sector(5, BYTES);
-    assert!(rt; devices.is_due(&done));
-    let mut devices = callbacks.fire(devices, done);
-    assert!(rt; !devices.is_due(&done));
-    assert_eq!(rt; devices.disk.position(), 0xca);
-    assert_eq!(rt; devices.disk.data_in(), 0xe5);
-
+    let devices = complete_byte(rt, &callbacks, devices_with_a_byte(rt));
+    let mut devices = complete_sector(rt, &callbacks, devices);
     write_sector(rt, &mut devices);
-    assert!(rt; !devices.is_due(&Done::Sector(5, BYTES)));
-    let done = Done::Written(1);
-    assert!(rt; devices.is_due(&done));
-    let devices = callbacks.fire(devices, done);
-    assert!(rt; !devices.is_due(&done));
-    assert!(rt; devices.is_due(&Done::Sector(5, BYTES)));
+    complete_write(rt, &callbacks, devices);
 }
 
 #[test]
@@ -141,6 +165,11 @@ fn issue_new(rt: &impl Abort, pending: &mut Pending, operation: Operation) -> R<
     Ok(())
 }
 
+// Whether the first byte of port 0 completes, and is this operation.
+fn completes(pending: &mut Pending, operation: Operation) -> bool {
+    pending.complete(OpId::Byte(0, 1)) == Ok(operation)
+}
+
 #[test]
 fn an_operation_completes_once(rt: HostRuntime) -> R<()> {
     let mut pending = Pending::new(rt.alloc());
@@ -150,13 +179,12 @@ fn an_operation_completes_once(rt: HostRuntime) -> R<()> {
         byte: 0x48,
     };
     issue_new(&rt, &mut pending, byte)?;
-    assert_eq!(rt; pending.find(OpId::Byte(0, 1)).copied(), Some(byte));
-    assert_eq!(rt; pending.find(OpId::Byte(1, 1)).copied(), None);
-    assert_eq!(rt; pending.find(OpId::Write(1)).copied(), None);
+    assert!(rt; pending.find(OpId::Byte(0, 1)).copied() == Some(byte));
+    assert!(rt; pending.find(OpId::Byte(1, 1)).is_none() && pending.find(OpId::Write(1)).is_none());
     let mut copy = pending.copy()?;
-    assert_eq!(rt; pending.complete(OpId::Byte(0, 1)), Ok(byte));
-    assert_eq!(rt; pending.complete(OpId::Byte(0, 1)), Err(Fault::NotDue));
-    assert_eq!(rt; copy.complete(OpId::Byte(0, 1)), Ok(byte));
+    assert!(rt; completes(&mut pending, byte) && completes(&mut copy, byte));
+    let again = pending.complete(OpId::Byte(0, 1));
+    assert!(rt; matches!(again, Err(Fault::NotDue)));
     Ok(())
 }
 

@@ -9,7 +9,7 @@ use i8080_words::{GREATEST_NUMBER, R};
 use std::process::Abort;
 
 #[rattlefmt::skip]
-const FOLDED: [u32; 64] = [
+static FOLDED: [u32; 64] = [
     0x0309_40a9, 0xb4de_e9fb, 0x4a4d_c1b7, 0x5aeb_a147, 0x5f1d_578f, 0x2f2c_83bc, 0xfd50_442c, 0xef3e_911a,
     0x93a6_2eab, 0xc6ee_60a2, 0x929f_ea5f, 0x6bfa_782f, 0xc59c_9ad8, 0x0614_152b, 0x5aa9_d95f, 0xe2ab_15b4,
     0xfd67_98f8, 0xefcd_063c, 0xe2c7_371b, 0x5aac_a4e1, 0xa205_34eb, 0x37ec_7e22, 0x7cc6_4b4a, 0x3da3_29b8,
