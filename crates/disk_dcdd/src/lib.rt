@@ -8,8 +8,6 @@ mod controller;
 mod drive;
 mod laws;
 mod sector;
-#[cfg(test)]
-mod tests;
 
 pub use address::{DRIVE_SECTORS, SectorAddress, sectors_stand_apart};
 pub use controller::{Controller, ControllerImage, DRIVES, OUTSTANDING};

@@ -7,8 +7,6 @@ mod laws;
 mod operations;
 mod pending;
 pub mod plain_completions;
-#[cfg(test)]
-mod tests;
 
 pub use callbacks::{Callbacks, Completes, Kept};
 pub use devices::{Devices, Done, PORTS, SECTOR, SENT, WRITTEN};

@@ -6,8 +6,6 @@ mod board;
 mod copies;
 mod flat_memory;
 mod single;
-#[cfg(test)]
-mod tests;
 
 use anyhow::{Result, bail};
 use copies::Made;

@@ -3,8 +3,6 @@
 
 mod laws;
 mod memory;
-#[cfg(test)]
-mod tests;
 
 pub use laws::{
     limits, new_memory_is_unwritten, pages_join_to_memory, versions_count_writes, writes_read_back,

@@ -9,8 +9,6 @@ mod limits;
 mod opcodes;
 mod refusal;
 mod registers;
-#[cfg(test)]
-mod tests;
 
 pub use arithmetic::{
     Flags, add8, and8, daa, dad, dcr, inr, of_psw, or8, psw, rotate_left, rotate_right, sub8, xor8,

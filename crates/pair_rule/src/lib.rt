@@ -30,6 +30,3 @@ pub use payload::{DiskAnswer, DiskRequest, Packet, Payload, PortByte};
 pub use primary::PrimarySeat;
 pub use seat::MOST_SWAPS;
 pub use terminal::TerminalSeat;
-
-#[cfg(test)]
-mod tests;

@@ -2,7 +2,7 @@
 
 /// What one turn of a primary's worker does.
 #[derive(Debug, Clone, Copy, PartialEq, Eq)]
-pub(crate) enum Chore {
+pub enum Chore {
     /// See how many entries are acknowledged.
     See,
     /// Give the oldest byte of the port that has its turn to its terminal.
@@ -30,7 +30,7 @@ pub(crate) const ROTATION: u8 = 20;
 
 impl Chore {
     /// What comes after it.
-    pub(crate) fn next(self) -> Chore {
+    pub fn next(self) -> Chore {
         match self {
             Chore::See => Chore::Emit,
             Chore::Emit => Chore::Count,

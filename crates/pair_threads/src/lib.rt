@@ -19,10 +19,10 @@ mod terminal;
 mod worker;
 mod workers;
 
+pub use chore::Chore;
 pub use gate::{Gate, OpenGate, Who};
 pub use link::Fate;
+pub use rest::Rest;
 pub use run::run_generation;
+pub use signals::{Signals, Told};
 pub use workers::{GenerationEnd, Workers};
-
-#[cfg(test)]
-mod tests;

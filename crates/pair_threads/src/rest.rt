@@ -17,7 +17,7 @@ const LONGER_SLEEPS: u32 = 99;
 
 /// What a worker does that found nothing to do.
 #[derive(Debug, Clone, Copy, PartialEq, Eq)]
-pub(crate) enum Rest {
+pub enum Rest {
     /// It lets another thread run that waits for the processor, and looks again.
     Yield,
     /// It sleeps for this many microseconds.
@@ -28,7 +28,7 @@ impl Rest {
     /// What a worker does after its first turn that found nothing, and after this many more of them. A sleep takes some 55
     /// microseconds more than it should, which a guest that is held up would wait for at each hop of a key or a byte;
     /// yields keep a processor busy, which a guest that computes may need.
-    pub(crate) fn after(fruitless: u32, held_up: bool) -> Rest
+    pub fn after(fruitless: u32, held_up: bool) -> Rest
         ensures yields { fruitless < cond held_up 2000 25 → result ≡ Yield }
         ensures sleeps { (n : ℕ) → fruitless ≡ cond held_up 2000 25 + n → result ≡ Sleep (5 * (1 + min n 99)) }
     {

@@ -8,7 +8,7 @@ const WORKERS: u64 = 5;
 
 /// How many workers have begun, who is at its end, whether the guest is held up, and whether the run has failed.
 #[derive(Drop)]
-pub(crate) struct Signals {
+pub struct Signals {
     begun: AtomicU64,
     primary: AtomicBool,
     backup: AtomicBool,
@@ -18,13 +18,14 @@ pub(crate) struct Signals {
 
 /// The signals as a worker found them.
 #[derive(Debug, Clone, Copy, PartialEq, Eq)]
-pub(crate) struct Told {
-    pub(crate) primary_ended: bool,
-    pub(crate) backup_ended: bool,
+pub struct Told {
+    pub primary_ended: bool,
+    pub backup_ended: bool,
 }
 
 impl Signals {
-    pub(crate) fn new() -> Signals {
+    /// No worker has begun.
+    pub fn new() -> Signals {
         Signals {
             begun: AtomicU64::new(0),
             primary: AtomicBool::new(false),
@@ -34,15 +35,18 @@ impl Signals {
         }
     }
 
-    pub(crate) fn begins(&self) {
+    /// A worker has begun.
+    pub fn begins(&self) {
         let _ = self.begun.fetch_add(1, Ordering::SeqCst);
     }
 
-    pub(crate) fn have_all_begun(&self) -> bool {
+    /// Whether all have begun.
+    pub fn have_all_begun(&self) -> bool {
         self.begun.load(Ordering::SeqCst) >= WORKERS
     }
 
-    pub(crate) fn told(&self) -> Told {
+    /// Which of the nodes are at their ends.
+    pub fn told(&self) -> Told {
         Told {
             primary_ended: self.primary.load(Ordering::SeqCst),
             backup_ended: self.backup.load(Ordering::SeqCst),
@@ -50,20 +54,22 @@ impl Signals {
     }
 
     /// A guest is held up from now on, or no longer.
-    pub(crate) fn holds_up(&self, held_up: bool) {
+    pub fn holds_up(&self, held_up: bool) {
         self.held_up.store(held_up, Ordering::SeqCst);
     }
 
-    pub(crate) fn is_held_up(&self) -> bool {
+    /// Whether a guest is held up.
+    pub fn is_held_up(&self) -> bool {
         self.held_up.load(Ordering::SeqCst)
     }
 
-    pub(crate) fn has_failed(&self) -> bool {
+    /// Whether the run has failed.
+    pub fn has_failed(&self) -> bool {
         self.failed.load(Ordering::SeqCst)
     }
 
     /// A worker is at its end. The others need not hear it of link, terminals and disk.
-    pub(crate) fn ends(&self, who: Who) {
+    pub fn ends(&self, who: Who) {
         match who {
             Who::Primary => self.primary.store(true, Ordering::SeqCst),
             Who::Backup => self.backup.store(true, Ordering::SeqCst),
@@ -71,7 +77,8 @@ impl Signals {
         }
     }
 
-    pub(crate) fn fails(&self) {
+    /// The run has failed.
+    pub fn fails(&self) {
         self.failed.store(true, Ordering::SeqCst);
     }
 }

@@ -45,13 +45,13 @@ pub(crate) struct Awaited {
 /// How many drives there are, which one is selected, their heads, whether interrupts are enabled, the writes that are
 /// not done, and all writes, in order of number.
 #[derive(Drop)]
-pub(crate) struct DiskDrives {
+pub struct DiskDrives {
     pub(crate) attached: u8,
     pub(crate) selection: Selection,
     pub(crate) heads: [Head; DRIVES],
     pub(crate) interrupts: bool,
     pub(crate) awaited: Vec<Awaited>,
-    pub(crate) writes: Vec<SectorWrite>,
+    pub writes: Vec<SectorWrite>,
     ghost few: { attached ≤ 4 },
     ghost within: { (drive : ℕ) → selected_of selection ≡ Some drive → drive < attached },
 }
@@ -60,7 +60,7 @@ impl DiskDrives {
     ghost use Rattle.plain_single.specs.Drives.{drives_of, next_write, with_issued};
 
     /// This many drives, at most 4, when they are switched on.
-    pub(crate) fn new(alloc: Global, attached: u8) -> Self
+    pub fn new(alloc: Global, attached: u8) -> Self
         requires { attached ≤ 4 }
         ensures drives { drives_of result ≡ table.at_boot attached }
         ensures writes { result.writes.items ≡ [] }
@@ -101,7 +101,7 @@ impl DiskDrives {
     }
 
     /// OUT 08h: selects a drive, or none, and the sector leaves.
-    pub(crate) fn select(&mut self, byte: u8)
+    pub fn select(&mut self, byte: u8)
         ensures drives { drives_of self.new ≡ table.after_select (drives_of self.old) byte }
         ensures writes { self.new.writes ≡ self.old.writes }
     {
@@ -115,7 +115,7 @@ impl DiskDrives {
     }
 
     /// IN 08h: the status of the selected drive, each bit 0 while its condition holds.
-    pub(crate) fn status(&self) -> u8
+    pub fn status(&self) -> u8
         ensures { result ≡ table.status_of (drives_of self.now) }
     {
         let Some(drive) = self.selection.drive() else {
@@ -132,7 +132,7 @@ impl DiskDrives {
     }
 
     /// OUT 09h: commands the selected drive.
-    pub(crate) fn command(&mut self, byte: u8)
+    pub fn command(&mut self, byte: u8)
         ensures drives { drives_of self.new ≡ table.after_command (drives_of self.old) byte }
         ensures writes { self.new.writes ≡ self.old.writes }
     {
@@ -145,7 +145,7 @@ impl DiskDrives {
     }
 
     /// IN 09h: the position of the sector.
-    pub(crate) fn position(&mut self) -> u8
+    pub fn position(&mut self) -> u8
         ensures byte { result ≡ table.position_of (drives_of self.old) }
         ensures drives { drives_of self.new ≡ table.after_position (drives_of self.old) }
         ensures writes { self.new.writes ≡ self.old.writes }
@@ -154,7 +154,7 @@ impl DiskDrives {
     }
 
     /// IN 0Ah: the next byte of the sector.
-    pub(crate) fn read(&mut self) -> u8
+    pub fn read(&mut self) -> u8
         ensures byte { result ≡ table.byte_of (drives_of self.old) }
         ensures drives { drives_of self.new ≡ table.after_read (drives_of self.old) }
         ensures writes { self.new.writes ≡ self.old.writes }
@@ -163,7 +163,7 @@ impl DiskDrives {
     }
 
     /// OUT 0Ah: the next byte of a sector that is being written; the last one issues the write.
-    pub(crate) fn fill(&mut self, byte: u8) -> R<()>
+    pub fn fill(&mut self, byte: u8) -> R<()>
         requires { vec_len self.old.writes < GREATEST_NUMBER }
         ensures drives { IfOk result (λ _. drives_of self.new ≡ table.after_data (drives_of self.old) byte) }
         ensures writes { IfOk result (λ _. self.new.writes.items
@@ -218,7 +218,7 @@ impl DiskDrives {
     }
 
     /// Whether the drives ask for an interrupt.
-    pub(crate) fn asks(&self) -> bool
+    pub fn asks(&self) -> bool
         ensures { result ≡ table.line_of (drives_of self.now) }
     {
         self.interrupts && self.selection.has_sector()

@@ -17,7 +17,7 @@ use operands::{holds, operand, pair_value, pushed_value, put, with_pair, writing
 
 /// What an instruction stores: nothing, a byte at an address, or one byte and then another.
 #[derive(Clone, Copy)]
-pub(crate) enum Stores {
+pub enum Stores {
     Nothing,
     Byte(u16, u8),
     Bytes(u16, u8, u16, u8),
@@ -25,9 +25,9 @@ pub(crate) enum Stores {
 
 /// What an instruction does: the registers after it, and what it stores.
 #[derive(Clone, Copy)]
-pub(crate) struct Outcome {
-    pub(crate) regs: Regs,
-    pub(crate) stores: Stores,
+pub struct Outcome {
+    pub regs: Regs,
+    pub stores: Stores,
 }
 
 /// An effect on the registers alone.
@@ -41,7 +41,7 @@ pub(crate) fn quiet(regs: Regs) -> Outcome
 }
 
 /// The effect of every instruction but IN and OUT, on registers whose PC is past it.
-pub(crate) fn effect(op: Op, regs: &Regs, memory: &Memory) -> Outcome
+pub fn effect(op: Op, regs: &Regs, memory: &Memory) -> Outcome
     requires { is_at_port op ≡ false }
     ensures { (ports : ℕ → ℕ) → outcome_of result ≡ table.effect op regs.now (byte_at memory.now.bytes.items) ports }
 {

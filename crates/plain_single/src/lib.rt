@@ -10,8 +10,11 @@ mod memory;
 mod serial;
 mod single;
 mod step;
-#[cfg(test)]
-mod tests;
 mod wires;
 
+pub use drives::DiskDrives;
+pub use executor::{Outcome, Stores, effect};
+pub use memory::Memory;
 pub use single::Single;
+pub use step::run;
+pub use wires::Wires;

@@ -8,14 +8,14 @@ use crate::executor::Stores;
 
 /// A byte at each address.
 #[derive(Drop)]
-pub(crate) struct Memory {
+pub struct Memory {
     pub(crate) bytes: Vec<u8>,
     ghost whole: { vec_len bytes ≡ 65536 },
 }
 
 impl Memory {
     /// The byte at an address.
-    pub(crate) fn read(&self, address: u16) -> u8
+    pub fn read(&self, address: u16) -> u8
         ensures { result ≡ byte_at self.now.bytes.items address }
     {
         self.bytes[address as usize]
@@ -29,7 +29,7 @@ impl Memory {
     }
 
     /// Writes a byte at an address.
-    pub(crate) fn write(&mut self, address: u16, byte: u8)
+    pub fn write(&mut self, address: u16, byte: u8)
         ensures { self.new.bytes.items ≡ slice_set self.old.bytes.items address byte }
     {
         self.bytes[address as usize] = byte;

@@ -36,7 +36,7 @@ pub(crate) fn accept(level: u8, processor: &mut Processor, wires: &mut Wires)
 }
 
 /// Executes the instruction at PC.
-pub(crate) fn run(processor: &mut Processor, wires: &mut Wires) -> R<()>
+pub fn run(processor: &mut Processor, wires: &mut Wires) -> R<()>
     requires { is_full (behind_of wires.old) ≡ false }
     ensures processor { IfOk result (λ _. processor.new
         ≡ (steps.ran processor.old (memory_byte (wired_of (behind_of wires.old)))

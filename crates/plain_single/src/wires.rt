@@ -39,8 +39,8 @@ const NOTHING: u8 = 0xff;
 
 /// Memory, the ports, the drives, and the sense switches.
 #[derive(Drop)]
-pub(crate) struct Wires {
-    pub(crate) memory: Memory,
+pub struct Wires {
+    pub memory: Memory,
     pub(crate) first: SerialLine,
     pub(crate) second: SerialLine,
     pub(crate) drives: DiskDrives,
@@ -49,7 +49,7 @@ pub(crate) struct Wires {
 
 impl Wires {
     /// The memory of a setup, with its ports and drives at boot.
-    pub(crate) fn new(alloc: Global, setup: &Setup) -> R<Self>
+    pub fn new(alloc: Global, setup: &Setup) -> R<Self>
         ensures ok { IfOk result (λ wires. behind_of wires ≡ behind_at_boot setup.now) }
         ensures only_memory { IfErr result (λ fault. fault ≡ OutOfMemory) }
     {
@@ -64,7 +64,7 @@ impl Wires {
     }
 
     /// A copy.
-    pub(crate) fn copy(&self, alloc: Global) -> R<Self>
+    pub fn copy(&self, alloc: Global) -> R<Self>
         ensures ok { IfOk result (λ wires. behind_of wires ≡ behind_of self.now) }
         ensures only_memory { IfErr result (λ fault. fault ≡ OutOfMemory) }
     {
@@ -79,7 +79,7 @@ impl Wires {
     }
 
     /// Whether the number of a port's bytes, or of writes, is at its greatest.
-    pub(crate) fn is_spent(&self) -> bool
+    pub fn is_spent(&self) -> bool
         ensures { result ≡ is_full (behind_of self.now) }
     {
         self.first.output.len() as u64 >= GREATEST_NUMBER

@@ -4,6 +4,3 @@
 mod acia;
 
 pub use acia::{Acia, Receiver, WINDOW};
-
-#[cfg(test)]
-mod tests;

@@ -31,7 +31,7 @@ impl DiskDrives {
 
     /// A sector of this number comes under the head, with these bytes. `NotDue` if the head waits for no sector, or no
     /// track has one of this number; otherwise `SectorBusy` if a write of it is not done.
-    pub(crate) fn arrive(&mut self, number: u8, bytes: [u8; SECTOR_BYTES]) -> R<()>
+    pub fn arrive(&mut self, number: u8, bytes: [u8; SECTOR_BYTES]) -> R<()>
         ensures answer { result ≡ table.answered (table.sector_refusal (drives_of self.old) number) }
         ensures drives { OnOk result (drives_of self.new ≡ table.after_sector (drives_of self.old) number bytes) }
         ensures writes { self.new.writes ≡ self.old.writes }
@@ -58,7 +58,7 @@ impl DiskDrives {
     }
 
     /// The write of this number is done. `NotDue` if it is done already, or was never issued.
-    pub(crate) fn finish(&mut self, number: u64) -> R<()>
+    pub fn finish(&mut self, number: u64) -> R<()>
         ensures answer { result ≡ table.answered (table.written_refusal (drives_of self.old) number) }
         ensures drives { OnOk result (drives_of self.new ≡ table.after_written (drives_of self.old) number) }
         ensures writes { self.new.writes ≡ self.old.writes }

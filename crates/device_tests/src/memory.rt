@@ -1,0 +1,111 @@
+//! Each call on its happy path, at the edges of pages.
+
+use guest_memory::{BYTES, Memory, PAGE_BYTES};
+use std::alloc::Global;
+use std::process::Abort;
+use std::test::Fail;
+
+// The first and the last address of page 00, the first of page 01 and the last of page FF.
+static EDGES: [u16; 4] = [0x0000, 0x00ff, 0x0100, 0xffff];
+
+// A byte for each edge, and 00 for the addresses between them.
+fn edge_byte(address: u16) -> u8 {
+    match address {
+        0x0000 => 0x3e,
+        0x00ff => 0x48,
+        0x0100 => 0x76,
+        0xffff => 0xc3,
+        _ => 0x00,
+    }
+}
+
+// Memory in which each edge has its byte.
+fn edged(alloc: Global) -> Result<Memory, Fail> {
+    let mut memory = Memory::new(alloc)?;
+    for address in &EDGES {
+        memory.write(*address, edge_byte(*address));
+    }
+    Ok(memory)
+}
+
+#[test]
+fn new_memory_reads_zero_at_version_zero(rt: HostRuntime) -> Result<(), Fail> {
+    let memory = Memory::new(rt.alloc())?;
+    for address in 0..=u16::MAX {
+        assert!(rt; memory.read(address) == 0x00);
+    }
+    for page in 0..=u8::MAX {
+        assert!(rt; memory.version(page) == 0);
+    }
+    Ok(())
+}
+
+// How often a page is written that has such edges.
+fn writes(page: u8) -> u64 {
+    match page {
+        0x00 => 2,
+        0x01 | 0xff => 1,
+        _ => 0,
+    }
+}
+
+#[test]
+fn a_write_changes_one_byte_and_one_version(rt: HostRuntime) -> Result<(), Fail> {
+    let memory = edged(rt.alloc())?;
+    for address in 0..=u16::MAX {
+        assert!(rt; memory.read(address) == edge_byte(address));
+    }
+    for page in 0..=u8::MAX {
+        assert!(rt; memory.version(page) == writes(page));
+    }
+    Ok(())
+}
+
+#[test]
+fn an_equal_byte_raises_the_version_too(rt: HostRuntime) -> Result<(), Fail> {
+    let mut memory = Memory::new(rt.alloc())?;
+    for _ in 0..2u8 {
+        memory.write(0x2000, 0x00);
+    }
+    assert!(rt; memory.read(0x2000) == 0x00 && memory.version(0x20) == 2);
+    Ok(())
+}
+
+// A page, and its first and last byte.
+static ENDS: [(u8, u8, u8); 3] = [(0x00, 0x3e, 0x48), (0x01, 0x76, 0x00), (0xff, 0x00, 0xc3)];
+
+// Checks the pages of memory that was made of the edges' bytes.
+fn check_pages(rt: &impl Abort, memory: &Memory) {
+    for page in 0..=u8::MAX {
+        assert!(rt; memory.page(page).len() == PAGE_BYTES && memory.version(page) == 0);
+    }
+    for (page, first, last) in &ENDS {
+        assert!(rt; memory.page(*page).first() == Some(first));
+        assert!(rt; memory.page(*page).last() == Some(last));
+    }
+}
+
+#[test]
+fn pages_show_the_bytes_that_memory_is_made_of(rt: HostRuntime) -> Result<(), Fail> {
+    let mut bytes = Vec::with_capacity(rt.alloc(), BYTES)?;
+    for address in 0..=u16::MAX {
+        bytes.push(edge_byte(address))?;
+    }
+    assert!(rt; bytes.len() == BYTES);
+    let memory = Memory::of_bytes(rt.alloc(), &bytes)?;
+    check_pages(&rt, &memory);
+    Ok(())
+}
+
+#[test]
+fn a_copy_is_equal_and_apart(rt: HostRuntime) -> Result<(), Fail> {
+    let mut memory = edged(rt.alloc())?;
+    let copied = memory.copy()?;
+    for page in 0..=u8::MAX {
+        assert!(rt; copied.page(page) == memory.page(page));
+        assert!(rt; copied.version(page) == memory.version(page));
+    }
+    memory.write(0x0100, 0x77);
+    assert!(rt; copied.read(0x0100) == 0x76 && copied.version(0x01) == 1);
+    Ok(())
+}

@@ -1,0 +1,60 @@
+//! What the turns of a worker are for, and what the workers tell each other.
+
+use pair_threads::{Chore, Signals, Told, Who};
+
+#[test]
+fn a_rotation_has_every_chore_once(rt: HostRuntime) {
+    let rotation = [
+        Chore::See,
+        Chore::Emit,
+        Chore::Count,
+        Chore::Accept,
+        Chore::Key,
+        Chore::Ask,
+        Chore::Answer,
+        Chore::Complete,
+        Chore::Post,
+        Chore::Run,
+    ];
+    let mut chore = Chore::See;
+    for expected in rotation {
+        assert_eq!(rt; chore, expected);
+        chore = chore.next();
+    }
+    assert_eq!(rt; chore, Chore::See);
+}
+
+#[test]
+fn workers_hear_who_is_at_its_end(rt: HostRuntime) {
+    let signals = Signals::new();
+    signals.ends(Who::Backup);
+    let told = Told {
+        primary_ended: false,
+        backup_ended: true,
+    };
+    assert_eq!(rt; signals.told(), told);
+    signals.ends(Who::Primary);
+    assert!(rt; signals.told().primary_ended);
+    assert!(rt; !signals.has_failed());
+}
+
+#[test]
+fn workers_hear_whether_the_guest_is_held_up(rt: HostRuntime) {
+    let signals = Signals::new();
+    assert!(rt; !signals.is_held_up());
+    signals.holds_up(true);
+    assert!(rt; signals.is_held_up());
+    signals.holds_up(false);
+    assert!(rt; !signals.is_held_up());
+}
+
+#[test]
+fn all_have_begun_when_five_have(rt: HostRuntime) {
+    let signals = Signals::new();
+    for _ in 0..4 {
+        signals.begins();
+    }
+    assert!(rt; !signals.have_all_begun());
+    signals.begins();
+    assert!(rt; signals.have_all_begun());
+}
