@@ -1,15 +1,7 @@
-//! The program `pair`: what happens to a fault-tolerant pair of Altairs, as a script says.
+//! The program `pair`: its words, standard input and standard output, and the status and the text that it ends with.
 #![tactic(auto)]
 
-mod failure;
-mod live;
-mod options;
-mod program;
-mod report;
-mod session;
-mod shell;
-
-use crate::program::run_program;
+use pair_program::run_program;
 use std::env;
 use std::io::{self, ErrorKind};
 use std::process::ExitCode;
@@ -32,6 +24,3 @@ fn main(rt: HostRuntime) -> ExitCode {
     }
     ExitCode::from(status)
 }
-
-#[cfg(test)]
-mod tests;

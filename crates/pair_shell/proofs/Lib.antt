@@ -1,4 +1,3 @@
-pub mod Booting
 pub mod Playing
 pub mod Sectors
 pub mod Tracing

@@ -5,9 +5,10 @@ use Rattle.i8080_words.specs.declared.refusal.Fault.{Fault}
 use Rattle.pair_events.specs.declared.event.Event.{Event}
 use Rattle.pair_events.specs.declared.reply.Reply.{Reply}
 use Rattle.shell_language.specs.declared.line.ShellLine.{ShellLine}
+use Rattle.pair_setup.specs.Replies.{answer_line}
 use Rattle.pair_shell.specs.Openings.{SetsUp, SetsUpSaid}
 use Rattle.pair_shell.specs.Sessions.{HeedsSaid, IsHeeded, trace_after}
-use Rattle.pair_shell.specs.Tapes.{Begins, IsAnswered, Traces, answer_line, event_lines, played, told_text, trace_text}
+use Rattle.pair_shell.specs.Tapes.{Begins, IsAnswered, Traces, event_lines, played, told_text, trace_text}
 use Rattle.pair_shell.specs.Texts.{Adds, AddsSome}
 use Rattle.pair_shell.specs.declared.opening.Opening.{Opening}
 use Rattle.pair_shell.specs.declared.printing.Printed.{Printed}

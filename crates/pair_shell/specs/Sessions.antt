@@ -8,7 +8,7 @@ use Rattle.ft_world.specs.Running.{Running}
 use Rattle.pair_check.specs.Disks.{Disk}
 use Rattle.shell_language.specs.declared.line.ShellLine.{ShellLine}
 use Rattle.shell_language.specs.declared.line.ShellLine.TheVariants as shell
-use Rattle.pair_shell.specs.Booting.{IsBooted}
+use Rattle.pair_setup.specs.Booting.{IsBooted}
 use Rattle.pair_shell.specs.Openings.{IsSame}
 use Rattle.pair_shell.specs.Tapes.{IsAnswered, Plays}
 use Rattle.pair_shell.specs.declared.notes.Notes.{Notes}

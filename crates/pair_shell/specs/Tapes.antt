@@ -1,16 +1,16 @@
 -- What a tape says of a pair, and how it is printed.
 use Rattle.guest_board.specs.Guest.{Guest}
-use Rattle.std.specs.Prelude.{◌≡◌, ℕ, List, [], ◌∷◌, ◌++◌, Bool, true, false, if◌then◌else◌, Result, Ok, Err, map, codes}
+use Rattle.std.specs.Prelude.{◌≡◌, ℕ, List, [], ◌∷◌, ◌++◌, Bool, true, false, if◌then◌else◌, Result, map, codes}
 use Rattle.std.specs.List.{flat_map}
 use Rattle.guest_lockstep.specs.Machine.{Machine}
 use Rattle.i8080_words.specs.declared.refusal.Fault.{Fault}
 use Rattle.pair_events.specs.declared.event.Event.{Event}
 use Rattle.pair_events.specs.declared.reply.Reply.{Reply}
-use Rattle.pair_events.specs.Printed.{reply_text, refusal_text}
 use Rattle.pair_check.specs.Disks.{Disk, over_records}
 use Rattle.ft_world.specs.Applies.{Runs, Shows}
 use Rattle.ft_world.specs.Running.{Running}
 use Rattle.ft_world.specs.Standing.{Course}
+use Rattle.pair_setup.specs.Replies.{answer_line}
 use Rattle.shell_language.specs.Spelling.{event_text}
 use Rattle.pair_shell.specs.declared.tape.Played.{Played}
 
@@ -38,11 +38,6 @@ abbrev pub Lengthens : {B H S : Type 0} → (B → S) → (B → Guest) → Mach
     → List Played → List Played → Type 0
 Lengthens {B = B} {H = H} state copied M old new tape longer =
     (before : Running B H Disk) → Plays state copied M before tape old → Plays state copied M before longer new
-
--- an answer, as a line of a script would print it
-abbrev pub answer_line : Result Reply Fault → List ℕ
-answer_line (Ok reply) = reply_text reply
-answer_line (Err fault) = refusal_text fault
 
 -- an event as a line of a script, and its answer as a comment after it
 abbrev pub event_lines : Played → List ℕ

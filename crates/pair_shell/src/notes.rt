@@ -11,7 +11,6 @@ use crate::picture::print_picture;
 use crate::plan::Plan;
 use crate::play::{play, play_one};
 use crate::printing::Printed;
-use crate::queries::find;
 use crate::tape::Played;
 use crate::{answers, remaining};
 use clone_state::Copies;
@@ -19,6 +18,7 @@ use ft_world::{NodeStatus, World};
 use i8080_words::Fault;
 use pair_check::{Disk, compare};
 use pair_events::{Answer, Event, Role};
+use pair_setup::find;
 use shell_language::{Quoted, ShellLine, Turns};
 use std::alloc::{AllocError, Global};
 

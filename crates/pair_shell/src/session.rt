@@ -6,10 +6,10 @@ use crate::answers::print_help;
 use crate::notes::Notes;
 use crate::opening::Opening;
 use crate::outcome::{Outcome, refuse};
-use crate::pairs::{Altairs, boot};
 use crate::printing::Printed;
 use event_callbacks::Completes;
 use i8080_words::Fault;
+use pair_setup::{Altairs, boot};
 use shell_language::{Mistake, ShellLine, read_line};
 use std::alloc::{AllocError, Global};
 

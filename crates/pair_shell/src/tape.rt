@@ -13,7 +13,7 @@ pub struct Played {
 impl Played {
     ghost use Rattle.std.specs.Prelude.{◌≡◌};
     ghost use Rattle.pair_events.specs.Printed.{answer_text};
-    ghost use Rattle.pair_shell.specs.Tapes.{answer_line};
+    ghost use Rattle.pair_setup.specs.Replies.{answer_line};
 
     /// What a line of a script would answer.
     pub fn said(&self) -> Answer<'static>

@@ -15,7 +15,7 @@ use ft_world::World;
 use i8080_words::R;
 use pair_check::Disk;
 use pair_events::{Event, Reply};
-use pair_shell::boot;
+use pair_setup::boot;
 use std::alloc::Global;
 
 /// Boots a random pair whose completions are these closures, and makes random events happen in it, until all events have

@@ -1,0 +1,125 @@
+-- What a pair on threads prints is an end of its generation; what is typed at it, line by line.
+use Rattle.std.proofs.Common.{◌≡◌, ℕ, ◌+◌, ◌<◌, zero, suc, Option, Some, None, List, [], ◌∷◌, ◌++◌, Result, Ok, Err, inl, inr, refl, subst, sym, ap, ◌∙◌, length, map, replicate, take, get_or, if◌then◌else◌, append-nil, arith}
+use Rattle.std.specs.Prelude.{◌⊎◌, IfErr, OnOk}
+use Rattle.std.specs.Io.KnownBytes.{Appends, Keeps, append_known}
+use Rattle.std.specs.Option.{option_map_or}
+use Rattle.disk_dcdd.specs.declared.sector.SectorWrite.{SectorWrite}
+use Rattle.disk_dcdd.specs.declared.sector.TheConstants.{SECTOR_BYTES}
+use Rattle.guest_board.specs.Guest.{Guest, guest_at_boot}
+use Rattle.guest_board.specs.Inputs.{some_altair}
+use Rattle.guest_lockstep.specs.Machine.{booted_from}
+use Rattle.log_entry.specs.declared.entry.Entry.{Entry}
+use Rattle.command_live.specs.Living.{AreBooted, EndsOf, PrintsLive, PrintsNone, end_text, typed_by, typed_in, with_byte}
+use Rattle.command_ending.specs.Reports.{AddsLine}
+use Rattle.command_ending.specs.declared.failure.Failure.{Failure}
+use Rattle.command_ending.specs.declared.failure.Failure.TheVariants as failure
+use Rattle.command_ending.proofs.Handing.{settled_kept, settled_line}
+use Rattle.pair_threads.specs.Ending.{EndsBy}
+use Rattle.pair_threads.specs.Stores.{bytes_in}
+use Rattle.pair_threads.specs.declared.gate.Who.{Who}
+use Rattle.shared_disk.specs.Records.{IsAtBoot, boot_record, bytes_after}
+use Rattle.shared_disk.specs.declared.store.Record.{Record}
+use Rattle.script_language.specs.Scripts.{boot_write}
+use Rattle.script_language.specs.declared.line.Line.{Line}
+use Rattle.script_language.specs.declared.setup.ScriptSetup.{ScriptSetup}
+
+module _ (setup : ScriptSetup) (typed0 typed1 : List ℕ) where
+  -- the end is printed, or it is not
+  pub prints_end : (result : Result (Unit {0}) Failure) (old new : Option (List ℕ)) (first second : List ℕ) (winner : Option Who)
+      → EndsOf setup typed0 typed1 winner (first ∷ second ∷ []) → OnOk result (AddsLine (Some (end_text first second winner)) old new)
+      → (result ≡ Err failure.OutOfMemory → Keeps old new)
+      → IfErr result (λ e. (e ≡ failure.OutOfMemory) ⊎ (e ≡ failure.InputOrOutput))
+      → PrintsLive setup typed0 typed1 result old new
+  prints_end (Ok done) old new first second winner ends one kept why =
+      record { first = first; second = second; winner = winner; ends = ends; printed = one }
+  prints_end (Err e) old new first second winner ends one kept (inl is) =
+      subst (λ f. PrintsNone f old new) (sym is) (kept (ap (λ f. Err f) is))
+  prints_end (Err e) old new first second winner ends one kept (inr is) = subst (λ f. PrintsNone f old new) (sym is) tt
+
+  -- if a report has no lines at first, and all that is handed in is then written, that is what the writer got
+  pub settled_live : (a b c : Option (List ℕ)) (first rest : List ℕ) → first ≡ [] → Appends b c rest
+      → (result : Result (Unit {0}) Failure) → PrintsLive setup typed0 typed1 result (append_known a first) (append_known b rest)
+      → PrintsLive setup typed0 typed1 result a c
+  settled_live a b c first rest none q (Ok done) h = record {
+    first = h.first;
+    second = h.second;
+    winner = h.winner;
+    ends = h.ends;
+    printed = settled_line a b c first rest none q (Some (end_text h.first h.second h.winner)) h.printed;
+  }
+  settled_live a b c first rest none q (Err failure.OutOfMemory) h = settled_kept a b c first rest none h q
+  settled_live a b c first rest none q (Err failure.Stalled) h = settled_kept a b c first rest none h q
+  settled_live a b c first rest none q (Err failure.InputOrOutput) h = tt
+  settled_live a b c first rest none q (Err failure.Differs) h = h
+  settled_live a b c first rest none q (Err (failure.CommandLine text)) h = h
+  settled_live a b c first rest none q (Err (failure.BadScript line)) h = h
+
+-- ---- what is typed
+
+with_more : (b : Option ℕ) (xs ys : List ℕ) → with_byte b (xs ++ ys) ≡ with_byte b xs ++ ys
+with_more None xs ys = refl
+with_more (Some byte) xs ys = refl
+
+one_more : (port : ℕ) (lines : List Line) (i : ℕ) (other : Line) → i < length lines
+    → typed_in port (take (suc i) lines) ≡ typed_in port (take i lines) ++ with_byte (typed_by port (get_or lines i other)) []
+one_more port [] i other within = absurd (omega (arith, within))
+one_more port (line ∷ lines) zero other within = refl
+one_more port (line ∷ lines) (suc i) other within =
+    ap (with_byte (typed_by port line)) (one_more port lines i other (let w = within in omega (arith, w)))
+    ∙ with_more (typed_by port line) (typed_in port (take i lines)) (with_byte (typed_by port (get_or lines i other)) [])
+
+-- after the next line there is one byte more, or as many as before
+module _ (port : ℕ) (lines : List Line) (i : ℕ) (other : Line) (found : Option ℕ) (within : i < length lines)
+    (is : found ≡ typed_by port (get_or lines i other)) where
+  next : typed_in port (take (i + 1) lines) ≡ typed_in port (take i lines) ++ with_byte found []
+  next =
+      let suc_i : i + 1 ≡ suc i = omega arith in
+      ap (λ n. typed_in port (take n lines)) suc_i ∙ one_more port lines i other within
+      ∙ ap (λ b. typed_in port (take i lines) ++ with_byte b []) (sym is)
+
+  pub byte_more : (byte : ℕ) (typed : List ℕ) → found ≡ Some byte → typed ≡ typed_in port (take i lines)
+      → typed ++ byte ∷ [] ≡ typed_in port (take (i + 1) lines)
+  byte_more byte typed some before =
+      ap (λ l. l ++ byte ∷ []) before ∙ ap (λ b. typed_in port (take i lines) ++ with_byte b []) (sym some) ∙ sym next
+
+  pub as_many : (typed : List ℕ) → found ≡ None → typed ≡ typed_in port (take i lines)
+      → typed ≡ typed_in port (take (i + 1) lines)
+  as_many typed none before =
+      before ∙ sym (append-nil (typed_in port (take i lines)))
+      ∙ ap (λ b. typed_in port (take i lines) ++ with_byte b []) (sym none) ∙ sym next
+
+-- ---- how it ends
+
+-- a store at boot has in each sector what the setup says
+are_booted : (setup : ScriptSetup) (writes : List SectorWrite) (records : List Record)
+    → writes ≡ map boot_write setup.sectors.items → IsAtBoot records setup.guest.drives writes
+    → AreBooted setup (bytes_in records)
+are_booted setup writes records are at address there =
+    ap (λ (r : Option Record). option_map_or (λ (r : Record). r.bytes) r [])
+    (at address ∙ ap (λ b. if b then Some (boot_record (bytes_after writes address (replicate SECTOR_BYTES 0))) else None) there)
+    ∙ ap (λ l. bytes_after l address (replicate SECTOR_BYTES 0)) are
+
+pub ends_of : (setup : ScriptSetup) (lines : List Line) (boot : Guest) (writes : List SectorWrite) (booted : List Record)
+    (typed0 typed1 : List ℕ) (winner : Option Who) (primary backup : List Entry) (held : ℕ) (screens : List (List ℕ))
+    (records : List Record) (s t : Guest) → boot ≡ guest_at_boot setup.guest
+    → writes ≡ map boot_write setup.sectors.items → IsAtBoot booted setup.guest.drives writes
+    → typed0 ≡ typed_in 0 lines → typed1 ≡ typed_in 1 lines
+    → EndsBy (booted_from some_altair boot (bytes_in booted)) typed0 typed1 winner primary backup held screens records s t
+    → EndsOf setup (typed_in 0 lines) (typed_in 1 lines) winner screens
+ends_of setup lines boot writes booted typed0 typed1 winner primary backup held screens records s t at are there is0 is1 ends =
+    record {
+      sectors = bytes_in booted;
+      booted = are_booted setup writes booted are there;
+      primary = primary;
+      backup = backup;
+      held = held;
+      records = records;
+      s = s;
+      t = t;
+      ends = subst (λ g. EndsBy (booted_from some_altair g (bytes_in booted)) (typed_in 0 lines) (typed_in 1 lines) winner primary
+          backup held screens records s t) at
+          (subst (λ l. EndsBy (booted_from some_altair boot (bytes_in booted)) l (typed_in 1 lines) winner primary backup held screens
+          records s t) is0
+          (subst (λ l. EndsBy (booted_from some_altair boot (bytes_in booted)) typed0 l winner primary backup held screens records s
+          t) is1 ends));
+    }

@@ -1,0 +1,26 @@
+-- The generation begins with the guests, the disk and the keys of the script, so its end is one of that script.
+use Rattle.std.proofs.Common.{List, ap, map, subst, sym, ◌∙◌}
+use Rattle.disk_dcdd.specs.declared.sector.SectorWrite.{SectorWrite}
+use Rattle.script_language.specs.Scripts.{boot_write}
+use Rattle.shared_disk.specs.Records.{IsAtBoot, IsUnwritten}
+use Rattle.shared_disk.specs.declared.store.Record.{Record}
+use Rattle.command_live.specs.Living.{typed_in}
+use Rattle.command_live.proofs.Living.{ends_of}
+use Rattle.command_live.proofs.live.live.Goals as goal
+
+pub run_generation-requires-clause-unwritten : goal.run_generation-requires-clause-unwritten
+run_generation-requires-clause-unwritten g c κs within =
+    subst (λ (records : List Record). IsUnwritten records) (sym c.new.ensures) c.in_ok-store.ensures.unwritten
+
+pub returns : goal.returns
+returns g c =
+    let setup = c.args.script.now.setup in
+    let writes = c.in_ok-sectors.sectors.items in
+    ends_of setup c.args.script.now.lines.items c.in_ok-primary.primary.guest writes c.new.result c.in_ok-typed0.typed0.items
+    c.in_ok-typed1.typed1.items c.in_ok-end.end.winner _ _ _ _ _ _ _ c.in_ok-primary.ensures
+    (c.in_ok-sectors.ensures ∙ ap (map boot_write) c.deref.ensures.value)
+    (subst (λ (records : List Record). IsAtBoot records setup.guest.drives writes) (sym c.new.ensures)
+    (subst (λ (ws : List SectorWrite). IsAtBoot c.in_ok-store.store setup.guest.drives ws) c.deref-2.ensures.value
+    c.in_ok-store.ensures.sectors))
+    (c.in_ok-typed0.ensures ∙ ap (typed_in 0) c.deref-3.ensures.value)
+    (c.in_ok-typed1.ensures ∙ ap (typed_in 1) c.deref-4.ensures.value) c.in_ok-end.ensures.ends

@@ -1,0 +1,82 @@
+-- What a pair on threads prints.
+use Rattle.std.specs.Prelude.{◌≡◌, ℕ, ◌==◌, if◌then◌else◌, IsTrue, Option, Some, None, List, [], ◌∷◌, ◌++◌, Result, MatchResult, codes, map, replicate}
+use Rattle.std.specs.Io.KnownBytes.{Keeps}
+use Rattle.disk_dcdd.specs.Address.{has_sector}
+use Rattle.disk_dcdd.specs.declared.address.SectorAddress.{SectorAddress}
+use Rattle.disk_dcdd.specs.declared.sector.TheConstants.{SECTOR_BYTES}
+use Rattle.guest_board.specs.Guest.{Guest, altair}
+use Rattle.log_entry.specs.declared.entry.Entry.{Entry}
+use Rattle.pair_events.specs.Printed.{accepted_text}
+use Rattle.pair_events.specs.declared.event.Event.TheVariants.{TypeByte}
+use Rattle.command_ending.specs.Reports.{AddsLine}
+use Rattle.command_ending.specs.declared.failure.Failure.{Failure}
+use Rattle.command_ending.specs.declared.failure.Failure.TheVariants.{OutOfMemory, InputOrOutput, Stalled}
+use Rattle.pair_threads.specs.Ending.{EndsBy}
+use Rattle.pair_threads.specs.declared.gate.Who.{Who}
+use Rattle.pair_threads.specs.declared.gate.Who.TheVariants.{Primary}
+use Rattle.script_language.specs.Scripts.{boot_write}
+use Rattle.script_language.specs.declared.line.Line.{Line}
+use Rattle.script_language.specs.declared.line.Line.TheVariants.{Event}
+use Rattle.script_language.specs.declared.setup.ScriptSetup.{ScriptSetup}
+use Rattle.shared_disk.specs.Records.{bytes_after}
+use Rattle.shared_disk.specs.declared.store.Record.{Record}
+
+-- the byte that a line types at a port, and the bytes that lines do
+abbrev pub typed_by : ℕ → Line → Option ℕ
+typed_by port (Event (TypeByte at byte)) = if at == port then Some byte else None
+typed_by port line = None
+
+abbrev pub with_byte : Option ℕ → List ℕ → List ℕ
+with_byte None bytes = bytes
+with_byte (Some byte) bytes = byte ∷ bytes
+
+abbrev pub typed_in : ℕ → List Line → List ℕ
+typed_in port [] = []
+typed_in port (line ∷ lines) = with_byte (typed_by port line) (typed_in port lines)
+
+-- who goes on alone, on a line of its own, if anybody asked to; 10 ends a line
+abbrev pub winner_text : Option Who → List ℕ
+winner_text None = []
+winner_text (Some Primary) = 10 ∷ codes "winner: primary"
+winner_text (Some who) = 10 ∷ codes "winner: backup"
+
+-- what each terminal has accepted, and who goes on alone
+abbrev pub end_text : List ℕ → List ℕ → Option Who → List ℕ
+end_text first second winner = accepted_text 0 first ++ (10 ∷ accepted_text 1 second) ++ winner_text winner
+
+-- each sector has the bytes that the setup says, or zeros
+abbrev pub AreBooted : ScriptSetup → (SectorAddress → List ℕ) → Type 0
+AreBooted setup sectors = (address : SectorAddress) → IsTrue (has_sector setup.guest.drives address)
+    → sectors address ≡ bytes_after (map boot_write setup.sectors.items) address (replicate SECTOR_BYTES 0)
+
+-- how a generation of the Altair of a setup ends, if these bytes were typed at its ports: who goes on alone, and what its
+-- terminals have accepted
+pub record EndsOf (setup : ScriptSetup) (typed0 typed1 : List ℕ) (winner : Option Who) (screens : List (List ℕ)) : Type 0 where
+  pub sectors : SectorAddress → List ℕ
+  pub booted : AreBooted setup sectors
+  pub primary : List Entry
+  pub backup : List Entry
+  pub held : ℕ
+  pub records : List Record
+  pub s : Guest
+  pub t : Guest
+  pub ends : EndsBy (altair setup.guest sectors) typed0 typed1 winner primary backup held screens records s t
+
+-- such an end is printed
+pub record PrintsEnd (setup : ScriptSetup) (typed0 typed1 : List ℕ) (old new : Option (List ℕ)) : Type 0 where
+  pub first : List ℕ
+  pub second : List ℕ
+  pub winner : Option Who
+  pub ends : EndsOf setup typed0 typed1 winner (first ∷ second ∷ [])
+  pub printed : AddsLine (Some (end_text first second winner)) old new
+
+-- nothing is printed of a pair that stalls, or for which memory is refused
+abbrev pub PrintsNone : Failure → Option (List ℕ) → Option (List ℕ) → Type 0
+PrintsNone OutOfMemory old new = Keeps old new
+PrintsNone Stalled old new = Keeps old new
+PrintsNone InputOrOutput old new = Unit {0}
+PrintsNone failure old new = ⊥
+
+abbrev pub PrintsLive : ScriptSetup → List ℕ → List ℕ → Result (Unit {0}) Failure → Option (List ℕ) → Option (List ℕ) → Type 0
+PrintsLive setup typed0 typed1 result old new = MatchResult result (λ done. PrintsEnd setup typed0 typed1 old new)
+    (λ failure. PrintsNone failure old new)

@@ -1,0 +1,8 @@
+//! The command `live`: a pair on threads, from its boot to its end, and what is printed of it.
+#![tactic(auto)]
+
+mod command;
+mod live;
+
+pub use command::{live_script_of, run_live};
+pub use live::LiveOrder;

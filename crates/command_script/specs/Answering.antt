@@ -1,0 +1,62 @@
+-- What the lines of a script do, one after another, in a world of the protocol; and the world that they begin in.
+use Rattle.std.specs.Prelude.{◌≡◌, ℕ, List, [], ◌∷◌, ◌++◌, Option, Result, map}
+use Rattle.std.specs.Io.KnownBytes.{Appends}
+use Rattle.disk_dcdd.specs.declared.address.SectorAddress.{SectorAddress}
+use Rattle.ft_world.specs.Words.{answer_of, event_of}
+use Rattle.guest_board.specs.Guest.{Guest, altair}
+use Rattle.guest_lockstep.specs.Machine.{Machine}
+use Rattle.i8080_words.specs.declared.refusal.Fault.{Fault}
+use Rattle.pair_check.specs.Alike.{BeginAlike}
+use Rattle.pair_events.specs.declared.event.Event.{Event}
+use Rattle.pair_events.specs.declared.reply.Reply.{Reply}
+use Rattle.pair_protocol.specs.Copying.{Copying}
+use Rattle.pair_protocol.specs.Event as protocol
+use Rattle.pair_protocol.specs.Row.{Row}
+use Rattle.pair_protocol.specs.World.{World, opening}
+use Rattle.pair_setup.specs.Booting.{HostsCome}
+use Rattle.pair_setup.specs.Queries.{Finds}
+use Rattle.pair_setup.specs.Replies.{answer_line}
+use Rattle.plain_single.specs.Image.{boot_sectors}
+use Rattle.script_language.specs.Scripts.{boot_write}
+use Rattle.script_language.specs.declared.line.Line.{Line}
+use Rattle.script_language.specs.declared.line.Line.TheVariants as line
+use Rattle.script_language.specs.declared.line.Query.{Query}
+use Rattle.script_language.specs.declared.setup.ScriptSetup.{ScriptSetup}
+
+-- the world that a script begins in: the pair of Altairs of its setup, its disk as the setup says, and as many hosts
+pub record Booted (setup : ScriptSetup) : Type 0 where
+  pub start : SectorAddress → List ℕ
+  pub sectors : BeginAlike setup.guest.drives start (boot_sectors (map boot_write setup.sectors.items))
+  pub world : World Guest
+  pub come : HostsCome (altair setup.guest start) (opening (altair setup.guest start) setup.guest.reads) setup.hosts world
+
+-- each event of the lines happens, by its row, in the world that those before it have left; a query changes nothing
+pub data Happen {S : Type 0} (M : Machine S) (C : Copying S) : World S → List Line → World S → Type 0 where
+  Nothing : {w : World S} → Happen M C w [] w
+  ByRow : {w mid new : World S} {e : Event} {reply : protocol.Reply} {lines : List Line}
+      → Row M C w (event_of e) reply mid → Happen M C mid lines new → Happen M C w (line.Event e ∷ lines) new
+  Asks : {w new : World S} {q : Query} {lines : List Line}
+      → Happen M C w lines new → Happen M C w (line.Query q ∷ lines) new
+
+-- each line is answered by a text: an event by the reply or the refusal of its row, and a query by what it finds in the
+-- world that the events before it have left
+pub data Answered {S : Type 0} (M : Machine S) (C : Copying S) : World S → List Line → List (List ℕ) → World S → Type 0 where
+  NoLine : {w : World S} → Answered M C w [] [] w
+  Replies : {w mid new : World S} {e : Event} {lines : List Line} {texts : List (List ℕ)} (answer : Result Reply Fault)
+      → Row M C w (event_of e) (answer_of answer) mid → Answered M C mid lines texts new
+      → Answered M C w (line.Event e ∷ lines) (answer_line answer ∷ texts) new
+  Tells : {w new : World S} {q : Query} {text : List ℕ} {lines : List Line} {texts : List (List ℕ)}
+      → Finds M w q text → Answered M C w lines texts new
+      → Answered M C w (line.Query q ∷ lines) (text ∷ texts) new
+
+-- texts as lines, each ended by 10
+abbrev pub text_of : List (List ℕ) → List ℕ
+text_of [] = []
+text_of (text ∷ texts) = (text ++ (10 ∷ [])) ++ text_of texts
+
+-- these lines were answered in a world, and exactly their answers were handed in, in order
+pub record AddsAnswers {S : Type 0} (M : Machine S) (C : Copying S) (w : World S) (lines : List Line)
+    (old new : Option (List ℕ)) (after : World S) : Type 0 where
+  pub texts : List (List ℕ)
+  pub answered : Answered M C w lines texts after
+  pub added : Appends old new (text_of texts)

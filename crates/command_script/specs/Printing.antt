@@ -1,0 +1,63 @@
+-- What a run of a script prints, by how it ends.
+use Rattle.std.specs.Prelude.{ℕ, Option, Some, List, Result, MatchResult, take}
+use Rattle.std.specs.Io.KnownBytes.{Keeps}
+use Rattle.altair_copies.specs.Copies.{image_copy}
+use Rattle.guest_board.specs.Guest.{Guest, altair}
+use Rattle.guest_lockstep.specs.Machine.{Machine}
+use Rattle.pair_protocol.specs.Copying.{Copying}
+use Rattle.pair_protocol.specs.World.{World}
+use Rattle.command_script.specs.Answering.{AddsAnswers, Booted, Happen}
+use Rattle.command_ending.specs.Reports.{AddsLine}
+use Rattle.pair_check.specs.Alike.{IsSameAtSettled}
+use Rattle.pair_check.specs.Verdicts.{words_of}
+use Rattle.command_ending.specs.declared.failure.Failure.{Failure}
+use Rattle.command_ending.specs.declared.failure.Failure.TheVariants.{OutOfMemory, InputOrOutput, Differs}
+use Rattle.command_script.specs.declared.order.Order.{Order}
+use Rattle.command_script.specs.declared.order.Order.TheVariants.{Script, Check}
+use Rattle.pair_check.specs.declared.verdict.Verdict.{Verdict}
+use Rattle.pair_check.specs.declared.verdict.Verdict.TheVariants as verdict
+use Rattle.script_language.specs.declared.line.Line.{Line}
+use Rattle.script_language.specs.declared.setup.ScriptSetup.{ScriptSetup}
+
+-- a verdict is printed; if it is that the pair differs, the run ends with that too
+abbrev pub PrintsBut : (Verdict → Type 0) → Failure → Option (List ℕ) → Option (List ℕ) → Type 0
+PrintsBut holds Differs old new = holds verdict.Differs × AddsLine (Some (words_of verdict.Differs)) old new
+PrintsBut holds OutOfMemory old new = Keeps old new
+PrintsBut holds InputOrOutput old new = Unit {0}
+PrintsBut holds _ old new = ⊥
+
+abbrev pub PrintsVerdict : (Verdict → Type 0) → Result (Unit {0}) Failure → Option (List ℕ) → Option (List ℕ) → Type 0
+PrintsVerdict holds result old new = MatchResult result
+    (λ _. (count : ℕ) × holds (verdict.Same count) × AddsLine (Some (words_of (verdict.Same count))) old new)
+    (λ failure. PrintsBut holds failure old new)
+
+-- each line is answered, in order; or only the first ones are, if memory is refused for the next
+abbrev pub AnswersBut : {S : Type 0} → Machine S → Copying S → World S → List Line → Failure → Option (List ℕ)
+    → Option (List ℕ) → Type 0
+AnswersBut {S} M C w lines OutOfMemory old new = (some : ℕ) × (after : World S) × AddsAnswers M C w (take some lines) old new after
+AnswersBut M C w lines InputOrOutput old new = Unit {0}
+AnswersBut M C w lines _ old new = ⊥
+
+abbrev pub AnswersLines : {S : Type 0} → Machine S → Copying S → World S → List Line → Result (Unit {0}) Failure
+    → Option (List ℕ) → Option (List ℕ) → Type 0
+AnswersLines {S} M C w lines result old new = MatchResult result (λ _. (after : World S) × AddsAnswers M C w lines old new after)
+    (λ failure. AnswersBut M C w lines failure old new)
+
+-- a line that is not answered hands nothing in
+abbrev pub HandsNone : Failure → Option (List ℕ) → Option (List ℕ) → Type 0
+HandsNone OutOfMemory old new = Keeps old new
+HandsNone InputOrOutput old new = Unit {0}
+HandsNone _ old new = ⊥
+
+-- a verdict on a world that all events of the lines have led to: the pair has done the same, up to what is settled there
+pub record IsSameAfter (setup : ScriptSetup) (booted : Booted setup) (lines : List Line) (verdict : Verdict) : Type 0 where
+  pub after : World Guest
+  pub happen : Happen (altair setup.guest booted.start) (image_copy setup.guest.drives) booted.world lines after
+  pub same : IsSameAtSettled (altair setup.guest booted.start) after verdict
+
+-- a run of a script with this setup and these lines
+abbrev pub Prints : Order → ScriptSetup → List Line → Result (Unit {0}) Failure → Option (List ℕ) → Option (List ℕ) → Type 0
+Prints Script setup lines result old new = (b : Booted setup)
+    × AnswersLines (altair setup.guest b.start) (image_copy setup.guest.drives) b.world lines result old new
+Prints Check setup lines result old new =
+    (b : Booted setup) × PrintsVerdict (IsSameAfter setup b lines) result old new

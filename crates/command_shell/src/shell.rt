@@ -1,0 +1,169 @@
+//! The shell over a reader and a writer: each line is answered before more is read.
+ghost use Rattle.std.specs.Prelude.{◌≡◌, ◌≤◌, IfErr, IfOk, IfSome};
+ghost use Rattle.event_callbacks.specs.declared.devices.TheConstants.{SENT, SECTOR, WRITTEN};
+ghost use Rattle.event_callbacks.specs.Keeping.{Keeps};
+ghost use Rattle.command_shell.specs.Sessions.{Answers};
+ghost use Rattle.command_ending.specs.declared.failure.Failure.TheVariants as failure;
+
+use command_ending::Failure;
+use event_callbacks::Completes;
+use pair_shell::Session;
+use shell_language::LINE_BYTES;
+use std::alloc::Global;
+use std::io::{ErrorKind, Read, Write};
+
+// The most bytes that a read asks for.
+const BLOCK_BYTES: usize = 4096;
+
+// How many bytes of a line are kept: one more than a line may have, and a CR.
+const KEPT_BYTES: usize = LINE_BYTES + 2;
+
+/// Answers the lines of a reader, up to its end, by a session whose completions are these closures.
+#[tactic(auto, using(crate::proofs::Sessions::writes_none, crate::proofs::Sessions::writes_more, crate::proofs::Sessions::answers_then, crate::proofs::Sessions::answers_until))]
+pub fn run_shell<
+    T: Completes + Drop + Copy,
+    S: Completes + Drop + Copy,
+    W: Completes + Drop + Copy,
+    R: Read + Drop,
+    O: Write + Drop,
+>(
+    alloc: Global,
+    reader: &mut R,
+    writer: &mut O,
+    sent: T,
+    sector: S,
+    written: W,
+) -> Result<(), Failure>
+    requires sent { Keeps (T.may sent) (T.gives sent) SENT }
+    requires sector { Keeps (S.may sector) (S.gives sector) SECTOR }
+    requires written { Keeps (W.may written) (W.gives written) WRITTEN }
+    ensures { Answers result (O.contents writer.old) (O.contents writer.new) }
+{
+    let mut session = Session::new(alloc)?;
+    let mut line = Vec::new(alloc);
+    'blocks: for _ in 0..u64::MAX {
+        let mut block = [0; BLOCK_BYTES];
+        let Some(count) = read_block(reader, &mut block)? else {
+            break;
+        };
+        let block = &block[..count];
+        take_block(
+            alloc,
+            &mut session,
+            &mut line,
+            block,
+            writer,
+            sent,
+            sector,
+            written,
+        )?;
+    }
+    if line.is_empty() {
+        return Ok(());
+    }
+    answer(alloc, &mut session, &line, writer, sent, sector, written)
+}
+
+// Reads once. None at the reader's end; no bytes if the read was interrupted.
+fn read_block<R: Read + Drop>(
+    reader: &mut R,
+    block: &mut [u8; BLOCK_BYTES],
+) -> Result<Option<usize>, Failure>
+    ensures within { IfOk result (λ count. IfSome count (λ n. n ≤ BLOCK_BYTES)) }
+    ensures errors { IfErr result (λ e. e ≡ failure.InputOrOutput) }
+{
+    match reader.read(&mut block[..]) {
+        Ok(0) => Ok(None),
+        Ok(count) => Ok(Some(count)),
+        Err(error) if error.kind() == ErrorKind::Interrupted => Ok(Some(0)),
+        Err(_) => Err(Failure::InputOrOutput),
+    }
+}
+
+// Answers the lines that end in a block, and keeps what comes after them.
+#[tactic(auto, using(crate::proofs::Sessions::writes_none, crate::proofs::Sessions::writes_more, crate::proofs::Sessions::answers_until))]
+fn take_block<
+    T: Completes + Drop + Copy,
+    S: Completes + Drop + Copy,
+    W: Completes + Drop + Copy,
+    O: Write + Drop,
+>(
+    alloc: Global,
+    session: &mut Session<T, S, W>,
+    line: &mut Vec<u8>,
+    block: &[u8],
+    writer: &mut O,
+    sent: T,
+    sector: S,
+    written: W,
+) -> Result<(), Failure>
+    requires sent { Keeps (T.may sent) (T.gives sent) SENT }
+    requires sector { Keeps (S.may sector) (S.gives sector) SECTOR }
+    requires written { Keeps (W.may written) (W.gives written) WRITTEN }
+    ensures { Answers result (O.contents writer.old) (O.contents writer.new) }
+{
+    for byte in block {
+        take_byte(alloc, session, line, *byte, writer, sent, sector, written)?;
+    }
+    Ok(())
+}
+
+// Keeps a byte of a line, or answers the line that it ends.
+#[tactic(auto, using(crate::proofs::Sessions::writes_none, crate::proofs::Sessions::answers_until))]
+fn take_byte<
+    T: Completes + Drop + Copy,
+    S: Completes + Drop + Copy,
+    W: Completes + Drop + Copy,
+    O: Write + Drop,
+>(
+    alloc: Global,
+    session: &mut Session<T, S, W>,
+    line: &mut Vec<u8>,
+    byte: u8,
+    writer: &mut O,
+    sent: T,
+    sector: S,
+    written: W,
+) -> Result<(), Failure>
+    requires sent { Keeps (T.may sent) (T.gives sent) SENT }
+    requires sector { Keeps (S.may sector) (S.gives sector) SECTOR }
+    requires written { Keeps (W.may written) (W.gives written) WRITTEN }
+    ensures { Answers result (O.contents writer.old) (O.contents writer.new) }
+{
+    if byte == b'\n' {
+        let answered = answer(alloc, session, line, writer, sent, sector, written);
+        line.clear();
+        return answered;
+    }
+    if line.len() < KEPT_BYTES {
+        line.push(byte)?;
+    }
+    Ok(())
+}
+
+// Answers a line, and writes the answer at once.
+fn answer<
+    T: Completes + Drop + Copy,
+    S: Completes + Drop + Copy,
+    W: Completes + Drop + Copy,
+    O: Write + Drop,
+>(
+    alloc: Global,
+    session: &mut Session<T, S, W>,
+    line: &[u8],
+    writer: &mut O,
+    sent: T,
+    sector: S,
+    written: W,
+) -> Result<(), Failure>
+    requires sent { Keeps (T.may sent) (T.gives sent) SENT }
+    requires sector { Keeps (S.may sector) (S.gives sector) SECTOR }
+    requires written { Keeps (W.may written) (W.gives written) WRITTEN }
+    ensures { Answers result (O.contents writer.old) (O.contents writer.new) }
+{
+    let text = line.strip_suffix(b"\r").unwrap_or(line);
+    let (_, answered) = session.answer(alloc, sent, sector, written, text)?;
+    writer.write_all(answered.as_bytes())?;
+    writer.flush()?;
+    Ok(())
+}

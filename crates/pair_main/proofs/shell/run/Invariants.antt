@@ -1,6 +1,0 @@
--- The answers so far were written one after another.
-use Rattle.pair_main.specs.Sessions.{Writes}
-use Rattle.pair_main.proofs.shell.run.Given as goal
-
-abbrev pub invariant-blocks-2 : goal.invariant-blocks-2
-invariant-blocks-2 g l = Writes (g.O.Write.contents l.fn.writer) (g.O.Write.contents l.writer)

@@ -1,6 +1,0 @@
--- The answers so far were written one after another.
-use Rattle.pair_main.specs.Sessions.{Writes}
-use Rattle.pair_main.proofs.shell.take_block.Given as goal
-
-abbrev pub invariant-loop-byte : goal.invariant-loop-byte
-invariant-loop-byte g l = Writes (g.O.Write.contents l.fn.writer) (g.O.Write.contents l.writer)

@@ -1,0 +1,67 @@
+-- What a command prints is a run of the program.
+use Rattle.std.proofs.Common.{ℕ, Option, List, Result, Ok, Err}
+use Rattle.command_live.specs.Living.{PrintsLive, typed_in}
+use Rattle.command_script.specs.Printing.{Prints}
+use Rattle.pair_program.specs.Runs.{IsObeyed, IsRun}
+use Rattle.command_shell.specs.Sessions.{Answers}
+use Rattle.command_ending.specs.declared.failure.Failure.{Failure}
+use Rattle.command_ending.specs.declared.failure.Failure.TheVariants as failure
+use Rattle.command_script.specs.declared.order.Order.{Order}
+use Rattle.command_script.specs.declared.order.Order.TheVariants.{Script, Check}
+use Rattle.command_live.specs.declared.live.LiveOrder.{LiveOrder}
+use Rattle.pair_program.specs.declared.options.Request.TheVariants.{Run, Live, Shell}
+use Rattle.script_language.specs.declared.line.Line.{Line}
+use Rattle.script_language.specs.declared.setup.ScriptSetup.{ScriptSetup}
+
+module _ {R W : Type 0} (contents : W → Option (List ℕ)) (reader reader' : R) (writer writer' : W) where
+  by_script : (order : Order) (setup : ScriptSetup) (lines : List Line) (result : Result (Unit {0}) Failure)
+      → Prints order setup lines result (contents writer) (contents writer')
+      → IsObeyed result (contents writer) (contents writer')
+  by_script order setup lines result h = record { request = Run order; obeys = (setup, lines, h) }
+
+  by_session : (result : Result (Unit {0}) Failure) → Answers result (contents writer) (contents writer')
+      → IsObeyed result (contents writer) (contents writer')
+  by_session result h = record { request = Shell; obeys = h }
+
+  -- what a run of a script prints is a run of the program, whatever was read
+  pub is_run : (order : Order) (setup : ScriptSetup) (lines : List Line) (result : Result (Unit {0}) Failure)
+      → Prints order setup lines result (contents writer) (contents writer')
+      → IsRun contents reader reader' writer writer' result
+  is_run order setup lines (Ok done) h = by_script order setup lines (Ok done) h
+  is_run order setup lines (Err failure.OutOfMemory) h = by_script order setup lines (Err failure.OutOfMemory) h
+  is_run order setup lines (Err failure.InputOrOutput) h = by_script order setup lines (Err failure.InputOrOutput) h
+  is_run order setup lines (Err failure.Differs) h = by_script order setup lines (Err failure.Differs) h
+  is_run Script setup lines (Err (failure.CommandLine text)) h = absurd h.1
+  is_run Script setup lines (Err failure.Stalled) h = absurd h.1
+  is_run Script setup lines (Err (failure.BadScript line)) h = absurd h.1
+  is_run Check setup lines (Err (failure.CommandLine text)) h = absurd h.1
+  is_run Check setup lines (Err failure.Stalled) h = absurd h.1
+  is_run Check setup lines (Err (failure.BadScript line)) h = absurd h.1
+
+  -- so is what a session answers
+  pub is_session : (result : Result (Unit {0}) Failure) → Answers result (contents writer) (contents writer')
+      → IsRun contents reader reader' writer writer' result
+  is_session (Ok done) h = by_session (Ok done) h
+  is_session (Err failure.OutOfMemory) h = by_session (Err failure.OutOfMemory) h
+  is_session (Err failure.InputOrOutput) h = by_session (Err failure.InputOrOutput) h
+  is_session (Err failure.Stalled) h = absurd h
+  is_session (Err failure.Differs) h = absurd h
+  is_session (Err (failure.CommandLine text)) h = absurd h
+  is_session (Err (failure.BadScript line)) h = absurd h
+
+  by_threads : (order : LiveOrder) (setup : ScriptSetup) (lines : List Line) (result : Result (Unit {0}) Failure)
+      → PrintsLive setup (typed_in 0 lines) (typed_in 1 lines) result (contents writer) (contents writer')
+      → IsObeyed result (contents writer) (contents writer')
+  by_threads order setup lines result h = record { request = Live order; obeys = (setup, lines, h) }
+
+  -- and what a pair on threads prints
+  pub is_live : (order : LiveOrder) (setup : ScriptSetup) (lines : List Line) (result : Result (Unit {0}) Failure)
+      → PrintsLive setup (typed_in 0 lines) (typed_in 1 lines) result (contents writer) (contents writer')
+      → IsRun contents reader reader' writer writer' result
+  is_live order setup lines (Ok done) h = by_threads order setup lines (Ok done) h
+  is_live order setup lines (Err failure.OutOfMemory) h = by_threads order setup lines (Err failure.OutOfMemory) h
+  is_live order setup lines (Err failure.InputOrOutput) h = by_threads order setup lines (Err failure.InputOrOutput) h
+  is_live order setup lines (Err failure.Stalled) h = by_threads order setup lines (Err failure.Stalled) h
+  is_live order setup lines (Err failure.Differs) h = absurd h
+  is_live order setup lines (Err (failure.CommandLine text)) h = absurd h
+  is_live order setup lines (Err (failure.BadScript line)) h = absurd h

@@ -1,0 +1,61 @@
+//! One run of the program.
+ghost use Rattle.pair_program.specs.Runs.{IsEnding, IsRun};
+
+use crate::options::{Request, request_of};
+use command_ending::Failure;
+use command_live::{live_script_of, run_live};
+use command_script::{run_script, script_of};
+use command_shell::run_shell;
+use event_callbacks::plain_completions;
+use std::alloc::Global;
+use std::borrow::CowStr;
+use std::io::{Read, Write};
+use std::thread::Threads;
+use std::time::Clock;
+
+/// Runs the program on these words, the first of which is its name, and returns its exit status and its text for
+/// standard error. The whole script is read and parsed before anything of it is run.
+pub fn run_program<H: Threads + Clock + Sync, R: Read + Drop, W: Write + Drop>(
+    rt: &H,
+    alloc: Global,
+    arguments: &[String],
+    reader: &mut R,
+    writer: &mut W,
+) -> (u8, CowStr<'static>)
+    ensures { IsEnding W.contents reader.old reader.new writer.old writer.new result }
+{
+    match run(rt, alloc, arguments, reader, writer) {
+        Ok(()) => (0, CowStr::Borrowed("")),
+        Err(failure) => failure.ending(alloc),
+    }
+}
+
+#[tactic(auto, using(crate::proofs::Runs::is_run, crate::proofs::Runs::is_live, crate::proofs::Runs::is_session))]
+fn run<H: Threads + Clock + Sync, R: Read + Drop, W: Write + Drop>(
+    rt: &H,
+    alloc: Global,
+    arguments: &[String],
+    reader: &mut R,
+    writer: &mut W,
+) -> Result<(), Failure>
+    ensures { IsRun W.contents reader.old reader.new writer.old writer.new result }
+{
+    match request_of(alloc, arguments)? {
+        Request::Run(order) => {
+            let script = script_of(alloc, reader)?;
+            run_script(alloc, order, &script, writer)
+        }
+        Request::Live(order) => {
+            let script = live_script_of(alloc, reader)?;
+            run_live(rt, alloc, order, &script, writer)
+        }
+        Request::Shell => run_shell(
+            alloc,
+            reader,
+            writer,
+            plain_completions::sent,
+            plain_completions::sector,
+            plain_completions::written,
+        ),
+    }
+}

@@ -1,0 +1,47 @@
+-- A pair begins with two hosts, and each spare host that comes is one more.
+use Rattle.guest_board.specs.Guest.{Guest}
+use Rattle.std.proofs.Common.{ℕ, ◌+◌, List}
+use Rattle.disk_dcdd.specs.declared.sector.SectorWrite.{SectorWrite}
+use Rattle.guest_lockstep.specs.Machine.{Machine}
+use Rattle.guest_lockstep.specs.declared.reads.Reads.{Reads}
+use Rattle.pair_protocol.specs.Copying.{Copying}
+use Rattle.pair_protocol.specs.World.{with_host}
+use Rattle.shared_disk.specs.Records.{HasDrives, IsAtBoot, IsUnwritten}
+use Rattle.shared_disk.specs.declared.store.Record.{Record}
+use Rattle.ft_world.specs.Applies.{Shows}
+use Rattle.ft_world.specs.Beginning.{beginning}
+use Rattle.ft_world.specs.Running.{Running}
+use Rattle.ft_world.specs.Standing.{Course, machine_of}
+use Rattle.pair_check.specs.Disks.{Disk, records_in}
+use Rattle.pair_setup.specs.Booting.{HostsCome, IsBooted, Pair, Spare}
+
+module _ {B H S : Type 0} (state : B → S) (copied : B → Guest) (M : Machine S) (C : Copying S) (reads : Reads) (boot : S)
+    (drives : ℕ) (sectors : List SectorWrite) where
+  -- the pair alone
+  pub booted_pair : (store : List Record) (v : Running B H Disk) → HasDrives store drives → IsUnwritten store
+      → IsAtBoot store drives sectors → Shows state copied M records_in v (beginning M C reads boot store)
+      → IsBooted state copied M C reads boot drives 2 sectors v
+  booted_pair store v has unwritten at_boot shows = record {
+    store = store;
+    has_drives = has;
+    unwritten = unwritten;
+    at_boot = at_boot;
+    world = (beginning M C reads boot store).world;
+    come = Pair;
+    shows = shows;
+  }
+
+  -- one more host
+  pub booted_host : (hosts : ℕ) (old new : Running B H Disk) → IsBooted state copied M C reads boot drives hosts sectors old
+      → ((c : Course S) → Shows state copied M records_in old c
+      → Shows state copied M records_in new (record c { world = with_host (machine_of M c) c.world }))
+      → IsBooted state copied M C reads boot drives (hosts + 1) sectors new
+  booted_host hosts old new b comes = record {
+    store = b.store;
+    has_drives = b.has_drives;
+    unwritten = b.unwritten;
+    at_boot = b.at_boot;
+    world = with_host (machine_of M (beginning M C reads boot b.store)) b.world;
+    come = Spare b.come;
+    shows = comes (record (beginning M C reads boot b.store) { world = b.world }) b.shows;
+  }

@@ -1,0 +1,31 @@
+-- The pair begins over the store of its disk; there are at least two hosts, so the loop ends with as many as the setup says.
+use Rattle.std.proofs.Common.{◌≡◌, ap, arith, subst, sym}
+use Rattle.guest_board.specs.Guest.{guest_at_boot}
+use Rattle.altair_copies.specs.Copies.{image_copy}
+use Rattle.guest_board.specs.Inputs.{some_altair}
+use Rattle.shared_disk.specs.Records.{HasDrives, IsAtBoot, IsUnwritten}
+use Rattle.pair_check.specs.Disks.{Disk}
+use Rattle.pair_setup.specs.Booting.{IsBooted}
+use Rattle.pair_setup.proofs.Booting.{booted_pair}
+use Rattle.pair_setup.proofs.pairs.boot.Goals as goal
+
+pub hosts-init : goal.hosts-init
+hosts-init g c =
+    let drives = c.args.setup.now.guest.drives in
+    let sectors = c.args.sectors.now in
+    let same = sym (ap (λ (disk : Disk). disk.store) c.new-disk.ensures) in
+    booted_pair (λ d. d.board.guest) (λ d. d.board.guest) some_altair (image_copy drives)
+    c.args.setup.now.guest.reads (guest_at_boot c.args.setup.now.guest) drives sectors
+    c.new-disk.result.store c.in-Ok.world
+    (subst (λ store. HasDrives store drives) same c.in_ok-records.ensures.drives)
+    (subst (λ store. IsUnwritten store) same c.in_ok-records.ensures.unwritten)
+    (subst (λ store. IsAtBoot store drives sectors) same c.in_ok-records.ensures.sectors) c.in-Ok.ensures.ok
+
+pub returns-clause-booted : goal.returns-clause-booted
+returns-clause-booted g c =
+    let hosts : c.hosts._number ≡ c.args.setup.now.hosts =
+    omega (arith, c.hosts.auto._number-end c.args.setup.now.pair, c.hosts-test.false) in
+    subst
+    (λ n. IsBooted (λ d. d.board.guest) (λ d. d.board.guest) some_altair (image_copy c.args.setup.now.guest.drives)
+    c.args.setup.now.guest.reads (guest_at_boot c.args.setup.now.guest) c.args.setup.now.guest.drives n c.args.sectors.now c.hosts.world)
+    hosts c.hosts.invariant

@@ -1,0 +1,206 @@
+//! Scripts that are not scripts, input and output that fail, and command lines.
+use crate::runs::{Ending, WELL, expect, run_on};
+use command_ending::{Failure, Report};
+use pair_check::Verdict;
+use std::io::{self, ErrorKind, Read, Write};
+use std::test::Fail;
+
+// Scripts, with what is printed and how the run ends.
+static SCRIPTS: [(&[u8], &str, Ending<'static>); 10] = [
+    (b"", "", WELL),
+    (b"\r\n\n# a comment, and then nothing\n", "", WELL),
+    (
+        b"# what follows has a CR\r\nsend 0 0\r\nstop 0",
+        "refused 15\nstopped\n",
+        WELL,
+    ),
+    (b"step 0", "", (3, "bad script at line 1")),
+    (
+        b"stop 0\n\nstop 0 1\nnode 0\n",
+        "",
+        (3, "bad script at line 3"),
+    ),
+    (b"stop 0\nmem 0000 76\n", "", (3, "bad script at line 2")),
+    (b"stop 0\nstop 1\r", "", (3, "bad script at line 2")),
+    (b"mem FFFF 01 02", "", (3, "bad script at line 1")),
+    (
+        b"drives 2\nsector 2 0 0 E5\n",
+        "",
+        (3, "bad script at line 2"),
+    ),
+    (b"#\n \n", "", (3, "bad script at line 2")),
+];
+
+#[test]
+fn bad_scripts_are_refused_whole(rt: HostRuntime) -> Result<(), Fail> {
+    for (script, printed, ending) in SCRIPTS {
+        expect(&rt, "script", script, printed, ending)?;
+    }
+    Ok(())
+}
+
+#[test]
+fn a_script_has_at_most_1_048_576_bytes(rt: HostRuntime) -> Result<(), Fail> {
+    let mut script = vec![in rt.alloc(); b'\n'; 1_048_575]?;
+    script.push(b'#')?;
+    expect(&rt, "script", &script, "", WELL)?;
+    script.push(b'#')?;
+    expect(
+        &rt,
+        "script",
+        &script,
+        "",
+        (3, "bad script at line 1048576"),
+    )
+}
+
+// A reader that gives a bad line, and then fails.
+#[derive(Drop)]
+struct FailingReader {
+    given: bool,
+}
+
+impl Read for FailingReader {
+    fn read(&mut self, buf: &mut [u8]) -> io::Result<usize> {
+        if self.given || buf.is_empty() {
+            return Err(io::Error::from(ErrorKind::BrokenPipe));
+        }
+        self.given = true;
+        buf[0] = b'?';
+        Ok(1)
+    }
+}
+
+// A writer that takes this many bytes, one at a time, and then fails; or that fails when it is flushed.
+#[derive(Drop)]
+struct FailingWriter {
+    room: usize,
+    flushes: bool,
+}
+
+impl Write for FailingWriter {
+    fn write(&mut self, buf: &[u8]) -> io::Result<usize> {
+        if self.room == 0 || buf.is_empty() {
+            return Err(io::Error::from(ErrorKind::BrokenPipe));
+        }
+        self.room -= 1;
+        Ok(1)
+    }
+
+    fn flush(&mut self) -> io::Result<()> {
+        if self.flushes {
+            return Ok(());
+        }
+        Err(io::Error::from(ErrorKind::BrokenPipe))
+    }
+}
+
+const FAILED: Ending<'static> = (5, "input or output failed");
+
+#[test]
+fn input_that_fails_comes_before_bad_lines(rt: HostRuntime) -> Result<(), Fail> {
+    let mut printed = Vec::new(rt.alloc());
+    let mut reader = FailingReader { given: false };
+    let (status, text) = run_on(&rt, &["script"], &mut reader, &mut printed)?;
+    assert_eq!(rt; (status, text.as_str()), FAILED);
+    assert!(rt; printed.is_empty());
+    Ok(())
+}
+
+#[test]
+fn output_fails_at_its_end_too(rt: HostRuntime) -> Result<(), Fail> {
+    // `refused 15` and a line end are eleven bytes.
+    for (room, flushes, ending) in [
+        (0, true, FAILED),
+        (10, true, FAILED),
+        (11, false, FAILED),
+        (11, true, WELL),
+    ] {
+        for command in ["script", "shell"] {
+            let mut reader: &[u8] = b"send 0 0";
+            let mut writer = FailingWriter { room, flushes };
+            let (status, text) = run_on(&rt, &[command], &mut reader, &mut writer)?;
+            assert_eq!(rt; (status, text.as_str()), ending, "{command} {room}");
+        }
+    }
+    Ok(())
+}
+
+// Words after the program's name, and what the text about them says.
+static COMMAND_LINES: [(&[&str], &str); 12] = [
+    (&[], "Usage: pair <COMMAND>"),
+    (&["--help"], "Usage: pair <COMMAND>"),
+    (&["help"], "pair script << END"),
+    (&["--version"], "pair 0.1.0"),
+    (&["script", "--help"], "Runs a script"),
+    (&["run"], "run"),
+    (&["script", "first"], "the script comes from standard input"),
+    (&["check", "first"], "pair check < FILE"),
+    (&["check", "--quiet"], "--quiet"),
+    (&["live", "first"], "pair live [OPTIONS] < FILE"),
+    (&["live", "--turns", "0"], "--turns"),
+    (&["live", "--link", "pass,lose"], "lose"),
+];
+
+#[test]
+fn command_lines_are_refused_or_explained(rt: HostRuntime) -> Result<(), Fail> {
+    for (words, part) in COMMAND_LINES {
+        let mut reader: &[u8] = b"stop 0";
+        let mut printed = Vec::new(rt.alloc());
+        let (status, text) = run_on(&rt, words, &mut reader, &mut printed)?;
+        assert_eq!(rt; status, 2, "{part}");
+        assert!(rt; text.contains(part), "{part}");
+        assert!(rt; !text.contains("pair_main"), "{part}");
+        assert!(rt; !text.ends_with("\n"), "{part}");
+    }
+    Ok(())
+}
+
+// The script in the help is taken as it is, from the line after its first to the one before its last.
+#[test]
+fn the_example_of_the_help_runs_as_it_is(rt: HostRuntime) -> Result<(), Fail> {
+    let mut reader: &[u8] = b"";
+    let mut printed = Vec::new(rt.alloc());
+    let (_, text) = run_on(&rt, &["--help"], &mut reader, &mut printed)?;
+    let (_, example) = text
+        .as_str()
+        .split_once("\npair script << END\n")
+        .ok_or("no example")?;
+    let (script, _) = example.split_once("\nEND\n").ok_or("no end")?;
+    let output =
+        "ran 6 count 6 byte 0 1\nmessage 0\nnew\nmessage 1\nheld 1\nmessage 2\naccepted\nport 0: 48\n";
+    expect(&rt, "script", script.as_bytes(), output, WELL)
+}
+
+// A line is written as soon as it is there. After 65,536 bytes lines wait, while guests make at most 10,000 turns.
+#[test]
+fn lines_wait_only_after_many(rt: HostRuntime) -> Result<(), Fail> {
+    let mut report = Report::new(rt.alloc());
+    let mut printed: Vec<u8> = Vec::new(rt.alloc());
+    let long = "x".repeat(rt.alloc(), 65_533)?;
+    for (text, written) in [("x", 2), (long.as_str(), 65_536)] {
+        let line = report.line(&mut printed, &text);
+        assert!(rt; line.is_ok());
+        assert_eq!(rt; printed.len(), written);
+    }
+    for (turns, written) in [(9_999, 0), (1, 0), (1, 4), (10_000, 4), (1_000_000, 8)] {
+        let before = report.before_turns(&mut printed, turns);
+        assert!(rt; before.is_ok());
+        assert_eq!(rt; printed.len(), 65_536 + written);
+        let line = report.line(&mut printed, &"x");
+        assert!(rt; line.is_ok());
+    }
+    Ok(())
+}
+
+// No script makes a pair differ, so these are looked at separately.
+#[test]
+fn a_difference_is_told_on_standard_output(rt: HostRuntime) -> Result<(), Fail> {
+    let verdict = format!(in rt.alloc(); "{}", Verdict::Differs)?;
+    assert_eq!(rt; verdict.as_str(), "differs");
+    let (status, text) = Failure::Differs.ending(rt.alloc());
+    assert_eq!(rt; (status, text.as_str()), (7, ""));
+    let (status, text) = Failure::OutOfMemory.ending(rt.alloc());
+    assert_eq!(rt; (status, text.as_str()), (4, "out of memory"));
+    Ok(())
+}

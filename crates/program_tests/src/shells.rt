@@ -1,0 +1,87 @@
+//! Sessions of the shell, as the program reads and answers them.
+use crate::runs::{WELL, expect, run_on};
+use std::io::{self, ErrorKind, Read};
+use std::test::Fail;
+
+#[test]
+fn lines_are_answered_up_to_the_end(rt: HostRuntime) -> Result<(), Fail> {
+    expect(&rt, "shell", b"", "", WELL)?;
+    expect(&rt, "shell", b"node 0", "primary 1 count 0\n", WELL)?;
+    expect(
+        &rt,
+        "shell",
+        b"node 0\r\nstop 0\n\nnode 0\n",
+        "primary 1 count 0\nstopped\nhalted\n",
+        WELL,
+    )?;
+    expect(
+        &rt,
+        "shell",
+        b"\xff\n\x00\nlast\n",
+        "? byte 1 of the line is FF: a line is printable ASCII\n? byte 1 of the line is 00: a line is printable ASCII\nno message\n",
+        WELL,
+    )
+}
+
+// A reader that gives each of these texts at one read, and then fails.
+#[derive(Drop)]
+struct Typist {
+    texts: &'static [&'static [u8]],
+}
+
+impl Read for Typist {
+    fn read(&mut self, buf: &mut [u8]) -> io::Result<usize> {
+        let [text, later @ ..] = self.texts else {
+            return Err(io::Error::from(ErrorKind::BrokenPipe));
+        };
+        self.texts = later;
+        let count = text.len().min(buf.len());
+        buf[..count].copy_from_slice(&text[..count]);
+        Ok(count)
+    }
+}
+
+// What was answered before the input fails is written; a line that has not ended by then is not answered.
+#[test]
+fn lines_are_answered_before_more_is_read(rt: HostRuntime) -> Result<(), Fail> {
+    let mut reader = Typist {
+        texts: &[b"sto", b"p 0\nnode 0", b"\r\nnode", b" 1"],
+    };
+    let mut printed = Vec::new(rt.alloc());
+    let (status, _) = run_on(&rt, &["shell"], &mut reader, &mut printed)?;
+    assert_eq!(rt; status, 5);
+    assert_eq!(rt; printed.as_slice(), b"stopped\nhalted\n".as_slice());
+    Ok(())
+}
+
+// A guest that echoes keys by interrupt; messages are lost, the primary dies, and the backup goes on.
+const TRACED: &[u8] = b"trace on
+:0C0000003100013E95D310FB76C30700D1
+:05003800DB11D311C92A
+sector 0 0 5 E5
+help
+type 0 \"ABC\"
+run 0 1000 loss 40 3
+screen 0
+type 0 \"DE\"
+key 0 0 3
+step 0 2
+stop 0
+suspect 1
+drain 1 1000
+run 1 1000 loss 40 5
+screen 0
+sector 0 0 5
+check
+picture
+nonsense
+";
+
+// What was printed while the trace was on is a script: the same events again do as one machine does.
+#[test]
+fn a_traced_session_is_a_script(rt: HostRuntime) -> Result<(), Fail> {
+    let mut session = TRACED;
+    let mut script = Vec::new(rt.alloc());
+    run_on(&rt, &["shell"], &mut session, &mut script)?;
+    expect(&rt, "check", &script, "same 40\n", WELL)
+}
