@@ -68,8 +68,8 @@ fn expect(rt: &impl Abort, cpu: &mut Cpu, board: &mut Board, active: bool, kinds
     let line = if active { Some(7) } else { None };
     for kind in kinds {
         let idles = *kind == Stepped::Idle;
-        assert_eq!(rt; cpu.idles(line), idles);
-        assert_eq!(rt; cpu.step(board, line), *kind);
+        assert!(rt; cpu.idles(line) == idles);
+        assert!(rt; cpu.step(board, line) == *kind);
     }
 }
 
@@ -78,9 +78,9 @@ fn an_interrupt_waits_one_instruction_after_ei(rt: HostRuntime) {
     use Stepped::{Accepted, Ran};
     let (mut cpu, mut board) = load(&[0xfb, 0x00, 0x00]);
     expect(&rt, &mut cpu, &mut board, true, &[Ran, Ran, Accepted]);
-    assert_eq!(rt; (board.read(0x00ff), board.read(0x00fe)), (0x00, 0x02));
+    assert!(rt; (board.read(0x00ff), board.read(0x00fe)) == (0x00, 0x02));
     let regs = cpu.processor().regs;
-    assert_eq!(rt; (regs.sp.get(), regs.pc.get()), (0x00fe, 0x0038));
+    assert!(rt; (regs.sp.get(), regs.pc.get()) == (0x00fe, 0x0038));
 }
 
 #[test]
@@ -88,7 +88,7 @@ fn a_second_ei_makes_it_wait_again(rt: HostRuntime) {
     use Stepped::{Accepted, Ran};
     let (mut cpu, mut board) = load(&[0xfb, 0xfb, 0x00]);
     expect(&rt, &mut cpu, &mut board, true, &[Ran, Ran, Ran, Accepted]);
-    assert_eq!(rt; (board.read(0x00ff), board.read(0x00fe)), (0x00, 0x03));
+    assert!(rt; (board.read(0x00ff), board.read(0x00fe)) == (0x00, 0x03));
 }
 
 #[test]
@@ -97,8 +97,8 @@ fn a_halted_processor_waits_for_a_line(rt: HostRuntime) {
     let (mut cpu, mut board) = load(&[0xfb, 0x76]);
     expect(&rt, &mut cpu, &mut board, false, &[Ran, Ran, Idle, Idle]);
     expect(&rt, &mut cpu, &mut board, true, &[Accepted]);
-    assert_eq!(rt; (board.read(0x00ff), board.read(0x00fe)), (0x00, 0x02));
-    assert_eq!(rt; cpu.processor().regs.pc.get(), 0x0038);
+    assert!(rt; (board.read(0x00ff), board.read(0x00fe)) == (0x00, 0x02));
+    assert!(rt; cpu.processor().regs.pc.get() == 0x0038);
 }
 
 // LXI SP,0100; MVI B,5; XRA A; then ADD B, DCR B, JNZ until B is 0; PUSH PSW; OUT 10; XRA A; IN 10; HLT.
@@ -109,19 +109,16 @@ fn a_program_sums_five_to_one(rt: HostRuntime) {
         0xdb, 0x10, 0x76,
     ]);
     for _ in 0..23 {
-        assert_eq!(rt; cpu.step(&mut board, None), Stepped::Ran);
+        assert!(rt; cpu.step(&mut board, None) == Stepped::Ran);
     }
-    assert_eq!(rt; cpu.step(&mut board, None), Stepped::Idle);
-    assert_eq!(rt; (board.read(0x00ff), board.read(0x00fe)), (0x0f, 0x56));
+    assert!(rt; cpu.step(&mut board, None) == Stepped::Idle);
+    assert!(rt; (board.read(0x00ff), board.read(0x00fe)) == (0x0f, 0x56));
     let regs = cpu.processor().regs;
-    assert_eq!(rt;
-        (regs.a, regs.b, regs.sp.get(), regs.pc.get()),
-        (0x0f, 0x00, 0x00fe, 0x0012)
-    );
+    assert!(rt; (regs.a, regs.b, regs.sp.get(), regs.pc.get()) == (0x0f, 0x00, 0x00fe, 0x0012));
 }
 
 // Each kind of instruction but HLT, DI, EI and IN, up to OUT 10 at 004C; subroutines at 0038 and 0040.
-const EACH_KIND: [u8; 80] = [
+static EACH_KIND: [u8; 80] = [
     0x31, 0x00, 0x01, // LXI SP,0100
     0x21, 0x80, 0x00, // LXI H,0080
     0x36, 0x7f, // MVI M,7F
@@ -176,19 +173,18 @@ const EACH_KIND: [u8; 80] = [
 fn steps_made_in_place_are_as_many_steps(rt: HostRuntime) {
     let (mut in_place, mut first) = load(&EACH_KIND);
     let (mut one_by_one, mut second) = load(&EACH_KIND);
-    assert_eq!(rt; in_place.run_quietly(&mut first, 13), 13);
-    assert_eq!(rt; in_place.run_quietly(&mut first, 1000), 27);
+    assert!(rt; in_place.run_quietly(&mut first, 13) == 13);
+    assert!(rt; in_place.run_quietly(&mut first, 1000) == 27);
     for _ in 0..40 {
-        assert_eq!(rt; one_by_one.step(&mut second, None), Stepped::Ran);
+        assert!(rt; one_by_one.step(&mut second, None) == Stepped::Ran);
     }
-    assert_eq!(rt; in_place.processor(), one_by_one.processor());
+    assert!(rt; in_place.processor() == one_by_one.processor());
     for address in 0..=255 {
-        assert_eq!(rt; first.read(address), second.read(address));
+        assert!(rt; first.read(address) == second.read(address));
     }
     let regs = in_place.processor().regs;
-    assert_eq!(rt;
-        (regs.a, regs.b, regs.d, regs.e, regs.pc.get()),
-        (0x04, 0x02, 0x01, 0x11, 0x004c)
+    assert!(rt;
+        (regs.a, regs.b, regs.d, regs.e, regs.pc.get()) == (0x04, 0x02, 0x01, 0x11, 0x004c)
     );
 }
 
@@ -199,10 +195,10 @@ fn steps_made_in_place_leave_interrupts_on(rt: HostRuntime) {
         interrupts: Interrupts::On,
         ..*reset.processor()
     });
-    assert_eq!(rt; cpu.run_quietly(&mut board, 1000), 40);
-    assert_eq!(rt; cpu.processor().interrupts, Interrupts::On);
-    assert_eq!(rt; cpu.step(&mut board, Some(7)), Stepped::Accepted);
-    assert_eq!(rt; cpu.processor().regs.pc.get(), 0x0038);
+    assert!(rt; cpu.run_quietly(&mut board, 1000) == 40);
+    assert!(rt; cpu.processor().interrupts == Interrupts::On);
+    assert!(rt; cpu.step(&mut board, Some(7)) == Stepped::Accepted);
+    assert!(rt; cpu.processor().regs.pc.get() == 0x0038);
 }
 
 // IN 10; RRC; HLT.
@@ -210,7 +206,7 @@ fn steps_made_in_place_leave_interrupts_on(rt: HostRuntime) {
 fn a_read_that_changes_nothing_is_made_in_place(rt: HostRuntime) {
     let (mut cpu, mut board) = load(&[0xdb, 0x10, 0x0f, 0x76]);
     board.sent = 0x02;
-    assert_eq!(rt; cpu.run_quietly(&mut board, 1000), 2);
+    assert!(rt; cpu.run_quietly(&mut board, 1000) == 2);
     let regs = cpu.processor().regs;
-    assert_eq!(rt; (regs.a, regs.pc.get()), (0x01, 0x0003));
+    assert!(rt; (regs.a, regs.pc.get()) == (0x01, 0x0003));
 }

@@ -15,7 +15,7 @@ use i8080_words::{AddressRegister, Interrupts, Processor, Regs, of_psw, psw};
 use std::alloc::{AllocError, Global};
 
 #[rattlefmt::skip]
-const FOLDED: [u32; 256] = [
+static FOLDED: [u32; 256] = [
     0xd8b8_7522, 0x4435_bfd9, 0xa4d0_8c0f, 0x6bca_1426, 0xe626_8db5, 0x64ea_086c, 0x9991_7cf3, 0x97fb_4650,
     0xa4cd_dd4b, 0x107d_df61, 0xab1f_d160, 0x7f4f_2d0c, 0x27f0_9a9b, 0x5d53_f0c9, 0x9422_c374, 0xe167_3ddc,
     0x1dac_e048, 0x4f48_34b7, 0x88be_351e, 0xa694_1aab, 0x73b7_6fec, 0x267a_8701, 0x4f2e_764c, 0xfd24_57fe,
@@ -300,10 +300,7 @@ fn drawn_memory(alloc: Global) -> Result<Vec<u8>, AllocError> {
 #[test]
 fn codes_fold_to_the_numbers_of_another_program(rt: HostRuntime) -> Result<(), AllocError> {
     let before = drawn_memory(rt.alloc())?;
-    assert_eq!(rt;
-        before.first_chunk(),
-        Some(&[0x5e, 0x2a, 0x43, 0xc2, 0x6e, 0x20, 0x1f, 0x27])
-    );
+    assert!(rt; before.first_chunk() == Some(&[0x5e, 0x2a, 0x43, 0xc2, 0x6e, 0x20, 0x1f, 0x27]));
     let mut machine = Machine {
         bytes: before.clone()?,
         written: [None; 2],
@@ -311,9 +308,8 @@ fn codes_fold_to_the_numbers_of_another_program(rt: HostRuntime) -> Result<(), A
     };
     for (code, folded) in FOLDED.iter().enumerate() {
         let code = code as u8;
-        assert_eq!(rt;
-            folded_by(code, &mut machine, &before),
-            *folded,
+        assert!(rt;
+            folded_by(code, &mut machine, &before) == *folded,
             "code {code}"
         );
     }

@@ -39,9 +39,8 @@ fn every_adjustment_is_the_one_by_digits(rt: HostRuntime) {
         let ac = case & 1 != 0;
         let carry = case & 2 != 0;
         let (adjusted, flags) = daa(value, ac, carry);
-        assert_eq!(rt;
-            (adjusted, psw(flags)),
-            by_digits(value, ac, carry),
+        assert!(rt;
+            (adjusted, psw(flags)) == by_digits(value, ac, carry),
             "at {case}"
         );
     }

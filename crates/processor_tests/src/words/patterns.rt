@@ -159,14 +159,14 @@ fn every_code_is_the_one_of_its_pattern(rt: HostRuntime) {
     for number in 0..256u16 {
         let code = number as u8;
         let (op, bytes) = by_pattern(code);
-        assert_eq!(rt; decode([code, 0xcd, 0xab]), op, "at {code}");
-        assert_eq!(rt; length(code), bytes, "at {code}");
+        assert!(rt; decode([code, 0xcd, 0xab]) == op, "at {code}");
+        assert!(rt; length(code) == bytes, "at {code}");
     }
 }
 
 #[test]
 fn the_table_has_no_data(rt: HostRuntime) {
-    assert_eq!(rt; opcode(0x21), Op::Lxi(RegisterPair::HL, 0));
-    assert_eq!(rt; opcode(0xde), Op::Immediate(AluOperation::Sbb, 0));
-    assert_eq!(rt; opcode(0x7e), Op::Mov(Register::A, Register::M));
+    assert!(rt; opcode(0x21) == Op::Lxi(RegisterPair::HL, 0));
+    assert!(rt; opcode(0xde) == Op::Immediate(AluOperation::Sbb, 0));
+    assert!(rt; opcode(0x7e) == Op::Mov(Register::A, Register::M));
 }

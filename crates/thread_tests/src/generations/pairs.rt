@@ -11,6 +11,7 @@ use event_callbacks::{Callbacks, Completes};
 use guest_board::{Board, Setup};
 use guest_lockstep::{Lockstep, Reads};
 use i8080_words::{Fault, R};
+use log_entry::Entry;
 use pair_threads::{Fate, Gate, GenerationEnd, Who, Workers, run_generation};
 use shared_disk::{FailOnce, MemoryStore, SharedDisk};
 use std::alloc::Global;
@@ -159,6 +160,31 @@ fn run<
     run_setup(rt, alloc, &setup, case, gate, sent, sector, written)
 }
 
+// Both lists have so many entries, all of them acknowledged.
+fn check_lists(rt: &impl Abort, primary: &[Entry], backup: &[Entry], held: u64, entries: usize) {
+    assert!(rt; primary.len() == entries && held == entries as u64);
+    assert!(rt; primary == backup);
+}
+
+// The terminals have accepted these bytes.
+fn check_accepted(rt: &impl Abort, accepted: &[Vec<u8>; 2], want: [&[u8]; 2]) {
+    for (found, bytes) in accepted.iter().zip(want) {
+        assert!(rt; found.as_slice() == bytes);
+    }
+}
+
+// Sector 0 of track 0 has the write of this number.
+fn check_disk(rt: &impl Abort, disk: &mut SharedDisk<Store>, write: u64) -> R<()> {
+    let address = SectorAddress {
+        drive: 0,
+        track: 0,
+        sector: 0,
+    };
+    let found = disk.get(address)?;
+    assert!(rt; found.number == write);
+    Ok(())
+}
+
 /// Runs a pair, which is to end so.
 pub(super) fn ends<
     T: Completes + Drop + Copy + Send,
@@ -181,26 +207,13 @@ pub(super) fn ends<
     requires written { Keeps (W.may written) (W.gives written) WRITTEN }
 {
     let mut end = run(rt, alloc, case, gate, sent, sector, written)?;
-    let (count, entries) = (want.count, want.entries);
-    assert_eq!(rt; end.winner, None);
-    if let Some(count) = count {
-        assert_eq!(rt; end.primary_board.count(), count);
+    assert!(rt; end.winner.is_none());
+    if let Some(count) = want.count {
+        assert!(rt; end.primary_board.count() == count);
     }
-    assert_eq!(rt; end.primary.len(), entries);
-    assert!(rt; end.primary.as_slice() == end.backup.as_slice());
-    assert_eq!(rt; end.held, entries as u64);
-    let [first, second] = want.accepted;
-    assert_eq!(rt; end.accepted[0].as_slice(), first);
-    assert_eq!(rt; end.accepted[1].as_slice(), second);
-    let address = SectorAddress {
-        drive: 0,
-        track: 0,
-        sector: 0,
-    };
-    let found = end.disk.get(address)?;
-    let write = want.write;
-    assert_eq!(rt; found.number, write);
-    Ok(())
+    check_lists(rt, &end.primary, &end.backup, end.held, want.entries);
+    check_accepted(rt, &end.accepted, want.accepted);
+    check_disk(rt, &mut end.disk, want.write)
 }
 
 /// Runs a pair of which one goes on alone. How far it has come by then is different from run to run.
@@ -225,7 +238,7 @@ pub(super) fn is_won<
     requires written { Keeps (W.may written) (W.gives written) WRITTEN }
 {
     let end = run(rt, alloc, case, gate, sent, sector, written)?;
-    assert_eq!(rt; end.winner, Some(winner));
+    assert!(rt; end.winner == Some(winner));
     assert!(rt; end.primary.starts_with(&end.backup));
     assert!(rt; end.held <= end.backup.len() as u64);
     Ok(())

@@ -1,22 +1,21 @@
-//! How long a worker waits.
+//! How a worker waits.
 
 use pair_threads::Rest;
 
-#[test]
-fn yields_while_a_guest_is_held_up(rt: HostRuntime) {
-    assert_eq!(rt; Rest::after(1999, true), Rest::Yield);
-    assert_eq!(rt; Rest::after(2000, true), Rest::Sleep(5));
-}
+// How many turns found nothing before, whether the guest is held up, and what a worker does.
+static RESTS: [(u32, bool, Rest); 7] = [
+    (1999, true, Rest::Yield),
+    (2000, true, Rest::Sleep(5)),
+    (24, false, Rest::Yield),
+    (25, false, Rest::Sleep(5)),
+    (26, false, Rest::Sleep(10)),
+    (124, false, Rest::Sleep(500)),
+    (u32::MAX, false, Rest::Sleep(500)),
+];
 
 #[test]
-fn sleeps_soon_while_no_guest_is_held_up(rt: HostRuntime) {
-    assert_eq!(rt; Rest::after(24, false), Rest::Yield);
-    assert_eq!(rt; Rest::after(25, false), Rest::Sleep(5));
-    assert_eq!(rt; Rest::after(26, false), Rest::Sleep(10));
-}
-
-#[test]
-fn sleeps_half_a_millisecond_at_most(rt: HostRuntime) {
-    assert_eq!(rt; Rest::after(124, false), Rest::Sleep(500));
-    assert_eq!(rt; Rest::after(u32::MAX, false), Rest::Sleep(500));
+fn a_worker_yields_and_then_sleeps(rt: HostRuntime) {
+    for (fruitless, held_up, rest) in &RESTS {
+        assert!(rt; Rest::after(*fruitless, *held_up) == *rest);
+    }
 }

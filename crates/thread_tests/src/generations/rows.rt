@@ -12,32 +12,32 @@ use std::thread::Threads;
 use std::time::{Clock, Instant};
 
 // MVI A,03; OUT 10; MVI A,15; OUT 10: port 0 is reset, and set; then MVI A,48; OUT 11; HLT.
-const FIRST_BYTE: [u8; 13] = [
+static FIRST_BYTE: [u8; 13] = [
     0x3e, 0x03, 0xd3, 0x10, 0x3e, 0x15, 0xd3, 0x10, 0x3e, 0x48, 0xd3, 0x11, 0x76,
 ];
 
 // The same at port 1.
-const FIRST_BYTE_AT_1: [u8; 13] = [
+static FIRST_BYTE_AT_1: [u8; 13] = [
     0x3e, 0x03, 0xd3, 0x12, 0x3e, 0x15, 0xd3, 0x12, 0x3e, 0x48, 0xd3, 0x13, 0x76,
 ];
 
 // B is 137; drive 0 is selected and its head loaded (OUT 08, OUT 09); at 0009 it waits for a sector, then begins to
 // write it (80 to OUT 09); at 0013 it waits until the sector takes a byte, and gives E5 to OUT 0A, B times; HLT.
-const DISK_WRITE: [u8; 34] = [
+static DISK_WRITE: [u8; 34] = [
     0x06, 0x89, 0xaf, 0xd3, 0x08, 0x3e, 0x04, 0xd3, 0x09, 0xdb, 0x09, 0x0f, 0xda, 0x09, 0x00, 0x3e,
     0x80, 0xd3, 0x09, 0xdb, 0x08, 0x0f, 0xda, 0x13, 0x00, 0x3e, 0xe5, 0xd3, 0x0a, 0x05, 0xc2, 0x13,
     0x00, 0x76,
 ];
 
 // Port 0 is reset, and set; then two keys are read as they come (IN 10, RRC, JNC), and each is sent back; HLT.
-const TWO_KEYS: [u8; 25] = [
+static TWO_KEYS: [u8; 25] = [
     0x3e, 0x03, 0xd3, 0x10, 0x3e, 0x15, 0xd3, 0x10, 0x06, 0x02, 0xdb, 0x10, 0x0f, 0xd2, 0x0a, 0x00,
     0xdb, 0x11, 0xd3, 0x11, 0x05, 0xc2, 0x0a, 0x00, 0x76,
 ];
 
 // Port 0 is set with its receive interrupt, and the guest halts with interrupts on, time and again; at 0038 a key is read, and
 // sent back.
-const KEYS_BY_INTERRUPT: [u8; 61] = [
+static KEYS_BY_INTERRUPT: [u8; 61] = [
     0x31, 0x00, 0x80, 0x3e, 0x95, 0xd3, 0x10, 0xfb, 0x76, 0xc3, 0x07, 0x00, 0x00, 0x00, 0x00, 0x00,
     0x00, 0x00, 0x00, 0x00, 0x00, 0x00, 0x00, 0x00, 0x00, 0x00, 0x00, 0x00, 0x00, 0x00, 0x00, 0x00,
     0x00, 0x00, 0x00, 0x00, 0x00, 0x00, 0x00, 0x00, 0x00, 0x00, 0x00, 0x00, 0x00, 0x00, 0x00, 0x00,
@@ -45,10 +45,10 @@ const KEYS_BY_INTERRUPT: [u8; 61] = [
 ];
 
 // It halts.
-const HALT: [u8; 1] = [0x76];
+static HALT: [u8; 1] = [0x76];
 
 // It jumps to itself.
-const FOREVER: [u8; 3] = [0xc3, 0x00, 0x00];
+static FOREVER: [u8; 3] = [0xc3, 0x00, 0x00];
 
 // The byte goes out once its mark is acknowledged: a mark and an acceptance.
 fn first_byte() -> Want<'static> {
@@ -105,7 +105,7 @@ fn stalls<G: Gate + Sync, H: Threads + Clock + Sync + Abort>(
         plain_completions::sector,
         plain_completions::written,
     );
-    assert_eq!(rt; refusal, Some(Fault::Stalled));
+    assert!(rt; refusal == Some(Fault::Stalled));
 }
 
 #[test]
@@ -131,7 +131,7 @@ fn each_turn_leaves_the_gate(rt: HostRuntime) -> R<()> {
         &first_byte(),
     )?;
     assert!(rt; turnstile.entered() > 0);
-    assert_eq!(rt; turnstile.left(), turnstile.entered());
+    assert!(rt; turnstile.left() == turnstile.entered());
     Ok(())
 }
 

@@ -12,8 +12,8 @@ use std::test::Fail;
 #[test]
 fn whoever_asks_first_has_won(rt: HostRuntime) -> Result<(), Fail> {
     let (fabric, mut seats) = Fabric::open(rt.alloc(), 1)?;
-    assert_eq!(rt; seats.backup.contest(&fabric), Ok(()));
-    assert_eq!(rt; seats.primary.contest(&fabric), Err(Fault::Lost));
+    assert!(rt; seats.backup.contest(&fabric) == Ok(()));
+    assert!(rt; seats.primary.contest(&fabric) == Err(Fault::Lost));
     let closed = fabric.close(seats);
     assert!(rt; closed.tail == 0 && closed.held == 0 && closed.winner == 2);
     Ok(())
@@ -22,9 +22,9 @@ fn whoever_asks_first_has_won(rt: HostRuntime) -> Result<(), Fail> {
 #[test]
 fn a_primary_that_asks_first_has_won(rt: HostRuntime) -> Result<(), Fail> {
     let (fabric, mut seats) = Fabric::open(rt.alloc(), 1)?;
-    assert_eq!(rt; seats.primary.contest(&fabric), Ok(()));
-    assert_eq!(rt; seats.backup.contest(&fabric), Err(Fault::Lost));
-    assert_eq!(rt; fabric.close(seats).winner, 1);
+    assert!(rt; seats.primary.contest(&fabric) == Ok(()));
+    assert!(rt; seats.backup.contest(&fabric) == Err(Fault::Lost));
+    assert!(rt; fabric.close(seats).winner == 1);
     Ok(())
 }
 
@@ -47,8 +47,8 @@ fn fill_log(fabric: &Fabric, seat: &mut PrimarySeat) -> u64
 #[test]
 fn a_full_log_takes_no_entry(rt: HostRuntime) -> Result<(), Fail> {
     let (fabric, mut seats) = Fabric::open(rt.alloc(), 1)?;
-    assert_eq!(rt; fill_log(&fabric, &mut seats.primary), 256);
-    assert_eq!(rt; seats.primary.append(&fabric, mark()), Err(Fault::LogFull));
+    assert!(rt; fill_log(&fabric, &mut seats.primary) == 256);
+    assert!(rt; seats.primary.append(&fabric, mark()) == Err(Fault::LogFull));
     Ok(())
 }
 
@@ -58,8 +58,8 @@ fn packets_are_lost_and_repeated(rt: HostRuntime) -> Result<(), Fail> {
     let (fabric, mut seats) = Fabric::open(rt.alloc(), 1)?;
     let first = append(&fabric, &mut seats.primary);
     let index = append(&fabric, &mut seats.primary);
-    assert_eq!(rt; first, Some(0));
-    assert_eq!(rt; index, Some(1));
+    assert!(rt; first == Some(0));
+    assert!(rt; index == Some(1));
     assert!(rt; take_once(&fabric, &mut seats.backup) == None);
     assert!(rt; !carry_once(&fabric, &mut seats.link, false));
     if let Some(index) = index {
@@ -71,7 +71,7 @@ fn packets_are_lost_and_repeated(rt: HostRuntime) -> Result<(), Fail> {
     let packet = take_once(&fabric, &mut seats.backup);
     assert!(rt; matches!(packet, Some(packet) if packet.index == 1));
     assert!(rt; take_once(&fabric, &mut seats.backup) == None);
-    assert_eq!(rt; seats.backup.hold(&fabric), 0);
+    assert!(rt; seats.backup.hold(&fabric) == 0);
     seats.link.discard(&fabric);
     assert!(rt; !carry_once(&fabric, &mut seats.link, false));
     Ok(())
@@ -82,8 +82,8 @@ fn packets_are_lost_and_repeated(rt: HostRuntime) -> Result<(), Fail> {
 fn bytes_come_in_order(rt: HostRuntime) -> Result<(), Fail> {
     let (fabric, mut seats) = Fabric::open(rt.alloc(), 1)?;
     assert!(rt; show_once(&fabric, &mut seats.terminal) == None);
-    assert_eq!(rt; emit_once(&fabric, &mut seats.primary, 0x41), 0);
-    assert_eq!(rt; emit_once(&fabric, &mut seats.primary, 0x42), 0);
+    assert!(rt; emit_once(&fabric, &mut seats.primary, 0x41) == 0);
+    assert!(rt; emit_once(&fabric, &mut seats.primary, 0x42) == 0);
     let byte = show_once(&fabric, &mut seats.terminal);
     assert!(rt;
         matches!(
@@ -95,10 +95,10 @@ fn bytes_come_in_order(rt: HostRuntime) -> Result<(), Fail> {
         )
     );
     assert!(rt; show_once(&fabric, &mut seats.terminal) == None);
-    assert_eq!(rt; seats.terminal.count(&fabric, 1), 1);
-    assert_eq!(rt; seats.terminal.count(&fabric, 0), 0);
-    assert_eq!(rt; seats.primary.counted(&fabric, 0), 0);
-    assert_eq!(rt; seats.primary.counted(&fabric, 1), 1);
+    assert!(rt; seats.terminal.count(&fabric, 1) == 1);
+    assert!(rt; seats.terminal.count(&fabric, 0) == 0);
+    assert!(rt; seats.primary.counted(&fabric, 0) == 0);
+    assert!(rt; seats.primary.counted(&fabric, 1) == 1);
     Ok(())
 }
 
@@ -134,8 +134,8 @@ fn both_ports_have_boxes(rt: HostRuntime) -> Result<(), Fail> {
             )
         );
     }
-    assert_eq!(rt; seats.terminal.count(&fabric, 0), 1);
-    assert_eq!(rt; seats.primary.counted(&fabric, 0), 1);
+    assert!(rt; seats.terminal.count(&fabric, 0) == 1);
+    assert!(rt; seats.primary.counted(&fabric, 0) == 1);
     Ok(())
 }
 

@@ -179,7 +179,7 @@ fn check_parts<B: Copies<H> + Drop, D: SectorStore, H: Drop>(
     for index in 0..PARTS {
         let sent = sent_in(world.message(first.wrapping_add(index)));
         let length = if index == 0 { 268 + 148 * 2 } else { 263 };
-        assert_eq!(rt; part_length(sent), length, "part {index}");
+        assert!(rt; part_length(sent) == length, "part {index}");
     }
 }
 
@@ -208,8 +208,8 @@ fn copied<B: Copies<H> + Drop, D: SectorStore, H: Drop>(
     happen(rt, alloc, world, &three_bytes());
     write_sectors(rt, alloc, world);
     happen(rt, alloc, world, &[(begin_pair(0, 2), generation(2))]);
-    assert_eq!(rt; world.node(0), node(Role::Primary, 2, 4856));
-    assert_eq!(rt; world.node(2), node(Role::Joining, 2, 4856));
+    assert!(rt; world.node(0) == node(Role::Primary, 2, 4856));
+    assert!(rt; world.node(2) == node(Role::Joining, 2, 4856));
     send_parts(rt, alloc, world, 0, 13);
     check_parts(rt, world, 13);
     bring_parts(rt, alloc, world, 2, 13, 77);
@@ -217,9 +217,9 @@ fn copied<B: Copies<H> + Drop, D: SectorStore, H: Drop>(
     happen(rt, alloc, world, &[(arrive(349), Ok(Reply::Accepted))]);
     happen(rt, alloc, world, &completed(2, 4, 350));
     happen(rt, alloc, world, &completed(2, 5, 352));
-    assert_eq!(rt; world.accepted(0), [0x41; 3].as_slice());
-    assert_eq!(rt; world.node(2), node(Role::Alone, 2, 4856));
-    assert_eq!(rt; (world.winner(1), world.winner(2)), (Some(0), Some(2)));
+    assert!(rt; world.accepted(0) == [0x41; 3].as_slice());
+    assert!(rt; world.node(2) == node(Role::Alone, 2, 4856));
+    assert!(rt; (world.winner(1), world.winner(2)) == (Some(0), Some(2)));
 }
 
 // Hosts without a role, nodes that are not alone, and generation 1, which has no image.
@@ -355,9 +355,9 @@ fn stopped<B: Copies<H> + Drop, D: SectorStore, H: Drop>(
     send_parts(rt, alloc, world, 0, 1);
     bring_parts(rt, alloc, world, 3, 1, 333);
     happen(rt, alloc, world, &goes_on());
-    assert_eq!(rt; world.node(3), node(Role::Primary, 4, 6));
-    assert_eq!(rt; world.node(4), node(Role::Joining, 4, 6));
-    assert_eq!(rt; world.generation(), 4);
+    assert!(rt; world.node(3) == node(Role::Primary, 4, 6));
+    assert!(rt; world.node(4) == node(Role::Joining, 4, 6));
+    assert!(rt; world.generation() == 4);
 }
 
 // MVI A,48; STA 2000; HLT.
@@ -390,7 +390,7 @@ fn drafted<B: Copies<H> + Drop, D: SectorStore, H: Drop>(
         panic!(rt; "message 0 is no part");
     };
     let page = [0x50, 0x00, 0x00, 0x00, 0x02, 0x00, 0x21, 0x48, 0x00];
-    assert_eq!(rt; bytes.get(..9), Some(page.as_slice()));
+    assert!(rt; bytes.get(..9) == Some(page.as_slice()));
 }
 
 // Three spare hosts come to a pair.

@@ -151,7 +151,7 @@ fn run_at_once<T: Completes + Drop + Copy, S: Completes + Drop + Copy, W: Comple
             return Err(Fault::OutOfMemory);
         }
     }
-    assert_eq!(rt; answers.as_slice(), wanted.as_slice());
+    assert!(rt; answers.as_slice() == wanted.as_slice());
     stands(rt, &mut world, end);
     Ok(())
 }

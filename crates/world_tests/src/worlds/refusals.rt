@@ -139,7 +139,7 @@ fn spare_hosts<T: Completes + Drop + Copy, S: Completes + Drop + Copy, W: Comple
         let Ok(came) = came else {
             return Err(Fault::OutOfMemory);
         };
-        assert_eq!(rt; came, number);
+        assert!(rt; came == number);
     }
     let events = [
         (step(2, 1), UNKNOWN),
@@ -151,9 +151,9 @@ fn spare_hosts<T: Completes + Drop + Copy, S: Completes + Drop + Copy, W: Comple
     ];
     happen(rt, alloc, &mut world, &events);
     for number in 2..6 {
-        assert_eq!(rt; world.node(number), None);
+        assert!(rt; world.node(number) == None);
     }
-    assert_eq!(rt; world.node(1), Some(node(Role::Draining, 0)));
+    assert!(rt; world.node(1) == Some(node(Role::Draining, 0)));
     Ok(())
 }
 

@@ -159,10 +159,10 @@ pub(crate) fn happen<B: Copies<H> + Drop, D: SectorStore, H: Drop>(
         let mut answered = world.apply(alloc, *event);
         if answered == Err(Fault::OutOfMemory) && !refused {
             refused = true;
-            assert_eq!(rt; shown(world), before, "{event:?}");
+            assert!(rt; shown(world) == before, "{event:?}");
             answered = world.apply(alloc, *event);
         }
-        assert_eq!(rt; answered, *answer, "{event:?}");
+        assert!(rt; answered == *answer, "{event:?}");
     }
 }
 
@@ -180,45 +180,54 @@ pub(crate) fn sent_in(message: Option<&Message>) -> Sent<'_> {
     }
 }
 
+// A port's terminal has accepted these bytes and been told of so many keys, and the node of its number is this one.
+fn stands_at<B: Copies<H> + Drop, D: SectorStore, H: Drop>(
+    rt: &impl Abort,
+    world: &World<B, D, H>,
+    port: u8,
+    end: &End,
+) {
+    let place = usize::from(port % 2);
+    let (accepted, told, nodes) = (end.accepted, end.told, end.nodes);
+    assert!(rt; world.accepted(port) == accepted[place]);
+    assert!(rt; world.terminal_told(port) == told[place]);
+    assert!(rt; world.node(u64::from(port)) == Some(nodes[place]));
+}
+
+// The disk has this sector, and there is no drive 1.
+fn disk_stands<B: Copies<H> + Drop, D: SectorStore, H: Drop>(
+    rt: &impl Abort,
+    world: &mut World<B, D, H>,
+    read: SectorRead,
+) {
+    let address = SectorAddress {
+        drive: read.drive,
+        track: read.track,
+        sector: read.sector,
+    };
+    assert!(rt; world.sector(address) == Ok(read));
+    let absent = SectorAddress {
+        drive: 1,
+        ..address
+    };
+    assert!(rt; world.sector(absent) == Err(Fault::Unknown));
+}
+
 /// A world ends like this. It has two nodes and one drive, and its generation is the first.
 pub(crate) fn stands<B: Copies<H> + Drop, D: SectorStore, H: Drop>(
     rt: &impl Abort,
     world: &mut World<B, D, H>,
     end: &End,
 ) {
-    let (accepted, told, nodes) = (end.accepted, end.told, end.nodes);
     for port in 0..2 {
-        let place = port as usize;
-        let shown = accepted[place];
-        assert_eq!(rt; world.accepted(port), shown);
-        assert_eq!(rt; world.terminal_told(port), told[place]);
-        assert_eq!(rt; world.node(port as u64), Some(nodes[place]));
+        stands_at(rt, world, port, end);
     }
-    assert_eq!(rt; world.node(2), None);
-    let winner = end.winner;
-    assert_eq!(rt;
-        (world.generation(), world.winner(1), world.winner(2)),
-        (1, winner, None)
-    );
+    assert!(rt; world.node(2) == None && world.generation() == 1);
+    assert!(rt; world.winner(1) == end.winner && world.winner(2) == None);
     let (inputs, count) = world.settled();
-    let settled = end.settled;
-    assert_eq!(rt; inputs, settled);
-    let settled_count = end.settled_count;
-    assert_eq!(rt; count, settled_count);
-    let read = end.sector;
-    let address = SectorAddress {
-        drive: read.drive,
-        track: read.track,
-        sector: read.sector,
-    };
-    assert_eq!(rt; world.sector(address), Ok(read));
-    let absent = SectorAddress {
-        drive: 1,
-        ..address
-    };
-    assert_eq!(rt; world.sector(absent), Err(Fault::Unknown));
-    let content = end.content;
-    assert_eq!(rt; sent_in(world.message(end.message)), content);
+    assert!(rt; inputs == end.settled && count == end.settled_count);
+    disk_stands(rt, world, end.sector);
+    assert!(rt; sent_in(world.message(end.message)) == end.content);
 }
 
 // Runs the row, event by event.
