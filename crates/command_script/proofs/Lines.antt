@@ -1,5 +1,5 @@
 -- A running pair answers line after line, in whatever world it shows.
-use Rattle.std.proofs.Common.{◌≡◌, ℕ, ◌+◌, ◌<◌, List, [], ◌∷◌, ◌++◌, Option, Some, None, Result, Ok, Err, get_or, length, refl, subst, sym}
+use Rattle.std.proofs.Common.{◌≡◌, ℕ, ◌+◌, ◌<◌, List, [], ◌∷◌, Option, Some, None, Result, Ok, Err, get_or, length, refl, subst, sym}
 use Rattle.std.specs.Prelude.{OnOk, take}
 use Rattle.std.specs.Io.KnownBytes.{Keeps}
 use Rattle.std.proofs.lemmas.List.{take_more}
@@ -8,7 +8,6 @@ use Rattle.ft_world.specs.Applies.{Happens, Shows}
 use Rattle.ft_world.specs.Running.{Running}
 use Rattle.ft_world.specs.Shows.{IsStatusAt}
 use Rattle.ft_world.specs.Standing.{Course, machine_of}
-use Rattle.ft_world.specs.Words.{answer_of, event_of}
 use Rattle.ft_world.specs.declared.hosts.NodeStatus.{NodeStatus}
 use Rattle.guest_board.specs.Guest.{Guest}
 use Rattle.guest_lockstep.specs.Machine.{Machine}

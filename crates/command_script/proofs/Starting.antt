@@ -1,20 +1,19 @@
 -- The world that a script begins in: what a pair that has booted shows; there is one for each setup.
-use Rattle.std.proofs.Common.{◌≡◌, ℕ, zero, suc, ◌+◌, ◌-◌, ◌≤◌, List, [], ◌∷◌, Bool, true, IsTrue, Option, Some, ap, arith, refl, subst, sym, ◌∙◌}
+use Rattle.std.proofs.Common.{◌≡◌, ℕ, zero, suc, ◌+◌, ◌-◌, List, [], ◌∷◌, Option, Some, ap, arith, refl, subst, sym, ◌∙◌}
 use Rattle.std.specs.Prelude.{map, replicate, if◌then◌else◌, None}
 use Rattle.std.specs.Option.{option_map_or}
 use Rattle.altair_copies.specs.Copies.{image_copy}
-use Rattle.disk_dcdd.specs.Address.{address_of, has_sector, same_address}
+use Rattle.disk_dcdd.specs.Address.{address_of, same_address}
 use Rattle.disk_dcdd.specs.declared.address.SectorAddress.{SectorAddress}
 use Rattle.disk_dcdd.specs.declared.sector.SectorWrite.{SectorWrite}
 use Rattle.disk_dcdd.specs.declared.sector.TheConstants.{SECTOR_BYTES}
-use Rattle.std.specs.Prelude.{Result, Ok, Err}
+use Rattle.std.specs.Prelude.{Result}
 use Rattle.ft_world.specs.Applies.{Shows}
 use Rattle.ft_world.specs.Beginning.{beginning, bytes_in}
 use Rattle.ft_world.specs.Standing.{Course, machine_of}
 use Rattle.pair_check.specs.Alike.{ShownIsSame}
 use Rattle.pair_check.specs.Comparing.{IsVerdictOn}
 use Rattle.pair_check.specs.Disks.{records_in}
-use Rattle.pair_check.specs.declared.verdict.Verdict.{Verdict}
 use Rattle.command_script.specs.Answering.{Happen}
 use Rattle.command_script.specs.Printing.{AnswersLines, IsSameAfter, Prints, PrintsVerdict}
 use Rattle.command_script.specs.Running.{HaveHappened}
@@ -34,7 +33,7 @@ use Rattle.pair_setup.specs.Booting.{HostsCome, IsBooted, Pair, Spare}
 use Rattle.plain_single.specs.Image.{boot_sectors, bytes_with_all, zero_sector}
 use Rattle.script_language.specs.Scripts.{boot_write}
 use Rattle.script_language.specs.declared.setup.ScriptSetup.{ScriptSetup}
-use Rattle.shared_disk.specs.Records.{IsAtBoot, boot_record, bytes_after, record_at}
+use Rattle.shared_disk.specs.Records.{IsAtBoot, boot_record, bytes_after}
 use Rattle.shared_disk.specs.declared.store.Record.{Record}
 
 -- both tables of a sector's bytes at boot are one

@@ -1,5 +1,5 @@
 -- What the lines of a script do, one after another, in a world of the protocol; and the world that they begin in.
-use Rattle.std.specs.Prelude.{◌≡◌, ℕ, List, [], ◌∷◌, ◌++◌, Option, Result, map}
+use Rattle.std.specs.Prelude.{ℕ, List, [], ◌∷◌, ◌++◌, Option, Result, map}
 use Rattle.std.specs.Io.KnownBytes.{Appends}
 use Rattle.disk_dcdd.specs.declared.address.SectorAddress.{SectorAddress}
 use Rattle.ft_world.specs.Words.{answer_of, event_of}

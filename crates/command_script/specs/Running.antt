@@ -1,5 +1,5 @@
 -- What a running pair has done with some lines of a script, whatever world it showed before them.
-use Rattle.std.specs.Prelude.{◌≡◌, ℕ, List, [], ◌∷◌, Option, Result}
+use Rattle.std.specs.Prelude.{◌≡◌, ℕ, List, Option, Result}
 use Rattle.ft_world.specs.Applies.{Applies, Shows}
 use Rattle.ft_world.specs.Running.{Running}
 use Rattle.ft_world.specs.Standing.{Course, machine_of}

@@ -14,15 +14,15 @@ use Rattle.pair_protocol.specs.Row.{Row}
 use Rattle.pair_protocol.specs.World.{World}
 use Rattle.ft_world.specs.Applies.{Applies, First, Happens, Nothing, Rows, Runs, Shows}
 use Rattle.ft_world.specs.Running.{Running}
-use Rattle.ft_world.specs.Standing.{Course, machine_of}
+use Rattle.ft_world.specs.Standing.{machine_of}
 use Rattle.ft_world.specs.Words.{answer_of, event_of}
 use Rattle.ft_world.proofs.Growing.{rows_grow}
 use Rattle.ft_world.proofs.Running.{runs_begin}
 use Rattle.pair_check.specs.Disks.{Disk, over_records, records_in}
 use Rattle.pair_check.proofs.Disks.{records_show, shows_records}
 use Rattle.pair_shell.specs.Sessions.{LinePlays}
-use Rattle.pair_shell.specs.Tapes.{Lengthens, Plays, answers_of, events_of, played}
-use Rattle.pair_shell.specs.declared.tape.Played.{Played}
+use Rattle.shell_book.specs.Tapes.{Lengthens, Plays, answers_of, events_of, played}
+use Rattle.shell_book.specs.declared.tape.Played.{Played}
 
 -- one more row at the end
 rows_then : {S : Type 0} (M : Machine S) (C : Copying S) (w mid new : World S) (events : List protocol.Event)

@@ -8,11 +8,11 @@ use Rattle.shell_language.specs.declared.line.ShellLine.{ShellLine}
 use Rattle.pair_setup.specs.Replies.{answer_line}
 use Rattle.pair_shell.specs.Openings.{SetsUp, SetsUpSaid}
 use Rattle.pair_shell.specs.Sessions.{HeedsSaid, IsHeeded, trace_after}
-use Rattle.pair_shell.specs.Tapes.{Begins, IsAnswered, Traces, event_lines, played, told_text, trace_text}
-use Rattle.pair_shell.specs.Texts.{Adds, AddsSome}
+use Rattle.shell_book.specs.Tapes.{Begins, IsAnswered, Traces, event_lines, played, told_text, trace_text}
+use Rattle.shell_book.specs.Texts.{Adds, AddsSome}
 use Rattle.pair_shell.specs.declared.opening.Opening.{Opening}
-use Rattle.pair_shell.specs.declared.printing.Printed.{Printed}
-use Rattle.pair_shell.specs.declared.tape.Played.{Played}
+use Rattle.shell_book.specs.declared.printing.Printed.{Printed}
+use Rattle.shell_book.specs.declared.tape.Played.{Played}
 
 -- nothing has happened: any text will do
 pub begins_nothing : (tape : List Played) (text : List ℕ) → tape ≡ [] → Begins (trace_text tape) text

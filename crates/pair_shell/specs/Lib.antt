@@ -1,4 +1,2 @@
 pub mod Openings
 pub mod Sessions
-pub mod Tapes
-pub mod Texts

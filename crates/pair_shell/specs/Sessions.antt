@@ -10,10 +10,10 @@ use Rattle.shell_language.specs.declared.line.ShellLine.{ShellLine}
 use Rattle.shell_language.specs.declared.line.ShellLine.TheVariants as shell
 use Rattle.pair_setup.specs.Booting.{IsBooted}
 use Rattle.pair_shell.specs.Openings.{IsSame}
-use Rattle.pair_shell.specs.Tapes.{IsAnswered, Plays}
+use Rattle.shell_book.specs.Tapes.{IsAnswered, Plays}
 use Rattle.pair_shell.specs.declared.notes.Notes.{Notes}
 use Rattle.pair_shell.specs.declared.opening.Opening.{Opening}
-use Rattle.pair_shell.specs.declared.tape.Played.{Played}
+use Rattle.shell_book.specs.declared.tape.Played.{Played}
 
 -- a pair has just booted as a session's setup says
 abbrev pub BootsBy : {B H : Type 0} → (B → Guest) → Opening → Running B H Disk → Type 0

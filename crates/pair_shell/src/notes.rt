@@ -2,24 +2,20 @@
 ghost use Rattle.std.specs.Prelude.{◌≡◌, [], true, IfOk, string_bytes};
 ghost use Rattle.pair_check.specs.Disks.{over_records};
 ghost use Rattle.pair_shell.specs.Sessions.{IsHeeded};
-ghost use Rattle.pair_shell.specs.Tapes.{Begins, IsAnswered, Plays, Traces, trace_text};
+ghost use Rattle.shell_book.specs.Tapes.{Begins, IsAnswered, Plays, Traces, trace_text};
 
-use crate::book::Book;
-use crate::day::Day;
 use crate::opening::Opening;
-use crate::picture::print_picture;
-use crate::plan::Plan;
 use crate::play::{play, play_one};
-use crate::printing::Printed;
-use crate::tape::Played;
-use crate::{answers, remaining};
 use clone_state::Copies;
 use ft_world::{NodeStatus, World};
 use i8080_words::Fault;
 use pair_check::{Disk, compare};
 use pair_events::{Answer, Event, Role};
 use pair_setup::find;
+use shell_book::{Book, Played, Printed};
+use shell_day::{Day, Plan, bytes_to_arrive, entries_to_deliver, entries_to_send};
 use shell_language::{Quoted, ShellLine, Turns};
+use shell_picture::{print_last, print_picture, print_screen, print_sector, print_sum};
 use std::alloc::{AllocError, Global};
 
 /// How many events a picture shows.
@@ -64,15 +60,15 @@ impl Notes {
             ShellLine::Event(event) => self.happen(alloc, world, event, printed),
             ShellLine::Query(query) => printed.line(&find(world, query)),
             ShellLine::SendAll { node } => {
-                let events = remaining::entries_to_send(alloc, &self.book, node)?;
+                let events = entries_to_send(alloc, &self.book, node)?;
                 self.happen_all(alloc, world, events, printed)
             }
             ShellLine::LogAll { node } => {
-                let events = remaining::entries_to_deliver(alloc, &self.book, node)?;
+                let events = entries_to_deliver(alloc, &self.book, node)?;
                 self.happen_all(alloc, world, events, printed)
             }
             ShellLine::ArriveAll => {
-                let events = remaining::bytes_to_arrive(alloc, &self.book)?;
+                let events = bytes_to_arrive(alloc, &self.book)?;
                 self.happen_all(alloc, world, events, printed)
             }
             ShellLine::TypeText { port, text } => {
@@ -80,9 +76,9 @@ impl Notes {
                 self.happen_all(alloc, world, events, printed)
             }
             ShellLine::Run(turns) => self.run(alloc, opening, world, turns, printed),
-            ShellLine::Screen { port } => answers::print_screen(world, port, printed),
-            ShellLine::Sector(address) => answers::print_sector(world, address, printed),
-            ShellLine::Last => answers::print_last(&self.book, printed),
+            ShellLine::Screen { port } => print_screen(world, port, printed),
+            ShellLine::Sector(address) => print_sector(world, address, printed),
+            ShellLine::Last => print_last(&self.book, printed),
             ShellLine::Check => check(alloc, opening, world, printed),
             ShellLine::Picture => print_picture(alloc, &self.book, &self.recent, printed),
             _ => Ok(()),
@@ -127,7 +123,7 @@ impl Notes {
     {
         let mut plan = Plan::of(events);
         self.play(alloc, world, &mut plan, printed)?;
-        answers::print_sum(&self.tape, printed)
+        print_sum(&self.tape, printed)
     }
 
     // The ordinary day of a pair.

@@ -1,14 +1,13 @@
 //! The lines before the pair boots: its machines and their disk.
 ghost use Rattle.std.specs.Prelude.{◌≡◌, ◌+◌, ◌≤◌, IfOk, length};
 ghost use Rattle.pair_shell.specs.Openings.{padded, sector_bytes, sector_of};
-ghost use Rattle.pair_shell.specs.declared.outcome.Outcome.TheVariants as outcome;
+ghost use Rattle.shell_book.specs.declared.outcome.Outcome.TheVariants as outcome;
 ghost use Rattle.shell_language.specs.declared.line.ShellLine.TheVariants as shell;
 
-use crate::outcome::{Outcome, refuse};
-use crate::printing::Printed;
 use disk_dcdd::{SECTOR_BYTES, SectorAddress, SectorWrite};
 use guest_memory::BYTES;
 use script_language::{Keyword, ScriptSetup, Words};
+use shell_book::{Outcome, Printed, refuse};
 use shell_language::{Mistake, Record, ShellLine, mistake_in};
 use std::alloc::{AllocError, Global};
 use std::fmt;

@@ -2,16 +2,15 @@
 ghost use Rattle.std.specs.Prelude.{◌≡◌, ◌<◌, [], ◌∷◌, ◌++◌, IfOk, vec_capacity, vec_len};
 ghost use Rattle.ft_world.specs.Applies.{Happens};
 ghost use Rattle.pair_check.specs.Disks.{records_in};
-ghost use Rattle.pair_shell.specs.Tapes.{Lengthens, Plays, played};
+ghost use Rattle.shell_book.specs.Tapes.{Lengthens, Plays, played};
 
-use crate::book::Book;
-use crate::plan::Plan;
-use crate::tape::Played;
 use clone_state::Copies;
 use ft_world::World;
 use i8080_words::R;
 use pair_check::Disk;
 use pair_events::{Event, Reply};
+use shell_book::{Book, Played};
+use shell_day::Plan;
 use std::alloc::{AllocError, Global};
 
 /// Makes the events of a plan happen, one after another, each chosen when the one before it was answered. The tape has

@@ -2,15 +2,14 @@
 ghost use Rattle.event_callbacks.specs.declared.devices.TheConstants.{SENT, SECTOR, WRITTEN};
 ghost use Rattle.event_callbacks.specs.Keeping.{Keeps};
 
-use crate::answers::print_help;
 use crate::notes::Notes;
 use crate::opening::Opening;
-use crate::outcome::{Outcome, refuse};
-use crate::printing::Printed;
 use event_callbacks::Completes;
 use i8080_words::Fault;
 use pair_setup::{Altairs, boot};
+use shell_book::{Outcome, Printed, refuse};
 use shell_language::{Mistake, ShellLine, read_line};
+use shell_picture::print_help;
 use std::alloc::{AllocError, Global};
 
 /// The shell with its pair.
@@ -31,8 +30,8 @@ impl<T: Completes + Drop + Copy, S: Completes + Drop + Copy, W: Completes + Drop
     ghost use Rattle.shell_language.specs.Saying.{said};
     ghost use Rattle.pair_shell.specs.Openings.{IsSame, SetsUp, SetsUpSaid};
     ghost use Rattle.pair_shell.specs.Sessions.{AltairsPlay, HeedsSaid, IsAsBefore, IsHeeded, trace_after};
-    ghost use Rattle.pair_shell.specs.Tapes.{Begins, trace_text};
-    ghost use Rattle.pair_shell.specs.declared.outcome.Outcome.TheVariants as outcome;
+    ghost use Rattle.shell_book.specs.Tapes.{Begins, trace_text};
+    ghost use Rattle.shell_book.specs.declared.outcome.Outcome.TheVariants as outcome;
 
     /// A session before its first line.
     pub fn new(alloc: Global) -> Result<Self, AllocError> {

@@ -1,8 +1,8 @@
 -- The events so far are printed.
 use Rattle.std.proofs.Common.{◌≡◌, ◌++◌, take}
 use Rattle.std.specs.Prelude.{string_bytes}
-use Rattle.pair_shell.specs.Tapes.{trace_text}
-use Rattle.pair_shell.proofs.printing.Printed.trace.Given as goal
+use Rattle.shell_book.specs.Tapes.{trace_text}
+use Rattle.shell_book.proofs.printing.Printed.trace.Given as goal
 
 abbrev pub invariant-loop-played : goal.invariant-loop-played
 invariant-loop-played l = record {

@@ -1,12 +1,9 @@
 //! What lines that are not events answer.
 ghost use Rattle.std.specs.Prelude.{◌≡◌, IfOk};
-ghost use Rattle.pair_shell.specs.Texts.{AddsSome};
+ghost use Rattle.shell_book.specs.Texts.{AddsSome};
 ghost use Rattle.pair_check.specs.Disks.{over_records};
 
-use crate::book::Book;
-use crate::printing::Printed;
 use crate::screen::{Dump, ScreenLine};
-use crate::tape::Played;
 use clone_state::Copies;
 use disk_dcdd::SectorAddress;
 use event_callbacks::PORTS;
@@ -14,6 +11,7 @@ use ft_world::World;
 use i8080_words::Fault;
 use pair_check::{Disk, sector_of};
 use pair_events::{Answer, Reply};
+use shell_book::{Book, Played, Printed};
 use shell_language::FORMS;
 use std::alloc::{AllocError, Global};
 

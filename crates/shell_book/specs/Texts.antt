@@ -1,7 +1,7 @@
 -- What was printed.
 use Rattle.std.specs.Prelude.{◌≡◌, ℕ, List, ◌++◌, Option, IfSome, string_bytes}
 use Rattle.std.specs.Fmt.{with_newline}
-use Rattle.pair_shell.specs.declared.printing.Printed.{Printed}
+use Rattle.shell_book.specs.declared.printing.Printed.{Printed}
 
 -- these bytes were printed after the others
 abbrev pub Adds : List ℕ → Printed → Printed → Type 0

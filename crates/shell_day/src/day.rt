@@ -1,6 +1,5 @@
 //! The ordinary day of a pair: what happens when nothing goes wrong but, perhaps, the link.
 
-use crate::book::{Book, Brings, PortNotes};
 use crate::ending::Ending;
 use crate::link::{Fate, Link};
 use crate::phase::Phase;
@@ -8,6 +7,7 @@ use event_callbacks::{OpId, PORTS};
 use guest_lockstep::{ReplayEnd, StopReason};
 use i8080_words::{Fault, R};
 use pair_events::{Event, Reply};
+use shell_book::{Book, Brings, PortNotes};
 use shell_language::Turns;
 use std::alloc::{AllocError, Global};
 

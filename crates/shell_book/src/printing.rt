@@ -1,7 +1,7 @@
 //! What the shell prints: lines, which are the comments of a script while events are traced.
 ghost use Rattle.std.specs.Prelude.{◌≡◌, [], false, IfOk, string_bytes};
-ghost use Rattle.pair_shell.specs.Tapes.{Traces, event_lines};
-ghost use Rattle.pair_shell.specs.Texts.{Adds, AddsShown, AddsSome};
+ghost use Rattle.shell_book.specs.Tapes.{Traces, event_lines};
+ghost use Rattle.shell_book.specs.Texts.{Adds, AddsShown, AddsSome};
 
 use crate::tape::Played;
 use shell_language::Spelled;

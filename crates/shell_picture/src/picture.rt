@@ -1,12 +1,10 @@
 //! The last events as a diagram: the nodes, the arbiter, the terminals and the disk, a column each.
 
-use crate::book::Book;
-use crate::printing::Printed;
-use crate::tape::Played;
 use event_callbacks::OpId;
 use guest_lockstep::StopReason;
 use i8080_words::{Fault, R};
 use pair_events::{Event, Reply};
+use shell_book::{Book, Played, Printed};
 use std::alloc::{AllocError, Global};
 use std::fmt;
 

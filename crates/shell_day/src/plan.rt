@@ -1,9 +1,9 @@
 //! Which events a line makes: a list of them, or those of a day, each chosen when the one before it was answered.
 
-use crate::book::Book;
 use crate::day::Day;
 use i8080_words::R;
 use pair_events::{Event, Reply};
+use shell_book::Book;
 use std::alloc::{AllocError, Global};
 
 // The most phases of a day that pass without an event.

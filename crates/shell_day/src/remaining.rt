@@ -1,7 +1,7 @@
 //! What has not gone yet: the events that make it go.
 
-use crate::book::{Book, Brings};
 use pair_events::Event;
+use shell_book::{Book, Brings};
 use std::alloc::{AllocError, Global};
 
 /// The entries that a primary has not sent yet.

@@ -12,7 +12,7 @@ use Rattle.ft_world.specs.Running.{Running}
 use Rattle.ft_world.specs.Standing.{Course}
 use Rattle.pair_setup.specs.Replies.{answer_line}
 use Rattle.shell_language.specs.Spelling.{event_text}
-use Rattle.pair_shell.specs.declared.tape.Played.{Played}
+use Rattle.shell_book.specs.declared.tape.Played.{Played}
 
 -- an event with its answer
 abbrev pub played : Event → Result Reply Fault → Played

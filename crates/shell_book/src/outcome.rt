@@ -1,6 +1,6 @@
 //! What becomes of a line.
 ghost use Rattle.std.specs.Prelude.{◌≡◌, IfOk};
-ghost use Rattle.pair_shell.specs.declared.outcome.Outcome.TheVariants as outcome;
+ghost use Rattle.shell_book.specs.declared.outcome.Outcome.TheVariants as outcome;
 
 use crate::printing::Printed;
 use shell_language::Mistake;

@@ -1,0 +1,13 @@
+//! What the shell keeps of a pair: the messages that were sent, how far each port has come, the tape of a line, and what
+//! is printed of it.
+#![tactic(auto)]
+
+mod book;
+mod outcome;
+mod printing;
+mod tape;
+
+pub use book::{Book, Brings, Letter, PortNotes};
+pub use outcome::{Outcome, refuse};
+pub use printing::Printed;
+pub use tape::Played;
