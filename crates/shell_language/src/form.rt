@@ -78,6 +78,11 @@ pub static FORMS: [Form; 52] = forms![
     ["help", [], "help", "this list"],
 ];
 
+/// The same as a slice: what reads them by this call is proved without the whole table.
+pub fn forms() -> &'static [Form] {
+    &FORMS
+}
+
 impl Form {
     // The first word after the form's own that does not fit, by its place in the line, from 1; none if all do.
     fn first_wrong<'a>(&'static self, text: &'a [u8]) -> Option<(usize, Mistake<'a>)> {
@@ -157,7 +162,7 @@ pub fn mistake_in(text: &[u8]) -> Mistake<'_> {
         return Mistake::Blank;
     };
     let mut furthest = (0, Mistake::Unknown { word: first });
-    for form in &FORMS {
+    for form in forms() {
         if form.word.as_bytes() == first {
             match form.first_wrong(text) {
                 Some((place, mistake)) if place > furthest.0 => furthest = (place, mistake),

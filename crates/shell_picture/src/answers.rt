@@ -12,7 +12,7 @@ use i8080_words::Fault;
 use pair_check::{Disk, sector_of};
 use pair_events::{Answer, Reply};
 use shell_book::{Book, Played, Printed};
-use shell_language::FORMS;
+use shell_language::forms;
 use std::alloc::{AllocError, Global};
 
 /// What a terminal has accepted, as text.
@@ -68,7 +68,7 @@ pub fn print_last(book: &Book, printed: &mut Printed) -> Result<(), AllocError> 
 
 /// All forms of lines.
 pub fn print_help(printed: &mut Printed) -> Result<(), AllocError> {
-    for form in &FORMS {
+    for form in forms() {
         printed.line(&format_args!("{:<24}{}", form.usage, form.meaning))?;
     }
     Ok(())

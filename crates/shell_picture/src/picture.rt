@@ -147,59 +147,77 @@ struct Happening {
 
 impl fmt::Display for Happening {
     fn fmt<W: fmt::Write>(&self, f: &mut fmt::Formatter<W>) -> fmt::Result {
-        match self.event {
-            Event::DeliverLog { message, .. } => write!(f, "m{message} ")?,
-            Event::DeliverAcknowledgement { message, .. } => write!(f, "m{message} ")?,
-            Event::Arrive { message } => write!(f, "m{message} ")?,
-            Event::Put { message } => write!(f, "m{message} ")?,
-            Event::PutReply { message, .. } => write!(f, "m{message} ")?,
-            Event::GetReply { message, .. } => write!(f, "m{message} ")?,
-            Event::Fetched { message, .. } => write!(f, "m{message} ")?,
-            Event::Fetch { .. } => write!(f, "fetch ")?,
-            Event::TypeByte { byte, .. } => write!(f, "types {byte:02X} ")?,
-            Event::TakeKey { index, .. } => write!(f, "key {index} ")?,
-            Event::TellSent { number, .. } => write!(f, "sent {number} ")?,
-            Event::Send { index, .. } => write!(f, "entry {index} ")?,
-            Event::Acknowledge { .. } => write!(f, "ack ")?,
-            Event::Release {
-                id: OpId::Byte(port, number),
-                ..
-            } => write!(f, "byte {port} {number} ")?,
-            Event::Release {
-                id: OpId::Write(number),
-                ..
-            } => write!(f, "write {number} ")?,
-            Event::Get { sector, .. } => write!(f, "read {sector} ")?,
-            _ => {}
-        }
+        write_event(f, self.event)?;
         match self.answer {
-            Ok(Reply::Message { message }) if self.is_lost => write!(f, "m{message}..."),
-            Ok(Reply::Message { message }) => write!(f, "m{message}>"),
-            Ok(
-                Reply::Ran {
-                    steps,
-                    why: StopReason::Operation(OpId::Byte(port, number)),
-                    ..
-                },
-            ) => { write!(f, "{steps}: byte {port} {number}") }
-            Ok(
-                Reply::Ran {
-                    steps,
-                    why: StopReason::Operation(OpId::Write(number)),
-                    ..
-                },
-            ) => { write!(f, "{steps}: write {number}") }
-            Ok(
-                Reply::Ran {
-                    steps,
-                    why: StopReason::Refused(Fault::Idle),
-                    ..
-                },
-            ) => { write!(f, "{steps}: idle") }
-            Ok(Reply::Ran { steps, .. }) => write!(f, "{steps} steps"),
-            Ok(reply) => write!(f, "{reply}"),
+            Ok(reply) => write_reply(f, reply, self.is_lost),
             Err(fault) => write!(f, "refused {}", fault.number()),
         }
+    }
+}
+
+// What happens, and a space after it.
+fn write_event<W: fmt::Write>(f: &mut fmt::Formatter<W>, event: Event) -> fmt::Result {
+    match event {
+        Event::Fetch { .. } => write!(f, "fetch "),
+        Event::TypeByte { byte, .. } => write!(f, "types {byte:02X} "),
+        Event::TakeKey { index, .. } => write!(f, "key {index} "),
+        Event::TellSent { number, .. } => write!(f, "sent {number} "),
+        Event::Send { index, .. } => write!(f, "entry {index} "),
+        Event::Acknowledge { .. } => write!(f, "ack "),
+        Event::Get { sector, .. } => write!(f, "read {sector} "),
+        Event::Release { id, .. } => {
+            write_operation(f, id)?;
+            write!(f, " ")
+        }
+        other => write_arrival(f, other),
+    }
+}
+
+// The message that arrives, and a space after it.
+fn write_arrival<W: fmt::Write>(f: &mut fmt::Formatter<W>, event: Event) -> fmt::Result {
+    let message = match event {
+        Event::DeliverLog { message, .. }
+        | Event::DeliverAcknowledgement { message, .. }
+        | Event::Arrive { message }
+        | Event::Put { message }
+        | Event::PutReply { message, .. }
+        | Event::GetReply { message, .. }
+        | Event::Fetched { message, .. } => message,
+        _ => return Ok(()),
+    };
+    write!(f, "m{message} ")
+}
+
+fn write_operation<W: fmt::Write>(f: &mut fmt::Formatter<W>, id: OpId) -> fmt::Result {
+    match id {
+        OpId::Byte(port, number) => write!(f, "byte {port} {number}"),
+        OpId::Write(number) => write!(f, "write {number}"),
+    }
+}
+
+// The answer to an event: a message is shown as sent, or as lost.
+fn write_reply<W: fmt::Write>(
+    f: &mut fmt::Formatter<W>,
+    reply: Reply,
+    is_lost: bool,
+) -> fmt::Result {
+    match reply {
+        Reply::Message { message } if is_lost => write!(f, "m{message}..."),
+        Reply::Message { message } => write!(f, "m{message}>"),
+        Reply::Ran { steps, why, .. } => write_run(f, steps, why),
+        other => write!(f, "{other}"),
+    }
+}
+
+// Steps that were executed, and what ended them.
+fn write_run<W: fmt::Write>(f: &mut fmt::Formatter<W>, steps: u64, why: StopReason) -> fmt::Result {
+    match why {
+        StopReason::Operation(id) => {
+            write!(f, "{steps}: ")?;
+            write_operation(f, id)
+        }
+        StopReason::Refused(Fault::Idle) => write!(f, "{steps}: idle"),
+        _ => write!(f, "{steps} steps"),
     }
 }
 
