@@ -4,7 +4,7 @@ ghost use Rattle.event_callbacks.specs.Keeping.{Keeps};
 ghost use Rattle.event_callbacks.specs.declared.devices.TheConstants.{SENT, SECTOR, WRITTEN};
 ghost use Rattle.guest_memory.specs.declared.memory.TheConstants.{BYTES};
 
-use crate::Image;
+use clone_state::Image;
 use disk_dcdd::{
     Controller, ControllerImage, DRIVE_SECTORS, DRIVES, Drive, Place, SECTOR_BYTES, SectorWrite,
 };
@@ -141,82 +141,75 @@ fn part(alloc: Global, image: &Image, index: u16) -> R<Vec<u8>> {
     }
 }
 
-// Each part has its length.
-fn check_lengths(rt: &(impl Abort + AllocGlobal), image: &Image) -> R<()> {
-    assert_eq!(rt; image.parts(), 334);
-    for index in 1..image.parts() {
-        let part = part(rt.alloc(), image, index)?;
-        assert_eq!(rt; part.len(), 263, "part {index}");
-    }
-    assert_eq!(rt; image.part(rt.alloc(), 334).err(), Some(Fault::Unknown));
-    Ok(())
-}
-
-// The first part begins with its head, version and number of drives, and says what is outstanding.
-fn check_first_part(rt: &impl Abort, first: &[u8]) {
-    assert_eq!(rt; first.len(), 564);
-    assert_eq!(rt;
-        first.get(..9),
-        Some([0x50, 0, 0, 0, 2, 0, 0, 2, 1].as_slice())
-    );
-    check_window(rt, first);
-    check_first_write(rt, first);
-}
-
-// Port 0 has one byte in its window.
-fn check_window(rt: &impl Abort, first: &[u8]) {
-    let port = Some([0x15, 0x00, 0x00, 0x01, 0x48].as_slice());
-    assert_eq!(rt; first.get(67..72), port);
-}
-
-// Two writes are outstanding, and the first is number 4, of drive 0, track 0, sector 6.
-fn check_first_write(rt: &impl Abort, first: &[u8]) {
-    let writes = Some([2, 0, 0, 0, 0, 0, 0, 0, 4, 0, 0, 6].as_slice());
-    assert_eq!(rt; first.get(267..279), writes);
-}
-
-// The first page begins with its head and the program.
-fn check_page(rt: &impl Abort, page: &[u8]) {
-    let head = Some([0x50, 0, 0, 0, 2, 0, 1].as_slice());
-    assert_eq!(rt; page.get(..7), head);
-    assert_eq!(rt; page.get(7..13), Some(PROGRAM.as_slice()));
-}
-
-// The table of track 0 says that write 3 was the last of sector 1.
-fn check_table(rt: &impl Abort, table: &[u8]) {
-    let head = Some([0x50, 0, 0, 0, 2, 1, 1].as_slice());
-    assert_eq!(rt; table.get(..7), head);
-    let numbers = Some([0, 0, 0, 0, 0, 0, 0, 0, 0, 0, 0, 0, 0, 0, 0, 3].as_slice());
-    assert_eq!(rt; table.get(7..23), numbers);
-}
-
-// The image of the board has all its parts, and they say what the board has.
-fn spell<T: Completes + Drop, S: Completes + Drop, W: Completes + Drop>(
-    rt: &(impl Abort + AllocGlobal),
+// The image of a board with these closures.
+fn copied<T: Completes + Drop, S: Completes + Drop, W: Completes + Drop>(
+    alloc: Global,
     sent: T,
     sector: S,
     written: W,
-) -> R<()>
+) -> R<Image>
     requires sent { Keeps (T.may sent) (T.gives sent) SENT }
     requires sector { Keeps (S.may sector) (S.gives sector) SECTOR }
     requires written { Keeps (W.may written) (W.gives written) WRITTEN }
 {
-    let board = board(rt.alloc(), Callbacks::of(sent, sector, written))?;
-    let image = image(rt.alloc(), &board)?;
-    check_lengths(rt, &image)?;
-    check_first_part(rt, &part(rt.alloc(), &image, 0)?);
-    check_page(rt, &part(rt.alloc(), &image, 1)?);
-    check_table(rt, &part(rt.alloc(), &image, 257)?);
+    let board = board(alloc, Callbacks::of(sent, sector, written))?;
+    image(alloc, &board)
+}
+
+// The image of the board of these tests.
+fn image_of_it(alloc: Global) -> R<Image> {
+    copied(
+        alloc,
+        plain_completions::sent,
+        plain_completions::sector,
+        plain_completions::written,
+    )
+}
+
+// Each part has its length.
+fn check_lengths(rt: &(impl Abort + AllocGlobal), image: &Image) -> R<()> {
+    assert!(rt; image.parts() == 334);
+    for index in 1..image.parts() {
+        let part = part(rt.alloc(), image, index)?;
+        assert!(rt; part.len() == 263, "part {index}");
+    }
+    assert!(rt; image.part(rt.alloc(), 334).err() == Some(Fault::Unknown));
+    Ok(())
+}
+
+// A part, where some of its bytes begin, and what they are.
+type Bytes = (u16, usize, &'static [u8]);
+
+static SAID: [Bytes; 7] = [
+    // The head, the version and the number of drives.
+    (0, 0, &[0x50, 0, 0, 0, 2, 0, 0, 2, 1]),
+    // Port 0 has one byte in its window.
+    (0, 67, &[0x15, 0x00, 0x00, 0x01, 0x48]),
+    // Two writes are outstanding, and the first is number 4, of drive 0, track 0, sector 6.
+    (0, 267, &[2, 0, 0, 0, 0, 0, 0, 0, 4, 0, 0, 6]),
+    // The first page: its head, and the program.
+    (1, 0, &[0x50, 0, 0, 0, 2, 0, 1]),
+    (1, 7, &PROGRAM),
+    // The table of track 0: its head, and that write 3 was the last of sector 1.
+    (257, 0, &[0x50, 0, 0, 0, 2, 1, 1]),
+    (257, 7, &[0, 0, 0, 0, 0, 0, 0, 0, 0, 0, 0, 0, 0, 0, 0, 3]),
+];
+
+// The bytes are there.
+fn check_said(rt: &(impl Abort + AllocGlobal), image: &Image) -> R<()> {
+    for (index, place, said) in &SAID {
+        let part = part(rt.alloc(), image, *index)?;
+        let (_, rest) = part.split_at_checked(*place).unwrap_or_default();
+        assert!(rt; rest.starts_with(said), "part {index}, byte {place}");
+    }
     Ok(())
 }
 
 #[test]
 fn an_image_says_all_that_is_outstanding(rt: HostRuntime) -> Result<(), Fail> {
-    spell(
-        &rt,
-        plain_completions::sent,
-        plain_completions::sector,
-        plain_completions::written,
-    )?;
+    let image = image_of_it(rt.alloc())?;
+    check_lengths(&rt, &image)?;
+    assert!(rt; part(rt.alloc(), &image, 0)?.len() == 564);
+    check_said(&rt, &image)?;
     Ok(())
 }

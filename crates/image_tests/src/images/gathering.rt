@@ -2,8 +2,8 @@
 ghost use Rattle.event_callbacks.specs.Keeping.{Keeps};
 ghost use Rattle.event_callbacks.specs.declared.devices.TheConstants.{SENT, SECTOR, WRITTEN};
 
-use super::{board, image, part};
-use crate::{Assembly, Image};
+use super::{image, image_of_it, part};
+use clone_state::{Assembly, Image};
 use event_callbacks::{Callbacks, Completes, plain_completions};
 use guest_board::Board;
 use i8080_words::{Fault, R};
@@ -23,8 +23,9 @@ pub(super) fn assembly(alloc: Global, generation: u32) -> R<Assembly> {
 fn gather(rt: &(impl Abort + AllocGlobal), assembly: &mut Assembly, image: &Image) -> R<()> {
     for index in (0..image.parts()).rev() {
         let bytes = part(rt.alloc(), image, index)?;
-        assert_eq!(rt; assembly.part(&bytes), Ok(true), "part {index}");
-        assert_eq!(rt; assembly.part(&bytes), Ok(false), "part {index}");
+        for is_new in [true, false] {
+            assert!(rt; assembly.part(&bytes) == Ok(is_new), "part {index}");
+        }
     }
     Ok(())
 }
@@ -34,9 +35,9 @@ fn check_refusals(rt: &(impl Abort + AllocGlobal), image: &Image) -> R<()> {
     let mut assembly = assembly(rt.alloc(), 3)?;
     let bytes = part(rt.alloc(), image, 1)?;
     let short = bytes.get(..262).unwrap_or_default();
-    assert_eq!(rt; assembly.part(short), Err(Fault::Malformed));
-    assert_eq!(rt; assembly.part(&bytes), Err(Fault::WrongGeneration));
-    assert_eq!(rt; assembly.whole(), Err(Fault::NotWhole));
+    assert!(rt; assembly.part(short) == Err(Fault::Malformed));
+    assert!(rt; assembly.part(&bytes) == Err(Fault::WrongGeneration));
+    assert!(rt; assembly.whole() == Err(Fault::NotWhole));
     Ok(())
 }
 
@@ -48,14 +49,14 @@ fn check_taken_back(
 ) -> R<()> {
     let bytes = part(rt.alloc(), image, 258)?;
     assembly.forget(&bytes);
-    assert_eq!(rt; assembly.whole(), Err(Fault::NotWhole));
-    assert_eq!(rt; assembly.part(&bytes), Ok(true));
-    assert_eq!(rt; assembly.whole(), Ok(()));
+    assert!(rt; assembly.whole() == Err(Fault::NotWhole));
+    assert!(rt; assembly.part(&bytes) == Ok(true));
+    assert!(rt; assembly.whole() == Ok(()));
     Ok(())
 }
 
 // The board of an assembly, at the second attempt if memory is refused at the first.
-pub(super) fn assembled<T: Completes + Drop, S: Completes + Drop, W: Completes + Drop>(
+fn assembled<T: Completes + Drop, S: Completes + Drop, W: Completes + Drop>(
     alloc: Global,
     assembly: Assembly,
     callbacks: Callbacks<T, S, W>,
@@ -70,9 +71,10 @@ pub(super) fn assembled<T: Completes + Drop, S: Completes + Drop, W: Completes +
     }
 }
 
-// The image of the board of these tests.
-pub(super) fn copied<T: Completes + Drop, S: Completes + Drop, W: Completes + Drop>(
+// The image of the board of an assembly, with these closures.
+fn copied_again<T: Completes + Drop, S: Completes + Drop, W: Completes + Drop>(
     alloc: Global,
+    assembly: Assembly,
     sent: T,
     sector: S,
     written: W,
@@ -81,29 +83,25 @@ pub(super) fn copied<T: Completes + Drop, S: Completes + Drop, W: Completes + Dr
     requires sector { Keeps (S.may sector) (S.gives sector) SECTOR }
     requires written { Keeps (W.may written) (W.gives written) WRITTEN }
 {
-    let board = board(alloc, Callbacks::of(sent, sector, written))?;
+    let board = assembled(alloc, assembly, Callbacks::of(sent, sector, written))?;
     image(alloc, &board)
 }
 
+// The image of the board of an assembly.
+pub(super) fn image_again(alloc: Global, assembly: Assembly) -> R<Image> {
+    copied_again(
+        alloc,
+        assembly,
+        plain_completions::sent,
+        plain_completions::sector,
+        plain_completions::written,
+    )
+}
+
 // The board that the parts make has the same first part, page and table.
-fn check_copy<T: Completes + Drop, S: Completes + Drop, W: Completes + Drop>(
-    rt: &(impl Abort + AllocGlobal),
-    copied: &Image,
-    sent: T,
-    sector: S,
-    written: W,
-) -> R<()>
-    requires sent { Keeps (T.may sent) (T.gives sent) SENT }
-    requires sector { Keeps (S.may sector) (S.gives sector) SECTOR }
-    requires written { Keeps (W.may written) (W.gives written) WRITTEN }
-{
-    let mut assembly = assembly(rt.alloc(), 2)?;
-    gather(rt, &mut assembly, copied)?;
-    check_taken_back(rt, &mut assembly, copied)?;
-    let board = assembled(rt.alloc(), assembly, Callbacks::of(sent, sector, written))?;
-    let again = image(rt.alloc(), &board)?;
+fn check_again(rt: &(impl Abort + AllocGlobal), again: &Image, copied: &Image) -> R<()> {
     for index in [0, 1, 257] {
-        let bytes = part(rt.alloc(), &again, index)?;
+        let bytes = part(rt.alloc(), again, index)?;
         assert!(rt; bytes == part(rt.alloc(), copied, index)?, "part {index}");
     }
     Ok(())
@@ -111,19 +109,16 @@ fn check_copy<T: Completes + Drop, S: Completes + Drop, W: Completes + Drop>(
 
 #[test]
 fn the_parts_of_an_image_make_its_board(rt: HostRuntime) -> Result<(), Fail> {
-    let copied = copied(
-        rt.alloc(),
-        plain_completions::sent,
-        plain_completions::sector,
-        plain_completions::written,
-    )?;
-    check_copy(
-        &rt,
-        &copied,
-        plain_completions::sent,
-        plain_completions::sector,
-        plain_completions::written,
-    )?;
-    check_refusals(&rt, &copied)?;
+    let copied = image_of_it(rt.alloc())?;
+    let mut assembly = assembly(rt.alloc(), 2)?;
+    gather(&rt, &mut assembly, &copied)?;
+    check_taken_back(&rt, &mut assembly, &copied)?;
+    check_again(&rt, &image_again(rt.alloc(), assembly)?, &copied)?;
+    Ok(())
+}
+
+#[test]
+fn parts_that_do_not_belong_are_refused(rt: HostRuntime) -> Result<(), Fail> {
+    check_refusals(&rt, &image_of_it(rt.alloc())?)?;
     Ok(())
 }
