@@ -3,8 +3,8 @@ use Rattle.std.proofs.Common.{refl}
 use Rattle.guest_board.specs.declared.reads.Reads.TheVariants.{Logged}
 use Rattle.pair_protocol.specs.Copying.{no_copies}
 use Rattle.pair_protocol.specs.Node.{Backup, blank}
-use Rattle.ft_node.proofs.EmptyNodes.{begins, may_replay}
-use Rattle.ft_node.proofs.tests.the_first_that_asks_goes_on.Goals as goal
+use Rattle.node_tests.proofs.EmptyNodes.{begins, may_replay}
+use Rattle.node_tests.proofs.nodes.live.contest.Goals as goal
 
 pub replay-requires : goal.replay-requires
 replay-requires g c = record {
