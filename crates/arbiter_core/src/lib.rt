@@ -3,8 +3,6 @@
 
 mod arbiter;
 mod laws;
-#[cfg(test)]
-mod tests;
 
 pub use arbiter::{Arbiter, Asking, Won};
 pub use laws::first_askers_win;

@@ -9,8 +9,6 @@ mod image;
 mod laws;
 mod reading;
 mod spelling;
-#[cfg(test)]
-mod tests;
 
 pub use assembly::Assembly;
 pub use copies::Copies;

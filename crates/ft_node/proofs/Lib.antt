@@ -14,7 +14,6 @@ pub mod FollowerLog
 pub mod FetchedBytes
 pub mod Deliveries
 pub mod LastMoves
-pub mod EmptyNodes
 pub mod Halting
 pub mod Inputs
 pub mod PassedChecks

@@ -15,8 +15,6 @@ mod primary;
 mod ran;
 mod takeover;
 mod taking;
-#[cfg(test)]
-mod tests;
 mod winner;
 
 pub use alone::Alone;

@@ -2,7 +2,5 @@
 #![tactic(auto)]
 
 mod draining;
-#[cfg(test)]
-mod tests;
 
 pub use draining::Draining;

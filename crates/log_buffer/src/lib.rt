@@ -3,8 +3,6 @@
 
 mod buffer;
 mod laws;
-#[cfg(test)]
-mod tests;
 
 pub use buffer::{CAPACITY, LogBuffer};
 pub use laws::{entries_keep_their_indexes, limits};

@@ -7,8 +7,6 @@ mod laws;
 mod packet;
 mod receiver;
 mod sender;
-#[cfg(test)]
-mod tests;
 
 pub use laws::{packets_spell_one_way, what_is_held_was_sent};
 pub use packet::Packet;

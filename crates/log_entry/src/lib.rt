@@ -6,8 +6,6 @@ mod fields;
 mod laws;
 mod numbers;
 mod spelling;
-#[cfg(test)]
-mod tests;
 
 pub use entry::Entry;
 pub use laws::{entries_keep_the_inputs, entries_spell_one_way, entries_stand_in_order};

@@ -5,8 +5,6 @@ mod coverage;
 mod keys;
 mod laws;
 mod notes;
-#[cfg(test)]
-mod tests;
 
 pub use coverage::Coverage;
 pub use laws::{

@@ -4,8 +4,6 @@
 mod answer;
 mod event;
 mod reply;
-#[cfg(test)]
-mod tests;
 
 pub use answer::Answer;
 pub use event::Event;

@@ -4,8 +4,6 @@
 mod laws;
 mod recorder;
 mod run;
-#[cfg(test)]
-mod tests;
 
 pub use laws::{moves_are_recorded, recorded_runs_are_runs};
 pub use recorder::Recorder;

@@ -4,7 +4,4 @@ pub mod Below
 pub mod OneMove
 pub mod Stretches
 pub mod Runs
-pub mod EchoTrace
-pub mod LoggedRun
 pub mod FollowedEntries
-pub mod ReadTrace

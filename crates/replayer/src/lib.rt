@@ -6,8 +6,6 @@ mod laws;
 mod reads;
 mod replay;
 mod replayer;
-#[cfg(test)]
-mod tests;
 
 pub use following::{Followed, follow};
 pub use laws::{following_is_recording, replays_keep_to_the_trace};

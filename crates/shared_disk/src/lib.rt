@@ -6,8 +6,6 @@ mod fail_once;
 mod laws;
 mod memory_store;
 mod store;
-#[cfg(test)]
-mod tests;
 
 pub use disk::{SectorRead, SharedDisk};
 pub use fail_once::FailOnce;

@@ -3,8 +3,6 @@
 
 mod laws;
 mod terminal;
-#[cfg(test)]
-mod tests;
 
 pub use laws::arrivals_decide_what_is_accepted;
 pub use terminal::Terminal;

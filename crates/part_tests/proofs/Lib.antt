@@ -1,0 +1,3 @@
+pub mod EchoTrace
+pub mod LoggedRun
+pub mod ReadTrace

@@ -1,0 +1,7 @@
+use Rattle.part_tests.proofs.EchoTrace.{on_trace}
+use Rattle.part_tests.proofs.replays.a_replayer_ends_where_the_recorder_ended.Goals as goal
+
+pub moves-requires : goal.moves-requires
+moves-requires g c =
+    on_trace c.repeating.result.board c.held.result.entries c.repeating.result.fetched c.repeating.ensures.board
+    c.held.ensures c.repeating.ensures.fetched

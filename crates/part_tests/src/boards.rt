@@ -1,0 +1,387 @@
+//! A board repeats what another one recorded, where the closures of both are of different types.
+ghost use Rattle.std.specs.Prelude.{◌≡◌, [], IsTrue, List, None, OnOk, Some};
+ghost use Rattle.event_callbacks.specs.Completions.{is_due, done_of};
+ghost use Rattle.event_callbacks.specs.Keeping.{Keeps, kind_of};
+ghost use Rattle.event_callbacks.specs.declared.devices.TheConstants.{SECTOR, SENT, WRITTEN};
+ghost use Rattle.guest_board.specs.Guest.{guest_at_boot};
+ghost use Rattle.guest_board.specs.Inputs.{some_altair};
+ghost use Rattle.guest_lockstep.specs.Lockstep.{HasRoom, IsInput};
+ghost use Rattle.guest_lockstep.specs.Machine.{Move};
+ghost use Rattle.guest_lockstep.specs.declared.reads.Reads.TheVariants.{Logged};
+ghost use Rattle.log_channel.specs.Laws.{HoldsFirst};
+ghost use Rattle.log_channel.specs.Packet.{packet_at};
+ghost use Rattle.log_entry.specs.Standing.{IsOnTrace};
+ghost use Rattle.recorder.specs.Laws.{Records};
+
+use crate::replays::came;
+use disk_dcdd::{SECTOR_BYTES, SectorAddress};
+use event_callbacks::{Callbacks, Completes, Devices, Done, OpId, Operation, plain_completions};
+use guest_board::{Board, Setup};
+use guest_lockstep::{Input, Lockstep, Reads, ReplayEnd, StopReason, Stopped};
+use guest_memory::BYTES;
+use i8080_words::{Fault, R};
+use log_buffer::LogBuffer;
+use log_channel::{Packet, Receiver, Sender};
+use log_entry::Entry;
+use recorder::Recorder;
+use replayer::Replayer;
+use std::alloc::Global;
+use std::process::Abort;
+
+// No test offers so many keys.
+const KEYS: u64 = 1000;
+
+// Sends back each key of port 0 up to the first I; then loads the head of drive 0, waits for a sector, fills it with E5,
+// and halts.
+const ECHO_AND_WRITE: [u8; 57] = [
+    0x3e, 0x03, 0xd3, 0x10, 0x3e, 0x15, 0xd3, 0x10, 0xdb, 0x10, 0x0f, 0xd2, 0x08, 0x00, 0xdb, 0x11,
+    0xd3, 0x11, 0xfe, 0x49, 0xc2, 0x08, 0x00, 0x06, 0x89, 0xaf, 0xd3, 0x08, 0x3e, 0x04, 0xd3, 0x09,
+    0xdb, 0x09, 0x0f, 0xda, 0x20, 0x00, 0x3e, 0x80, 0xd3, 0x09, 0xdb, 0x08, 0x0f, 0xda, 0x2a, 0x00,
+    0x3e, 0xe5, 0xd3, 0x0a, 0x05, 0xc2, 0x2a, 0x00, 0x76,
+];
+
+// Sector 5 of track 0 on drive 0.
+const PLACE: SectorAddress = SectorAddress {
+    drive: 0,
+    track: 0,
+    sector: 5,
+};
+
+// It comes under the head, before it was ever written.
+const FIRST_READ: Input = Input::Sector {
+    drive: 0,
+    sector: 5,
+    number: 0,
+    bytes: [0x11; SECTOR_BYTES],
+};
+
+// A guest with one drive, and this program at address 0.
+pub(crate) fn setup(alloc: Global, program: &[u8]) -> R<Setup> {
+    let mut memory = Vec::from_slice(alloc, program)?;
+    memory.resize(BYTES, 0x00)?;
+    if memory.len() != BYTES {
+        return Err(Fault::Malformed);
+    }
+    Ok(Setup {
+        memory,
+        drives: 1,
+        levels: [7; 3],
+        sense: 0xff,
+        reads: Reads::Logged,
+    })
+}
+
+// The recorder makes so many steps, and stops for this reason.
+fn advance<B: Lockstep>(
+    rt: &impl Abort,
+    recorder: &mut Recorder<B>,
+    turns: u64,
+    steps: u64,
+    reason: StopReason,
+)
+    requires { recorder.old.reads ≡ Logged }
+    ensures reads { recorder.new.reads ≡ Logged }
+    ensures records { (moves : List Move) × Records B.machine Logged (B.state recorder.old.board) recorder.old.log
+        moves (B.state recorder.new.board) recorder.new.log }
+{
+    match recorder.advance(turns) {
+        Ok(advanced) => assert!(rt; advanced == Stopped { steps, reason }),
+        Err(_) => panic!(rt; "no step is made"),
+    }
+}
+
+// The recorder takes an input, and logs it under this index.
+fn offer<B: Lockstep>(rt: &impl Abort, recorder: &mut Recorder<B>, input: Input, index: u64)
+    requires input { IsInput input }
+    requires reads { recorder.old.reads ≡ Logged }
+    ensures reads { recorder.new.reads ≡ Logged }
+    ensures records { (moves : List Move) × Records B.machine Logged (B.state recorder.old.board) recorder.old.log
+        moves (B.state recorder.new.board) recorder.new.log }
+{
+    assert!(rt; has_room(recorder.board(), &input));
+    match recorder.offer(input) {
+        Ok(logged) => assert!(rt; logged == index),
+        Err(_) => panic!(rt; "the input is refused"),
+    }
+}
+
+// Whether so few keys were taken that one more may come.
+fn has_room<B: Lockstep>(board: &B, input: &Input) -> bool
+    requires { IsInput input.now }
+    ensures { IsTrue result → HasRoom B.machine (B.state board.now) input.now }
+{
+    match input {
+        Input::Rx(port, _) => board.keys(*port) < KEYS,
+        _ => true,
+    }
+}
+
+// Two keys are sent back, and the byte of the first is accepted.
+fn echo_keys<B: Lockstep>(rt: &impl Abort, recorder: &mut Recorder<B>)
+    requires { recorder.old.reads ≡ Logged }
+    ensures reads { recorder.new.reads ≡ Logged }
+    ensures records { (moves : List Move) × Records B.machine Logged (B.state recorder.old.board) recorder.old.log
+        moves (B.state recorder.new.board) recorder.new.log }
+{
+    advance(rt, recorder, 7, 7, StopReason::Turns);
+    offer(rt, recorder, Input::Rx(0, 0x48), 0);
+    advance(rt, recorder, 99, 5, StopReason::Operation(OpId::Byte(0, 1)));
+    advance(rt, recorder, 3, 3, StopReason::Turns);
+    offer(rt, recorder, Input::Sent(0), 2);
+    offer(rt, recorder, Input::Rx(0, 0x49), 3);
+    advance(rt, recorder, 99, 7, StopReason::Operation(OpId::Byte(0, 2)));
+}
+
+// A sector comes under the head, and is written.
+fn write_sector<B: Lockstep>(rt: &impl Abort, recorder: &mut Recorder<B>)
+    requires { recorder.old.reads ≡ Logged }
+    ensures reads { recorder.new.reads ≡ Logged }
+    ensures records { (moves : List Move) × Records B.machine Logged (B.state recorder.old.board) recorder.old.log
+        moves (B.state recorder.new.board) recorder.new.log }
+{
+    advance(rt, recorder, 10, 10, StopReason::Turns);
+    offer(rt, recorder, FIRST_READ, 5);
+    advance(
+        rt,
+        recorder,
+        9999,
+        962,
+        StopReason::Operation(OpId::Write(1)),
+    );
+    advance(rt, recorder, 1, 1, StopReason::Turns);
+    offer(rt, recorder, Input::Written(1), 7);
+}
+
+// The packet of an entry comes to the receiver, as the entry that is next.
+fn deliver(
+    rt: &(impl Abort + AllocGlobal),
+    log: &LogBuffer,
+    index: u64,
+    receiver: &mut Receiver,
+) -> R<()>
+    requires first { log.now.first ≡ 0 }
+    requires generation { receiver.old.generation ≡ 1 }
+    requires holds { HoldsFirst log.now.entries [] receiver.old }
+    ensures generation { receiver.new.generation ≡ 1 }
+    ensures holds { HoldsFirst log.now.entries [] receiver.new }
+{
+    let Some(entry) = log.get(index).copied() else {
+        return Err(Fault::Unknown);
+    };
+    let bytes = Sender::new(1).packet(rt.alloc(), log, index)?;
+    let packet = Packet::Log {
+        generation: 1,
+        index,
+        entry,
+    };
+    expect_read(rt, &bytes, &packet);
+    assert!(rt; receiver.on_log(&bytes) == Ok(true));
+    Ok(())
+}
+
+// The bytes are read as this packet.
+fn expect_read(rt: &impl Abort, bytes: &[u8], packet: &Packet)
+    ensures { packet_at bytes.now ≡ Some packet.now }
+{
+    match Packet::read(bytes) {
+        Ok(read) => assert!(rt; read == *packet),
+        Err(_) => panic!(rt; "the bytes are no packet"),
+    }
+}
+
+// All that is logged comes to the receiver in its packets.
+fn deliver_all(rt: &(impl Abort + AllocGlobal), log: &LogBuffer, receiver: &mut Receiver) -> R<()>
+    requires first { log.now.first ≡ 0 }
+    requires generation { receiver.old.generation ≡ 1 }
+    requires holds { HoldsFirst log.now.entries [] receiver.old }
+    ensures holds { HoldsFirst log.now.entries [] receiver.new }
+{
+    for index in 0..log.next() {
+        deliver(rt, log, index, receiver)?;
+    }
+    Ok(())
+}
+
+// A board with these closures is recorded, and its log comes to the receiver.
+fn record_on<T: Completes + Drop, S: Completes + Drop, W: Completes + Drop>(
+    rt: &(impl Abort + AllocGlobal),
+    setup: &Setup,
+    receiver: &mut Receiver,
+    callbacks: Callbacks<T, S, W>,
+) -> R<Board<T, S, W>>
+    requires { receiver.old ≡ record { generation = 1; held = 0; entries = [] } }
+    ensures { OnOk result (IsOnTrace some_altair (guest_at_boot setup.now) receiver.new.entries None) }
+{
+    let board = match Board::boot(rt.alloc(), setup, callbacks) {
+        Ok(board) => board,
+        Err((_, fault)) => return Err(fault),
+    };
+    let mut recorder = Recorder::new(board, LogBuffer::new(rt.alloc(), 0)?, Reads::Logged);
+    echo_keys(rt, &mut recorder);
+    write_sector(rt, &mut recorder);
+    deliver_all(rt, recorder.log(), receiver)?;
+    assert!(rt; receiver.held() == 8);
+    assert!(rt; recorder.log().next() == 8);
+    Ok(recorder.into_board())
+}
+
+// A board with these closures repeats all that is held, a few moves first.
+fn replay_on<T: Completes + Drop, S: Completes + Drop, W: Completes + Drop>(
+    rt: &(impl Abort + AllocGlobal),
+    setup: &Setup,
+    receiver: &mut Receiver,
+    callbacks: Callbacks<T, S, W>,
+) -> R<Board<T, S, W>>
+    requires { IsOnTrace some_altair (guest_at_boot setup.now) receiver.old.entries None }
+{
+    let board = match Board::boot(rt.alloc(), setup, callbacks) {
+        Ok(board) => board,
+        Err((_, fault)) => return Err(fault),
+    };
+    let mut replayer = Replayer::new(board);
+    assert!(rt; replayer.replay(receiver, 18) == came(18, ReplayEnd::Turns));
+    assert!(rt; replayer.board().count() == 15);
+    assert!(rt; replayer.replay(receiver, 9999) == came(985, ReplayEnd::End));
+    Ok(replayer.into_board())
+}
+
+// Both guests stand alike: after so many steps, two keys, an accepted byte, one on its way, and a write that is done.
+fn compare<B: Lockstep, C: Lockstep>(rt: &impl Abort, recorded: &B, replayed: &C) {
+    assert!(rt; recorded.count() == 995);
+    assert!(rt; replayed.count() == 995);
+    assert!(rt; recorded.keys(0) == 2);
+    assert!(rt; replayed.keys(0) == 2);
+    assert!(rt; recorded.keys(1) == 0);
+    assert!(rt; replayed.keys(1) == 0);
+    assert!(rt; recorded.due_byte(0) == Some(2));
+    assert!(rt; replayed.due_byte(0) == Some(2));
+    assert!(rt; recorded.due_byte(1) == None);
+    assert!(rt; replayed.due_byte(1) == None);
+    assert!(rt; recorded.selected() == Some(0));
+    assert!(rt; replayed.selected() == Some(0));
+    let byte = Operation::Byte {
+        port: 0,
+        number: 2,
+        byte: 0x49,
+    };
+    for (name, given) in [
+        (OpId::Byte(0, 1), None),
+        (OpId::Byte(0, 2), Some(&byte)),
+        (OpId::Write(1), None),
+    ] {
+        assert!(rt; recorded.outstanding(name) == given);
+        assert!(rt; replayed.outstanding(name) == given);
+    }
+}
+
+// Both boards have the same processor, memory and devices.
+fn compare_boards<
+    T: Completes,
+    S: Completes,
+    W: Completes,
+    U: Completes,
+    V: Completes,
+    X: Completes,
+>(rt: &impl Abort, recorded: &Board<T, S, W>, replayed: &Board<U, V, X>) {
+    assert!(rt; recorded.processor() == replayed.processor());
+    for page in 0..=255 {
+        assert!(rt; recorded.page(page) == replayed.page(page));
+    }
+    for port in 0..2 {
+        assert!(rt; recorded.port(port).unaccepted() == replayed.port(port).unaccepted());
+    }
+    assert!(rt; recorded.disk().status() == replayed.disk().status());
+    assert!(rt; recorded.done(PLACE) == 1);
+    assert!(rt; replayed.done(PLACE) == 1);
+}
+
+// A board with the first three closures is recorded, and one with the others repeats it.
+fn repeat<
+    T: Completes + Drop,
+    S: Completes + Drop,
+    W: Completes + Drop,
+    U: Completes + Drop,
+    V: Completes + Drop,
+    X: Completes + Drop,
+>(rt: &(impl Abort + AllocGlobal), recording: (T, S, W), repeating: (U, V, X)) -> R<()>
+    requires sent { Keeps (T.may recording.0) (T.gives recording.0) SENT }
+    requires sector { Keeps (S.may recording.1) (S.gives recording.1) SECTOR }
+    requires written { Keeps (W.may recording.2) (W.gives recording.2) WRITTEN }
+    requires other_sent { Keeps (U.may repeating.0) (U.gives repeating.0) SENT }
+    requires other_sector { Keeps (V.may repeating.1) (V.gives repeating.1) SECTOR }
+    requires other_written { Keeps (X.may repeating.2) (X.gives repeating.2) WRITTEN }
+{
+    let setup = setup(rt.alloc(), &ECHO_AND_WRITE)?;
+    let mut receiver = Receiver::new(rt.alloc(), 1);
+    let (sent, sector, written) = recording;
+    let recorded = record_on(
+        rt,
+        &setup,
+        &mut receiver,
+        Callbacks::of(sent, sector, written),
+    )?;
+    let (sent, sector, written) = repeating;
+    let replayed = replay_on(
+        rt,
+        &setup,
+        &mut receiver,
+        Callbacks::of(sent, sector, written),
+    )?;
+    compare(rt, &recorded, &replayed);
+    compare_boards(rt, &recorded, &replayed);
+    Ok(())
+}
+
+// Completes on a copy of the devices.
+fn sent_on_a_copy(devices: Devices, done: Done) -> Devices
+    requires kind { kind_of done ≡ SENT }
+    requires due { IsTrue (is_due devices done) }
+    ensures { result ≡ done_of devices done }
+{
+    let Done::Sent(port) = done else {
+        unreachable!()
+    };
+    let mut after = devices.copy();
+    let accepting = &mut after.ports[port as usize];
+    accepting.sent().unwrap();
+    after
+}
+
+// Takes the devices apart, and puts them together again.
+fn written_apart(devices: Devices, done: Done) -> Devices
+    requires kind { kind_of done ≡ WRITTEN }
+    requires due { IsTrue (is_due devices done) }
+    ensures { result ≡ done_of devices done }
+{
+    let Devices { ports, mut disk } = devices;
+    match done {
+        Done::Written(number) => disk.written(number).unwrap(),
+        _ => unreachable!(),
+    }
+    Devices { ports, disk }
+}
+
+#[test]
+fn a_board_repeats_what_a_board_with_other_closures_recorded(rt: HostRuntime) -> R<()> {
+    let name = 3u8;
+    repeat(
+        &rt,
+        (
+            plain_completions::sent,
+            plain_completions::sector,
+            plain_completions::written,
+        ),
+        (
+            sent_on_a_copy,
+            move |devices: Devices, done: Done| -> Devices
+                requires kind { kind_of done ≡ SECTOR }
+                requires due { IsTrue (is_due devices done) }
+                ensures { result ≡ done_of devices done }
+            {
+                let _name = name;
+                plain_completions::sector(devices, done)
+            },
+            written_apart,
+        ),
+    )
+}
