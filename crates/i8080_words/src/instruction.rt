@@ -1,7 +1,7 @@
 //! The instructions of the processor, with their operands (8080 User's Manual, chapter 4).
 
 /// A register of an operand; `M` is the byte in memory at the address in H and L.
-#[derive(Clone, Copy, Debug, PartialEq, Eq)]
+#[derive(Clone, Copy, PartialEq, Eq)]
 pub enum Register {
     B,
     C,
@@ -14,7 +14,7 @@ pub enum Register {
 }
 
 /// A register pair, or the stack pointer.
-#[derive(Clone, Copy, Debug, PartialEq, Eq)]
+#[derive(Clone, Copy, PartialEq, Eq)]
 pub enum RegisterPair {
     BC,
     DE,
@@ -23,7 +23,7 @@ pub enum RegisterPair {
 }
 
 /// A register pair for PUSH and POP; `PSW` is A as the high byte and the flag byte as the low byte.
-#[derive(Clone, Copy, Debug, PartialEq, Eq)]
+#[derive(Clone, Copy, PartialEq, Eq)]
 pub enum StackPair {
     BC,
     DE,
@@ -32,7 +32,7 @@ pub enum StackPair {
 }
 
 /// The condition of a jump, call or return, on flag Z, CY, P (`PO` odd, `PE` even) or S (`P` plus, `M` minus).
-#[derive(Clone, Copy, Debug, PartialEq, Eq)]
+#[derive(Clone, Copy, PartialEq, Eq)]
 pub enum Condition {
     NZ,
     Z,
@@ -45,7 +45,7 @@ pub enum Condition {
 }
 
 /// An operation on the accumulator and a byte; `Cmp` changes only the flags.
-#[derive(Clone, Copy, Debug, PartialEq, Eq)]
+#[derive(Clone, Copy, PartialEq, Eq)]
 pub enum AluOperation {
     Add,
     Adc,
@@ -59,7 +59,7 @@ pub enum AluOperation {
 
 /// An operation on the accumulator and the carry alone: a rotation, through the carry or not, the decimal adjustment,
 /// the complement of the accumulator, and setting or complementing the carry.
-#[derive(Clone, Copy, Debug, PartialEq, Eq)]
+#[derive(Clone, Copy, PartialEq, Eq)]
 pub enum AccumulatorOperation {
     Rlc,
     Rrc,
@@ -73,7 +73,7 @@ pub enum AccumulatorOperation {
 
 /// An instruction, by its mnemonic. A `u16` is an address or two bytes of data, a `u8` is a byte of data or a port; the
 /// number of `Rst` is from 0 to 7.
-#[derive(Clone, Copy, Debug, PartialEq, Eq)]
+#[derive(Clone, Copy, PartialEq, Eq)]
 pub enum Op {
     Nop,
     Hlt,
