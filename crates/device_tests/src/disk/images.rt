@@ -180,11 +180,23 @@ fn no_controller_has_such_a_write(rt: HostRuntime) {
     }
 }
 
-// Writes 1 to 9, of sectors 11 to 19.
+// The numbers of nine writes, and their sectors.
+static NINE: [(u64, u8); 9] = [
+    (1, 11),
+    (2, 12),
+    (3, 13),
+    (4, 14),
+    (5, 15),
+    (6, 16),
+    (7, 17),
+    (8, 18),
+    (9, 19),
+];
+
 fn nine_writes() -> [Place; 9] {
     let mut writes = [place(1, 11); 9];
-    for (write, number) in writes.iter_mut().zip(1..10u8) {
-        *write = place(u64::from(number), 10 + number);
+    for (write, (number, sector)) in writes.iter_mut().zip(&NINE) {
+        *write = place(*number, *sector);
     }
     writes
 }
