@@ -3,56 +3,34 @@ use event_callbacks::OpId;
 use guest_lockstep::{ReplayEnd, StopReason};
 use i8080_words::Fault;
 use pair_events::{Answer, Event, Reply, Role};
+use std::alloc::{AllocError, Global};
+use std::fmt::Display;
 use std::test::Fail;
 
-// Steps were made, and stopped for this reason.
-const fn ran(why: StopReason) -> Reply {
-    Reply::Ran {
-        steps: 6,
-        count: 18446744073709551615,
-        why,
-    }
-}
+// Why steps stopped, and what is said after their number and the count.
+static STOPS: [(StopReason, &str); 6] = [
+    (StopReason::Turns, "turns"),
+    (StopReason::Refused(Fault::Idle), "idle"),
+    (StopReason::Refused(Fault::Spent), "spent"),
+    (StopReason::Refused(Fault::OutOfMemory), "memory"),
+    (StopReason::Operation(OpId::Byte(1, 2)), "byte 1 2"),
+    (StopReason::Operation(OpId::Write(3)), "write 3"),
+];
 
-const fn moved(why: ReplayEnd) -> Reply {
-    Reply::Moved { moves: 7, why }
-}
+static ENDS: [(ReplayEnd, &str); 4] = [
+    (ReplayEnd::Turns, "moved 7"),
+    (ReplayEnd::End, "moved 7 end"),
+    (ReplayEnd::Wait, "moved 7 wait"),
+    (ReplayEnd::Memory, "moved 7"),
+];
 
-static REPLIES: [(Reply, &str); 25] = [
-    (
-        ran(StopReason::Turns),
-        "ran 6 count 18446744073709551615 turns",
-    ),
-    (
-        ran(StopReason::Refused(Fault::Idle)),
-        "ran 6 count 18446744073709551615 idle",
-    ),
-    (
-        ran(StopReason::Refused(Fault::Spent)),
-        "ran 6 count 18446744073709551615 spent",
-    ),
-    (
-        ran(StopReason::Refused(Fault::OutOfMemory)),
-        "ran 6 count 18446744073709551615 memory",
-    ),
-    (
-        ran(StopReason::Operation(OpId::Byte(1, 2))),
-        "ran 6 count 18446744073709551615 byte 1 2",
-    ),
-    (
-        ran(StopReason::Operation(OpId::Write(3))),
-        "ran 6 count 18446744073709551615 write 3",
-    ),
+static REPLIES: [(Reply, &str); 15] = [
     (Reply::Typed { index: 0 }, "typed 0"),
     (Reply::Taken, "taken"),
     (Reply::Message { message: 4 }, "message 4"),
     (Reply::New, "new"),
     (Reply::Old, "old"),
     (Reply::Held { held: 1 }, "held 1"),
-    (moved(ReplayEnd::Turns), "moved 7"),
-    (moved(ReplayEnd::End), "moved 7 end"),
-    (moved(ReplayEnd::Wait), "moved 7 wait"),
-    (moved(ReplayEnd::Memory), "moved 7"),
     (Reply::MovedAlone { moves: 7 }, "moved 7 alone"),
     (Reply::Accepted, "accepted"),
     (Reply::Dropped, "dropped"),
@@ -69,71 +47,87 @@ static REPLIES: [(Reply, &str); 25] = [
     (Reply::Stopped, "stopped"),
 ];
 
-static ROLES: [(Role, &str); 6] = [
-    (Role::Primary, "primary"),
-    (Role::Backup, "backup"),
-    (Role::Joining, "joining"),
-    (Role::Draining, "draining"),
-    (Role::Alone, "alone"),
-    (Role::Halted, "halted"),
+static ROLES: [(Role, &str, &str); 6] = [
+    (Role::Primary, "primary", "primary 1 count 20"),
+    (Role::Backup, "backup", "backup 1 count 20"),
+    (Role::Joining, "joining", "joining 1"),
+    (Role::Draining, "draining", "draining 1 count 20"),
+    (Role::Alone, "alone", "alone 1 count 20"),
+    (Role::Halted, "halted", "halted"),
 ];
+
+// What terminals of these ports have accepted.
+static ACCEPTED: [(u8, &[u8], &str); 2] = [
+    (0, &[0x48, 0x49], "port 0: 48 49"),
+    (1, &[], "port 1:"),
+];
+
+static PACKETS: [(&[u8], &str); 2] = [(&[0x41, 0x00, 0xff, 0x0a], "41 00 FF 0A"), (&[], "")];
+
+// Whether this is shown as this text.
+fn shows<D: Display>(alloc: Global, shown: &D, text: &str) -> Result<bool, AllocError> {
+    Ok(format!(in alloc; "{shown}")?.as_str() == text)
+}
+
+#[test]
+fn steps_show_why_they_stopped(rt: HostRuntime) -> Result<(), Fail> {
+    for (why, text) in &STOPS {
+        let reply = Reply::Ran {
+            steps: 6,
+            count: 18446744073709551615,
+            why: *why,
+        };
+        let said = format!(in rt.alloc(); "ran 6 count 18446744073709551615 {text}")?;
+        assert!(rt; shows(rt.alloc(), &reply, said.as_str())?, "{text}");
+    }
+    Ok(())
+}
 
 #[test]
 fn replies_show_as_words(rt: HostRuntime) -> Result<(), Fail> {
+    for (why, text) in &ENDS {
+        let reply = Reply::Moved {
+            moves: 7,
+            why: *why,
+        };
+        assert!(rt; shows(rt.alloc(), &reply, text)?, "{text}");
+    }
     for (reply, text) in &REPLIES {
-        assert!(rt;
-            format!(in rt.alloc(); "{reply}")?.as_str() == *text,
-            "{text}"
-        );
+        assert!(rt; shows(rt.alloc(), reply, text)?, "{text}");
     }
     Ok(())
 }
 
 #[test]
 fn roles_show_as_words(rt: HostRuntime) -> Result<(), Fail> {
-    for (role, text) in &ROLES {
-        assert!(rt;
-            format!(in rt.alloc(); "{role}")?.as_str() == *text,
-            "{text}"
-        );
+    for (role, text, node) in &ROLES {
+        assert!(rt; shows(rt.alloc(), role, text)?, "{text}");
+        let answer = Answer::Node {
+            role: *role,
+            generation: 1,
+            count: 20,
+        };
+        assert!(rt; shows(rt.alloc(), &answer, node)?, "{node}");
     }
     Ok(())
 }
 
-const fn node(role: Role) -> Answer<'static> {
-    Answer::Node {
-        role,
-        generation: 1,
-        count: 20,
-    }
-}
-
-const fn accepted(port: u8, bytes: &'static [u8]) -> Answer<'static> {
-    Answer::Accepted { port, bytes }
-}
-
-static ANSWERS: [(Answer<'static>, &str); 12] = [
-    (Answer::Reply(Reply::Won), "won"),
-    (Answer::Refused(Fault::NotCovered), "refused 12"),
-    (accepted(0, b"HI".as_slice()), "port 0: 48 49"),
-    (accepted(1, b"".as_slice()), "port 1:"),
-    (Answer::Packet(b"\x41\x00\xff\x0a"), "41 00 FF 0A"),
-    (Answer::Packet(b""), ""),
-    (node(Role::Primary), "primary 1 count 20"),
-    (node(Role::Backup), "backup 1 count 20"),
-    (node(Role::Joining), "joining 1"),
-    (node(Role::Draining), "draining 1 count 20"),
-    (node(Role::Alone), "alone 1 count 20"),
-    (node(Role::Halted), "halted"),
-];
-
 #[test]
 fn queries_and_refusals_show_as_words(rt: HostRuntime) -> Result<(), Fail> {
-    for (answer, text) in &ANSWERS {
-        assert!(rt;
-            format!(in rt.alloc(); "{answer}")?.as_str() == *text,
-            "{text}"
-        );
+    assert!(rt; shows(rt.alloc(), &Answer::Reply(Reply::Won), "won")?);
+    assert!(rt;
+        shows(
+            rt.alloc(),
+            &Answer::Refused(Fault::NotCovered),
+            "refused 12"
+        )?
+    );
+    for (port, bytes, text) in &ACCEPTED {
+        let answer = Answer::Accepted { port: *port, bytes };
+        assert!(rt; shows(rt.alloc(), &answer, text)?, "{text}");
+    }
+    for (bytes, text) in &PACKETS {
+        assert!(rt; shows(rt.alloc(), &Answer::Packet(bytes), text)?, "{text}");
     }
     Ok(())
 }
