@@ -3,5 +3,5 @@ use Rattle.part_tests.proofs.replays.a_replay_out_of_memory_goes_on_where_it_sto
 
 pub moves-requires : goal.moves-requires
 moves-requires g c =
-    on_trace c.repeating.result.board c.held.result.entries c.repeating.result.fetched c.repeating.ensures.board
-    c.held.ensures c.repeating.ensures.fetched
+    on_trace c.repeating-replayer.result.board c.held-receiver.result.entries c.repeating-replayer.result.fetched c.repeating-replayer.ensures.board
+    c.held-receiver.ensures c.repeating-replayer.ensures.fetched
