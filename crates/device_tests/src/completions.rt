@@ -15,7 +15,7 @@ const BYTES: [u8; SECTOR_BYTES] = [0xe5; SECTOR_BYTES];
 fn devices_with_a_byte(rt: &impl Abort) -> Devices {
     let mut devices = Devices::new(1);
     let port = &mut devices.ports[0];
-    assert_eq!(rt; port.data_out(0x48), Some(0x48));
+    assert!(rt; port.data_out(0x48) == Some(0x48));
     devices.disk.select(0x00);
     devices.disk.command(0x04);
     devices

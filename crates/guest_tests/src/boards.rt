@@ -62,7 +62,7 @@ fn step<T: Completes, S: Completes, W: Completes>(
     steps: u64,
 ) {
     for _ in 0..steps {
-        assert_eq!(rt; board.exec(), Ok(Executed::Ran(None)));
+        assert!(rt; board.exec() == Ok(Executed::Ran(None)));
     }
 }
 
@@ -112,8 +112,8 @@ fn idle_twice<T: Completes, S: Completes, W: Completes>(
 ) {
     for _ in 0..2 {
         assert!(rt; board.idle());
-        assert_eq!(rt; board.exec(), Err(Fault::Idle));
-        assert_eq!(rt; board.count(), count);
+        assert!(rt; board.exec() == Err(Fault::Idle));
+        assert!(rt; board.count() == count);
     }
 }
 
@@ -122,12 +122,12 @@ fn press_a_key<T: Completes, S: Completes, W: Completes>(
     rt: &impl Abort,
     board: &mut Board<T, S, W>,
 ) {
-    assert_eq!(rt; board.keys(0), 0);
-    assert_eq!(rt; board.check(&Input::Rx(0, 0x41)), Ok(()));
+    assert!(rt; board.keys(0) == 0);
+    assert!(rt; board.check(&Input::Rx(0, 0x41)) == Ok(()));
     if board.keys(0) < 1 {
-        assert_eq!(rt; board.take(Input::Rx(0, 0x41)), Ok(()));
+        assert!(rt; board.take(Input::Rx(0, 0x41)) == Ok(()));
     }
-    assert_eq!(rt; board.keys(0), 1);
+    assert!(rt; board.keys(0) == 1);
 }
 
 // Accepts an interrupt, after which this many steps have been executed.
@@ -136,8 +136,8 @@ fn accept<T: Completes, S: Completes, W: Completes>(
     board: &mut Board<T, S, W>,
     count: u64,
 ) {
-    assert_eq!(rt; board.exec(), Ok(Executed::Accepted));
-    assert_eq!(rt; board.count(), count);
+    assert!(rt; board.exec() == Ok(Executed::Accepted));
+    assert!(rt; board.count() == count);
 }
 
 // The address that was pushed below 0100 ends in this byte and begins with 00.
@@ -146,10 +146,10 @@ fn pushed<T: Completes, S: Completes, W: Completes>(
     board: &Board<T, S, W>,
     low: u8,
 ) {
-    assert_eq!(rt; board.byte(0x00fe), low);
-    assert_eq!(rt; board.byte(0x00ff), 0x00);
-    assert_eq!(rt; board.version(0x00), 2);
-    assert_eq!(rt; board.page(0x00).get(0xfe).copied(), Some(low));
+    assert!(rt; board.byte(0x00fe) == low);
+    assert!(rt; board.byte(0x00ff) == 0x00);
+    assert!(rt; board.version(0x00) == 2);
+    assert!(rt; board.page(0x00).get(0xfe).copied() == Some(low));
 }
 
 #[test]
@@ -180,8 +180,8 @@ fn send<T: Completes, S: Completes, W: Completes>(
 ) -> R<()> {
     step(rt, board, 5);
     let executed = board.exec()?;
-    assert_eq!(rt; executed.given(), Some(FIRST));
-    assert_eq!(rt; board.count(), 6);
+    assert!(rt; executed.given() == Some(FIRST));
+    assert!(rt; board.count() == 6);
     Ok(())
 }
 
@@ -192,8 +192,8 @@ fn first_byte<T: Completes, S: Completes, W: Completes>(
     due: Option<u64>,
     byte: Option<Operation>,
 ) {
-    assert_eq!(rt; board.due_byte(0), due);
-    assert_eq!(rt; board.outstanding(OpId::Byte(0, 1)).copied(), byte);
+    assert!(rt; board.due_byte(0) == due);
+    assert!(rt; board.outstanding(OpId::Byte(0, 1)).copied() == byte);
 }
 
 // The terminal accepts the byte, once.
@@ -202,8 +202,8 @@ fn accept_a_byte<T: Completes, S: Completes, W: Completes>(
     board: &mut Board<T, S, W>,
 ) {
     first_byte(rt, board, Some(1), Some(FIRST));
-    assert_eq!(rt; board.take(Input::Sent(0)), Ok(()));
-    assert_eq!(rt; board.take(Input::Sent(0)), Err(Fault::NotDue));
+    assert!(rt; board.take(Input::Sent(0)) == Ok(()));
+    assert!(rt; board.take(Input::Sent(0)) == Err(Fault::NotDue));
     first_byte(rt, board, None, None);
 }
 
@@ -226,7 +226,7 @@ fn accept_on_a_copy<T: Completes, S: Completes + Drop, W: Completes + Drop, T2: 
     callbacks: Callbacks<T2, S, W>,
 ) -> R<()> {
     let mut copy = copied(rt.alloc(), board, callbacks)?;
-    assert_eq!(rt; copy.count(), 6);
+    assert!(rt; copy.count() == 6);
     accept_a_byte(rt, &mut copy);
     first_byte(rt, board, Some(1), Some(FIRST));
     Ok(())
@@ -312,10 +312,10 @@ fn rewrite<T: Completes, S: Completes, W: Completes>(
 ) -> R<()>
     requires { number ≤ 2 }
 {
-    assert_eq!(rt; offer(board, 0, number), Ok(()));
+    assert!(rt; offer(board, 0, number) == Ok(()));
     for _ in 0..600 {
         if let Some(Operation::Write(write)) = board.exec()?.given() {
-            assert_eq!(rt; write.number, number + 1);
+            assert!(rt; write.number == number + 1);
             return Ok(());
         }
     }
@@ -358,8 +358,8 @@ fn select_no_other<T: Completes, S: Completes, W: Completes>(
     rt: &impl Abort,
     board: &mut Board<T, S, W>,
 ) {
-    assert_eq!(rt; board.place(), Some((0, 0)));
-    assert_eq!(rt; offer(board, 1, 0), Err(Fault::NotDue));
+    assert!(rt; board.place() == Some((0, 0)));
+    assert!(rt; offer(board, 1, 0) == Err(Fault::NotDue));
 }
 
 // Sector 5 is written again, which completes once; its earlier contents then come too late.
@@ -371,9 +371,9 @@ fn complete<T: Completes, S: Completes, W: Completes>(
     requires { number ≤ 2 }
 {
     rewrite(rt, board, number)?;
-    assert_eq!(rt; board.take(Input::Written(number + 1)), Ok(()));
-    assert_eq!(rt; board.take(Input::Written(number + 1)), Err(Fault::NotDue));
-    assert_eq!(rt; offer(board, 0, number), Err(Fault::StaleRead));
+    assert!(rt; board.take(Input::Written(number + 1)) == Ok(()));
+    assert!(rt; board.take(Input::Written(number + 1)) == Err(Fault::NotDue));
+    assert!(rt; offer(board, 0, number) == Err(Fault::StaleRead));
     Ok(())
 }
 
@@ -387,10 +387,10 @@ fn keep_busy<T: Completes, S: Completes, W: Completes>(
         track: 0,
         sector: 5,
     };
-    assert_eq!(rt; board.done(five), 2);
+    assert!(rt; board.done(five) == 2);
     rewrite(rt, board, 2)?;
-    assert_eq!(rt; offer(board, 0, 1), Err(Fault::SectorBusy));
-    assert_eq!(rt; offer(board, 0, 2), Err(Fault::SectorBusy));
+    assert!(rt; offer(board, 0, 1) == Err(Fault::SectorBusy));
+    assert!(rt; offer(board, 0, 2) == Err(Fault::SectorBusy));
     Ok(())
 }
 

@@ -11,14 +11,12 @@ use event_callbacks::{Callbacks, Completes, Operation, plain_completions};
 use guest_board::{Board, Setup};
 use guest_lockstep::{Input, Reads, StopReason};
 use guest_trace::{Bare, Timed};
-use i8080_words::{Fault, GREATEST_NUMBER, R};
+use i8080_words::{Fault, GREATEST_NUMBER, Processor, R};
 use plain_single::Single;
 use rand_core::utils::NextWord;
 use rand_pcg::Pcg32;
 use std::alloc::Global;
 use std::process::Abort;
-
-const PROGRAMS: u64 = 240;
 
 // How often a program is run on before an input is offered to it.
 const INPUTS: u32 = 100;
@@ -242,113 +240,170 @@ fn never_fall(from: u64, inputs: &[Timed]) -> bool
     }
 }
 
-// Checks that the single machine does with the board's inputs what the board did.
-fn compare<T: Completes, S: Completes, W: Completes>(
-    rt: &(impl Abort + AllocGlobal),
+// The bytes of a board's memory.
+fn memory_of<T: Completes, S: Completes, W: Completes>(
+    alloc: Global,
     board: &Board<T, S, W>,
-    course: &Course,
-    setup: &Setup,
-    program: u64,
-) -> R<()> {
-    assert!(rt; never_fall(0, &course.inputs));
-    let single = Single::boot(rt.alloc(), setup, &[])?;
-    let single = single.run(rt.alloc(), &course.inputs, board.count())?;
-    assert_eq!(rt; single.processor(), board.processor(), "program {program}");
-    for address in 0..=u16::MAX {
-        assert_eq!(rt;
-            single.byte(address),
-            board.byte(address),
-            "program {program}"
-        );
+) -> R<Vec<u8>> {
+    let mut memory = Vec::with_capacity(alloc, 65536)?;
+    for page in 0..=255 {
+        memory.extend_from_slice(board.page(page))?;
     }
-    assert_eq!(rt;
-        single.outputs(0),
-        course.first.as_slice(),
-        "program {program}"
-    );
-    assert_eq!(rt;
-        single.outputs(1),
-        course.second.as_slice(),
-        "program {program}"
-    );
-    assert_eq!(rt;
-        single.writes(),
-        course.writes.as_slice(),
-        "program {program}"
-    );
-    for write in course.done.iter() {
-        let address = write.address();
-        assert_eq!(rt; single.image(address), sector_bytes(&course.done, address));
-    }
-    Ok(())
+    Ok(memory)
 }
 
-// Runs a random program on a board, and then on the single machine. Returns how many steps it executed, how many inputs
-// it took, how many writes were done, and how many were issued on tracks above 0.
-fn run_program<T: Completes + Drop, S: Completes + Drop, W: Completes + Drop>(
-    rt: &(impl Abort + AllocGlobal),
-    program: u64,
-    sent: T,
-    sector: S,
-    written: W,
-) -> R<(u64, usize, usize, usize)>
-    requires sent { Keeps (T.may sent) (T.gives sent) SENT }
-    requires sector { Keeps (S.may sector) (S.gives sector) SECTOR }
-    requires written { Keeps (W.may written) (W.gives written) WRITTEN }
-{
-    let mut random = Pcg32::new(program, 54);
-    let memory = random_memory(rt.alloc(), &mut random, program)?;
+// Whether the single machine, after the board's inputs, shows what the board showed and gave.
+fn is_alike(single: &Single, course: &Course, processor: &Processor, memory: &[u8]) -> bool {
+    single.processor() == processor
+        && single.outputs(0) == course.first.as_slice()
+        && single.outputs(1) == course.second.as_slice()
+        && single.writes() == course.writes.as_slice()
+        && has_memory(single, memory)
+        && has_images(single, &course.done)
+}
+
+fn has_memory(single: &Single, memory: &[u8]) -> bool {
+    (0..=u16::MAX)
+        .zip(memory)
+        .all(|(address, byte)| single.byte(address) == *byte)
+}
+
+// Whether each sector that was written is the last write of it that is done.
+fn has_images(single: &Single, done: &[SectorWrite]) -> bool {
+    done.iter().all(|write| single.image(write.address()) == sector_bytes(done, write.address()))
+}
+
+// The setup of a random program.
+fn setup_of(alloc: Global, random: &mut Pcg32, program: u64) -> R<Setup> {
+    let memory = random_memory(alloc, random, program)?;
     if memory.len() != 65536 {
         return Err(Fault::Malformed);
     }
-    let setup = Setup {
+    Ok(Setup {
         memory,
         drives: 1 + (program / 4 % 4) as u8,
         levels: [7, 6, 5],
         sense: 0x5a,
         reads: Reads::Logged,
+    })
+}
+
+// Runs a board on random inputs.
+fn run_board<T: Completes, S: Completes, W: Completes>(
+    alloc: Global,
+    board: &mut Board<T, S, W>,
+    random: &mut Pcg32,
+) -> R<Course> {
+    let mut course = Course {
+        inputs: Vec::new(alloc),
+        first: Vec::new(alloc),
+        second: Vec::new(alloc),
+        writes: Vec::new(alloc),
+        done: Vec::new(alloc),
     };
+    for _ in 0..INPUTS {
+        let steps = u64::from(random.next_word() % 100);
+        advance(board, &mut course, steps)?;
+        offer(board, &mut course, random)?;
+    }
+    Ok(course)
+}
+
+// How much a number of programs did: how many steps they executed, how many inputs they took, how many writes were done,
+// and how many were issued on tracks above 0.
+#[derive(Clone, Copy, Default)]
+struct Totals {
+    steps: u64,
+    inputs: usize,
+    done: usize,
+    moved: usize,
+}
+
+impl Totals {
+    fn add(&mut self, count: u64, course: &Course) {
+        let moved = course.writes.iter().filter(|write| write.track > 0).count();
+        self.steps = self.steps.saturating_add(count);
+        self.inputs = self.inputs.saturating_add(course.inputs.len());
+        self.done = self.done.saturating_add(course.done.len());
+        self.moved = self.moved.saturating_add(moved);
+    }
+}
+
+// Runs a random program on a board with these closures, and then on the single machine, which is to do the same.
+fn run_program<T: Completes + Drop, S: Completes + Drop, W: Completes + Drop>(
+    rt: &(impl Abort + AllocGlobal),
+    program: u64,
+    totals: &mut Totals,
+    sent: T,
+    sector: S,
+    written: W,
+) -> R<()>
+    requires sent { Keeps (T.may sent) (T.gives sent) SENT }
+    requires sector { Keeps (S.may sector) (S.gives sector) SECTOR }
+    requires written { Keeps (W.may written) (W.gives written) WRITTEN }
+{
+    let mut random = Pcg32::new(program, 54);
+    let setup = setup_of(rt.alloc(), &mut random, program)?;
     let callbacks = Callbacks::of(sent, sector, written);
     let mut board = match Board::boot(rt.alloc(), &setup, callbacks) {
         Ok(board) => board,
         Err((_, fault)) => return Err(fault),
     };
-    let mut course = Course {
-        inputs: Vec::new(rt.alloc()),
-        first: Vec::new(rt.alloc()),
-        second: Vec::new(rt.alloc()),
-        writes: Vec::new(rt.alloc()),
-        done: Vec::new(rt.alloc()),
-    };
-    for _ in 0..INPUTS {
-        let steps = u64::from(random.next_word() % 100);
-        advance(&mut board, &mut course, steps)?;
-        offer(&mut board, &mut course, &mut random)?;
-    }
-    compare(rt, &board, &course, &setup, program)?;
-    let moved = course.writes.iter().filter(|write| write.track > 0).count();
-    Ok((board.count(), course.inputs.len(), course.done.len(), moved))
+    let course = run_board(rt.alloc(), &mut board, &mut random)?;
+    assert!(rt; never_fall(0, &course.inputs));
+    let single = Single::boot(rt.alloc(), &setup, &[])?;
+    let single = single.run(rt.alloc(), &course.inputs, board.count())?;
+    let memory = memory_of(rt.alloc(), &board)?;
+    assert!(rt;
+        is_alike(&single, &course, board.processor(), &memory),
+        "program {program}"
+    );
+    totals.add(board.count(), &course);
+    Ok(())
 }
 
-#[test]
-fn both_executors_agree_on_random_programs(rt: HostRuntime) -> R<()> {
-    let (mut steps, mut inputs, mut done, mut moved) = (0u64, 0usize, 0usize, 0usize);
-    for program in 0..PROGRAMS {
-        let (count, taken, completed, elsewhere) = run_program(
-            &rt,
-            program,
+// Both executors agree on the sixty programs from this one on, which do enough to show it.
+fn agree_from(rt: &(impl Abort + AllocGlobal), first: u64) -> R<()> {
+    let mut totals = Totals::default();
+    for offset in 0..60 {
+        run_program(
+            rt,
+            first.saturating_add(offset),
+            &mut totals,
             plain_completions::sent,
             plain_completions::sector,
             plain_completions::written,
         )?;
-        steps = steps.saturating_add(count);
-        inputs = inputs.saturating_add(taken);
-        done = done.saturating_add(completed);
-        moved = moved.saturating_add(elsewhere);
     }
-    assert!(rt; steps > 300_000, "{steps} steps");
-    assert!(rt; inputs > 5_000, "{inputs} inputs");
-    assert!(rt; done > 20, "{done} writes");
-    assert!(rt; moved > 10, "{moved} writes above track 0");
+    let Totals {
+        steps,
+        inputs,
+        done,
+        moved,
+    } = totals;
+    assert!(rt; steps > 75_000, "{steps} steps");
+    assert!(rt; inputs > 1_250, "{inputs} inputs");
+    assert!(rt; done > 5, "{done} writes");
+    assert!(rt; moved > 2, "{moved} writes above track 0");
     Ok(())
+}
+
+#[test]
+fn both_executors_agree_on_random_programs(rt: HostRuntime) -> R<()> {
+    agree_from(&rt, 0)
+}
+
+#[test]
+fn both_executors_agree_on_more_random_programs(rt: HostRuntime) -> R<()> {
+    agree_from(&rt, 60)
+}
+
+#[test]
+fn both_executors_agree_on_a_third_lot_of_random_programs(rt: HostRuntime) -> R<()> {
+    agree_from(&rt, 120)
+}
+
+#[test]
+fn both_executors_agree_on_a_last_lot_of_random_programs(rt: HostRuntime) -> R<()> {
+    agree_from(&rt, 180)
 }

@@ -54,9 +54,9 @@ fn booted(alloc: Global, program: &[u8], sectors: &[SectorWrite]) -> R<Single>
 fn a_byte_goes_out_and_a_key_is_taken(rt: HostRuntime) -> Result<(), Fail> {
     let single = booted(rt.alloc(), &HELLO, &[])?;
     let run = single.run(rt.alloc(), &[], 6)?;
-    assert_eq!(rt; run.outputs(0), [0x48].as_slice());
-    assert_eq!(rt; run.outputs(1), [].as_slice());
-    assert_eq!(rt; run.count(), 6);
+    assert!(rt; run.outputs(0) == [0x48].as_slice());
+    assert!(rt; run.outputs(1) == [].as_slice());
+    assert!(rt; run.count() == 6);
     let inputs = [
         Timed {
             count: 3,
@@ -68,7 +68,7 @@ fn a_byte_goes_out_and_a_key_is_taken(rt: HostRuntime) -> Result<(), Fail> {
         },
     ];
     let run = single.run(rt.alloc(), &inputs, 6)?;
-    assert_eq!(rt; run.outputs(0), [0x48].as_slice());
+    assert!(rt; run.outputs(0) == [0x48].as_slice());
     Ok(())
 }
 
@@ -82,7 +82,7 @@ fn a_sector_is_written_and_read_again(rt: HostRuntime) -> Result<(), Fail> {
         bytes: [0x11; SECTOR_BYTES],
     };
     let single = booted(rt.alloc(), &WRITE_A_SECTOR, &[at_boot])?;
-    assert_eq!(rt; single.image(FIRST_SECTOR), [0x11; SECTOR_BYTES]);
+    assert!(rt; single.image(FIRST_SECTOR) == [0x11; SECTOR_BYTES]);
     let inputs = [
         Timed {
             count: 10,
@@ -99,9 +99,9 @@ fn a_sector_is_written_and_read_again(rt: HostRuntime) -> Result<(), Fail> {
         bytes: [0xe5; SECTOR_BYTES],
         ..at_boot
     };
-    assert_eq!(rt; run.writes(), [write].as_slice());
-    assert_eq!(rt; run.image(FIRST_SECTOR), [0xe5; SECTOR_BYTES]);
-    assert_eq!(rt; run.count(), 973);
+    assert!(rt; run.writes() == [write].as_slice());
+    assert!(rt; run.image(FIRST_SECTOR) == [0xe5; SECTOR_BYTES]);
+    assert!(rt; run.count() == 973);
     let busy = [
         inputs[0],
         Timed {
@@ -109,7 +109,7 @@ fn a_sector_is_written_and_read_again(rt: HostRuntime) -> Result<(), Fail> {
             input: Bare::Sector(0, 0),
         },
     ];
-    assert_eq!(rt; refusal(&rt, &single, &busy, 973), Fault::SectorBusy);
+    assert!(rt; refusal(&rt, &single, &busy, 973) == Fault::SectorBusy);
     Ok(())
 }
 
@@ -144,11 +144,11 @@ fn runs_are_refused_in_one_order(rt: HostRuntime) -> Result<(), Fail> {
         input: Bare::Rx(0, 0x41),
     };
     let past = 1 << 62;
-    assert_eq!(rt; refusal(&rt, &single, &[], 8), Fault::Idle);
-    assert_eq!(rt; refusal(&rt, &single, &[due, late], 6), Fault::Idle);
-    assert_eq!(rt; refusal(&rt, &single, &[early], past), Fault::NotDue);
-    assert_eq!(rt; refusal(&rt, &single, &[nowhere], 6), Fault::NotDue);
-    assert_eq!(rt; refusal(&rt, &single, &[due, due], 6), Fault::NotDue);
-    assert_eq!(rt; refusal(&rt, &single, &[due, late], past), Fault::Spent);
+    assert!(rt; refusal(&rt, &single, &[], 8) == Fault::Idle);
+    assert!(rt; refusal(&rt, &single, &[due, late], 6) == Fault::Idle);
+    assert!(rt; refusal(&rt, &single, &[early], past) == Fault::NotDue);
+    assert!(rt; refusal(&rt, &single, &[nowhere], 6) == Fault::NotDue);
+    assert!(rt; refusal(&rt, &single, &[due, due], 6) == Fault::NotDue);
+    assert!(rt; refusal(&rt, &single, &[due, late], past) == Fault::Spent);
     Ok(())
 }

@@ -4,13 +4,15 @@ ghost use Rattle.event_callbacks.specs.Keeping.{Keeps};
 ghost use Rattle.event_callbacks.specs.declared.devices.TheConstants.{SENT, SECTOR, WRITTEN};
 ghost use Rattle.guest_memory.specs.declared.memory.TheConstants.{BYTES};
 
+use board_image::image_of;
 use clone_state::Image;
 use disk_dcdd::{
     Controller, ControllerImage, DRIVE_SECTORS, DRIVES, Drive, Place, SECTOR_BYTES, SectorWrite,
 };
 use event_callbacks::{Callbacks, Completes, Devices, PORTS, plain_completions};
-use guest_board::{Board, BoardParts};
+use guest_board::Board;
 use guest_memory::BYTES;
+use guest_parts::BoardParts;
 use i8080_core::Cpu;
 use i8080_words::{Fault, R};
 use serial_2sio::{Acia, Receiver, WINDOW};
@@ -127,8 +129,8 @@ fn image<T: Completes, S: Completes, W: Completes>(
     alloc: Global,
     board: &Board<T, S, W>,
 ) -> R<Image> {
-    match Image::of(alloc, board, 2) {
-        Err(Fault::OutOfMemory) => Image::of(alloc, board, 2),
+    match image_of(alloc, board, 2) {
+        Err(Fault::OutOfMemory) => image_of(alloc, board, 2),
         made => made,
     }
 }

@@ -8,7 +8,8 @@ mod copied;
 mod live;
 
 use arbiter_core::{Arbiter, Won};
-use clone_state::{Copies, DraftedBoard};
+use board_image::DraftedBoard;
+use clone_state::Copies;
 use event_callbacks::{Callbacks, Completes, plain_completions};
 use ft_node::{Drained, Node};
 use guest_board::{Board, BoardMemory, Setup};

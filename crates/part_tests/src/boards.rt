@@ -19,7 +19,7 @@ use event_callbacks::{Callbacks, Completes, Devices, Done, OpId, Operation, plai
 use guest_board::{Board, Setup};
 use guest_lockstep::{Input, Lockstep, Reads, ReplayEnd, StopReason, Stopped};
 use guest_memory::BYTES;
-use i8080_words::{Fault, R};
+use i8080_words::{Fault, Processor, R};
 use log_buffer::LogBuffer;
 use log_channel::{Packet, Receiver, Sender};
 use log_entry::Entry;
@@ -245,20 +245,14 @@ fn replay_on<T: Completes + Drop, S: Completes + Drop, W: Completes + Drop>(
     Ok(replayer.into_board())
 }
 
-// Both guests stand alike: after so many steps, two keys, an accepted byte, one on its way, and a write that is done.
-fn compare<B: Lockstep, C: Lockstep>(rt: &impl Abort, recorded: &B, replayed: &C) {
-    assert!(rt; recorded.count() == 995);
-    assert!(rt; replayed.count() == 995);
-    assert!(rt; recorded.keys(0) == 2);
-    assert!(rt; replayed.keys(0) == 2);
-    assert!(rt; recorded.keys(1) == 0);
-    assert!(rt; replayed.keys(1) == 0);
-    assert!(rt; recorded.due_byte(0) == Some(2));
-    assert!(rt; replayed.due_byte(0) == Some(2));
-    assert!(rt; recorded.due_byte(1) == None);
-    assert!(rt; replayed.due_byte(1) == None);
-    assert!(rt; recorded.selected() == Some(0));
-    assert!(rt; replayed.selected() == Some(0));
+// A guest stands so at the end: after so many steps, two keys, an accepted byte, one on its way, and a write that is done.
+fn expect_end<B: Lockstep>(rt: &impl Abort, guest: &B) {
+    assert!(rt; guest.count() == 995);
+    assert!(rt; guest.keys(0) == 2);
+    assert!(rt; guest.keys(1) == 0);
+    assert!(rt; guest.due_byte(0) == Some(2));
+    assert!(rt; guest.due_byte(1) == None);
+    assert!(rt; guest.selected() == Some(0));
     let byte = Operation::Byte {
         port: 0,
         number: 2,
@@ -269,30 +263,46 @@ fn compare<B: Lockstep, C: Lockstep>(rt: &impl Abort, recorded: &B, replayed: &C
         (OpId::Byte(0, 2), Some(&byte)),
         (OpId::Write(1), None),
     ] {
-        assert!(rt; recorded.outstanding(name) == given);
-        assert!(rt; replayed.outstanding(name) == given);
+        assert!(rt; guest.outstanding(name) == given);
     }
 }
 
-// Both boards have the same processor, memory and devices.
-fn compare_boards<
-    T: Completes,
-    S: Completes,
-    W: Completes,
-    U: Completes,
-    V: Completes,
-    X: Completes,
->(rt: &impl Abort, recorded: &Board<T, S, W>, replayed: &Board<U, V, X>) {
-    assert!(rt; recorded.processor() == replayed.processor());
+// What a board shows: its processor, its memory, how many bytes each port has on its way, the status of its drives, and
+// the last completed write of the sector.
+#[derive(Drop)]
+struct Shown {
+    processor: Processor,
+    memory: Vec<u8>,
+    unaccepted: [u8; 2],
+    status: u8,
+    done: u64,
+}
+
+fn show<T: Completes, S: Completes, W: Completes>(
+    alloc: Global,
+    board: &Board<T, S, W>,
+) -> R<Shown> {
+    let mut memory = Vec::with_capacity(alloc, BYTES)?;
     for page in 0..=255 {
-        assert!(rt; recorded.page(page) == replayed.page(page));
+        memory.extend_from_slice(board.page(page))?;
     }
-    for port in 0..2 {
-        assert!(rt; recorded.port(port).unaccepted() == replayed.port(port).unaccepted());
-    }
-    assert!(rt; recorded.disk().status() == replayed.disk().status());
-    assert!(rt; recorded.done(PLACE) == 1);
-    assert!(rt; replayed.done(PLACE) == 1);
+    Ok(Shown {
+        processor: *board.processor(),
+        memory,
+        unaccepted: [board.port(0).unaccepted(), board.port(1).unaccepted()],
+        status: board.disk().status(),
+        done: board.done(PLACE),
+    })
+}
+
+// Both boards show the same.
+fn compare(rt: &impl Abort, recorded: &Shown, replayed: &Shown) {
+    assert!(rt; recorded.processor == replayed.processor);
+    assert!(rt; recorded.memory == replayed.memory);
+    assert!(rt; recorded.unaccepted == replayed.unaccepted);
+    assert!(rt; recorded.status == replayed.status);
+    assert!(rt; recorded.done == 1);
+    assert!(rt; replayed.done == 1);
 }
 
 // A board with the first three closures is recorded, and one with the others repeats it.
@@ -327,8 +337,13 @@ fn repeat<
         &mut receiver,
         Callbacks::of(sent, sector, written),
     )?;
-    compare(rt, &recorded, &replayed);
-    compare_boards(rt, &recorded, &replayed);
+    expect_end(rt, &recorded);
+    expect_end(rt, &replayed);
+    compare(
+        rt,
+        &show(rt.alloc(), &recorded)?,
+        &show(rt.alloc(), &replayed)?,
+    );
     Ok(())
 }
 

@@ -102,7 +102,7 @@ fn input_that_fails_comes_before_bad_lines(rt: HostRuntime) -> Result<(), Fail> 
     let mut printed = Vec::new(rt.alloc());
     let mut reader = FailingReader { given: false };
     let (status, text) = run_on(&rt, &["script"], &mut reader, &mut printed)?;
-    assert_eq!(rt; (status, text.as_str()), FAILED);
+    assert!(rt; (status, text.as_str()) == FAILED);
     assert!(rt; printed.is_empty());
     Ok(())
 }
@@ -120,7 +120,7 @@ fn output_fails_at_its_end_too(rt: HostRuntime) -> Result<(), Fail> {
             let mut reader: &[u8] = b"send 0 0";
             let mut writer = FailingWriter { room, flushes };
             let (status, text) = run_on(&rt, &[command], &mut reader, &mut writer)?;
-            assert_eq!(rt; (status, text.as_str()), ending, "{command} {room}");
+            assert!(rt; (status, text.as_str()) == ending, "{command} {room}");
         }
     }
     Ok(())
@@ -148,7 +148,7 @@ fn command_lines_are_refused_or_explained(rt: HostRuntime) -> Result<(), Fail> {
         let mut reader: &[u8] = b"stop 0";
         let mut printed = Vec::new(rt.alloc());
         let (status, text) = run_on(&rt, words, &mut reader, &mut printed)?;
-        assert_eq!(rt; status, 2, "{part}");
+        assert!(rt; status == 2, "{part}");
         assert!(rt; text.contains(part), "{part}");
         assert!(rt; !text.contains("pair_main"), "{part}");
         assert!(rt; !text.ends_with("\n"), "{part}");
@@ -181,12 +181,12 @@ fn lines_wait_only_after_many(rt: HostRuntime) -> Result<(), Fail> {
     for (text, written) in [("x", 2), (long.as_str(), 65_536)] {
         let line = report.line(&mut printed, &text);
         assert!(rt; line.is_ok());
-        assert_eq!(rt; printed.len(), written);
+        assert!(rt; printed.len() == written);
     }
     for (turns, written) in [(9_999, 0), (1, 0), (1, 4), (10_000, 4), (1_000_000, 8)] {
         let before = report.before_turns(&mut printed, turns);
         assert!(rt; before.is_ok());
-        assert_eq!(rt; printed.len(), 65_536 + written);
+        assert!(rt; printed.len() == 65_536 + written);
         let line = report.line(&mut printed, &"x");
         assert!(rt; line.is_ok());
     }
@@ -197,10 +197,10 @@ fn lines_wait_only_after_many(rt: HostRuntime) -> Result<(), Fail> {
 #[test]
 fn a_difference_is_told_on_standard_output(rt: HostRuntime) -> Result<(), Fail> {
     let verdict = format!(in rt.alloc(); "{}", Verdict::Differs)?;
-    assert_eq!(rt; verdict.as_str(), "differs");
+    assert!(rt; verdict.as_str() == "differs");
     let (status, text) = Failure::Differs.ending(rt.alloc());
-    assert_eq!(rt; (status, text.as_str()), (7, ""));
+    assert!(rt; (status, text.as_str()) == (7, ""));
     let (status, text) = Failure::OutOfMemory.ending(rt.alloc());
-    assert_eq!(rt; (status, text.as_str()), (4, "out of memory"));
+    assert!(rt; (status, text.as_str()) == (4, "out of memory"));
     Ok(())
 }

@@ -1,7 +1,7 @@
 //! Events, spelled as lines; records and text in quotes; the table of forms.
 use event_callbacks::OpId;
 use pair_events::Event;
-use shell_language::{FORMS, Quoted, ShellLine, Spelled, read_line, read_record};
+use shell_language::{Quoted, ShellLine, Spelled, forms, read_line, read_record};
 use std::test::Fail;
 
 // Events, spelled as lines; each line says its event.
@@ -37,9 +37,9 @@ static EVENTS: [(&str, Event); 24] = [
 fn events_are_spelled_as_lines(rt: HostRuntime) -> Result<(), Fail> {
     for (line, event) in &EVENTS {
         let text = format!(in rt.alloc(); "{}", Spelled(*event))?;
-        assert_eq!(rt; text.as_str(), *line);
+        assert!(rt; text.as_str() == *line);
         match read_line(line.as_bytes()) {
-            Ok(ShellLine::Event(said)) => assert_eq!(rt; said, *event, "{line}"),
+            Ok(ShellLine::Event(said)) => assert!(rt; said == *event, "{line}"),
             _ => assert!(rt; false, "{line}"),
         }
     }
@@ -50,8 +50,8 @@ fn events_are_spelled_as_lines(rt: HostRuntime) -> Result<(), Fail> {
 fn records_say_their_bytes(rt: HostRuntime) -> Result<(), Fail> {
     match read_record(b":0300300002337A1E") {
         Ok(record) => {
-            assert_eq!(rt; record.address(), 0x30);
-            assert_eq!(rt; record.bytes(), [0x02, 0x33, 0x7a].as_slice());
+            assert!(rt; record.address() == 0x30);
+            assert!(rt; record.bytes() == [0x02, 0x33, 0x7a].as_slice());
         }
         Err(_) => assert!(rt; false),
     }
@@ -67,7 +67,7 @@ fn text_ends_at_its_quote(rt: HostRuntime) -> Result<(), Fail> {
     match Quoted::of(b"a\\r\\n\\\"b\\\\ c\"  ") {
         Some(text) => {
             let bytes = text.bytes(rt.alloc())?;
-            assert_eq!(rt; bytes.as_slice(), b"a\r\n\"b\\ c".as_slice());
+            assert!(rt; bytes.as_slice() == b"a\r\n\"b\\ c".as_slice());
         }
         None => assert!(rt; false),
     }
@@ -77,7 +77,7 @@ fn text_ends_at_its_quote(rt: HostRuntime) -> Result<(), Fail> {
 
 #[test]
 fn each_form_is_told_by_its_word(rt: HostRuntime) -> Result<(), Fail> {
-    for form in &FORMS {
+    for form in forms() {
         assert!(rt; form.usage.starts_with(form.word), "{}", form.usage);
     }
     Ok(())

@@ -1,6 +1,6 @@
 //! Each line of the shell, and what it answers.
 use crate::sessions::{Row, answers_to, expect};
-use shell_language::FORMS;
+use shell_language::forms;
 use std::test::Fail;
 
 // The guest sets port 0, sends 48 and waits for keys, which it echoes.
@@ -225,6 +225,6 @@ fn pictures_have_eighty_columns(rt: HostRuntime) -> Result<(), Fail> {
 #[test]
 fn help_has_a_line_for_each_form(rt: HostRuntime) -> Result<(), Fail> {
     let printed = answers_to(rt.alloc(), "help\n")?;
-    assert_eq!(rt; printed.as_str().lines().count(), FORMS.len());
+    assert_eq!(rt; printed.as_str().lines().count(), forms().len());
     Ok(())
 }

@@ -163,6 +163,6 @@ fn folded_by(rt: &impl Abort, number: u8) -> u32 {
 #[test]
 fn walks_fold_to_the_numbers_of_another_program(rt: HostRuntime) {
     for (number, folded) in FOLDED.iter().enumerate() {
-        assert_eq!(rt; folded_by(&rt, number as u8), *folded, "walk {number}");
+        assert!(rt; folded_by(&rt, number as u8) == *folded, "walk {number}");
     }
 }

@@ -93,6 +93,6 @@ fn folded_by(number: u32) -> u32 {
 #[test]
 fn walks_fold_to_the_numbers_of_another_program(rt: HostRuntime) {
     for (number, folded) in FOLDED.iter().enumerate() {
-        assert_eq!(rt; folded_by(number as u32), *folded, "walk {number}");
+        assert!(rt; folded_by(number as u32) == *folded, "walk {number}");
     }
 }

@@ -7,7 +7,8 @@ use super::rebuilt::{parts, rebuild};
 use super::{old_bytes, step};
 use disk_dcdd::Controller;
 use event_callbacks::{Callbacks, Completes, Operation, plain_completions};
-use guest_board::{Board, BoardParts, Executed};
+use guest_board::{Board, Executed};
+use guest_parts::BoardParts;
 use i8080_words::{Interrupts, R};
 use serial_2sio::{Acia, Receiver};
 use std::alloc::Global;
@@ -55,7 +56,7 @@ fn accept<T: Completes + Drop, S: Completes + Drop, W: Completes + Drop>(
 ) -> R<u16> {
     let parts = interrupted(rt.alloc(), active)?;
     let mut board = rebuild(rt.alloc(), parts, callbacks)?;
-    assert_eq!(rt; board.exec(), Ok(Executed::Accepted));
+    assert!(rt; board.exec() == Ok(Executed::Accepted));
     Ok(board.processor().regs.pc.get())
 }
 
@@ -77,7 +78,7 @@ fn accept_each<T: Completes + Drop + Copy, S: Completes + Drop + Copy, W: Comple
     ];
     for (active, address) in rows {
         let callbacks = Callbacks::of(sent, sector, written);
-        assert_eq!(rt; accept(rt, active, callbacks), Ok(address));
+        assert!(rt; accept(rt, active, callbacks) == Ok(address));
     }
     Ok(())
 }
@@ -124,7 +125,7 @@ fn send_both<T: Completes + Drop, S: Completes + Drop, W: Completes + Drop>(
             number: 1,
             byte,
         };
-        assert_eq!(rt; send_next(rt, &mut board), Ok(Some(sent)));
+        assert!(rt; send_next(rt, &mut board) == Ok(Some(sent)));
     }
     Ok(())
 }

@@ -6,8 +6,9 @@ ghost use Rattle.event_callbacks.specs.Keeping.{Keeps};
 use super::{accept_a_byte, memory, old_bytes, step, wait_for_a_key};
 use disk_dcdd::{Controller, ControllerImage, DRIVE_SECTORS, DRIVES, Drive, Place, SectorWrite};
 use event_callbacks::{Callbacks, Completes, Devices, OpId, Operation, PORTS, plain_completions};
-use guest_board::{Board, BoardParts};
+use guest_board::Board;
 use guest_lockstep::Input;
+use guest_parts::BoardParts;
 use i8080_core::Cpu;
 use i8080_words::{AddressRegister, Fault, GREATEST_NUMBER, R};
 use serial_2sio::{Acia, Receiver, WINDOW};
@@ -65,7 +66,7 @@ fn wake<T: Completes + Drop, S: Completes + Drop, W: Completes + Drop>(
 // Runs both instructions, counting each, and waits.
 fn run<T: Completes, S: Completes, W: Completes>(rt: &impl Abort, board: &mut Board<T, S, W>) {
     step(rt, board, 1);
-    assert_eq!(rt; board.count(), 1);
+    assert!(rt; board.count() == 1);
     step(rt, board, 1);
     wait_for_a_key(rt, board, 2, 0x02);
 }
@@ -89,8 +90,8 @@ fn stop<T: Completes + Drop, S: Completes + Drop, W: Completes + Drop>(
 // Executes no more steps.
 fn be_spent<T: Completes, S: Completes, W: Completes>(rt: &impl Abort, board: &mut Board<T, S, W>) {
     assert!(rt; board.is_spent());
-    assert_eq!(rt; board.exec(), Err(Fault::Spent));
-    assert_eq!(rt; board.count(), GREATEST_NUMBER);
+    assert!(rt; board.exec() == Err(Fault::Spent));
+    assert!(rt; board.count() == GREATEST_NUMBER);
 }
 
 // A controller that waits for write 1, of sector 5.
@@ -158,7 +159,7 @@ fn refuse<T: Completes + Drop, S: Completes + Drop, W: Completes + Drop>(
     match Board::rebuild(rt.alloc(), parts, callbacks) {
         Ok(_) => Err(Fault::WrongNumber),
         Err((parts, callbacks, fault)) => {
-            assert_eq!(rt; fault, Fault::Malformed);
+            assert!(rt; fault == Fault::Malformed);
             Ok((parts, callbacks))
         }
     }
@@ -190,9 +191,9 @@ fn complete_a_write<T: Completes, S: Completes, W: Completes>(
     board: &mut Board<T, S, W>,
 ) {
     let write = Operation::Write(write());
-    assert_eq!(rt; board.outstanding(OpId::Write(1)).copied(), Some(write));
-    assert_eq!(rt; board.take(Input::Written(1)), Ok(()));
-    assert_eq!(rt; board.outstanding(OpId::Write(1)).copied(), None);
+    assert!(rt; board.outstanding(OpId::Write(1)).copied() == Some(write));
+    assert!(rt; board.take(Input::Written(1)) == Ok(()));
+    assert!(rt; board.outstanding(OpId::Write(1)).copied() == None);
 }
 
 fn rebuild_each<T: Completes + Drop + Copy, S: Completes + Drop + Copy, W: Completes + Drop + Copy>(

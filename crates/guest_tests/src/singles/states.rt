@@ -443,9 +443,8 @@ fn each_code_does_what_the_manual_says(rt: HostRuntime) -> Result<(), Fail> {
     let mut wires = random_wires(rt.alloc())?;
     let before = wires.copy(rt.alloc())?;
     for (code, number) in (0..=255u8).zip(&CODES) {
-        assert_eq!(rt;
-            executed(&mut wires, &before, code)?,
-            *number,
+        assert!(rt;
+            executed(&mut wires, &before, code)? == *number,
             "code {code:02X}"
         );
     }

@@ -214,7 +214,7 @@ fn walked(alloc: Global, walk: u8) -> R<u32> {
 #[test]
 fn drives_walk_as_the_table_says(rt: HostRuntime) -> Result<(), Fail> {
     for (walk, number) in (0..64u8).zip(&WALKS) {
-        assert_eq!(rt; walked(rt.alloc(), walk)?, *number, "walk {walk}");
+        assert!(rt; walked(rt.alloc(), walk)? == *number, "walk {walk}");
     }
     Ok(())
 }

@@ -70,7 +70,7 @@ fn expect(
     for place in 0..bytes.len() {
         answers = changed_at(&mut assembly, bytes, place, answers);
     }
-    assert_eq!(rt; answers, wanted);
+    assert!(rt; answers == wanted);
     Ok(())
 }
 

@@ -3,7 +3,8 @@ ghost use Rattle.event_callbacks.specs.Keeping.{Keeps};
 ghost use Rattle.event_callbacks.specs.declared.devices.TheConstants.{SENT, SECTOR, WRITTEN};
 
 use super::{board, image, part};
-use clone_state::{Copies, DraftedBoard, Image};
+use board_image::DraftedBoard;
+use clone_state::{Copies, Image};
 use event_callbacks::{Callbacks, Completes, plain_completions};
 use guest_lockstep::Lockstep;
 use i8080_words::{Fault, R};

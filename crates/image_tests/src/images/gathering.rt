@@ -3,6 +3,7 @@ ghost use Rattle.event_callbacks.specs.Keeping.{Keeps};
 ghost use Rattle.event_callbacks.specs.declared.devices.TheConstants.{SENT, SECTOR, WRITTEN};
 
 use super::{image, image_of_it, part};
+use board_image::board_of;
 use clone_state::{Assembly, Image};
 use event_callbacks::{Callbacks, Completes, plain_completions};
 use guest_board::Board;
@@ -61,9 +62,9 @@ fn assembled<T: Completes + Drop, S: Completes + Drop, W: Completes + Drop>(
     assembly: Assembly,
     callbacks: Callbacks<T, S, W>,
 ) -> R<Board<T, S, W>> {
-    let refused = match assembly.into_board(alloc, callbacks) {
+    let refused = match board_of(alloc, assembly, callbacks) {
         Ok(board) => return Ok(board),
-        Err((assembly, callbacks, _)) => assembly.into_board(alloc, callbacks),
+        Err((assembly, callbacks, _)) => board_of(alloc, assembly, callbacks),
     };
     match refused {
         Ok(board) => Ok(board),

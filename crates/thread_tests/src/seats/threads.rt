@@ -39,7 +39,7 @@ fn take_one(fabric: &Fabric, mut seat: BackupSeat) -> (BackupSeat, Option<Packet
 }
 
 // What a primary has seen at the end: entries acknowledged, bytes counted, and the disk's answer.
-#[derive(Clone, Copy, Debug, PartialEq, Eq)]
+#[derive(Clone, Copy, PartialEq, Eq)]
 struct Seen {
     acknowledged: u64,
     counted: u64,

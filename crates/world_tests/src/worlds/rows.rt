@@ -6,7 +6,8 @@ ghost use Rattle.event_callbacks.specs.Keeping.{Keeps};
 
 use crate::worlds::lines::Line;
 use crate::worlds::shown::shown;
-use clone_state::{Copies, DraftedBoard};
+use altair_pair::boot_pair;
+use clone_state::Copies;
 use disk_dcdd::{SECTOR_BYTES, SectorAddress, SectorWrite};
 use event_callbacks::{Callbacks, Completes, plain_completions};
 use ft_world::{Message, NodeStatus, World};
@@ -20,7 +21,7 @@ use std::alloc::Global;
 use std::process::Abort;
 
 /// What is in a message.
-#[derive(Clone, Copy, Debug, PartialEq, Eq)]
+#[derive(Clone, Copy, PartialEq, Eq)]
 pub(crate) enum Sent<'a> {
     Nothing,
     Log(&'a [u8]),
@@ -91,7 +92,7 @@ fn memory(alloc: Global, program: &[u8]) -> R<Vec<u8>>
 }
 
 /// A pair of Altairs in memory.
-pub(crate) type Altairs<T, S, W> = World<DraftedBoard<T, S, W>, MemoryStore, Callbacks<T, S, W>>;
+pub(crate) type Altairs<T, S, W> = altair_pair::Altairs<T, S, W, MemoryStore>;
 
 // A pair boots with this program and one drive, and its log carries sectors so.
 fn boot_once<T: Completes + Drop, S: Completes + Drop, W: Completes + Drop>(
@@ -110,7 +111,7 @@ fn boot_once<T: Completes + Drop, S: Completes + Drop, W: Completes + Drop>(
     };
     let store = MemoryStore::new(alloc, 1)?;
     new_stores_are_unwritten();
-    match World::boot(alloc, &setup, store, primary, backup) {
+    match boot_pair(alloc, &setup, store, primary, backup) {
         Ok(world) => Ok(world),
         Err((_, _, _, fault)) => Err(fault),
     }
@@ -154,15 +155,15 @@ pub(crate) fn happen<B: Copies<H> + Drop, D: SectorStore, H: Drop>(
     events: &[Line],
 ) {
     let mut refused = false;
-    for (event, answer) in events {
+    for (place, (event, answer)) in events.iter().enumerate() {
         let before = shown(world);
         let mut answered = world.apply(alloc, *event);
         if answered == Err(Fault::OutOfMemory) && !refused {
             refused = true;
-            assert!(rt; shown(world) == before, "{event:?}");
+            assert!(rt; shown(world) == before, "event {place}");
             answered = world.apply(alloc, *event);
         }
-        assert!(rt; answered == *answer, "{event:?}");
+        assert!(rt; answered == *answer, "event {place}");
     }
 }
 

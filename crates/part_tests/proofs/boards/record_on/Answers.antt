@@ -1,5 +1,5 @@
 use Rattle.std.proofs.Common.{ap, ◌∙◌}
-use Rattle.guest_board.specs.Board.{OnBoard}
+use Rattle.guest_parts.specs.Board.{OnBoard}
 use Rattle.guest_lockstep.specs.declared.reads.Reads.TheVariants.{Logged}
 use Rattle.guest_board.specs.Guest.{guest_at_boot}
 use Rattle.guest_board.specs.Inputs.{some_altair}

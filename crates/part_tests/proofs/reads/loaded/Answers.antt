@@ -1,5 +1,5 @@
 use Rattle.std.proofs.Common.{ap, subst, arith}
-use Rattle.guest_board.specs.Board.{OnBoard}
+use Rattle.guest_parts.specs.Board.{OnBoard}
 use Rattle.guest_board.specs.Inputs.{some_altair}
 use Rattle.guest_lockstep.specs.Running.{Quiet}
 use Rattle.part_tests.proofs.ReadTrace.{all_steps}
