@@ -7,7 +7,8 @@ use Rattle.i8080_words.specs.declared.registers.Processor.{Processor}
 use Rattle.disk_dcdd.specs.declared.address.SectorAddress.{SectorAddress}
 use Rattle.event_callbacks.specs.declared.operations.OpId.TheVariants as id
 use Rattle.event_callbacks.specs.declared.operations.Operation.TheVariants as operation
-use Rattle.guest_board.specs.Guest.{Guest, altair}
+use Rattle.guest_parts.specs.Guest.{Guest}
+use Rattle.guest_board.specs.Guest.{altair}
 use Rattle.guest_lockstep.specs.Machine.{Move}
 use Rattle.guest_board.specs.declared.setup.Setup.{Setup}
 use Rattle.clone_state.specs.Laws.{IsCopyable}

@@ -7,7 +7,8 @@ use Rattle.i8080_words.specs.declared.registers.Interrupts.{Interrupts}
 use Rattle.i8080_words.specs.declared.registers.Interrupts.TheVariants.{Off, Soon, On}
 use Rattle.i8080_words.specs.declared.registers.Processor.{Processor}
 use Rattle.disk_dcdd.specs.declared.address.SectorAddress.{SectorAddress}
-use Rattle.guest_board.specs.Guest.{Guest, altair, step_of, take_from, line_of, wired, after_rx, after_sent, after_sector, after_written}
+use Rattle.guest_parts.specs.Guest.{Guest}
+use Rattle.guest_board.specs.Guest.{altair, step_of, take_from, line_of, wired, after_rx, after_sent, after_sector, after_written}
 use Rattle.guest_board.specs.Ports.{memory_byte, port_byte}
 use Rattle.guest_lockstep.specs.Machine.{Move}
 use Rattle.guest_lockstep.specs.declared.input.Input.{Input}

@@ -2,7 +2,8 @@
 use Rattle.std.proofs.Common.{◌≡◌, ◌||◌, Bool, true, false, cond, Option, Some, None, refl, ap}
 use Rattle.std.proofs.lemmas.Option.{none-some, same_Some}
 use Rattle.event_callbacks.specs.declared.operations.Operation.{Operation}
-use Rattle.guest_board.specs.Guest.{Guest, is_idle, is_spent, next, step_from, wired_after}
+use Rattle.guest_parts.specs.Guest.{Guest}
+use Rattle.guest_board.specs.Guest.{is_idle, is_spent, next, step_from, wired_after}
 
 pub record IsNext (g u : Guest) : Type 0 where
   pub after : next g ≡ u

@@ -13,7 +13,8 @@ use Rattle.disk_dcdd.specs.declared.sector.TheConstants.{SECTORS, SECTOR_BYTES}
 use Rattle.event_callbacks.specs.Completions.{is_due}
 use Rattle.event_callbacks.specs.declared.devices.Done.TheVariants as done
 use Rattle.event_callbacks.specs.declared.operations.Operation.TheVariants.{Byte, Write}
-use Rattle.guest_board.specs.Guest.{Guest, altair, take_from, may_take_sector, after_sector}
+use Rattle.guest_parts.specs.Guest.{Guest}
+use Rattle.guest_board.specs.Guest.{altair, take_from, may_take_sector, after_sector}
 use Rattle.guest_lockstep.specs.Machine.{Move, Do, Take, Runs}
 use Rattle.guest_lockstep.specs.declared.input.Input.{Input}
 use Rattle.guest_lockstep.specs.declared.input.Input.TheVariants.{Rx, Sent, Sector, Written}
@@ -21,7 +22,7 @@ use Rattle.guest_board.specs.declared.setup.Setup.{Setup}
 use Rattle.guest_trace.specs.Reach.{Own, Owns, bytes_after, image_from}
 use Rattle.altair_laws.specs.Stands.{AltairStands, AreWhole, AreWholeWrites, IsWhole}
 use Rattle.pair_protocol.specs.Lawful.{Among, Reaches}
-use Rattle.altair_laws.specs.OnDisk.{StaysOnDisk}
+use Rattle.pair_protocol.specs.OnDisk.{StaysOnDisk}
 use Rattle.pair_protocol.proofs.Traces.Moves.{runs-append}
 
 abbrev AllWhole : List SectorWrite → Type 0

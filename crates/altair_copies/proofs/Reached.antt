@@ -12,8 +12,9 @@ use Rattle.event_callbacks.specs.declared.devices.Done.TheVariants as done
 use Rattle.event_callbacks.specs.declared.devices.TheConstants.{PORTS}
 use Rattle.event_callbacks.specs.declared.operations.OpId.TheVariants as id
 use Rattle.event_callbacks.specs.declared.operations.Operation.{Operation}
-use Rattle.guest_board.specs.Board.{IsBoard}
-use Rattle.guest_board.specs.Guest.{Guest, altair, guest_at_boot, step_from, take_from, may_take_key, may_take_sector, after_rx, after_sent, after_sector, after_written, oldest_byte, with_completed}
+use Rattle.guest_parts.specs.Board.{IsBoard}
+use Rattle.guest_parts.specs.Guest.{Guest}
+use Rattle.guest_board.specs.Guest.{altair, guest_at_boot, step_from, take_from, may_take_key, may_take_sector, after_rx, after_sent, after_sector, after_written, oldest_byte, with_completed}
 use Rattle.guest_lockstep.specs.Machine.{Move}
 use Rattle.guest_board.specs.Stepping.{next_versions}
 use Rattle.guest_lockstep.specs.declared.input.Input.{Input}

@@ -11,7 +11,8 @@ use Rattle.disk_dcdd.specs.declared.address.SectorAddress.{SectorAddress}
 use Rattle.i8080_words.specs.declared.limits.TheConstants.{GREATEST_NUMBER}
 use Rattle.event_callbacks.specs.Completions.{port_of}
 use Rattle.event_callbacks.specs.declared.operations.Operation.{Operation}
-use Rattle.guest_board.specs.Guest.{Guest, altair, wired, wired_after, step_of, step_from, take_from, after_rx, after_sent, after_sector, after_written}
+use Rattle.guest_parts.specs.Guest.{Guest}
+use Rattle.guest_board.specs.Guest.{altair, wired, wired_after, step_of, step_from, take_from, after_rx, after_sent, after_sector, after_written}
 use Rattle.guest_lockstep.specs.Machine.{Move}
 use Rattle.guest_board.specs.Ports.{Wired, after_access, after_out, after_byte, after_serial_data, after_disk_data, device_at}
 use Rattle.guest_lockstep.specs.declared.input.Input.{Input}

@@ -7,7 +7,8 @@ use Rattle.disk_dcdd.specs.Completion.{is_busy_on}
 use Rattle.disk_dcdd.specs.Drive.{drive_of}
 use Rattle.disk_dcdd.specs.Sector.{is_at, place_of}
 use Rattle.disk_dcdd.specs.declared.sector.SectorWrite.{SectorWrite}
-use Rattle.guest_board.specs.Guest.{Guest, address_under}
+use Rattle.guest_parts.specs.Guest.{Guest}
+use Rattle.guest_board.specs.Guest.{address_under}
 use Rattle.altair_laws.specs.Stands.{AreWrites, IsPending}
 use Rattle.pair_protocol.specs.Lawful.{Among}
 use Rattle.pair_protocol.proofs.Keeps.Disk.{same_address-refl}

@@ -20,7 +20,8 @@ use Rattle.event_callbacks.specs.declared.operations.OpId.TheVariants as id
 use Rattle.event_callbacks.specs.declared.operations.Operation.TheVariants.{Write}
 use Rattle.event_callbacks.proofs.OperationMap.{operation_at-without_other}
 use Rattle.guest_board.specs.declared.setup.Setup.{Setup}
-use Rattle.guest_board.specs.Guest.{Guest, altair, after_rx, after_sent, after_sector, take_from, with_completed, oldest_byte, after_written}
+use Rattle.guest_parts.specs.Guest.{Guest}
+use Rattle.guest_board.specs.Guest.{altair, after_rx, after_sent, after_sector, take_from, with_completed, oldest_byte, after_written}
 use Rattle.guest_lockstep.specs.Machine.{Move, Take}
 use Rattle.guest_lockstep.specs.declared.input.Input.{Input}
 use Rattle.guest_lockstep.specs.declared.input.Input.TheVariants.{Rx, Sent, Sector, Written}

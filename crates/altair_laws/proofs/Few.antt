@@ -16,7 +16,8 @@ use Rattle.event_callbacks.specs.declared.operations.OpId.{OpId}
 use Rattle.event_callbacks.specs.declared.operations.OpId.TheVariants as id
 use Rattle.event_callbacks.specs.declared.operations.Operation.{Operation}
 use Rattle.event_callbacks.specs.declared.operations.Operation.TheVariants.{Byte, Write}
-use Rattle.guest_board.specs.Guest.{Guest, altair}
+use Rattle.guest_parts.specs.Guest.{Guest}
+use Rattle.guest_board.specs.Guest.{altair}
 use Rattle.guest_lockstep.specs.Machine.{Move}
 use Rattle.guest_lockstep.specs.Outstanding.{AreFew}
 use Rattle.guest_board.specs.declared.setup.Setup.{Setup}

@@ -15,7 +15,8 @@ use Rattle.disk_dcdd.specs.declared.sector.TheConstants.{SECTORS}
 use Rattle.event_callbacks.specs.Completions.{port_of, is_due}
 use Rattle.event_callbacks.specs.declared.devices.Done.TheVariants as done
 use Rattle.event_callbacks.specs.declared.devices.TheConstants.{PORTS}
-use Rattle.guest_board.specs.Guest.{Guest, altair, take_from, after_rx, after_sent, after_sector, may_take_sector}
+use Rattle.guest_parts.specs.Guest.{Guest}
+use Rattle.guest_board.specs.Guest.{altair, take_from, after_rx, after_sent, after_sector, may_take_sector}
 use Rattle.guest_lockstep.specs.Lockstep.{IsInput, HasRoom}
 use Rattle.guest_lockstep.specs.declared.input.Input.{Input}
 use Rattle.guest_lockstep.specs.declared.input.Input.TheVariants.{Rx, Sent, Sector, Written}

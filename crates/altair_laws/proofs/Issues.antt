@@ -14,7 +14,8 @@ use Rattle.event_callbacks.specs.declared.operations.OpId.TheVariants as id
 use Rattle.event_callbacks.specs.declared.operations.Operation.{Operation}
 use Rattle.event_callbacks.specs.declared.operations.Operation.TheVariants.{Byte, Write}
 use Rattle.event_callbacks.proofs.OperationMap.{operation_at-with, operation_at-with_other}
-use Rattle.guest_board.specs.Guest.{Guest, with_given, wired, stepped}
+use Rattle.guest_parts.specs.Guest.{Guest}
+use Rattle.guest_board.specs.Guest.{with_given, wired, stepped}
 use Rattle.guest_lockstep.specs.Machine.{Move, Do}
 use Rattle.guest_board.specs.Ports.{Wired, after_byte}
 use Rattle.i8080_words.specs.declared.registers.Processor.{Processor}

@@ -2,7 +2,8 @@
 use Rattle.std.proofs.Common.{◌≡◌, ℕ, true, cond, List, Some, None, ◌⊎◌, inl, inr, refl, ap}
 use Rattle.std.specs.Prelude.{◌||◌}
 use Rattle.disk_dcdd.specs.declared.address.SectorAddress.{SectorAddress}
-use Rattle.guest_board.specs.Guest.{Guest, altair, step_from, is_spent, is_idle, next, wired_after}
+use Rattle.guest_parts.specs.Guest.{Guest}
+use Rattle.guest_board.specs.Guest.{altair, step_from, is_spent, is_idle, next, wired_after}
 use Rattle.guest_lockstep.specs.Machine.{Move}
 use Rattle.guest_board.specs.declared.setup.Setup.{Setup}
 use Rattle.pair_protocol.specs.Lawful.{Lawful, IsUnwritten, IsWritten}

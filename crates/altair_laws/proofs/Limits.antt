@@ -8,7 +8,8 @@ use Rattle.std.proofs.lemmas.Option.{cond_some}
 use Rattle.disk_dcdd.specs.Drive as drives
 use Rattle.disk_dcdd.specs.declared.address.SectorAddress.{SectorAddress}
 use Rattle.i8080_words.specs.declared.limits.TheConstants.{GREATEST_NUMBER}
-use Rattle.guest_board.specs.Guest.{Guest, guest_at_boot, wired, stepped, take_from, altair, after_rx, is_spent}
+use Rattle.guest_parts.specs.Guest.{Guest}
+use Rattle.guest_board.specs.Guest.{guest_at_boot, wired, stepped, take_from, altair, after_rx, is_spent}
 use Rattle.guest_lockstep.specs.Machine.{Move}
 use Rattle.guest_board.specs.Ports.{Wired}
 use Rattle.guest_lockstep.specs.declared.input.Input.{Input}

@@ -12,11 +12,12 @@ use Rattle.disk_dcdd.specs.declared.sector.TheConstants.{SECTORS}
 use Rattle.event_callbacks.specs.Operations.{operation_at}
 use Rattle.event_callbacks.specs.declared.operations.OpId.{OpId}
 use Rattle.event_callbacks.specs.declared.operations.Operation.TheVariants.{Write}
-use Rattle.guest_board.specs.Guest.{Guest, altair, address_under}
+use Rattle.guest_parts.specs.Guest.{Guest}
+use Rattle.guest_board.specs.Guest.{altair, address_under}
 use Rattle.guest_lockstep.specs.Machine.{Move}
 use Rattle.guest_board.specs.declared.setup.Setup.{Setup}
 use Rattle.pair_protocol.specs.Lawful.{Reaches}
-use Rattle.altair_laws.specs.OnDisk.{StaysOnDisk}
+use Rattle.pair_protocol.specs.OnDisk.{StaysOnDisk}
 use Rattle.altair_laws.proofs.Drives.{Stands}
 use Rattle.altair_laws.proofs.Commands.{drive-track}
 use Rattle.altair_laws.proofs.Images.{Apart}

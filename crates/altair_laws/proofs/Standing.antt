@@ -17,7 +17,8 @@ use Rattle.event_callbacks.specs.declared.operations.OpId.TheVariants as id
 use Rattle.event_callbacks.specs.declared.operations.Operation.{Operation}
 use Rattle.event_callbacks.specs.declared.operations.Operation.TheVariants.{Write}
 use Rattle.guest_memory.proofs.NewMemory.{only_zeros}
-use Rattle.guest_board.specs.Guest.{Guest, guest_at_boot, wired, take_from, altair, with_completed, after_written, after_sector}
+use Rattle.guest_parts.specs.Guest.{Guest}
+use Rattle.guest_board.specs.Guest.{guest_at_boot, wired, take_from, altair, with_completed, after_written, after_sector}
 use Rattle.guest_lockstep.specs.Machine.{Move, Do, Take}
 use Rattle.guest_board.specs.Ports.{Wired}
 use Rattle.guest_lockstep.specs.declared.input.Input.{Input}

@@ -17,7 +17,8 @@ use Rattle.event_callbacks.specs.Completions.{port_of}
 use Rattle.event_callbacks.specs.declared.devices.Devices.{Devices}
 use Rattle.event_callbacks.specs.declared.operations.Operation.{Operation}
 use Rattle.event_callbacks.specs.declared.operations.Operation.TheVariants as operation
-use Rattle.guest_board.specs.Guest.{Guest, wired, wired_after, step_of, step_from, stepped, next, is_spent, is_idle}
+use Rattle.guest_parts.specs.Guest.{Guest}
+use Rattle.guest_board.specs.Guest.{wired, wired_after, step_of, step_from, stepped, next, is_spent, is_idle}
 use Rattle.guest_lockstep.specs.Machine.{Move, Do}
 use Rattle.guest_board.specs.Ports.{Wired, device_at, with_disk, with_port, devices_after_in, after_byte, after_serial_data, after_disk_data, write_given, after_out, after_access}
 use Rattle.altair_laws.proofs.Accesses.{Kind, Memory, Read, Sent, AreWrites, kind_of_step}

@@ -15,7 +15,8 @@ use Rattle.event_callbacks.specs.declared.operations.OpId.TheVariants as id
 use Rattle.event_callbacks.specs.declared.operations.Operation.{Operation}
 use Rattle.event_callbacks.specs.declared.operations.Operation.TheVariants.{Byte, Write}
 use Rattle.event_callbacks.proofs.OperationMap.{operation_at-empty, operation_at-with_named, operation_at-with_other, operation_at-without_other}
-use Rattle.guest_board.specs.Guest.{Guest, guest_at_boot, wired, stepped, take_from, altair, with_given, after_rx, after_sent, oldest_byte}
+use Rattle.guest_parts.specs.Guest.{Guest}
+use Rattle.guest_board.specs.Guest.{guest_at_boot, wired, stepped, take_from, altair, with_given, after_rx, after_sent, oldest_byte}
 use Rattle.guest_lockstep.specs.Machine.{Move}
 use Rattle.guest_board.specs.Ports.{Wired, after_byte}
 use Rattle.guest_lockstep.specs.declared.input.Input.{Input}

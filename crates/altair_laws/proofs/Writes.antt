@@ -15,7 +15,8 @@ use Rattle.event_callbacks.specs.declared.operations.OpId.TheVariants as id
 use Rattle.event_callbacks.specs.declared.operations.Operation.{Operation}
 use Rattle.event_callbacks.specs.declared.operations.Operation.TheVariants.{Byte, Write}
 use Rattle.event_callbacks.proofs.OperationMap.{operation_at-with_other, operation_at-empty}
-use Rattle.guest_board.specs.Guest.{Guest, guest_at_boot}
+use Rattle.guest_parts.specs.Guest.{Guest}
+use Rattle.guest_board.specs.Guest.{guest_at_boot}
 use Rattle.guest_lockstep.specs.Machine.{Move, Do, Take}
 use Rattle.guest_lockstep.specs.declared.input.Input.{Input}
 use Rattle.guest_trace.specs.Reach.{inputs, operations, image_from}

@@ -1,3 +1,2 @@
 pub mod Stands
-pub mod OnDisk
 pub mod Pairs

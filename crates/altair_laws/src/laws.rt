@@ -2,12 +2,13 @@
 ghost use Rattle.std.specs.Prelude.{ℕ, List};
 ghost use Rattle.disk_dcdd.specs.declared.address.SectorAddress.{SectorAddress};
 ghost use Rattle.guest_board.specs.declared.setup.Setup.{Setup};
-ghost use Rattle.guest_board.specs.Guest.{Guest, altair};
+ghost use Rattle.guest_parts.specs.Guest.{Guest};
+ghost use Rattle.guest_board.specs.Guest.{altair};
 ghost use Rattle.guest_lockstep.specs.Machine.{Move};
 ghost use Rattle.altair_laws.specs.Pairs.{PairsAreFaithful, PairsGrow};
 ghost use Rattle.altair_laws.specs.Stands.{AltairStands};
 ghost use Rattle.pair_protocol.specs.Lawful.{Lawful, Reaches};
-ghost use Rattle.altair_laws.specs.OnDisk.{StaysOnDisk};
+ghost use Rattle.pair_protocol.specs.OnDisk.{StaysOnDisk};
 
 use disk_dcdd::sectors_stand_apart;
 

@@ -8,14 +8,14 @@ use std::alloc::Global;
 use std::marker::Model;
 
 /// This node asks for this generation.
-#[derive(Clone, Copy, Debug, PartialEq, Eq)]
+#[derive(Clone, Copy, PartialEq, Eq)]
 pub struct Asking {
     pub generation: u32,
     pub node: u64,
 }
 
 /// The answer to a node that has won.
-#[derive(Clone, Copy, Debug, PartialEq, Eq)]
+#[derive(Clone, Copy, PartialEq, Eq)]
 pub struct Won;
 
 /// The test-and-set that decides which node of a generation goes on alone (VMware FT, OSR 44(4), 2010, section 2.3).

@@ -7,9 +7,9 @@ use Rattle.std.proofs.lemmas.Bool.{false≢true}
 use Rattle.std.proofs.lemmas.List.Elements.{All-cons, All-tail}
 use Rattle.i8080_words.specs.declared.refusal.Fault.{Fault}
 use Rattle.i8080_words.specs.declared.refusal.Fault.TheVariants.{Malformed, NotWhole, OutOfMemory}
-use Rattle.guest_board.specs.Guest.{Guest}
-use Rattle.guest_board.specs.Parts as board
-use Rattle.guest_board.specs.declared.parts.BoardParts.{BoardParts}
+use Rattle.guest_parts.specs.Guest.{Guest}
+use Rattle.guest_parts.specs.Parts as board
+use Rattle.guest_parts.specs.declared.parts.BoardParts.{BoardParts}
 use Rattle.log_entry.specs.Numbers.{◌>>=◌}
 use Rattle.clone_state.specs.Assembly.{Gathering, Slots, gathered, machine_in, whole_answer}
 use Rattle.clone_state.specs.Checkpoint.{Checkpoint, FirstPart, checkpoint_in_parts, guest_of}
@@ -46,6 +46,19 @@ one_made : (g : Gathering) (parts : List (List ℕ)) (guest : Guest) → gathere
 one_made g parts guest all some =
     sym (ap (refused_as (λ parts. is_some (guest_in g.drives parts))) all
     ∙ ap (λ (o : Option Guest). cond (is_some o) OutOfMemory Malformed) some)
+
+-- if the parts make a guest, only memory can be missing
+pub only_memory : (g : Gathering) (guest : Guest) → machine_in g ≡ Some guest
+    → OutOfMemory ≡ refused_as (λ parts. is_some (guest_in g.drives parts)) (gathered g.slots)
+only_memory g guest makes = go (gathered g.slots) refl
+  where
+    go : (o : Option (List (List ℕ))) → gathered g.slots ≡ o
+        → OutOfMemory ≡ refused_as (λ parts. is_some (guest_in g.drives parts)) (gathered g.slots)
+    go None none =
+        let clash : None ≡ Some guest = sym (ap (λ (o : Option (List (List ℕ))). o >>= guest_in g.drives) none) ∙ makes in
+        absurd (cc)
+    go (Some parts) all =
+        one_made g parts guest all (sym (ap (λ (o : Option (List (List ℕ))). o >>= guest_in g.drives) all) ∙ makes)
 
 all_full : (parts : List (List ℕ)) → All (λ (slot : Option (List ℕ)). IsTrue (is_some slot)) (map Some parts)
 all_full [] = λ k x inside. absurd (omega (arith, inside))
@@ -121,10 +134,5 @@ module _ (old : Gathering) (generation drives : ℕ) (first : Vec ℕ) (later : 
         (ap (λ (o : Option (List (List ℕ))). o >>= guest_in drives) whole.is ∙ made
         ∙ ap (λ (c : Checkpoint). Some (guest_of c)) (sym is))
 
-    pub not_rebuilt : (p : BoardParts) (fault : Fault) → checkpoint_in_parts p ≡ says f later.items
-        → fault ≡ board.refused_as p
-        → fault ≡ refused_as (λ parts. is_some (guest_in old.drives parts)) (gathered old.slots)
-    not_rebuilt p fault is because =
-        because
-        ∙ ap (λ b. cond b OutOfMemory Malformed) (read_stands drives p (subst (FitsBoard drives) (sym is) fits_board))
-        ∙ no_memory
+    pub stands_whole : (p : BoardParts) → checkpoint_in_parts p ≡ says f later.items → board.stands p ≡ true
+    stands_whole p is = read_stands drives p (subst (FitsBoard drives) (sym is) fits_board)

@@ -19,9 +19,9 @@ use Rattle.event_callbacks.specs.Operations.{Operations, operation_at}
 use Rattle.event_callbacks.specs.declared.devices.Devices.{Devices}
 use Rattle.event_callbacks.specs.declared.operations.OpId.TheVariants as id
 use Rattle.event_callbacks.specs.declared.operations.Operation.TheVariants as operation
-use Rattle.guest_board.specs.Board.{AreCompleted, IsHeld}
-use Rattle.guest_board.specs.Guest.{Guest}
-use Rattle.guest_board.specs.Parts.{are_completed, are_levels, may_be_completed, oldest_of, port_stands}
+use Rattle.guest_parts.specs.Board.{AreCompleted, IsHeld}
+use Rattle.guest_parts.specs.Guest.{Guest}
+use Rattle.guest_parts.specs.Parts.{are_completed, are_levels, may_be_completed, oldest_of, port_stands}
 use Rattle.log_entry.specs.Numbers.{◌>>=◌}
 use Rattle.clone_state.specs.Checkpoint.{Checkpoint, checkpoint_of, guest_of, padded, window_of, write_at, writes_at}
 use Rattle.clone_state.specs.FirstPart.{first, spelling_01}

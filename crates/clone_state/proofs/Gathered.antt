@@ -4,7 +4,7 @@ use Rattle.std.specs.Prelude.{slice_get, slice_index_or, slice_set}
 use Rattle.std.proofs.lemmas.Bool.{and_parts, eqb-true}
 use Rattle.std.proofs.lemmas.List.{length-replicate, length-set}
 use Rattle.std.proofs.lemmas.Option.{none-some, same_Some}
-use Rattle.guest_board.specs.Guest.{Guest}
+use Rattle.guest_parts.specs.Guest.{Guest}
 use Rattle.log_entry.specs.Numbers.{◌>>=◌}
 use Rattle.log_entry.proofs.ReadingLaws.{first_read}
 use Rattle.clone_state.specs.Assembly.{Gathering, Slots, after_part, gathered, is_missing, is_whole, machine_in, nothing_gathered, with_part}

@@ -20,11 +20,11 @@ use Rattle.event_callbacks.specs.declared.operations.Operation.TheVariants as op
 use Rattle.event_callbacks.specs.Operations.{Operations, operation_at, with_operation, id_of}
 use Rattle.event_callbacks.proofs.Names.{name_cases}
 use Rattle.event_callbacks.proofs.OperationMap.{operation_at-empty, operation_at-with_named, operation_at-with_other, same_operations}
-use Rattle.guest_board.specs.Guest.{Guest}
-use Rattle.guest_board.specs.Board.{AreAwaited, IsBoard, IsHeld, is_on_its_way}
-use Rattle.guest_board.specs.Parts.{with_each, bytes_from, oldest_of, writes_of}
-use Rattle.guest_board.proofs.Shown.{AreAmong}
-use Rattle.guest_board.proofs.Standing.{awaited-parts}
+use Rattle.guest_parts.specs.Guest.{Guest}
+use Rattle.guest_parts.specs.Board.{AreAwaited, IsBoard, IsHeld, is_on_its_way}
+use Rattle.guest_parts.specs.Parts.{with_each, bytes_from, oldest_of, writes_of}
+use Rattle.guest_parts.proofs.Shown.{AreAmong}
+use Rattle.guest_parts.proofs.Standing.{awaited-parts}
 use Rattle.clone_state.specs.Checkpoint.{byte_of, bytes_numbered, window_of, padded, write_at, writes_at, checkpoint_of, operations_in, guest_of}
 
 -- ---- maps of operations

@@ -8,8 +8,6 @@ pub mod PartLaws
 pub mod Controllers
 pub mod Guests
 pub mod Copyable
-pub mod Windows
-pub mod Copied
 pub mod Payloads
 pub mod PartBytes
 pub mod Rebuilding
@@ -27,7 +25,3 @@ pub mod Coming
 pub mod Assembled
 pub mod PartsRead
 pub mod PartsWithin
-pub mod StalePages
-pub mod Freshening
-pub mod LaterPages
-pub mod KeepingUp

@@ -10,7 +10,7 @@ use Rattle.std.proofs.lemmas.List.{length-map, take_more}
 use Rattle.std.proofs.lemmas.List.Elements.{All-cons, All-head, All-tail}
 use Rattle.std.proofs.lemmas.Option.{none-some, same_Some}
 use Rattle.disk_dcdd.specs.Drive.{Drives}
-use Rattle.guest_board.specs.Parts.{may_be_completed}
+use Rattle.guest_parts.specs.Parts.{may_be_completed}
 use Rattle.log_entry.specs.Numbers.{◌>>=◌}
 use Rattle.log_entry.proofs.ReadingLaws.{admitted, first_read}
 use Rattle.clone_state.specs.Assembly.{Slots, gathered}

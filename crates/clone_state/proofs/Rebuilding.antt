@@ -6,8 +6,8 @@ use Rattle.disk_dcdd.specs.Sector.{place_of}
 use Rattle.i8080_words.specs.declared.limits.TheConstants.{GREATEST_NUMBER}
 use Rattle.disk_dcdd.specs.declared.sector.Place.{Place}
 use Rattle.disk_dcdd.specs.declared.sector.SectorWrite.{SectorWrite}
-use Rattle.guest_board.specs.Parts.{are_completed, are_levels, go_to, goes_to, port_stands, stands}
-use Rattle.guest_board.specs.declared.parts.BoardParts.{BoardParts}
+use Rattle.guest_parts.specs.Parts.{are_completed, are_levels, go_to, goes_to, port_stands, stands}
+use Rattle.guest_parts.specs.declared.parts.BoardParts.{BoardParts}
 use Rattle.clone_state.specs.Checkpoint.{checkpoint_in_parts}
 use Rattle.clone_state.specs.Laws.{FitsBoard}
 use Rattle.clone_state.specs.Possible.{is_controller, is_possible, may_halt}

@@ -2,7 +2,7 @@
 use Rattle.std.specs.Prelude.{ℕ, ◌==◌, Bool, if◌then◌else◌, ◌&&◌, List, [], ◌∷◌, replicate, slice_index_or, slice_set, is_none, is_some, Option, Some, None, Result, Ok, Err}
 use Rattle.i8080_words.specs.declared.refusal.Fault.{Fault}
 use Rattle.i8080_words.specs.declared.refusal.Fault.TheVariants.{Malformed, NotWhole, WrongGeneration}
-use Rattle.guest_board.specs.Guest.{Guest}
+use Rattle.guest_parts.specs.Guest.{Guest}
 use Rattle.log_entry.specs.Numbers.{◌>>=◌}
 use Rattle.clone_state.specs.Parts.{PartMessage, guest_in, message_at}
 

@@ -11,9 +11,9 @@ use Rattle.event_callbacks.specs.declared.devices.Devices.{Devices}
 use Rattle.event_callbacks.specs.declared.operations.OpId.TheVariants as id
 use Rattle.event_callbacks.specs.declared.operations.Operation.{Operation}
 use Rattle.event_callbacks.specs.declared.operations.Operation.TheVariants.{Byte, Write}
-use Rattle.guest_board.specs.Guest.{Guest}
-use Rattle.guest_board.specs.Parts.{with_each, bytes_of, oldest_of, writes_of}
-use Rattle.guest_board.specs.declared.parts.BoardParts.{BoardParts}
+use Rattle.guest_parts.specs.Guest.{Guest}
+use Rattle.guest_parts.specs.Parts.{with_each, bytes_of, oldest_of, writes_of}
+use Rattle.guest_parts.specs.declared.parts.BoardParts.{BoardParts}
 
 -- what the first part says: all but memory and the last completed writes. Of each port there are the 16 places of its
 -- window, oldest byte first and 00 if unused; the outstanding writes are in order of number

@@ -1,6 +1,6 @@
 -- What the layers of a pair require of a guest that can be copied: its image in parts, and the guest that parts make.
 use Rattle.std.specs.Prelude.{◌≡◌, ℕ, Bool, if◌then◌else◌, is_some, List, Option, Some, None}
-use Rattle.guest_board.specs.Guest.{Guest}
+use Rattle.guest_parts.specs.Guest.{Guest}
 use Rattle.i8080_words.specs.declared.refusal.Fault.{Fault}
 use Rattle.i8080_words.specs.declared.refusal.Fault.TheVariants.{Malformed, NotWhole, OutOfMemory}
 use Rattle.clone_state.specs.Checkpoint.{checkpoint_of}

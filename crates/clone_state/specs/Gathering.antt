@@ -1,6 +1,6 @@
 -- What is gathered of one image, in any order, with parts that are lost or repeated.
 use Rattle.std.specs.Prelude.{◌≡◌, ◌↔◌, ℕ, ◌<◌, IsTrue, List, length, slice_get, slice_index_or, is_some, Some, None}
-use Rattle.guest_board.specs.Guest.{Guest}
+use Rattle.guest_parts.specs.Guest.{Guest}
 use Rattle.clone_state.specs.Assembly.{Gathering, Slots, after_part, gathered, is_whole, machine_in, nothing_gathered}
 use Rattle.clone_state.specs.Checkpoint.{checkpoint_of}
 use Rattle.clone_state.specs.Laws.{IsCopyable}

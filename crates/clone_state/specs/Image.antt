@@ -4,8 +4,8 @@ use Rattle.std.specs.Global.{Vec}
 use Rattle.i8080_words.specs.declared.refusal.Fault.{Fault}
 use Rattle.i8080_words.specs.declared.refusal.Fault.TheVariants.{OutOfMemory, Unknown}
 use Rattle.disk_dcdd.specs.declared.address.TheConstants.{DRIVE_SECTORS}
-use Rattle.guest_board.specs.Guest.{Guest}
-use Rattle.guest_board.specs.declared.parts.BoardParts.{BoardParts}
+use Rattle.guest_parts.specs.Guest.{Guest}
+use Rattle.guest_parts.specs.declared.parts.BoardParts.{BoardParts}
 use Rattle.clone_state.specs.Checkpoint.{checkpoint_in_parts, checkpoint_of}
 use Rattle.clone_state.specs.Parts.{message_bytes, parts_of}
 

@@ -9,10 +9,10 @@ use Rattle.event_callbacks.specs.Completions.{port_of}
 use Rattle.event_callbacks.specs.Operations.{operation_at}
 use Rattle.event_callbacks.specs.declared.operations.OpId.TheVariants as id
 use Rattle.event_callbacks.specs.declared.operations.Operation.TheVariants as operation
-use Rattle.guest_board.specs.Board.{IsBoard}
-use Rattle.guest_board.specs.Guest.{Guest}
-use Rattle.guest_board.specs.Parts.{guest_of_parts, stands}
-use Rattle.guest_board.specs.declared.parts.BoardParts.{BoardParts}
+use Rattle.guest_parts.specs.Board.{IsBoard}
+use Rattle.guest_parts.specs.Guest.{Guest}
+use Rattle.guest_parts.specs.Parts.{guest_of_parts, stands}
+use Rattle.guest_parts.specs.declared.parts.BoardParts.{BoardParts}
 use Rattle.guest_memory.specs.declared.memory.TheConstants.{BYTES}
 use Rattle.log_entry.specs.Numbers.{IsBytes}
 use Rattle.clone_state.specs.Checkpoint.{Checkpoint, FirstPart, checkpoint_in_parts, checkpoint_of, guest_of}

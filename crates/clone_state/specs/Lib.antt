@@ -10,6 +10,3 @@ pub mod Image
 pub mod Reading
 pub mod Copies
 pub mod Slots
-pub mod Drafts
-pub mod DraftLaws
-pub mod DraftedBoard

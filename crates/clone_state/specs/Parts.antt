@@ -5,7 +5,7 @@ use Rattle.std.specs.Int.{w32, from_be_bytes}
 use Rattle.byteorder.specs.Endian.{big_bytes}
 use Rattle.disk_dcdd.specs.declared.drive.TheConstants.{TRACKS}
 use Rattle.disk_dcdd.specs.declared.sector.TheConstants.{SECTORS}
-use Rattle.guest_board.specs.Guest.{Guest}
+use Rattle.guest_parts.specs.Guest.{Guest}
 use Rattle.guest_memory.specs.declared.memory.TheConstants.{PAGES, PAGE_BYTES}
 use Rattle.log_entry.specs.Numbers.{◌>>=◌}
 use Rattle.clone_state.specs.Codec.{Codec, bytes, number, times, read_all}

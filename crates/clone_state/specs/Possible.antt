@@ -17,7 +17,7 @@ use Rattle.disk_dcdd.specs.declared.drive.TheConstants.{TRACKS}
 use Rattle.disk_dcdd.specs.declared.sector.CurrentSector.{CurrentSector}
 use Rattle.disk_dcdd.specs.declared.sector.Place.{Place}
 use Rattle.disk_dcdd.specs.declared.sector.TheConstants.{SECTORS, SECTOR_BYTES}
-use Rattle.guest_board.specs.Parts.{port_stands, are_levels, are_completed}
+use Rattle.guest_parts.specs.Parts.{port_stands, are_levels, are_completed}
 use Rattle.clone_state.specs.Checkpoint.{FirstPart, Checkpoint}
 
 -- ---- the processor

@@ -5,7 +5,7 @@ use Rattle.std.specs.List.{list_all}
 use Rattle.std.specs.Option.{option_map_or}
 use Rattle.disk_dcdd.specs.Drive.{Drives}
 use Rattle.disk_dcdd.specs.declared.controller.TheConstants.{DRIVES}
-use Rattle.guest_board.specs.Parts.{may_be_completed}
+use Rattle.guest_parts.specs.Parts.{may_be_completed}
 use Rattle.guest_memory.specs.declared.memory.TheConstants.{PAGES, PAGE_BYTES}
 use Rattle.clone_state.specs.Assembly.{Slots}
 use Rattle.clone_state.specs.Codec.{read_all}

@@ -1,9 +1,9 @@
-//! The parts of one image as they come, in any order, and the board that they make.
+//! The parts of one image as they come, in any order, and what they say of a board.
 ghost use Rattle.std.specs.Prelude.{◌≡◌, ◌<◌, ◌≤◌, true, false, None, Some, length, IfOk, IfErr, IsOkUnless, is_none, is_some, slice_index_or, slice_set, if◌then◌else◌, vec_capacity};
 ghost use Rattle.disk_dcdd.specs.declared.controller.TheConstants.{DRIVES};
 ghost use Rattle.i8080_words.specs.declared.refusal.Fault.TheVariants.{OutOfMemory};
-ghost use Rattle.guest_memory.specs.Pages.{zeros};
 ghost use Rattle.guest_memory.specs.declared.memory.TheConstants.{PAGES};
+ghost use Rattle.guest_parts.specs.Parts.{guest_of_parts, stands};
 ghost use Rattle.clone_state.specs.Assembly as table;
 ghost use Rattle.clone_state.specs.Copies.{refused_as};
 ghost use Rattle.clone_state.specs.Parts.{guest_in, part_count};
@@ -13,9 +13,8 @@ mod slots;
 
 use crate::reading::{first_part_of, message_of};
 use disk_dcdd::TRACKS;
-use event_callbacks::{Callbacks, Completes};
-use guest_board::Board;
 use guest_memory::{PAGE_BYTES, PAGES};
+use guest_parts::BoardParts;
 use i8080_words::{Fault, R};
 use std::alloc::Global;
 use std::marker::Model;
@@ -108,36 +107,26 @@ impl Assembly {
         }
     }
 
-    /// The board that the parts make, with these closures; no page of its memory was written yet.
+    /// What the parts that came say of a board: one can be in that state.
     ///
     /// `NotWhole` if a part is missing, otherwise `Malformed` if the parts fit no board together, otherwise
-    /// `OutOfMemory` if there is no memory for it. Each hands everything back, with every part that came.
-    pub fn into_board<T: Completes, S: Completes, W: Completes>(
-        self,
-        alloc: Global,
-        callbacks: Callbacks<T, S, W>,
-    ) -> Result<Board<T, S, W>, (Assembly, Callbacks<T, S, W>, Fault)>
-        ensures guest { IfOk result (λ board. table.machine_in self ≡ Some board.guest) }
-        ensures versions { IfOk result (λ board. board.versions ≡ zeros PAGES) }
-        ensures back { IfErr result (λ refused. (refused.0 ≡ self) × (refused.1 ≡ callbacks)) }
-        ensures refused { IfErr result (λ refused. refused.2
-            ≡ refused_as (λ parts. is_some (guest_in self.drives parts)) (table.gathered self.slots)) }
+    /// `OutOfMemory` if there is no memory for it.
+    pub fn board_parts(&self, alloc: Global) -> R<BoardParts>
+        ensures guest { IfOk result (λ parts. table.machine_in self.now ≡ Some (guest_of_parts parts)) }
+        ensures stands { IfOk result (λ parts. stands parts ≡ true) }
+        ensures refused { IfErr result (λ fault. fault
+            ≡ refused_as (λ parts. is_some (guest_in self.now.drives parts)) (table.gathered self.now.slots)) }
     {
-        if self.whole().is_err() {
-            return Err((self, callbacks, Fault::NotWhole));
-        }
+        self.whole()?;
         let Some(first) = first_part_of(self.drives, &self.first) else {
-            return Err((self, callbacks, Fault::Malformed));
+            return Err(Fault::Malformed);
         };
         if !building::fit(&first.devices.disk, &self.later) {
-            return Err((self, callbacks, Fault::Malformed));
+            return Err(Fault::Malformed);
         }
         let Ok(parts) = building::parts_of_board(alloc, first, &self.later) else {
-            return Err((self, callbacks, Fault::OutOfMemory));
+            return Err(Fault::OutOfMemory);
         };
-        match Board::rebuild(alloc, parts, callbacks) {
-            Ok(board) => Ok(board),
-            Err((_, callbacks, fault)) => Err((self, callbacks, fault)),
-        }
+        Ok(parts)
     }
 }

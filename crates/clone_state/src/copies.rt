@@ -2,8 +2,8 @@
 ghost use Rattle.std.specs.Prelude.{◌≡◌, ◌<◌, ◌≤◌, ◌-◌, ℕ, Some, IfOk, IfErr, IsOkUnless, OnErr, OnOk, is_some};
 ghost use Rattle.disk_dcdd.specs.declared.controller.TheConstants.{DRIVES};
 ghost use Rattle.event_callbacks.specs.declared.devices.TheConstants.{PORTS};
-ghost use Rattle.guest_board.specs.Guest.{Guest};
-ghost use Rattle.guest_board.specs.Parts.{guest_of_parts};
+ghost use Rattle.guest_parts.specs.Guest.{Guest};
+ghost use Rattle.guest_parts.specs.Parts.{guest_of_parts};
 ghost use Rattle.guest_memory.specs.declared.memory.TheConstants.{PAGES};
 ghost use Rattle.i8080_words.specs.declared.limits.TheConstants.{GREATEST_NUMBER};
 ghost use Rattle.i8080_words.specs.declared.refusal.Fault.TheVariants.{OutOfMemory};

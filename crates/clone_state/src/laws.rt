@@ -1,6 +1,4 @@
 //! What follows from the definitions alone.
-ghost use Rattle.clone_state.specs.DraftedBoard.{BoardsAreCopiedAsGuests};
-ghost use Rattle.clone_state.specs.DraftLaws.{DraftsBegin, DraftsKeepUp};
 ghost use Rattle.clone_state.specs.Gathering.{BeginsOfImage, IsWholeWhenAllCame, StaysOfImage, WholeMakesIt};
 ghost use Rattle.clone_state.specs.Laws.{
   BoardsCanBeRebuilt,
@@ -64,17 +62,4 @@ pub fn assemblies_gather_images()
     ensures stays { StaysOfImage }
     ensures whole { IsWholeWhenAllCame }
     ensures makes { WholeMakesIt }
-{}
-
-/// The image of a guest describes the copy of a board with it: its parts are the board's, and parts make a board exactly
-/// if they make its guest.
-pub fn boards_are_copied_as_guests()
-    ensures { BoardsAreCopiedAsGuests }
-{}
-
-/// A new draft is one of any board, and stays one: pages that are copied are the board's, and a page that was copied at
-/// its present version was not written since. Holds of each step and each input, one after another.
-pub fn drafts_keep_up()
-    ensures begins { DraftsBegin }
-    ensures stays { DraftsKeepUp }
 {}

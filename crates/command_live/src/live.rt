@@ -24,7 +24,7 @@ use std::thread::Threads;
 use std::time::Clock;
 
 /// How a pair is run on threads.
-#[derive(Drop, Debug, PartialEq, Eq)]
+#[derive(Drop)]
 pub struct LiveOrder {
     /// How many turns the primary, and the backup, have at most.
     pub turns: u64,

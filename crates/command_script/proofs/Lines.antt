@@ -9,7 +9,7 @@ use Rattle.ft_world.specs.Running.{Running}
 use Rattle.ft_world.specs.Shows.{IsStatusAt}
 use Rattle.ft_world.specs.Standing.{Course, machine_of}
 use Rattle.ft_world.specs.declared.hosts.NodeStatus.{NodeStatus}
-use Rattle.guest_board.specs.Guest.{Guest}
+use Rattle.guest_parts.specs.Guest.{Guest}
 use Rattle.guest_lockstep.specs.Machine.{Machine}
 use Rattle.i8080_words.specs.declared.refusal.Fault.{Fault}
 use Rattle.pair_check.specs.Disks.{Disk, records_in}

@@ -22,7 +22,8 @@ use Rattle.command_script.specs.declared.order.Order.TheVariants.{Script, Check}
 use Rattle.command_script.proofs.Answering.{says_more}
 use Rattle.script_language.specs.declared.line.Line.{Line}
 use Rattle.ft_world.specs.Running.{Running}
-use Rattle.guest_board.specs.Guest.{Guest, altair, guest_at_boot}
+use Rattle.guest_parts.specs.Guest.{Guest}
+use Rattle.guest_board.specs.Guest.{altair, guest_at_boot}
 use Rattle.guest_board.specs.Inputs.{some_altair}
 use Rattle.guest_lockstep.specs.Machine.{Machine}
 use Rattle.pair_check.specs.Alike.{BeginAlike}

@@ -3,10 +3,12 @@ use Rattle.std.specs.Prelude.{ℕ, List, [], ◌∷◌, ◌++◌, Option, Result
 use Rattle.std.specs.Io.KnownBytes.{Appends}
 use Rattle.disk_dcdd.specs.declared.address.SectorAddress.{SectorAddress}
 use Rattle.ft_world.specs.Words.{answer_of, event_of}
-use Rattle.guest_board.specs.Guest.{Guest, altair}
+use Rattle.guest_parts.specs.Guest.{Guest}
+use Rattle.guest_board.specs.Guest.{altair}
 use Rattle.guest_lockstep.specs.Machine.{Machine}
 use Rattle.i8080_words.specs.declared.refusal.Fault.{Fault}
 use Rattle.pair_check.specs.Alike.{BeginAlike}
+use Rattle.pair_events.specs.Printed.{answer_line}
 use Rattle.pair_events.specs.declared.event.Event.{Event}
 use Rattle.pair_events.specs.declared.reply.Reply.{Reply}
 use Rattle.pair_protocol.specs.Copying.{Copying}
@@ -15,7 +17,6 @@ use Rattle.pair_protocol.specs.Row.{Row}
 use Rattle.pair_protocol.specs.World.{World, opening}
 use Rattle.pair_setup.specs.Booting.{HostsCome}
 use Rattle.pair_setup.specs.Queries.{Finds}
-use Rattle.pair_setup.specs.Replies.{answer_line}
 use Rattle.plain_single.specs.Image.{boot_sectors}
 use Rattle.script_language.specs.Scripts.{boot_write}
 use Rattle.script_language.specs.declared.line.Line.{Line}

@@ -2,7 +2,8 @@
 use Rattle.std.specs.Prelude.{ℕ, Option, Some, List, Result, MatchResult, take}
 use Rattle.std.specs.Io.KnownBytes.{Keeps}
 use Rattle.altair_copies.specs.Copies.{image_copy}
-use Rattle.guest_board.specs.Guest.{Guest, altair}
+use Rattle.guest_parts.specs.Guest.{Guest}
+use Rattle.guest_board.specs.Guest.{altair}
 use Rattle.guest_lockstep.specs.Machine.{Machine}
 use Rattle.pair_protocol.specs.Copying.{Copying}
 use Rattle.pair_protocol.specs.World.{World}

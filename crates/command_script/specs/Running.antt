@@ -3,15 +3,15 @@ use Rattle.std.specs.Prelude.{◌≡◌, ℕ, List, Option, Result}
 use Rattle.ft_world.specs.Applies.{Applies, Shows}
 use Rattle.ft_world.specs.Running.{Running}
 use Rattle.ft_world.specs.Standing.{Course, machine_of}
-use Rattle.guest_board.specs.Guest.{Guest}
+use Rattle.guest_parts.specs.Guest.{Guest}
 use Rattle.guest_lockstep.specs.Machine.{Machine}
 use Rattle.i8080_words.specs.declared.refusal.Fault.{Fault}
 use Rattle.pair_check.specs.Disks.{Disk, records_in}
+use Rattle.pair_events.specs.Printed.{answer_line}
 use Rattle.pair_events.specs.declared.event.Event.{Event}
 use Rattle.pair_events.specs.declared.reply.Reply.{Reply}
 use Rattle.command_script.specs.Answering.{AddsAnswers, Happen}
 use Rattle.pair_protocol.specs.World.{World}
-use Rattle.pair_setup.specs.Replies.{answer_line}
 use Rattle.script_language.specs.declared.line.Line.{Line}
 
 -- an event has happened, and this text answers it

@@ -1,7 +1,7 @@
 //! What is asked of a script.
 
 /// What is asked of a script.
-#[derive(Clone, Copy, Debug, PartialEq, Eq)]
+#[derive(Clone, Copy)]
 pub enum Order {
     /// To print what each line of a script answers.
     Script,

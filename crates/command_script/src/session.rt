@@ -14,7 +14,8 @@ ghost use Rattle.command_ending.specs.Reports.{handed};
 ghost use Rattle.command_script.specs.Running.{HasHappened, HaveAnswers, HaveHappened};
 
 use crate::order::Order;
-use clone_state::{Copies, DraftedBoard};
+use board_image::DraftedBoard;
+use clone_state::Copies;
 use command_ending::{Failure, Report};
 use disk_dcdd::SectorWrite;
 use event_callbacks::{Callbacks, Completes};

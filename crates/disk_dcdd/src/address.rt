@@ -10,7 +10,7 @@ use crate::sector::SECTORS;
 pub const DRIVE_SECTORS: usize = TRACKS as usize * SECTORS as usize;
 
 /// A sector: its drive, its track and its number on the track, each from 0.
-#[derive(Clone, Copy, Debug, PartialEq, Eq)]
+#[derive(Clone, Copy, PartialEq, Eq)]
 pub struct SectorAddress {
     pub drive: u8,
     pub track: u8,

@@ -6,7 +6,7 @@ ghost use Rattle.disk_dcdd.specs.Command as table;
 pub const TRACKS: u8 = 77;
 
 /// One drive: the track of its head, below `TRACKS`, and whether the head is loaded.
-#[derive(Clone, Copy, Debug, PartialEq, Eq)]
+#[derive(Clone, Copy, PartialEq, Eq)]
 pub struct Drive {
     pub track: u8,
     pub loaded: bool,

@@ -21,7 +21,7 @@ pub(crate) const NOTHING: u8 = 0xff;
 const SECTOR_TRUE: u8 = 0xc0;
 
 /// A write of a whole sector: drive, track and sector from 0. Writes are numbered from 1 across all drives.
-#[derive(Clone, Copy, Debug, PartialEq, Eq)]
+#[derive(Clone, Copy, PartialEq, Eq)]
 pub struct SectorWrite {
     pub number: u64,
     pub drive: u8,
@@ -56,7 +56,7 @@ impl SectorWrite {
 }
 
 /// Where the write of this number goes.
-#[derive(Clone, Copy, Debug, Default, PartialEq, Eq)]
+#[derive(Clone, Copy, Default, PartialEq, Eq)]
 pub struct Place {
     pub number: u64,
     pub drive: u8,
@@ -75,7 +75,7 @@ impl Place {
 
 /// The sector under the head: how many of its bytes were read, whether its position was shown and, while it is being
 /// written, how many of its bytes are filled in.
-#[derive(Clone, Copy, Debug, PartialEq, Eq)]
+#[derive(Clone, Copy, PartialEq, Eq)]
 pub struct CurrentSector {
     pub sector: u8,
     pub bytes: [u8; SECTOR_BYTES],

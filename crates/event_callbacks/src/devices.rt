@@ -25,7 +25,7 @@ pub struct Devices {
 }
 
 /// What has been done at the far side of a device, and is not yet shown by the device.
-#[derive(Clone, Copy, Debug, PartialEq, Eq)]
+#[derive(Clone, Copy)]
 pub enum Done {
     /// The terminal of this port has accepted one of the bytes that were sent to it.
     Sent(u8),

@@ -5,7 +5,7 @@ ghost use Rattle.event_callbacks.specs.Operations.{id_of};
 use disk_dcdd::SectorWrite;
 
 /// The name of an operation.
-#[derive(Clone, Copy, Debug, PartialEq, Eq)]
+#[derive(Clone, Copy, PartialEq, Eq)]
 pub enum OpId {
     /// The byte of this number on this port. Each port numbers its bytes from 1.
     Byte(u8, u64),
@@ -14,7 +14,7 @@ pub enum OpId {
 }
 
 /// What the guest asks of a device.
-#[derive(Clone, Copy, Debug, PartialEq, Eq)]
+#[derive(Clone, Copy, PartialEq, Eq)]
 pub enum Operation {
     /// A byte for the terminal of a port.
     Byte { port: u8, number: u64, byte: u8 },

@@ -8,7 +8,7 @@ use Rattle.clone_state.specs.Assembly.{Gathering, after_forgetting, after_part, 
 use Rattle.clone_state.specs.Copies.{CopiesAs, refused_as}
 use Rattle.clone_state.specs.Laws.{IndexesAreWithin}
 use Rattle.clone_state.specs.Parts.{PartMessage, guest_in, message_at}
-use Rattle.guest_board.specs.Guest.{Guest}
+use Rattle.guest_parts.specs.Guest.{Guest}
 use Rattle.guest_lockstep.specs.Machine.{Machine}
 use Rattle.guest_lockstep.specs.declared.reads.Reads.{Reads}
 use Rattle.i8080_words.specs.declared.refusal.Fault.{Fault}

@@ -3,7 +3,7 @@ use Rattle.std.proofs.Common.{◌≡◌, ℕ, true, false, not, ◌||◌, Option
 use Rattle.std.specs.Prelude.{◌<◌, ◌≤◌, ◌^◌, is_none, length, option_map, slice_get}
 use Rattle.std.proofs.lemmas.Option.{slice_get_past}
 use Rattle.std.specs.Global.{Vec}
-use Rattle.guest_board.specs.Parts.{guest_of_parts}
+use Rattle.guest_parts.specs.Parts.{guest_of_parts}
 use Rattle.clone_state.specs.Checkpoint.{checkpoint_of}
 use Rattle.clone_state.specs.Copies.{image_parts}
 use Rattle.clone_state.specs.Laws.{PartsAreCounted}

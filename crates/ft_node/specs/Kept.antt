@@ -1,6 +1,6 @@
 -- The image that a primary keeps, and its parts.
 use Rattle.std.specs.Prelude.{ℕ, List, slice_get, option_map, Option, Some, None}
-use Rattle.guest_board.specs.Parts.{guest_of_parts}
+use Rattle.guest_parts.specs.Parts.{guest_of_parts}
 use Rattle.clone_state.specs.Copies.{image_parts}
 use Rattle.clone_state.specs.Image.{part_bytes}
 use Rattle.clone_state.specs.declared.image.Image.{Image}

@@ -3,7 +3,7 @@ use Rattle.std.specs.Prelude.{◌≡◌, ℕ, ◌-◌, true, false, Option, Some
 use Rattle.clone_state.specs.Assembly.{after_forgetting, gathered, machine_in}
 use Rattle.clone_state.specs.Copies.{refused_as}
 use Rattle.clone_state.specs.Parts.{guest_in}
-use Rattle.guest_board.specs.Guest.{Guest}
+use Rattle.guest_parts.specs.Guest.{Guest}
 use Rattle.guest_lockstep.specs.Machine.{Machine}
 use Rattle.guest_lockstep.specs.Outstanding.{IsFrugal}
 use Rattle.guest_lockstep.specs.declared.input.Input.{Input}

@@ -3,7 +3,7 @@
 use guest_lockstep::{Reads, ReplayEnd, StopReason};
 
 /// How many steps were made, how many the guest has made in all, and why no more were made.
-#[derive(Clone, Copy, Debug, PartialEq, Eq)]
+#[derive(Clone, Copy)]
 pub struct Ran {
     pub steps: u64,
     pub count: u64,
@@ -11,14 +11,14 @@ pub struct Ran {
 }
 
 /// How many moves were made, and why no more were: if nothing is left, the node is alone now.
-#[derive(Clone, Copy, Debug, PartialEq, Eq)]
+#[derive(Clone, Copy, PartialEq, Eq)]
 pub struct Drained {
     pub moves: u64,
     pub why: ReplayEnd,
 }
 
 /// The generation that an alone node may begin, how many drives its machine has, and how its log will carry sectors.
-#[derive(Clone, Copy, Debug, PartialEq, Eq)]
+#[derive(Clone, Copy)]
 pub struct NextGeneration {
     pub generation: u32,
     pub drives: u8,
@@ -26,7 +26,7 @@ pub struct NextGeneration {
 }
 
 /// What a part of an image was to a joining node: a new one, one that came before, or the last one that was missing.
-#[derive(Clone, Copy, Debug, PartialEq, Eq)]
+#[derive(Clone, Copy, PartialEq, Eq)]
 pub enum PartCame {
     New,
     Old,

@@ -1,6 +1,6 @@
 -- What follows from a row at a world that is shown: the world after it is reached by actions, so it is faithful, and
 -- what was settled grows. So an event applies if its row holds and the fields show the world after it.
-use Rattle.guest_board.specs.Guest.{Guest}
+use Rattle.guest_parts.specs.Guest.{Guest}
 use Rattle.std.proofs.Common.{◌≡◌, Bool, Err, List, None, Ok, Some, ap, false, subst, sym, true}
 use Rattle.std.specs.Prelude.{Result}
 use Rattle.std.specs.Result.{IsErrAnd}

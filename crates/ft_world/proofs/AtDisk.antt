@@ -1,6 +1,6 @@
 -- A write arrives at the disk: the record of its sector is the greatest that arrived there, and every other sector
 -- keeps its record. A write that was released is to a sector of the disk, so only the device itself can fail.
-use Rattle.guest_board.specs.Guest.{Guest}
+use Rattle.guest_parts.specs.Guest.{Guest}
 use Rattle.std.proofs.Common.{◌≡◌, [], ◌∷◌, ◌++◌, ◌∙◌, Bool, Err, List, None, Ok, Some, ap, cond, false, inl, inr, refl, subst, sym, true, ℕ}
 use Rattle.std.specs.Option.{option_and_then, option_map_or}
 use Rattle.std.specs.Prelude.{if◌then◌else◌, Option, Result, is_some, nat_lt, slice_get}

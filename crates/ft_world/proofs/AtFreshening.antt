@@ -1,6 +1,6 @@
 -- Pages of an alone node's machine are copied early: the node of the protocol stays as it is, and so does the world. The
 -- reply has how many pages are stale then.
-use Rattle.guest_board.specs.Guest.{Guest}
+use Rattle.guest_parts.specs.Guest.{Guest}
 use Rattle.std.proofs.Common.{◌≡◌, ◌∙◌, ℕ, Err, List, Ok, Result, Some, ap, refl, sym}
 use Rattle.std.specs.Prelude.{slice_get, slice_set}
 use Rattle.guest_lockstep.specs.Machine.{Machine}

@@ -1,6 +1,6 @@
 -- What an event does at one host is what it does at its station: every other host stays, and so does every other node.
 use Rattle.pair_protocol.specs.Copying.{Copying}
-use Rattle.guest_board.specs.Guest.{Guest}
+use Rattle.guest_parts.specs.Guest.{Guest}
 use Rattle.std.proofs.Common.{◌≡◌, ℕ, List, Err, None, Ok, Option, Result, Some, inl, inr, refl, subst, sym}
 use Rattle.std.specs.Prelude.{slice_get, slice_set, if◌then◌else◌}
 use Rattle.arbiter_core.specs.Winners.{winner_of}

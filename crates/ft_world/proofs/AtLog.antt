@@ -1,7 +1,7 @@
 -- A log entry arrives at a backup, and an acknowledgement at a primary. The bytes of a message spell one packet, so
 -- what the node does with that packet is what the row says of the entry, or of the acknowledgement, that was sent; a
 -- message of another kind brings neither, and is unknown.
-use Rattle.guest_board.specs.Guest.{Guest}
+use Rattle.guest_parts.specs.Guest.{Guest}
 use Rattle.std.proofs.Common.{◌≡◌, Bool, Err, List, None, Ok, Some, ap, cond, false, refl, subst, true, ℕ}
 use Rattle.std.specs.Option.{option_and_then}
 use Rattle.std.specs.Prelude.{Option, Result, slice_get, unwrap_or}

@@ -1,6 +1,6 @@
 -- Events at a terminal: a byte is typed there, a byte arrives, or the terminal is told how many keys are covered. The
 -- screen of a port has what the arrivals of the terminal gave, so one more byte leaves both alike.
-use Rattle.guest_board.specs.Guest.{Guest}
+use Rattle.guest_parts.specs.Guest.{Guest}
 use Rattle.std.proofs.Common.{◌≡◌, ◌+◌, ◌<◌, ◌≤◌, [], ◌∷◌, ◌++◌, ◌∙◌, Bool, Err, List, None, Ok, Some, ap, arith, cond, false, inl, inr, length, refl, subst, sym, true, ℕ}
 use Rattle.std.specs.Option.{option_and_then}
 use Rattle.std.specs.Prelude.{Option, Result, nat_le, nat_lt, slice_get, slice_set, ◌==◌}

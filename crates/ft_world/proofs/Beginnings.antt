@@ -1,36 +1,19 @@
 -- How a pair begins. Its two nodes are those of the opening, since both guests are in the state in which the machine
 -- boots and no step is counted there; nothing was sent, typed or asked; and a disk on which nothing is written has its
--- sectors at boot. The Altair of a setup is a machine that a pair may run.
-use Rattle.std.proofs.Common.{◌≡◌, ◌∙◌, [], ◌∷◌, ◌++◌, ◌<◌, ◌^◌, ◌≤◌, Bool, List, None, Option, Some, ap, eqb-true, refl, subst, suc, sym, true, false, zero, ℕ}
-use Rattle.std.specs.Prelude.{IsSome, IsTrue, length, slice_get, ◌==◌, ◌&&◌}
+-- sectors at boot.
+use Rattle.std.proofs.Common.{◌≡◌, ◌∙◌, [], ◌∷◌, ◌++◌, List, None, Option, Some, ap, refl, subst, suc, sym, true, false, zero, ℕ}
+use Rattle.std.specs.Prelude.{IsSome, slice_get}
 use Rattle.std.specs.Option.{option_map_or}
 use Rattle.arbiter_core.specs.declared.arbiter.Asking.{Asking}
-use Rattle.altair_copies.specs.Copies.{IsSetup, TheImageCopies, image_copy}
-use Rattle.disk_dcdd.specs.Address.{has_sector}
-use Rattle.disk_dcdd.specs.Completion.{is_sector_due}
-use Rattle.disk_dcdd.specs.declared.address.SectorAddress.{SectorAddress}
-use Rattle.disk_dcdd.specs.declared.controller.TheConstants.{DRIVES}
-use Rattle.disk_dcdd.specs.declared.sector.TheConstants.{SECTOR_BYTES}
-use Rattle.guest_board.specs.Guest.{Guest, altair, guest_at_boot}
-use Rattle.guest_memory.specs.declared.memory.TheConstants.{BYTES}
-use Rattle.guest_board.specs.Inputs.{some_altair}
-use Rattle.clone_state.specs.DraftedBoard.{BoardsAreCopiedAsGuests, WithDraft}
-use Rattle.clone_state.specs.Copies.{CopiesAs}
+use Rattle.guest_parts.specs.Guest.{Guest}
 use Rattle.guest_lockstep.specs.Machine.{Machine, booted_from}
-use Rattle.guest_lockstep.specs.Outstanding.{ComesAndGoes, completed_by}
-use Rattle.guest_lockstep.specs.declared.input.Input.{Input}
-use Rattle.guest_lockstep.specs.declared.input.Input.TheVariants.{Rx, Sector, Sent, Written}
 use Rattle.guest_lockstep.specs.declared.reads.Reads.{Reads}
-use Rattle.guest_board.specs.declared.setup.Setup.{Setup}
-use Rattle.guest_board.specs.MoveLaws.{guests_issue_and_complete}
-use Rattle.shared_disk.specs.Records.{HasDrives, HasWholeSectors, IsUnwritten, record_at}
+use Rattle.shared_disk.specs.Records.{record_at}
 use Rattle.shared_disk.specs.declared.store.Record.{Record}
 use Rattle.terminals.specs.Screen.{Screen, blank}
 use Rattle.pair_protocol.specs.Change.{AtBoot}
-use Rattle.pair_protocol.specs.Copying.{Copying, IsCopying, Makes}
-use Rattle.pair_protocol.specs.Lawful.{Lawful}
+use Rattle.pair_protocol.specs.Copying.{Copying}
 use Rattle.pair_protocol.specs.Node.{Backup, Node, Primary, Role, first_node}
-use Rattle.altair_laws.specs.OnDisk.{StaysOnDisk}
 use Rattle.pair_protocol.specs.Settled.{is_backup}
 use Rattle.pair_protocol.specs.World.{no_terminal, opening}
 use Rattle.pair_protocol.proofs.Traces.Lists.{same_some}
@@ -41,7 +24,7 @@ use Rattle.ft_world.specs.Applies.{Shows}
 use Rattle.ft_world.specs.Beginning.{MayBegin, beginning, bytes_in}
 use Rattle.ft_node.specs.Seats.{IsNode}
 use Rattle.ft_world.specs.Shows.{Agree, AreHosts, AreMessages, AreTerminals, AreWinners, IsDisk, IsHost, IsOnlyBackup, IsStation, IsTerminal}
-use Rattle.ft_world.specs.Standing.{Course, IsMachine, ReadyIsSelected, machine_of}
+use Rattle.ft_world.specs.Standing.{Course, machine_of}
 use Rattle.ft_world.specs.declared.host.Host.{Host}
 use Rattle.ft_world.specs.declared.host.Host.TheVariants as host
 use Rattle.ft_world.specs.declared.station.Station.{Station}
@@ -136,7 +119,7 @@ blank_screens = record { ports = refl; count = refl; each = each }
     each (suc zero) = record { accepted = refl; typed = refl; told = refl }
     each (suc (suc port)) = tt
 
-some_of : {A : Type 0} (o : Option A) → IsSome o → (a : A) × (o ≡ Some a)
+pub some_of : {A : Type 0} (o : Option A) → IsSome o → (a : A) × (o ≡ Some a)
 some_of (Some a) is = (a, refl)
 some_of None is = absurd (cc)
 
@@ -188,99 +171,4 @@ shows_beginning state copied M C reads records primary backup store disk hosts m
         generation = refl;
         backup = only_backup (machine_of M c) reads;
       };
-    }
-
--- ---- a pair of Altairs
-
--- what completes an operation does so wherever the machine boots
-completed_there : {S : Type 0} (M : Machine S) (c : Course S) (s : S) (input : Input) →
-    completed_by (machine_of M c) s input ≡ completed_by M s input
-completed_there M c s (Rx port byte) = refl
-completed_there M c s (Sent port) = refl
-completed_there M c s (Sector drive sector number bytes) = refl
-completed_there M c s (Written number) = refl
-
--- a machine whose operations come and go has operations that do so wherever it boots
-is_machine : {S : Type 0} (M : Machine S) (c : Course S) (drives : ℕ) → Lawful (machine_of M c) → ComesAndGoes M →
-    ReadyIsSelected M → drives ≤ DRIVES → StaysOnDisk (machine_of M c) drives → IsCopying (machine_of M c) c.copying →
-    Makes (machine_of M c) c.copying → IsMachine (machine_of M c) c.copying drives
-is_machine M c drives lawful operations ready within on_disk copies makes = record {
-  lawful = lawful;
-  operations = record {
-    comes = operations.comes;
-    quiet = operations.quiet;
-    goes = λ s t input name takes is. operations.goes s t input name takes (sym (completed_there M c s input) ∙ is);
-    stays = λ s t input takes is. operations.stays s t input takes (sym (completed_there M c s input) ∙ is);
-  };
-  drives_within = within;
-  on_disk = on_disk;
-  ready = λ s drive sector is. ready s drive sector is;
-  copies = copies;
-  makes = makes;
-}
-
--- an Altair's sector is ready at the selected drive alone
-selected_is : (selected : Option ℕ) (drive : ℕ) (due : Bool) →
-    (option_map_or (λ s. s == drive) selected false && due) ≡ true → selected ≡ Some drive
-selected_is None drive due ready = absurd (cc)
-selected_is (Some k) drive due ready = go (k == drive) refl ready
-  where
-    go : (same : Bool) → (k == drive) ≡ same → (same && due) ≡ true → Some k ≡ Some drive
-    go false is ready = absurd (cc)
-    go true is ready = ap (λ n. Some n) (eqb-true k drive is)
-
-ready_is_selected : ReadyIsSelected some_altair
-ready_is_selected g drive sector ready =
-    selected_is g.devices.disk.selected drive (is_sector_due g.devices.disk sector) ready
-
--- a disk that has these drives, and only whole sectors, has all bytes of each of their sectors
-pub whole_at_boot : (drives : ℕ) (records : List Record) → HasDrives records drives → HasWholeSectors records →
-    (address : SectorAddress) → IsTrue (has_sector drives address) → length (bytes_in records address) ≡ SECTOR_BYTES
-whole_at_boot drives records there whole address has =
-    let r = some_of (record_at records address) (there address has) in
-    ap (λ o. length (option_map_or (λ (u : Record). u.bytes) o [])) r.1 ∙ whole address r.0 r.1
-
--- the fields of a setup have their sizes, and so has each sector of a disk that has its drives
-pub setup_is : (records : List Record) (setup : Setup) → length setup.levels ≡ 3 → length setup.memory.items ≡ BYTES →
-    setup.sense < 2 ^ 8 → HasDrives records setup.drives → HasWholeSectors records → IsSetup setup (bytes_in records)
-setup_is records setup levels memory sense there whole = record {
-  levels = levels;
-  memory = memory;
-  sense = sense;
-  disk = whole_at_boot setup.drives records there whole;
-}
-
--- boards are copied by their images as guests are
-pub boards_as_guests : BoardsAreCopiedAsGuests → (drives : ℕ) → CopiesAs (λ (d : WithDraft). d.board.guest)
-    (λ (d : WithDraft). d.board.guest) drives (image_copy drives).parts (image_copy drives).part_count
-    (image_copy drives).assemble
-unfolding image_copy
-boards_as_guests law drives = law drives
-
--- two guests of one setup may begin over a disk that has its drives, and on which nothing is written; they are copied by
--- their images
-pub altairs_may_begin : {B D : Type 0} (state : B → Guest) (records : D → List Record) (setup : Setup)
-    (primary backup : B) (store : D) →
-    ((setup : Setup) (sectors : SectorAddress → List ℕ) → Lawful (altair setup sectors)) →
-    ((setup : Setup) (sectors : SectorAddress → List ℕ) → StaysOnDisk (altair setup sectors) setup.drives) →
-    TheImageCopies → ((drives : ℕ) → CopiesAs state state drives (image_copy drives).parts (image_copy drives).part_count
-    (image_copy drives).assemble) → IsSetup setup (bytes_in (records store)) → setup.drives ≤ DRIVES →
-    state primary ≡ guest_at_boot setup → state backup ≡ guest_at_boot setup →
-    HasDrives (records store) setup.drives → IsUnwritten (records store) →
-    MayBegin state state some_altair (image_copy setup.drives) records primary backup store
-altairs_may_begin state records setup primary backup store lawful on_disk copies as_guests is within first second there unwritten =
-    let sectors = bytes_in (records store) in
-    let copied = copies setup sectors is in record {
-      drives = setup.drives;
-      machine = subst
-          (λ s. IsMachine (booted_from some_altair s (bytes_in (records store)))
-          (image_copy setup.drives) setup.drives)
-          (sym first)
-          (is_machine some_altair
-          (beginning some_altair (image_copy setup.drives) setup.reads (guest_at_boot setup) (records store)) setup.drives
-          (lawful setup sectors) guests_issue_and_complete ready_is_selected within (on_disk setup sectors) copied.0 copied.1);
-      copies_as = as_guests setup.drives;
-      alike = second ∙ sym first;
-      there = there;
-      unwritten = unwritten;
     }

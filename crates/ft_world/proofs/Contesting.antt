@@ -1,7 +1,7 @@
 -- A node asks the arbiter. If the node itself does not refuse, the world's answer is the arbiter's: the first node to
 -- ask for a generation has won it, a winner that asks again changes nothing, and any other node has lost, and is
 -- halted.
-use Rattle.guest_board.specs.Guest.{Guest}
+use Rattle.guest_parts.specs.Guest.{Guest}
 use Rattle.std.proofs.Common.{◌≡◌, [], ◌∷◌, ◌∙◌, ◌⊎◌, Bool, Err, List, None, Ok, Some, ap, eq-eqb, false, inl, inr, ne_eqb, not, refl, subst, sym, true, ℕ}
 use Rattle.std.specs.Prelude.{if◌then◌else◌, Option, slice_get, slice_set}
 use Rattle.arbiter_core.specs.Winners.{after_asking, winner_of}

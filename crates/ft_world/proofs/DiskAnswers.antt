@@ -1,6 +1,6 @@
 -- The disk's answers arrive at a node: a write is done, or a sector was read. The message brings the same as in the
 -- world that is shown, so the event is refused alike, as the node refuses the input.
-use Rattle.guest_board.specs.Guest.{Guest}
+use Rattle.guest_parts.specs.Guest.{Guest}
 use Rattle.std.proofs.Common.{◌≡◌, ◌∙◌, Err, List, None, Ok, Some, ap, refl, ℕ}
 use Rattle.std.specs.Option.{option_and_then}
 use Rattle.std.specs.Prelude.{Option, slice_get}

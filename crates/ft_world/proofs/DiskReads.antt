@@ -1,6 +1,6 @@
 -- A sector is read at the track of the selected drive's head, by a node that serves. Its machine was run from boot, so
 -- it is a sector of the disk; what is read is what the writes that arrived have left there.
-use Rattle.guest_board.specs.Guest.{Guest}
+use Rattle.guest_parts.specs.Guest.{Guest}
 use Rattle.std.proofs.Common.{◌≡◌, ◌<◌, ◌+◌, ◌≤◌, [], ◌∷◌, ◌∙◌, Bool, Err, List, None, Ok, Some, ap, arith, cond, false, inl, inr, ltb-true, not, refl, subst, sym, true, ℕ}
 use Rattle.std.specs.Option.{option_map}
 use Rattle.std.specs.Prelude.{IsTrue, Option, Result, is_none, length, nat_le, nat_lt, slice_get}

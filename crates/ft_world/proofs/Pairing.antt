@@ -1,6 +1,6 @@
 -- An alone node begins the next generation with a spare host: the row. What refuses it is said of hosts and of nodes alike.
 -- An alone node is of the highest generation, so the new one is higher than all, and its only backup is the host.
-use Rattle.guest_board.specs.Guest.{Guest}
+use Rattle.guest_parts.specs.Guest.{Guest}
 use Rattle.std.proofs.Common.{◌≡◌, ◌∙◌, ◌≤◌, [], ◌∷◌, ℕ, suc, Err, List, None, Ok, Option, Some, ap, append-nil, arith, false, inl, inr, not, refl, subst, sym, true}
 use Rattle.std.proofs.Math.Nat.{le_antisymm}
 use Rattle.std.specs.Prelude.{if◌then◌else◌, length, slice_get, slice_set}

@@ -1,7 +1,7 @@
 -- What a refused event leaves if that is not just what was there: a node that lost is halted, and a disk that failed
 -- has the same records.
 use Rattle.pair_protocol.specs.Copying.{Copying}
-use Rattle.guest_board.specs.Guest.{Guest}
+use Rattle.guest_parts.specs.Guest.{Guest}
 use Rattle.std.proofs.Common.{◌≡◌, ◌∷◌, ◌<◌, ◌∙◌, ◌≢◌, [], Bool, Err, List, None, Ok, Option, Result, Some, ap, false, inl, inr, not, refl, subst, sym, true, ℕ}
 use Rattle.std.specs.Prelude.{IfErr, slice_get, slice_set, ◌⊎◌}
 use Rattle.std.specs.Option.{option_and_then}

@@ -1,7 +1,7 @@
 -- Events happen one after another: one more row after other rows makes rows again, by which what is settled grows, and
 -- the world after them is shown and faithful, as that row says. So a loop over events keeps the run of those that have
 -- happened.
-use Rattle.guest_board.specs.Guest.{Guest}
+use Rattle.guest_parts.specs.Guest.{Guest}
 use Rattle.std.proofs.Common.{◌≡◌, ◌<◌, ◌+◌, ◌∷◌, ◌++◌, ◌∙◌, [], Err, List, Ok, ap, get_or, length, refl, subst, sym}
 use Rattle.std.proofs.Common.{take, ℕ}
 use Rattle.std.specs.Prelude.{IfOk, OnErr, Result, map}

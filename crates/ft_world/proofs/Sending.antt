@@ -1,6 +1,6 @@
 -- A message is sent: one more is appended, here and in the world that is shown. What a node is asked for is refused as
 -- its part says, or is what the node has.
-use Rattle.guest_board.specs.Guest.{Guest}
+use Rattle.guest_parts.specs.Guest.{Guest}
 use Rattle.std.proofs.Common.{◌≡◌, ◌+◌, [], ◌∷◌, ◌++◌, ◌∙◌, Err, List, None, Ok, ap, length, refl, subst, sym, ℕ}
 use Rattle.std.specs.Prelude.{Result, unwrap_or}
 use Rattle.std.specs.Global.{Vec}

@@ -1,7 +1,7 @@
 -- The node that settles is the winner of the highest generation, or its backup if nobody has won; its host has the list
 -- and the count.
 use Rattle.pair_protocol.specs.Copying.{Copying}
-use Rattle.guest_board.specs.Guest.{Guest}
+use Rattle.guest_parts.specs.Guest.{Guest}
 use Rattle.std.proofs.Common.{◌≡◌, ◌∙◌, List, None, Some, ap, inl, inr, refl, subst, sym, ℕ}
 use Rattle.std.specs.Prelude.{Option, slice_get, unwrap_or}
 use Rattle.arbiter_core.specs.Winners.{winner_of}

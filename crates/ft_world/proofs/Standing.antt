@@ -1,6 +1,6 @@
 -- What the calls of the hosts require: a primary's machine was run from boot, so few of its operations are outstanding,
 -- wherever it goes. A machine that begins elsewhere runs alike.
-use Rattle.guest_board.specs.Guest.{Guest}
+use Rattle.guest_parts.specs.Guest.{Guest}
 use Rattle.std.proofs.Common.{◌≡◌, ◌++◌, [], ◌∷◌, List, Some, inl, subst, ℕ}
 use Rattle.std.specs.Prelude.{slice_get}
 use Rattle.guest_lockstep.specs.Machine.{Do, Machine, Move, Runs, Take}

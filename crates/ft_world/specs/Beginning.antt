@@ -1,5 +1,5 @@
 -- How a pair begins: both guests are in the same state, and the disk has each sector of its drives, none written yet.
-use Rattle.guest_board.specs.Guest.{Guest}
+use Rattle.guest_parts.specs.Guest.{Guest}
 use Rattle.std.specs.Prelude.{◌≡◌, ℕ, List, []}
 use Rattle.std.specs.Option.{option_map_or}
 use Rattle.disk_dcdd.specs.declared.address.SectorAddress.{SectorAddress}

@@ -5,7 +5,7 @@ use Rattle.disk_dcdd.specs.declared.controller.TheConstants.{DRIVES}
 use Rattle.guest_lockstep.specs.Machine.{Machine}
 use Rattle.pair_protocol.specs.Copying.{Copying, IsCopying, Makes}
 use Rattle.pair_protocol.specs.Lawful.{Lawful}
-use Rattle.altair_laws.specs.OnDisk.{StaysOnDisk}
+use Rattle.pair_protocol.specs.OnDisk.{StaysOnDisk}
 use Rattle.pair_protocol.specs.World.{World}
 use Rattle.guest_lockstep.specs.Outstanding.{ComesAndGoes}
 

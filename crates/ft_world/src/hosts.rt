@@ -20,7 +20,7 @@ use i8080_words::{Fault, R};
 use pair_events::Role;
 
 /// What a node shows of itself.
-#[derive(Clone, Copy, Debug, PartialEq, Eq)]
+#[derive(Clone, Copy, PartialEq, Eq)]
 pub struct NodeStatus {
     pub role: Role,
     /// From 1.

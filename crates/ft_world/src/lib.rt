@@ -1,7 +1,6 @@
 //! The world of a pair: nodes, messages, terminals, the shared disk and the arbiter, and what each event does to them.
 #![tactic(auto)]
 
-mod altair;
 mod copy_events;
 mod device_events;
 mod devices;
@@ -26,4 +25,5 @@ mod world;
 pub use hosts::NodeStatus;
 pub use laws::{disks_keep_the_greatest_write, terminals_accept_the_longest_list};
 pub use message::Message;
+pub use room::Room;
 pub use world::World;

@@ -7,7 +7,7 @@ use event_callbacks::Operation;
 use shared_disk::SectorRead;
 
 /// A message that was sent. A link loses, repeats and reorders messages, and alters none.
-#[derive(Debug, Drop)]
+#[derive(Drop)]
 pub enum Message {
     /// The packet of a log entry.
     Log(Vec<u8>),

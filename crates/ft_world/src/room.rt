@@ -18,7 +18,7 @@ use std::alloc::Global;
 
 /// All the memory that a pair needs to begin: places for its two nodes, and the primary's log.
 #[derive(Drop)]
-pub(crate) struct Room<B, H> {
+pub struct Room<B, H> {
     hosts: Vec<Host<B, H>>,
     log: LogBuffer,
     ghost empty: { hosts.items ≡ [] },
@@ -27,8 +27,8 @@ pub(crate) struct Room<B, H> {
 }
 
 impl<B: Copies<H> + Drop, H: Drop> Room<B, H> {
-    /// Allocates that memory.
-    pub(crate) fn new(alloc: Global) -> R<Room<B, H>>
+    /// Allocates that memory. `OutOfMemory` if the allocator refuses it.
+    pub fn new(alloc: Global) -> R<Room<B, H>>
         ensures { IsOkUnless result OutOfMemory }
     {
         let hosts = Vec::with_capacity(alloc, 2)?;

@@ -78,8 +78,8 @@ impl<B: Copies<H> + Drop, D: SectorStore, H: Drop> World<B, D, H> {
         Ok(World::begin_in(alloc, room, reads, primary, backup, store))
     }
 
-    // A pair begins, in memory that was allocated for it.
-    pub(crate) fn begin_in(
+    /// A pair begins as by `begin`, in memory that was allocated for it.
+    pub fn begin_in(
         alloc: Global,
         room: Room<B, H>,
         reads: Reads,

@@ -2,7 +2,8 @@
 ghost use Rattle.event_callbacks.specs.declared.devices.TheConstants.{SENT, SECTOR, WRITTEN};
 ghost use Rattle.event_callbacks.specs.Keeping.{Keeps};
 
-use clone_state::{Assembly, Draft, Image, drafts_keep_up};
+use board_image::{Draft, board_of, drafts_keep_up, image_of, image_of_draft};
+use clone_state::{Assembly, Image};
 use event_callbacks::{Callbacks, Completes};
 use guest_board::{Board, Setup};
 use i8080_words::{Fault, R};
@@ -68,7 +69,7 @@ pub fn run<T: Completes + Drop + Copy, S: Completes + Drop + Copy, W: Completes 
         let many = match made {
             Made::Draft(stale) => draft(alloc, &board, stale)?,
             Made::Drafted(stale) => drafted(alloc, &board, stale)?,
-            Made::Image => u64::from(Image::of(alloc, &board, GENERATION)?.parts()),
+            Made::Image => u64::from(image_of(alloc, &board, GENERATION)?.parts()),
             Made::Copy => copy(alloc, &board, Callbacks::of(sent, sector, written))?,
         };
         all = all.wrapping_add(many);
@@ -96,7 +97,7 @@ fn drafted<T: Completes, S: Completes, W: Completes>(
     drafts_keep_up();
     let mut draft = Draft::new(alloc)?;
     draft.freshen(board, PAGES.saturating_sub(stale));
-    match Image::of_draft(alloc, draft, board, GENERATION) {
+    match image_of_draft(alloc, draft, board, GENERATION) {
         Ok(image) => Ok(u64::from(image.parts())),
         Err((_draft, fault)) => Err(fault),
     }
@@ -108,14 +109,14 @@ fn copy<T: Completes + Drop, S: Completes + Drop, W: Completes + Drop>(
     board: &Board<T, S, W>,
     callbacks: Callbacks<T, S, W>,
 ) -> R<u64> {
-    let image = Image::of(alloc, board, GENERATION)?;
+    let image = image_of(alloc, board, GENERATION)?;
     board.disk().stands();
     let mut assembly = Assembly::new(alloc, GENERATION, board.disk().attached())?;
     for index in 0..image.parts() {
         let part = image.part(alloc, index)?;
         assembly.part(&part)?;
     }
-    match assembly.into_board(alloc, callbacks) {
+    match board_of(alloc, assembly, callbacks) {
         Ok(copy) if copy.processor() == board.processor() => Ok(u64::from(image.parts())),
         Ok(_) => Err(Fault::Malformed),
         Err((_assembly, _callbacks, fault)) => Err(fault),

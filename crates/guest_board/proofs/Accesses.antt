@@ -23,7 +23,7 @@ use Rattle.guest_board.specs.declared.ports.Device.TheVariants.{SerialControl, S
 use Rattle.guest_board.specs.Ports.{Wired, after_access, after_out, after_serial_data, after_byte, after_disk_data, write_given, devices_after_in, device_at, with_port, with_disk}
 use Rattle.guest_board.specs.Wiring.{IsThere}
 use Rattle.guest_board.specs.Guest.{with_given}
-use Rattle.guest_board.specs.Board.{AreAwaited}
+use Rattle.guest_parts.specs.Board.{AreAwaited}
 use Rattle.guest_board.proofs.Awaited.{IsAlike, awaited-port, awaited-disk, awaited-sent, awaited-issued, byte_is_new, write_is_new}
 use Rattle.guest_board.proofs.Commands.{selects, shows, reads, commands, keeps, issues_next}
 

@@ -25,8 +25,8 @@ use Rattle.event_callbacks.specs.Completions.{port_of, at_boot}
 use Rattle.event_callbacks.specs.Operations.{Operations, operation_at, with_operation, without_operation, id_of}
 use Rattle.event_callbacks.proofs.OperationMap.{operation_at-empty, operation_at-with, operation_at-with_other, operation_at-without, operation_at-without_other}
 use Rattle.guest_board.specs.Ports.{with_port, with_disk}
-use Rattle.guest_board.specs.Board.{AreAwaited, IsHeld, is_on_its_way}
-use Rattle.guest_board.proofs.Names.{no_operation, other_port, other_byte, other_write, no_write, no_byte, named-with, named-without}
+use Rattle.guest_parts.specs.Board.{AreAwaited, IsHeld, is_on_its_way}
+use Rattle.guest_parts.proofs.Names.{no_operation, other_port, other_byte, other_write, no_write, no_byte, named-with, named-without}
 use Rattle.guest_board.proofs.OnTheirWay.{none_on_its_way, newest_is_new, newest, but_the_newest, oldest_leaves, but_the_oldest}
 
 -- ---- the same port with the same number of bytes on their way, the same controller with the same writes

@@ -8,8 +8,8 @@ use Rattle.event_callbacks.specs.Operations.{nothing_outstanding}
 use Rattle.guest_memory.specs.Pages.{zeros}
 use Rattle.guest_memory.proofs.NewMemory.{only_zeros}
 use Rattle.guest_memory.specs.declared.memory.TheConstants.{PAGES}
-use Rattle.guest_board.specs.Guest.{Guest}
-use Rattle.guest_board.specs.Board.{IsBoard}
+use Rattle.guest_parts.specs.Guest.{Guest}
+use Rattle.guest_parts.specs.Board.{IsBoard}
 use Rattle.guest_board.proofs.Awaited.{awaited-boot}
 
 length-zeros : (n : ℕ) → length (zeros n) ≡ n

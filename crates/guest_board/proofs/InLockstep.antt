@@ -8,7 +8,8 @@ use Rattle.i8080_words.specs.declared.refusal.Fault.TheVariants.{OutOfMemory, Sp
 use Rattle.event_callbacks.specs.declared.operations.OpId.{OpId}
 use Rattle.event_callbacks.specs.declared.operations.Operation.{Operation}
 use Rattle.guest_board.specs.Ports.{memory_byte, port_byte}
-use Rattle.guest_board.specs.Guest.{Guest, step_of, wired, wired_after, line_of, is_idle, is_spent, step_from, next}
+use Rattle.guest_parts.specs.Guest.{Guest}
+use Rattle.guest_board.specs.Guest.{step_of, wired, wired_after, line_of, is_idle, is_spent, step_from, next}
 use Rattle.guest_board.specs.Stepping.{IsAnswer, exec_answer, answer_by, by_name, name_by, guest_after}
 use Rattle.guest_lockstep.specs.Lockstep.{Executes, Steps, StepsUnless, named}
 use Rattle.guest_board.specs.Inputs.{some_altair}

@@ -22,8 +22,9 @@ use Rattle.event_callbacks.specs.declared.operations.Operation.{Operation}
 use Rattle.event_callbacks.specs.declared.operations.Operation.TheVariants as operation
 use Rattle.event_callbacks.specs.Completions.{port_of, is_due, done_of}
 use Rattle.event_callbacks.specs.Operations.{Operations, Outstanding, after_complete, operation_at, without_operation, id_of}
-use Rattle.guest_board.specs.Guest.{Guest, after_rx, due_byte, oldest_byte, with_completed}
-use Rattle.guest_board.specs.Board.{AreAwaited, AreInRange, AreCompleted, IsBoard, is_on_its_way}
+use Rattle.guest_parts.specs.Guest.{Guest}
+use Rattle.guest_board.specs.Guest.{after_rx, due_byte, oldest_byte, with_completed}
+use Rattle.guest_parts.specs.Board.{AreAwaited, AreInRange, AreCompleted, IsBoard, is_on_its_way}
 use Rattle.guest_board.proofs.OnTheirWay.{oldest}
 use Rattle.guest_board.proofs.Awaited.{awaited-port, awaited-disk, awaited-accepted, awaited-written, none_past, any_gone}
 use Rattle.guest_board.proofs.Accesses.{in_range-set}

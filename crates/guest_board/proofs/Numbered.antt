@@ -13,7 +13,7 @@ use Rattle.event_callbacks.specs.Operations.{Operations, operation_at}
 use Rattle.event_callbacks.specs.declared.devices.Devices.{Devices}
 use Rattle.event_callbacks.specs.declared.operations.OpId.TheVariants as id
 use Rattle.i8080_words.specs.declared.refusal.Fault.{Fault}
-use Rattle.guest_board.specs.Board.{AreAwaited}
+use Rattle.guest_parts.specs.Board.{AreAwaited}
 use Rattle.guest_board.specs.Inputs.{unless_due}
 
 number_of_place : (places : List Place) (attached issued number : ℕ) → All (IsIssued attached issued) places

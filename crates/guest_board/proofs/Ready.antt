@@ -8,8 +8,10 @@ use Rattle.event_callbacks.specs.declared.operations.OpId.{OpId}
 use Rattle.event_callbacks.specs.Operations.{Outstanding, after_complete, operation_at, without_operation}
 use Rattle.guest_board.specs.Ports.{Wired}
 use Rattle.guest_board.specs.Wiring.{Versioned}
-use Rattle.guest_board.specs.Guest.{Guest, wired, wired_after}
-use Rattle.guest_board.specs.Board.{IsBoard, IsReadyUntil}
+use Rattle.guest_parts.specs.Guest.{Guest}
+use Rattle.guest_board.specs.Guest.{wired, wired_after}
+use Rattle.guest_parts.specs.Board.{IsBoard}
+use Rattle.guest_board.specs.Board.{IsReadyUntil}
 use Rattle.guest_board.proofs.Accesses.{IsNumberedAs}
 use Rattle.guest_board.proofs.Steps.{IsStep, wired_fits}
 

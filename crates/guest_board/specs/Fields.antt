@@ -4,7 +4,7 @@ use Rattle.i8080_words.specs.declared.registers.Processor.{Processor}
 use Rattle.event_callbacks.specs.Operations.{Outstanding}
 use Rattle.guest_board.specs.Ports.{Wired}
 use Rattle.guest_board.specs.Wiring.{Versioned}
-use Rattle.guest_board.specs.Guest.{Guest}
+use Rattle.guest_parts.specs.Guest.{Guest}
 use Rattle.guest_board.specs.declared.wiring.Wiring.{Wiring}
 
 -- what the guest can see of what its processor is wired to

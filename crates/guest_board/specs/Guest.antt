@@ -26,21 +26,7 @@ use Rattle.guest_board.specs.Ports.{Wired, memory_byte, port_byte, after_access,
 use Rattle.guest_lockstep.specs.declared.input.Input.{Input}
 use Rattle.guest_lockstep.specs.declared.input.Input.TheVariants.{Rx, Sent, Sector, Written}
 use Rattle.guest_board.specs.declared.setup.Setup.{Setup}
-
--- the guest at one moment: the processor, memory, the devices, the outstanding operations, how many bytes were sent to
--- each port, the last completed write of each sector, how many steps were executed, how many keys of each port were
--- taken, the interrupt level of each device, and the sense switches
-pub record Guest : Type 0 where
-  pub processor : Processor
-  pub memory : List ℕ
-  pub devices : Devices
-  pub operations : Operations
-  pub issued : List ℕ
-  pub completed : List ℕ
-  pub count : ℕ
-  pub keys : List ℕ
-  pub levels : List ℕ
-  pub sense : ℕ
+use Rattle.guest_parts.specs.Guest.{Guest}
 
 -- the guest that a setup describes
 abbrev pub guest_at_boot : Setup → Guest

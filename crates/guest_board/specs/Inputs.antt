@@ -11,7 +11,8 @@ use Rattle.disk_dcdd.specs.Address.{index_of}
 use Rattle.disk_dcdd.specs.declared.address.SectorAddress.{SectorAddress}
 use Rattle.event_callbacks.specs.Completions.{at_boot}
 use Rattle.guest_lockstep.specs.Machine.{Machine, refusal_of}
-use Rattle.guest_board.specs.Guest.{Guest, altair, altair_from}
+use Rattle.guest_parts.specs.Guest.{Guest}
+use Rattle.guest_board.specs.Guest.{altair, altair_from}
 use Rattle.guest_lockstep.specs.declared.input.Input.{Input}
 use Rattle.guest_board.specs.declared.setup.Setup.{Setup}
 

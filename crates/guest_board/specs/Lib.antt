@@ -1,4 +1,3 @@
-pub mod Parts
 pub mod Ports
 pub mod Guest
 pub mod Wiring

@@ -11,7 +11,8 @@ use Rattle.event_callbacks.specs.declared.operations.OpId.{OpId}
 use Rattle.event_callbacks.specs.declared.operations.OpId.TheVariants as id
 use Rattle.event_callbacks.specs.declared.operations.Operation.{Operation}
 use Rattle.event_callbacks.proofs.OperationMap.{operation_at-with, operation_at-with_other, operation_at-without, operation_at-without_other}
-use Rattle.guest_board.specs.Guest.{Guest, wired_after, next, with_given, is_spent, is_idle, step_from, take_from, oldest_byte, may_take_key, may_take_sector, after_rx, after_sent, after_sector, after_written}
+use Rattle.guest_parts.specs.Guest.{Guest}
+use Rattle.guest_board.specs.Guest.{wired_after, next, with_given, is_spent, is_idle, step_from, take_from, oldest_byte, may_take_key, may_take_sector, after_rx, after_sent, after_sector, after_written}
 use Rattle.guest_board.specs.Inputs.{some_altair}
 use Rattle.guest_lockstep.specs.Outstanding.{completed_by, ComesAndGoes}
 use Rattle.guest_lockstep.specs.Recorded.{Counts}

@@ -1,5 +1,5 @@
 //! What follows from the definitions alone, for the crates above.
-ghost use Rattle.guest_board.specs.Guest.{Guest};
+ghost use Rattle.guest_parts.specs.Guest.{Guest};
 ghost use Rattle.guest_board.specs.Inputs.{RefusesAlike, some_altair};
 ghost use Rattle.guest_lockstep.specs.Outstanding.{ComesAndGoes};
 ghost use Rattle.guest_lockstep.specs.Recorded.{Counts};

@@ -4,7 +4,6 @@
 mod board;
 mod executed;
 mod laws;
-mod parts;
 mod ports;
 mod setup;
 mod wiring;
@@ -12,5 +11,4 @@ mod wiring;
 pub use board::{Board, BoardMemory};
 pub use executed::Executed;
 pub use laws::{boards_count, boards_issue_and_complete, the_machine_refuses_alike};
-pub use parts::BoardParts;
 pub use setup::Setup;

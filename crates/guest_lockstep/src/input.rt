@@ -3,7 +3,7 @@
 use disk_dcdd::SECTOR_BYTES;
 
 /// What the guest is given, at one instruction count: a byte that was typed, or what a device has done.
-#[derive(Clone, Copy, Debug, PartialEq, Eq)]
+#[derive(Clone, Copy, PartialEq, Eq)]
 pub enum Input {
     /// A byte arrives from the terminal of this port.
     Rx(u8, u8),

@@ -2,7 +2,7 @@
 
 /// How the log of a pair carries a sector that came under the head of its primary (VMware FT, section 4.2,
 /// "Executing Disk Reads on the Backup VM").
-#[derive(Clone, Copy, Debug, PartialEq, Eq)]
+#[derive(Clone, Copy, PartialEq, Eq)]
 pub enum Reads {
     /// With its bytes, so the backup needs no disk.
     Logged,

@@ -1,7 +1,7 @@
 //! Why a guest that repeats a log stopped.
 
 /// Why a guest that repeats a log made no more moves; a move is a step, or an entry of the log.
-#[derive(Clone, Copy, Debug, PartialEq, Eq)]
+#[derive(Clone, Copy, PartialEq, Eq)]
 pub enum ReplayEnd {
     /// It made all the moves that it was asked to make.
     Turns,

@@ -1,7 +1,7 @@
 //! An input with the count at which it is taken.
 
 /// An input without what only the log carries: a sector's bytes and its write's number are those of the machine's disk.
-#[derive(Clone, Copy, Debug, PartialEq, Eq)]
+#[derive(Clone, Copy, PartialEq, Eq)]
 pub enum Bare {
     /// A byte arrives from the terminal of this port.
     Rx(u8, u8),
@@ -14,7 +14,7 @@ pub enum Bare {
 }
 
 /// An input and its count: it is taken after that many steps, and before the next one.
-#[derive(Clone, Copy, Debug, PartialEq, Eq)]
+#[derive(Clone, Copy, PartialEq, Eq)]
 pub struct Timed {
     pub count: u64,
     pub input: Bare,

@@ -3,7 +3,7 @@ ghost use Rattle.std.specs.Prelude.{◌≡◌, ◌*◌};
 ghost use Rattle.i8080_words.specs.Arithmetic.{bit, flags_of, sum_of, difference_of, and_of, or_of, xor_of, incremented, decremented, adjusted, pair_sum, flag_byte, rotated_left, rotated_right, flags_from};
 
 /// The condition flags (8080 User's Manual, chapter 4, "Condition flags").
-#[derive(Clone, Copy, Debug, PartialEq, Eq, Default)]
+#[derive(Clone, Copy, PartialEq, Eq, Default)]
 pub struct Flags {
     /// Sign: bit 7 of the result.
     pub s: bool,

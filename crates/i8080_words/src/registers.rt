@@ -6,7 +6,7 @@ use std::marker::Model;
 
 /// A 16-bit register that holds an address. It is kept in 32 bits: hosts forward a 32-bit store to the next load at
 /// once, but a 16-bit store only after several cycles, and PC is stored and loaded at every step.
-#[derive(Clone, Copy, Debug, PartialEq, Eq, Default)]
+#[derive(Clone, Copy, PartialEq, Eq, Default)]
 pub struct AddressRegister {
     address: u32,
 }
@@ -41,7 +41,7 @@ impl AddressRegister {
 
 /// The registers: the accumulator A, the six that form the pairs BC, DE and HL, the condition flags, the stack pointer
 /// and the program counter. Addresses wrap modulo 65,536.
-#[derive(Clone, Copy, Debug, PartialEq, Eq, Default)]
+#[derive(Clone, Copy, PartialEq, Eq, Default)]
 pub struct Regs {
     pub pc: AddressRegister,
     pub sp: AddressRegister,
@@ -56,7 +56,7 @@ pub struct Regs {
 }
 
 /// Whether an interrupt request is accepted (8080 User's Manual, chapter 4, EI and DI).
-#[derive(Clone, Copy, Debug, PartialEq, Eq)]
+#[derive(Clone, Copy, PartialEq, Eq)]
 pub enum Interrupts {
     /// Requests wait.
     Off,
@@ -67,7 +67,7 @@ pub enum Interrupts {
 }
 
 /// The whole state of the processor; HLT sets `halted`, and an accepted interrupt clears it.
-#[derive(Clone, Copy, Debug, PartialEq, Eq)]
+#[derive(Clone, Copy, PartialEq, Eq)]
 pub struct Processor {
     pub regs: Regs,
     pub interrupts: Interrupts,
@@ -75,7 +75,7 @@ pub struct Processor {
 }
 
 /// What a step did.
-#[derive(Clone, Copy, Debug, PartialEq, Eq)]
+#[derive(Clone, Copy, PartialEq, Eq)]
 pub enum Stepped {
     /// It executed one instruction.
     Ran,

@@ -4,7 +4,7 @@ use i8080_words::Fault;
 use thiserror::Error;
 
 /// What differs.
-#[derive(Clone, Copy, Debug, PartialEq, Eq, Error)]
+#[derive(Clone, Copy, Debug, Error)]
 pub enum Difference {
     #[error("the run failed: {0}")]
     Failed(Fault),

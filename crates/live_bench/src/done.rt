@@ -16,7 +16,7 @@ use std::thread::Threads;
 use std::time::Clock;
 
 /// What a guest has done, alone or in a pair.
-#[derive(Clone, Copy, Debug, PartialEq, Eq)]
+#[derive(Clone, Copy)]
 pub struct Done {
     pub steps: u64,
     /// How many bytes were accepted.

@@ -1,7 +1,7 @@
 //! The programs of the guests, from address 0000.
 
 /// A guest that is run at random.
-#[derive(Clone, Copy, Debug, PartialEq, Eq)]
+#[derive(Clone, Copy, PartialEq, Eq)]
 pub enum Guest {
     /// It prints.
     Prints,

@@ -15,7 +15,7 @@ use shared_disk::{MemoryStore, SharedDisk};
 use std::alloc::Global;
 
 /// How far a pair has come.
-#[derive(Clone, Copy, Debug, PartialEq, Eq)]
+#[derive(Clone, Copy, PartialEq, Eq)]
 pub enum Reached {
     /// All keys are taken, all output is accepted, all writes are done.
     All,

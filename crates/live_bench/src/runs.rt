@@ -16,7 +16,7 @@ use std::time::Clock;
 use thiserror::Error;
 
 /// A run that did not end as one machine does.
-#[derive(Clone, Copy, Debug, PartialEq, Eq, Error)]
+#[derive(Clone, Copy, Debug, Error)]
 #[error("run {number}, seed {seed}: {difference}")]
 pub struct Find {
     seed: u64,

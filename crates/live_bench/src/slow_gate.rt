@@ -7,7 +7,7 @@ use std::thread;
 const SPREAD: u64 = 0x9e37_79b9_7f4a_7c15;
 
 /// Lets everybody pass, but delays one worker, if there is one: at one turn of `every`, for `yields` yields.
-#[derive(Clone, Copy, Debug, PartialEq, Eq)]
+#[derive(Clone, Copy)]
 pub struct SlowGate {
     pub who: Option<Who>,
     pub seed: u64,

@@ -18,7 +18,7 @@ const ACK_TAG: u8 = 0x41;
 const REPORT_TAG: u8 = 0x42;
 
 /// What travels between the two ends of a log's channel. Generations count from 1.
-#[derive(Clone, Copy, Debug, PartialEq, Eq)]
+#[derive(Clone, Copy, PartialEq, Eq)]
 pub enum Packet {
     /// An entry of the log with its index, from the primary.
     Log {

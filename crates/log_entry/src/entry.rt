@@ -7,7 +7,7 @@ use guest_lockstep::{Input, Reads};
 use guest_trace::{Bare, Timed};
 
 /// What one input or one operation appends to the log, with its count (VMware FT, section 2.1, "log entries").
-#[derive(Clone, Copy, Debug, PartialEq, Eq)]
+#[derive(Clone, Copy, PartialEq, Eq)]
 pub enum Entry {
     /// The step that ends at this count gave an operation.
     Mark {

@@ -8,7 +8,7 @@ use Rattle.disk_dcdd.specs.declared.drive.TheConstants.{TRACKS}
 use Rattle.disk_dcdd.specs.declared.sector.SectorWrite.{SectorWrite}
 use Rattle.disk_dcdd.specs.declared.sector.TheConstants.{SECTORS}
 use Rattle.disk_dcdd.specs.declared.controller.TheConstants.{DRIVES}
-use Rattle.guest_board.specs.Guest.{Guest}
+use Rattle.guest_parts.specs.Guest.{Guest}
 use Rattle.guest_lockstep.specs.Machine.{Machine}
 use Rattle.plain_single.specs.SingleState.{SingleState, output_of}
 use Rattle.plain_single.specs.Image.{IsSector, sector_at}

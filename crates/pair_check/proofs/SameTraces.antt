@@ -8,14 +8,15 @@ use Rattle.disk_dcdd.specs.Completion.{is_head_loaded, is_sector_busy, is_sector
 use Rattle.disk_dcdd.specs.declared.address.SectorAddress.{SectorAddress}
 use Rattle.disk_dcdd.specs.declared.sector.TheConstants.{SECTORS}
 use Rattle.event_callbacks.specs.declared.operations.Operation.{Operation}
-use Rattle.guest_board.specs.Guest.{Guest, address_under, after_sector, altair, guest_at_boot, step_from, take_from}
+use Rattle.guest_parts.specs.Guest.{Guest}
+use Rattle.guest_board.specs.Guest.{address_under, after_sector, altair, guest_at_boot, step_from, take_from}
 use Rattle.guest_lockstep.specs.Machine.{Do, Move, Runs, Take}
 use Rattle.guest_lockstep.specs.declared.input.Input.{Input}
 use Rattle.guest_lockstep.specs.declared.input.Input.TheVariants as input
 use Rattle.guest_board.specs.declared.setup.Setup.{Setup}
 use Rattle.guest_trace.specs.Reach.{Own, Owns, Reach, image, image_from, inputs}
 use Rattle.guest_trace.specs.declared.timed.Timed.{Timed}
-use Rattle.altair_laws.specs.OnDisk.{StaysOnDisk}
+use Rattle.pair_protocol.specs.OnDisk.{StaysOnDisk}
 use Rattle.pair_protocol.specs.Lawful.{Reaches}
 use Rattle.pair_protocol.proofs.Traces.Lists.{same_some}
 use Rattle.pair_protocol.proofs.Traces.Moves.{runs-append}

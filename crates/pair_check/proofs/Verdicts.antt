@@ -8,13 +8,14 @@ use Rattle.disk_dcdd.specs.Address.{has_sector}
 use Rattle.disk_dcdd.specs.declared.address.SectorAddress.{SectorAddress}
 use Rattle.disk_dcdd.specs.declared.sector.SectorWrite.{SectorWrite}
 use Rattle.ft_world.proofs.Applying.{shown_is_faithful}
-use Rattle.guest_board.specs.Guest.{Guest, altair}
+use Rattle.guest_parts.specs.Guest.{Guest}
+use Rattle.guest_board.specs.Guest.{altair}
 use Rattle.guest_board.specs.Inputs.{some_altair}
 use Rattle.guest_lockstep.specs.Machine.{Machine, Move}
 use Rattle.guest_board.specs.declared.setup.Setup.{Setup}
 use Rattle.guest_trace.specs.Reach.{Reach, image, output, writes}
 use Rattle.guest_trace.specs.declared.timed.Timed.{Timed}
-use Rattle.altair_laws.specs.OnDisk.{StaysOnDisk}
+use Rattle.pair_protocol.specs.OnDisk.{StaysOnDisk}
 use Rattle.pair_protocol.specs.Copying.{Copying}
 use Rattle.pair_protocol.specs.Faithful.{Faithful}
 use Rattle.pair_protocol.specs.Settled.{Settled}

@@ -4,7 +4,8 @@ use Rattle.altair_copies.specs.Copies.{image_copy}
 use Rattle.disk_dcdd.specs.Address.{has_sector}
 use Rattle.disk_dcdd.specs.declared.address.SectorAddress.{SectorAddress}
 use Rattle.disk_dcdd.specs.declared.sector.SectorWrite.{SectorWrite}
-use Rattle.guest_board.specs.Guest.{Guest, altair, guest_at_boot}
+use Rattle.guest_parts.specs.Guest.{Guest}
+use Rattle.guest_board.specs.Guest.{altair, guest_at_boot}
 use Rattle.guest_board.specs.Inputs.{some_altair}
 use Rattle.guest_lockstep.specs.Machine.{Machine}
 use Rattle.guest_board.specs.declared.setup.Setup.{Setup}

@@ -1,5 +1,5 @@
 -- What is found in the sectors of a world's disk, by the run of a single machine.
-use Rattle.guest_board.specs.Guest.{Guest}
+use Rattle.guest_parts.specs.Guest.{Guest}
 use Rattle.std.specs.Prelude.{◌≡◌, ℕ, ◌<◌, ◌⊎◌, Bool, false, IsTrue, List}
 use Rattle.disk_dcdd.specs.declared.address.SectorAddress.{SectorAddress}
 use Rattle.guest_lockstep.specs.Machine.{Machine}

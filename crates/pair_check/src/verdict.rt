@@ -3,7 +3,7 @@
 use std::fmt;
 
 /// What a comparison found.
-#[derive(Clone, Copy, Debug, PartialEq, Eq)]
+#[derive(Clone, Copy, PartialEq, Eq)]
 pub enum Verdict {
     /// The pair has done the same, up to this count.
     Same { count: u64 },

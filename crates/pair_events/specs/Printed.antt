@@ -1,5 +1,5 @@
 -- What a script prints: a line for each reply, each refusal and each query, as docs/SCRIPTS.md has them.
-use Rattle.std.specs.Prelude.{ℕ, ◌/◌, ◌%◌, true, List, [], ◌∷◌, ◌++◌, codes}
+use Rattle.std.specs.Prelude.{ℕ, ◌/◌, ◌%◌, true, List, [], ◌∷◌, ◌++◌, Result, Ok, Err, codes}
 use Rattle.std.specs.List.{flat_map}
 use Rattle.std.specs.Fmt.{decimal, digit_glyph}
 use Rattle.event_callbacks.specs.declared.operations.OpId.TheVariants as id
@@ -61,6 +61,11 @@ reply_text reply.Stopped = codes "stopped"
 -- A refusal: its number.
 abbrev pub refusal_text : Fault → List ℕ
 refusal_text fault = codes "refused" ␣ decimal (number_of fault)
+
+-- The answer to an event: its reply, or its refusal.
+abbrev pub answer_line : Result Reply Fault → List ℕ
+answer_line (Ok happened) = reply_text happened
+answer_line (Err fault) = refusal_text fault
 
 -- HH: a byte as two hexadecimal digits, in upper case
 abbrev pub byte_text : ℕ → List ℕ

@@ -1,7 +1,8 @@
 //! The replies to events, and what a node is; each prints in the words of a script's output.
 
 ghost use Rattle.std.specs.Prelude.{Some};
-ghost use Rattle.pair_events.specs.Printed.{reply_text, role_text, why_text};
+ghost use Rattle.std.specs.Fmt.{WritesOnOk, decimal};
+ghost use Rattle.pair_events.specs.Printed.{moved_text, reply_text, role_text, why_text, ◌␣◌};
 
 use event_callbacks::OpId;
 use guest_lockstep::{ReplayEnd, StopReason};
@@ -9,7 +10,7 @@ use i8080_words::Fault;
 use std::fmt;
 
 /// What a node is to its pair.
-#[derive(Clone, Copy, Debug, PartialEq, Eq)]
+#[derive(Clone, Copy, PartialEq, Eq)]
 pub enum Role {
     /// It runs, and logs what it does.
     Primary,
@@ -26,7 +27,7 @@ pub enum Role {
 }
 
 /// The answer to an event that was not refused.
-#[derive(Clone, Copy, Debug, PartialEq, Eq)]
+#[derive(Clone, Copy, PartialEq, Eq)]
 pub enum Reply {
     /// The steps executed, the instruction count after them, and why no more were executed.
     Ran {
@@ -91,12 +92,12 @@ impl fmt::Display for Role {
 
     fn fmt<W: fmt::Write>(&self, f: &mut fmt::Formatter<W>) -> fmt::Result {
         match self {
-            Role::Primary => write!(f, "primary"),
-            Role::Backup => write!(f, "backup"),
-            Role::Joining => write!(f, "joining"),
-            Role::Draining => write!(f, "draining"),
-            Role::Alone => write!(f, "alone"),
-            Role::Halted => write!(f, "halted"),
+            Role::Primary => f.write_str("primary"),
+            Role::Backup => f.write_str("backup"),
+            Role::Joining => f.write_str("joining"),
+            Role::Draining => f.write_str("draining"),
+            Role::Alone => f.write_str("alone"),
+            Role::Halted => f.write_str("halted"),
         }
     }
 }
@@ -110,12 +111,12 @@ impl fmt::Display for Why {
 
     fn fmt<W: fmt::Write>(&self, f: &mut fmt::Formatter<W>) -> fmt::Result {
         match self.0 {
-            StopReason::Turns => write!(f, "turns"),
+            StopReason::Turns => f.write_str("turns"),
             StopReason::Operation(OpId::Byte(port, number)) => write!(f, "byte {port} {number}"),
             StopReason::Operation(OpId::Write(number)) => write!(f, "write {number}"),
-            StopReason::Refused(Fault::Idle) => write!(f, "idle"),
-            StopReason::Refused(Fault::Spent) => write!(f, "spent"),
-            StopReason::Refused(_) => write!(f, "memory"),
+            StopReason::Refused(Fault::Idle) => f.write_str("idle"),
+            StopReason::Refused(Fault::Spent) => f.write_str("spent"),
+            StopReason::Refused(_) => f.write_str("memory"),
         }
     }
 }
@@ -128,33 +129,42 @@ impl fmt::Display for Reply {
             Reply::Ran { steps, count, why } => {
                 write!(f, "ran {steps} count {count} {}", Why(*why))
             }
-            Reply::Typed { index } => write!(f, "typed {index}"),
-            Reply::Taken => write!(f, "taken"),
-            Reply::Message { message } => write!(f, "message {message}"),
-            Reply::New => write!(f, "new"),
-            Reply::Old => write!(f, "old"),
-            Reply::Held { held } => write!(f, "held {held}"),
-            Reply::Moved {
-                moves,
-                why: ReplayEnd::Turns | ReplayEnd::Memory,
-            } => write!(f, "moved {moves}"),
-            Reply::Moved {
-                moves,
-                why: ReplayEnd::End,
-            } => write!(f, "moved {moves} end"),
-            Reply::Moved {
-                moves,
-                why: ReplayEnd::Wait,
-            } => write!(f, "moved {moves} wait"),
+            Reply::Typed { index } => write_number(f, "typed", *index),
+            Reply::Taken => f.write_str("taken"),
+            Reply::Message { message } => write_number(f, "message", *message),
+            Reply::New => f.write_str("new"),
+            Reply::Old => f.write_str("old"),
+            Reply::Held { held } => write_number(f, "held", *held),
+            Reply::Moved { moves, why } => write_moved(f, *moves, *why),
             Reply::MovedAlone { moves } => write!(f, "moved {moves} alone"),
-            Reply::Accepted => write!(f, "accepted"),
-            Reply::Dropped => write!(f, "dropped"),
-            Reply::Told { keys } => write!(f, "told {keys}"),
-            Reply::Won => write!(f, "won"),
-            Reply::Generation { generation } => write!(f, "generation {generation}"),
-            Reply::Stale { pages } => write!(f, "stale {pages}"),
-            Reply::Whole => write!(f, "whole"),
-            Reply::Stopped => write!(f, "stopped"),
+            Reply::Accepted => f.write_str("accepted"),
+            Reply::Dropped => f.write_str("dropped"),
+            Reply::Told { keys } => write_number(f, "told", *keys),
+            Reply::Won => f.write_str("won"),
+            Reply::Generation { generation } => {
+                write_number(f, "generation", u64::from(*generation))
+            }
+            Reply::Stale { pages } => write_number(f, "stale", *pages),
+            Reply::Whole => f.write_str("whole"),
+            Reply::Stopped => f.write_str("stopped"),
         }
     }
+}
+
+// Moves that were made, and why no more were.
+fn write_moved<W: fmt::Write>(f: &mut fmt::Formatter<W>, moves: u64, why: ReplayEnd) -> fmt::Result
+    ensures { WritesOnOk W.write_str_gives f.old result (moved_text moves why) f.new }
+{
+    match why {
+        ReplayEnd::Turns | ReplayEnd::Memory => write_number(f, "moved", moves),
+        ReplayEnd::End => write!(f, "moved {moves} end"),
+        ReplayEnd::Wait => write!(f, "moved {moves} wait"),
+    }
+}
+
+// A word and a number.
+fn write_number<W: fmt::Write>(f: &mut fmt::Formatter<W>, word: &str, number: u64) -> fmt::Result
+    ensures { WritesOnOk W.write_str_gives f.old result (word.now ␣ decimal number) f.new }
+{
+    write!(f, "{word} {number}")
 }

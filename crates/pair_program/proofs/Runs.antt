@@ -9,7 +9,7 @@ use Rattle.command_ending.specs.declared.failure.Failure.TheVariants as failure
 use Rattle.command_script.specs.declared.order.Order.{Order}
 use Rattle.command_script.specs.declared.order.Order.TheVariants.{Script, Check}
 use Rattle.command_live.specs.declared.live.LiveOrder.{LiveOrder}
-use Rattle.pair_program.specs.declared.options.Request.TheVariants.{Run, Live, Shell}
+use Rattle.command_line.specs.declared.options.Request.TheVariants.{Run, Live, Shell}
 use Rattle.script_language.specs.declared.line.Line.{Line}
 use Rattle.script_language.specs.declared.setup.ScriptSetup.{ScriptSetup}
 

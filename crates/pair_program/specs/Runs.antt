@@ -8,8 +8,8 @@ use Rattle.command_ending.specs.Statuses.{EndsAs}
 use Rattle.command_ending.specs.declared.failure.Failure.{Failure}
 use Rattle.command_ending.specs.declared.failure.Failure.TheVariants.{CommandLine, BadScript}
 use Rattle.command_ending.specs.declared.failure.Failure.TheVariants.{OutOfMemory, InputOrOutput, Stalled, Differs}
-use Rattle.pair_program.specs.declared.options.Request.{Request}
-use Rattle.pair_program.specs.declared.options.Request.TheVariants.{Run, Live, Shell}
+use Rattle.command_line.specs.declared.options.Request.{Request}
+use Rattle.command_line.specs.declared.options.Request.TheVariants.{Run, Live, Shell}
 use Rattle.script_language.specs.declared.line.Line.{Line}
 use Rattle.script_language.specs.declared.setup.ScriptSetup.{ScriptSetup}
 

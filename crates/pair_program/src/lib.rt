@@ -2,7 +2,6 @@
 //! the lines of a shell, or runs a pair on threads.
 #![tactic(auto)]
 
-mod options;
 mod program;
 
 pub use program::run_program;

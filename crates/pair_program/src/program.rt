@@ -1,8 +1,8 @@
 //! One run of the program.
 ghost use Rattle.pair_program.specs.Runs.{IsEnding, IsRun};
 
-use crate::options::{Request, request_of};
 use command_ending::Failure;
+use command_line::{Request, request_of};
 use command_live::{live_script_of, run_live};
 use command_script::{run_script, script_of};
 use command_shell::run_shell;

@@ -1,5 +1,6 @@
 -- To believe the promise, read these: what the machine is, what a world is, what is settled, what a faithful world has.
 pub mod Lawful
+pub mod OnDisk
 pub mod Waiting
 pub mod Node
 pub mod World

@@ -132,6 +132,16 @@ number_at sides ns b six are = let few =
     few_boxes b in ap (λ (l : List ℕ). get_or l (box_index b) 0) are ∙ get_or-map (λ (z : Side). z.number) sides
     (box_index b) new_side 0 (omega arith)
 
+-- the same at the place that the program has for the box
+pub number_there : (sides : List Side) (ns : List ℕ) (b : Mailbox) (index : ℕ) → index ≡ box_index b → length sides ≡ 6
+    → ns ≡ numbers sides → get_or ns index 0 ≡ (side_at sides (box_index b)).number
+number_there sides ns b index at six are = ap (λ (n : ℕ). get_or ns n 0) at ∙ number_at sides ns b six are
+
+-- it leaves room for one more
+pub few_there : (sides : List Side) (ns : List ℕ) (b : Mailbox) (index : ℕ) → index ≡ box_index b → length sides ≡ 6
+    → ns ≡ numbers sides → (side_at sides (box_index b)).number < 2 ^ 40 → get_or ns index 0 < 2 ^ 40
+few_there sides ns b index at six are few = subst (λ (n : ℕ). n < 2 ^ 40) (sym (number_there sides ns b index at six are)) few
+
 -- a side's number rises
 raised : (sides : List Side) (ns : List ℕ) (b : Mailbox) (met n : ℕ) (last : Option Payload) → ns ≡ numbers sides
     → n ≡ (side_at sides (box_index b)).number + 1

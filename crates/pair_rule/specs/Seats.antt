@@ -22,6 +22,7 @@ use Rattle.pair_rule.specs.declared.view.DiskView.{DiskView}
 use Rattle.pair_rule.specs.declared.view.Knowledge.{Knowledge}
 use Rattle.pair_rule.specs.declared.view.Side.{Side}
 use Rattle.pair_rule.specs.declared.view.Core.{Core}
+use Rattle.pair_rule.specs.declared.view.SeatView.{SeatView}
 use Rattle.pair_rule.specs.Boxes.{Who, Primary, Link, Backup, Terminal, seat_index, box_index}
 use Rattle.pair_rule.specs.Histories.{PlainRun}
 pub use Rattle.pair_rule.specs.Knowledge.{Replies}
@@ -53,6 +54,15 @@ pub record Keeps (s : Who) (me : Mine) (slot : ℕ) (fills empties : List ℕ) :
 -- no swaps yet
 abbrev pub zeros : List ℕ
 zeros = 0 ∷ 0 ∷ 0 ∷ 0 ∷ 0 ∷ 0 ∷ []
+
+-- a seat of a new table: it knows the first core, and has no slot yet
+pub record IsNew (s : Who) (g : ℕ) (table id : TableId) (me : Mine) : Type 0 where
+  pub same : id ≡ table
+  pub view : SeatView
+  pub is : me ≡ (view, [])
+  pub mine : has view s
+  pub single : view.mine ≡ slice_set nobody (seat_index s) true
+  pub core : view.core ≡ first_core g
 
 -- a seat at the start: it holds its slot, and knows what the first core knows
 pub record Opened (s : Who) (g : ℕ) (table id : TableId) (me : Mine) (slot : ℕ) (fills empties : List ℕ) : Type 0 where

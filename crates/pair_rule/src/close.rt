@@ -18,7 +18,7 @@ use crate::seat::SeatState;
 use std::alloc::Global;
 
 /// The words of a table that no thread shares any more.
-#[derive(Debug, Clone, Copy, PartialEq, Eq)]
+#[derive(Clone, Copy)]
 pub struct Closed {
     /// How many entries the primary's list has.
     pub tail: u64,

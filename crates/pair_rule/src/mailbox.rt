@@ -1,6 +1,6 @@
 //! The boxes of the table.
 
-ghost use Rattle.std.specs.Prelude.{◌≡◌, ◌+◌};
+ghost use Rattle.std.specs.Prelude.{◌≡◌, ◌<◌};
 ghost use Rattle.pair_rule.specs.Boxes.{box_index};
 
 /// A box: who fills it, and who empties it.
@@ -18,16 +18,17 @@ pub enum Mailbox {
     Answers,
 }
 
-// The word of a box.
-pub(crate) fn word_of(mailbox: Mailbox) -> usize
-    ensures { result ≡ 5 + box_index mailbox }
+// The place of a box among the six; its word is five further.
+pub(crate) fn index_of(mailbox: Mailbox) -> usize
+    ensures within { result < 6 }
+    ensures exact { result ≡ box_index mailbox }
 {
     match mailbox {
-        Mailbox::Outbox => 5,
-        Mailbox::Inbox => 6,
-        Mailbox::Bytes0 => 7,
-        Mailbox::Bytes1 => 8,
-        Mailbox::Requests => 9,
-        Mailbox::Answers => 10,
+        Mailbox::Outbox => 0,
+        Mailbox::Inbox => 1,
+        Mailbox::Bytes0 => 2,
+        Mailbox::Bytes1 => 3,
+        Mailbox::Requests => 4,
+        Mailbox::Answers => 5,
     }
 }

@@ -3,7 +3,7 @@ ghost use Rattle.std.specs.Prelude.{◌≡◌, true, None, IfOk, IfErr};
 ghost use Rattle.pair_rule.specs.Boxes.{Primary, Link, Backup, Terminal, Disk};
 ghost use Rattle.pair_rule.specs.Rules.{first_core};
 ghost use Rattle.pair_rule.specs.Kinds.{with_slot};
-ghost use Rattle.pair_rule.specs.Seats.{Opened};
+ghost use Rattle.pair_rule.specs.Seats.{IsNew, Opened};
 ghost use Rattle.i8080_words.specs.declared.refusal.Fault.TheVariants.{OutOfMemory};
 
 use crate::backup::BackupSeat;
@@ -31,12 +31,26 @@ pub(crate) struct SeatStates {
     pub(crate) disk: SeatState,
 }
 
-pub(crate) fn open(alloc: Global, generation: u64) -> Result<(Fabric, SeatStates), AllocError>
-    ensures primary { IfOk result (λ t. Opened Primary generation t.0 t.1.primary.seat.table_id t.1.primary.seat.me t.1.primary.slot t.1.primary.fills t.1.primary.empties) }
-    ensures link { IfOk result (λ t. Opened Link generation t.0 t.1.link.seat.table_id t.1.link.seat.me t.1.link.slot t.1.link.fills t.1.link.empties) }
-    ensures backup { IfOk result (λ t. Opened Backup generation t.0 t.1.backup.seat.table_id t.1.backup.seat.me t.1.backup.slot t.1.backup.fills t.1.backup.empties) }
-    ensures terminal { IfOk result (λ t. Opened Terminal generation t.0 t.1.terminal.seat.table_id t.1.terminal.seat.me t.1.terminal.slot t.1.terminal.fills t.1.terminal.empties) }
-    ensures disk { IfOk result (λ t. Opened Disk generation t.0 t.1.disk.seat.table_id t.1.disk.seat.me t.1.disk.slot t.1.disk.fills t.1.disk.empties) }
+// A new table and its seats, before they have slots.
+#[derive(Drop)]
+struct NewSeats {
+    table: PairTable,
+    primary: TableSeat,
+    link: TableSeat,
+    backup: TableSeat,
+    terminal: TableSeat,
+    disk: TableSeat,
+}
+
+// A table for one generation, whose first seat is split into five.
+fn new_seats(alloc: Global, generation: u64) -> Result<NewSeats, AllocError>
+    ensures words { IfOk result (λ t. t.table.shared.table_id.words ≡ 11) }
+    ensures slots { IfOk result (λ t. t.table.shared.table_id.slots ≡ 11) }
+    ensures primary { IfOk result (λ t. IsNew Primary generation t.table.shared.table_id t.primary.table_id t.primary.me) }
+    ensures link { IfOk result (λ t. IsNew Link generation t.table.shared.table_id t.link.table_id t.link.me) }
+    ensures backup { IfOk result (λ t. IsNew Backup generation t.table.shared.table_id t.backup.table_id t.backup.me) }
+    ensures terminal { IfOk result (λ t. IsNew Terminal generation t.table.shared.table_id t.terminal.table_id t.terminal.me) }
+    ensures disk { IfOk result (λ t. IsNew Disk generation t.table.shared.table_id t.disk.table_id t.disk.me) }
 {
     let made: (PairTable, TableSeat) = Table::vacant(
         alloc,
@@ -45,10 +59,36 @@ pub(crate) fn open(alloc: Global, generation: u64) -> Result<(Fabric, SeatStates
         &generation,
     )?;
     let (table, mut primary) = made;
-    let mut link = table.shared.split_seat::<SplitLink>(&mut primary);
-    let mut backup = table.shared.split_seat::<SplitBackup>(&mut primary);
-    let mut terminal = table.shared.split_seat::<SplitTerminal>(&mut primary);
-    let mut disk = table.shared.split_seat::<SplitDisk>(&mut primary);
+    let link = table.shared.split_seat::<SplitLink>(&mut primary);
+    let backup = table.shared.split_seat::<SplitBackup>(&mut primary);
+    let terminal = table.shared.split_seat::<SplitTerminal>(&mut primary);
+    let disk = table.shared.split_seat::<SplitDisk>(&mut primary);
+    Ok(NewSeats {
+        table,
+        primary,
+        link,
+        backup,
+        terminal,
+        disk,
+    })
+}
+
+pub(crate) fn open(alloc: Global, generation: u64) -> Result<(Fabric, SeatStates), AllocError>
+    ensures primary { IfOk result (λ t. Opened Primary generation t.0 t.1.primary.seat.table_id t.1.primary.seat.me t.1.primary.slot t.1.primary.fills t.1.primary.empties) }
+    ensures link { IfOk result (λ t. Opened Link generation t.0 t.1.link.seat.table_id t.1.link.seat.me t.1.link.slot t.1.link.fills t.1.link.empties) }
+    ensures backup { IfOk result (λ t. Opened Backup generation t.0 t.1.backup.seat.table_id t.1.backup.seat.me t.1.backup.slot t.1.backup.fills t.1.backup.empties) }
+    ensures terminal { IfOk result (λ t. Opened Terminal generation t.0 t.1.terminal.seat.table_id t.1.terminal.seat.me t.1.terminal.slot t.1.terminal.fills t.1.terminal.empties) }
+    ensures disk { IfOk result (λ t. Opened Disk generation t.0 t.1.disk.seat.table_id t.1.disk.seat.me t.1.disk.slot t.1.disk.fills t.1.disk.empties) }
+{
+    let seats = new_seats(alloc, generation)?;
+    let NewSeats {
+        table,
+        mut primary,
+        mut link,
+        mut backup,
+        mut terminal,
+        mut disk,
+    } = seats;
     table.shared.load::<FirstSlotPrimary>(&mut primary, 0);
     table.shared.load::<FirstSlotLink>(&mut link, 0);
     table.shared.load::<FirstSlotBackup>(&mut backup, 0);

@@ -6,7 +6,7 @@ use log_entry::Entry;
 use shared_disk::SectorRead;
 
 /// A log packet: the entry of the primary's list at that index.
-#[derive(Clone, Copy, Debug, PartialEq, Eq)]
+#[derive(Clone, Copy, PartialEq, Eq)]
 pub struct Packet {
     pub generation: u64,
     pub index: u64,
@@ -14,28 +14,28 @@ pub struct Packet {
 }
 
 /// A byte of a port, with its number there.
-#[derive(Clone, Copy, Debug, PartialEq, Eq)]
+#[derive(Clone, Copy, PartialEq, Eq)]
 pub struct PortByte {
     pub number: u64,
     pub byte: u8,
 }
 
 /// What a primary asks of the disk.
-#[derive(Clone, Copy, Debug, PartialEq, Eq)]
+#[derive(Clone, Copy)]
 pub enum DiskRequest {
     Write(SectorWrite),
     Read(SectorAddress),
 }
 
 /// What the disk answers.
-#[derive(Clone, Copy, Debug, PartialEq, Eq)]
+#[derive(Clone, Copy, PartialEq, Eq)]
 pub enum DiskAnswer {
     Written(u64),
     Read(SectorRead),
 }
 
 /// What lies in a slot.
-#[derive(Clone, Copy, Debug, PartialEq, Eq)]
+#[derive(Clone, Copy)]
 pub enum Payload {
     Log(Packet),
     Out(Operation),

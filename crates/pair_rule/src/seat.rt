@@ -1,6 +1,6 @@
 //! How a seat steps, whichever it is.
-ghost use Rattle.std.specs.Prelude.{◌≡◌, ◌&&◌, ◌^◌, ◌<◌, ◌≤◌, Some, length, length as len};
-ghost use Rattle.pair_rule.specs.Boxes.{filler, emptier, Primary, Backup, Terminal};
+ghost use Rattle.std.specs.Prelude.{◌≡◌, ◌&&◌, ◌^◌, ◌+◌, ◌<◌, ◌≤◌, Some, length, length as len, slice_index_or};
+ghost use Rattle.pair_rule.specs.Boxes.{filler, emptier, empty_word, full_word, Primary, Backup, Terminal};
 ghost use Rattle.pair_rule.specs.Histories.{AsksNot, MayAppend, MayPut};
 ghost use Rattle.pair_rule.specs.Knowledge.{CanFill, appended, saw, held, primary_asked, backup_asked, accepted_with, byte_arrived, saw_count};
 ghost use Rattle.pair_rule.specs.Kinds.{WasHeld, WasWinner, WasAccepted, filled, emptied, with_core, with_known, counted_at};
@@ -10,7 +10,7 @@ use crate::fabric::{Fabric, TableSeat};
 use crate::kinds::{
     Append, ContestBackup, ContestPrimary, Count, Empty, Fill, Hold, See, SeeCount,
 };
-use crate::mailbox::{Mailbox, word_of};
+use crate::mailbox::{Mailbox, index_of};
 use crate::payload::{Packet, Payload};
 
 /// How often a seat may swap at one box.
@@ -45,13 +45,13 @@ impl SeatState {
         ensures filled { Fills mailbox payload self.old.seat.me.0.core self.new.seat.me.0.core }
     {
         let table = &fabric.table.shared;
-        let word = word_of(mailbox);
-        let number = self.fills[word - 5] + 1;
+        let index = index_of(mailbox);
+        let number = next_number(&self.fills, index);
+        let new = full_word(number, self.slot);
         table.exchange(&mut self.seat, self.slot, Some(payload));
-        let new = number * 32 + 16 + self.slot as u64;
-        let found = table.swap::<Fill>(&mut self.seat, word, new);
+        let found = table.swap::<Fill>(&mut self.seat, 5 + index, new);
         self.slot = (found % 16) as usize;
-        self.fills[word - 5] = number;
+        self.fills[index] = number;
     }
 
     // Takes what lies in a box.
@@ -65,12 +65,12 @@ impl SeatState {
         ensures emptied { Empties mailbox result self.old.seat.me.0.core self.new.seat.me.0.core }
     {
         let table = &fabric.table.shared;
-        let word = word_of(mailbox);
-        let number = self.empties[word - 5] + 1;
-        let new = number * 32 + self.slot as u64;
-        let found = table.swap::<Empty>(&mut self.seat, word, new);
+        let index = index_of(mailbox);
+        let number = next_number(&self.empties, index);
+        let new = empty_word(number, self.slot);
+        let found = table.swap::<Empty>(&mut self.seat, 5 + index, new);
         self.slot = (found % 16) as usize;
-        self.empties[word - 5] = number;
+        self.empties[index] = number;
         if found / 16 % 2 == 1 {
             table.exchange(&mut self.seat, self.slot, None)
         } else {
@@ -199,4 +199,31 @@ fn are_below(numbers: &[u64; 6]) -> bool
     ensures { result ≡ all_below numbers.now }
 {
     numbers.iter().all(|number| *number < MOST_SWAPS)
+}
+
+// The number of the next swap at a box, by those that a seat has made.
+fn next_number(numbers: &[u64; 6], index: usize) -> u64
+    requires within { index < 6 }
+    requires few { slice_index_or numbers.now index 0 < 2 ^ 40 }
+    ensures { result ≡ slice_index_or numbers.now index 0 + 1 }
+{
+    numbers[index] + 1
+}
+
+// The word of a full box: the number of the swap that filled it, and the slot at home in it.
+fn full_word(number: u64, slot: usize) -> u64
+    requires number { number ≤ 2 ^ 40 }
+    requires slot { slot < 11 }
+    ensures { result ≡ full_word number slot }
+{
+    number * 32 + 16 + slot as u64
+}
+
+// The same of an empty box.
+fn empty_word(number: u64, slot: usize) -> u64
+    requires number { number ≤ 2 ^ 40 }
+    requires slot { slot < 11 }
+    ensures { result ≡ empty_word number slot }
+{
+    number * 32 + slot as u64
 }

@@ -1,5 +1,5 @@
 -- A pair begins with two hosts, and each spare host that comes is one more.
-use Rattle.guest_board.specs.Guest.{Guest}
+use Rattle.guest_parts.specs.Guest.{Guest}
 use Rattle.std.proofs.Common.{ℕ, ◌+◌, List}
 use Rattle.disk_dcdd.specs.declared.sector.SectorWrite.{SectorWrite}
 use Rattle.guest_lockstep.specs.Machine.{Machine}

@@ -1,5 +1,5 @@
 -- A pair that has booted as its setup says.
-use Rattle.guest_board.specs.Guest.{Guest}
+use Rattle.guest_parts.specs.Guest.{Guest}
 use Rattle.std.specs.Prelude.{ℕ, ◌+◌, List}
 use Rattle.disk_dcdd.specs.declared.sector.SectorWrite.{SectorWrite}
 use Rattle.guest_lockstep.specs.Machine.{Machine}

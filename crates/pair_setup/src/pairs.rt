@@ -10,10 +10,9 @@ ghost use Rattle.script_language.specs.Scripts.{boot_write};
 ghost use Rattle.shared_disk.specs.Records.{AreOnDrives};
 ghost use Rattle.pair_setup.specs.Booting.{IsBooted};
 
-use clone_state::DraftedBoard;
+use altair_pair::boot_pair;
 use disk_dcdd::SectorWrite;
 use event_callbacks::{Callbacks, Completes};
-use ft_world::World;
 use i8080_words::R;
 use pair_check::Disk;
 use script_language::{BootSector, ScriptSetup};
@@ -21,7 +20,7 @@ use shared_disk::{FailOnce, MemoryStore};
 use std::alloc::Global;
 
 /// A pair of Altairs over the program's disk.
-pub type Altairs<T, S, W> = World<DraftedBoard<T, S, W>, Disk, Callbacks<T, S, W>>;
+pub type Altairs<T, S, W> = altair_pair::Altairs<T, S, W, Disk>;
 
 /// A pair of this setup, with its spare hosts. `Unknown` if a sector is on a drive that is not attached.
 #[tactic(auto, using(crate::proofs::Booting::booted_pair, crate::proofs::Booting::booted_host))]
@@ -46,7 +45,7 @@ pub fn boot<T: Completes + Drop + Copy, S: Completes + Drop + Copy, W: Completes
     let disk = FailOnce::new(records, setup.failing_access);
     let primary = Callbacks::of(sent, sector, written);
     let backup = Callbacks::of(sent, sector, written);
-    let mut world = match World::boot(alloc, &setup.guest, disk, primary, backup) {
+    let mut world = match boot_pair(alloc, &setup.guest, disk, primary, backup) {
         Ok(world) => world,
         Err((_, _, _, fault)) => return Err(fault),
     };

@@ -1,3 +1,2 @@
 pub mod Playing
-pub mod Sectors
 pub mod Tracing

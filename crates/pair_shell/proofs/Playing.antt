@@ -1,6 +1,6 @@
 -- A tape grows by an event and its answer, as the run that it says. Nothing but events lengthens it: a line that only
 -- reads leaves the world over the records as it was.
-use Rattle.guest_board.specs.Guest.{Guest}
+use Rattle.guest_parts.specs.Guest.{Guest}
 use Rattle.std.proofs.Common.{◌≡◌, ◌+◌, ◌∙◌, ◌∷◌, ◌++◌, [], List, Option, Some, None, ap, refl, subst, sym, length}
 use Rattle.std.specs.Prelude.{Result, map}
 use Rattle.std.proofs.lemmas.List.{length-append, map-append}
@@ -20,8 +20,9 @@ use Rattle.ft_world.proofs.Growing.{rows_grow}
 use Rattle.ft_world.proofs.Running.{runs_begin}
 use Rattle.pair_check.specs.Disks.{Disk, over_records, records_in}
 use Rattle.pair_check.proofs.Disks.{records_show, shows_records}
+use Rattle.pair_shell.specs.Playing.{Lengthens, Plays, answers_of, events_of}
 use Rattle.pair_shell.specs.Sessions.{LinePlays}
-use Rattle.shell_book.specs.Tapes.{Lengthens, Plays, answers_of, events_of, played}
+use Rattle.shell_book.specs.Tapes.{played}
 use Rattle.shell_book.specs.declared.tape.Played.{Played}
 
 -- one more row at the end

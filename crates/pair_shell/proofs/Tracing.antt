@@ -2,15 +2,15 @@
 use Rattle.std.proofs.Common.{◌≡◌, ℕ, ◌++◌, ◌∷◌, ◌∙◌, [], List, Option, Some, None, Bool, true, false, ap, refl, subst, sym, append_assoc, append-nil}
 use Rattle.std.specs.Prelude.{IfOk, Result, Ok, Err, if◌then◌else◌, string_bytes}
 use Rattle.i8080_words.specs.declared.refusal.Fault.{Fault}
+use Rattle.pair_events.specs.Printed.{answer_line}
 use Rattle.pair_events.specs.declared.event.Event.{Event}
 use Rattle.pair_events.specs.declared.reply.Reply.{Reply}
 use Rattle.shell_language.specs.declared.line.ShellLine.{ShellLine}
-use Rattle.pair_setup.specs.Replies.{answer_line}
-use Rattle.pair_shell.specs.Openings.{SetsUp, SetsUpSaid}
+use Rattle.shell_opening.specs.Openings.{SetsUp, SetsUpSaid}
 use Rattle.pair_shell.specs.Sessions.{HeedsSaid, IsHeeded, trace_after}
 use Rattle.shell_book.specs.Tapes.{Begins, IsAnswered, Traces, event_lines, played, told_text, trace_text}
 use Rattle.shell_book.specs.Texts.{Adds, AddsSome}
-use Rattle.pair_shell.specs.declared.opening.Opening.{Opening}
+use Rattle.shell_opening.specs.declared.opening.Opening.{Opening}
 use Rattle.shell_book.specs.declared.printing.Printed.{Printed}
 use Rattle.shell_book.specs.declared.tape.Played.{Played}
 

@@ -1,2 +1,2 @@
-pub mod Openings
+pub mod Playing
 pub mod Sessions

@@ -1,7 +1,8 @@
 -- What a line does to a session.
 use Rattle.std.specs.Prelude.{◌≡◌, ℕ, Bool, List, Option, Some, None}
 use Rattle.altair_copies.specs.Copies.{image_copy}
-use Rattle.guest_board.specs.Guest.{Guest, guest_at_boot}
+use Rattle.guest_parts.specs.Guest.{Guest}
+use Rattle.guest_board.specs.Guest.{guest_at_boot}
 use Rattle.guest_board.specs.Inputs.{some_altair}
 use Rattle.guest_lockstep.specs.Machine.{Machine}
 use Rattle.ft_world.specs.Running.{Running}
@@ -9,10 +10,11 @@ use Rattle.pair_check.specs.Disks.{Disk}
 use Rattle.shell_language.specs.declared.line.ShellLine.{ShellLine}
 use Rattle.shell_language.specs.declared.line.ShellLine.TheVariants as shell
 use Rattle.pair_setup.specs.Booting.{IsBooted}
-use Rattle.pair_shell.specs.Openings.{IsSame}
-use Rattle.shell_book.specs.Tapes.{IsAnswered, Plays}
+use Rattle.shell_opening.specs.Openings.{IsSame}
+use Rattle.pair_shell.specs.Playing.{Plays}
+use Rattle.shell_book.specs.Tapes.{IsAnswered}
 use Rattle.pair_shell.specs.declared.notes.Notes.{Notes}
-use Rattle.pair_shell.specs.declared.opening.Opening.{Opening}
+use Rattle.shell_opening.specs.declared.opening.Opening.{Opening}
 use Rattle.shell_book.specs.declared.tape.Played.{Played}
 
 -- a pair has just booted as a session's setup says

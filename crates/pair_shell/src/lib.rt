@@ -2,7 +2,6 @@
 #![tactic(auto)]
 
 mod notes;
-mod opening;
 mod play;
 mod session;
 

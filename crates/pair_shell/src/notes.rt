@@ -1,20 +1,22 @@
 //! The lines after the pair has booted: events and queries.
 ghost use Rattle.std.specs.Prelude.{◌≡◌, [], true, IfOk, string_bytes};
 ghost use Rattle.pair_check.specs.Disks.{over_records};
+ghost use Rattle.pair_shell.specs.Playing.{Plays};
 ghost use Rattle.pair_shell.specs.Sessions.{IsHeeded};
-ghost use Rattle.shell_book.specs.Tapes.{Begins, IsAnswered, Plays, Traces, trace_text};
+ghost use Rattle.shell_book.specs.Tapes.{Begins, IsAnswered, Traces, trace_text};
 
-use crate::opening::Opening;
 use crate::play::{play, play_one};
 use clone_state::Copies;
+use disk_dcdd::SectorAddress;
 use ft_world::{NodeStatus, World};
 use i8080_words::Fault;
-use pair_check::{Disk, compare};
+use pair_check::{Disk, compare, sector_of};
 use pair_events::{Answer, Event, Role};
 use pair_setup::find;
 use shell_book::{Book, Played, Printed};
 use shell_day::{Day, Plan, bytes_to_arrive, entries_to_deliver, entries_to_send};
 use shell_language::{Quoted, ShellLine, Turns};
+use shell_opening::Opening;
 use shell_picture::{print_last, print_picture, print_screen, print_sector, print_sum};
 use std::alloc::{AllocError, Global};
 
@@ -76,8 +78,8 @@ impl Notes {
                 self.happen_all(alloc, world, events, printed)
             }
             ShellLine::Run(turns) => self.run(alloc, opening, world, turns, printed),
-            ShellLine::Screen { port } => print_screen(world, port, printed),
-            ShellLine::Sector(address) => print_sector(world, address, printed),
+            ShellLine::Screen { port } => print_screen(port, world.accepted(port), printed),
+            ShellLine::Sector(address) => show_sector(world, address, printed),
             ShellLine::Last => print_last(&self.book, printed),
             ShellLine::Check => check(alloc, opening, world, printed),
             ShellLine::Picture => print_picture(alloc, &self.book, &self.recent, printed),
@@ -224,6 +226,17 @@ fn backup_of<B: Copies<H> + Drop, H: Drop>(world: &World<B, Disk, H>, hosts: u8)
         }
     }
     None
+}
+
+// What the disk has in a sector.
+fn show_sector<B: Copies<H> + Drop, H: Drop>(
+    world: &mut World<B, Disk, H>,
+    address: SectorAddress,
+    printed: &mut Printed,
+) -> Result<(), AllocError>
+    ensures { over_records world.new ≡ over_records world.old }
+{
+    print_sector(address, sector_of(world, address), printed)
 }
 
 // Compares what is settled with the single machine.

@@ -2,14 +2,15 @@
 ghost use Rattle.std.specs.Prelude.{◌≡◌, ◌<◌, [], ◌∷◌, ◌++◌, IfOk, vec_capacity, vec_len};
 ghost use Rattle.ft_world.specs.Applies.{Happens};
 ghost use Rattle.pair_check.specs.Disks.{records_in};
-ghost use Rattle.shell_book.specs.Tapes.{Lengthens, Plays, played};
+ghost use Rattle.pair_shell.specs.Playing.{Lengthens, Plays};
+ghost use Rattle.shell_book.specs.Tapes.{played};
 
 use clone_state::Copies;
-use ft_world::World;
+use ft_world::{Message, World};
 use i8080_words::R;
 use pair_check::Disk;
 use pair_events::{Event, Reply};
-use shell_book::{Book, Played};
+use shell_book::{Book, Brings, Played};
 use shell_day::Plan;
 use std::alloc::{AllocError, Global};
 
@@ -67,8 +68,28 @@ fn play_next<B: Copies<H> + Drop, H: Drop>(
     tape.reserve(1)?;
     book.make_room()?;
     let answer = make(alloc, world, event, tape);
-    book.note(world, event, answer);
+    book.note(event, answer, sent_by(world, answer));
     Ok(answer)
+}
+
+// What the message brings that an event has sent, if it has sent one.
+fn sent_by<B: Copies<H> + Drop, H: Drop>(
+    world: &World<B, Disk, H>,
+    answer: R<Reply>,
+) -> Option<Brings> {
+    let Ok(Reply::Message { message }) = answer else {
+        return None;
+    };
+    let brings = match world.message(message)? {
+        Message::Log(_) => Brings::Entry,
+        Message::Ack(_) => Brings::Acknowledgement,
+        Message::Part(_) => Brings::Part,
+        Message::Byte { port, .. } => Brings::Byte { port: *port },
+        Message::Write(_) => Brings::Write,
+        Message::Written(number) => Brings::Written { number: *number },
+        Message::Sector(_) => Brings::Sector,
+    };
+    Some(brings)
 }
 
 // An event happens, and comes onto the tape with its answer.

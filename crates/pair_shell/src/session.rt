@@ -3,12 +3,12 @@ ghost use Rattle.event_callbacks.specs.declared.devices.TheConstants.{SENT, SECT
 ghost use Rattle.event_callbacks.specs.Keeping.{Keeps};
 
 use crate::notes::Notes;
-use crate::opening::Opening;
 use event_callbacks::Completes;
 use i8080_words::Fault;
 use pair_setup::{Altairs, boot};
 use shell_book::{Outcome, Printed, refuse};
 use shell_language::{Mistake, ShellLine, read_line};
+use shell_opening::Opening;
 use shell_picture::print_help;
 use std::alloc::{AllocError, Global};
 
@@ -28,7 +28,7 @@ impl<T: Completes + Drop + Copy, S: Completes + Drop + Copy, W: Completes + Drop
 > {
     ghost use Rattle.std.specs.Prelude.{◌≡◌, [], true, IfOk, None, Some, string_bytes};
     ghost use Rattle.shell_language.specs.Saying.{said};
-    ghost use Rattle.pair_shell.specs.Openings.{IsSame, SetsUp, SetsUpSaid};
+    ghost use Rattle.shell_opening.specs.Openings.{IsSame, SetsUp, SetsUpSaid};
     ghost use Rattle.pair_shell.specs.Sessions.{AltairsPlay, HeedsSaid, IsAsBefore, IsHeeded, trace_after};
     ghost use Rattle.shell_book.specs.Tapes.{Begins, trace_text};
     ghost use Rattle.shell_book.specs.declared.outcome.Outcome.TheVariants as outcome;

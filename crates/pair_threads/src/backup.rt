@@ -18,7 +18,7 @@ use std::alloc::Global;
 const STEPS: u64 = 1_000;
 
 // What the next turn does.
-#[derive(Debug, Clone, Copy, PartialEq, Eq)]
+#[derive(Clone, Copy, PartialEq, Eq)]
 enum Chore {
     Take,
     Hold,

@@ -1,7 +1,7 @@
 //! What a primary's worker does, in rotation.
 
 /// What one turn of a primary's worker does.
-#[derive(Debug, Clone, Copy, PartialEq, Eq)]
+#[derive(Clone, Copy, PartialEq, Eq)]
 pub enum Chore {
     /// See how many entries are acknowledged.
     See,

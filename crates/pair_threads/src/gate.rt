@@ -1,7 +1,7 @@
 //! A caller's hold on the turns of the workers.
 
 /// A worker of a generation.
-#[derive(Debug, Clone, Copy, PartialEq, Eq)]
+#[derive(Clone, Copy, PartialEq, Eq)]
 pub enum Who {
     Primary,
     Link,
@@ -19,7 +19,7 @@ pub trait Gate {
 }
 
 /// A gate that holds nobody.
-#[derive(Debug, Clone, Copy, PartialEq, Eq)]
+#[derive(Clone, Copy, PartialEq, Eq)]
 pub struct OpenGate;
 
 impl Gate for OpenGate {

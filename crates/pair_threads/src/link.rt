@@ -11,7 +11,7 @@ use i8080_words::{Fault, R};
 use pair_rule::{Fabric, LinkSeat};
 
 /// What becomes of a packet.
-#[derive(Debug, Clone, Copy, PartialEq, Eq)]
+#[derive(Clone, Copy, PartialEq, Eq)]
 pub enum Fate {
     /// It is brought.
     Pass,

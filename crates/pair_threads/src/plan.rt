@@ -2,7 +2,7 @@
 ghost use Rattle.std.specs.Prelude.{◌≡◌, true, IsSome};
 
 /// When a worker asks to go on alone, and how far its guest moves in one turn.
-#[derive(Debug, Clone, Copy, PartialEq, Eq)]
+#[derive(Clone, Copy)]
 pub(crate) struct Plan {
     /// The turn at which it asks to go on alone, if it does.
     pub(crate) contests_at: Option<u64>,

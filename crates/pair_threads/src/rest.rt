@@ -16,7 +16,7 @@ const SHORTEST_SLEEP: u32 = 5;
 const LONGER_SLEEPS: u32 = 99;
 
 /// What a worker does that found nothing to do.
-#[derive(Debug, Clone, Copy, PartialEq, Eq)]
+#[derive(Clone, Copy, PartialEq, Eq)]
 pub enum Rest {
     /// It lets another thread run that waits for the processor, and looks again.
     Yield,

@@ -17,7 +17,7 @@ pub struct Signals {
 }
 
 /// The signals as a worker found them.
-#[derive(Debug, Clone, Copy, PartialEq, Eq)]
+#[derive(Clone, Copy, PartialEq, Eq)]
 pub struct Told {
     pub primary_ended: bool,
     pub backup_ended: bool,

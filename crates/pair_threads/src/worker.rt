@@ -10,7 +10,7 @@ use pair_rule::Fabric;
 use std::time::Clock;
 
 /// What a turn came to.
-#[derive(Debug, Clone, Copy, PartialEq, Eq)]
+#[derive(Clone, Copy, PartialEq, Eq)]
 pub(crate) enum Turn {
     /// It changed something.
     Moved,

@@ -9,7 +9,8 @@ use Rattle.i8080_words.specs.declared.refusal.Fault.{Fault}
 use Rattle.i8080_words.specs.declared.refusal.Fault.TheVariants as faults
 use Rattle.event_callbacks.specs.declared.operations.Operation.{Operation}
 use Rattle.event_callbacks.specs.declared.operations.Operation.TheVariants.{Byte, Write}
-use Rattle.guest_board.specs.Guest.{Guest, altair, step_from, next, wired_after, is_spent, is_idle}
+use Rattle.guest_parts.specs.Guest.{Guest}
+use Rattle.guest_board.specs.Guest.{altair, step_from, next, wired_after, is_spent, is_idle}
 use Rattle.guest_lockstep.specs.Machine.{Machine, Do}
 use Rattle.guest_board.specs.declared.setup.Setup.{Setup}
 use Rattle.plain_single.specs.SingleState.{SingleState, guest_with, guest_of, step_refusal, RefusesStep, after_step}

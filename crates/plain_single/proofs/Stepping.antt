@@ -13,7 +13,8 @@ use Rattle.serial_2sio.specs.Port as serial
 use Rattle.i8080_words.specs.declared.limits.TheConstants.{GREATEST_NUMBER}
 use Rattle.event_callbacks.specs.Operations.{Operations}
 use Rattle.event_callbacks.specs.declared.devices.Devices.{Devices}
-use Rattle.guest_board.specs.Guest.{Guest, step_of, wired, wired_after, with_given, step_from, next, is_spent, is_idle}
+use Rattle.guest_parts.specs.Guest.{Guest}
+use Rattle.guest_board.specs.Guest.{step_of, wired, wired_after, with_given, step_from, next, is_spent, is_idle}
 use Rattle.guest_board.specs.Ports.{Wired, device_at, devices_after_in, after_byte, after_serial_data, after_disk_data, after_out, after_access}
 use Rattle.plain_single.specs.SingleState.{SingleState, guest_with, guest_of, idle_towards, step_refusal, after_step}
 

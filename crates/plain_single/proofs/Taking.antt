@@ -11,7 +11,8 @@ use Rattle.event_callbacks.specs.Completions.{is_due}
 use Rattle.event_callbacks.specs.Operations.{Operations}
 use Rattle.event_callbacks.specs.declared.devices.Done.TheVariants as done
 use Rattle.guest_board.specs.Guest as guest
-use Rattle.guest_board.specs.Guest.{Guest, altair, take_from}
+use Rattle.guest_parts.specs.Guest.{Guest}
+use Rattle.guest_board.specs.Guest.{altair, take_from}
 use Rattle.guest_lockstep.specs.Machine.{Machine, Move, Take}
 use Rattle.guest_lockstep.specs.declared.input.Input.{Input}
 use Rattle.guest_lockstep.specs.declared.input.Input.TheVariants as input

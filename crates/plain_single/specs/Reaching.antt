@@ -4,7 +4,7 @@ use Rattle.i8080_words.specs.declared.refusal.Fault.{Fault}
 use Rattle.i8080_words.specs.declared.refusal.Fault.TheVariants.{OutOfMemory, Spent, NotDue, SectorBusy, Idle}
 use Rattle.disk_dcdd.specs.declared.address.SectorAddress.{SectorAddress}
 use Rattle.i8080_words.specs.declared.limits.TheConstants.{GREATEST_NUMBER}
-use Rattle.guest_board.specs.Guest.{Guest}
+use Rattle.guest_parts.specs.Guest.{Guest}
 use Rattle.guest_lockstep.specs.Machine.{Machine, Move}
 use Rattle.guest_lockstep.specs.declared.input.Input.{Input}
 use Rattle.plain_single.specs.SingleState.{SingleState, StandsFor}

@@ -10,7 +10,8 @@ use Rattle.disk_dcdd.specs.Completion as completion
 use Rattle.disk_dcdd.specs.declared.address.SectorAddress.{SectorAddress}
 use Rattle.i8080_words.specs.declared.limits.TheConstants.{GREATEST_NUMBER}
 use Rattle.event_callbacks.specs.Operations.{Operations}
-use Rattle.guest_board.specs.Guest.{Guest, step_of, wired_after, is_spent, is_idle}
+use Rattle.guest_parts.specs.Guest.{Guest}
+use Rattle.guest_board.specs.Guest.{step_of, wired_after, is_spent, is_idle}
 use Rattle.plain_single.specs.Behind.{Behind, behind_of, devices_of, after_wired}
 use Rattle.plain_single.specs.Image.{IsSector, sector_at}
 use Rattle.guest_trace.specs.Reach.{bytes_after}

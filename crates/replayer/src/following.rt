@@ -11,7 +11,7 @@ use i8080_words::{GREATEST_NUMBER, R};
 use log_entry::Entry;
 
 /// How far a guest came toward an entry.
-#[derive(Clone, Copy, Debug, PartialEq, Eq)]
+#[derive(Clone, Copy, PartialEq, Eq)]
 pub enum Followed {
     /// It executed this many steps, which gave nothing; the entry's own move is still to be made.
     Stepped(u64),

@@ -17,7 +17,7 @@ use log_channel::Receiver;
 use shared_disk::SectorRead;
 
 /// How many moves were made, and why no more were.
-#[derive(Clone, Copy, Debug, PartialEq, Eq)]
+#[derive(Clone, Copy, PartialEq, Eq)]
 pub struct Replayed {
     pub moves: u64,
     pub why: ReplayEnd,

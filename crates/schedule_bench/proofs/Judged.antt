@@ -1,6 +1,6 @@
 -- A verdict on a pair says whether it is the same as the single machine.
 use Rattle.std.proofs.Common.{ℕ, List, false}
-use Rattle.guest_board.specs.Guest.{Guest}
+use Rattle.guest_parts.specs.Guest.{Guest}
 use Rattle.guest_lockstep.specs.Machine.{Machine}
 use Rattle.pair_check.specs.Comparing.{IsVerdictOn}
 use Rattle.pair_check.specs.declared.verdict.Verdict.TheVariants.{Differs}

@@ -1,6 +1,6 @@
 -- What a comparison says of a pair, and after which replies one is made.
 use Rattle.std.specs.Prelude.{ℕ, Bool, true, false, List}
-use Rattle.guest_board.specs.Guest.{Guest}
+use Rattle.guest_parts.specs.Guest.{Guest}
 use Rattle.guest_lockstep.specs.Machine.{Machine}
 use Rattle.pair_check.specs.Comparing.{IsVerdictOn}
 use Rattle.pair_check.specs.declared.verdict.Verdict.TheVariants.{Same, Differs}

@@ -19,7 +19,7 @@ const OVRN: u8 = 0x20;
 const IRQ: u8 = 0x80;
 
 /// The receiver, and how the status register shows it (MC6850 data sheet, "Receiver Overrun").
-#[derive(Clone, Copy, Debug, PartialEq, Eq)]
+#[derive(Clone, Copy, PartialEq, Eq)]
 pub enum Receiver {
     /// No byte waits to be read: RDRF and OVRN are 0.
     Empty,

@@ -10,7 +10,7 @@ use i8080_words::R;
 use std::marker::Model;
 
 /// What is in a sector of the shared disk: the write that brought it, or number 0 if none did.
-#[derive(Clone, Copy, Debug, PartialEq, Eq)]
+#[derive(Clone, Copy, PartialEq, Eq)]
 pub struct SectorRead {
     pub number: u64,
     pub drive: u8,

@@ -7,7 +7,7 @@ use disk_dcdd::{SECTOR_BYTES, SectorAddress};
 use i8080_words::R;
 
 /// What is in a sector, with the number of the write that brought it: 0 if none did.
-#[derive(Clone, Copy, Debug, PartialEq, Eq)]
+#[derive(Clone, Copy, PartialEq, Eq)]
 pub struct Record {
     pub number: u64,
     pub bytes: [u8; SECTOR_BYTES],

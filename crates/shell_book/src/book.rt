@@ -1,12 +1,9 @@
 //! What the shell has noted of a pair: the messages that were sent, and how far the node that runs the guest has come.
 
-use clone_state::Copies;
 use event_callbacks::{OpId, PORTS};
-use ft_world::{Message, World};
 use guest_lockstep::StopReason;
 use guest_trace::{Bare, Timed};
 use i8080_words::{Fault, R};
-use pair_check::Disk;
 use pair_events::{Event, Reply};
 use std::alloc::{AllocError, Global};
 
@@ -95,27 +92,20 @@ impl Book {
             .unwrap_or(PortNotes::default())
     }
 
-    /// Notes an event and its answer.
-    pub fn note<B: Copies<H> + Drop, H: Drop>(
-        &mut self,
-        world: &World<B, Disk, H>,
-        event: Event,
-        answer: R<Reply>,
-    ) {
+    /// Notes an event, its answer, and what the message brings that it has sent, if any.
+    pub fn note(&mut self, event: Event, answer: R<Reply>, sent: Option<Brings>) {
         let reply = match answer {
             Ok(reply) => reply,
             Err(Fault::NotDue) => return self.note_not_due(event),
             Err(_) => return,
         };
-        if let Reply::Message { message } = reply {
-            if let Some(brings) = brought_by(world, message) {
-                let sender = sender_of(event);
-                let _ = self.letters.push(Letter {
-                    brings,
-                    sender,
-                    has_arrived: false,
-                });
-            }
+        if let Some(brings) = sent {
+            let sender = sender_of(event);
+            let _ = self.letters.push(Letter {
+                brings,
+                sender,
+                has_arrived: false,
+            });
         }
         self.note_reply(event, reply);
         self.note_arrival(event);
@@ -316,21 +306,4 @@ fn delivered_by(event: Event) -> Option<u64> {
         Event::PartComes { message, .. } => Some(message),
         _ => None,
     }
-}
-
-// What a message of the world brings.
-fn brought_by<B: Copies<H> + Drop, H: Drop>(
-    world: &World<B, Disk, H>,
-    message: u64,
-) -> Option<Brings> {
-    let brings = match world.message(message)? {
-        Message::Log(_) => Brings::Entry,
-        Message::Ack(_) => Brings::Acknowledgement,
-        Message::Part(_) => Brings::Part,
-        Message::Byte { port, .. } => Brings::Byte { port: *port },
-        Message::Write(_) => Brings::Write,
-        Message::Written(number) => Brings::Written { number: *number },
-        Message::Sector(_) => Brings::Sector,
-    };
-    Some(brings)
 }

@@ -7,7 +7,7 @@ use shell_language::Mistake;
 use std::alloc::AllocError;
 
 /// What became of a line.
-#[derive(Clone, Copy, Debug, PartialEq, Eq)]
+#[derive(Clone, Copy, PartialEq, Eq)]
 pub enum Outcome {
     /// It is wrong: this was told, and nothing changed.
     Refused,

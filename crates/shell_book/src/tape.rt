@@ -12,8 +12,7 @@ pub struct Played {
 
 impl Played {
     ghost use Rattle.std.specs.Prelude.{◌≡◌};
-    ghost use Rattle.pair_events.specs.Printed.{answer_text};
-    ghost use Rattle.pair_setup.specs.Replies.{answer_line};
+    ghost use Rattle.pair_events.specs.Printed.{answer_line, answer_text};
 
     /// What a line of a script would answer.
     pub fn said(&self) -> Answer<'static>

@@ -19,9 +19,9 @@ pub enum Ending {
 impl fmt::Display for Ending {
     fn fmt<W: fmt::Write>(&self, f: &mut fmt::Formatter<W>) -> fmt::Result {
         match self {
-            Ending::Turns => write!(f, "turns"),
-            Ending::Events => write!(f, "events"),
-            Ending::WaitsForKey => write!(f, "waits for a key"),
+            Ending::Turns => f.write_str("turns"),
+            Ending::Events => f.write_str("events"),
+            Ending::WaitsForKey => f.write_str("waits for a key"),
             Ending::Refused(fault) => write!(f, "refused {}", fault.number()),
         }
     }

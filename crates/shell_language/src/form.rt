@@ -21,9 +21,9 @@ macro_rules! forms {
     };
 }
 
-/// All forms, in the order in which `help` prints them.
+// All forms.
 #[rattlefmt::skip]
-pub static FORMS: [Form; 52] = forms![
+static FORMS: [Form; 52] = forms![
     ["mem", [Address, Bytes], "mem AAAA HH ..", "setup: these bytes from this address on"],
     ["load", [Record], "load :LLAAAATTDD..CC", "setup: a record of Intel HEX; the word load may be left out"],
     ["drives", [Within(1, 4)], "drives N", "setup: 1 to 4 drives"],
@@ -78,7 +78,7 @@ pub static FORMS: [Form; 52] = forms![
     ["help", [], "help", "this list"],
 ];
 
-/// The same as a slice: what reads them by this call is proved without the whole table.
+/// All forms, in the order in which `help` prints them. What reads them by this call is proved without the whole table.
 pub fn forms() -> &'static [Form] {
     &FORMS
 }

@@ -43,13 +43,13 @@ impl Kind {
 impl fmt::Display for Kind {
     fn fmt<W: fmt::Write>(&self, f: &mut fmt::Formatter<W>) -> fmt::Result {
         match self {
-            Kind::Number => write!(f, "a number below 18446744073709551616"),
+            Kind::Number => f.write_str("a number below 18446744073709551616"),
             Kind::Within(least, greatest) => write!(f, "a number from {least} to {greatest}"),
-            Kind::Byte | Kind::Bytes => write!(f, "a byte of two hexadecimal digits"),
-            Kind::Address => write!(f, "an address of four hexadecimal digits"),
+            Kind::Byte | Kind::Bytes => f.write_str("a byte of two hexadecimal digits"),
+            Kind::Address => f.write_str("an address of four hexadecimal digits"),
             Kind::Exactly(text) => write!(f, "the word {text}"),
-            Kind::Text => write!(f, "text in double quotes"),
-            Kind::Record => write!(f, "a record of Intel HEX"),
+            Kind::Text => f.write_str("text in double quotes"),
+            Kind::Record => f.write_str("a record of Intel HEX"),
         }
     }
 }

@@ -12,7 +12,7 @@ mod quoted;
 mod reading;
 mod spelled;
 
-pub use form::{FORMS, Form, forms, mistake_in};
+pub use form::{Form, forms, mistake_in};
 pub use kind::Kind;
 pub use line::{Loss, ShellLine, Turns};
 pub use loading::{Record, RecordMistake, read_record};

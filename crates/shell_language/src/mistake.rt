@@ -93,64 +93,73 @@ impl fmt::Display for Mistake<'_> {
     fn fmt<W: fmt::Write>(&self, f: &mut fmt::Formatter<W>) -> fmt::Result {
         match self {
             Mistake::TooLong => write!(f, "the line has more than {LINE_BYTES} bytes"),
-            Mistake::Unprintable { place, byte } => {
-                write!(
-                    f,
-                    "byte {place} of the line is {byte:02X}: a line is printable ASCII"
-                )
-            }
+            Mistake::Unprintable { place, byte } => write!(
+                f,
+                "byte {place} of the line is {byte:02X}: a line is printable ASCII"
+            ),
             Mistake::Blank => write!(f, "the line has spaces alone; `help` lists the lines"),
             Mistake::Unknown { word } => {
                 write!(f, "{} begins no line; `help` lists the lines", Shown(word))
             }
-            Mistake::Missing { place, form, kind } => {
-                write!(
-                    f,
-                    "word {place} is missing: {kind}; the line is `{}`",
-                    form.usage
-                )
-            }
-            Mistake::Wrong {
-                place,
-                word,
-                form,
-                kind,
-            } => write!(
-                f,
-                "word {place} is {}: {kind} is expected; the line is `{}`",
-                Shown(word),
-                form.usage
-            ),
-            Mistake::OneTooMany { place, word, form } => write!(
-                f,
-                "word {place}, {}, is one too many; the line is `{}`",
-                Shown(word),
-                form.usage
-            ),
-            Mistake::Text { form } => write!(
-                f,
-                "the text ends with a quote, and a backslash is followed by r, n, a quote or a backslash; the line is `{}`",
-                form.usage
-            ),
-            Mistake::Range { form } => write!(
-                f,
-                "memory ends at FFFF, and a sector has 137 bytes; the line is `{}`",
-                form.usage
-            ),
             Mistake::Record(mistake) => write!(f, "{mistake}"),
-            Mistake::Late { line } => write!(
-                f,
-                "{} is a line of the setup, and the pair has booted: it boots at the first event or query",
-                Shown(line)
-            ),
-            Mistake::Detached {
-                drive,
-                track,
-                sector,
-            } => write!(
-                f,
-                "sector {drive} {track} {sector} is on a drive that is not attached; `drives N` comes first"
-            ),
+            Mistake::Late { .. } | Mistake::Detached { .. } => write_setup(f, self),
+            _ => write_misfit(f, self),
         }
     }
+}
+
+// A line of the setup that comes too late or too early.
+fn write_setup<W: fmt::Write>(f: &mut fmt::Formatter<W>, mistake: &Mistake<'_>) -> fmt::Result {
+    match mistake {
+        Mistake::Late { line } => write!(
+            f,
+            "{} is a line of the setup, and the pair has booted: it boots at the first event or query",
+            Shown(line)
+        ),
+        Mistake::Detached {
+            drive,
+            track,
+            sector,
+        } => write!(
+            f,
+            "sector {drive} {track} {sector} is on a drive that is not attached; `drives N` comes first"
+        ),
+        _ => Ok(()),
+    }
+}
+
+// A line that does not fit its form, and how lines of that form are written.
+fn write_misfit<W: fmt::Write>(f: &mut fmt::Formatter<W>, mistake: &Mistake<'_>) -> fmt::Result {
+    let form = match mistake {
+        Mistake::Missing { place, form, kind } => {
+            write!(f, "word {place} is missing: {kind}")?;
+            form
+        }
+        Mistake::Wrong {
+            place,
+            word,
+            form,
+            kind,
+        } => {
+            write!(f, "word {place} is {}: {kind} is expected", Shown(word))?;
+            form
+        }
+        Mistake::OneTooMany { place, word, form } => {
+            write!(f, "word {place}, {}, is one too many", Shown(word))?;
+            form
+        }
+        Mistake::Text { form } => {
+            write!(
+                f,
+                "the text ends with a quote, and a backslash is followed by r, n, a quote or a backslash"
+            )?;
+            form
+        }
+        Mistake::Range { form } => {
+            write!(f, "memory ends at FFFF, and a sector has 137 bytes")?;
+            form
+        }
+        _ => return Ok(()),
+    };
+    write!(f, "; the line is `{}`", form.usage)
 }

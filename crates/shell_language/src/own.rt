@@ -1,6 +1,6 @@
 //! The words that begin lines which scripts do not have.
-ghost use Rattle.std.specs.Prelude.{◌≡◌};
-ghost use Rattle.shell_language.specs.Lines.{own_word_of};
+ghost use Rattle.std.specs.Prelude.{◌≡◌, map};
+ghost use Rattle.shell_language.specs.Lines.{own_among, own_word_of};
 
 /// What a line that scripts do not have is, by its first word.
 #[derive(Clone, Copy)]
@@ -20,37 +20,42 @@ pub enum OwnWord {
     Help,
 }
 
-// The first of these that equals the word.
-macro_rules! first_of {
-    ($word:ident; $($text:literal => $own:ident),*) => {
-        $(
-            if $word == $text.as_slice() {
-                return Some(OwnWord::$own);
-            }
-        )*
-    };
-}
+// Each with its word.
+static OWN_WORDS: [(&[u8], OwnWord); 13] = [
+    (b"load", OwnWord::Load),
+    (b"send", OwnWord::Send),
+    (b"log", OwnWord::Log),
+    (b"arrive", OwnWord::Arrive),
+    (b"type", OwnWord::Type),
+    (b"run", OwnWord::Run),
+    (b"screen", OwnWord::Screen),
+    (b"sector", OwnWord::Sector),
+    (b"last", OwnWord::Last),
+    (b"check", OwnWord::Check),
+    (b"picture", OwnWord::Picture),
+    (b"trace", OwnWord::Trace),
+    (b"help", OwnWord::Help),
+];
 
 impl OwnWord {
     /// What begins with a word.
     pub fn of(word: &[u8]) -> Option<OwnWord>
         ensures { result ≡ own_word_of word.now }
     {
-        first_of!(word;
-            b"load" => Load,
-            b"send" => Send,
-            b"log" => Log,
-            b"arrive" => Arrive,
-            b"type" => Type,
-            b"run" => Run,
-            b"screen" => Screen,
-            b"sector" => Sector,
-            b"last" => Last,
-            b"check" => Check,
-            b"picture" => Picture,
-            b"trace" => Trace,
-            b"help" => Help
-        );
+        OwnWord::among(&OWN_WORDS, word)
+    }
+
+    // The first of these rows that has the word.
+    fn among(rows: &[(&[u8], OwnWord)], word: &[u8]) -> Option<OwnWord>
+        ensures { result ≡ own_among (map (λ row. (row.0.now, row.1)) rows.now) word.now }
+    {
+        let mut rest = rows;
+        'rows: while let [(text, own), after @ ..] = rest {
+            if word == *text {
+                return Some(*own);
+            }
+            rest = after;
+        }
         None
     }
 }

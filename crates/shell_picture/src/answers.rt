@@ -1,30 +1,22 @@
 //! What lines that are not events answer.
-ghost use Rattle.std.specs.Prelude.{◌≡◌, IfOk};
+ghost use Rattle.std.specs.Prelude.{IfOk};
 ghost use Rattle.shell_book.specs.Texts.{AddsSome};
-ghost use Rattle.pair_check.specs.Disks.{over_records};
 
 use crate::screen::{Dump, ScreenLine};
-use clone_state::Copies;
 use disk_dcdd::SectorAddress;
 use event_callbacks::PORTS;
-use ft_world::World;
-use i8080_words::Fault;
-use pair_check::{Disk, sector_of};
+use i8080_words::{Fault, R};
 use pair_events::{Answer, Reply};
+use shared_disk::SectorRead;
 use shell_book::{Book, Played, Printed};
 use shell_language::forms;
 use std::alloc::{AllocError, Global};
 
-/// What a terminal has accepted, as text.
-pub fn print_screen<B: Copies<H> + Drop, H: Drop>(
-    world: &World<B, Disk, H>,
-    port: u8,
-    printed: &mut Printed,
-) -> Result<(), AllocError> {
+/// What the terminal of a port has accepted, as text.
+pub fn print_screen(port: u8, bytes: &[u8], printed: &mut Printed) -> Result<(), AllocError> {
     if usize::from(port) >= PORTS {
         return printed.line(&Answer::Refused(Fault::Unknown));
     }
-    let bytes = world.accepted(port);
     printed.line(&format_args!("screen {port}: {} bytes", bytes.len()))?;
     for line in bytes.split_inclusive(|byte| *byte == b'\n') {
         printed.line(&ScreenLine(line))?;
@@ -32,15 +24,13 @@ pub fn print_screen<B: Copies<H> + Drop, H: Drop>(
     Ok(())
 }
 
-/// What the disk has in a sector.
-pub fn print_sector<B: Copies<H> + Drop, H: Drop>(
-    world: &mut World<B, Disk, H>,
+/// What was read of a sector.
+pub fn print_sector(
     address: SectorAddress,
+    read: R<SectorRead>,
     printed: &mut Printed,
-) -> Result<(), AllocError>
-    ensures { over_records world.new ≡ over_records world.old }
-{
-    let read = match sector_of(world, address) {
+) -> Result<(), AllocError> {
+    let read = match read {
         Ok(read) => read,
         Err(fault) => return printed.line(&Answer::Refused(fault)),
     };

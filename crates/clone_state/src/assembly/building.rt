@@ -2,7 +2,7 @@
 ghost use Rattle.std.specs.Prelude.{◌≡◌, ◌≤◌, ◌++◌, ◌&&◌, IfOk, IsOkUnless, OnOk, length, take, drop, is_some};
 ghost use Rattle.std.specs.List.{list_all};
 ghost use Rattle.i8080_words.specs.declared.refusal.Fault.TheVariants.{OutOfMemory};
-ghost use Rattle.guest_board.specs.Parts.{may_be_completed};
+ghost use Rattle.guest_parts.specs.Parts.{may_be_completed};
 ghost use Rattle.guest_memory.specs.declared.memory.TheConstants.{PAGES};
 ghost use Rattle.clone_state.specs.Checkpoint.{checkpoint_in_parts};
 ghost use Rattle.clone_state.specs.Reading.{first_of, writes_in};
@@ -10,8 +10,8 @@ ghost use Rattle.clone_state.specs.Slots.{HasPages, bytes_at, bytes_in, fit_slot
 
 use crate::reading::{FirstPart, Outstanding, table_of};
 use disk_dcdd::{Controller, SectorWrite};
-use guest_board::BoardParts;
 use guest_memory::{BYTES, PAGE_BYTES, PAGES};
+use guest_parts::BoardParts;
 use i8080_words::R;
 use std::alloc::Global;
 

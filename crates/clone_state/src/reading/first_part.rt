@@ -1,7 +1,7 @@
 //! The first part, as bytes are read for it: all its fields, and whether a board can have them.
 ghost use Rattle.std.specs.Prelude.{◌≡◌, ◌<◌, ◌∷◌, [], IfSome, true, length, option_map};
 ghost use Rattle.event_callbacks.specs.declared.devices.TheConstants.{PORTS};
-ghost use Rattle.guest_board.specs.Parts as board;
+ghost use Rattle.guest_parts.specs.Parts as board;
 ghost use Rattle.clone_state.specs.Codec.{read_all};
 ghost use Rattle.disk_dcdd.specs.declared.sector.TheConstants.{SECTOR_BYTES};
 ghost use Rattle.clone_state.specs.FirstPart as grammar;

@@ -15,7 +15,7 @@ use i8080_words::{Fault, GREATEST_NUMBER, R};
 
 /// What an image says of a controller, as a controller's readers return it. `rebuild` decides whether a controller can
 /// be in that state.
-#[derive(Clone, Copy, Debug, PartialEq, Eq)]
+#[derive(Clone, Copy, PartialEq, Eq)]
 pub struct ControllerImage<'a> {
     pub attached: u8,
     pub selected: Option<u8>,

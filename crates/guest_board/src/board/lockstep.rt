@@ -7,7 +7,7 @@ use guest_lockstep::{Input, Lockstep};
 use i8080_words::R;
 
 impl<T: Completes, S: Completes, W: Completes> Lockstep for Board<T, S, W> {
-    ghost use Rattle.guest_board.specs.Guest.{Guest};
+    ghost use Rattle.guest_parts.specs.Guest.{Guest};
     ghost use Rattle.guest_board.specs.Inputs.{some_altair};
     ghost use Rattle.guest_board.specs.MoveLaws.{guests_count, guests_issue_and_complete};
 

@@ -8,7 +8,7 @@ ghost use Rattle.event_callbacks.specs.Operations.{operation_at, id_of};
 ghost use Rattle.event_callbacks.specs.declared.devices.TheConstants.{PORTS};
 ghost use Rattle.guest_memory.specs.Pages as pages;
 ghost use Rattle.guest_memory.specs.declared.memory.TheConstants.{BYTES, PAGES, PAGE_BYTES};
-ghost use Rattle.guest_board.specs.Board.{IsBoard};
+ghost use Rattle.guest_parts.specs.Board.{IsBoard};
 ghost use Rattle.guest_board.specs.Guest as table;
 ghost use Rattle.guest_board.specs.Inputs as inputs;
 

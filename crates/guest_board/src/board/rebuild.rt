@@ -6,14 +6,14 @@ ghost use Rattle.event_callbacks.specs.declared.operations.OpId.TheVariants as i
 ghost use Rattle.event_callbacks.specs.declared.devices.TheConstants.{PORTS};
 ghost use Rattle.guest_memory.specs.Pages.{zeros};
 ghost use Rattle.guest_memory.specs.declared.memory.TheConstants.{PAGES};
-ghost use Rattle.guest_board.specs.Parts as table;
+ghost use Rattle.guest_parts.specs.Parts as table;
 
 use super::Board;
-use crate::parts::BoardParts;
 use crate::wiring::Wiring;
 use disk_dcdd::SectorWrite;
 use event_callbacks::{Callbacks, Completes, Operation, Pending};
 use guest_memory::Memory;
+use guest_parts::BoardParts;
 use i8080_core::Cpu;
 use i8080_words::{Fault, R};
 use std::alloc::Global;

@@ -1,133 +1,44 @@
-use Rattle.std.proofs.Common.{ap, ◌∙◌, arith, refl, subst, sym, []}
+use Rattle.std.proofs.Common.{◌∙◌, arith, refl}
 use Rattle.pair_rule.specs.Boxes.{Primary, Link, Backup, Terminal, Disk}
-use Rattle.pair_rule.specs.Rules.{has, first_view}
-use Rattle.pair_rule.specs.Kinds.{Mine, without, only}
-use Rattle.pair_rule.proofs.FirstTable.{opens}
-use Rattle.pair_rule.proofs.SplitSeats.{splits}
-use Rattle.pair_rule.proofs.Opening.{cut1, cut2, cut3, cut4, takes_slot_first, opened}
+use Rattle.pair_rule.proofs.Opening.{takes_slot_first, opened}
 use Rattle.pair_rule.proofs.open.open.Goals as goal
 
-pub vacant-requires : goal.vacant-requires
-vacant-requires c = opens c.args.generation
-
-pub split_seat-link-requires : goal.split_seat-link-requires
-split_seat-link-requires c = let m = c.in_ok-made.ensures in let w =
-    m.0 in (m.2, omega arith, splits _ _ _ Link (subst (λ (x : Mine). has x.0 Link) (sym m.4) refl))
-
-pub split_seat-backup-requires : goal.split_seat-backup-requires
-split_seat-backup-requires c = let m = c.in_ok-made.ensures in let w = m.0 in let g = c.args.generation in let a =
-    c.split_seat-link.ensures in
-    let is = a.2 ∙ ap (λ (x : Mine). (without Link x.0, x.1)) m.4 in
-    (a.0 ∙ m.2, omega arith, splits _ _ _ Backup (subst (λ (x : Mine). has x.0 Backup) (sym is) refl))
-
-pub split_seat-terminal-requires : goal.split_seat-terminal-requires
-split_seat-terminal-requires c = let m = c.in_ok-made.ensures in let w = m.0 in let a = c.split_seat-link.ensures in let b =
-    c.split_seat-backup.ensures in
-    let is = b.2 ∙ ap (λ (x : Mine). (without Backup x.0, x.1)) (a.2 ∙ ap (λ (x : Mine). (without Link x.0, x.1)) m.4) in
-    (b.0 ∙ a.0 ∙ m.2, omega arith, splits _ _ _ Terminal (subst (λ (x : Mine). has x.0 Terminal) (sym is) refl))
-
-pub split_seat-disk-requires : goal.split_seat-disk-requires
-split_seat-disk-requires c = let m = c.in_ok-made.ensures in let w = m.0 in let a = c.split_seat-link.ensures in let b =
-    c.split_seat-backup.ensures in let t = c.split_seat-terminal.ensures in
-    let is = t.2 ∙ ap (λ (x : Mine). (without Terminal x.0, x.1))
-    (b.2 ∙ ap (λ (x : Mine). (without Backup x.0, x.1)) (a.2 ∙ ap (λ (x : Mine). (without Link x.0, x.1)) m.4)) in
-    (t.0 ∙ b.0 ∙ a.0 ∙ m.2, omega arith, splits _ _ _ Disk (subst (λ (x : Mine). has x.0 Disk) (sym is) refl))
-
 pub load-requires : goal.load-requires
-load-requires c = let m = c.in_ok-made.ensures in let w = m.0 in let a = c.split_seat-link.ensures in let b =
-    c.split_seat-backup.ensures in let t = c.split_seat-terminal.ensures in let d = c.split_seat-disk.ensures in
-    let is = d.2 ∙ ap (λ (x : Mine). (without Disk x.0, x.1))
-    (t.2 ∙ ap (λ (x : Mine). (without Terminal x.0, x.1))
-    (b.2 ∙ ap (λ (x : Mine). (without Backup x.0, x.1)) (a.2 ∙ ap (λ (x : Mine). (without Link x.0, x.1)) m.4))) in (
-      d.0 ∙ t.0 ∙ b.0 ∙ a.0 ∙ m.2,
-      omega arith,
-      takes_slot_first _ _ _ _
-          (cut4 c.args.generation) Primary 6 c.args.generation is refl refl refl,
-    )
+load-requires c = let n = c.in_ok-seats.ensures in let w = n.words in let s = n.primary in
+    (s.same, omega arith, takes_slot_first _ _ _ _ s.view Primary 6 c.args.generation s.is s.mine s.core refl)
 
 pub load-requires-2 : goal.load-requires-2
-load-requires-2 c = let m = c.in_ok-made.ensures in let w = m.0 in let a = c.split_seat-link.ensures in
-    let is = a.4 ∙ ap (λ (x : Mine). let z : Mine = (only Link x.0, []) in z) m.4 in (
-      a.3 ∙ m.2,
-      omega arith,
-      takes_slot_first _ _ _ _
-          (only Link (first_view c.args.generation)) Link 7 c.args.generation is refl refl refl,
-    )
+load-requires-2 c = let n = c.in_ok-seats.ensures in let w = n.words in let s = n.link in
+    (s.same, omega arith, takes_slot_first _ _ _ _ s.view Link 7 c.args.generation s.is s.mine s.core refl)
 
 pub load-requires-3 : goal.load-requires-3
-load-requires-3 c = let m = c.in_ok-made.ensures in let w = m.0 in let a = c.split_seat-link.ensures in let b =
-    c.split_seat-backup.ensures in
-    let is = b.4 ∙ ap (λ (x : Mine). let z : Mine = (only Backup x.0, []) in z)
-    (a.2 ∙ ap (λ (x : Mine). (without Link x.0, x.1)) m.4) in (
-      b.3 ∙ a.0 ∙ m.2,
-      omega arith,
-      takes_slot_first _ _ _ _
-          (only Backup (cut1 c.args.generation)) Backup 8 c.args.generation is refl refl refl,
-    )
+load-requires-3 c = let n = c.in_ok-seats.ensures in let w = n.words in let s = n.backup in
+    (s.same, omega arith, takes_slot_first _ _ _ _ s.view Backup 8 c.args.generation s.is s.mine s.core refl)
 
 pub load-requires-4 : goal.load-requires-4
-load-requires-4 c = let m = c.in_ok-made.ensures in let w = m.0 in let a = c.split_seat-link.ensures in let b =
-    c.split_seat-backup.ensures in let t = c.split_seat-terminal.ensures in
-    let is = t.4 ∙ ap (λ (x : Mine). let z : Mine = (only Terminal x.0, []) in z)
-    (b.2 ∙ ap (λ (x : Mine). (without Backup x.0, x.1)) (a.2 ∙ ap (λ (x : Mine). (without Link x.0, x.1)) m.4)) in (
-      t.3 ∙ b.0 ∙ a.0 ∙ m.2,
-      omega arith,
-      takes_slot_first _ _ _ _
-          (only Terminal (cut2 c.args.generation)) Terminal 9 c.args.generation is refl refl refl,
-    )
+load-requires-4 c = let n = c.in_ok-seats.ensures in let w = n.words in let s = n.terminal in
+    (s.same, omega arith, takes_slot_first _ _ _ _ s.view Terminal 9 c.args.generation s.is s.mine s.core refl)
 
 pub load-requires-5 : goal.load-requires-5
-load-requires-5 c = let m = c.in_ok-made.ensures in let w = m.0 in let a = c.split_seat-link.ensures in let b =
-    c.split_seat-backup.ensures in let t = c.split_seat-terminal.ensures in let d = c.split_seat-disk.ensures in
-    let is = d.4 ∙ ap (λ (x : Mine). let z : Mine = (only Disk x.0, []) in z)
-    (t.2 ∙ ap (λ (x : Mine). (without Terminal x.0, x.1))
-    (b.2 ∙ ap (λ (x : Mine). (without Backup x.0, x.1)) (a.2 ∙ ap (λ (x : Mine). (without Link x.0, x.1)) m.4))) in (
-      d.3 ∙ t.0 ∙ b.0 ∙ a.0 ∙ m.2,
-      omega arith,
-      takes_slot_first _ _ _ _
-          (only Disk (cut3 c.args.generation)) Disk 10 c.args.generation is refl refl refl,
-    )
+load-requires-5 c = let n = c.in_ok-seats.ensures in let w = n.words in let s = n.disk in
+    (s.same, omega arith, takes_slot_first _ _ _ _ s.view Disk 10 c.args.generation s.is s.mine s.core refl)
 
 pub returns-clause-primary : goal.returns-clause-primary
-returns-clause-primary c = let m = c.in_ok-made.ensures in let a = c.split_seat-link.ensures in let b =
-    c.split_seat-backup.ensures in let t = c.split_seat-terminal.ensures in let d = c.split_seat-disk.ensures in let g =
-    c.args.generation in let l = c.load.ensures in
-    opened Primary g _ _ _ _ 0 6 (cut4 g) (l.0 ∙ d.0 ∙ t.0 ∙ b.0 ∙ a.0 ∙ m.2)
-    (d.2 ∙ ap (λ (x : Mine). (without Disk x.0, x.1))
-    (t.2 ∙ ap (λ (x : Mine). (without Terminal x.0, x.1))
-    (b.2 ∙ ap (λ (x : Mine). (without Backup x.0, x.1)) (a.2 ∙ ap (λ (x : Mine). (without Link x.0, x.1)) m.4)))) l.2 refl
-    refl refl refl (omega arith)
+returns-clause-primary c = let s = c.in_ok-seats.ensures.primary in let l = c.load.ensures in
+    opened Primary c.args.generation _ _ _ _ 0 6 s.view (l.0 ∙ s.same) s.is l.2 s.mine s.core s.single refl (omega arith)
 
 pub returns-clause-link : goal.returns-clause-link
-returns-clause-link c = let m = c.in_ok-made.ensures in let a = c.split_seat-link.ensures in let b =
-    c.split_seat-backup.ensures in let t = c.split_seat-terminal.ensures in let d = c.split_seat-disk.ensures in let g =
-    c.args.generation in let l = c.load-2.ensures in
-    opened Link g _ _ _ _ 0 7 (only Link (first_view g)) (l.0 ∙ a.3 ∙ m.2)
-    (a.4 ∙ ap (λ (x : Mine). let z : Mine = (only Link x.0, []) in z) (m.4)) l.2 refl refl refl refl (omega arith)
+returns-clause-link c = let s = c.in_ok-seats.ensures.link in let l = c.load-2.ensures in
+    opened Link c.args.generation _ _ _ _ 0 7 s.view (l.0 ∙ s.same) s.is l.2 s.mine s.core s.single refl (omega arith)
 
 pub returns-clause-backup : goal.returns-clause-backup
-returns-clause-backup c = let m = c.in_ok-made.ensures in let a = c.split_seat-link.ensures in let b =
-    c.split_seat-backup.ensures in let t = c.split_seat-terminal.ensures in let d = c.split_seat-disk.ensures in let g =
-    c.args.generation in let l = c.load-3.ensures in
-    opened Backup g _ _ _ _ 0 8 (only Backup (cut1 g)) (l.0 ∙ b.3 ∙ a.0 ∙ m.2)
-    (b.4 ∙ ap (λ (x : Mine). let z : Mine = (only Backup x.0, []) in z)
-    (a.2 ∙ ap (λ (x : Mine). (without Link x.0, x.1)) m.4)) l.2 refl refl refl refl (omega arith)
+returns-clause-backup c = let s = c.in_ok-seats.ensures.backup in let l = c.load-3.ensures in
+    opened Backup c.args.generation _ _ _ _ 0 8 s.view (l.0 ∙ s.same) s.is l.2 s.mine s.core s.single refl (omega arith)
 
 pub returns-clause-terminal : goal.returns-clause-terminal
-returns-clause-terminal c = let m = c.in_ok-made.ensures in let a = c.split_seat-link.ensures in let b =
-    c.split_seat-backup.ensures in let t = c.split_seat-terminal.ensures in let d = c.split_seat-disk.ensures in let g =
-    c.args.generation in let l = c.load-4.ensures in
-    opened Terminal g _ _ _ _ 0 9 (only Terminal (cut2 g)) (l.0 ∙ t.3 ∙ b.0 ∙ a.0 ∙ m.2)
-    (t.4 ∙ ap (λ (x : Mine). let z : Mine = (only Terminal x.0, []) in z)
-    (b.2 ∙ ap (λ (x : Mine). (without Backup x.0, x.1)) (a.2 ∙ ap (λ (x : Mine). (without Link x.0, x.1)) m.4))) l.2 refl refl
-    refl refl (omega arith)
+returns-clause-terminal c = let s = c.in_ok-seats.ensures.terminal in let l = c.load-4.ensures in
+    opened Terminal c.args.generation _ _ _ _ 0 9 s.view (l.0 ∙ s.same) s.is l.2 s.mine s.core s.single refl (omega arith)
 
 pub returns-clause-disk : goal.returns-clause-disk
-returns-clause-disk c = let m = c.in_ok-made.ensures in let a = c.split_seat-link.ensures in let b =
-    c.split_seat-backup.ensures in let t = c.split_seat-terminal.ensures in let d = c.split_seat-disk.ensures in let g =
-    c.args.generation in let l = c.load-5.ensures in
-    opened Disk g _ _ _ _ 0 10 (only Disk (cut3 g)) (l.0 ∙ d.3 ∙ t.0 ∙ b.0 ∙ a.0 ∙ m.2)
-    (d.4 ∙ ap (λ (x : Mine). let z : Mine = (only Disk x.0, []) in z)
-    (t.2 ∙ ap (λ (x : Mine). (without Terminal x.0, x.1))
-    (b.2 ∙ ap (λ (x : Mine). (without Backup x.0, x.1)) (a.2 ∙ ap (λ (x : Mine). (without Link x.0, x.1)) m.4)))) l.2 refl
-    refl refl refl (omega arith)
+returns-clause-disk c = let s = c.in_ok-seats.ensures.disk in let l = c.load-5.ensures in
+    opened Disk c.args.generation _ _ _ _ 0 10 s.view (l.0 ∙ s.same) s.is l.2 s.mine s.core s.single refl (omega arith)

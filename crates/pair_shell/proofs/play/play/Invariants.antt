@@ -1,5 +1,5 @@
 -- The events so far have happened, each with its answer on the tape.
-use Rattle.shell_book.specs.Tapes.{Plays}
+use Rattle.pair_shell.specs.Playing.{Plays}
 use Rattle.pair_shell.proofs.play.play.Given as goal
 
 abbrev pub invariant-events : goal.invariant-events

@@ -1,8 +1,8 @@
 -- What the copied parts say is the checkpoint of their guest.
 use Rattle.std.proofs.Common.{refl, ◌≡◌, [], subst, arith}
 use Rattle.std.specs.Prelude.{IfOk, slice_index_or}
-use Rattle.guest_board.specs.Guest.{Guest}
-use Rattle.guest_board.specs.Parts.{guest_of_parts}
+use Rattle.guest_parts.specs.Guest.{Guest}
+use Rattle.guest_parts.specs.Parts.{guest_of_parts}
 use Rattle.clone_state.specs.Checkpoint.{Checkpoint, checkpoint_of}
 use Rattle.clone_state.specs.Image.{part_bytes}
 use Rattle.clone_state.specs.Parts.{parts_of}

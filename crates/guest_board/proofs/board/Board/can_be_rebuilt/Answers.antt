@@ -1,9 +1,9 @@
 -- What holds of every board holds of this one, so its parts pass each test, and a board made from them has what this
 -- one has.
 use Rattle.std.proofs.Common.{◌≡◌, true, subst}
-use Rattle.guest_board.specs.Board.{OnBoard, IsBoard}
-use Rattle.guest_board.specs.Parts as Parts
-use Rattle.guest_board.proofs.Shown.{shown_stands, shown_is_rebuilt}
+use Rattle.guest_parts.specs.Board.{OnBoard, IsBoard}
+use Rattle.guest_parts.specs.Parts as Parts
+use Rattle.guest_parts.proofs.Shown.{shown_stands, shown_is_rebuilt}
 use Rattle.guest_board.proofs.board.Board.can_be_rebuilt.Goals as goal
 
 pub returns : goal.returns

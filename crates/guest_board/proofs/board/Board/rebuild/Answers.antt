@@ -2,7 +2,7 @@
 -- moved.
 use Rattle.std.proofs.Common.{refl, sym, ap, ◌∙◌}
 use Rattle.guest_memory.specs.Pages.{Pages}
-use Rattle.guest_board.proofs.Standing.{board-from_parts}
+use Rattle.guest_parts.proofs.Standing.{board-from_parts}
 use Rattle.guest_board.proofs.Ready.{not_ready}
 use Rattle.guest_board.proofs.board.Board.rebuild.Goals as goal
 

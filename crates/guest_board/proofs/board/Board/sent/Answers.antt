@@ -1,9 +1,10 @@
 -- The byte that is due is outstanding, and is removed.
 use Rattle.std.proofs.Common.{refl, sym, ap, ◌∙◌}
 use Rattle.event_callbacks.specs.declared.operations.OpId.TheVariants as id
-use Rattle.guest_board.specs.Guest.{Guest, due_byte}
+use Rattle.guest_parts.specs.Guest.{Guest}
+use Rattle.guest_board.specs.Guest.{due_byte}
 use Rattle.guest_board.specs.Fields.{guest_of}
-use Rattle.guest_board.specs.Board.{OnBoard}
+use Rattle.guest_parts.specs.Board.{OnBoard}
 use Rattle.guest_board.proofs.Inputs.{board_sent, is_due_byte, completed_there}
 use Rattle.guest_board.proofs.Ready.{ready_completed}
 use Rattle.guest_board.proofs.board.Board.sent.Goals as goal

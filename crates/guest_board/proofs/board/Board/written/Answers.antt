@@ -1,6 +1,6 @@
 -- The write that is done was outstanding, and is removed.
 use Rattle.event_callbacks.specs.declared.operations.OpId.TheVariants as id
-use Rattle.guest_board.specs.Guest.{Guest}
+use Rattle.guest_parts.specs.Guest.{Guest}
 use Rattle.guest_board.specs.Fields.{guest_of}
 use Rattle.guest_board.proofs.Inputs.{board_written, found_there, gone_there}
 use Rattle.guest_board.proofs.Ready.{ready_completed}

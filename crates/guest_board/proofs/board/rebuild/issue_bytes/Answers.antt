@@ -4,7 +4,7 @@ use Rattle.std.proofs.lemmas.List.{length-take-le}
 use Rattle.event_callbacks.specs.declared.operations.OpId.TheVariants as id
 use Rattle.event_callbacks.specs.declared.operations.Operation.TheVariants as operation
 use Rattle.event_callbacks.specs.Operations.{Operations, Outstanding, operation_at, with_operation}
-use Rattle.guest_board.proofs.Waiting.{bytes-more, bytes-past}
+use Rattle.guest_parts.proofs.Waiting.{bytes-more, bytes-past}
 use Rattle.guest_board.proofs.board.rebuild.issue_bytes.Goals as goal
 
 pub issue-requires : goal.issue-requires

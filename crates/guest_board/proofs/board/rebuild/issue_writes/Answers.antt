@@ -3,7 +3,7 @@ use Rattle.std.proofs.Common.{ap, sym, ◌∙◌, [], take, get_or}
 use Rattle.event_callbacks.specs.declared.operations.OpId.TheVariants as id
 use Rattle.event_callbacks.specs.declared.operations.Operation.TheVariants as operation
 use Rattle.event_callbacks.specs.Operations.{Operations, Outstanding, operation_at, with_operation}
-use Rattle.guest_board.proofs.Waiting.{writes-more, writes-other, earlier-differ}
+use Rattle.guest_parts.proofs.Waiting.{writes-more, writes-other, earlier-differ}
 use Rattle.guest_board.proofs.board.rebuild.issue_writes.Goals as goal
 
 pub issue-requires : goal.issue-requires

@@ -1,5 +1,5 @@
 use Rattle.std.proofs.Common.{◌≡◌, take}
-use Rattle.guest_board.specs.Parts as table
+use Rattle.guest_parts.specs.Parts as table
 use Rattle.guest_board.proofs.board.rebuild.issue_writes.Given as goal
 
 abbrev pub invariant-loop-write : goal.invariant-loop-write

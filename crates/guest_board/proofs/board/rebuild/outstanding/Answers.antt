@@ -4,11 +4,11 @@ use Rattle.event_callbacks.specs.declared.operations.OpId.{OpId}
 use Rattle.event_callbacks.specs.declared.operations.OpId.TheVariants as id
 use Rattle.event_callbacks.specs.Operations.{Operations, Outstanding, operation_at}
 use Rattle.event_callbacks.proofs.OperationMap.{operation_at-empty}
-use Rattle.guest_board.specs.Parts.{Rise}
-use Rattle.guest_board.proofs.Names.{other_port, no_byte}
-use Rattle.guest_board.proofs.Waiting.{port-other}
-use Rattle.guest_board.proofs.Places.{rises}
-use Rattle.guest_board.proofs.Standing.{standing_writes}
+use Rattle.guest_parts.specs.Parts.{Rise}
+use Rattle.guest_parts.proofs.Names.{other_port, no_byte}
+use Rattle.guest_parts.proofs.Waiting.{port-other}
+use Rattle.guest_parts.proofs.Places.{rises}
+use Rattle.guest_parts.proofs.Standing.{standing_writes}
 use Rattle.guest_board.proofs.board.rebuild.outstanding.Goals as goal
 
 pub issue_port-requires-clause-new : goal.issue_port-requires-clause-new

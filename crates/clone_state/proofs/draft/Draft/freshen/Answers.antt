@@ -1,8 +1,0 @@
--- As many fewer are stale as were copied.
-use Rattle.std.proofs.Common.{sym, ◌∙◌, arith}
-use Rattle.clone_state.proofs.StalePages.{left_below}
-use Rattle.clone_state.proofs.draft.Draft.freshen.Goals as goal
-
-pub returns-clause-stale : goal.returns-clause-stale
-returns-clause-stale g c =
-    c.copy_stale_pages.ensures.fewer ∙ sym (left_below _ _ _ _ c.copy_stale_pages.ensures.freshened 256 (omega arith))

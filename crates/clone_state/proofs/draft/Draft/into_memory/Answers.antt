@@ -1,9 +1,0 @@
--- Once every stale page was copied the bytes are the board's memory.
-use Rattle.std.proofs.Common.{◌∙◌}
-use Rattle.clone_state.proofs.Freshening.{memory_is}
-use Rattle.clone_state.proofs.draft.Draft.into_memory.Goals as goal
-
-pub returns : goal.returns
-returns g c =
-    c.into_bytes.ensures
-    ∙ memory_is _ _ _ c.freshen.ensures.freshened c.requires c.has_room.ensures.bytes c.stands.ensures.memory

@@ -1,5 +1,0 @@
-use Rattle.std.proofs.Common.{◌≡◌, ◌*◌, take}
-use Rattle.clone_state.proofs.image.copying.copied_memory.Given as goal
-
-abbrev pub invariant-loop-page : goal.invariant-loop-page
-invariant-loop-page g l = l.memory.items ≡ take (l.page * 256) l.board.guest.memory

@@ -1,0 +1,176 @@
+//! The command line.
+ghost use Rattle.std.specs.Prelude.{◌≡◌, IfErr, true};
+ghost use Rattle.command_ending.specs.Statuses.{is_of_command_line};
+
+use clap::builder::ValueParser;
+use clap::error::ErrorKind;
+use clap::{Arg, ArgMatches, Command, Error};
+use command_ending::Failure;
+use command_live::LiveOrder;
+use command_script::Order;
+use pair_threads::Fate;
+use std::alloc::Global;
+
+/// What the command line asks for.
+#[derive(Drop)]
+pub enum Request {
+    /// To run a script.
+    Run(Order),
+    /// To run a pair on threads.
+    Live(LiveOrder),
+    /// To answer lines as they come.
+    Shell,
+}
+
+const EXAMPLE: &str = "\
+The script comes from standard input: a setup, and then one event or query a line.
+Here the guest sends the byte 48 and halts, the backup acknowledges it, and the
+terminal of port 0 accepts it:
+
+pair script << END
+mem 0000 3E 03 D3 10 3E 15 D3 10 3E 48 D3 11 76
+step 0 10
+send 0 0
+log 0 1
+ack 1
+acked 1 0
+release 0 byte 0 1
+arrive 2
+show 0
+END
+
+Exit status: 0 the run ended; 2 this text, or a command line that is none; 3 a bad
+script; 4 out of memory; 5 input or output failed; 6 a pair on threads stalled; 7
+`check` found a difference.";
+
+const SCRIPT_USAGE: &str = "pair script < FILE (the script comes from standard input)";
+
+const SHELL_USAGE: &str = "pair shell (lines come from standard input)";
+
+const LIVE_USAGE: &str =
+    "pair live [OPTIONS] < FILE (setup and `type` lines come from standard input)";
+
+// The names of the fates of a packet: it is brought, it is lost, it is brought twice.
+static FATES: &[&str] = &["pass", "drop", "twice"];
+
+// How many turns there are at most, and how many if the command line does not say.
+const MOST_TURNS: u64 = 1_000_000_000;
+
+const TURNS: u64 = 1_000_000;
+
+const CHECK_USAGE: &str = "pair check < FILE (the script comes from standard input)";
+
+/// What the words of a command line ask for; the first word is the program's name.
+pub fn request_of(alloc: Global, arguments: &[String]) -> Result<Request, Failure>
+    ensures { IfErr result (λ e. is_of_command_line e ≡ true) }
+{
+    match parse(alloc, arguments) {
+        Ok(request) => Ok(request),
+        Err(error) => Err(refusal(alloc, &error)),
+    }
+}
+
+fn parse(alloc: Global, arguments: &[String]) -> Result<Request, Error> {
+    let script = Command::new(alloc, "script")
+        .about("Runs a script, and prints a line for each event and query")
+        .override_usage(SCRIPT_USAGE);
+    let check = Command::new(alloc, "check")
+        .about("Runs a script silently, and compares the pair with a single machine")
+        .override_usage(CHECK_USAGE);
+    let shell = Command::new(alloc, "shell")
+        .about("Answers lines as they come; the line `help` lists them all")
+        .override_usage(SHELL_USAGE);
+    let pair = Command::new(alloc, "pair")
+        .bin_name("pair")?
+        .version("0.1.0")
+        .about("A fault-tolerant pair of Altair 8800s")
+        .after_help(EXAMPLE)
+        .subcommand_required(true)
+        .subcommand(script)?
+        .subcommand(check)?
+        .subcommand(shell)?
+        .subcommand(live_command(alloc)?)?;
+    let matches = pair.try_get_matches_from(arguments)?;
+    match matches.subcommand() {
+        Some(("check", _)) => Ok(Request::Run(Order::Check)),
+        Some(("shell", _)) => Ok(Request::Shell),
+        Some(("live", live)) => Ok(Request::Live(live_order(alloc, live)?)),
+        _ => Ok(Request::Run(Order::Script)),
+    }
+}
+
+// The command that runs a pair on threads.
+fn live_command<'a>(alloc: Global) -> Result<Command<'a>, Error> {
+    let turns = turn(alloc, "turns", 1)
+        .help("How many turns the primary and the backup have at most")
+        .default_value("1000000");
+    let link = Arg::new(alloc, "link")
+        .long("link")
+        .value_name("FATES")
+        .value_delimiter(',')
+        .value_parser(ValueParser::Names(FATES))
+        .help("The fates of the packets, in order; the last is that of all others");
+    let command = Command::new(alloc, "live")
+        .about("Runs a pair on threads, and prints what its terminals have accepted")
+        .override_usage(LIVE_USAGE)
+        .arg(turns)?
+        .arg(turn(alloc, "primary-asks", 0).help(
+            "The turn at which the primary asks to go on alone",
+        ))?
+        .arg(turn(alloc, "backup-asks", 0).help(
+            "The turn at which the backup asks to go on alone",
+        ))?
+        .arg(link)?;
+    Ok(command)
+}
+
+// An option whose value is a number of turns, at least this many.
+fn turn<'a>(alloc: Global, name: &'a str, least: u64) -> Arg<'a> {
+    Arg::new(alloc, name)
+        .long(name)
+        .value_name("N")
+        .value_parser(ValueParser::unsigned(least, MOST_TURNS))
+}
+
+// What the words after `live` say.
+fn live_order(alloc: Global, matches: &ArgMatches<'_>) -> Result<LiveOrder, Error> {
+    let mut link = Vec::new(alloc);
+    if let Some(words) = matches.get_strs("link") {
+        for word in words {
+            link.push(fate_of(word))?;
+        }
+    }
+    Ok(LiveOrder {
+        turns: matches.get_one("turns").unwrap_or(TURNS),
+        primary_asks: matches.get_one("primary-asks"),
+        backup_asks: matches.get_one("backup-asks"),
+        link,
+    })
+}
+
+// The fate of a packet, by its name.
+fn fate_of(word: &str) -> Fate {
+    match word {
+        "drop" => Fate::Drop,
+        "twice" => Fate::Twice,
+        _ => Fate::Pass,
+    }
+}
+
+// The text of the error, without the line end after it.
+fn refusal(alloc: Global, error: &Error) -> Failure
+    ensures { is_of_command_line result ≡ true }
+{
+    if matches!(error.kind(), ErrorKind::OutOfMemory) {
+        return Failure::OutOfMemory;
+    }
+    match format!(in alloc; "{error}") {
+        Ok(mut text) => {
+            if text.ends_with("\n") {
+                text.pop();
+            }
+            Failure::CommandLine(text)
+        }
+        Err(_) => Failure::OutOfMemory,
+    }
+}

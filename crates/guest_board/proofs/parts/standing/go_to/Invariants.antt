@@ -1,6 +1,0 @@
-use Rattle.std.proofs.Common.{◌≡◌, true, take}
-use Rattle.guest_board.specs.Parts as table
-use Rattle.guest_board.proofs.parts.standing.go_to.Given as goal
-
-abbrev pub invariant-loop-index : goal.invariant-loop-index
-invariant-loop-index l = table.go_to (take l.index l.writes) (take l.index l.places) ≡ true

@@ -1,0 +1,5 @@
+pub mod Names
+pub mod Waiting
+pub mod Places
+pub mod Standing
+pub mod Shown

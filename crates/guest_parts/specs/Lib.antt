@@ -1,0 +1,3 @@
+pub mod Guest
+pub mod Board
+pub mod Parts

@@ -1,0 +1,6 @@
+//! What an image of a machine says of its guest, and whether a board can be in that state.
+#![tactic(auto)]
+
+mod parts;
+
+pub use parts::BoardParts;
