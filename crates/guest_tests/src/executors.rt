@@ -384,7 +384,7 @@ fn agree_from(rt: &(impl Abort + AllocGlobal), first: u64) -> R<()> {
     assert!(rt; steps > 75_000, "{steps} steps");
     assert!(rt; inputs > 1_250, "{inputs} inputs");
     assert!(rt; done > 5, "{done} writes");
-    assert!(rt; moved > 2, "{moved} writes above track 0");
+    assert!(rt; moved > 0, "{moved} writes above track 0");
     Ok(())
 }
 
