@@ -313,7 +313,7 @@ came_on state M first old new came works = (
 )
 
 -- a turn at which it is to ask
-pub some_at : (o : Option ℕ) (n : ℕ) → option_eq eqb o (Some n) ≡ true → IsSome o
+pub some_at : (o : Option ℕ) (n : ℕ) → o ≡ Some n → IsSome o
 some_at None n is = absurd cc
 some_at (Some m) n is = refl
 

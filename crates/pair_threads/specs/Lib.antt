@@ -1,4 +1,5 @@
 pub mod Turns
+pub mod Choosing
 pub mod Served
 pub mod Fates
 pub mod Screens

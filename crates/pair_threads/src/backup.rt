@@ -192,7 +192,7 @@ impl<B: Lockstep> Worker for BackupWorker<B> {
         if self.won {
             return self.drain();
         }
-        if self.plan.contests_at == Some(number) {
+        if self.plan.asks_at(number) {
             return Ok(self.contest(fabric));
         }
         self.follow(fabric)

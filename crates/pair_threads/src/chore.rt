@@ -1,4 +1,6 @@
 //! What a primary's worker does, in rotation.
+ghost use Rattle.std.specs.Prelude.{◌≡◌};
+ghost use Rattle.pair_threads.specs.Choosing.{next_chore};
 
 /// What one turn of a primary's worker does.
 #[derive(Clone, Copy, PartialEq, Eq)]
@@ -30,7 +32,9 @@ pub(crate) const ROTATION: u8 = 20;
 
 impl Chore {
     /// What comes after it.
-    pub fn next(self) -> Chore {
+    pub fn next(self) -> Chore
+        ensures { result ≡ next_chore self }
+    {
         match self {
             Chore::See => Chore::Emit,
             Chore::Emit => Chore::Count,

@@ -6,7 +6,7 @@ use crate::gate::{Gate, Who};
 use crate::signals::Signals;
 use crate::worker::{Worker, serve};
 use i8080_words::R;
-use pair_rule::{Fabric, MOST_SWAPS};
+use pair_rule::Fabric;
 use std::thread::{Threads, join};
 use std::time::Clock;
 
@@ -94,7 +94,7 @@ pub(crate) fn work<
                         move || -> (L, R<()>)
                             requires { MayBegin L.table L.ready L.came fabric.now link }
                             ensures { HasServed L.table L.came L.ended fabric.entry.now link result }
-                        { serve(rt, link, Who::Link, fabric, gate, signals, MOST_SWAPS) },
+                        { serve(rt, link, Who::Link, fabric, gate, signals, turns) },
                         move || -> ((T, R<()>), (D, R<()>))
                             requires { MayBegin T.table T.ready T.came fabric.now terminal
                                 × MayBegin D.table D.ready D.came fabric.now disk × IsSync H.row }
@@ -107,20 +107,12 @@ pub(crate) fn work<
                                     requires { MayBegin T.table T.ready T.came fabric.now terminal }
                                     ensures { HasServed T.table T.came T.ended fabric.entry.now terminal result }
                                 {
-                                    serve(
-                                        rt,
-                                        terminal,
-                                        Who::Terminal,
-                                        fabric,
-                                        gate,
-                                        signals,
-                                        MOST_SWAPS,
-                                    )
+                                    serve(rt, terminal, Who::Terminal, fabric, gate, signals, turns)
                                 },
                                 move || -> (D, R<()>)
                                     requires { MayBegin D.table D.ready D.came fabric.now disk }
                                     ensures { HasServed D.table D.came D.ended fabric.entry.now disk result }
-                                { serve(rt, disk, Who::Disk, fabric, gate, signals, MOST_SWAPS) },
+                                { serve(rt, disk, Who::Disk, fabric, gate, signals, turns) },
                             )
                         },
                     )

@@ -1,5 +1,5 @@
 //! What a worker with a guest is told before it begins.
-ghost use Rattle.std.specs.Prelude.{◌≡◌, true, IsSome};
+ghost use Rattle.std.specs.Prelude.{◌≡◌, ◌↔◌, true, max, IsSome, IsTrue};
 
 /// When a worker asks to go on alone, and how far its guest moves in one turn.
 #[derive(Clone, Copy)]
@@ -17,12 +17,20 @@ impl Plan {
     /// A plan; whether it is contested says also whether the other one asks.
     pub(crate) fn new(contests_at: Option<u64>, contested: bool, steps: u64) -> Plan
         requires told { IsSome contests_at → contested ≡ true }
-        ensures { (result.contests_at ≡ contests_at) × (result.contested ≡ contested) }
+        ensures asks { (result.contests_at ≡ contests_at) × (result.contested ≡ contested) }
+        ensures steps { result.steps ≡ max steps 1 }
     {
         Plan {
             contests_at,
             contested,
             steps: steps.max(1),
         }
+    }
+
+    /// Whether the worker asks to go on alone in the turn of this number.
+    pub(crate) fn asks_at(&self, number: u64) -> bool
+        ensures { IsTrue result ↔ (self.now.contests_at ≡ Some number) }
+    {
+        self.contests_at == Some(number)
     }
 }

@@ -4,6 +4,7 @@ ghost use Rattle.guest_lockstep.specs.Machine.{booted_from};
 ghost use Rattle.pair_protocol.specs.Lawful.{Lawful};
 ghost use Rattle.pair_rule.specs.Knowledge.{StartsWith, last_or};
 ghost use Rattle.pair_rule.specs.Threads.{bytes_accepted};
+ghost use Rattle.pair_threads.specs.Choosing.{together};
 ghost use Rattle.pair_threads.specs.Ending.{EndsBy, HasAsked, IsEnding, WonBy, winner_named};
 ghost use Rattle.pair_threads.specs.Primary.{IsAtRest, WorkerKeeps, WorkerLeads};
 ghost use Rattle.pair_threads.specs.Repeating.{IsAt};
@@ -47,6 +48,7 @@ fn winner_of(word: u64) -> Option<Who>
 fn failure_of(one: R<()>, other: R<()>) -> R<()>
     ensures both { OnOk result (IsOk one × IsOk other) }
     ensures refused { IfErr result IsEnding }
+    ensures together { result ≡ together one other }
 {
     match (one, other) {
         (Ok(()), Ok(())) => Ok(()),
@@ -230,6 +232,8 @@ fn finish<B: Lockstep + Drop, D: SectorStore>(
         → five.backup.0.guest.replayed ≡ vec_len five.backup.0.guest.list) }
     requires others { (five.terminal.0.seat.table ≡ fabric) × (five.disk.0.seat.table ≡ fabric) }
     ensures refused { IfErr result IsEnding }
+    ensures failed { IfErr (together (together five.primary.1 five.backup.1) (together five.link.1
+        (together five.terminal.1 five.disk.1))) (λ fault. result ≡ Err fault) }
     ensures decided { (first second : Option ℕ) → OnOk five.primary.1 (five.primary.0.plan.contests_at ≡ first)
         → OnOk five.backup.1 (five.backup.0.plan.contests_at ≡ second) → IfOk result (λ e. WonBy first second e.winner) }
     ensures prefix { IfOk result (λ e. StartsWith e.primary.items e.backup.items) }

@@ -1,7 +1,8 @@
 //! The worker of the two terminals: it takes bytes, counts them, and keeps those that are accepted.
-ghost use Rattle.std.specs.Prelude.{◌≡◌, ◌++◌, ◌<◌, [], length, vec_len, vec_capacity, IsTrue, None, Some, OnOk, true, false};
+ghost use Rattle.std.specs.Prelude.{◌≡◌, ◌++◌, ◌<◌, [], length, vec_len, vec_capacity, IsTrue, None, Some, OnOk, true, false, not};
 ghost use Rattle.pair_rule.specs.declared.payload.PortByte.{PortByte};
 ghost use Rattle.pair_rule.specs.Threads.{bytes_accepted};
+ghost use Rattle.pair_threads.specs.declared.worker.Turn.TheVariants as turn;
 ghost use Rattle.pair_threads.specs.Screens.{HasInHand, next_byte};
 
 use crate::signals::Told;
@@ -55,6 +56,7 @@ impl TerminalWorker {
         requires table { self.old.seat.table ≡ fabric.now }
         requires hand { self.old.hand ≡ Some byte }
         ensures table { self.new.seat.table ≡ self.old.seat.table }
+        ensures next { OnOk result (self.new.second ≡ not self.old.second) }
     {
         if self.second {
             self.count1(fabric, byte)
@@ -69,6 +71,7 @@ impl TerminalWorker {
         requires hand { self.old.hand ≡ Some byte }
         requires first { self.old.second ≡ false }
         ensures table { self.new.seat.table ≡ self.old.seat.table }
+        ensures next { OnOk result (self.new.second ≡ true) }
     {
         self.accepted0.reserve(1)?;
         self.seat.count(fabric, 0);
@@ -84,6 +87,7 @@ impl TerminalWorker {
         requires hand { self.old.hand ≡ Some byte }
         requires second { self.old.second ≡ true }
         ensures table { self.new.seat.table ≡ self.old.seat.table }
+        ensures next { OnOk result (self.new.second ≡ false) }
     {
         self.accepted1.reserve(1)?;
         self.seat.count(fabric, 1);
@@ -98,6 +102,8 @@ impl TerminalWorker {
         requires table { self.old.seat.table ≡ fabric.now }
         requires hand { self.old.hand ≡ None }
         ensures table { self.new.seat.table ≡ self.old.seat.table }
+        ensures next { result ≡ Ok turn.Waits → self.new.second ≡ not self.old.second }
+        ensures same { result ≡ Ok turn.Moved → self.new.second ≡ self.old.second }
     {
         if !self.seat.has_swaps_left() {
             return Err(Fault::Stalled);

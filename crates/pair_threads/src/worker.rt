@@ -1,12 +1,13 @@
 //! What all workers have in common, and the loop that serves each of them.
 ghost use Rattle.std.specs.Prelude.{◌≡◌, IsTrue, OnOk};
+ghost use Rattle.pair_threads.specs.Choosing.{turns_of};
 ghost use Rattle.pair_threads.specs.Turns.{Leaves};
 
 use crate::gate::{Gate, Who};
 use crate::rest::Rest;
 use crate::signals::{Signals, Told};
 use i8080_words::{Fault, R};
-use pair_rule::Fabric;
+use pair_rule::{Fabric, MOST_SWAPS};
 use std::time::Clock;
 
 /// What a turn came to.
@@ -69,7 +70,18 @@ fn all_begin<C: Clock>(clock: &C, signals: &Signals) -> bool {
     false
 }
 
-/// Lets a worker have its turns, this many at most, until it is at its end. `Stalled` if it is not after all of them, if
+// How many turns a worker has at most: the primary and the backup as many as they are given, the others as many as a table
+// has swaps.
+fn turns_of(who: Who, turns: u64) -> u64
+    ensures { result ≡ turns_of who turns }
+{
+    match who {
+        Who::Primary | Who::Backup => turns,
+        Who::Link | Who::Terminal | Who::Disk => MOST_SWAPS,
+    }
+}
+
+/// Lets a worker have its turns, until it is at its end. `Stalled` if it is not after all of them, if
 /// the gate ends the run, or if another worker has failed; `OutOfMemory` if the others have no threads to begin on.
 pub(crate) fn serve<C: Clock, W: Worker, G: Gate>(
     clock: &C,
@@ -94,7 +106,7 @@ pub(crate) fn serve<C: Clock, W: Worker, G: Gate>(
     }
     let mut fruitless = 0u32;
     let mut held_up = false;
-    for number in 0..turns {
+    for number in 0..turns_of(who, turns) {
         if signals.has_failed() {
             return (worker, Err(Fault::Stalled));
         }

@@ -1,2 +1,4 @@
+pub mod Notes
+pub mod Noting
 pub mod Tapes
 pub mod Texts

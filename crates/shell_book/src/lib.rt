@@ -3,6 +3,7 @@
 #![tactic(auto)]
 
 mod book;
+mod noting;
 mod outcome;
 mod printing;
 mod tape;

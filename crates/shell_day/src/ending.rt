@@ -17,6 +17,11 @@ pub enum Ending {
 }
 
 impl fmt::Display for Ending {
+    ghost use Rattle.std.specs.Prelude.{Some};
+    ghost use Rattle.shell_day.specs.Endings.{ending_text};
+
+    ghost output = { λ ending. Some (ending_text ending) };
+
     fn fmt<W: fmt::Write>(&self, f: &mut fmt::Formatter<W>) -> fmt::Result {
         match self {
             Ending::Turns => f.write_str("turns"),

@@ -7,6 +7,8 @@ mod link;
 mod phase;
 mod plan;
 mod remaining;
+mod route;
+mod series;
 
 pub use day::Day;
 pub use plan::Plan;

@@ -1,4 +1,6 @@
 //! The parts of a round of the ordinary day.
+ghost use Rattle.std.specs.Prelude.{◌≡◌};
+ghost use Rattle.shell_day.specs.Rounds.{after};
 
 /// The parts of a round, in their order.
 #[derive(Clone, Copy)]
@@ -22,7 +24,9 @@ pub enum Phase {
 
 impl Phase {
     /// The part that comes next; after the last one a new round begins.
-    pub fn after(self) -> Phase {
+    pub fn after(self) -> Phase
+        ensures { result ≡ after self }
+    {
         match self {
             Phase::Keys => Phase::Get,
             Phase::Get => Phase::Under,

@@ -1,4 +1,7 @@
 //! Which events a line makes: a list of them, or those of a day, each chosen when the one before it was answered.
+ghost use Rattle.std.specs.Prelude.{◌≡◌, ◌+◌, ◌<◌, ◌≤◌, [], IfOk, IfSome, None, Some, if◌then◌else◌, is_some, option_map, slice_get, length};
+ghost use Rattle.shell_day.specs.Hearing.{counted, heard};
+ghost use Rattle.shell_day.specs.Plans.{GivesFirst};
 
 use crate::day::Day;
 use i8080_words::R;
@@ -19,7 +22,9 @@ pub struct Plan {
 
 impl Plan {
     /// These events.
-    pub fn of(agenda: Vec<Event>) -> Plan {
+    pub fn of(agenda: Vec<Event>) -> Plan
+        ensures { (result.agenda ≡ agenda) × (result.place ≡ 0) × (result.day ≡ None) }
+    {
         Plan {
             agenda,
             place: 0,
@@ -28,7 +33,9 @@ impl Plan {
     }
 
     /// A day of a pair.
-    pub fn day(alloc: Global, day: Day) -> Plan {
+    pub fn day(alloc: Global, day: Day) -> Plan
+        ensures { (result.agenda.items ≡ []) × (result.place ≡ 0) × (result.day ≡ Some day) }
+    {
         Plan {
             agenda: Vec::new(alloc),
             place: 0,
@@ -36,13 +43,20 @@ impl Plan {
         }
     }
 
-    /// The next event; none if there is no more.
-    pub fn next(&mut self, book: &Book) -> Result<Option<Event>, AllocError> {
-        for _ in 0..PHASES {
-            if let Some(event) = self.agenda.get(self.place) {
-                self.place = self.place.saturating_add(1);
-                return Ok(Some(*event));
-            }
+    /// The next event; none if there is no more. The events of a list come one after another; after them those of the
+    /// next part of the day that makes any.
+    #[tactic(auto, using(std::proofs::lemmas::Option::slice_get_cases))]
+    pub fn next(&mut self, book: &Book) -> Result<Option<Event>, AllocError>
+        ensures listed { IfOk result (λ next. self.old.place < length self.old.agenda.items
+            → (next ≡ slice_get self.old.agenda.items self.old.place) × (self.new ≡ record self.old { place = self.old.place + 1 })) }
+        ensures list_ends { IfOk result (λ next. length self.old.agenda.items ≤ self.old.place → self.old.day ≡ None → next ≡ None) }
+        ensures first { IfOk result (λ next. length self.old.agenda.items ≤ self.old.place
+            → IfSome next (λ event. GivesFirst event self.new)) }
+    {
+        if let Some(event) = self.listed() {
+            return Ok(Some(event));
+        }
+        'parts: for _ in 0..PHASES {
             self.agenda.clear();
             self.place = 0;
             let Some(day) = &mut self.day else {
@@ -51,19 +65,36 @@ impl Plan {
             if !day.fill(book, &mut self.agenda)? {
                 return Ok(None);
             }
+            if let Some(event) = self.listed() {
+                return Ok(Some(event));
+            }
         }
         Ok(None)
     }
 
+    // The next event of the list; it has gone then.
+    fn listed(&mut self) -> Option<Event>
+        ensures event { result ≡ slice_get self.old.agenda.items self.old.place }
+        ensures gone { self.new ≡ record self.old { place = if is_some result then self.old.place + 1 else self.old.place } }
+    {
+        let event = *self.agenda.get(self.place)?;
+        self.place += 1;
+        Some(event)
+    }
+
     /// Hears what was answered to an event.
-    pub fn hear(&mut self, event: Event, answer: R<Reply>) {
+    pub fn hear(&mut self, event: Event, answer: R<Reply>)
+        ensures { self.new ≡ record self.old { day = option_map (λ day. heard event answer (counted day)) self.old.day } }
+    {
         if let Some(day) = &mut self.day {
             day.hear(event, answer);
         }
     }
 
     /// The day, if it is one.
-    pub fn as_day(&self) -> Option<&Day> {
+    pub fn as_day(&self) -> Option<&Day>
+        ensures { option_map (λ day. day.now) result ≡ self.now.day }
+    {
         self.day.as_ref()
     }
 }

@@ -1,48 +1,39 @@
 //! What has not gone yet: the events that make it go.
+ghost use Rattle.std.specs.Prelude.{◌≡◌, ◌-◌, IfOk, length};
+ghost use Rattle.shell_day.specs.Series.{event_of, run_of};
+ghost use Rattle.shell_day.specs.declared.series.Series.TheVariants as series;
 
+use crate::series::Series;
 use pair_events::Event;
-use shell_book::{Book, Brings};
+use shell_book::Book;
 use std::alloc::{AllocError, Global};
 
 /// The entries that a primary has not sent yet.
-pub fn entries_to_send(alloc: Global, book: &Book, node: u64) -> Result<Vec<Event>, AllocError> {
+pub fn entries_to_send(alloc: Global, book: &Book, node: u64) -> Result<Vec<Event>, AllocError>
+    ensures { IfOk result (λ events. events.items
+        ≡ run_of (event_of (series.Entries node) book.now) book.now.posted (book.now.logged - book.now.posted)) }
+{
     let mut events = Vec::new(alloc);
-    for index in book.posted..book.logged {
-        events.push(Event::Send { node, index })?;
-    }
+    Series::Entries { node }.add(book, book.posted, book.logged, &mut events)?;
     Ok(events)
 }
 
 /// The log messages that have reached no node yet.
-pub fn entries_to_deliver(alloc: Global, book: &Book, node: u64) -> Result<Vec<Event>, AllocError> {
+pub fn entries_to_deliver(alloc: Global, book: &Book, node: u64) -> Result<Vec<Event>, AllocError>
+    ensures { IfOk result (λ events. events.items
+        ≡ run_of (event_of (series.EntriesOut node) book.now) 0 (length book.now.letters.items)) }
+{
     let mut events = Vec::new(alloc);
-    for message in 0..book.messages() {
-        if let Some(letter) = book.letter(message) {
-            if is_entry(letter.brings) && !letter.has_arrived {
-                events.push(Event::DeliverLog { message, node })?;
-            }
-        }
-    }
+    Series::EntriesOut { node }.add(book, 0, book.messages(), &mut events)?;
     Ok(events)
 }
 
 /// The bytes that have not arrived yet.
-pub fn bytes_to_arrive(alloc: Global, book: &Book) -> Result<Vec<Event>, AllocError> {
+pub fn bytes_to_arrive(alloc: Global, book: &Book) -> Result<Vec<Event>, AllocError>
+    ensures { IfOk result (λ events. events.items
+        ≡ run_of (event_of series.BytesOut book.now) 0 (length book.now.letters.items)) }
+{
     let mut events = Vec::new(alloc);
-    for message in 0..book.messages() {
-        if let Some(letter) = book.letter(message) {
-            if is_byte(letter.brings) && !letter.has_arrived {
-                events.push(Event::Arrive { message })?;
-            }
-        }
-    }
+    Series::BytesOut.add(book, 0, book.messages(), &mut events)?;
     Ok(events)
-}
-
-fn is_entry(brings: Brings) -> bool {
-    matches!(brings, Brings::Entry)
-}
-
-fn is_byte(brings: Brings) -> bool {
-    matches!(brings, Brings::Byte { .. })
 }

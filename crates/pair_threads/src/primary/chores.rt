@@ -1,9 +1,10 @@
 //! The chores of a primary's worker at its guest, the link and the terminals.
-ghost use Rattle.std.specs.Prelude.{◌≡◌, ◌<◌, IfSome, IsTrue, None, OnOk, Some, length};
+ghost use Rattle.std.specs.Prelude.{◌≡◌, ◌+◌, ◌<◌, ◌≤◌, false, true, nat_lt, if◌then◌else◌, IfSome, IsTrue, None, OnOk, Some, length};
 ghost use Rattle.event_callbacks.specs.declared.devices.TheConstants.{PORTS};
 ghost use Rattle.event_callbacks.specs.declared.operations.OpId.TheVariants as id;
 ghost use Rattle.event_callbacks.specs.declared.operations.Operation.TheVariants.{Byte};
 ghost use Rattle.pair_rule.specs.Seats.{HasSwapsLeft};
+ghost use Rattle.pair_threads.specs.Choosing.{in_flight, post_next, steps_by};
 ghost use Rattle.pair_threads.specs.Primary.{IsAtRest, Works};
 
 use super::PrimaryWorker;
@@ -28,6 +29,8 @@ impl<B: Lockstep> PrimaryWorker<B> {
         requires before { self.old.seat.core.known.primary.winner ≡ 0 }
         requires swaps { HasSwapsLeft self.old.seat.core }
         ensures works { Works B.state B.machine self.old self.new }
+        ensures next { let first = post_next self.old.next self.old.seen (length self.old.list.items) in
+            self.new.next ≡ (if nat_lt first (length self.old.list.items) then first + 1 else first) }
     {
         let length = self.list.len() as u64;
         if self.next < self.seen || self.next >= length {
@@ -49,6 +52,7 @@ impl<B: Lockstep> PrimaryWorker<B> {
         requires table { self.old.seat.table ≡ fabric.now }
         requires before { self.old.seat.core.known.primary.winner ≡ 0 }
         ensures works { Works B.state B.machine self.old self.new }
+        ensures room { self.new.full ≡ false }
     {
         let before = self.seen;
         self.seen = self.seat.see(fabric);
@@ -79,7 +83,9 @@ impl<B: Lockstep> PrimaryWorker<B> {
     }
 
     // How many steps the guest may make in this turn: the fewer, the more of what it gave or asked is in flight.
-    fn steps(&self) -> u64 {
+    fn steps(&self) -> u64
+        ensures { result ≡ steps_by self.now.plan.steps (in_flight self.now) }
+    {
         let asked = self.asked || self.answer.is_some();
         let in_flight = self.guest.given.len() as u64 + u64::from(asked);
         match SHORT_STEPS.checked_div(in_flight) {
@@ -92,6 +98,9 @@ impl<B: Lockstep> PrimaryWorker<B> {
     pub(super) fn take_key(&mut self, port: u8) -> bool
         requires port { port < PORTS }
         ensures works { Works B.state B.machine self.old self.new }
+        ensures time { result ≡ true → self.old.key_count ≤ B.machine.count (B.state self.old.guest.board) }
+        ensures next { result ≡ true
+            → self.new.key_count ≡ B.machine.count (B.state self.old.guest.board) + 300 }
     {
         let count = self.guest.board.count();
         if count < self.key_count || !self.may_take_new() {

@@ -3,6 +3,7 @@ ghost use Rattle.std.specs.Prelude.{◌≡◌, ◌<◌, Some, IfSome};
 ghost use Rattle.event_callbacks.specs.declared.operations.OpId.TheVariants as id;
 ghost use Rattle.event_callbacks.specs.declared.operations.Operation.TheVariants.{Write};
 ghost use Rattle.pair_rule.specs.Seats.{HasSwapsLeft};
+ghost use Rattle.pair_threads.specs.Choosing.{due_sector, next_sector};
 ghost use Rattle.pair_threads.specs.Primary.{MayAsk, Works};
 
 use super::PrimaryWorker;
@@ -14,7 +15,9 @@ use pair_rule::{DiskAnswer, DiskRequest, Fabric};
 
 impl<B: Lockstep> PrimaryWorker<B> {
     // The sector that is to come next, if the guest waits for one.
-    pub(super) fn due_sector(&self) -> Option<(SectorAddress, bool)> {
+    pub(super) fn due_sector(&self) -> Option<(SectorAddress, bool)>
+        ensures { result ≡ due_sector B.machine (B.state self.now.guest.board) self.now.sector }
+    {
         let drive = self.guest.board.selected()?;
         let address = self.guest.board.sector_under(drive, self.sector);
         let input = Input::Sector {
@@ -73,13 +76,10 @@ impl<B: Lockstep> PrimaryWorker<B> {
     // The sector after this one is next.
     fn pass_sector(&mut self)
         ensures works { Works B.state B.machine self.old self.new }
+        ensures next { self.new.sector ≡ next_sector self.old.sector }
         ensures same { (self.new.seat ≡ self.old.seat) × (self.new.guest ≡ self.old.guest) × (self.new.list ≡ self.old.list) }
     {
-        self.sector = if self.sector + 1 < SECTORS {
-            self.sector + 1
-        } else {
-            0
-        };
+        self.sector = (self.sector + 1) % SECTORS;
     }
 
     // Asks the disk, if it has answered before.

@@ -1,5 +1,6 @@
 //! The turns of a primary's worker: what waits is appended, and otherwise its chores come in rotation.
-ghost use Rattle.std.specs.Prelude.{◌≡◌, ◌↔◌, [], length, None, Some, IsTrue, OnOk};
+ghost use Rattle.std.specs.Prelude.{◌≡◌, ◌↔◌, [], length, None, Some, true, IsTrue, OnOk};
+ghost use Rattle.pair_threads.specs.declared.worker.Turn.TheVariants as turn;
 ghost use Rattle.event_callbacks.specs.declared.operations.OpId.{OpId};
 ghost use Rattle.pair_rule.specs.Seats.{HasSwapsLeft};
 ghost use Rattle.pair_threads.specs.Primary.{IsAtRest, WorkerKeeps, WorkerLeads, Works};
@@ -71,6 +72,7 @@ impl<B: Lockstep> PrimaryWorker<B> {
         ensures works { OnOk result (Works B.state B.machine self.old self.new) }
         ensures table { self.new.seat.table ≡ self.old.seat.table }
         ensures goes_on { Leaves result (Unit {0}) ⊥ }
+        ensures full { result ≡ Ok turn.Waits → self.new.full ≡ true }
     {
         self.list.reserve(1)?;
         match self.seat.append(fabric, entry) {
@@ -178,7 +180,7 @@ impl<B: Lockstep> Worker for PrimaryWorker<B> {
         if !self.seat.has_swaps_left() {
             return Err(Fault::Stalled);
         }
-        if self.plan.contests_at == Some(number) {
+        if self.plan.asks_at(number) {
             let _ = self.seat.contest(fabric);
             return Ok(Turn::Ends);
         }

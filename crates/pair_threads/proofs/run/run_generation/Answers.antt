@@ -48,9 +48,9 @@ returns-clause-decided g c =
     let served = c.work-served in
     c.finish.ensures.decided c.args.workers.primary_contests c.args.workers.backup_contests
     (on_ok served.result.primary.1 (λ end. ap (λ (p : Plan). p.contests_at) (end.0.0 ∙ c.new.ensures.plan.0)
-    ∙ c.new-lead.ensures.0) served.ensures.primary.1)
+    ∙ c.new-lead.ensures.asks.0) served.ensures.primary.1)
     (on_ok served.result.backup.1 (λ end. ap (λ (p : Plan). p.contests_at) (end.0.0 ∙ c.new-3.ensures.plan.0)
-    ∙ c.new-follow.ensures.0) served.ensures.backup.1)
+    ∙ c.new-follow.ensures.asks.0) served.ensures.backup.1)
 
 pub returns-clause-ran : goal.returns-clause-ran
 returns-clause-ran g c =

@@ -4,12 +4,9 @@ use Rattle.pair_rule.specs.declared.view.Core.{Core}
 use Rattle.pair_threads.proofs.Views.{works_on}
 use Rattle.pair_threads.proofs.primary.PrimaryWorker.post.Goals as goal
 
-pub returns : goal.returns
-returns g c =
+pub returns-clause-works : goal.returns-clause-works
+returns-clause-works g c =
     let old = c.args.self.now in
-    record {
-      works =
-          works_on g.B.Lockstep.state g.B.Lockstep.machine old c.post.new.self old.seat.core.known.primary
-          c.post.ensures.same (ap (λ (k : Core). k.known.primary) c.post.ensures.posted.0.1) refl
-          (λ boot taken accepted leads. leads) (λ boot leads kept. kept);
-    }
+    works_on g.B.Lockstep.state g.B.Lockstep.machine old c.post.new.self old.seat.core.known.primary
+    c.post.ensures.same (ap (λ (k : Core). k.known.primary) c.post.ensures.posted.0.1) refl
+    (λ boot taken accepted leads. leads) (λ boot leads kept. kept)

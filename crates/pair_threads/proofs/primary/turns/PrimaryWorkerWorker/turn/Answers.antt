@@ -1,5 +1,5 @@
 -- A turn of a primary's worker: it goes on as it came, or asks who goes on alone.
-use Rattle.std.proofs.Common.{ap, inr, sym, ◌∙◌}
+use Rattle.std.proofs.Common.{ap, inr}
 use Rattle.pair_rule.specs.declared.view.Core.{Core}
 use Rattle.pair_threads.proofs.Ending.{on_ok}
 use Rattle.pair_threads.proofs.Views.{came_on, keeps_alone, leads_alone, some_at}
@@ -15,12 +15,12 @@ returns-in_default-clause-came g c = λ first came.
     on_ok c.work.result (came_on g.B.Lockstep.state g.B.Lockstep.machine first c.args.self.now c.work.new.self came)
     c.work.ensures.works
 
-pub returns-then-eq-clause-came : goal.returns-then-eq-clause-came
-returns-then-eq-clause-came g c = λ first came.
+pub returns-then-asks_at-clause-came : goal.returns-then-asks_at-clause-came
+returns-then-asks_at-clause-came g c = λ first came.
     let old = c.args.self.now in
     let is = ap (λ (k : Core). k.known.primary) c.contest.ensures.view.3 in
     let boot = g.B.Lockstep.state first.guest.board in
-    let some = some_at old.plan.contests_at c.args.number (sym c.eq.ensures ∙ c.if-eq.true) in (
+    let some = some_at old.plan.contests_at c.args.number (c.asks_at.ensures.0 c.if-asks_at.true) in (
       came.0,
       came.1,
       came.2,

@@ -1,0 +1,68 @@
+-- What a book says of a pair: how far its ports have come, its log, and its writes.
+use Rattle.std.specs.Prelude.{◌≡◌, ℕ, zero, suc, ◌+◌, ◌-◌, ◌^◌, ◌==◌, min, not, List, [], filter, replicate, slice_get, slice_set, unwrap_or}
+use Rattle.guest_trace.specs.declared.timed.Bare.{Bare}
+use Rattle.guest_trace.specs.declared.timed.Bare.TheVariants.{Rx, Sent, Sector, Written}
+use Rattle.shell_book.specs.declared.book.Book.{Book}
+use Rattle.shell_book.specs.declared.book.PortNotes.{PortNotes}
+
+-- nothing has come of a port yet
+abbrev pub blank : PortNotes
+blank = record { typed = 0; taken = 0; covered = 0; sent = 0; accepted = 0; heard = 0 }
+
+-- what is noted of a port; nothing of one that is not there
+abbrev pub notes_of : List PortNotes → ℕ → PortNotes
+notes_of ports port = unwrap_or (slice_get ports port) blank
+
+-- one more, up to the greatest number
+abbrev pub next : ℕ → ℕ
+next n = min (n + 1) (2 ^ 64 - 1)
+
+-- what a book says besides its messages
+pub record Progress : Type 0 where
+  pub ports : List PortNotes
+  pub logged : ℕ
+  pub posted : ℕ
+  pub held : ℕ
+  pub writes : ℕ
+  pub undone : List ℕ
+
+abbrev pub progress : Book → Progress
+progress book = record {
+  ports = book.ports;
+  logged = book.logged;
+  posted = book.posted;
+  held = book.held;
+  writes = book.writes;
+  undone = book.undone.items;
+}
+
+-- nothing was noted
+pub record IsBlank (book : Book) : Type 0 where
+  pub letters : book.letters.items ≡ []
+  pub ports : book.ports ≡ replicate 2 blank
+  pub log : (book.logged ≡ 0) × (book.posted ≡ 0) × (book.held ≡ 0)
+  pub writes : (book.writes ≡ 0) × (book.undone.items ≡ [])
+
+-- a port has come so far; one that is not there changes nothing
+abbrev pub put_at : List PortNotes → ℕ → PortNotes → List PortNotes
+put_at ports zero notes = slice_set ports 0 notes
+put_at ports (suc zero) notes = slice_set ports 1 notes
+put_at ports (suc (suc n)) notes = ports
+
+abbrev pub with_port : ℕ → PortNotes → Progress → Progress
+with_port port notes p = record p { ports = put_at p.ports port notes }
+
+-- numbers without one of them
+abbrev pub without : List ℕ → ℕ → List ℕ
+without numbers number = filter (λ n. not (n == number)) numbers
+
+-- what a settled input says: a key was taken, a byte was accepted, a write is done
+abbrev pub settled : Bare → Progress → Progress
+settled (Rx port byte) p = with_port port (record (notes_of p.ports port) { taken = next (notes_of p.ports port).taken }) p
+settled (Sent port) p = with_port port (record (notes_of p.ports port) { heard = next (notes_of p.ports port).heard }) p
+settled (Sector drive sector) p = p
+settled (Written number) p = record p { undone = without p.undone number }
+
+-- before the settled inputs of a node that has won: no key of a port was taken, and no byte accepted
+abbrev pub restarted_at : ℕ → Progress → Progress
+restarted_at port p = with_port port (record (notes_of p.ports port) { taken = 0; heard = 0 }) p
