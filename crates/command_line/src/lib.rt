@@ -1,6 +1,8 @@
 //! The command line: what its words ask for, or the text that refuses them.
 #![tactic(auto)]
 
+mod live_order;
 mod options;
 
+pub use live_order::LiveOrder;
 pub use options::{Request, request_of};

@@ -2,20 +2,23 @@
 ghost use Rattle.std.specs.Prelude.{◌≡◌, IfErr, true};
 ghost use Rattle.command_ending.specs.Statuses.{is_of_command_line};
 
+use crate::live_order::LiveOrder;
 use clap::builder::ValueParser;
 use clap::error::ErrorKind;
 use clap::{Arg, ArgMatches, Command, Error};
 use command_ending::Failure;
-use command_live::LiveOrder;
-use command_script::Order;
 use pair_threads::Fate;
-use std::alloc::Global;
+use std::alloc::{AllocError, Global};
 
 /// What the command line asks for.
 #[derive(Drop)]
 pub enum Request {
-    /// To run a script.
-    Run(Order),
+    /// To print what each line of a script answers.
+    Script,
+    /// To compare the pair at the end of a script with a single machine.
+    Check,
+    /// To draw what happens in a script.
+    Picture,
     /// To run a pair on threads.
     Live(LiveOrder),
     /// To answer lines as they come.
@@ -43,10 +46,6 @@ Exit status: 0 the run ended; 2 this text, or a command line that is none; 3 a b
 script; 4 out of memory; 5 input or output failed; 6 a pair on threads stalled; 7
 `check` found a difference.";
 
-const SCRIPT_USAGE: &str = "pair script < FILE (the script comes from standard input)";
-
-const SHELL_USAGE: &str = "pair shell (lines come from standard input)";
-
 const LIVE_USAGE: &str =
     "pair live [OPTIONS] < FILE (setup and `type` lines come from standard input)";
 
@@ -58,8 +57,6 @@ const MOST_TURNS: u64 = 1_000_000_000;
 
 const TURNS: u64 = 1_000_000;
 
-const CHECK_USAGE: &str = "pair check < FILE (the script comes from standard input)";
-
 /// What the words of a command line ask for; the first word is the program's name.
 pub fn request_of(alloc: Global, arguments: &[String]) -> Result<Request, Failure>
     ensures { IfErr result (λ e. is_of_command_line e ≡ true) }
@@ -70,58 +67,90 @@ pub fn request_of(alloc: Global, arguments: &[String]) -> Result<Request, Failur
     }
 }
 
+// The commands without options: their names, what they do, and how they are called.
+static PLAIN_COMMANDS: [(&str, &str, &str); 4] = [
+    (
+        "script",
+        "Runs a script, and prints a line for each event and query",
+        "pair script < FILE (the script comes from standard input)",
+    ),
+    (
+        "check",
+        "Runs a script silently, and compares the pair with a single machine",
+        "pair check < FILE (the script comes from standard input)",
+    ),
+    (
+        "picture",
+        "Runs a script silently, and draws what happened in it as an SVG picture",
+        "pair picture < FILE > PICTURE.svg (the script comes from standard input)",
+    ),
+    (
+        "shell",
+        "Answers lines as they come; the line `help` lists them all",
+        "pair shell (lines come from standard input)",
+    ),
+];
+
+// The options of `live` that say when somebody asks.
+static ASKS: [(&str, &str); 2] = [
+    (
+        "primary-asks",
+        "The turn at which the primary asks to go on alone",
+    ),
+    (
+        "backup-asks",
+        "The turn at which the backup asks to go on alone",
+    ),
+];
+
 fn parse(alloc: Global, arguments: &[String]) -> Result<Request, Error> {
-    let script = Command::new(alloc, "script")
-        .about("Runs a script, and prints a line for each event and query")
-        .override_usage(SCRIPT_USAGE);
-    let check = Command::new(alloc, "check")
-        .about("Runs a script silently, and compares the pair with a single machine")
-        .override_usage(CHECK_USAGE);
-    let shell = Command::new(alloc, "shell")
-        .about("Answers lines as they come; the line `help` lists them all")
-        .override_usage(SHELL_USAGE);
-    let pair = Command::new(alloc, "pair")
+    let matches = pair_command(alloc)?.try_get_matches_from(arguments)?;
+    match matches.subcommand() {
+        Some(("check", _)) => Ok(Request::Check),
+        Some(("picture", _)) => Ok(Request::Picture),
+        Some(("shell", _)) => Ok(Request::Shell),
+        Some(("live", live)) => Ok(Request::Live(live_order(alloc, live)?)),
+        _ => Ok(Request::Script),
+    }
+}
+
+// The program with all its commands.
+fn pair_command<'a>(alloc: Global) -> Result<Command<'a>, AllocError> {
+    let mut pair = Command::new(alloc, "pair")
         .bin_name("pair")?
         .version("0.1.0")
         .about("A fault-tolerant pair of Altair 8800s")
         .after_help(EXAMPLE)
-        .subcommand_required(true)
-        .subcommand(script)?
-        .subcommand(check)?
-        .subcommand(shell)?
-        .subcommand(live_command(alloc)?)?;
-    let matches = pair.try_get_matches_from(arguments)?;
-    match matches.subcommand() {
-        Some(("check", _)) => Ok(Request::Run(Order::Check)),
-        Some(("shell", _)) => Ok(Request::Shell),
-        Some(("live", live)) => Ok(Request::Live(live_order(alloc, live)?)),
-        _ => Ok(Request::Run(Order::Script)),
+        .subcommand_required(true);
+    for (name, about, usage) in PLAIN_COMMANDS {
+        let command = Command::new(alloc, name).about(about).override_usage(usage);
+        pair = pair.subcommand(command)?;
     }
+    pair.subcommand(live_command(alloc)?)
 }
 
 // The command that runs a pair on threads.
-fn live_command<'a>(alloc: Global) -> Result<Command<'a>, Error> {
+fn live_command<'a>(alloc: Global) -> Result<Command<'a>, AllocError> {
     let turns = turn(alloc, "turns", 1)
         .help("How many turns the primary and the backup have at most")
         .default_value("1000000");
-    let link = Arg::new(alloc, "link")
+    let mut command = Command::new(alloc, "live")
+        .about("Runs a pair on threads, and prints what its terminals have accepted")
+        .override_usage(LIVE_USAGE)
+        .arg(turns)?;
+    for (name, help) in ASKS {
+        command = command.arg(turn(alloc, name, 0).help(help))?;
+    }
+    command.arg(link(alloc))
+}
+
+fn link<'a>(alloc: Global) -> Arg<'a> {
+    Arg::new(alloc, "link")
         .long("link")
         .value_name("FATES")
         .value_delimiter(',')
         .value_parser(ValueParser::Names(FATES))
-        .help("The fates of the packets, in order; the last is that of all others");
-    let command = Command::new(alloc, "live")
-        .about("Runs a pair on threads, and prints what its terminals have accepted")
-        .override_usage(LIVE_USAGE)
-        .arg(turns)?
-        .arg(turn(alloc, "primary-asks", 0).help(
-            "The turn at which the primary asks to go on alone",
-        ))?
-        .arg(turn(alloc, "backup-asks", 0).help(
-            "The turn at which the backup asks to go on alone",
-        ))?
-        .arg(link)?;
-    Ok(command)
+        .help("The fates of the packets, in order; the last is that of all others")
 }
 
 // An option whose value is a number of turns, at least this many.

@@ -3,8 +3,9 @@ ghost use Rattle.std.specs.Prelude.{◌≡◌, IfErr, true};
 ghost use Rattle.command_ending.specs.Statuses.{is_of_input};
 ghost use Rattle.command_live.specs.Living.{PrintsLive, typed_in};
 
-use crate::live::{self, LiveOrder};
+use crate::live;
 use command_ending::{Failure, Report};
+use command_line::LiveOrder;
 use event_callbacks::plain_completions;
 use script_language::{Script, parse_live, read_script};
 use std::alloc::Global;

@@ -5,4 +5,3 @@ mod command;
 mod live;
 
 pub use command::{live_script_of, run_live};
-pub use live::LiveOrder;

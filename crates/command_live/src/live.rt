@@ -9,12 +9,13 @@ ghost use Rattle.command_ending.specs.declared.failure.Failure.TheVariants as fa
 
 use altair_laws::altairs_are_lawful;
 use command_ending::{Failure, Report};
+use command_line::LiveOrder;
 use event_callbacks::{Callbacks, Completes};
 use guest_board::{Board, Setup};
 use i8080_words::{Fault, R};
 use pair_events::{Answer, Event};
 use pair_setup::writes_of;
-use pair_threads::{Fate, GenerationEnd, OpenGate, Who, Workers, run_generation};
+use pair_threads::{GenerationEnd, OpenGate, Who, Workers, run_generation};
 use script_language::{Line, Script};
 use shared_disk::{MemoryStore, SharedDisk};
 use std::alloc::Global;
@@ -22,18 +23,6 @@ use std::fmt;
 use std::io::Write;
 use std::thread::Threads;
 use std::time::Clock;
-
-/// How a pair is run on threads.
-#[derive(Drop)]
-pub struct LiveOrder {
-    /// How many turns the primary, and the backup, have at most.
-    pub turns: u64,
-    /// The turn at which the primary, or the backup, asks to go on alone.
-    pub primary_asks: Option<u64>,
-    pub backup_asks: Option<u64>,
-    /// What becomes of the packets of the link, in order; the last fate is that of all further ones.
-    pub link: Vec<Fate>,
-}
 
 /// How many instructions a guest executes in one turn, at most.
 const STEPS: u64 = 10_000;

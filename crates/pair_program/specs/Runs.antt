@@ -2,6 +2,7 @@
 use Rattle.std.specs.Prelude.{◌≡◌, ℕ, Option, List, Result, Ok, Err}
 use Rattle.std.specs.declared.borrow.CowStr.{CowStr}
 use Rattle.command_live.specs.Living.{PrintsLive, typed_in}
+use Rattle.command_picture.specs.Drawing.{Draws}
 use Rattle.command_script.specs.Printing.{Prints}
 use Rattle.command_shell.specs.Sessions.{Answers}
 use Rattle.command_ending.specs.Statuses.{EndsAs}
@@ -9,16 +10,19 @@ use Rattle.command_ending.specs.declared.failure.Failure.{Failure}
 use Rattle.command_ending.specs.declared.failure.Failure.TheVariants.{CommandLine, BadScript}
 use Rattle.command_ending.specs.declared.failure.Failure.TheVariants.{OutOfMemory, InputOrOutput, Stalled, Differs}
 use Rattle.command_line.specs.declared.options.Request.{Request}
-use Rattle.command_line.specs.declared.options.Request.TheVariants.{Run, Live, Shell}
+use Rattle.command_line.specs.declared.options.Request.TheVariants as request
+use Rattle.command_script.specs.declared.order.Order.TheVariants as order
 use Rattle.script_language.specs.declared.line.Line.{Line}
 use Rattle.script_language.specs.declared.setup.ScriptSetup.{ScriptSetup}
 
--- what a command prints: a script of some lines is run by an order, a pair runs on threads, or lines are answered as they come
+-- what a command prints: the lines of a script are answered, or the pair at their end is compared, or what happens is drawn; a pair runs on threads, or lines are answered as they come
 abbrev pub Obeys : Request → Result (Unit {0}) Failure → Option (List ℕ) → Option (List ℕ) → Type 0
-Obeys (Run order) result old new = (setup : ScriptSetup) × (lines : List Line) × Prints order setup lines result old new
-Obeys (Live order) result old new =
+Obeys request.Script result old new = (setup : ScriptSetup) × (lines : List Line) × Prints order.Script setup lines result old new
+Obeys request.Check result old new = (setup : ScriptSetup) × (lines : List Line) × Prints order.Check setup lines result old new
+Obeys request.Picture result old new = Draws result old new
+Obeys (request.Live how) result old new =
     (setup : ScriptSetup) × (lines : List Line) × PrintsLive setup (typed_in 0 lines) (typed_in 1 lines) result old new
-Obeys Shell result old new = Answers result old new
+Obeys request.Shell result old new = Answers result old new
 
 -- some command was obeyed
 pub record IsObeyed (result : Result (Unit {0}) Failure) (old new : Option (List ℕ)) : Type 0 where

@@ -4,7 +4,8 @@ ghost use Rattle.pair_program.specs.Runs.{IsEnding, IsRun};
 use command_ending::Failure;
 use command_line::{Request, request_of};
 use command_live::{live_script_of, run_live};
-use command_script::{run_script, script_of};
+use command_picture::run_picture;
+use command_script::{Order, run_script, script_of};
 use command_shell::run_shell;
 use event_callbacks::plain_completions;
 use std::alloc::Global;
@@ -30,7 +31,7 @@ pub fn run_program<H: Threads + Clock + Sync, R: Read + Drop, W: Write + Drop>(
     }
 }
 
-#[tactic(auto, using(crate::proofs::Runs::is_run, crate::proofs::Runs::is_live, crate::proofs::Runs::is_session))]
+#[tactic(auto, using(crate::proofs::Runs::refuses_words, crate::proofs::Runs::refuses_input, crate::proofs::Runs::is_picture, crate::proofs::Runs::is_live, crate::proofs::Runs::is_session))]
 fn run<H: Threads + Clock + Sync, R: Read + Drop, W: Write + Drop>(
     rt: &H,
     alloc: Global,
@@ -41,9 +42,11 @@ fn run<H: Threads + Clock + Sync, R: Read + Drop, W: Write + Drop>(
     ensures { IsRun W.contents reader.old reader.new writer.old writer.new result }
 {
     match request_of(alloc, arguments)? {
-        Request::Run(order) => {
+        Request::Script => run_order(alloc, Order::Script, reader, writer),
+        Request::Check => run_order(alloc, Order::Check, reader, writer),
+        Request::Picture => {
             let script = script_of(alloc, reader)?;
-            run_script(alloc, order, &script, writer)
+            run_picture(alloc, &script, writer)
         }
         Request::Live(order) => {
             let script = live_script_of(alloc, reader)?;
@@ -58,4 +61,18 @@ fn run<H: Threads + Clock + Sync, R: Read + Drop, W: Write + Drop>(
             plain_completions::written,
         ),
     }
+}
+
+// Reads a script, and does this with it.
+#[tactic(auto, using(crate::proofs::Runs::refuses_input, crate::proofs::Runs::is_run))]
+fn run_order<R: Read + Drop, W: Write + Drop>(
+    alloc: Global,
+    order: Order,
+    reader: &mut R,
+    writer: &mut W,
+) -> Result<(), Failure>
+    ensures { IsRun W.contents reader.old reader.new writer.old writer.new result }
+{
+    let script = script_of(alloc, reader)?;
+    run_script(alloc, order, &script, writer)
 }

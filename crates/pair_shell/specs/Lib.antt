@@ -1,2 +1,3 @@
+pub mod Backups
 pub mod Playing
 pub mod Sessions

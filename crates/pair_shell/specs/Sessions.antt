@@ -58,5 +58,5 @@ pub record IsAsBefore {X : Type 0} (setup setup' : Opening) (pair pair' : Option
   pub opening : IsSame setup setup'
   pub world : pair' ≡ pair
   pub book : noted'.book ≡ noted.book
-  pub recent : noted'.recent.items ≡ noted.recent.items
+  pub past : noted'.past.items ≡ noted.past.items
   pub is_traced : traced' ≡ traced

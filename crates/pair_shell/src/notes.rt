@@ -1,6 +1,9 @@
 //! The lines after the pair has booted: events and queries.
 ghost use Rattle.std.specs.Prelude.{◌≡◌, [], true, IfOk, string_bytes};
-ghost use Rattle.pair_check.specs.Disks.{over_records};
+ghost use Rattle.ft_world.specs.Applies.{Shows};
+ghost use Rattle.ft_world.specs.Standing.{Course};
+ghost use Rattle.pair_check.specs.Disks.{over_records, records_in};
+ghost use Rattle.pair_shell.specs.Backups.{FindsBackup, IsFirstBackup};
 ghost use Rattle.pair_shell.specs.Playing.{Plays};
 ghost use Rattle.pair_shell.specs.Sessions.{IsHeeded};
 ghost use Rattle.shell_book.specs.Tapes.{Begins, IsAnswered, Traces, trace_text};
@@ -13,6 +16,7 @@ use i8080_words::Fault;
 use pair_check::{Disk, compare, sector_of};
 use pair_events::{Answer, Event, Role};
 use pair_setup::find;
+use sequence_diagram::Moment;
 use shell_book::{Book, Played, Printed};
 use shell_day::{Day, Plan, bytes_to_arrive, entries_to_deliver, entries_to_send};
 use shell_language::{Quoted, ShellLine, Turns};
@@ -20,15 +24,12 @@ use shell_opening::Opening;
 use shell_picture::{print_last, print_picture, print_screen, print_sector, print_sum};
 use std::alloc::{AllocError, Global};
 
-/// How many events a picture shows.
-pub const PICTURE_EVENTS: usize = 24;
-
-/// What was noted since the pair has booted: the book, the events of the last line, and the last events of all.
+/// What was noted since the pair has booted: the book, the events of the last line, and all events with what was seen of them.
 #[derive(Drop)]
 pub struct Notes {
     pub book: Book,
     pub tape: Vec<Played>,
-    pub recent: Vec<Played>,
+    pub past: Vec<Moment>,
 }
 
 impl Notes {
@@ -37,7 +38,7 @@ impl Notes {
         Notes {
             book: Book::new(alloc),
             tape: Vec::new(alloc),
-            recent: Vec::new(alloc),
+            past: Vec::new(alloc),
         }
     }
 
@@ -82,7 +83,7 @@ impl Notes {
             ShellLine::Sector(address) => show_sector(world, address, printed),
             ShellLine::Last => print_last(&self.book, printed),
             ShellLine::Check => check(alloc, opening, world, printed),
-            ShellLine::Picture => print_picture(alloc, &self.book, &self.recent, printed),
+            ShellLine::Picture(stretch) => print_picture(alloc, &self.past, stretch, printed),
             _ => Ok(()),
         }
     }
@@ -101,8 +102,14 @@ impl Notes {
         ensures answered { IfOk result (λ _. IsAnswered event self.new.tape.items printed.old.is_traced
             (string_bytes printed.old.text) (string_bytes printed.new.text)) }
     {
-        let answer = play_one(alloc, world, &mut self.book, event, &mut self.tape)?;
-        keep_recent(&mut self.recent, &self.tape)?;
+        let answer = play_one(
+            alloc,
+            world,
+            &mut self.book,
+            event,
+            &mut self.tape,
+            &mut self.past,
+        )?;
         if printed.is_traced() {
             return printed.trace(&self.tape);
         }
@@ -186,21 +193,16 @@ impl Notes {
         ensures traced { IfOk result (λ _. Traces printed.old.is_traced self.new.tape.items
             (string_bytes printed.old.text) (string_bytes printed.new.text)) }
     {
-        play(alloc, world, &mut self.book, plan, &mut self.tape)?;
-        keep_recent(&mut self.recent, &self.tape)?;
+        play(
+            alloc,
+            world,
+            &mut self.book,
+            plan,
+            &mut self.tape,
+            &mut self.past,
+        )?;
         printed.trace(&self.tape)
     }
-}
-
-// Keeps the last events for a picture.
-fn keep_recent(recent: &mut Vec<Played>, tape: &[Played]) -> Result<(), AllocError> {
-    for played in tape {
-        if recent.len() >= PICTURE_EVENTS {
-            recent.remove(0);
-        }
-        recent.push(*played)?;
-    }
-    Ok(())
 }
 
 // The bytes of a text, each typed at a port.
@@ -212,20 +214,34 @@ fn keys_of(alloc: Global, port: u8, text: Quoted<'_>) -> Result<Vec<Event>, Allo
     Ok(events)
 }
 
-// The backup of a pair, if it has one.
-fn backup_of<B: Copies<H> + Drop, H: Drop>(world: &World<B, Disk, H>, hosts: u8) -> Option<u64> {
+// The backup of a pair, if it has one: the first of its hosts that is one.
+fn backup_of<B: Copies<H> + Drop, H: Drop>(world: &World<B, Disk, H>, hosts: u8) -> Option<u64>
+    ensures { (c : Course B.State) → Shows B.state B.copied B.machine records_in world.now c
+        → IsFirstBackup B.machine c.world.nodes hosts result }
+{
     for node in 0..u64::from(hosts) {
-        if let Some(
-            NodeStatus {
-                role: Role::Backup,
-                ..
-            },
-        ) = world.node(node)
-        {
+        if is_backup(world, node) {
             return Some(node);
         }
     }
     None
+}
+
+// Whether a node is a backup.
+#[tactic(auto, using(crate::proofs::Backups::finds))]
+fn is_backup<B: Copies<H> + Drop, H: Drop>(world: &World<B, Disk, H>, node: u64) -> bool
+    ensures { (c : Course B.State) → Shows B.state B.copied B.machine records_in world.now c
+        → FindsBackup B.machine c.world.nodes node result }
+{
+    match world.node(node) {
+        Some(
+            NodeStatus {
+                role: Role::Backup,
+                ..
+            },
+        ) => true,
+        _ => false,
+    }
 }
 
 // What the disk has in a sector.

@@ -10,6 +10,8 @@ use ft_world::{Message, World};
 use i8080_words::R;
 use pair_check::Disk;
 use pair_events::{Event, Reply};
+use pair_moments::moment_of;
+use sequence_diagram::Moment;
 use shell_book::{Book, Brings, Played};
 use shell_day::Plan;
 use std::alloc::{AllocError, Global};
@@ -23,6 +25,7 @@ pub fn play<B: Copies<H> + Drop, H: Drop>(
     book: &mut Book,
     plan: &mut Plan,
     tape: &mut Vec<Played>,
+    past: &mut Vec<Moment>,
 ) -> Result<(), AllocError>
     ensures { Plays B.state B.copied B.machine world.old tape.new.items world.new }
 {
@@ -31,7 +34,7 @@ pub fn play<B: Copies<H> + Drop, H: Drop>(
         let Some(event) = plan.next(book)? else {
             return Ok(());
         };
-        let answer = play_next(alloc, world, book, event, tape)?;
+        let answer = play_next(alloc, world, book, event, tape, past)?;
         plan.hear(event, answer);
     }
     Ok(())
@@ -45,12 +48,13 @@ pub fn play_one<B: Copies<H> + Drop, H: Drop>(
     book: &mut Book,
     event: Event,
     tape: &mut Vec<Played>,
+    past: &mut Vec<Moment>,
 ) -> Result<R<Reply>, AllocError>
     ensures happened { Plays B.state B.copied B.machine world.old tape.new.items world.new }
     ensures alone { IfOk result (λ answer. tape.new.items ≡ played event answer ∷ []) }
 {
     tape.clear();
-    play_next(alloc, world, book, event, tape)
+    play_next(alloc, world, book, event, tape, past)
 }
 
 // One more event happens, unless memory for it is refused.
@@ -61,14 +65,17 @@ fn play_next<B: Copies<H> + Drop, H: Drop>(
     book: &mut Book,
     event: Event,
     tape: &mut Vec<Played>,
+    past: &mut Vec<Moment>,
 ) -> Result<R<Reply>, AllocError>
     ensures happened { Lengthens B.state B.copied B.machine world.old world.new tape.old.items tape.new.items }
     ensures taped { IfOk result (λ answer. tape.new.items ≡ tape.old.items ++ played event answer ∷ []) }
 {
     tape.reserve(1)?;
     book.make_room()?;
+    past.reserve(1)?;
     let answer = make(alloc, world, event, tape);
     book.note(event, answer, sent_by(world, answer));
+    let _ = past.push(moment_of(world, event, answer));
     Ok(answer)
 }
 

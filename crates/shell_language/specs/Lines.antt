@@ -55,6 +55,12 @@ run_by node turns (word ∷ words) =
     says (shell.Run (record { node = node; turns = turns; loss = Some (record { percent = percent; seed = seed }) })))) words
     else None
 
+-- no more, or `A B`: a stretch of events
+abbrev pub pictured : Reader ShellLine
+pictured [] = Some (shell.Picture None, [])
+pictured (word ∷ words) = number (λ first. number (λ last.
+    says (shell.Picture (Some (record { first = first; last = last }))))) (word ∷ words)
+
 -- The lines that are words: those after the first, and what they say.
 abbrev pub own_of : OwnWord → Reader ShellLine
 own_of own.Send = number (λ node. all (shell.SendAll node))
@@ -65,7 +71,7 @@ own_of own.Screen = small (λ port. says (shell.Screen port))
 own_of own.Sector = λ words. address words >>= λ place. Some (shell.Sector place.0, place.1)
 own_of own.Last = says shell.Last
 own_of own.Check = says shell.Check
-own_of own.Picture = says shell.Picture
+own_of own.Picture = pictured
 own_of own.Trace = switch
 own_of own.Help = says shell.Help
 own_of own.Load = bad

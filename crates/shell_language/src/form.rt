@@ -23,7 +23,7 @@ macro_rules! forms {
 
 // All forms.
 #[rattlefmt::skip]
-static FORMS: [Form; 52] = forms![
+static FORMS: [Form; 53] = forms![
     ["mem", [Address, Bytes], "mem AAAA HH ..", "setup: these bytes from this address on"],
     ["load", [Record], "load :LLAAAATTDD..CC", "setup: a record of Intel HEX; the word load may be left out"],
     ["drives", [Within(1, 4)], "drives N", "setup: 1 to 4 drives"],
@@ -73,6 +73,7 @@ static FORMS: [Form; 52] = forms![
     ["sector", [Within(0, 3), Within(0, 76), Within(0, 31)], "sector D T S", "what the disk has there"],
     ["check", [], "check", "compares what is settled with the single machine"],
     ["picture", [], "picture", "the last events as a diagram"],
+    ["picture", [Number, Number], "picture A B", "the events from A to B, counted from 0"],
     ["trace", [Exactly("on")], "trace on", "from here on what is printed is a script"],
     ["trace", [Exactly("off")], "trace off", "no longer"],
     ["help", [], "help", "this list"],

@@ -14,7 +14,7 @@ mod spelled;
 
 pub use form::{Form, forms, mistake_in};
 pub use kind::Kind;
-pub use line::{Loss, ShellLine, Turns};
+pub use line::{Loss, ShellLine, Stretch, Turns};
 pub use loading::{Record, RecordMistake, read_record};
 pub use mistake::{LINE_BYTES, Mistake, Shown};
 pub use quoted::Quoted;

@@ -21,6 +21,13 @@ pub struct Turns {
     pub loss: Option<Loss>,
 }
 
+/// Events by their numbers, from 0: the first and the last of them.
+#[derive(Clone, Copy)]
+pub struct Stretch {
+    pub first: u64,
+    pub last: u64,
+}
+
 /// What a line says.
 #[derive(Drop)]
 pub enum ShellLine<'a> {
@@ -69,8 +76,8 @@ pub enum ShellLine<'a> {
     Last,
     /// Whether the pair has done what one machine does.
     Check,
-    /// The last events as a diagram.
-    Picture,
+    /// Events as a diagram: those of a stretch, or the last ones.
+    Picture(Option<Stretch>),
     /// Whether events are printed as the lines of a script.
     Trace(bool),
     /// The list of all lines.

@@ -2,9 +2,9 @@
 ghost use Rattle.std.specs.Prelude.{◌≡◌, ◌≤◌, length};
 ghost use Rattle.std.specs.List.{position_or_len};
 ghost use Rattle.script_language.specs.Words.{found, whole, words_of};
-ghost use Rattle.shell_language.specs.Lines.{all, address, is_quote, own_of, port_in, quoted_in, run_by, switch, typed_in};
+ghost use Rattle.shell_language.specs.Lines.{all, address, is_quote, own_of, pictured, port_in, quoted_in, run_by, switch, typed_in};
 
-use crate::line::{Loss, ShellLine, Turns};
+use crate::line::{Loss, ShellLine, Stretch, Turns};
 use crate::own::OwnWord;
 use crate::quoted::Quoted;
 use disk_dcdd::SectorAddress;
@@ -48,7 +48,7 @@ fn line_of<'a>(own: OwnWord, words: &mut Words<'a>) -> Option<ShellLine<'a>>
         }
         OwnWord::Last => Some(ShellLine::Last),
         OwnWord::Check => Some(ShellLine::Check),
-        OwnWord::Picture => Some(ShellLine::Picture),
+        OwnWord::Picture => picture(words),
         OwnWord::Trace => trace(words),
         OwnWord::Help => Some(ShellLine::Help),
         OwnWord::Load | OwnWord::Type => None,
@@ -94,6 +94,18 @@ fn trace<'a>(words: &mut Words<'a>) -> Option<ShellLine<'a>>
         return Some(ShellLine::Trace(false));
     }
     None
+}
+
+// Events as a diagram: a stretch of them, if numbers follow.
+fn picture<'a>(words: &mut Words<'a>) -> Option<ShellLine<'a>>
+    ensures { pictured words.old ≡ found result words.new }
+{
+    if words.again().next().is_none() {
+        return Some(ShellLine::Picture(None));
+    }
+    let first = words.number()?;
+    let last = words.number()?;
+    Some(ShellLine::Picture(Some(Stretch { first, last })))
 }
 
 /// Takes a drive, a track and a sector.

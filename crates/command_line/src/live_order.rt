@@ -1,0 +1,15 @@
+//! What is asked of a pair on threads.
+
+use pair_threads::Fate;
+
+/// How a pair is run on threads.
+#[derive(Drop)]
+pub struct LiveOrder {
+    /// How many turns the primary, and the backup, have at most.
+    pub turns: u64,
+    /// The turn at which the primary, or the backup, asks to go on alone.
+    pub primary_asks: Option<u64>,
+    pub backup_asks: Option<u64>,
+    /// What becomes of the packets of the link, in order; the last fate is that of all further ones.
+    pub link: Vec<Fate>,
+}

@@ -1,0 +1,75 @@
+//! A script that is run, and drawn.
+ghost use Rattle.std.specs.Prelude.{◌≡◌, IfErr};
+ghost use Rattle.command_ending.specs.declared.failure.Failure.TheVariants as failure;
+ghost use Rattle.command_picture.specs.Drawing.{Draws};
+ghost use Rattle.event_callbacks.specs.declared.devices.TheConstants.{SENT, SECTOR, WRITTEN};
+ghost use Rattle.event_callbacks.specs.Keeping.{Keeps};
+
+use clone_state::Copies;
+use command_ending::Failure;
+use event_callbacks::{Completes, plain_completions};
+use ft_world::World;
+use pair_check::Disk;
+use pair_moments::moment_of;
+use pair_setup::{boot, writes_of};
+use script_language::{Line, Script};
+use sequence_diagram::{Moment, draw};
+use std::alloc::{AllocError, Global};
+use std::io::Write;
+
+/// Runs a script, and writes a picture of what happened in it.
+pub fn run_picture<W: Write + Drop>(
+    alloc: Global,
+    script: &Script,
+    writer: &mut W,
+) -> Result<(), Failure>
+    ensures { Draws result (W.contents writer.old) (W.contents writer.new) }
+{
+    let moments = run(
+        alloc,
+        script,
+        plain_completions::sent,
+        plain_completions::sector,
+        plain_completions::written,
+    )?;
+    let picture = draw(alloc, &moments)?;
+    writer.write_all(picture.as_bytes())?;
+    writer.flush()?;
+    Ok(())
+}
+
+// Boots a pair whose completions are these closures, and makes the events of a script happen.
+fn run<T: Completes + Drop + Copy, S: Completes + Drop + Copy, W: Completes + Drop + Copy>(
+    alloc: Global,
+    script: &Script,
+    sent: T,
+    sector: S,
+    written: W,
+) -> Result<Vec<Moment>, Failure>
+    requires sent { Keeps (T.may sent) (T.gives sent) SENT }
+    requires sector { Keeps (S.may sector) (S.gives sector) SECTOR }
+    requires written { Keeps (W.may written) (W.gives written) WRITTEN }
+    ensures { IfErr result (λ e. e ≡ failure.OutOfMemory) }
+{
+    let setup = &script.setup;
+    let sectors = writes_of(alloc, &setup.sectors)?;
+    let mut world = boot(alloc, setup, &sectors, sent, sector, written)?;
+    let moments = tell(alloc, &mut world, &script.lines)?;
+    Ok(moments)
+}
+
+// Makes every event happen, and tells of each.
+fn tell<B: Copies<H> + Drop, H: Drop>(
+    alloc: Global,
+    world: &mut World<B, Disk, H>,
+    lines: &[Line],
+) -> Result<Vec<Moment>, AllocError> {
+    let mut moments = Vec::new(alloc);
+    for line in lines {
+        if let Line::Event(event) = *line {
+            let answer = world.apply(alloc, event);
+            moments.push(moment_of(world, event, answer))?;
+        }
+    }
+    Ok(moments)
+}

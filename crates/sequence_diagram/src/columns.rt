@@ -1,0 +1,104 @@
+//! The columns of a diagram, from left to right: terminals, nodes, the arbiter and the disk, those that take part.
+
+use crate::moment::Moment;
+use crate::place::Place;
+use event_callbacks::{OpId, PORTS};
+use guest_lockstep::StopReason;
+use pair_events::{Event, Reply};
+use std::alloc::{AllocError, Global};
+
+/// The places that take part in a run. Nodes 0 and 1 always do.
+#[derive(Drop)]
+pub struct Columns {
+    pub places: Vec<Place>,
+}
+
+// Which places take part.
+#[derive(Drop)]
+struct Parts {
+    ports: [bool; PORTS],
+    arbiter: bool,
+    disk: bool,
+}
+
+impl Columns {
+    /// Those of a run.
+    pub fn of(alloc: Global, moments: &[Moment]) -> Result<Columns, AllocError> {
+        let mut parts = Parts {
+            ports: [false; PORTS],
+            arbiter: false,
+            disk: false,
+        };
+        let mut nodes = vec![in alloc; Place::Node(0), Place::Node(1)]?;
+        for moment in moments {
+            parts.note(moment);
+            if let (Event::BeginPair { host, .. }, Ok(Reply::Generation { .. })) = (
+                moment.event,
+                moment.answer,
+            ) {
+                nodes.push(Place::Node(host))?;
+            }
+        }
+        let mut places = Vec::new(alloc);
+        for (port, takes_part) in [(0u8, parts.ports[0]), (1u8, parts.ports[1])] {
+            if takes_part {
+                places.push(Place::Terminal(port))?;
+            }
+        }
+        places.extend_from_slice(&nodes)?;
+        if parts.arbiter {
+            places.push(Place::Arbiter)?;
+        }
+        if parts.disk {
+            places.push(Place::Disk)?;
+        }
+        Ok(Columns { places })
+    }
+
+    /// The column of a place, from 0; the first if it has none.
+    pub fn column(&self, place: Place) -> usize {
+        self.places
+            .iter()
+            .position(|other| *other == place)
+            .unwrap_or(0)
+    }
+}
+
+impl Parts {
+    // Notes what takes part in an event.
+    fn note(&mut self, moment: &Moment) {
+        match moment.event {
+            Event::TypeByte { port, .. }
+            | Event::TakeKey { port, .. }
+            | Event::TellSent { port, .. }
+            | Event::Told { port, .. }
+            | Event::Release {
+                id: OpId::Byte(port, _),
+                ..
+            } => self.note_port(port),
+            Event::Arrive { .. } => self.note_port(0),
+            Event::Suspect { .. } => self.arbiter = true,
+            Event::Put { .. } | Event::Get { .. } | Event::Fetch { .. } => self.disk = true,
+            Event::Release {
+                id: OpId::Write(_),
+                ..
+            } => self.disk = true,
+            _ => {}
+        }
+        if let Ok(
+            Reply::Ran {
+                why: StopReason::Operation(OpId::Byte(port, _)),
+                ..
+            },
+        ) = moment.answer
+        {
+            self.note_port(port);
+        }
+    }
+
+    fn note_port(&mut self, port: u8) {
+        if let Some(takes_part) = self.ports.get_mut(usize::from(port)) {
+            *takes_part = true;
+        }
+    }
+}

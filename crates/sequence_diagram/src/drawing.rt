@@ -1,0 +1,127 @@
+//! The elements of an SVG picture, one after another.
+
+use crate::geometry::Point;
+use std::alloc::{AllocError, Global};
+use std::fmt;
+
+/// A picture as it is drawn.
+#[derive(Drop)]
+pub struct Drawing {
+    text: String,
+    // The last words alone, to be escaped.
+    words: String,
+}
+
+/// On which side of its point a text is.
+#[derive(Clone, Copy)]
+pub enum Side {
+    Left,
+    Middle,
+    Right,
+}
+
+impl Side {
+    fn anchor(self) -> &'static str {
+        match self {
+            Side::Left => "end",
+            Side::Middle => "middle",
+            Side::Right => "start",
+        }
+    }
+}
+
+impl Drawing {
+    /// An empty picture of this size, with this style.
+    pub fn new(alloc: Global, width: u64, height: u64, style: &str) -> Result<Drawing, AllocError> {
+        let mut drawing = Drawing {
+            text: String::new(alloc),
+            words: String::new(alloc),
+        };
+        writeln!(
+            drawing.text,
+            "<svg xmlns=\"http://www.w3.org/2000/svg\" viewBox=\"0 0 {width} {height}\" width=\"{width}\" height=\"{height}\">"
+        )?;
+        drawing.text.push_str(style)?;
+        writeln!(
+            drawing.text,
+            "<rect class=\"page\" x=\"0\" y=\"0\" width=\"{width}\" height=\"{height}\"/>"
+        )?;
+        Ok(drawing)
+    }
+
+    /// The whole picture.
+    pub fn finish(self) -> Result<String, AllocError> {
+        let Drawing { mut text, .. } = self;
+        text.push_str("</svg>\n")?;
+        Ok(text)
+    }
+
+    /// A line from one point to another.
+    pub fn line(&mut self, class: &str, from: Point, to: Point) -> Result<(), AllocError> {
+        writeln!(
+            self.text,
+            "<line class=\"{class}\" x1=\"{}\" y1=\"{}\" x2=\"{}\" y2=\"{}\"/>",
+            from.x, from.y, to.x, to.y
+        )
+    }
+
+    /// A rectangle from its upper left corner to its lower right one.
+    pub fn rect(&mut self, class: &str, from: Point, to: Point) -> Result<(), AllocError> {
+        let width = to.x.saturating_sub(from.x);
+        let height = to.y.saturating_sub(from.y);
+        writeln!(
+            self.text,
+            "<rect class=\"{class}\" x=\"{}\" y=\"{}\" width=\"{width}\" height=\"{height}\"/>",
+            from.x, from.y
+        )
+    }
+
+    /// A cross.
+    pub fn cross(&mut self, at: Point) -> Result<(), AllocError> {
+        let left = at.x.saturating_sub(5);
+        let right = at.x.saturating_add(5);
+        let above = at.y.saturating_sub(5);
+        let below = at.y.saturating_add(5);
+        writeln!(
+            self.text,
+            "<path class=\"cross\" d=\"M{left} {above}L{right} {below}M{left} {below}L{right} {above}\"/>"
+        )
+    }
+
+    /// Words beside a point; nothing if there are none. How many bytes they have.
+    pub fn words<D: fmt::Display>(
+        &mut self,
+        class: &str,
+        at: Point,
+        side: Side,
+        words: &D,
+    ) -> Result<usize, AllocError> {
+        self.words.clear();
+        write!(self.words, "{words}")?;
+        if self.words.is_empty() {
+            return Ok(0);
+        }
+        write!(
+            self.text,
+            "<text class=\"{class}\" x=\"{}\" y=\"{}\" text-anchor=\"{}\">",
+            at.x,
+            at.y,
+            side.anchor()
+        )?;
+        for letter in self.words.chars() {
+            escape(&mut self.text, letter)?;
+        }
+        self.text.push_str("</text>\n")?;
+        Ok(self.words.len())
+    }
+}
+
+// Appends a letter as it is written between two tags.
+fn escape(text: &mut String, letter: char) -> Result<(), AllocError> {
+    match letter {
+        '&' => text.push_str("&amp;"),
+        '<' => text.push_str("&lt;"),
+        '>' => text.push_str("&gt;"),
+        other => text.push(other),
+    }
+}

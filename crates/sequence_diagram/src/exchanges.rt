@@ -1,0 +1,35 @@
+//! What passes between two places at once, without a message: keys, what a terminal has accepted, questions to the arbiter.
+
+use crate::moment::Moment;
+use crate::place::Place;
+use i8080_words::Fault;
+use pair_events::Event;
+
+/// An exchange: who begins it, and with whom.
+#[derive(Clone, Copy)]
+pub struct Exchange {
+    pub from: Place,
+    pub to: Place,
+}
+
+/// The exchange that an event is, if it was not refused; the arbiter's refusal is an answer of its own.
+pub fn exchange_of(moment: &Moment) -> Option<Exchange> {
+    match (moment.event, moment.answer) {
+        (Event::Suspect { node }, Ok(_) | Err(Fault::Lost)) => Some(Exchange {
+            from: Place::Node(node),
+            to: Place::Arbiter,
+        }),
+        (_, Err(_)) => None,
+        (Event::TakeKey { node, port, .. } | Event::TellSent { node, port, .. }, Ok(_)) => {
+            Some(Exchange {
+                from: Place::Terminal(port),
+                to: Place::Node(node),
+            })
+        }
+        (Event::Told { node, port }, Ok(_)) => Some(Exchange {
+            from: Place::Node(node),
+            to: Place::Terminal(port),
+        }),
+        _ => None,
+    }
+}

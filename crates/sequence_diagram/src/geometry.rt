@@ -1,0 +1,67 @@
+//! Where columns and lines are, in pixels.
+ghost use Rattle.std.specs.Prelude.{◌≡◌, ◌+◌, ◌*◌, ◌<◌, ◌≤◌};
+ghost use Rattle.sequence_diagram.specs.Geometry.{gap_of, width_of, x_of, y_of};
+
+/// The width of a picture of at most five columns, and the margins left of the first column and right of the last.
+pub const WIDTH: u64 = 1200;
+
+pub const LEFT: u64 = 210;
+
+pub const RIGHT: u64 = 170;
+
+/// How far two columns are apart, at least and at most.
+pub const LEAST_GAP: u64 = 205;
+
+pub const MOST_GAP: u64 = 300;
+
+/// The first line, and how far two lines are apart.
+pub const TOP: u64 = 92;
+
+pub const LINE: u64 = 26;
+
+/// What is below the last line.
+pub const BOTTOM: u64 = 30;
+
+/// How many columns and lines there may be at most.
+pub const MOST: u64 = 1_000_000_000;
+
+/// A point of the picture.
+#[derive(Clone, Copy)]
+pub struct Point {
+    pub x: u64,
+    pub y: u64,
+}
+
+/// How far columns are apart.
+pub fn column_gap(columns: u64) -> u64
+    ensures exact { result ≡ gap_of columns }
+    ensures within { result ≤ MOST_GAP }
+{
+    let gaps = columns.saturating_sub(1).max(1);
+    let room = (WIDTH - (LEFT + RIGHT)) / gaps;
+    room.min(MOST_GAP).max(LEAST_GAP)
+}
+
+/// Where a column is, of so many.
+pub fn column_x(columns: u64, column: u64) -> u64
+    requires { column ≤ MOST }
+    ensures { result ≡ x_of columns column }
+{
+    LEFT + column_gap(columns) * column
+}
+
+/// How wide a picture is.
+pub fn picture_width(columns: u64) -> u64
+    requires { columns ≤ MOST }
+    ensures { result ≡ width_of columns }
+{
+    LEFT + column_gap(columns) * columns.saturating_sub(1) + RIGHT
+}
+
+/// Where a line is.
+pub fn line_y(line: u64) -> u64
+    requires { line ≤ MOST }
+    ensures { result ≡ y_of line }
+{
+    TOP + LINE * line
+}

@@ -1,0 +1,105 @@
+//! The style of a picture, and the legend below it.
+
+use crate::drawing::{Drawing, Side};
+use crate::geometry::Point;
+use crate::lifelines::draw_band;
+use pair_events::Role;
+use std::alloc::AllocError;
+
+/// How high the legend is.
+pub const LEGEND: u64 = 76;
+
+/// The classes of all elements. Each differs from the others without its colour too.
+pub const STYLE: &str = "\
+<defs>
+<marker id=\"head\" viewBox=\"0 0 10 10\" refX=\"10\" refY=\"5\" markerWidth=\"8\" markerHeight=\"8\" orient=\"auto\">\
+<path d=\"M0 1L10 5L0 9z\"/></marker>
+<pattern id=\"hatch\" width=\"6\" height=\"6\" patternUnits=\"userSpaceOnUse\" patternTransform=\"rotate(45)\">\
+<rect width=\"6\" height=\"6\" fill=\"#fff\"/><rect width=\"3\" height=\"6\" fill=\"#b45f06\"/></pattern>
+</defs>
+<style>
+text{font:13px sans-serif;fill:#111;stroke:#fff;stroke-width:4px;stroke-linejoin:round;paint-order:stroke}
+.head{font-size:15px;font-weight:bold}
+.role,.count{font-size:12px}
+.outcome{font-style:italic}
+.refused{fill:#a61c00;font-weight:bold;font-size:12px}
+.waiting{fill:#a61c00;font-size:12px}
+.page{fill:#fff}
+.rest{stroke:#999;stroke-dasharray:2 4}
+.primary{fill:#1c4587;stroke:#1c4587}
+.backup{fill:#fff;stroke:#1c4587;stroke-width:1.5}
+.joining{fill:#fff;stroke:#1c4587;stroke-width:1.5;stroke-dasharray:3 3}
+.draining{fill:url(#hatch);stroke:#b45f06}
+.alone{fill:#38761d;stroke:#38761d}
+.inside{stroke:#fff;stroke-width:3}
+.arrow,.exchange{stroke:#111;stroke-width:1.5;marker-end:url(#head)}
+.exchange{stroke-dasharray:1 3;stroke-linecap:round}
+.again{stroke:#111;stroke-width:1.5;stroke-dasharray:7 4;marker-end:url(#head)}
+.lost{stroke:#111;stroke-width:1.5}
+.cross{stroke:#a61c00;stroke-width:2.5;fill:none}
+.waits{fill:none;stroke:#a61c00;stroke-width:3;stroke-dasharray:3 2}
+.number{fill:#fff;stroke:#111}
+</style>
+";
+
+// The roles of the legend.
+static ROLES: [Role; 6] = [
+    Role::Primary,
+    Role::Backup,
+    Role::Joining,
+    Role::Draining,
+    Role::Alone,
+    Role::Halted,
+];
+
+// What its lines mean, by their class.
+static MEANINGS: [(&str, &str); 5] = [
+    ("arrow", "message"),
+    ("again", "brought again"),
+    ("lost", "lost"),
+    ("exchange", "passes at once"),
+    ("waits", "output waits"),
+];
+
+/// Draws the legend, from this height on.
+pub fn draw_legend(drawing: &mut Drawing, top: u64) -> Result<(), AllocError> {
+    let mut x = 40u64;
+    let y = top.saturating_add(14);
+    for role in &ROLES {
+        let begin = match role {
+            Role::Halted => y.saturating_add(9),
+            _ => y,
+        };
+        draw_band(
+            drawing,
+            Some(*role),
+            Point { x, y: begin },
+            y.saturating_add(18),
+        )?;
+        let at = Point {
+            x: x.saturating_add(12),
+            y: y.saturating_add(14),
+        };
+        drawing.words("role", at, Side::Right, role)?;
+        x = x.saturating_add(110);
+    }
+    x = 40;
+    let y = top.saturating_add(54);
+    for (class, meaning) in &MEANINGS {
+        let end = Point {
+            x: x.saturating_add(40),
+            y,
+        };
+        drawing.line(class, Point { x, y }, end)?;
+        if *class == "lost" {
+            drawing.cross(end)?;
+        }
+        let at = Point {
+            x: x.saturating_add(54),
+            y: y.saturating_add(4),
+        };
+        drawing.words("role", at, Side::Right, meaning)?;
+        x = x.saturating_add(160);
+    }
+    Ok(())
+}

@@ -1,0 +1,37 @@
+//! A run of a pair as a sequence diagram: what is told of it, which message made which arrow, and a drawing of that as SVG.
+#![tactic(auto)]
+
+mod arrows;
+mod cargo;
+mod columns;
+mod drawing;
+mod exchanges;
+mod flights;
+mod geometry;
+mod legend;
+mod lifelines;
+mod lines;
+mod moment;
+mod notes;
+mod outcomes;
+mod picture;
+mod place;
+mod plan;
+mod screens;
+mod strokes;
+mod texts;
+mod waits;
+
+pub use arrows::{Arrow, Departure, arrow_to, departure_from};
+pub use cargo::Carried;
+pub use columns::Columns;
+pub use exchanges::{Exchange, exchange_of};
+pub use flights::{Flight, flight_to};
+pub use lifelines::first_role;
+pub use lines::{Lines, lines_of};
+pub use moment::{Cargo, Look, Moment};
+pub use notes::Note;
+pub use outcomes::Outcome;
+pub use picture::draw;
+pub use place::{Place, aim_of, node_of, place_of, receiver_of, sender_of};
+pub use waits::{Wait, waits_of};

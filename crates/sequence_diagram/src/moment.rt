@@ -1,0 +1,117 @@
+//! What is told of a run: its events, what was answered to each, and what is seen of the pair after it.
+ghost use Rattle.std.specs.Prelude.{◌≡◌};
+ghost use Rattle.sequence_diagram.specs.Messages.{brought_by, delivered_by, sent_by};
+
+use disk_dcdd::SectorAddress;
+use guest_trace::Bare;
+use i8080_words::{Fault, R};
+use pair_events::{Event, Reply, Role};
+
+/// What a message carries.
+#[derive(Clone, Copy)]
+pub enum Cargo {
+    /// An entry of the log: its index, its count, and its input; none if it marks that the machine gave output.
+    Entry {
+        index: u64,
+        count: u64,
+        input: Option<Bare>,
+    },
+    /// How many entries the backup holds, and how many it has replayed, if it says so.
+    Acknowledgement {
+        held: u64,
+        replayed: Option<u64>,
+    },
+    /// A part of an image.
+    Part,
+    /// A byte for a terminal, with its number.
+    Byte {
+        port: u8,
+        number: u64,
+        byte: u8,
+    },
+    /// A write for a sector of the disk.
+    Write {
+        number: u64,
+        address: SectorAddress,
+    },
+    /// The write of this number is done.
+    Written {
+        number: u64,
+    },
+    /// What a sector has: the bytes of the write of this number.
+    Sector {
+        number: u64,
+        address: SectorAddress,
+    },
+}
+
+/// What a node shows of itself.
+#[derive(Clone, Copy)]
+pub struct Look {
+    pub node: u64,
+    pub role: Role,
+    pub count: u64,
+}
+
+/// An event, its answer, what the message carries that it has sent, if it has sent one, and what the node shows after it
+/// at which it happens, if it happens at one.
+#[derive(Clone, Copy)]
+pub struct Moment {
+    pub event: Event,
+    pub answer: R<Reply>,
+    pub cargo: Option<Cargo>,
+    pub look: Option<Look>,
+}
+
+impl Moment {
+    /// The message that the event has sent.
+    pub fn sends(&self) -> Option<u64>
+        ensures { result ≡ sent_by self.now }
+    {
+        match self.answer {
+            Ok(Reply::Message { message }) => Some(message),
+            _ => None,
+        }
+    }
+
+    /// The message that the event has brought to someone, even if it was refused there; none if either was not there.
+    pub fn brings(&self) -> Option<u64>
+        ensures { result ≡ brought_by self.now }
+    {
+        match self.answer {
+            Err(Fault::Unknown) => None,
+            _ => delivered(self.event),
+        }
+    }
+
+    /// The role of a node after the event, if the event tells it.
+    pub fn role_of(&self, node: u64) -> Option<Role> {
+        if let (Event::BeginPair { host, .. }, Ok(_)) = (self.event, self.answer) {
+            if host == node {
+                return Some(Role::Joining);
+            }
+        }
+        let look = self.look?;
+        if look.node == node {
+            return Some(look.role);
+        }
+        None
+    }
+}
+
+/// The message that an event delivers.
+pub fn delivered(event: Event) -> Option<u64>
+    ensures { result ≡ delivered_by event }
+{
+    match event {
+        Event::DeliverLog { message, .. } => Some(message),
+        Event::DeliverAcknowledgement { message, .. } => Some(message),
+        Event::Arrive { message } => Some(message),
+        Event::Put { message } => Some(message),
+        Event::PutReply { message, .. } => Some(message),
+        Event::GetReply { message, .. } => Some(message),
+        Event::Fetched { message, .. } => Some(message),
+        Event::PartComes { message, .. } => Some(message),
+        _ => None,
+    }
+}

@@ -1,0 +1,52 @@
+//! What becomes of a message where it comes, and what the arbiter answers, in words.
+
+use crate::moment::{Look, Moment};
+use i8080_words::Fault;
+use pair_events::{Event, Reply};
+use std::fmt;
+
+/// What an event did with the message that it brought, or what an exchange has come to; nothing if that goes without
+/// saying.
+#[derive(Clone, Copy)]
+pub struct Outcome(pub Moment);
+
+impl Outcome {
+    /// Whether it goes without saying.
+    pub fn is_plain(&self) -> bool {
+        match (self.0.event, self.0.answer) {
+            (Event::Put { .. }, Ok(_)) => false,
+            (_, Ok(Reply::Taken | Reply::Told { .. } | Reply::Held { .. })) => true,
+            _ => false,
+        }
+    }
+}
+
+impl fmt::Display for Outcome {
+    fn fmt<W: fmt::Write>(&self, f: &mut fmt::Formatter<W>) -> fmt::Result {
+        match (self.0.event, self.0.answer) {
+            (Event::Suspect { .. }, Err(Fault::Lost)) => f.write_str("refuses: the other won"),
+            (_, Err(fault)) => write!(f, "refused, {fault}"),
+            (Event::Suspect { .. }, Ok(_)) => write_winner(f, self.0.look),
+            (Event::Put { .. }, Ok(_)) => f.write_str("stored"),
+            (_, Ok(reply)) => write_reply(f, reply),
+        }
+    }
+}
+
+fn write_winner<W: fmt::Write>(f: &mut fmt::Formatter<W>, look: Option<Look>) -> fmt::Result {
+    match look {
+        Some(Look { node, .. }) => write!(f, "node {node} has won"),
+        None => Ok(()),
+    }
+}
+
+fn write_reply<W: fmt::Write>(f: &mut fmt::Formatter<W>, reply: Reply) -> fmt::Result {
+    match reply {
+        Reply::New => f.write_str("held"),
+        Reply::Old => f.write_str("nothing new"),
+        Reply::Accepted => f.write_str("accepted"),
+        Reply::Dropped => f.write_str("dropped"),
+        Reply::Whole => f.write_str("the copy is whole"),
+        _ => Ok(()),
+    }
+}

@@ -1,0 +1,146 @@
+//! Where things happen: at a terminal, at a node, at the arbiter or at the disk.
+
+use crate::arrows::arrow_to;
+use crate::moment::{Cargo, Moment};
+use event_callbacks::OpId;
+use pair_events::{Event, Reply};
+use std::fmt;
+
+/// A line of the diagram from top to bottom.
+#[derive(Clone, Copy, PartialEq, Eq)]
+pub enum Place {
+    Terminal(u8),
+    Node(u64),
+    Arbiter,
+    Disk,
+}
+
+impl fmt::Display for Place {
+    fn fmt<W: fmt::Write>(&self, f: &mut fmt::Formatter<W>) -> fmt::Result {
+        match self {
+            Place::Terminal(port) => write!(f, "terminal {port}"),
+            Place::Node(node) => write!(f, "node {node}"),
+            Place::Arbiter => f.write_str("arbiter"),
+            Place::Disk => f.write_str("disk"),
+        }
+    }
+}
+
+/// The node at which an event happens, if it happens at one.
+pub fn node_of(event: Event) -> Option<u64> {
+    match event {
+        Event::Step { node, .. }
+        | Event::TakeKey { node, .. }
+        | Event::Send { node, .. }
+        | Event::DeliverLog { node, .. }
+        | Event::Acknowledge { node }
+        | Event::DeliverAcknowledgement { node, .. }
+        | Event::Replay { node, .. }
+        | Event::Release { node, .. } => Some(node),
+        _ => later_node_of(event),
+    }
+}
+
+fn later_node_of(event: Event) -> Option<u64> {
+    match event {
+        Event::TellSent { node, .. }
+        | Event::Told { node, .. }
+        | Event::PutReply { node, .. }
+        | Event::Get { node, .. }
+        | Event::GetReply { node, .. }
+        | Event::Fetch { node }
+        | Event::Fetched { node, .. } => Some(node),
+        _ => change_node_of(event),
+    }
+}
+
+fn change_node_of(event: Event) -> Option<u64> {
+    match event {
+        Event::Suspect { node }
+        | Event::Drain { node, .. }
+        | Event::BeginPair { node, .. }
+        | Event::Freshen { node, .. }
+        | Event::SendPart { node, .. }
+        | Event::PartComes { node, .. }
+        | Event::Stop { node } => Some(node),
+        _ => None,
+    }
+}
+
+/// Where a message leaves that an event has sent.
+pub fn sender_of(event: Event) -> Place {
+    match event {
+        Event::Send { node, .. }
+        | Event::Acknowledge { node }
+        | Event::Release { node, .. }
+        | Event::SendPart { node, .. } => Place::Node(node),
+        _ => Place::Disk,
+    }
+}
+
+/// Where a message comes that the first event has sent and the second one brings.
+pub fn receiver_of(sent: &Moment, event: Event) -> Place {
+    match (event, sent.cargo) {
+        (Event::Put { .. }, _) => Place::Disk,
+        (Event::Arrive { .. }, Some(Cargo::Byte { port, .. })) => Place::Terminal(port),
+        (other, _) => match node_of(other) {
+            Some(node) => Place::Node(node),
+            None => Place::Terminal(0),
+        },
+    }
+}
+
+/// Where an event happens that neither sends nor brings a message.
+pub fn place_of(event: Event) -> Place {
+    if let Event::TypeByte { port, .. } = event {
+        return Place::Terminal(port);
+    }
+    match (event, node_of(event)) {
+        (_, Some(node)) => Place::Node(node),
+        (Event::Put { .. }, None) => Place::Disk,
+        (_, None) => Place::Terminal(0),
+    }
+}
+
+/// Where a message is to come that the event at a place of the run has sent.
+pub fn aim_of(moments: &[Moment], place: usize) -> Option<Place> {
+    let moment = moments.get(place)?;
+    match moment.event {
+        Event::Send { node, .. } | Event::Acknowledge { node } | Event::SendPart { node, .. } => {
+            Some(Place::Node(peer_of(moments, place, node)))
+        }
+        Event::Release {
+            id: OpId::Byte(port, _),
+            ..
+        } => Some(Place::Terminal(port)),
+        Event::Release {
+            id: OpId::Write(_),
+            ..
+        } => Some(Place::Disk),
+        Event::Put { .. } => {
+            let arrow = arrow_to(moments, place)?;
+            let sent = moments.get(arrow.sent)?;
+            Some(sender_of(sent.event))
+        }
+        other => Some(Place::Node(node_of(other)?)),
+    }
+}
+
+// The node with which a node was a pair before a place of the run.
+fn peer_of(moments: &[Moment], place: usize, node: u64) -> u64 {
+    let before = moments.get(..place).unwrap_or(moments);
+    for moment in before.iter().rev() {
+        if let (Event::BeginPair { node: first, host }, Ok(Reply::Generation { .. })) = (
+            moment.event,
+            moment.answer,
+        ) {
+            if first == node {
+                return host;
+            }
+            if host == node {
+                return first;
+            }
+        }
+    }
+    u64::from(node == 0)
+}

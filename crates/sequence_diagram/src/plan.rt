@@ -1,0 +1,66 @@
+//! Where everything of a run is in its picture.
+ghost use Rattle.std.specs.Prelude.{◌≤◌};
+
+use crate::columns::Columns;
+use crate::geometry::{BOTTOM, MOST, column_x, line_y};
+use crate::lines::{Lines, lines_of};
+use crate::moment::Moment;
+use crate::place::Place;
+use crate::waits::{Wait, waits_of};
+use std::alloc::{AllocError, Global};
+
+/// Where everything is.
+#[derive(Drop)]
+pub struct Plan {
+    pub columns: Columns,
+    /// The line of each event.
+    pub lines: Lines,
+    pub waits: Vec<Wait>,
+    /// Where the columns end.
+    pub bottom: u64,
+}
+
+impl Plan {
+    /// Where everything of a run is.
+    pub fn of(alloc: Global, moments: &[Moment]) -> Result<Plan, AllocError> {
+        let lines = lines_of(alloc, moments)?;
+        let last = (lines.count as u64).saturating_sub(1);
+        Ok(Plan {
+            columns: Columns::of(alloc, moments)?,
+            waits: waits_of(alloc, moments)?,
+            bottom: line_y(last.min(MOST)).saturating_add(BOTTOM),
+            lines,
+        })
+    }
+
+    /// How many columns there are.
+    pub fn width(&self) -> u64
+        ensures { result ≤ MOST }
+    {
+        (self.columns.places.len() as u64).min(MOST)
+    }
+
+    /// Where the column of a place is.
+    pub fn x(&self, place: Place) -> u64 {
+        let column = self.columns.column(place) as u64;
+        column_x(self.width(), column.min(MOST))
+    }
+
+    /// Where the line of an event is, by its place in the run.
+    pub fn y(&self, place: usize) -> u64 {
+        line_y((self.lines.line(place) as u64).min(MOST))
+    }
+
+    /// Whether two events are on one line.
+    pub fn are_beside(&self, place: usize, other: usize) -> bool {
+        self.lines.line(place) == self.lines.line(other)
+    }
+
+    /// Whether an event is the first on its line.
+    pub fn begins_line(&self, place: usize) -> bool {
+        match place.checked_sub(1) {
+            Some(before) => !self.are_beside(before, place),
+            None => true,
+        }
+    }
+}

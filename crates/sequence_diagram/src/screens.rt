@@ -1,0 +1,62 @@
+//! What a terminal has accepted in the end.
+
+use crate::arrows::arrow_to;
+use crate::cargo::write_byte;
+use crate::moment::{Cargo, Moment};
+use pair_events::Reply;
+use std::fmt;
+
+// How many bytes are shown; dots stand for those before them.
+const SHOWN: usize = 16;
+
+/// The bytes that the terminal of a port has accepted in a run, the last of them if they are many.
+#[derive(Clone, Copy)]
+pub struct Accepted<'a> {
+    pub moments: &'a [Moment],
+    pub port: u8,
+}
+
+impl Accepted<'_> {
+    // The byte that was accepted at a place of the run.
+    fn byte(&self, place: usize) -> Option<u8> {
+        let moment = self.moments.get(place)?;
+        if !matches!(moment.answer, Ok(Reply::Accepted)) {
+            return None;
+        }
+        let arrow = arrow_to(self.moments, place)?;
+        let sent = self.moments.get(arrow.sent)?;
+        match sent.cargo {
+            Some(Cargo::Byte { port, byte, .. }) if port == self.port => Some(byte),
+            _ => None,
+        }
+    }
+}
+
+impl fmt::Display for Accepted<'_> {
+    fn fmt<W: fmt::Write>(&self, f: &mut fmt::Formatter<W>) -> fmt::Result {
+        let mut count = 0usize;
+        for place in 0..self.moments.len() {
+            if self.byte(place).is_some() {
+                count = count.saturating_add(1);
+            }
+        }
+        if count == 0 {
+            return write!(f, "terminal {} has accepted nothing", self.port);
+        }
+        write!(f, "terminal {} has accepted", self.port)?;
+        if count > SHOWN {
+            f.write_str(" ..")?;
+        }
+        let mut index = 0usize;
+        for place in 0..self.moments.len() {
+            if let Some(byte) = self.byte(place) {
+                index = index.saturating_add(1);
+                if index.saturating_add(SHOWN) > count {
+                    f.write_str(" ")?;
+                    write_byte(f, byte)?;
+                }
+            }
+        }
+        Ok(())
+    }
+}
