@@ -30,53 +30,22 @@ fn write_sector(rt: &impl Abort, devices: &mut Devices) {
     }
 }
 
-// The byte is accepted. Returns the devices as they were.
-fn complete_byte<T: Completes, S: Completes, W: Completes>(
+// Completes what is due. A copy of the devices is as it was.
+fn complete<T: Completes, S: Completes, W: Completes>(
     rt: &impl Abort,
     callbacks: &Callbacks<T, S, W>,
     devices: Devices,
+    done: Done,
 ) -> Devices {
-    let done = Done::Sent(0);
     assert!(rt; devices.is_due(&done));
-    assert!(rt; !devices.is_due(&Done::Sent(1)));
     let after = callbacks.fire(devices.copy(), done);
     assert!(rt; devices.is_due(&done) && !after.is_due(&done));
-    let port = &after.ports[0];
-    assert!(rt; port.unaccepted() == 0 && port.status() == 0x02);
-    devices
+    after
 }
 
-// Sector 5 comes.
-fn complete_sector<T: Completes, S: Completes, W: Completes>(
-    rt: &impl Abort,
-    callbacks: &Callbacks<T, S, W>,
-    devices: Devices,
-) -> Devices {
-    let done = Done::Sector(5, BYTES);
-    assert!(rt; devices.is_due(&done));
-    let mut devices = callbacks.fire(devices, done);
-    assert!(rt; !devices.is_due(&done));
-    assert!(rt; devices.disk.position() == 0xca);
-    assert!(rt; devices.disk.data_in() == 0xe5);
-    devices
-}
-
-// A write is done, and its sector can come again.
-fn complete_write<T: Completes, S: Completes, W: Completes>(
-    rt: &impl Abort,
-    callbacks: &Callbacks<T, S, W>,
-    devices: Devices,
-) {
-    assert!(rt; !devices.is_due(&Done::Sector(5, BYTES)));
-    let done = Done::Written(1);
-    assert!(rt; devices.is_due(&done));
-    let devices = callbacks.fire(devices, done);
-    assert!(rt; !devices.is_due(&done));
-    assert!(rt; devices.is_due(&Done::Sector(5, BYTES)));
-}
-
-// Completes each kind once with these closures.
-fn complete_each<T: Completes + Drop, S: Completes + Drop, W: Completes + Drop>(
+// Completes each kind once: a byte is accepted, sector 5 comes, and its write is done, so that it can come again. A closure
+// that is stored twice serves both holders.
+fn complete_each<T: Completes + Drop + Copy, S: Completes + Drop, W: Completes + Drop>(
     rt: &impl Abort,
     sent: T,
     sector: S,
@@ -86,15 +55,23 @@ fn complete_each<T: Completes + Drop, S: Completes + Drop, W: Completes + Drop>(
     requires sector { Keeps (S.may sector) (S.gives sector) SECTOR }
     requires written { Keeps (W.may written) (W.gives written) WRITTEN }
 {
+    let _holder = Kept::<T, SENT>::new(sent);
     let callbacks = Callbacks::of(sent, sector, written);
-    let devices = complete_byte(rt, &callbacks, devices_with_a_byte(rt));
-    let mut devices = complete_sector(rt, &callbacks, devices);
+    let devices = devices_with_a_byte(rt);
+    assert!(rt; !devices.is_due(&Done::Sent(1)));
+    let devices = complete(rt, &callbacks, devices, Done::Sent(0));
+    assert!(rt; devices.ports[0].unaccepted() == 0 && devices.ports[0].status() == 0x02);
+    let mut devices = complete(rt, &callbacks, devices, Done::Sector(5, BYTES));
+    assert!(rt; devices.disk.position() == 0xca && devices.disk.data_in() == 0xe5);
     write_sector(rt, &mut devices);
-    complete_write(rt, &callbacks, devices);
+    assert!(rt; !devices.is_due(&Done::Sector(5, BYTES)));
+    let devices = complete(rt, &callbacks, devices, Done::Written(1));
+    assert!(rt; devices.is_due(&Done::Sector(5, BYTES)));
 }
 
 #[test]
 fn functions_and_closures_complete_alike(rt: HostRuntime) {
+    plain_completions_may_be_stored();
     complete_each(
         &rt,
         plain_completions::sent,
@@ -112,47 +89,8 @@ fn functions_and_closures_complete_alike(rt: HostRuntime) {
             let _name = holder;
             plain_completions::sent(devices, done)
         },
-        move |devices: Devices, done: Done| -> Devices
-            requires kind { kind_of done ≡ SECTOR }
-            requires due { IsTrue (is_due devices done) }
-            ensures { result ≡ done_of devices done }
-        {
-            let _name = holder;
-            plain_completions::sector(devices, done)
-        },
-        move |devices: Devices, done: Done| -> Devices
-            requires kind { kind_of done ≡ WRITTEN }
-            requires due { IsTrue (is_due devices done) }
-            ensures { result ≡ done_of devices done }
-        {
-            let _name = holder;
-            plain_completions::written(devices, done)
-        },
-    );
-}
-
-// Stores one closure twice, as it may be copied.
-fn store_twice<T: Completes + Copy>(sent: T)
-    requires { Keeps (T.may sent) (T.gives sent) SENT }
-{
-    let _first = Kept::<T, SENT>::new(sent);
-    let _second = Kept::<T, SENT>::new(sent);
-}
-
-#[test]
-fn a_closure_serves_two_holders() {
-    plain_completions_may_be_stored();
-    store_twice(plain_completions::sent);
-    let holder = 3u8;
-    store_twice(
-        move |devices: Devices, done: Done| -> Devices
-            requires kind { kind_of done ≡ SENT }
-            requires due { IsTrue (is_due devices done) }
-            ensures { result ≡ done_of devices done }
-        {
-            let _name = holder;
-            plain_completions::sent(devices, done)
-        },
+        plain_completions::sector,
+        plain_completions::written,
     );
 }
 
@@ -165,39 +103,21 @@ fn issue_new(rt: &impl Abort, pending: &mut Pending, operation: Operation) -> R<
     Ok(())
 }
 
-// Whether the first byte of port 0 completes, and is this operation.
-fn completes(pending: &mut Pending, operation: Operation) -> bool {
-    pending.complete(OpId::Byte(0, 1)) == Ok(operation)
-}
+const FIRST: Operation = Operation::Byte {
+    port: 0,
+    number: 1,
+    byte: 0x48,
+};
 
-#[test]
-fn an_operation_completes_once(rt: HostRuntime) -> R<()> {
-    let mut pending = Pending::new(rt.alloc());
-    let byte = Operation::Byte {
-        port: 0,
-        number: 1,
-        byte: 0x48,
-    };
-    issue_new(&rt, &mut pending, byte)?;
-    assert!(rt; pending.find(OpId::Byte(0, 1)).copied() == Some(byte));
-    assert!(rt; pending.find(OpId::Byte(1, 1)).is_none() && pending.find(OpId::Write(1)).is_none());
-    let mut copy = pending.copy()?;
-    assert!(rt; completes(&mut pending, byte) && completes(&mut copy, byte));
-    let again = pending.complete(OpId::Byte(0, 1));
-    assert!(rt; matches!(again, Err(Fault::NotDue)));
-    Ok(())
-}
-
-#[test]
-fn forty_operations_wait(rt: HostRuntime) -> R<()> {
-    let mut pending = Pending::new(rt.alloc());
+// Issues sixteen bytes of each port, and eight writes.
+fn issue_all(rt: &impl Abort, pending: &mut Pending) -> R<()> {
     for place in 0..32u64 {
         let byte = Operation::Byte {
             port: (place % 2) as u8,
             number: place / 2 + 1,
             byte: 0x48,
         };
-        issue_new(&rt, &mut pending, byte)?;
+        issue_new(rt, pending, byte)?;
     }
     for number in 1..9 {
         let write = SectorWrite {
@@ -207,8 +127,20 @@ fn forty_operations_wait(rt: HostRuntime) -> R<()> {
             sector: number as u8,
             bytes: BYTES,
         };
-        issue_new(&rt, &mut pending, Operation::Write(write))?;
+        issue_new(rt, pending, Operation::Write(write))?;
     }
+    Ok(())
+}
+
+// Each of forty operations completes once.
+#[test]
+fn forty_operations_wait(rt: HostRuntime) -> R<()> {
+    let mut pending = Pending::new(rt.alloc());
+    issue_all(&rt, &mut pending)?;
+    assert!(rt; pending.find(OpId::Byte(0, 1)).copied() == Some(FIRST));
+    assert!(rt; pending.find(OpId::Byte(0, 17)).is_none());
+    let mut copy = pending.copy()?;
+    assert!(rt; copy.complete(OpId::Byte(0, 1)) == Ok(FIRST));
     for number in 1..17 {
         assert!(rt; pending.complete(OpId::Byte(1, number)).is_ok());
         assert!(rt; pending.complete(OpId::Byte(0, number)).is_ok());
@@ -217,5 +149,7 @@ fn forty_operations_wait(rt: HostRuntime) -> R<()> {
         assert!(rt; pending.complete(OpId::Write(number)).is_ok());
         assert!(rt; pending.find(OpId::Write(number)).is_none());
     }
+    let again = pending.complete(OpId::Byte(0, 1));
+    assert!(rt; matches!(again, Err(Fault::NotDue)));
     Ok(())
 }

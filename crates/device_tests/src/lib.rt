@@ -10,3 +10,5 @@ mod disk;
 mod memory;
 #[cfg(test)]
 mod serial;
+#[cfg(test)]
+mod walk;

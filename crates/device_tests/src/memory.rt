@@ -2,7 +2,6 @@
 
 use guest_memory::{BYTES, Memory, PAGE_BYTES};
 use std::alloc::Global;
-use std::process::Abort;
 use std::test::Fail;
 
 // The first and the last address of page 00, the first of page 01 and the last of page FF.
@@ -28,15 +27,20 @@ fn edged(alloc: Global) -> Result<Memory, Fail> {
     Ok(memory)
 }
 
+// An equal byte raises the version too.
 #[test]
 fn new_memory_reads_zero_at_version_zero(rt: HostRuntime) -> Result<(), Fail> {
-    let memory = Memory::new(rt.alloc())?;
+    let mut memory = Memory::new(rt.alloc())?;
     for address in 0..=u16::MAX {
         assert!(rt; memory.read(address) == 0x00);
     }
     for page in 0..=u8::MAX {
         assert!(rt; memory.version(page) == 0);
     }
+    for _ in 0..2u8 {
+        memory.write(0x2000, 0x00);
+    }
+    assert!(rt; memory.read(0x2000) == 0x00 && memory.version(0x20) == 2);
     Ok(())
 }
 
@@ -49,41 +53,25 @@ fn writes(page: u8) -> u64 {
     }
 }
 
+// A write changes one byte and one version; a copy is equal, and apart.
 #[test]
-fn a_write_changes_one_byte_and_one_version(rt: HostRuntime) -> Result<(), Fail> {
-    let memory = edged(rt.alloc())?;
+fn a_write_changes_one_memory(rt: HostRuntime) -> Result<(), Fail> {
+    let mut memory = edged(rt.alloc())?;
     for address in 0..=u16::MAX {
         assert!(rt; memory.read(address) == edge_byte(address));
     }
+    let copied = memory.copy()?;
     for page in 0..=u8::MAX {
-        assert!(rt; memory.version(page) == writes(page));
+        assert!(rt; memory.version(page) == writes(page) && copied.version(page) == writes(page));
+        assert!(rt; copied.page(page) == memory.page(page));
     }
-    Ok(())
-}
-
-#[test]
-fn an_equal_byte_raises_the_version_too(rt: HostRuntime) -> Result<(), Fail> {
-    let mut memory = Memory::new(rt.alloc())?;
-    for _ in 0..2u8 {
-        memory.write(0x2000, 0x00);
-    }
-    assert!(rt; memory.read(0x2000) == 0x00 && memory.version(0x20) == 2);
+    memory.write(0x0100, 0x77);
+    assert!(rt; copied.read(0x0100) == 0x76 && copied.version(0x01) == 1);
     Ok(())
 }
 
 // A page, and its first and last byte.
 static ENDS: [(u8, u8, u8); 3] = [(0x00, 0x3e, 0x48), (0x01, 0x76, 0x00), (0xff, 0x00, 0xc3)];
-
-// Checks the pages of memory that was made of the edges' bytes.
-fn check_pages(rt: &impl Abort, memory: &Memory) {
-    for page in 0..=u8::MAX {
-        assert!(rt; memory.page(page).len() == PAGE_BYTES && memory.version(page) == 0);
-    }
-    for (page, first, last) in &ENDS {
-        assert!(rt; memory.page(*page).first() == Some(first));
-        assert!(rt; memory.page(*page).last() == Some(last));
-    }
-}
 
 #[test]
 fn pages_show_the_bytes_that_memory_is_made_of(rt: HostRuntime) -> Result<(), Fail> {
@@ -93,19 +81,12 @@ fn pages_show_the_bytes_that_memory_is_made_of(rt: HostRuntime) -> Result<(), Fa
     }
     assert!(rt; bytes.len() == BYTES);
     let memory = Memory::of_bytes(rt.alloc(), &bytes)?;
-    check_pages(&rt, &memory);
-    Ok(())
-}
-
-#[test]
-fn a_copy_is_equal_and_apart(rt: HostRuntime) -> Result<(), Fail> {
-    let mut memory = edged(rt.alloc())?;
-    let copied = memory.copy()?;
     for page in 0..=u8::MAX {
-        assert!(rt; copied.page(page) == memory.page(page));
-        assert!(rt; copied.version(page) == memory.version(page));
+        assert!(rt; memory.page(page).len() == PAGE_BYTES && memory.version(page) == 0);
     }
-    memory.write(0x0100, 0x77);
-    assert!(rt; copied.read(0x0100) == 0x76 && copied.version(0x01) == 1);
+    for (page, first, last) in &ENDS {
+        let bytes = memory.page(*page);
+        assert!(rt; bytes.first() == Some(first) && bytes.last() == Some(last));
+    }
     Ok(())
 }

@@ -6,10 +6,10 @@ use serial_2sio::{Acia, Receiver, WINDOW};
 use std::process::Abort;
 
 // A call of a port, with what it gives.
-#[derive(Clone, Copy)]
 enum Call {
     Status(u8),
     Control(u8),
+    ControlRegister(u8),
     Receive(u8),
     Read(u8),
     // A byte of the guest, and what goes out.
@@ -22,87 +22,161 @@ enum Call {
 }
 
 // Makes a call.
-fn make(rt: &impl Abort, port: &mut Acia, call: Call) {
+fn make(rt: &impl Abort, port: &mut Acia, call: &Call) {
     match call {
-        Call::Status(byte) => assert!(rt; port.status() == byte),
-        Call::Control(byte) => port.control(byte),
-        Call::Receive(byte) => port.receive(byte),
-        Call::Read(byte) => assert!(rt; port.data_in() == byte),
-        Call::Send(byte, sent) => assert!(rt; port.data_out(byte) == sent),
+        Call::Status(byte) => assert!(rt; port.status() == *byte),
+        Call::Control(byte) => port.control(*byte),
+        Call::ControlRegister(byte) => assert!(rt; port.control_register() == *byte),
+        Call::Receive(byte) => port.receive(*byte),
+        Call::Read(byte) => assert!(rt; port.data_in() == *byte),
+        Call::Send(byte, sent) => assert!(rt; port.data_out(*byte) == *sent),
         Call::Accept => assert!(rt; port.sent() == Ok(())),
         Call::AcceptNothing => assert!(rt; port.sent() == Err(Fault::NotDue)),
-        Call::Line(active) => assert!(rt; port.line() == active),
-        Call::Ready(ready) => assert!(rt; port.is_ready() == ready),
+        Call::Line(active) => assert!(rt; port.line() == *active),
+        Call::Ready(ready) => assert!(rt; port.is_ready() == *ready),
     }
 }
 
-// Makes calls in order.
-fn make_all(rt: &impl Abort, port: &mut Acia, calls: &[Call]) {
-    for call in calls {
-        make(rt, port, *call);
-    }
-}
-
-static OVERRUN: [Call; 12] = [
-    Call::Status(0x02),
-    Call::Receive(0x41),
-    Call::Receive(0x42),
-    Call::Status(0x03),
-    Call::Read(0x41),
-    Call::Status(0x23),
-    Call::Read(0x41),
-    Call::Status(0x02),
-    Call::Control(0x95),
-    Call::Receive(0x43),
-    Call::Status(0x83),
-    Call::Line(true),
+// Calls of a port from boot.
+static ROWS: [&[Call]; 5] = [
+    // An overrun shows after the byte before it is read.
+    &[
+        Call::Status(0x02),
+        Call::Receive(0x41),
+        Call::Receive(0x42),
+        Call::Status(0x03),
+        Call::Read(0x41),
+        Call::Status(0x23),
+        Call::Read(0x41),
+        Call::Status(0x02),
+        Call::Control(0x95),
+        Call::Receive(0x43),
+        Call::Status(0x83),
+        Call::Line(true),
+    ],
+    // A master reset leaves the sent bytes unaccepted.
+    &[
+        Call::Send(0x48, Some(0x48)),
+        Call::Status(0x02),
+        Call::Send(0x49, Some(0x49)),
+        Call::Control(0x03),
+        Call::Status(0x02),
+        Call::Accept,
+        Call::Accept,
+        Call::AcceptNothing,
+        Call::Control(0x01),
+        Call::Send(0xc8, Some(0x48)),
+    ],
+    // A full window sends nothing.
+    &[
+        Call::Send(0x41, Some(0x41)),
+        Call::Send(0x42, Some(0x42)),
+        Call::Send(0x43, Some(0x43)),
+        Call::Send(0x44, Some(0x44)),
+        Call::Send(0x45, Some(0x45)),
+        Call::Send(0x46, Some(0x46)),
+        Call::Send(0x47, Some(0x47)),
+        Call::Send(0x48, Some(0x48)),
+        Call::Send(0x49, Some(0x49)),
+        Call::Send(0x4a, Some(0x4a)),
+        Call::Send(0x4b, Some(0x4b)),
+        Call::Send(0x4c, Some(0x4c)),
+        Call::Send(0x4d, Some(0x4d)),
+        Call::Send(0x4e, Some(0x4e)),
+        Call::Send(0x4f, Some(0x4f)),
+        Call::Status(0x02),
+        Call::Send(0x50, Some(0x50)),
+        Call::Status(0x00),
+        Call::Ready(false),
+        Call::Send(0x51, None),
+        Call::Accept,
+        Call::Status(0x02),
+        Call::Accept,
+        Call::Accept,
+        Call::Accept,
+        Call::Accept,
+        Call::Accept,
+        Call::Accept,
+        Call::Accept,
+        Call::Accept,
+        Call::Accept,
+        Call::Accept,
+        Call::Accept,
+        Call::Accept,
+        Call::Accept,
+        Call::Accept,
+        Call::Accept,
+        Call::AcceptNothing,
+    ],
+    // The first four formats, 7E2 7O2 7E1 7O1, have seven bits, and the others, 8N2 8N1 8E1 8O1, eight.
+    &[
+        Call::Control(0x01),
+        Call::Send(0xc8, Some(0x48)),
+        Call::Receive(0xc8),
+        Call::Read(0x48),
+        Call::Control(0x05),
+        Call::Send(0xc8, Some(0x48)),
+        Call::Receive(0xc8),
+        Call::Read(0x48),
+        Call::Control(0x09),
+        Call::Send(0xc8, Some(0x48)),
+        Call::Receive(0xc8),
+        Call::Read(0x48),
+        Call::Control(0x0d),
+        Call::Send(0xc8, Some(0x48)),
+        Call::Receive(0xc8),
+        Call::Read(0x48),
+        Call::Control(0x11),
+        Call::Send(0xc8, Some(0xc8)),
+        Call::Receive(0xc8),
+        Call::Read(0xc8),
+        Call::Control(0x15),
+        Call::Send(0xc8, Some(0xc8)),
+        Call::Receive(0xc8),
+        Call::Read(0xc8),
+        Call::Control(0x19),
+        Call::Send(0xc8, Some(0xc8)),
+        Call::Receive(0xc8),
+        Call::Read(0xc8),
+        Call::Control(0x1d),
+        Call::Send(0xc8, Some(0xc8)),
+        Call::Receive(0xc8),
+        Call::Read(0xc8),
+    ],
+    // An empty port gives the last byte again, and one that is reset has none.
+    &[
+        Call::ControlRegister(0x15),
+        Call::Read(0x00),
+        Call::Receive(0x41),
+        Call::Read(0x41),
+        Call::Read(0x41),
+        Call::Status(0x02),
+        Call::Receive(0x42),
+        Call::Control(0x14),
+        Call::Status(0x03),
+        Call::Read(0x42),
+        Call::Receive(0x42),
+        Call::Control(0x15),
+        Call::Status(0x03),
+        Call::Read(0x42),
+        Call::Receive(0x42),
+        Call::Control(0x16),
+        Call::Status(0x03),
+        Call::Read(0x42),
+        Call::Receive(0x42),
+        Call::Control(0x17),
+        Call::Status(0x02),
+    ],
 ];
 
 #[test]
-fn an_overrun_shows_after_the_byte_before_it_is_read(rt: HostRuntime) {
-    make_all(&rt, &mut Acia::new(), &OVERRUN);
-}
-
-static MASTER_RESET: [Call; 10] = [
-    Call::Send(0x48, Some(0x48)),
-    Call::Status(0x02),
-    Call::Send(0x49, Some(0x49)),
-    Call::Control(0x03),
-    Call::Status(0x02),
-    Call::Accept,
-    Call::Accept,
-    Call::AcceptNothing,
-    Call::Control(0x01),
-    Call::Send(0xc8, Some(0x48)),
-];
-
-#[test]
-fn a_master_reset_leaves_the_sent_bytes_unaccepted(rt: HostRuntime) {
-    make_all(&rt, &mut Acia::new(), &MASTER_RESET);
-}
-
-// The sixteenth byte, and one more.
-static FULL_WINDOW: [Call; 7] = [
-    Call::Status(0x02),
-    Call::Send(0x50, Some(0x50)),
-    Call::Status(0x00),
-    Call::Ready(false),
-    Call::Send(0x51, None),
-    Call::Accept,
-    Call::Status(0x02),
-];
-
-#[test]
-fn a_full_window_sends_nothing(rt: HostRuntime) {
-    let mut port = Acia::new();
-    for byte in 0x41..0x50 {
-        make(&rt, &mut port, Call::Send(byte, Some(byte)));
+fn each_call_does_as_the_manual_says(rt: HostRuntime) {
+    for calls in &ROWS {
+        let mut port = Acia::new();
+        for call in *calls {
+            make(&rt, &mut port, call);
+        }
     }
-    make_all(&rt, &mut port, &FULL_WINDOW);
-    for _ in 0..15 {
-        make(&rt, &mut port, Call::Accept);
-    }
-    make(&rt, &mut port, Call::AcceptNothing);
 }
 
 // A port with interrupts of the receiver, whose window is full, if this many bytes are.
@@ -115,49 +189,20 @@ fn a_port_is_rebuilt_from_what_its_readers_give(rt: HostRuntime) {
     let mut port = rebuilt(WINDOW).expect(&rt, "sixteen fit");
     assert!(rt; port.control_register() == 0x95 && port.data_register() == 0x43);
     assert!(rt; port.receiver() == Receiver::FullLost && port.unaccepted() == 16);
-    make_all(&rt, &mut port, &[Call::Status(0x81), Call::Read(0x43)]);
+    assert!(rt; port.status() == 0x81 && port.data_in() == 0x43);
     assert!(rt; port.receiver() == Receiver::Over);
     assert!(rt; matches!(rebuilt(17), Err(Fault::Malformed)));
 }
 
-// 7E2 7O2 7E1 7O1 8N2 8N1 8E1 8O1 in control bits 4 to 2, and what C8 becomes.
-static FORMATS: [(u8, u8); 8] = [
-    (0x01, 0x48),
-    (0x05, 0x48),
-    (0x09, 0x48),
-    (0x0d, 0x48),
-    (0x11, 0xc8),
-    (0x15, 0xc8),
-    (0x19, 0xc8),
-    (0x1d, 0xc8),
+// The states of a port at boot, with a byte received, with a full window, and with both.
+static STATES: [(Receiver, u8); 4] = [
+    (Receiver::Empty, 0),
+    (Receiver::Full, 0),
+    (Receiver::Empty, 16),
+    (Receiver::Full, 16),
 ];
 
-#[test]
-fn the_first_four_formats_have_seven_bits(rt: HostRuntime) {
-    for (control, byte) in &FORMATS {
-        let mut port = Acia::new();
-        port.control(*control);
-        make(&rt, &mut port, Call::Send(0xc8, Some(*byte)));
-        port.receive(0xc8);
-        make(&rt, &mut port, Call::Read(*byte));
-    }
-}
-
-// Whether the line of a port in this state is active.
-fn line(control: u8, receiver: Receiver, unaccepted: u8) -> bool {
-    Acia::rebuild(control, 0x41, receiver, unaccepted).is_ok_and(|port| port.line())
-}
-
-// The lines of a port with this control byte: at boot, with a byte received, with a full window, with both.
-fn lines(control: u8) -> [bool; 4] {
-    [
-        line(control, Receiver::Empty, 0),
-        line(control, Receiver::Full, 0),
-        line(control, Receiver::Empty, 16),
-        line(control, Receiver::Full, 16),
-    ]
-}
-
+// A control byte, and the lines of a port that has it in each of these states.
 static LINES: [(u8, [bool; 4]); 7] = [
     (0x15, [false, false, false, false]),
     (0x35, [true, true, false, false]),
@@ -170,31 +215,11 @@ static LINES: [(u8, [bool; 4]); 7] = [
 
 #[test]
 fn control_bits_enable_interrupts(rt: HostRuntime) {
-    for (control, expected) in &LINES {
-        assert!(rt; lines(*control) == *expected);
-    }
-}
-
-static LAST_BYTE: [Call; 5] = [
-    Call::Read(0x00),
-    Call::Receive(0x41),
-    Call::Read(0x41),
-    Call::Read(0x41),
-    Call::Status(0x02),
-];
-
-// A control byte, and the status of a port that has received a byte and then that.
-static RESETS: [(u8, u8); 4] = [(0x14, 0x03), (0x15, 0x03), (0x16, 0x03), (0x17, 0x02)];
-
-#[test]
-fn an_empty_port_gives_the_last_byte_again(rt: HostRuntime) {
-    let mut port = Acia::new();
-    assert!(rt; port.control_register() == 0x15);
-    make_all(&rt, &mut port, &LAST_BYTE);
-    for (control, status) in &RESETS {
-        port.receive(0x42);
-        port.control(*control);
-        make(&rt, &mut port, Call::Status(*status));
-        let _byte = port.data_in();
+    for (control, lines) in &LINES {
+        for ((receiver, unaccepted), active) in STATES.iter().zip(lines) {
+            let port = Acia::rebuild(*control, 0x41, *receiver, *unaccepted);
+            let port = port.expect(&rt, "sixteen fit");
+            assert!(rt; port.line() == *active, "{control}");
+        }
     }
 }

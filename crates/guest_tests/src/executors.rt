@@ -252,13 +252,24 @@ fn memory_of<T: Completes, S: Completes, W: Completes>(
     Ok(memory)
 }
 
+// What a board showed at the end of a random program: what it was given and gave, how many steps it executed, its
+// processor, and its memory.
+#[derive(Drop)]
+struct Shown {
+    course: Course,
+    count: u64,
+    processor: Processor,
+    memory: Vec<u8>,
+}
+
 // Whether the single machine, after the board's inputs, shows what the board showed and gave.
-fn is_alike(single: &Single, course: &Course, processor: &Processor, memory: &[u8]) -> bool {
-    single.processor() == processor
+fn is_alike(single: &Single, shown: &Shown) -> bool {
+    let course = &shown.course;
+    *single.processor() == shown.processor
         && single.outputs(0) == course.first.as_slice()
         && single.outputs(1) == course.second.as_slice()
         && single.writes() == course.writes.as_slice()
-        && has_memory(single, memory)
+        && has_memory(single, &shown.memory)
         && has_images(single, &course.done)
 }
 
@@ -329,36 +340,76 @@ impl Totals {
     }
 }
 
-// Runs a random program on a board with these closures, and then on the single machine, which is to do the same.
-fn run_program<T: Completes + Drop, S: Completes + Drop, W: Completes + Drop>(
-    rt: &(impl Abort + AllocGlobal),
-    program: u64,
-    totals: &mut Totals,
+// Runs a random program on a board with these closures.
+fn run_on_board<T: Completes + Drop, S: Completes + Drop, W: Completes + Drop>(
+    alloc: Global,
+    setup: &Setup,
+    random: &mut Pcg32,
+    callbacks: Callbacks<T, S, W>,
+) -> R<Shown> {
+    let mut board = match Board::boot(alloc, setup, callbacks) {
+        Ok(board) => board,
+        Err((_, fault)) => return Err(fault),
+    };
+    show_run(alloc, &mut board, random)
+}
+
+fn show_run<T: Completes, S: Completes, W: Completes>(
+    alloc: Global,
+    board: &mut Board<T, S, W>,
+    random: &mut Pcg32,
+) -> R<Shown> {
+    let course = run_board(alloc, board, random)?;
+    let memory = memory_of(alloc, board)?;
+    Ok(Shown {
+        course,
+        count: board.count(),
+        processor: *board.processor(),
+        memory,
+    })
+}
+
+// Runs a random program on a board with these closures.
+fn run_with<T: Completes + Drop, S: Completes + Drop, W: Completes + Drop>(
+    alloc: Global,
+    setup: &Setup,
+    random: &mut Pcg32,
     sent: T,
     sector: S,
     written: W,
-) -> R<()>
+) -> R<Shown>
     requires sent { Keeps (T.may sent) (T.gives sent) SENT }
     requires sector { Keeps (S.may sector) (S.gives sector) SECTOR }
     requires written { Keeps (W.may written) (W.gives written) WRITTEN }
 {
+    run_on_board(alloc, setup, random, Callbacks::of(sent, sector, written))
+}
+
+// Whether the single machine does with the same inputs what a board with this setup showed.
+fn agrees(alloc: Global, setup: &Setup, shown: &Shown) -> R<bool> {
+    let inputs = shown.course.inputs.as_slice();
+    if !never_fall(0, inputs) {
+        return Ok(false);
+    }
+    let single = Single::boot(alloc, setup, &[])?;
+    let single = single.run(alloc, inputs, shown.count)?;
+    Ok(is_alike(&single, shown))
+}
+
+// Runs a random program on a board, and then on the single machine, which is to do the same.
+fn run_program(rt: &(impl Abort + AllocGlobal), program: u64, totals: &mut Totals) -> R<()> {
     let mut random = Pcg32::new(program, 54);
     let setup = setup_of(rt.alloc(), &mut random, program)?;
-    let callbacks = Callbacks::of(sent, sector, written);
-    let mut board = match Board::boot(rt.alloc(), &setup, callbacks) {
-        Ok(board) => board,
-        Err((_, fault)) => return Err(fault),
-    };
-    let course = run_board(rt.alloc(), &mut board, &mut random)?;
-    assert!(rt; never_fall(0, &course.inputs));
-    let single = Single::boot(rt.alloc(), &setup, &[])?;
-    let single = single.run(rt.alloc(), &course.inputs, board.count())?;
-    let memory = memory_of(rt.alloc(), &board)?;
-    assert!(rt;
-        is_alike(&single, &course, board.processor(), &memory),
-        "program {program}"
-    );
-    totals.add(board.count(), &course);
+    let shown = run_with(
+        rt.alloc(),
+        &setup,
+        &mut random,
+        plain_completions::sent,
+        plain_completions::sector,
+        plain_completions::written,
+    )?;
+    assert!(rt; agrees(rt.alloc(), &setup, &shown)?, "program {program}");
+    totals.add(shown.count, &shown.course);
     Ok(())
 }
 
@@ -366,14 +417,7 @@ fn run_program<T: Completes + Drop, S: Completes + Drop, W: Completes + Drop>(
 fn agree_from(rt: &(impl Abort + AllocGlobal), first: u64) -> R<()> {
     let mut totals = Totals::default();
     for offset in 0..60 {
-        run_program(
-            rt,
-            first.saturating_add(offset),
-            &mut totals,
-            plain_completions::sent,
-            plain_completions::sector,
-            plain_completions::written,
-        )?;
+        run_program(rt, first.saturating_add(offset), &mut totals)?;
     }
     let Totals {
         steps,

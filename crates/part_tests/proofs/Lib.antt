@@ -1,3 +1,2 @@
 pub mod EchoTrace
 pub mod LoggedRun
-pub mod ReadTrace

@@ -3,7 +3,7 @@
 use Rattle.std.proofs.Common.{◌≡◌, ℕ, ◌-◌, Bool, false, cond, List, [], ◌∷◌, ◌++◌, drop, Option, Some, None, Result, Ok, Err, refl, sym, ap, subst, ◌∙◌, arith, nat_lt}
 use Rattle.std.specs.List.{slice_get}
 use Rattle.std.proofs.lemmas.Bool.{le-ltb}
-use Rattle.std.proofs.lemmas.List.{take-append-drop}
+use Rattle.std.proofs.lemmas.List.{append-nil, take-append-drop}
 use Rattle.guest_lockstep.specs.Machine.{Machine, Move, Take}
 use Rattle.guest_lockstep.specs.Recorded.{Counts}
 use Rattle.guest_lockstep.specs.declared.input.Input.{Input}
@@ -55,6 +55,10 @@ offer_logs M reads s t before new input result index taken answer =
         pushes = ap (λ (l : Log). l.entries) offers.1;
       },
     )
+
+-- no moves log nothing
+pub nothing : {S : Type 0} (M : Machine S) (reads : Reads) (s : S) (l : Log) → Logged M reads s l s l
+nothing M reads s l = ([], record { runs = refl; first = refl; pushes = sym (append-nil l.entries) })
 
 -- two runs, one after the other, are one run, and what both log is what it logs
 pub and_then : {S : Type 0} {M : Machine S} {reads : Reads} {s t u : S} {before middle new : Log} → Counts M

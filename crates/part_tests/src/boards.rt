@@ -47,6 +47,13 @@ const PLACE: SectorAddress = SectorAddress {
     sector: 5,
 };
 
+// The second key, sent back.
+const SECOND: Operation = Operation::Byte {
+    port: 0,
+    number: 2,
+    byte: 0x49,
+};
+
 // It comes under the head, before it was ever written.
 const FIRST_READ: Input = Input::Sector {
     drive: 0,
@@ -55,9 +62,33 @@ const FIRST_READ: Input = Input::Sector {
     bytes: [0x11; SECTOR_BYTES],
 };
 
-// A guest with one drive, and this program at address 0.
-pub(crate) fn setup(alloc: Global, program: &[u8]) -> R<Setup> {
-    let mut memory = Vec::from_slice(alloc, program)?;
+// What is done to the guest that is recorded.
+enum Act {
+    // It has so many turns, makes so many steps, and stops for this reason.
+    Run(u64, u64, StopReason),
+    // It takes an input, which is logged under this index.
+    Take(Input, u64),
+}
+
+// Two keys are sent back, and the byte of the first is accepted. A sector comes under the head, and is written.
+static ACTS: [Act; 12] = [
+    Act::Run(7, 7, StopReason::Turns),
+    Act::Take(Input::Rx(0, 0x48), 0),
+    Act::Run(99, 5, StopReason::Operation(OpId::Byte(0, 1))),
+    Act::Run(3, 3, StopReason::Turns),
+    Act::Take(Input::Sent(0), 2),
+    Act::Take(Input::Rx(0, 0x49), 3),
+    Act::Run(99, 7, StopReason::Operation(OpId::Byte(0, 2))),
+    Act::Run(10, 10, StopReason::Turns),
+    Act::Take(FIRST_READ, 5),
+    Act::Run(9999, 962, StopReason::Operation(OpId::Write(1))),
+    Act::Run(1, 1, StopReason::Turns),
+    Act::Take(Input::Written(1), 7),
+];
+
+// A guest with one drive, and the program at address 0.
+fn setup(alloc: Global) -> R<Setup> {
+    let mut memory = Vec::from_slice(alloc, &ECHO_AND_WRITE)?;
     memory.resize(BYTES, 0x00)?;
     if memory.len() != BYTES {
         return Err(Fault::Malformed);
@@ -71,85 +102,71 @@ pub(crate) fn setup(alloc: Global, program: &[u8]) -> R<Setup> {
     })
 }
 
-// The recorder makes so many steps, and stops for this reason.
-fn advance<B: Lockstep>(
-    rt: &impl Abort,
-    recorder: &mut Recorder<B>,
-    turns: u64,
-    steps: u64,
-    reason: StopReason,
-)
+// Whether the input is for a port and a sector that exist, and so few keys were taken that one more may come.
+fn may_offer<B: Lockstep>(board: &B, input: &Input) -> bool
+    ensures input { IsTrue result → IsInput input.now }
+    ensures room { IsTrue result → HasRoom B.machine (B.state board.now) input.now }
+{
+    match input {
+        Input::Rx(port, _) => *port < 2 && board.keys(*port) < KEYS,
+        Input::Sent(port) => *port < 2,
+        Input::Sector { drive, sector, .. } => *drive < 4 && *sector < 32,
+        Input::Written(_) => true,
+    }
+}
+
+// The recorder has so many turns, and stops so.
+fn advance<B: Lockstep>(rt: &impl Abort, recorder: &mut Recorder<B>, turns: u64, stopped: Stopped)
     requires { recorder.old.reads ≡ Logged }
     ensures reads { recorder.new.reads ≡ Logged }
     ensures records { (moves : List Move) × Records B.machine Logged (B.state recorder.old.board) recorder.old.log
         moves (B.state recorder.new.board) recorder.new.log }
 {
     match recorder.advance(turns) {
-        Ok(advanced) => assert!(rt; advanced == Stopped { steps, reason }),
+        Ok(advanced) => assert!(rt; advanced == stopped),
         Err(_) => panic!(rt; "no step is made"),
     }
 }
 
 // The recorder takes an input, and logs it under this index.
 fn offer<B: Lockstep>(rt: &impl Abort, recorder: &mut Recorder<B>, input: Input, index: u64)
-    requires input { IsInput input }
     requires reads { recorder.old.reads ≡ Logged }
     ensures reads { recorder.new.reads ≡ Logged }
     ensures records { (moves : List Move) × Records B.machine Logged (B.state recorder.old.board) recorder.old.log
         moves (B.state recorder.new.board) recorder.new.log }
 {
-    assert!(rt; has_room(recorder.board(), &input));
+    assert!(rt; may_offer(recorder.board(), &input));
     match recorder.offer(input) {
         Ok(logged) => assert!(rt; logged == index),
         Err(_) => panic!(rt; "the input is refused"),
     }
 }
 
-// Whether so few keys were taken that one more may come.
-fn has_room<B: Lockstep>(board: &B, input: &Input) -> bool
-    requires { IsInput input.now }
-    ensures { IsTrue result → HasRoom B.machine (B.state board.now) input.now }
+// This is done to the guest of a recorder.
+fn make<B: Lockstep>(rt: &impl Abort, recorder: &mut Recorder<B>, act: &Act)
+    requires { recorder.old.reads ≡ Logged }
+    ensures reads { recorder.new.reads ≡ Logged }
+    ensures records { (moves : List Move) × Records B.machine Logged (B.state recorder.old.board) recorder.old.log
+        moves (B.state recorder.new.board) recorder.new.log }
 {
-    match input {
-        Input::Rx(port, _) => board.keys(*port) < KEYS,
-        _ => true,
+    match act {
+        Act::Run(turns, steps, reason) => {
+            let (steps, reason) = (*steps, *reason);
+            advance(rt, recorder, *turns, Stopped { steps, reason });
+        }
+        Act::Take(input, index) => offer(rt, recorder, *input, *index),
     }
 }
 
-// Two keys are sent back, and the byte of the first is accepted.
-fn echo_keys<B: Lockstep>(rt: &impl Abort, recorder: &mut Recorder<B>)
+// All of it is done.
+fn make_all<B: Lockstep>(rt: &impl Abort, recorder: &mut Recorder<B>)
     requires { recorder.old.reads ≡ Logged }
-    ensures reads { recorder.new.reads ≡ Logged }
     ensures records { (moves : List Move) × Records B.machine Logged (B.state recorder.old.board) recorder.old.log
         moves (B.state recorder.new.board) recorder.new.log }
 {
-    advance(rt, recorder, 7, 7, StopReason::Turns);
-    offer(rt, recorder, Input::Rx(0, 0x48), 0);
-    advance(rt, recorder, 99, 5, StopReason::Operation(OpId::Byte(0, 1)));
-    advance(rt, recorder, 3, 3, StopReason::Turns);
-    offer(rt, recorder, Input::Sent(0), 2);
-    offer(rt, recorder, Input::Rx(0, 0x49), 3);
-    advance(rt, recorder, 99, 7, StopReason::Operation(OpId::Byte(0, 2)));
-}
-
-// A sector comes under the head, and is written.
-fn write_sector<B: Lockstep>(rt: &impl Abort, recorder: &mut Recorder<B>)
-    requires { recorder.old.reads ≡ Logged }
-    ensures reads { recorder.new.reads ≡ Logged }
-    ensures records { (moves : List Move) × Records B.machine Logged (B.state recorder.old.board) recorder.old.log
-        moves (B.state recorder.new.board) recorder.new.log }
-{
-    advance(rt, recorder, 10, 10, StopReason::Turns);
-    offer(rt, recorder, FIRST_READ, 5);
-    advance(
-        rt,
-        recorder,
-        9999,
-        962,
-        StopReason::Operation(OpId::Write(1)),
-    );
-    advance(rt, recorder, 1, 1, StopReason::Turns);
-    offer(rt, recorder, Input::Written(1), 7);
+    for act in &ACTS {
+        make(rt, recorder, act);
+    }
 }
 
 // The packet of an entry comes to the receiver, as the entry that is next.
@@ -217,8 +234,7 @@ fn record_on<T: Completes + Drop, S: Completes + Drop, W: Completes + Drop>(
         Err((_, fault)) => return Err(fault),
     };
     let mut recorder = Recorder::new(board, LogBuffer::new(rt.alloc(), 0)?, Reads::Logged);
-    echo_keys(rt, &mut recorder);
-    write_sector(rt, &mut recorder);
+    make_all(rt, &mut recorder);
     deliver_all(rt, recorder.log(), receiver)?;
     assert!(rt; receiver.held() == 8);
     assert!(rt; recorder.log().next() == 8);
@@ -245,37 +261,20 @@ fn replay_on<T: Completes + Drop, S: Completes + Drop, W: Completes + Drop>(
     Ok(replayer.into_board())
 }
 
-// A guest stands so at the end: after so many steps, two keys, an accepted byte, one on its way, and a write that is done.
-fn expect_end<B: Lockstep>(rt: &impl Abort, guest: &B) {
-    assert!(rt; guest.count() == 995);
-    assert!(rt; guest.keys(0) == 2);
-    assert!(rt; guest.keys(1) == 0);
-    assert!(rt; guest.due_byte(0) == Some(2));
-    assert!(rt; guest.due_byte(1) == None);
-    assert!(rt; guest.selected() == Some(0));
-    let byte = Operation::Byte {
-        port: 0,
-        number: 2,
-        byte: 0x49,
-    };
-    for (name, given) in [
-        (OpId::Byte(0, 1), None),
-        (OpId::Byte(0, 2), Some(&byte)),
-        (OpId::Write(1), None),
-    ] {
-        assert!(rt; guest.outstanding(name) == given);
-    }
-}
-
-// What a board shows: its processor, its memory, how many bytes each port has on its way, the status of its drives, and
-// the last completed write of the sector.
+// What a board shows: its processor, its memory, its count, the keys that were taken, how many bytes each port has on its way,
+// the status of its drives, the drive and track of the head, the last completed write of the sector, and what is outstanding of
+// the operations that were given.
 #[derive(Drop)]
 struct Shown {
     processor: Processor,
     memory: Vec<u8>,
+    count: u64,
+    keys: [u64; 2],
     unaccepted: [u8; 2],
     status: u8,
+    place: Option<(u8, u8)>,
     done: u64,
+    given: [Option<Operation>; 3],
 }
 
 fn show<T: Completes, S: Completes, W: Completes>(
@@ -289,20 +288,28 @@ fn show<T: Completes, S: Completes, W: Completes>(
     Ok(Shown {
         processor: *board.processor(),
         memory,
+        count: board.count(),
+        keys: [board.keys(0), board.keys(1)],
         unaccepted: [board.port(0).unaccepted(), board.port(1).unaccepted()],
         status: board.disk().status(),
+        place: board.place(),
         done: board.done(PLACE),
+        given: [
+            board.outstanding(OpId::Byte(0, 1)).copied(),
+            board.outstanding(OpId::Byte(0, 2)).copied(),
+            board.outstanding(OpId::Write(1)).copied(),
+        ],
     })
 }
 
-// Both boards show the same.
-fn compare(rt: &impl Abort, recorded: &Shown, replayed: &Shown) {
-    assert!(rt; recorded.processor == replayed.processor);
-    assert!(rt; recorded.memory == replayed.memory);
-    assert!(rt; recorded.unaccepted == replayed.unaccepted);
-    assert!(rt; recorded.status == replayed.status);
-    assert!(rt; recorded.done == 1);
-    assert!(rt; replayed.done == 1);
+// It ends so: after so many steps, two keys, an accepted byte, one on its way, and a write that is done.
+fn expect_end(rt: &impl Abort, shown: &Shown) {
+    assert!(rt; shown.count == 995);
+    assert!(rt; shown.keys == [2, 0]);
+    assert!(rt; shown.unaccepted == [1, 0]);
+    assert!(rt; shown.place == Some((0, 0)));
+    assert!(rt; shown.done == 1);
+    assert!(rt; shown.given == [None, Some(SECOND), None]);
 }
 
 // A board with the first three closures is recorded, and one with the others repeats it.
@@ -321,7 +328,7 @@ fn repeat<
     requires other_sector { Keeps (V.may repeating.1) (V.gives repeating.1) SECTOR }
     requires other_written { Keeps (X.may repeating.2) (X.gives repeating.2) WRITTEN }
 {
-    let setup = setup(rt.alloc(), &ECHO_AND_WRITE)?;
+    let setup = setup(rt.alloc())?;
     let mut receiver = Receiver::new(rt.alloc(), 1);
     let (sent, sector, written) = recording;
     let recorded = record_on(
@@ -337,13 +344,13 @@ fn repeat<
         &mut receiver,
         Callbacks::of(sent, sector, written),
     )?;
+    let recorded = show(rt.alloc(), &recorded)?;
+    let replayed = show(rt.alloc(), &replayed)?;
     expect_end(rt, &recorded);
     expect_end(rt, &replayed);
-    compare(
-        rt,
-        &show(rt.alloc(), &recorded)?,
-        &show(rt.alloc(), &replayed)?,
-    );
+    assert!(rt; recorded.processor == replayed.processor);
+    assert!(rt; recorded.memory == replayed.memory);
+    assert!(rt; recorded.status == replayed.status);
     Ok(())
 }
 

@@ -12,8 +12,6 @@ mod disks;
 #[cfg(test)]
 mod follows;
 #[cfg(test)]
-mod reads;
-#[cfg(test)]
 mod records;
 #[cfg(test)]
 mod replays;

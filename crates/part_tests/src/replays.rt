@@ -30,13 +30,7 @@ const KEY: Entry = Entry::Rx {
 const MARK: Entry = Entry::Mark { count: 2 };
 
 // The entry arrives at the receiver in its packet.
-pub(crate) fn hold(
-    rt: &impl Abort,
-    alloc: Global,
-    receiver: &mut Receiver,
-    generation: u32,
-    entry: Entry,
-)
+fn hold(rt: &impl Abort, alloc: Global, receiver: &mut Receiver, generation: u32, entry: Entry)
     requires first { 0 < generation }
     requires generation { receiver.old.generation ≡ generation }
     requires entry { IsEntry entry }

@@ -1,10 +1,8 @@
 //! A guest that is copied twice, while it reads keys, prints and writes its disk; each primary stops in turn.
-use crate::runs::{WELL, expect};
+use crate::images::PARTS;
+use crate::rows::{Lines, Spelled};
 use std::alloc::{AllocError, Global};
 use std::test::Fail;
-
-// Lines, each with its answer.
-type Lines = &'static [(&'static str, &'static str)];
 
 // The guest waits for a key of port 0, echoes it, and fills the next sector with it, again and again:
 //   0000 IN 10  RRC  JNC 0000  IN 11  MOV C,A  OUT 11
@@ -131,48 +129,38 @@ const THIRD: Lines = &[
 // The copies: the primary, the host, and the message of the first part. The guest goes on while it is copied.
 static COPIES: [(u64, u64, u64); 2] = [(1, 2, 10), (2, 3, 353)];
 
-// How many parts an image of a machine with one drive has.
-const PARTS: u64 = 334;
-
-fn write_lines(script: &mut String, printed: &mut String, lines: Lines) -> Result<(), AllocError> {
-    for (line, answer) in lines {
-        writeln!(script, "{line}")?;
-        writeln!(printed, "{answer}")?;
-    }
-    Ok(())
-}
-
-// Each part is sent, and arrives.
+// Each part is sent, and arrives twice; the last one makes the host whole.
 fn write_copy(
-    script: &mut String,
-    printed: &mut String,
+    alloc: Global,
+    spelled: &mut Spelled,
     copy: (u64, u64, u64),
 ) -> Result<(), AllocError> {
     let (node, host, first) = copy;
     for index in 0..PARTS {
         let message = first.wrapping_add(index);
-        let came = if index == PARTS - 1 { "whole" } else { "new" };
-        writeln!(script, "sendpart {node} {index}\npart {message} {host}")?;
-        writeln!(printed, "message {message}\n{came}")?;
+        let line = format!(in alloc; "sendpart {node} {index}")?;
+        spelled.line(
+            line.as_str(),
+            format!(in alloc; "message {message}")?.as_str(),
+        )?;
+        let line = format!(in alloc; "part {message} {host}")?;
+        if index == PARTS - 1 {
+            spelled.line(line.as_str(), "whole")?;
+        } else {
+            spelled.line(line.as_str(), "new")?;
+            spelled.line(line.as_str(), "old")?;
+        }
     }
     Ok(())
 }
 
-// The script, and what it prints.
-fn spelled(alloc: Global) -> Result<(String, String), AllocError> {
-    let mut script = String::from_str(alloc, GUEST)?;
-    let mut printed = String::new(alloc);
-    write_lines(&mut script, &mut printed, FIRST)?;
-    write_copy(&mut script, &mut printed, COPIES[0])?;
-    write_lines(&mut script, &mut printed, SECOND)?;
-    write_copy(&mut script, &mut printed, COPIES[1])?;
-    write_lines(&mut script, &mut printed, THIRD)?;
-    Ok((script, printed))
-}
-
 #[test]
 fn a_guest_outlives_three_primaries(rt: HostRuntime) -> Result<(), Fail> {
-    let (script, printed) = spelled(rt.alloc())?;
-    expect(&rt, "script", script.as_bytes(), printed.as_str(), WELL)?;
-    expect(&rt, "check", script.as_bytes(), "same 3910\n", WELL)
+    let mut spelled = Spelled::begin(rt.alloc(), GUEST)?;
+    spelled.parts(&[FIRST])?;
+    write_copy(rt.alloc(), &mut spelled, COPIES[0])?;
+    spelled.parts(&[SECOND])?;
+    write_copy(rt.alloc(), &mut spelled, COPIES[1])?;
+    spelled.parts(&[THIRD])?;
+    spelled.expect(&rt, "same 3910\n", &[])
 }

@@ -1,4 +1,5 @@
 //! A disk that fails once.
+use crate::rows::{Lines, Spelled};
 use crate::runs::{WELL, expect};
 use std::alloc::{AllocError, Global};
 use std::test::Fail;
@@ -10,7 +11,7 @@ sector 0 0 5 E5
 mem 0000 06 89 AF D3 08 3E 04 D3 09 DB 09 0F DA 09 00 3E 80 D3 09 DB 08 0F DA 13 00 3E E5 D3 0A 05 C2 13 00 76
 ";
 
-static LINES: [(&str, &str); 13] = [
+const LINES: Lines = &[
     ("step 0 10", "ran 10 count 10 turns"),
     ("get 0 0", "message 0"),
     ("under 0 0", "taken"),
@@ -28,22 +29,16 @@ static LINES: [(&str, &str); 13] = [
 
 // The script in which this access fails, and what it prints: the line that makes this access, if one does, is refused,
 // and stands there twice.
-fn failing(
-    alloc: Global,
-    access: u64,
-    refused: Option<&str>,
-) -> Result<(String, String), AllocError> {
-    let mut script = format!(in alloc; "fail {access}\n{WRITES_A_SECTOR}")?;
-    let mut printed = String::new(alloc);
-    for (line, answer) in &LINES {
+fn failing(alloc: Global, access: u64, refused: Option<&str>) -> Result<Spelled, AllocError> {
+    let setup = format!(in alloc; "fail {access}\n{WRITES_A_SECTOR}")?;
+    let mut spelled = Spelled::begin(alloc, setup.as_str())?;
+    for (line, answer) in LINES {
         if refused == Some(*line) {
-            writeln!(script, "{line}")?;
-            writeln!(printed, "refused 13")?;
+            spelled.line(line, "refused 13")?;
         }
-        writeln!(script, "{line}")?;
-        writeln!(printed, "{answer}")?;
+        spelled.line(line, answer)?;
     }
-    Ok((script, printed))
+    Ok(spelled)
 }
 
 // A get is one access of the disk, and a put is two: it reads, and then writes.
@@ -57,9 +52,7 @@ fn what_failed_may_be_made_again(rt: HostRuntime) -> Result<(), Fail> {
         (4, None),
     ];
     for (access, refused) in accesses {
-        let (script, printed) = failing(rt.alloc(), access, refused)?;
-        expect(&rt, "script", script.as_bytes(), printed.as_str(), WELL)?;
-        expect(&rt, "check", script.as_bytes(), "same 973\n", WELL)?;
+        failing(rt.alloc(), access, refused)?.expect(&rt, "same 973\n", &[])?;
     }
     Ok(())
 }
@@ -68,8 +61,7 @@ fn what_failed_may_be_made_again(rt: HostRuntime) -> Result<(), Fail> {
 #[test]
 fn a_comparison_asks_again_for_a_sector_that_failed(rt: HostRuntime) -> Result<(), Fail> {
     for access in [5, 9, 2467, 2468, u64::MAX] {
-        let (script, _) = failing(rt.alloc(), access, None)?;
-        expect(&rt, "check", script.as_bytes(), "same 973\n", WELL)?;
+        failing(rt.alloc(), access, None)?.expect(&rt, "same 973\n", &[])?;
     }
     expect(&rt, "check", b"fail 1", "same 0\n", WELL)
 }

@@ -36,6 +36,19 @@ const SCRIPTS: &[Row<'static>] = &[
         printed: "",
         ending: (6, "stalled"),
     },
+    // Its byte has not been accepted after so few turns, nor ever if the backup gets no entry.
+    Row {
+        words: &["live", "--turns", "20"],
+        script: FIRST_BYTE,
+        printed: "",
+        ending: (6, "stalled"),
+    },
+    Row {
+        words: &["live", "--link", "drop", "--turns", "500"],
+        script: FIRST_BYTE,
+        printed: "",
+        ending: (6, "stalled"),
+    },
     // The guest sends the first byte of the first sector that comes under the head.
     Row {
         words: &["live"],
@@ -47,7 +60,7 @@ const SCRIPTS: &[Row<'static>] = &[
     },
     // The port of a guest that reads nothing takes what is typed.
     Row {
-        words: &["live", "--turns", "1000"],
+        words: &["live", "--turns", "100000"],
         script: "mem 0000 76\ntype 0 41\ntype 0 42\ntype 1 43\n",
         printed: "port 0:\nport 1:\n",
         ending: WELL,

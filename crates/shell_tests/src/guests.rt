@@ -232,31 +232,31 @@ screen 0: 101 bytes
 halted
 alone 1 count 2261
 same 2261
-node 0          node 1          arbiter         terminals       disk
-                ------------------------------> m346 accepted
-                sent 96 taken <------------------
-                18: byte 0 97
-                byte 0 97 m347>
-                ------------------------------> m347 accepted
-                sent 97 taken <------------------
-                9: byte 0 98
-                byte 0 98 m348>
-                ------------------------------> m348 accepted
-                sent 98 taken <------------------
-                14: byte 0 99
-                byte 0 99 m349>
-                ------------------------------> m349 accepted
-                sent 99 taken <------------------
-                9: byte 0 100
-                byte 0 100 m350>
-                ------------------------------> m350 accepted
-                sent 100 taken <-----------------
-                9: byte 0 101
-                byte 0 101 m351>
-                ------------------------------> m351 accepted
-                sent 101 taken <-----------------
-                8: idle
-                ----------------------------------------------> read 0 refused 4
+ event terminal 0  node 0      node 1      arbiter     disk
+  1125    <-----------------------o                                byte 96: 30 (0); accepted
+  1126    o----------------------->                                byte 96 was accepted
+  1127                            *                                gives byte 97
+  1128                            o                                sends message 347: byte 97: 0D
+  1129    <-----------------------o                                byte 97: 0D; accepted
+  1130    o----------------------->                                byte 97 was accepted
+  1131                            *                                gives byte 98
+  1132                            o                                sends message 348: byte 98: 0A
+  1133    <-----------------------o                                byte 98: 0A; accepted
+  1134    o----------------------->                                byte 98 was accepted
+  1135                            *                                gives byte 99
+  1136                            o                                sends message 349: byte 99: 0D
+  1137    <-----------------------o                                byte 99: 0D; accepted
+  1138    o----------------------->                                byte 99 was accepted
+  1139                            *                                gives byte 100
+  1140                            o                                sends message 350: byte 100: 0A
+  1141    <-----------------------o                                byte 100: 0A; accepted
+  1142    o----------------------->                                byte 100 was accepted
+  1143                            *                                gives byte 101
+  1144                            o                                sends message 351: byte 101: 2A
+  1145    <-----------------------o                                byte 101: 2A; accepted
+  1146    o----------------------->                                byte 101 was accepted
+  1147                            *                                waits for an interrupt
+  1148                            *                                read sector 0: refused, not due
 ";
 
 const REWRITE: &str = "# A program that reads sector 3, changes it and writes it back: rewrite.asm.
@@ -312,31 +312,31 @@ sector 0 0 3: write 1
 70  57 52 49 54 54 45 4E 20 42 41 43 4B 2E 20 53 4D  |WRITTEN BACK. SM|
 80  41 4C 4C 20 4C 45 54 54 45  |ALL LETTE|
 same 6647
-node 0          node 1          arbiter         terminals       disk
-                sent 2 taken <-------------------
-                6: byte 0 3
-                byte 0 3 m24>
-                ------------------------------> m24 accepted
-                sent 3 taken <-------------------
-                ----------------------------------------------> read 7 m25...
-                m25 refused 4 <----------------------------------
-                6: byte 0 4
-                byte 0 4 m26>
-                ------------------------------> m26 accepted
-                sent 4 taken <-------------------
-                6: byte 0 5
-                byte 0 5 m27>
-                ------------------------------> m27 accepted
-                sent 5 taken <-------------------
-                6: byte 0 6
-                byte 0 6 m28>
-                ------------------------------> m28 accepted
-                sent 6 taken <-------------------
-                ----------------------------------------------> read 8 m29...
-                m29 refused 4 <----------------------------------
-                6: idle
-                ----------------------------------------------> read 9 m30...
-                m30 refused 4 <----------------------------------
+ event terminal 0  node 0      node 1      arbiter     disk
+    80    o----------------------->                                byte 2 was accepted
+    81                            *                                gives byte 3
+    82                            o                                sends message 24: byte 3: 4E (N)
+    83    <-----------------------o                                byte 3: 4E (N); accepted
+    84    o----------------------->                                byte 3 was accepted
+    85                            |                       o        sends message 25: sector 7, as at boot
+    86                            <-----------------------o        sector 7, as at boot; refused, not due
+    87                            *                                gives byte 4
+    88                            o                                sends message 26: byte 4: 45 (E)
+    89    <-----------------------o                                byte 4: 45 (E); accepted
+    90    o----------------------->                                byte 4 was accepted
+    91                            *                                gives byte 5
+    92                            o                                sends message 27: byte 5: 0D
+    93    <-----------------------o                                byte 5: 0D; accepted
+    94    o----------------------->                                byte 5 was accepted
+    95                            *                                gives byte 6
+    96                            o                                sends message 28: byte 6: 0A
+    97    <-----------------------o                                byte 6: 0A; accepted
+    98    o----------------------->                                byte 6 was accepted
+    99                            |                       o        sends message 29: sector 8, as at boot
+   100                            <-----------------------o        sector 8, as at boot; refused, not due
+   101                            *                                waits for an interrupt
+   102                            |                       o        sends message 30: sector 9, as at boot
+   103                            <-----------------------o        sector 9, as at boot; refused, not due
 ";
 
 const TOUR: &str = "# The tour of the README: a guest is booted, typed at, loses its primary,
@@ -384,31 +384,31 @@ ran 734 count 871 waits for a key
 6 done, the last: typed 19
 ran 800 count 1671 turns
 ran 17 count 1688 byte 0 71
-node 0          node 1          arbiter         terminals       disk
-                ack m313>
-m313 held 157 <--
-                moved 16 end
-byte 0 69 m314>
-----------------------------------------------> m314 accepted
-sent 69 taken <----------------------------------
-12: byte 0 70
-entry 157 m315>
-entry 158 m316>
---------------> m315 new
---------------> m316 new
-                ack m317>
-m317 held 159 <--
-                moved 14 end
-byte 0 70 m318>
-----------------------------------------------> m318 accepted
-sent 70 taken <----------------------------------
-4 steps
-entry 159 m319>
---------------> m319 new
-                ack m320>
-m320 held 160 <--
-                moved 1 end
-17: byte 0 71
+ event terminal 0  node 0      node 1      disk
+   960                #           o                    sends message 313: holds 157 entries
+   961                <-----------o                    holds 157 entries
+   962                |           *                    replays 16 moves
+   963                o           :                    sends message 314: byte 69: 39 (9)
+   964    <-----------o           :                    byte 69: 39 (9); accepted
+   965    o----------->           :                    byte 69 was accepted
+   966                *           :                    gives byte 70, held back
+   967                o           :                    sends message 315: entry 157: byte accepted at count 1655
+   968                o           :                    sends message 316: entry 158: output at count 1667
+   969                o----------->                    entry 157: byte accepted at count 1655; held
+   970                o----------->                    entry 158: output at count 1667; held
+   971                #           o                    sends message 317: holds 159 entries
+   972                <-----------o                    holds 159 entries
+   973                |           *                    replays 14 moves
+   974                o           :                    sends message 318: byte 70: 20
+   975    <-----------o           :                    byte 70: 20; accepted
+   976    o----------->           :                    byte 70 was accepted
+   977                *           :                    runs 4 steps
+   978                o           :                    sends message 319: entry 159: byte accepted at count 1667
+   979                o----------->                    entry 159: byte accepted at count 1667; held
+   980                |           o                    sends message 320: holds 160 entries
+   981                <-----------o                    holds 160 entries
+   982                |           *                    replays 1 move
+   983                *           :                    gives byte 71, held back
 stopped
 won
 moved 0 alone

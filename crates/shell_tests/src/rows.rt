@@ -68,7 +68,7 @@ fn a_session_is_answered_line_by_line(rt: HostRuntime) -> Result<(), Fail> {
 }
 
 // Each of these changes nothing: the last one is answered as at the beginning.
-static WRONG: [Row; 27] = [
+static WRONG: [Row; 30] = [
     (
         "stap 0 1",
         "? stap begins no line; `help` lists the lines\n",
@@ -118,6 +118,18 @@ static WRONG: [Row; 27] = [
         "? word 3 is missing: a byte of two hexadecimal digits; the line is `mem AAAA HH ..`\n",
     ),
     (
+        "mem 0000 00 0",
+        "? word 4 is 0: a byte of two hexadecimal digits is expected; the line is `mem AAAA HH ..`\n",
+    ),
+    (
+        "stap4567890123456789abcd 0 1",
+        "? stap4567890123456789abcd begins no line; `help` lists the lines\n",
+    ),
+    (
+        "stap4567890123456789abcde 0 1",
+        "? stap4567890123456789abcd... begins no line; `help` lists the lines\n",
+    ),
+    (
         "drives 5",
         "? word 2 is 5: a number from 1 to 4 is expected; the line is `drives N`\n",
     ),
@@ -165,10 +177,10 @@ static WRONG: [Row; 27] = [
         "help me",
         "? word 2, me, is one too many; the line is `help`\n",
     ),
-    ("sector 3 0 0 00", ""),
+    ("sector 1 0 0 00", ""),
     (
         "last",
-        "? sector 3 0 0 is on a drive that is not attached; `drives N` comes first\n",
+        "? sector 1 0 0 is on a drive that is not attached; `drives N` comes first\n",
     ),
     ("drives 4", ""),
 ];
@@ -209,13 +221,42 @@ fn long_lines_are_told(rt: HostRuntime) -> Result<(), Fail> {
     Ok(())
 }
 
+// The guest gives its first byte, and its entry is sent and held.
+static PICTURED: [Row; 7] = [
+    (":100000003100013E95D3103E48D311FB76C30B005F", ""),
+    ("step 0 100", "ran 5 count 5 byte 0 1\n"),
+    ("send 0 0", "message 0\n"),
+    (
+        "picture",
+        " event terminal 0  node 0      node 1
+     0                *           :        gives byte 1, held back
+     1                o           :        sends message 0: entry 0: output at count 5, not there yet
+",
+    ),
+    ("log 0 1", "new\n"),
+    (
+        "picture 1 7",
+        " event terminal 0  node 0      node 1
+     1                o           :        sends message 0: entry 0: output at count 5
+     2                o----------->        entry 0: output at count 5; held
+",
+    ),
+    ("picture 3 2", " event terminal 0  node 0      node 1\n"),
+];
+
 #[test]
-fn pictures_have_eighty_columns(rt: HostRuntime) -> Result<(), Fail> {
-    let session = ":100000003100013E95D3103E48D311FB76C30B005F\nrun 0 1000 loss 50 1\npicture\n";
+fn pictures_have_a_line_for_each_event(rt: HostRuntime) -> Result<(), Fail> {
+    expect(&rt, &PICTURED)
+}
+
+#[test]
+fn pictures_are_narrow(rt: HostRuntime) -> Result<(), Fail> {
+    let session =
+        ":100000003100013E95D3103E48D311FB76C30B005F\nrun 0 1000 loss 50 1\npicture 0 999\n";
     let printed = answers_to(rt.alloc(), session)?;
     let mut rows = 0u32;
     for line in printed.as_str().lines() {
-        assert!(rt; line.len() <= 80, "{line}");
+        assert!(rt; line.len() <= 120, "{line}");
         rows = rows.saturating_add(1);
     }
     assert!(rt; rows > 20);

@@ -3,7 +3,6 @@
 use super::OLD_BYTES;
 use disk_dcdd::*;
 use i8080_words::{Fault, GREATEST_NUMBER};
-use std::process::Abort;
 
 // What the readers of a controller return.
 fn image_of(disk: &Controller) -> ControllerImage<'_> {
@@ -18,18 +17,16 @@ fn image_of(disk: &Controller) -> ControllerImage<'_> {
     }
 }
 
-// The place of a write of this number, on track 3 of drive 1.
-fn place(number: u64, sector: u8) -> Place {
-    Place {
-        number,
-        drive: 1,
-        track: 3,
-        sector,
-    }
-}
+// The write of number 4 to sector 6 of track 3 of drive 1.
+const PLACE: Place = Place {
+    number: 4,
+    drive: 1,
+    track: 3,
+    sector: 6,
+};
 
 // The sector under the head of an image's drive 1.
-static UNDER_HEAD: CurrentSector = CurrentSector {
+const UNDER_HEAD: CurrentSector = CurrentSector {
     sector: 5,
     bytes: OLD_BYTES,
     read: 136,
@@ -37,178 +34,220 @@ static UNDER_HEAD: CurrentSector = CurrentSector {
     filled: Some(136),
 };
 
-static BOOT: Drive = Drive {
+const BOOT: Drive = Drive {
     track: 0,
     loaded: false,
 };
 
-static OVER: Drive = Drive {
+const OVER: Drive = Drive {
     track: 3,
     loaded: true,
 };
 
-static FAR: Drive = Drive {
+const FAR: Drive = Drive {
     track: 77,
     loaded: true,
 };
 
-// An image whose drive 1 is over a sector that is being written, while writes of these numbers are outstanding.
-fn image_with(outstanding: &[Place]) -> ControllerImage<'_> {
-    ControllerImage {
-        attached: 2,
-        selected: Some(1),
-        drives: [BOOT, OVER, BOOT, BOOT],
-        interrupts: true,
-        current: Some(UNDER_HEAD),
-        outstanding,
-        issued: 9,
-    }
-}
+// An image whose drive 1 is over a sector that is being written.
+const IMAGE: ControllerImage<'static> = ControllerImage {
+    attached: 2,
+    selected: Some(1),
+    drives: [BOOT, OVER, BOOT, BOOT],
+    interrupts: true,
+    current: Some(UNDER_HEAD),
+    outstanding: &[],
+    issued: 9,
+};
+
+static RIGHT: ControllerImage<'static> = ControllerImage {
+    outstanding: &[
+        Place {
+            sector: 31,
+            ..PLACE
+        },
+        Place {
+            number: 6,
+            sector: 0,
+            ..PLACE
+        },
+    ],
+    ..IMAGE
+};
 
 #[test]
 fn a_controller_comes_back_from_its_image(rt: HostRuntime) {
-    let outstanding = [place(4, 31), place(6, 0)];
-    let image = image_with(&outstanding);
-    let disk = Controller::rebuild(&image).expect(&rt, "an image of a controller");
-    assert!(rt; image_of(&disk) == image);
-    assert!(rt; image_of(&disk.copy()) == image);
+    let disk = Controller::rebuild(&RIGHT).expect(&rt, "an image of a controller");
+    assert!(rt; image_of(&disk) == RIGHT);
+    assert!(rt; image_of(&disk.copy()) == RIGHT);
     disk.stands();
 }
 
-// What is wrong with an image.
-#[derive(Clone, Copy)]
-enum Wrong {
-    // So many drives, with none selected.
-    Drives(u8),
+static WRONG: [ControllerImage<'static>; 20] = [
+    // No drive, and five, with none selected.
+    ControllerImage {
+        attached: 0,
+        selected: None,
+        current: None,
+        ..IMAGE
+    },
+    ControllerImage {
+        attached: 5,
+        selected: None,
+        current: None,
+        ..IMAGE
+    },
     // Drive 2 is selected, and there are two.
-    Selected,
+    ControllerImage {
+        selected: Some(2),
+        current: None,
+        ..IMAGE
+    },
     // A head at track 77.
-    FarTrack,
+    ControllerImage {
+        drives: [FAR, OVER, BOOT, BOOT],
+        ..IMAGE
+    },
     // A drive that is not attached and moved.
-    Moved,
+    ControllerImage {
+        drives: [BOOT, OVER, OVER, BOOT],
+        ..IMAGE
+    },
     // A sector, with no drive selected.
-    NoneSelected,
+    ControllerImage {
+        selected: None,
+        ..IMAGE
+    },
     // A sector under a head that is not loaded.
-    Unloaded,
+    ControllerImage {
+        selected: Some(0),
+        ..IMAGE
+    },
     // A number above the greatest.
-    Issued,
-}
-
-fn wrong_image(wrong: Wrong) -> ControllerImage<'static> {
-    let mut image = image_with(&[]);
-    match wrong {
-        Wrong::Drives(drives) => {
-            image.attached = drives;
-            image.selected = None;
-            image.current = None;
-        }
-        Wrong::Selected => {
-            image.selected = Some(2);
-            image.current = None;
-        }
-        Wrong::FarTrack => image.drives = [FAR, OVER, BOOT, BOOT],
-        Wrong::Moved => image.drives = [BOOT, OVER, OVER, BOOT],
-        Wrong::NoneSelected => image.selected = None,
-        Wrong::Unloaded => image.selected = Some(0),
-        Wrong::Issued => image.issued = GREATEST_NUMBER + 1,
-    }
-    image
-}
-
-// Whether no controller is in that state.
-fn is_malformed(image: &ControllerImage) -> bool {
-    matches!(Controller::rebuild(image), Err(Fault::Malformed))
-}
-
-static WRONG: [Wrong; 8] = [
-    Wrong::Drives(0),
-    Wrong::Drives(5),
-    Wrong::Selected,
-    Wrong::FarTrack,
-    Wrong::Moved,
-    Wrong::NoneSelected,
-    Wrong::Unloaded,
-    Wrong::Issued,
+    ControllerImage {
+        issued: GREATEST_NUMBER + 1,
+        ..IMAGE
+    },
+    // Sector 32, 137 bytes read, and 137 filled in.
+    ControllerImage {
+        current: Some(CurrentSector {
+            sector: 32,
+            ..UNDER_HEAD
+        }),
+        ..IMAGE
+    },
+    ControllerImage {
+        current: Some(CurrentSector {
+            read: 137,
+            ..UNDER_HEAD
+        }),
+        ..IMAGE
+    },
+    ControllerImage {
+        current: Some(CurrentSector {
+            filled: Some(137),
+            ..UNDER_HEAD
+        }),
+        ..IMAGE
+    },
+    // A write to drive 2, which is not attached, to track 77, of number 0, of a number that was not issued, to sector 32,
+    // and to the sector under the head.
+    ControllerImage {
+        outstanding: &[Place { drive: 2, ..PLACE }],
+        ..IMAGE
+    },
+    ControllerImage {
+        outstanding: &[Place { track: 77, ..PLACE }],
+        ..IMAGE
+    },
+    ControllerImage {
+        outstanding: &[Place { number: 0, ..PLACE }],
+        ..IMAGE
+    },
+    ControllerImage {
+        outstanding: &[Place {
+            number: 10,
+            ..PLACE
+        }],
+        ..IMAGE
+    },
+    ControllerImage {
+        outstanding: &[Place {
+            sector: 32,
+            ..PLACE
+        }],
+        ..IMAGE
+    },
+    ControllerImage {
+        outstanding: &[Place { sector: 5, ..PLACE }],
+        ..IMAGE
+    },
+    // A number twice, and a sector twice.
+    ControllerImage {
+        outstanding: &[PLACE, Place { sector: 7, ..PLACE }],
+        ..IMAGE
+    },
+    ControllerImage {
+        outstanding: &[PLACE, Place { number: 5, ..PLACE }],
+        ..IMAGE
+    },
+    // Nine writes.
+    ControllerImage {
+        outstanding: &[
+            Place {
+                number: 1,
+                sector: 11,
+                ..PLACE
+            },
+            Place {
+                number: 2,
+                sector: 12,
+                ..PLACE
+            },
+            Place {
+                number: 3,
+                sector: 13,
+                ..PLACE
+            },
+            Place {
+                number: 4,
+                sector: 14,
+                ..PLACE
+            },
+            Place {
+                number: 5,
+                sector: 15,
+                ..PLACE
+            },
+            Place {
+                number: 6,
+                sector: 16,
+                ..PLACE
+            },
+            Place {
+                number: 7,
+                sector: 17,
+                ..PLACE
+            },
+            Place {
+                number: 8,
+                sector: 18,
+                ..PLACE
+            },
+            Place {
+                number: 9,
+                sector: 19,
+                ..PLACE
+            },
+        ],
+        ..IMAGE
+    },
 ];
 
 #[test]
-fn no_controller_has_such_drives(rt: HostRuntime) {
-    for wrong in &WRONG {
-        assert!(rt; is_malformed(&wrong_image(*wrong)));
-    }
-}
-
-// A sector's number, how many bytes of it are read, and how many are filled in.
-static SECTORS_UNDER_HEAD: [(u8, u8, u8); 3] = [(32, 136, 136), (5, 137, 136), (5, 136, 137)];
-
-#[test]
-fn no_controller_has_such_a_sector(rt: HostRuntime) {
-    for (sector, read, filled) in &SECTORS_UNDER_HEAD {
-        let mut image = image_with(&[]);
-        image.current = Some(CurrentSector {
-            sector: *sector,
-            bytes: OLD_BYTES,
-            read: *read,
-            shown: true,
-            filled: Some(*filled),
-        });
-        assert!(rt; is_malformed(&image));
-    }
-}
-
-// Number, drive, track and sector of a write: drive 2, which is not attached, track 77, number 0, a number that was not
-// issued, sector 32, and the sector under the head.
-static ALONE: [(u64, u8, u8, u8); 6] = [
-    (4, 2, 3, 6),
-    (4, 1, 77, 6),
-    (0, 1, 3, 6),
-    (10, 1, 3, 6),
-    (4, 1, 3, 32),
-    (4, 1, 3, 5),
-];
-
-#[test]
-fn no_controller_has_such_a_write(rt: HostRuntime) {
-    for (number, drive, track, sector) in &ALONE {
-        let write = Place {
-            number: *number,
-            drive: *drive,
-            track: *track,
-            sector: *sector,
-        };
-        assert!(rt; is_malformed(&image_with(&[write])));
-    }
-}
-
-// The numbers of nine writes, and their sectors.
-static NINE: [(u64, u8); 9] = [
-    (1, 11),
-    (2, 12),
-    (3, 13),
-    (4, 14),
-    (5, 15),
-    (6, 16),
-    (7, 17),
-    (8, 18),
-    (9, 19),
-];
-
-fn nine_writes() -> [Place; 9] {
-    let mut writes = [place(1, 11); 9];
-    for (write, (number, sector)) in writes.iter_mut().zip(&NINE) {
-        *write = place(*number, *sector);
-    }
-    writes
-}
-
-// The number of write 4 again, and its sector.
-static SECOND: [(u64, u8); 2] = [(4, 7), (5, 6)];
-
-#[test]
-fn no_controller_has_such_writes(rt: HostRuntime) {
-    assert!(rt; is_malformed(&image_with(&nine_writes())));
-    for (number, sector) in &SECOND {
-        let writes = [place(4, 6), place(*number, *sector)];
-        assert!(rt; is_malformed(&image_with(&writes)));
+fn no_controller_has_such_an_image(rt: HostRuntime) {
+    for (number, image) in WRONG.iter().enumerate() {
+        let refusal = Controller::rebuild(image).err();
+        assert!(rt; refusal == Some(Fault::Malformed), "image {number}");
     }
 }

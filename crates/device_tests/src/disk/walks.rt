@@ -1,9 +1,8 @@
 //! Long walks of a controller by calls drawn at random. The expected folds were made by an independent program.
 //!
-//! Numbers are drawn by x = x * 1664525 + 1013904223 modulo 2^32; a byte is the highest eight bits of x. A walk folds
-//! bytes from h = 2166136261 on: h is exclusive-ored with the byte and multiplied by 16777619 modulo 2^32. Walk r draws
-//! from x = r, has r mod 4 + 1 drives, and makes 2,000 rounds. A round draws which call it makes, modulo 16, and a byte
-//! for it; it folds what the call returns, and at its end the status and the line.
+//! Walk r has r mod 4 + 1 drives, and makes 2,000 rounds. A round draws which call it makes, modulo 16, and a byte for it; it
+//! folds what the call returns, and at its end the status and the line.
+use crate::walk::Walk;
 use disk_dcdd::*;
 use i8080_words::{GREATEST_NUMBER, R};
 use std::process::Abort;
@@ -20,19 +19,11 @@ static FOLDED: [u32; 64] = [
     0xedb6_1754, 0x757e_2493, 0x793f_f29f, 0x38e7_911d, 0x9f9a_975e, 0xd4cd_41fc, 0x477f_5554, 0xa4d7_8b16,
 ];
 
-// The numbers that a walk draws, what it has folded, and the controller that it drives.
-#[derive(Drop)]
-struct Walk {
-    drawn: u32,
-    folded: u32,
-    disk: Controller,
-}
-
-// The byte folded for a result: 0, or the number of the refusal.
-fn refusal(answer: R<()>) -> u8 {
+// Folds the answer of a call: 0, or the number of the refusal.
+fn fold_answer(walk: &mut Walk, answer: R<()>) {
     match answer {
-        Ok(()) => 0,
-        Err(fault) => fault.number(),
+        Ok(()) => walk.fold(0),
+        Err(fault) => walk.fold(fault.number()),
     }
 }
 
@@ -47,115 +38,90 @@ fn counting_from(first: u8) -> [u8; SECTOR_BYTES] {
     bytes
 }
 
-impl Walk {
-    fn byte(&mut self) -> u8 {
-        self.drawn = self.drawn.wrapping_mul(1664525).wrapping_add(1013904223);
-        (self.drawn >> 24) as u8
+// Sends a byte, and folds the write that it completes, or 0.
+fn send(rt: &impl Abort, walk: &mut Walk, disk: &mut Controller, byte: u8) {
+    assert!(rt; disk.issued() < GREATEST_NUMBER);
+    let Some(write) = disk.data_out(byte) else {
+        walk.fold(0);
+        return;
+    };
+    walk.fold((write.number % 256) as u8);
+    walk.fold(write.drive);
+    walk.fold(write.track);
+    walk.fold(write.sector);
+    for byte in &write.bytes {
+        walk.fold(*byte);
     }
+}
 
-    fn fold(&mut self, byte: u8) {
-        self.folded = (self.folded ^ u32::from(byte)).wrapping_mul(16777619);
+// Sends so many of the bytes that count up from this one.
+fn send_all(rt: &impl Abort, walk: &mut Walk, disk: &mut Controller, first: u8, count: u8) {
+    let mut next = first;
+    for _ in 0..count {
+        send(rt, walk, disk, next);
+        next = next.wrapping_add(1);
     }
+}
 
-    fn send(&mut self, rt: &impl Abort, byte: u8) {
-        assert!(rt; self.disk.issued() < GREATEST_NUMBER);
-        let Some(write) = self.disk.data_out(byte) else {
-            self.fold(0);
-            return;
-        };
-        for byte in [
-            (write.number % 256) as u8,
-            write.drive,
-            write.track,
-            write.sector,
-        ] {
-            self.fold(byte);
-        }
-        for byte in &write.bytes {
-            self.fold(*byte);
-        }
+// The calls that select, step, read and bring sectors.
+fn call(walk: &mut Walk, disk: &mut Controller, kind: u8, drawn: u8) {
+    match kind {
+        0 => disk.select(drawn),
+        1 => disk.select(drawn & 3),
+        2 => disk.command(drawn),
+        3 => disk.command(0x04),
+        4 => disk.command(drawn & 0x17),
+        5 => disk.command(0x01),
+        6 => walk.fold(disk.position()),
+        7 => fold_answer(walk, disk.sector(drawn & 31, counting_from(drawn))),
+        _ => fold_answer(walk, disk.sector(drawn & 63, counting_from(drawn))),
     }
+}
 
-    fn send_counting_from(&mut self, rt: &impl Abort, first: u8, count: u8) {
-        let mut next = first;
-        for _ in 0..count {
-            self.send(rt, next);
-            next = next.wrapping_add(1);
-        }
-    }
-
-    fn bring(&mut self, sector: u8, bytes: [u8; SECTOR_BYTES]) {
-        let answer = self.disk.sector(sector, bytes);
-        self.fold(refusal(answer));
-    }
-
-    fn write_sector(&mut self, rt: &impl Abort, drawn: u8) {
-        self.disk.command(0x04);
-        self.bring(drawn & 31, [0; SECTOR_BYTES]);
-        self.disk.command(0x80);
-        self.send_counting_from(rt, drawn, 137);
-    }
-
-    fn complete(&mut self, rt: &impl Abort, drawn: u8) {
-        assert!(rt; self.disk.issued() < GREATEST_NUMBER);
-        let number = 1 + u64::from(drawn) % (self.disk.issued() + 2);
-        let answer = self.disk.written(number);
-        self.fold(refusal(answer));
-    }
-
-    fn read(&mut self, count: u8) {
-        for _ in 0..count {
-            let byte = self.disk.data_in();
-            self.fold(byte);
-        }
-    }
-
-    fn position(&mut self) {
-        let byte = self.disk.position();
-        self.fold(byte);
-    }
-
-    fn call(&mut self, rt: &impl Abort, kind: u8, drawn: u8) {
-        match kind {
-            0 => self.disk.select(drawn),
-            1 => self.disk.select(drawn & 3),
-            2 => self.disk.command(drawn),
-            3 => self.disk.command(0x04),
-            4 => self.disk.command(drawn & 0x17),
-            5 => self.disk.command(0x01),
-            6 => self.position(),
-            7 => self.bring(drawn & 31, counting_from(drawn)),
-            8 => self.bring(drawn & 63, counting_from(drawn)),
-            9 => self.read(drawn),
-            10 => self.send_counting_from(rt, drawn, drawn % 160),
-            11 => self.disk.command(0x80),
-            12 => self.write_sector(rt, drawn),
-            13 => {
-                for index in 0..137 {
-                    self.send(rt, drawn ^ index);
-                }
+// The calls that read and write the bytes of sectors, and complete writes.
+fn transfer(rt: &impl Abort, walk: &mut Walk, disk: &mut Controller, kind: u8, drawn: u8) {
+    match kind {
+        9 => {
+            for _ in 0..drawn {
+                walk.fold(disk.data_in());
             }
-            14 => self.complete(rt, drawn),
-            _ => {}
         }
+        10 => send_all(rt, walk, disk, drawn, drawn % 160),
+        11 => disk.command(0x80),
+        12 => {
+            disk.command(0x04);
+            fold_answer(walk, disk.sector(drawn & 31, [0; SECTOR_BYTES]));
+            disk.command(0x80);
+            send_all(rt, walk, disk, drawn, 137);
+        }
+        13 => {
+            for index in 0..137 {
+                send(rt, walk, disk, drawn ^ index);
+            }
+        }
+        14 => {
+            assert!(rt; disk.issued() < GREATEST_NUMBER);
+            let number = 1 + u64::from(drawn) % (disk.issued() + 2);
+            fold_answer(walk, disk.written(number));
+        }
+        _ => {}
     }
 }
 
 // The fold at the end of a walk.
 fn folded_by(rt: &impl Abort, number: u8) -> u32 {
-    let mut walk = Walk {
-        drawn: u32::from(number),
-        folded: 2166136261,
-        disk: Controller::new(number % 4 + 1),
-    };
+    let mut walk = Walk::new(u32::from(number));
+    let mut disk = Controller::new(number % 4 + 1);
     for _ in 0..2000 {
         let kind = walk.byte() % 16;
         let drawn = walk.byte();
-        walk.call(rt, kind, drawn);
-        let status = walk.disk.status();
-        walk.fold(status);
-        let line = walk.disk.line();
-        walk.fold(u8::from(line));
+        if kind < 9 {
+            call(&mut walk, &mut disk, kind, drawn);
+        } else {
+            transfer(rt, &mut walk, &mut disk, kind, drawn);
+        }
+        walk.fold(disk.status());
+        walk.fold(u8::from(disk.line()));
     }
     walk.folded
 }

@@ -1,9 +1,8 @@
 //! Long walks of a port by calls drawn at random. The expected folds were made by an independent program.
 //!
-//! Numbers are drawn by x = x * 1664525 + 1013904223 modulo 2^32; a byte is the highest eight bits of x. A walk folds
-//! bytes from h = 2166136261 on: h is exclusive-ored with the byte and multiplied by 16777619 modulo 2^32. Walk r draws
-//! from x = r, begins with a port at boot, and makes 2,000 rounds. A round draws which call it makes, modulo 8, and a
-//! byte for it; it folds what the call returns, and at its end the line.
+//! A walk begins with a port at boot, and makes 2,000 rounds. A round draws which call it makes, modulo 8, and a byte for
+//! it; it folds what the call returns, and at its end the line.
+use crate::walk::Walk;
 use serial_2sio::Acia;
 
 #[rattlefmt::skip]
@@ -18,74 +17,37 @@ static FOLDED: [u32; 64] = [
     0x2a70_7c48, 0x8d4f_d1d0, 0x43b7_b80f, 0xcbf2_d165, 0x15f7_77b6, 0xb22d_60dd, 0xdb77_7f4a, 0x4c20_a91c,
 ];
 
-// The numbers that a walk draws, what it has folded, and the port that it drives.
-#[derive(Drop)]
-struct Walk {
-    drawn: u32,
-    folded: u32,
-    port: Acia,
-}
-
-impl Walk {
-    fn byte(&mut self) -> u8 {
-        self.drawn = self.drawn.wrapping_mul(1664525).wrapping_add(1013904223);
-        (self.drawn >> 24) as u8
-    }
-
-    fn fold(&mut self, byte: u8) {
-        self.folded = (self.folded ^ u32::from(byte)).wrapping_mul(16777619);
-    }
-
-    // 0 if no byte goes out, otherwise 1 and the byte.
-    fn send(&mut self, byte: u8) {
-        match self.port.data_out(byte) {
-            None => self.fold(0),
+// Folds what a call returns: for a byte that is sent 0 if none goes out, otherwise 1 and the byte; for an acceptance 0, or
+// the number of the refusal.
+fn call(walk: &mut Walk, port: &mut Acia, kind: u8, drawn: u8) {
+    match kind {
+        0 => port.control(drawn),
+        1 | 2 => walk.fold(port.status()),
+        3 => walk.fold(port.data_in()),
+        4 | 5 => match port.data_out(drawn) {
+            None => walk.fold(0),
             Some(sent) => {
-                self.fold(1);
-                self.fold(sent);
+                walk.fold(1);
+                walk.fold(sent);
             }
-        }
-    }
-
-    // 0, or the number of the refusal.
-    fn accept(&mut self) {
-        match self.port.sent() {
-            Ok(()) => self.fold(0),
-            Err(fault) => self.fold(fault.number()),
-        }
-    }
-
-    fn call(&mut self, kind: u8, drawn: u8) {
-        match kind {
-            0 => self.port.control(drawn),
-            1 | 2 => {
-                let status = self.port.status();
-                self.fold(status);
-            }
-            3 => {
-                let byte = self.port.data_in();
-                self.fold(byte);
-            }
-            4 | 5 => self.send(drawn),
-            6 => self.port.receive(drawn),
-            _ => self.accept(),
-        }
+        },
+        6 => port.receive(drawn),
+        _ => match port.sent() {
+            Ok(()) => walk.fold(0),
+            Err(fault) => walk.fold(fault.number()),
+        },
     }
 }
 
 // The fold at the end of a walk.
 fn folded_by(number: u32) -> u32 {
-    let mut walk = Walk {
-        drawn: number,
-        folded: 2166136261,
-        port: Acia::new(),
-    };
+    let mut walk = Walk::new(number);
+    let mut port = Acia::new();
     for _ in 0..2000 {
         let kind = walk.byte() % 8;
         let drawn = walk.byte();
-        walk.call(kind, drawn);
-        let line = walk.port.line();
-        walk.fold(u8::from(line));
+        call(&mut walk, &mut port, kind, drawn);
+        walk.fold(u8::from(port.line()));
     }
     walk.folded
 }

@@ -1,29 +1,6 @@
-//! What the turns of a worker are for, and what the workers tell each other.
+//! What the workers tell each other.
 
-use pair_threads::{Chore, Signals, Told, Who};
-
-static ROTATION: [Chore; 11] = [
-    Chore::See,
-    Chore::Emit,
-    Chore::Count,
-    Chore::Accept,
-    Chore::Key,
-    Chore::Ask,
-    Chore::Answer,
-    Chore::Complete,
-    Chore::Post,
-    Chore::Run,
-    Chore::See,
-];
-
-#[test]
-fn a_rotation_has_every_chore_once(rt: HostRuntime) {
-    let mut chore = Chore::See;
-    for expected in &ROTATION {
-        assert!(rt; chore == *expected);
-        chore = chore.next();
-    }
-}
+use pair_threads::{Signals, Told, Who};
 
 #[test]
 fn workers_hear_who_is_at_its_end(rt: HostRuntime) {
