@@ -1,5 +1,4 @@
-//! Rows of a table of scripts, and how a row is run: by `script`, by `check`, and as a session of the shell, which also looks
-//! at the disk.
+//! Rows of a table of scripts, and how a row is run: by `script`, by `check`, and by the shell, which also looks at the disk.
 use crate::runs::{WELL, expect};
 use std::alloc::{AllocError, Global};
 use std::process::Abort;
