@@ -20,118 +20,118 @@ mem 0000 0E 01 06 89 AF D3 08 3E 04 D3 09 DB 09 0F DA 0B 00 3E 80 D3 09 DB 08 0F
 ";
 
 // Up to the write there are 3 steps that find the sector, 3 that begin, and 3 for each of its 137 bytes less 2.
-const WRITE: Lines = &[
-    ("suspect 0", "won"),
-    ("step 0 4", "ran 4 count 4 turns"),
-    ("get 0 5", "message 0"),
-    ("under 0 0", "taken"),
-    ("step 0 1000", "ran 415 count 419 write 1"),
-    ("release 0 write 1", "message 1"),
-    ("put 1", "message 2"),
-];
+const WRITE: Lines = "\
+suspect 0 -> won
+step 0 4 -> ran 4 count 4 turns
+get 0 5 -> message 0
+under 0 0 -> taken
+step 0 1000 -> ran 415 count 419 write 1
+release 0 write 1 -> message 1
+put 1 -> message 2
+";
 
-const WRITTEN: Lines = &[("done 2 0", "taken"), ("step 0 3", "ran 3 count 422 turns")];
+const WRITTEN: Lines = "\
+done 2 0 -> taken
+step 0 3 -> ran 3 count 422 turns
+";
 
 /// A sector comes, and is written; the backup holds both entries.
-pub const HELD: Lines = &[
-    ("step 0 10", "ran 10 count 10 turns"),
-    ("get 0 0", "message 0"),
-    ("under 0 0", "taken"),
-    ("step 0 2000", "ran 963 count 973 write 1"),
-    ("send 0 0", "message 1"),
-    ("send 0 1", "message 2"),
-    ("log 1 1", "new"),
-    ("log 2 1", "new"),
-    ("ack 1", "message 3"),
-    ("acked 3 0", "held 2"),
-];
+pub const HELD: Lines = "\
+step 0 10 -> ran 10 count 10 turns
+get 0 0 -> message 0
+under 0 0 -> taken
+step 0 2000 -> ran 963 count 973 write 1
+send 0 0 -> message 1
+send 0 1 -> message 2
+log 1 1 -> new
+log 2 1 -> new
+ack 1 -> message 3
+acked 3 0 -> held 2
+";
 
 // The sector, which has no write yet, came at count 10; the mark is at count 973.
-const ENTRIES: Lines = &[
-    (
-        "packet 1",
-        "4C 00 00 00 01 00 00 00 00 00 00 00 00 03 00 00 00 00 00 00 00 0A 00 00 00 00 00 00 00 00 00 00 \
-         00 00 00 00 00 00 00 00 00 00 00 00 00 00 00 00 00 00 00 00 00 00 00 00 00 00 00 00 00 00 00 00 \
-         00 00 00 00 00 00 00 00 00 00 00 00 00 00 00 00 00 00 00 00 00 00 00 00 00 00 00 00 00 00 00 00 \
-         00 00 00 00 00 00 00 00 00 00 00 00 00 00 00 00 00 00 00 00 00 00 00 00 00 00 00 00 00 00 00 00 \
-         00 00 00 00 00 00 00 00 00 00 00 00 00 00 00 00 00 00 00 00 00 00 00 00 00 00 00 00 00 00 00 00 \
-         00 00 00 00 00 00 00 00 00",
-    ),
-    (
-        "packet 2",
-        "4C 00 00 00 01 00 00 00 00 00 00 00 01 00 00 00 00 00 00 00 03 CD",
-    ),
-];
+const ENTRIES: Lines = "\
+packet 1 -> 4C 00 00 00 01 00 00 00 00 00 00 00 00 03 00 00 00 00 00 00 00 0A 00 00 00 00 00 00 00 00 00 00 \
+    00 00 00 00 00 00 00 00 00 00 00 00 00 00 00 00 00 00 00 00 00 00 00 00 00 00 00 00 00 00 00 00 \
+    00 00 00 00 00 00 00 00 00 00 00 00 00 00 00 00 00 00 00 00 00 00 00 00 00 00 00 00 00 00 00 00 \
+    00 00 00 00 00 00 00 00 00 00 00 00 00 00 00 00 00 00 00 00 00 00 00 00 00 00 00 00 00 00 00 00 \
+    00 00 00 00 00 00 00 00 00 00 00 00 00 00 00 00 00 00 00 00 00 00 00 00 00 00 00 00 00 00 00 00 \
+    00 00 00 00 00 00 00 00 00
+packet 2 -> 4C 00 00 00 01 00 00 00 00 00 00 00 01 00 00 00 00 00 00 00 03 CD
+";
 
-const COMPLETED: Lines = &[
-    ("release 0 write 1", "message 4"),
-    ("put 4", "message 5"),
-    ("done 5 0", "taken"),
-];
+const COMPLETED: Lines = "\
+release 0 write 1 -> message 4
+put 4 -> message 5
+done 5 0 -> taken
+";
 
 // Only the primary has the completion.
-const STANDS: Lines = &[
-    ("show 0", "port 0:"),
-    ("show 1", "port 1:"),
-    ("node 0", "primary 1 count 973"),
-    ("node 1", "backup 1 count 0"),
-    ("node 2", "refused 15"),
-    ("told 0 0", "told 0"),
-    ("told 0 1", "told 0"),
-];
+const STANDS: Lines = "\
+show 0 -> port 0:
+show 1 -> port 1:
+node 0 -> primary 1 count 973
+node 1 -> backup 1 count 0
+node 2 -> refused 15
+told 0 0 -> told 0
+told 0 1 -> told 0
+";
 
 // The write may be put again, and is answered again; it is completed once.
-const PUT_AGAIN: Lines = &[
-    ("put 4", "message 6"),
-    ("done 6 0", "refused 4"),
-    ("under 0 1", "refused 8"),
-];
+const PUT_AGAIN: Lines = "\
+put 4 -> message 6
+done 6 0 -> refused 4
+under 0 1 -> refused 8
+";
 
 // Six steps load the head. Once a sector is there, five begin to write it, and 137 times seven give its bytes, the last
 // one by its fifth: count 6 + 5 + 136 * 7 + 5 = 968. The winner drains 968 steps, the sector and the mark.
-const RELEASES_AND_LOSES: Lines = &[
-    ("step 0 6", "ran 6 count 6 turns"),
-    ("get 0 5", "message 0"),
-    ("under 0 0", "taken"),
-    ("step 0 2000", "ran 962 count 968 write 1"),
-    ("send 0 0", "message 1"),
-    ("send 0 1", "message 2"),
-    ("log 1 1", "new"),
-    ("log 2 1", "new"),
-    ("ack 1", "message 3"),
-    ("acked 3 0", "held 2"),
-    ("release 0 write 1", "message 4"),
-    ("suspect 1", "won"),
-    ("suspect 0", "refused 14"),
-    ("drain 1 2000", "moved 970 alone"),
-];
+const RELEASES_AND_LOSES: Lines = "\
+step 0 6 -> ran 6 count 6 turns
+get 0 5 -> message 0
+under 0 0 -> taken
+step 0 2000 -> ran 962 count 968 write 1
+send 0 0 -> message 1
+send 0 1 -> message 2
+log 1 1 -> new
+log 2 1 -> new
+ack 1 -> message 3
+acked 3 0 -> held 2
+release 0 write 1 -> message 4
+suspect 1 -> won
+suspect 0 -> refused 14
+drain 1 2000 -> moved 970 alone
+";
 
 // After the byte four steps go back to 0002, and five load the head again, to count 977; then 962 as before.
-const WRITES_TWICE: Lines = &[
-    ("release 1 write 1", "message 5"),
-    ("put 5", "message 6"),
-    ("done 6 1", "taken"),
-    ("step 1 9", "ran 9 count 977 turns"),
-    ("get 1 5", "message 7"),
-    ("under 7 1", "taken"),
-    ("step 1 2000", "ran 962 count 1939 write 2"),
-    ("release 1 write 2", "message 8"),
-    ("put 8", "message 9"),
-    ("done 9 1", "taken"),
-];
+const WRITES_TWICE: Lines = "\
+release 1 write 1 -> message 5
+put 5 -> message 6
+done 6 1 -> taken
+step 1 9 -> ran 9 count 977 turns
+get 1 5 -> message 7
+under 7 1 -> taken
+step 1 2000 -> ran 962 count 1939 write 2
+release 1 write 2 -> message 8
+put 8 -> message 9
+done 9 1 -> taken
+";
 
-const WINNER_STANDS: Lines = &[
-    ("show 0", "port 0:"),
-    ("show 1", "port 1:"),
-    ("node 0", "halted"),
-    ("node 1", "alone 1 count 1939"),
-    ("node 2", "refused 15"),
-    ("told 1 0", "told 0"),
-    ("told 1 1", "told 0"),
-];
+const WINNER_STANDS: Lines = "\
+show 0 -> port 0:
+show 1 -> port 1:
+node 0 -> halted
+node 1 -> alone 1 count 1939
+node 2 -> refused 15
+told 1 0 -> told 0
+told 1 1 -> told 0
+";
 
 // The write that the primary released comes last.
-const STALE_PUT: Lines = &[("put 4", "message 10"), ("done 10 1", "refused 4")];
+const STALE_PUT: Lines = "\
+put 4 -> message 10
+done 10 1 -> refused 4
+";
 
 static ROWS: [Row; 6] = [
     Row {

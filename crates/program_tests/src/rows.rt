@@ -6,14 +6,20 @@ use std::test::Fail;
 use std::thread::Threads;
 use std::time::Clock;
 
-/// Lines, each with its answer.
-pub type Lines = &'static [(&'static str, &'static str)];
+/// Lines, each with its answer after an arrow.
+pub type Lines = &'static str;
 
 /// The backup asks the arbiter, and has won: the primary had not won before.
-pub const BACKUP_ASKS: Lines = &[("suspect 1", "won"), ("suspect 0", "refused 14")];
+pub const BACKUP_ASKS: Lines = "\
+suspect 1 -> won
+suspect 0 -> refused 14
+";
 
 /// The primary asks the arbiter, and has won: the backup had not won before.
-pub const PRIMARY_ASKS: Lines = &[("suspect 0", "won"), ("suspect 1", "refused 14")];
+pub const PRIMARY_ASKS: Lines = "\
+suspect 0 -> won
+suspect 1 -> refused 14
+";
 
 /// A sector of track 0 of drive 0: its number, that of its last write, and the byte that fills it, which is not printable.
 pub type Filled = (u8, u64, u8);
@@ -50,11 +56,18 @@ impl Spelled {
     }
 
     /// Parts of a script come.
-    pub fn parts(&mut self, parts: &[Lines]) -> Result<(), AllocError> {
+    pub fn parts(&mut self, parts: &[Lines]) -> Result<(), Fail> {
         for part in parts {
-            for (line, answer) in *part {
-                self.line(line, answer)?;
-            }
+            self.part(part)?;
+        }
+        Ok(())
+    }
+
+    // A part of a script comes.
+    fn part(&mut self, part: Lines) -> Result<(), Fail> {
+        for answered in part.lines() {
+            let (line, answer) = answered.split_once(" -> ").ok_or("no answer")?;
+            self.line(line, answer)?;
         }
         Ok(())
     }

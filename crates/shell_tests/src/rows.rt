@@ -1,211 +1,196 @@
 //! Each line of the shell, and what it answers.
-use crate::sessions::{Row, answers_to, expect};
+use crate::sessions::{answers_to, expect};
 use shell_language::forms;
 use std::test::Fail;
 
 // The guest sets port 0, sends 48 and waits for keys, which it echoes.
-static SESSION: [Row; 46] = [
-    ("load :100000003100013E95D3103E48D311FB76C30B005F", ""),
-    (":05003800DB11D311C92A", ""),
-    (":00000001FF", ""),
-    ("sector 0 0 5 E5", ""),
-    ("sector 0 0 6 01 02", ""),
-    ("last", "no message\n"),
-    ("step 0 100", "ran 5 count 5 byte 0 1\n"),
-    ("send 0 all", "1 done, the last: message 0\n"),
-    ("send 0 all", "nothing to do\n"),
-    ("log 1 all", "1 done, the last: new\n"),
-    ("log 1 all", "nothing to do\n"),
-    ("ack 1", "message 1\n"),
-    ("acked 1 0", "held 1\n"),
-    ("last", "message 1\n"),
-    ("release 0 byte 0 1", "message 2\n"),
-    ("arrive all", "1 done, the last: accepted\n"),
-    ("arrive all", "nothing to do\n"),
-    ("sent 0 0 1", "taken\n"),
-    ("screen 0", "screen 0: 1 bytes\n|H|\n"),
-    (
-        "type 0 \"a\\r\\n\\\"b\\\\ c\"",
-        "8 done, the last: typed 7\n",
-    ),
-    ("type 0 \"\"", "nothing to do\n"),
-    ("type 2 \"x\"", "0 done, the last: refused 15; 1 refused\n"),
-    ("run 0 10000", "ran 58 count 63 waits for a key\n"),
-    ("screen 0", "screen 0: 9 bytes\n|Ha|\n|\"b\\ c|\n"),
-    ("show 0", "port 0: 48 61 0D 0A 22 62 5C 20 63\n"),
-    ("check", "same 59\n"),
-    ("node 1", "backup 1 count 59\n"),
-    ("run 0 0", "ran 0 count 63 turns\n"),
-    ("run 1 10", "refused 8\n"),
-    ("run 7 10", "refused 15\n"),
-    ("screen 2", "refused 15\n"),
-    ("sector 3 0 0", "refused 15\n"),
-    ("trace on", ""),
-    ("step 0 1", "step 0 1\n# refused 18\n"),
-    (
-        "type 1 \"z\"",
-        "type 1 7A\n# typed 0\n# 1 done, the last: typed 0\n",
-    ),
-    ("screen 1", "# screen 1: 0 bytes\n"),
-    ("stap", "# ? stap begins no line; `help` lists the lines\n"),
-    ("trace off", ""),
-    (
-        "mem 0000 00",
-        "? mem 0000 00 is a line of the setup, and the pair has booted: it boots at the first event or query\n",
-    ),
-    ("# a comment", ""),
-    ("", ""),
-    ("stop 0", "stopped\n"),
-    ("suspect 1", "won\n"),
-    ("drain 1 1000", "moved 0 alone\n"),
-    ("run 1 10", "ran 4 count 63 waits for a key\n"),
-    ("check", "same 63\n"),
-];
+const SESSION: &str = "\
+> load :100000003100013E95D3103E48D311FB76C30B005F
+> :05003800DB11D311C92A
+> :00000001FF
+> sector 0 0 5 E5
+> sector 0 0 6 01 02
+> last
+no message
+> step 0 100
+ran 5 count 5 byte 0 1
+> send 0 all
+1 done, the last: message 0
+> send 0 all
+nothing to do
+> log 1 all
+1 done, the last: new
+> log 1 all
+nothing to do
+> ack 1
+message 1
+> acked 1 0
+held 1
+> last
+message 1
+> release 0 byte 0 1
+message 2
+> arrive all
+1 done, the last: accepted
+> arrive all
+nothing to do
+> sent 0 0 1
+taken
+> screen 0
+screen 0: 1 bytes
+|H|
+> type 0 \"a\\r\\n\\\"b\\\\ c\"
+8 done, the last: typed 7
+> type 0 \"\"
+nothing to do
+> type 2 \"x\"
+0 done, the last: refused 15; 1 refused
+> run 0 10000
+ran 58 count 63 waits for a key
+> screen 0
+screen 0: 9 bytes
+|Ha|
+|\"b\\ c|
+> show 0
+port 0: 48 61 0D 0A 22 62 5C 20 63
+> check
+same 59
+> node 1
+backup 1 count 59
+> run 0 0
+ran 0 count 63 turns
+> run 1 10
+refused 8
+> run 7 10
+refused 15
+> screen 2
+refused 15
+> sector 3 0 0
+refused 15
+> trace on
+> step 0 1
+step 0 1
+# refused 18
+> type 1 \"z\"
+type 1 7A
+# typed 0
+# 1 done, the last: typed 0
+> screen 1
+# screen 1: 0 bytes
+> stap
+# ? stap begins no line; `help` lists the lines
+> trace off
+> mem 0000 00
+? mem 0000 00 is a line of the setup, and the pair has booted: it boots at the first event or query
+> # a comment
+> 
+> stop 0
+stopped
+> suspect 1
+won
+> drain 1 1000
+moved 0 alone
+> run 1 10
+ran 4 count 63 waits for a key
+> check
+same 63
+";
 
 #[test]
 fn a_session_is_answered_line_by_line(rt: HostRuntime) -> Result<(), Fail> {
-    expect(&rt, &SESSION)
+    expect(&rt, SESSION)
 }
 
 // Each of these changes nothing: the last one is answered as at the beginning.
-static WRONG: [Row; 30] = [
-    (
-        "stap 0 1",
-        "? stap begins no line; `help` lists the lines\n",
-    ),
-    (
-        "   ",
-        "? the line has spaces alone; `help` lists the lines\n",
-    ),
-    (
-        "step 0",
-        "? word 3 is missing: a number below 18446744073709551616; the line is `step N K`\n",
-    ),
-    (
-        "step 0 1 2",
-        "? word 4, 2, is one too many; the line is `step N K`\n",
-    ),
-    (
-        "step 0 18446744073709551616",
-        "? word 3 is 18446744073709551616: a number below 18446744073709551616 is expected; the line is `step N K`\n",
-    ),
-    (
-        "step \u{7f}",
-        "? byte 6 of the line is 7F: a line is printable ASCII\n",
-    ),
-    (
-        "send 0 al",
-        "? word 3 is al: a number below 18446744073709551616 is expected; the line is `send N I`\n",
-    ),
-    (
-        "type 0 \"abc",
-        "? the text ends with a quote, and a backslash is followed by r, n, a quote or a backslash; the line is `type P \"text\"`\n",
-    ),
-    (
-        "type 0 \"\\q\"",
-        "? the text ends with a quote, and a backslash is followed by r, n, a quote or a backslash; the line is `type P \"text\"`\n",
-    ),
-    (
-        "sector 4 0 0",
-        "? word 2 is 4: a number from 0 to 3 is expected; the line is `sector D T S HH ..`\n",
-    ),
-    (
-        "mem FFFF 00 00",
-        "? memory ends at FFFF, and a sector has 137 bytes; the line is `mem AAAA HH ..`\n",
-    ),
-    (
-        "mem 0000",
-        "? word 3 is missing: a byte of two hexadecimal digits; the line is `mem AAAA HH ..`\n",
-    ),
-    (
-        "mem 0000 00 0",
-        "? word 4 is 0: a byte of two hexadecimal digits is expected; the line is `mem AAAA HH ..`\n",
-    ),
-    (
-        "stap4567890123456789abcd 0 1",
-        "? stap4567890123456789abcd begins no line; `help` lists the lines\n",
-    ),
-    (
-        "stap4567890123456789abcde 0 1",
-        "? stap4567890123456789abcd... begins no line; `help` lists the lines\n",
-    ),
-    (
-        "drives 5",
-        "? word 2 is 5: a number from 1 to 4 is expected; the line is `drives N`\n",
-    ),
-    (
-        "run 0 1 loss 101 0",
-        "? word 5 is 101: a number from 0 to 100 is expected; the line is `run N K loss P SEED`\n",
-    ),
-    (
-        "trace maybe",
-        "? word 2 is maybe: the word on is expected; the line is `trace on`\n",
-    ),
-    (
-        ":0300300002337A1F",
-        "? the record's sum is wrong: it ends with 1F, and 1E is expected\n",
-    ),
-    (
-        ":0300300002337A",
-        "? the record says that it has 3 bytes of data, and has 2: `:LLAAAATTDD..CC`\n",
-    ),
-    (
-        ":0300300202337A1C",
-        "? the record is of type 02: 00, data, and 01, the end, are expected\n",
-    ),
-    (
-        ":02FFFF000102FD",
-        "? the record's bytes from FFFF on go past FFFF\n",
-    ),
-    (
-        ":03",
-        "? a record of Intel HEX is a colon and then pairs of hexadecimal digits: `:LLAAAATTDD..CC`\n",
-    ),
-    (
-        "load :00000001FE",
-        "? the record's sum is wrong: it ends with FE, and FF is expected\n",
-    ),
-    (
-        "load 00",
-        "? word 2 is 00: a record of Intel HEX is expected; the line is `load :LLAAAATTDD..CC`\n",
-    ),
-    (
-        "sector 0 0 0 0",
-        "? word 5 is 0: a byte of two hexadecimal digits is expected; the line is `sector D T S HH ..`\n",
-    ),
-    (
-        "help me",
-        "? word 2, me, is one too many; the line is `help`\n",
-    ),
-    ("sector 1 0 0 00", ""),
-    (
-        "last",
-        "? sector 1 0 0 is on a drive that is not attached; `drives N` comes first\n",
-    ),
-    ("drives 4", ""),
-];
+const WRONG: &str = "\
+> stap 0 1
+? stap begins no line; `help` lists the lines
+>    
+? the line has spaces alone; `help` lists the lines
+> step 0
+? word 3 is missing: a number below 18446744073709551616; the line is `step N K`
+> step 0 1 2
+? word 4, 2, is one too many; the line is `step N K`
+> step 0 18446744073709551616
+? word 3 is 18446744073709551616: a number below 18446744073709551616 is expected; the line is `step N K`
+> step \u{7f}
+? byte 6 of the line is 7F: a line is printable ASCII
+> send 0 al
+? word 3 is al: a number below 18446744073709551616 is expected; the line is `send N I`
+> type 0 \"abc
+? the text ends with a quote, and a backslash is followed by r, n, a quote or a backslash; the line is `type P \"text\"`
+> type 0 \"\\q\"
+? the text ends with a quote, and a backslash is followed by r, n, a quote or a backslash; the line is `type P \"text\"`
+> sector 4 0 0
+? word 2 is 4: a number from 0 to 3 is expected; the line is `sector D T S HH ..`
+> mem FFFF 00 00
+? memory ends at FFFF, and a sector has 137 bytes; the line is `mem AAAA HH ..`
+> mem 0000
+? word 3 is missing: a byte of two hexadecimal digits; the line is `mem AAAA HH ..`
+> mem 0000 00 0
+? word 4 is 0: a byte of two hexadecimal digits is expected; the line is `mem AAAA HH ..`
+> stap4567890123456789abcd 0 1
+? stap4567890123456789abcd begins no line; `help` lists the lines
+> stap4567890123456789abcde 0 1
+? stap4567890123456789abcd... begins no line; `help` lists the lines
+> drives 5
+? word 2 is 5: a number from 1 to 4 is expected; the line is `drives N`
+> run 0 1 loss 101 0
+? word 5 is 101: a number from 0 to 100 is expected; the line is `run N K loss P SEED`
+> trace maybe
+? word 2 is maybe: the word on is expected; the line is `trace on`
+> :0300300002337A1F
+? the record's sum is wrong: it ends with 1F, and 1E is expected
+> :0300300002337A
+? the record says that it has 3 bytes of data, and has 2: `:LLAAAATTDD..CC`
+> :0300300202337A1C
+? the record is of type 02: 00, data, and 01, the end, are expected
+> :02FFFF000102FD
+? the record's bytes from FFFF on go past FFFF
+> :03
+? a record of Intel HEX is a colon and then pairs of hexadecimal digits: `:LLAAAATTDD..CC`
+> load :00000001FE
+? the record's sum is wrong: it ends with FE, and FF is expected
+> load 00
+? word 2 is 00: a record of Intel HEX is expected; the line is `load :LLAAAATTDD..CC`
+> sector 0 0 0 0
+? word 5 is 0: a byte of two hexadecimal digits is expected; the line is `sector D T S HH ..`
+> help me
+? word 2, me, is one too many; the line is `help`
+> sector 1 0 0 00
+> last
+? sector 1 0 0 is on a drive that is not attached; `drives N` comes first
+> drives 4
+";
 
 #[test]
 fn wrong_lines_are_told(rt: HostRuntime) -> Result<(), Fail> {
-    expect(&rt, &WRONG)
+    expect(&rt, WRONG)
 }
 
 // The log of a new generation begins with entry 0.
-static NEXT_GENERATION: [Row; 9] = [
-    ("hosts 3", ""),
-    (":100000003100013E95D3103E48D311FB76C30B005F", ""),
-    ("step 0 100", "ran 5 count 5 byte 0 1\n"),
-    ("send 0 all", "1 done, the last: message 0\n"),
-    ("suspect 0", "won\n"),
-    ("pair 0 2", "generation 2\n"),
-    ("type 0 41", "typed 0\n"),
-    ("key 0 0 0", "taken\n"),
-    ("send 0 all", "1 done, the last: message 1\n"),
-];
+const NEXT_GENERATION: &str = "\
+> hosts 3
+> :100000003100013E95D3103E48D311FB76C30B005F
+> step 0 100
+ran 5 count 5 byte 0 1
+> send 0 all
+1 done, the last: message 0
+> suspect 0
+won
+> pair 0 2
+generation 2
+> type 0 41
+typed 0
+> key 0 0 0
+taken
+> send 0 all
+1 done, the last: message 1
+";
 
 #[test]
 fn a_generation_has_a_log_of_its_own(rt: HostRuntime) -> Result<(), Fail> {
-    expect(&rt, &NEXT_GENERATION)
+    expect(&rt, NEXT_GENERATION)
 }
 
 #[test]
@@ -222,31 +207,29 @@ fn long_lines_are_told(rt: HostRuntime) -> Result<(), Fail> {
 }
 
 // The guest gives its first byte, and its entry is sent and held.
-static PICTURED: [Row; 7] = [
-    (":100000003100013E95D3103E48D311FB76C30B005F", ""),
-    ("step 0 100", "ran 5 count 5 byte 0 1\n"),
-    ("send 0 0", "message 0\n"),
-    (
-        "picture",
-        " event terminal 0  node 0      node 1
+const PICTURED: &str = "\
+> :100000003100013E95D3103E48D311FB76C30B005F
+> step 0 100
+ran 5 count 5 byte 0 1
+> send 0 0
+message 0
+> picture
+ event terminal 0  node 0      node 1
      0                *           :        gives byte 1, held back
      1                o           :        sends message 0: entry 0: output at count 5, not there yet
-",
-    ),
-    ("log 0 1", "new\n"),
-    (
-        "picture 1 7",
-        " event terminal 0  node 0      node 1
+> log 0 1
+new
+> picture 1 7
+ event terminal 0  node 0      node 1
      1                o           :        sends message 0: entry 0: output at count 5
      2                o----------->        entry 0: output at count 5; held
-",
-    ),
-    ("picture 3 2", " event terminal 0  node 0      node 1\n"),
-];
+> picture 3 2
+ event terminal 0  node 0      node 1
+";
 
 #[test]
 fn pictures_have_a_line_for_each_event(rt: HostRuntime) -> Result<(), Fail> {
-    expect(&rt, &PICTURED)
+    expect(&rt, PICTURED)
 }
 
 #[test]

@@ -8,13 +8,14 @@ use std::alloc::{AllocError, Global};
 use std::process::Abort;
 use std::test::Fail;
 
-/// A line, and its answer.
-pub type Row = (&'static str, &'static str);
+// What comes before each line of a session that is told.
+const PROMPT: &str = "> ";
 
 /// What a session prints.
 pub fn answers_to(alloc: Global, text: &str) -> Result<String, AllocError> {
-    answers_by(
+    answers_after(
         alloc,
+        "",
         text,
         plain_completions::sent,
         plain_completions::sector,
@@ -22,9 +23,28 @@ pub fn answers_to(alloc: Global, text: &str) -> Result<String, AllocError> {
     )
 }
 
-// The same with these closures.
-fn answers_by<T: Completes + Drop + Copy, S: Completes + Drop + Copy, W: Completes + Drop + Copy>(
+/// A session goes as it is told: each line after a prompt, and then what it answers.
+pub fn expect(rt: &(impl Abort + AllocGlobal), told: &str) -> Result<(), Fail> {
+    let printed = answers_after(
+        rt.alloc(),
+        PROMPT,
+        told,
+        plain_completions::sent,
+        plain_completions::sector,
+        plain_completions::written,
+    )?;
+    assert_eq!(rt; printed.as_str(), told);
+    Ok(())
+}
+
+// What is answered to each line after this prompt, by these closures; with a prompt the line comes before it.
+fn answers_after<
+    T: Completes + Drop + Copy,
+    S: Completes + Drop + Copy,
+    W: Completes + Drop + Copy,
+>(
     alloc: Global,
+    prompt: &str,
     text: &str,
     sent: T,
     sector: S,
@@ -37,39 +57,14 @@ fn answers_by<T: Completes + Drop + Copy, S: Completes + Drop + Copy, W: Complet
     let mut session = Session::new(alloc)?;
     let mut printed = String::new(alloc);
     for line in text.lines() {
-        let (_, answer) = session.answer(alloc, sent, sector, written, line.as_bytes())?;
+        let Some(said) = line.strip_prefix(prompt) else {
+            continue;
+        };
+        let (_, answer) = session.answer(alloc, sent, sector, written, said.as_bytes())?;
+        if !prompt.is_empty() {
+            writeln!(printed, "{line}")?;
+        }
         printed.push_str(answer.as_str())?;
     }
     Ok(printed)
-}
-
-/// Each line of a session has this answer.
-pub fn expect(rt: &(impl Abort + AllocGlobal), rows: &[Row]) -> Result<(), Fail> {
-    expect_by(
-        rt,
-        rows,
-        plain_completions::sent,
-        plain_completions::sector,
-        plain_completions::written,
-    )
-}
-
-// The same with these closures.
-fn expect_by<
-    T: Completes + Drop + Copy,
-    S: Completes + Drop + Copy,
-    W: Completes + Drop + Copy,
-    A: Abort + AllocGlobal,
->(rt: &A, rows: &[Row], sent: T, sector: S, written: W) -> Result<(), Fail>
-    requires sent { Keeps (T.may sent) (T.gives sent) SENT }
-    requires sector { Keeps (S.may sector) (S.gives sector) SECTOR }
-    requires written { Keeps (W.may written) (W.gives written) WRITTEN }
-{
-    let mut session = Session::new(rt.alloc())?;
-    for (line, expected) in rows {
-        let text = line.as_bytes();
-        let (_, answer) = session.answer(rt.alloc(), sent, sector, written, text)?;
-        assert_eq!(rt; answer.as_str(), *expected, "{line}");
-    }
-    Ok(())
 }
