@@ -12,7 +12,7 @@ use Rattle.ft_world.specs.declared.hosts.NodeStatus.{NodeStatus}
 use Rattle.guest_parts.specs.Guest.{Guest}
 use Rattle.guest_lockstep.specs.Machine.{Machine}
 use Rattle.i8080_words.specs.declared.refusal.Fault.{Fault}
-use Rattle.pair_check.specs.Disks.{Disk, records_in}
+use Rattle.shared_disk.specs.Failing.{Disk, records_in}
 use Rattle.pair_events.specs.declared.event.Event.{Event}
 use Rattle.pair_events.specs.declared.reply.Reply.{Reply}
 use Rattle.pair_protocol.specs.Node.{Alone, Backup, Draining, Joining, Node, Primary, Role, Spare}

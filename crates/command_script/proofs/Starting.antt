@@ -13,7 +13,7 @@ use Rattle.ft_world.specs.Beginning.{beginning, bytes_in}
 use Rattle.ft_world.specs.Standing.{Course, machine_of}
 use Rattle.pair_check.specs.Alike.{ShownIsSame}
 use Rattle.pair_check.specs.Comparing.{IsVerdictOn}
-use Rattle.pair_check.specs.Disks.{records_in}
+use Rattle.shared_disk.specs.Failing.{records_in}
 use Rattle.command_script.specs.Answering.{Happen}
 use Rattle.command_script.specs.Printing.{AnswersLines, IsSameAfter, Prints, PrintsVerdict}
 use Rattle.command_script.specs.Running.{HaveHappened}
@@ -27,7 +27,7 @@ use Rattle.guest_board.specs.Guest.{altair, guest_at_boot}
 use Rattle.guest_board.specs.Inputs.{some_altair}
 use Rattle.guest_lockstep.specs.Machine.{Machine}
 use Rattle.pair_check.specs.Alike.{BeginAlike}
-use Rattle.pair_check.specs.Disks.{Disk}
+use Rattle.shared_disk.specs.Failing.{Disk}
 use Rattle.pair_protocol.specs.World.{World, opening, with_host}
 use Rattle.command_script.specs.Answering.{Booted}
 use Rattle.pair_setup.specs.Booting.{HostsCome, IsBooted, Pair, Spare}

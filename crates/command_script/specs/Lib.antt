@@ -1,3 +1,4 @@
 pub mod Answering
+pub mod Drawing
 pub mod Printing
 pub mod Running

@@ -6,7 +6,7 @@ use Rattle.ft_world.specs.Standing.{Course, machine_of}
 use Rattle.guest_parts.specs.Guest.{Guest}
 use Rattle.guest_lockstep.specs.Machine.{Machine}
 use Rattle.i8080_words.specs.declared.refusal.Fault.{Fault}
-use Rattle.pair_check.specs.Disks.{Disk, records_in}
+use Rattle.shared_disk.specs.Failing.{Disk, records_in}
 use Rattle.pair_events.specs.Printed.{answer_line}
 use Rattle.pair_events.specs.declared.event.Event.{Event}
 use Rattle.pair_events.specs.declared.reply.Reply.{Reply}

@@ -1,9 +1,12 @@
-//! The commands `script` and `check`: what each line of a script answers, and how the pair compares at its end.
+//! The commands `script`, `check` and `picture`: what each line of a script answers, how the pair compares at its end, and what
+//! happens, drawn as a sequence diagram.
 #![tactic(auto)]
 
 mod command;
 mod order;
+mod picture;
 mod session;
 
 pub use command::{run_script, script_of};
 pub use order::Order;
+pub use picture::run_picture;

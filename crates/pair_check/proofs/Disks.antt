@@ -13,7 +13,8 @@ use Rattle.shared_disk.specs.declared.store.Record.{Record}
 use Rattle.ft_world.specs.Applies.{IsSectorOf, Shows}
 use Rattle.ft_world.specs.Running.{Running}
 use Rattle.ft_world.specs.Standing.{Course, machine_of}
-use Rattle.pair_check.specs.Disks.{Disk, records_in, over_records}
+use Rattle.shared_disk.specs.Failing.{Disk, records_in}
+use Rattle.pair_check.specs.Disks.{over_records}
 
 -- a world over the disk shows what the world over its records shows
 pub shows_records : {B H S : Type 0} (state : B → S) (copied : B → Guest) (M : Machine S) (v : Running B H Disk) (c : Course S)

@@ -31,7 +31,7 @@ use Rattle.shared_disk.specs.Records.{IsThere, record_at}
 use Rattle.shared_disk.specs.declared.store.Record.{Record}
 use Rattle.pair_check.specs.Alike.{FaithfulIsAlike, ShownIsSame, altair_course}
 use Rattle.pair_check.specs.Comparing.{Deeds, Falls, IsAlike, IsAnswer, IsVerdict, Lacks, Ran, Stops, Unlike, deeds_of}
-use Rattle.pair_check.specs.Disks.{records_in}
+use Rattle.shared_disk.specs.Failing.{records_in}
 use Rattle.pair_check.specs.declared.verdict.Verdict.{Verdict}
 use Rattle.pair_check.specs.declared.verdict.Verdict.TheVariants.{Same, Differs}
 use Rattle.pair_check.proofs.Comparisons.{alike_by}

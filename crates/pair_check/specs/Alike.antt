@@ -19,7 +19,7 @@ use Rattle.pair_protocol.specs.Settled.{Settled}
 use Rattle.pair_protocol.specs.World.{World}
 use Rattle.plain_single.specs.Image.{boot_sectors}
 use Rattle.pair_check.specs.Comparing.{IsAlike, IsVerdictOn, deeds_of}
-use Rattle.pair_check.specs.Disks.{Disk, records_in}
+use Rattle.shared_disk.specs.Failing.{Disk, records_in}
 use Rattle.pair_check.specs.declared.verdict.Verdict.{Verdict}
 use Rattle.pair_check.specs.declared.verdict.Verdict.TheVariants.{Same}
 

@@ -11,10 +11,11 @@ ghost use Rattle.pair_protocol.specs.World.{accepted};
 ghost use Rattle.ft_world.specs.Applies.{Shows};
 ghost use Rattle.ft_world.specs.Standing.{Course, machine_of};
 ghost use Rattle.pair_check.specs.Comparing.{IsAnswer, IsVerdictOn, deeds_of};
-ghost use Rattle.pair_check.specs.Disks.{records_in, over_records};
+ghost use Rattle.shared_disk.specs.Failing.{records_in};
+ghost use Rattle.pair_check.specs.Disks.{over_records};
 ghost use Rattle.pair_check.specs.Sectors.{EachOf, IsBad, IsGood, SomeOf, Tells, address_at};
 
-use crate::disk::{Disk, sector_of};
+use crate::disk::sector_of;
 use crate::judging::{WINDOW, is_all_but, may_have, never_fall};
 use crate::verdict::Verdict;
 use clone_state::Copies;
@@ -24,6 +25,7 @@ use guest_board::Setup;
 use guest_trace::Timed;
 use i8080_words::{Fault, R};
 use plain_single::Single;
+use shared_disk::Disk;
 use std::alloc::Global;
 
 /// Runs the single machine of this setup from what is settled in a pair. `Same` if each terminal has accepted the

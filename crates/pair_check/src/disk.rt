@@ -1,4 +1,4 @@
-//! The disk of the program: in memory, on a device that may fail once.
+//! What a sector of the program's disk has, on a device that may fail once.
 ghost use Rattle.std.specs.Prelude.{◌≡◌, IfOk, OnErr};
 ghost use Rattle.ft_world.specs.Applies.{IsSectorOf, Shows};
 ghost use Rattle.ft_world.specs.Standing.{Course, machine_of};
@@ -9,10 +9,7 @@ use clone_state::Copies;
 use disk_dcdd::SectorAddress;
 use ft_world::World;
 use i8080_words::{Fault, R};
-use shared_disk::{FailOnce, MemoryStore, SectorRead};
-
-/// Records in memory, of which one read or write fails if the script says so.
-pub type Disk = FailOnce<MemoryStore>;
+use shared_disk::{Disk, SectorRead};
 
 /// What a sector of a pair's disk has. A device that fails is asked once more: it fails only once. `Unknown` if the disk
 /// has no such sector.

@@ -8,7 +8,7 @@ mod laws;
 mod verdict;
 
 pub use checking::compare;
-pub use disk::{Disk, sector_of};
+pub use disk::sector_of;
 pub use judging::{WINDOW, is_all_but, may_have, never_fall};
 pub use laws::faithful_pairs_are_alike;
 pub use verdict::Verdict;

@@ -6,9 +6,9 @@ use disk_dcdd::SectorAddress;
 use ft_world::{Message, World};
 use i8080_words::R;
 use log_channel::Packet;
-use pair_check::Disk;
 use pair_events::{Event, Reply};
 use sequence_diagram::{Cargo, Look, Moment, node_of};
+use shared_disk::Disk;
 
 /// An event that has just happened in a world, with its answer: what the message carries that it has sent, and what the
 /// node shows at which it happened.

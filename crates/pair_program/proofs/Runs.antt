@@ -2,7 +2,7 @@
 use Rattle.std.proofs.Common.{◌≡◌, ℕ, Option, List, [], true, Result, Ok, Err, refl}
 use Rattle.std.proofs.KnownBytes.{Appends-nil}
 use Rattle.command_live.specs.Living.{PrintsLive, typed_in}
-use Rattle.command_picture.specs.Drawing.{Draws}
+use Rattle.command_script.specs.Drawing.{Draws}
 use Rattle.command_script.specs.Printing.{Prints}
 use Rattle.pair_program.specs.Runs.{IsObeyed, IsRun}
 use Rattle.command_shell.specs.Sessions.{Answers}

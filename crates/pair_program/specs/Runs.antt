@@ -2,7 +2,7 @@
 use Rattle.std.specs.Prelude.{◌≡◌, ℕ, Option, List, Result, Ok, Err}
 use Rattle.std.specs.declared.borrow.CowStr.{CowStr}
 use Rattle.command_live.specs.Living.{PrintsLive, typed_in}
-use Rattle.command_picture.specs.Drawing.{Draws}
+use Rattle.command_script.specs.Drawing.{Draws}
 use Rattle.command_script.specs.Printing.{Prints}
 use Rattle.command_shell.specs.Sessions.{Answers}
 use Rattle.command_ending.specs.Statuses.{EndsAs}

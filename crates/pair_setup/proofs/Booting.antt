@@ -12,7 +12,7 @@ use Rattle.ft_world.specs.Applies.{Shows}
 use Rattle.ft_world.specs.Beginning.{beginning}
 use Rattle.ft_world.specs.Running.{Running}
 use Rattle.ft_world.specs.Standing.{Course, machine_of}
-use Rattle.pair_check.specs.Disks.{Disk, records_in}
+use Rattle.shared_disk.specs.Failing.{Disk, records_in}
 use Rattle.pair_setup.specs.Booting.{IsBooted, Pair, Spare}
 
 module _ {B H S : Type 0} (state : B → S) (copied : B → Guest) (M : Machine S) (C : Copying S) (reads : Reads) (boot : S)

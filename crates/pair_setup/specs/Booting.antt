@@ -12,7 +12,7 @@ use Rattle.ft_world.specs.Applies.{Shows}
 use Rattle.ft_world.specs.Beginning.{beginning}
 use Rattle.ft_world.specs.Running.{Running}
 use Rattle.ft_world.specs.Standing.{machine_of}
-use Rattle.pair_check.specs.Disks.{Disk, records_in}
+use Rattle.shared_disk.specs.Failing.{Disk, records_in}
 
 -- a pair, and spare hosts that came after it, up to this many hosts
 pub data HostsCome {S : Type 0} (M : Machine S) (w : World S) : ℕ → World S → Type 0 where

@@ -14,9 +14,8 @@ use altair_pair::boot_pair;
 use disk_dcdd::SectorWrite;
 use event_callbacks::{Callbacks, Completes};
 use i8080_words::R;
-use pair_check::Disk;
 use script_language::{BootSector, ScriptSetup};
-use shared_disk::{FailOnce, MemoryStore};
+use shared_disk::{Disk, FailOnce, MemoryStore};
 use std::alloc::Global;
 
 /// A pair of Altairs over the program's disk.

@@ -2,7 +2,7 @@
 ghost use Rattle.std.specs.Prelude.{◌≡◌};
 ghost use Rattle.ft_world.specs.Applies.{Shows};
 ghost use Rattle.ft_world.specs.Standing.{Course};
-ghost use Rattle.pair_check.specs.Disks.{records_in};
+ghost use Rattle.shared_disk.specs.Failing.{records_in};
 ghost use Rattle.pair_events.specs.Printed.{answer_text};
 ghost use Rattle.pair_protocol.specs.World.{accepted};
 ghost use Rattle.pair_setup.specs.Queries.{Finds, FindsMessage, FindsNode, screen_text};
@@ -11,9 +11,9 @@ use clone_state::Copies;
 use event_callbacks::PORTS;
 use ft_world::{Message, NodeStatus, World};
 use i8080_words::Fault;
-use pair_check::Disk;
 use pair_events::Answer;
 use script_language::Query;
+use shared_disk::Disk;
 
 /// What a query finds in whatever world is shown.
 pub fn find<'a, B: Copies<H> + Drop, H: Drop>(

@@ -18,7 +18,8 @@ use Rattle.ft_world.specs.Standing.{machine_of}
 use Rattle.ft_world.specs.Words.{answer_of, event_of}
 use Rattle.ft_world.proofs.Growing.{rows_grow}
 use Rattle.ft_world.proofs.Running.{runs_begin}
-use Rattle.pair_check.specs.Disks.{Disk, over_records, records_in}
+use Rattle.shared_disk.specs.Failing.{Disk, records_in}
+use Rattle.pair_check.specs.Disks.{over_records}
 use Rattle.pair_check.proofs.Disks.{records_show, shows_records}
 use Rattle.pair_shell.specs.Playing.{Lengthens, Plays, answers_of, events_of}
 use Rattle.pair_shell.specs.Sessions.{LinePlays}

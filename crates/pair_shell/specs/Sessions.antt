@@ -6,7 +6,7 @@ use Rattle.guest_board.specs.Guest.{guest_at_boot}
 use Rattle.guest_board.specs.Inputs.{some_altair}
 use Rattle.guest_lockstep.specs.Machine.{Machine}
 use Rattle.ft_world.specs.Running.{Running}
-use Rattle.pair_check.specs.Disks.{Disk}
+use Rattle.shared_disk.specs.Failing.{Disk}
 use Rattle.shell_language.specs.declared.line.ShellLine.{ShellLine}
 use Rattle.shell_language.specs.declared.line.ShellLine.TheVariants as shell
 use Rattle.pair_setup.specs.Booting.{IsBooted}

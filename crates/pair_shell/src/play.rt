@@ -1,17 +1,17 @@
 //! Events that happen in a pair, one after another, and what was answered to each.
 ghost use Rattle.std.specs.Prelude.{◌≡◌, ◌<◌, [], ◌∷◌, ◌++◌, IfOk, vec_capacity, vec_len};
 ghost use Rattle.ft_world.specs.Applies.{Happens};
-ghost use Rattle.pair_check.specs.Disks.{records_in};
+ghost use Rattle.shared_disk.specs.Failing.{records_in};
 ghost use Rattle.pair_shell.specs.Playing.{Lengthens, Plays};
 ghost use Rattle.shell_book.specs.Tapes.{played};
 
 use clone_state::Copies;
 use ft_world::{Message, World};
 use i8080_words::R;
-use pair_check::Disk;
 use pair_events::{Event, Reply};
 use pair_moments::moment_of;
 use sequence_diagram::Moment;
+use shared_disk::Disk;
 use shell_book::{Book, Brings, Played};
 use shell_day::Plan;
 use std::alloc::{AllocError, Global};

@@ -1,5 +1,6 @@
 -- A store whose device fails at one access, and at no other.
-use Rattle.std.specs.Prelude.{◌≡◌, ◌≢◌, ℕ, ◌+◌, ◌-◌, Bool, true, IsTrue, if◌then◌else◌}
+use Rattle.std.specs.Prelude.{◌≡◌, ◌≢◌, ℕ, ◌+◌, ◌-◌, Bool, true, IsTrue, List, if◌then◌else◌}
+use Rattle.shared_disk.specs.declared.store.Record.{Record}
 
 -- the store underneath; how many accesses are left up to the one that fails, itself included, or 0 if none is to fail;
 -- and whether the device has failed
@@ -32,3 +33,11 @@ pub record Fails {D : Type 0} (old new : FailsOnce D) : Type 0 where
 pub record Refuses {D : Type 0} (old new : FailsOnce D) : Type 0 where
   pub left : new.left ≡ old.left
   pub failed : new.failed ≡ old.failed
+
+-- the disk of the program: in memory, on a device that may fail once
+abbrev pub Disk : Type 0
+Disk = FailsOnce (List Record)
+
+-- its records
+abbrev pub records_in : Disk → List Record
+records_in disk = disk.store

@@ -4,6 +4,7 @@ ghost use Rattle.i8080_words.specs.declared.refusal.Fault.TheVariants.{DeviceFau
 ghost use Rattle.shared_disk.specs.Failing.{Counts, Fails, FailsOnce, IsOnce, Refuses, failures_in};
 ghost use Rattle.shared_disk.specs.Records as table;
 
+use crate::memory_store::MemoryStore;
 use crate::store::{Record, SectorStore};
 use disk_dcdd::SectorAddress;
 use i8080_words::{Fault, R};
@@ -18,6 +19,9 @@ pub struct FailOnce<D: SectorStore> {
     left: u64,
     failed: bool,
 }
+
+/// Records in memory, of which one read or write fails if the script says so: the disk of the program.
+pub type Disk = FailOnce<MemoryStore>;
 
 impl<D: SectorStore> Model for FailOnce<D> {
     ghost Value = { FailsOnce D };

@@ -8,7 +8,7 @@ mod memory_store;
 mod store;
 
 pub use disk::{SectorRead, SharedDisk};
-pub use fail_once::FailOnce;
+pub use fail_once::{Disk, FailOnce};
 pub use laws::{new_stores_are_unwritten, one_write_is_chosen};
 pub use memory_store::MemoryStore;
 pub use store::{Record, SectorStore};

@@ -2,7 +2,7 @@
 use Rattle.std.specs.Prelude.{take}
 use Rattle.ft_world.specs.Applies.{Shows}
 use Rattle.ft_world.specs.Standing.{Course}
-use Rattle.pair_check.specs.Disks.{records_in}
+use Rattle.shared_disk.specs.Failing.{records_in}
 use Rattle.command_ending.specs.Reports.{handed}
 use Rattle.command_script.specs.Running.{HaveAnswers}
 use Rattle.command_script.proofs.session.answer_each.Given as goal

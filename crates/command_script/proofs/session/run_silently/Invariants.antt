@@ -2,7 +2,7 @@
 use Rattle.std.specs.Prelude.{take}
 use Rattle.ft_world.specs.Applies.{Shows}
 use Rattle.ft_world.specs.Standing.{Course}
-use Rattle.pair_check.specs.Disks.{records_in}
+use Rattle.shared_disk.specs.Failing.{records_in}
 use Rattle.command_script.specs.Running.{HaveHappened}
 use Rattle.command_script.proofs.session.run_silently.Given as goal
 

@@ -4,7 +4,7 @@ use Rattle.guest_board.specs.Guest.{guest_at_boot}
 use Rattle.altair_copies.specs.Copies.{image_copy}
 use Rattle.guest_board.specs.Inputs.{some_altair}
 use Rattle.shared_disk.specs.Records.{HasDrives, IsAtBoot, IsUnwritten}
-use Rattle.pair_check.specs.Disks.{Disk}
+use Rattle.shared_disk.specs.Failing.{Disk}
 use Rattle.pair_setup.specs.Booting.{IsBooted}
 use Rattle.pair_setup.proofs.Booting.{booted_pair}
 use Rattle.pair_setup.proofs.pairs.boot.Goals as goal

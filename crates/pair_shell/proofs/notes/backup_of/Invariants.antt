@@ -2,7 +2,7 @@
 use Rattle.std.proofs.Common.{ℕ, ◌<◌, false}
 use Rattle.ft_world.specs.Applies.{Shows}
 use Rattle.ft_world.specs.Standing.{Course}
-use Rattle.pair_check.specs.Disks.{records_in}
+use Rattle.shared_disk.specs.Failing.{records_in}
 use Rattle.pair_shell.specs.Backups.{FindsBackup}
 use Rattle.pair_shell.proofs.notes.backup_of.Given as goal
 

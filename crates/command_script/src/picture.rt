@@ -1,7 +1,7 @@
 //! A script that is run, and drawn.
 ghost use Rattle.std.specs.Prelude.{◌≡◌, IfErr};
 ghost use Rattle.command_ending.specs.declared.failure.Failure.TheVariants as failure;
-ghost use Rattle.command_picture.specs.Drawing.{Draws};
+ghost use Rattle.command_script.specs.Drawing.{Draws};
 ghost use Rattle.event_callbacks.specs.declared.devices.TheConstants.{SENT, SECTOR, WRITTEN};
 ghost use Rattle.event_callbacks.specs.Keeping.{Keeps};
 
@@ -9,11 +9,11 @@ use clone_state::Copies;
 use command_ending::Failure;
 use event_callbacks::{Completes, plain_completions};
 use ft_world::World;
-use pair_check::Disk;
 use pair_moments::moment_of;
 use pair_setup::{boot, writes_of};
 use script_language::{Line, Script};
 use sequence_diagram::{Moment, draw};
+use shared_disk::Disk;
 use std::alloc::{AllocError, Global};
 use std::io::Write;
 
