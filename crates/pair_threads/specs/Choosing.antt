@@ -1,5 +1,5 @@
 -- What the workers choose: what comes next, how much of it, and when.
-use Rattle.std.specs.Prelude.{◌≡◌, ℕ, zero, suc, ◌+◌, ◌/◌, ◌%◌, ◌^◌, ◌==◌, ◌||◌, nat_lt, nat_le, min, Bool, true, false, if◌then◌else◌, Option, Some, None, is_some, option_and_then, Result, Ok, Err, vec_len, length}
+use Rattle.std.specs.Prelude.{◌≡◌, ℕ, zero, suc, ◌+◌, ◌-◌, ◌/◌, ◌%◌, ◌^◌, ◌==◌, ◌||◌, nat_lt, nat_le, min, Bool, true, false, if◌then◌else◌, Option, Some, None, is_some, option_and_then, Result, Ok, Err, vec_len, length}
 use Rattle.disk_dcdd.specs.declared.address.SectorAddress.{SectorAddress}
 use Rattle.guest_lockstep.specs.Machine.{Machine, sector_refusal}
 use Rattle.i8080_words.specs.declared.refusal.Fault.{Fault}
@@ -51,6 +51,10 @@ steps_by steps (suc n) = min (2000 / suc n) steps
 -- the entry that is posted next: after the last one, or the first that is not acknowledged if all were posted
 abbrev pub post_next : ℕ → ℕ → ℕ → ℕ
 post_next next seen entries = if nat_lt next seen || nat_le entries next then seen else next
+
+-- how many turns a worker has left after one that found nothing: as many, unless somebody is to ask at a turn
+abbrev pub left_after_waiting : Bool → ℕ → ℕ
+left_after_waiting contested left = if contested then left - 1 else left
 
 -- two workers together: out of memory before anything else, and stalled if one of them has failed at all
 abbrev pub together : Result (Unit {0}) Fault → Result (Unit {0}) Fault → Result (Unit {0}) Fault

@@ -23,7 +23,8 @@ pub(crate) struct Five<P, L, B, T, D> {
 /// A worker after its turns, and what it came to.
 pub(crate) type Served<W> = (W, R<()>);
 
-/// The five workers at once, each on a thread of its own, with this many turns at most for the primary and for the backup.
+/// The five workers at once, each on a thread of its own, with this many turns at most for the primary and for the backup, and
+/// whether one of them is to ask at a turn.
 pub(crate) fn work<
     P: Worker + Send + Drop,
     L: Worker + Send + Drop,
@@ -38,6 +39,7 @@ pub(crate) fn work<
     fabric: &Fabric,
     gate: &G,
     turns: u64,
+    contested: bool,
 ) -> Five<Served<P>, Served<L>, Served<B>, Served<T>, Served<D>>
     requires primary { MayBegin P.table P.ready P.came fabric.now five.primary }
     requires link { MayBegin L.table L.ready L.came fabric.now five.link }
@@ -64,7 +66,18 @@ pub(crate) fn work<
         move || -> (P, R<()>)
             requires { MayBegin P.table P.ready P.came fabric.now primary }
             ensures { HasServed P.table P.came P.ended fabric.entry.now primary result }
-        { serve(rt, primary, Who::Primary, fabric, gate, signals, turns) },
+        {
+            serve(
+                rt,
+                primary,
+                Who::Primary,
+                fabric,
+                gate,
+                signals,
+                turns,
+                contested,
+            )
+        },
         move || -> ((B, R<()>), ((L, R<()>), ((T, R<()>), (D, R<()>))))
             requires { MayBegin B.table B.ready B.came fabric.now backup
                 × MayBegin L.table L.ready L.came fabric.now link
@@ -80,7 +93,18 @@ pub(crate) fn work<
                 move || -> (B, R<()>)
                     requires { MayBegin B.table B.ready B.came fabric.now backup }
                     ensures { HasServed B.table B.came B.ended fabric.entry.now backup result }
-                { serve(rt, backup, Who::Backup, fabric, gate, signals, turns) },
+                {
+                    serve(
+                        rt,
+                        backup,
+                        Who::Backup,
+                        fabric,
+                        gate,
+                        signals,
+                        turns,
+                        contested,
+                    )
+                },
                 move || -> ((L, R<()>), ((T, R<()>), (D, R<()>)))
                     requires { MayBegin L.table L.ready L.came fabric.now link
                         × MayBegin T.table T.ready T.came fabric.now terminal
@@ -94,7 +118,7 @@ pub(crate) fn work<
                         move || -> (L, R<()>)
                             requires { MayBegin L.table L.ready L.came fabric.now link }
                             ensures { HasServed L.table L.came L.ended fabric.entry.now link result }
-                        { serve(rt, link, Who::Link, fabric, gate, signals, turns) },
+                        { serve(rt, link, Who::Link, fabric, gate, signals, turns, contested) },
                         move || -> ((T, R<()>), (D, R<()>))
                             requires { MayBegin T.table T.ready T.came fabric.now terminal
                                 × MayBegin D.table D.ready D.came fabric.now disk × IsSync H.row }
@@ -107,12 +131,32 @@ pub(crate) fn work<
                                     requires { MayBegin T.table T.ready T.came fabric.now terminal }
                                     ensures { HasServed T.table T.came T.ended fabric.entry.now terminal result }
                                 {
-                                    serve(rt, terminal, Who::Terminal, fabric, gate, signals, turns)
+                                    serve(
+                                        rt,
+                                        terminal,
+                                        Who::Terminal,
+                                        fabric,
+                                        gate,
+                                        signals,
+                                        turns,
+                                        contested,
+                                    )
                                 },
                                 move || -> (D, R<()>)
                                     requires { MayBegin D.table D.ready D.came fabric.now disk }
                                     ensures { HasServed D.table D.came D.ended fabric.entry.now disk result }
-                                { serve(rt, disk, Who::Disk, fabric, gate, signals, turns) },
+                                {
+                                    serve(
+                                        rt,
+                                        disk,
+                                        Who::Disk,
+                                        fabric,
+                                        gate,
+                                        signals,
+                                        turns,
+                                        contested,
+                                    )
+                                },
                             )
                         },
                     )

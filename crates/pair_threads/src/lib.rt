@@ -7,6 +7,7 @@ mod disk;
 mod gate;
 mod join;
 mod link;
+mod pace;
 mod plan;
 mod port_inputs;
 mod primary;

@@ -317,6 +317,6 @@ pub fn run_generation<
         terminal: TerminalWorker::new(alloc, seats.terminal),
         disk: DiskWorker::new(seats.disk, disk),
     };
-    let served = work(rt, five, &fabric, gate, turns);
+    let served = work(rt, five, &fabric, gate, turns, contested);
     finish(fabric, served, contested)
 }

@@ -6,7 +6,8 @@ use std::sync::atomic::{AtomicBool, AtomicU64, Ordering};
 // How many workers there are.
 const WORKERS: u64 = 5;
 
-/// How many workers have begun, who is at its end, whether the guest is held up, and whether the run has failed.
+/// How many workers have begun, who is at its end, whether the guest is held up, whether the run has failed, and how often
+/// workers have got on.
 #[derive(Drop)]
 pub struct Signals {
     begun: AtomicU64,
@@ -14,6 +15,7 @@ pub struct Signals {
     backup: AtomicBool,
     held_up: AtomicBool,
     failed: AtomicBool,
+    moves: AtomicU64,
 }
 
 /// The signals as a worker found them.
@@ -32,6 +34,7 @@ impl Signals {
             backup: AtomicBool::new(false),
             held_up: AtomicBool::new(false),
             failed: AtomicBool::new(false),
+            moves: AtomicU64::new(0),
         }
     }
 
@@ -80,5 +83,17 @@ impl Signals {
     /// The run has failed.
     pub fn fails(&self) {
         self.failed.store(true, Ordering::SeqCst);
+    }
+
+    /// A worker has got on. The link does so when it loses a packet that is posted again and again, so it does not count.
+    pub fn moves(&self, who: Who) {
+        if who != Who::Link {
+            let _ = self.moves.fetch_add(1, Ordering::SeqCst);
+        }
+    }
+
+    /// How often workers have said that they got on.
+    pub fn moved(&self) -> u64 {
+        self.moves.load(Ordering::SeqCst)
     }
 }

@@ -4,6 +4,7 @@ ghost use Rattle.pair_threads.specs.Choosing.{turns_of};
 ghost use Rattle.pair_threads.specs.Turns.{Leaves};
 
 use crate::gate::{Gate, Who};
+use crate::pace::Pace;
 use crate::rest::Rest;
 use crate::signals::{Signals, Told};
 use i8080_words::{Fault, R};
@@ -71,7 +72,7 @@ fn all_begin<C: Clock>(clock: &C, signals: &Signals) -> bool {
 }
 
 // How many turns a worker has at most: the primary and the backup as many as they are given, the others as many as a table
-// has swaps.
+// has swaps. Those in which it finds nothing to do are among them only if somebody is to ask at a turn.
 fn turns_of(who: Who, turns: u64) -> u64
     ensures { result ≡ turns_of who turns }
 {
@@ -81,8 +82,8 @@ fn turns_of(who: Who, turns: u64) -> u64
     }
 }
 
-/// Lets a worker have its turns, until it is at its end. `Stalled` if it is not after all of them, if
-/// the gate ends the run, or if another worker has failed; `OutOfMemory` if the others have no threads to begin on.
+/// Lets a worker have its turns, until it is at its end. `Stalled` if it is not after all of them, if nobody gets on any more,
+/// if the gate ends the run, or if another worker has failed; `OutOfMemory` if the others have no threads to begin on.
 pub(crate) fn serve<C: Clock, W: Worker, G: Gate>(
     clock: &C,
     mut worker: W,
@@ -91,6 +92,7 @@ pub(crate) fn serve<C: Clock, W: Worker, G: Gate>(
     gate: &G,
     signals: &Signals,
     turns: u64,
+    contested: bool,
 ) -> (W, R<()>)
     requires table { W.table worker ≡ fabric.now }
     requires ready { W.ready worker }
@@ -104,11 +106,11 @@ pub(crate) fn serve<C: Clock, W: Worker, G: Gate>(
         signals.fails();
         return (worker, Err(Fault::OutOfMemory));
     }
-    let mut fruitless = 0u32;
+    let mut pace = Pace::new(turns_of(who, turns));
     let mut held_up = false;
-    for number in 0..turns_of(who, turns) {
-        if signals.has_failed() {
-            return (worker, Err(Fault::Stalled));
+    for number in 0..u64::MAX {
+        if pace.left == 0 || signals.has_failed() {
+            break;
         }
         if worker.may_end(signals.told()) {
             signals.ends(who);
@@ -124,10 +126,11 @@ pub(crate) fn serve<C: Clock, W: Worker, G: Gate>(
             signals.holds_up(held_up);
         }
         match turn {
-            Ok(Turn::Moved) => fruitless = 0,
+            Ok(Turn::Moved) => pace.moves(signals, who),
             Ok(Turn::Waits) => {
-                Rest::after(fruitless, signals.is_held_up()).take(clock);
-                fruitless = fruitless.saturating_add(1);
+                if !pace.waits(clock, signals, contested) {
+                    break;
+                }
             }
             Ok(Turn::Ends) => {
                 signals.ends(who);

@@ -36,15 +36,16 @@ const SCRIPTS: &[Row<'static>] = &[
         printed: "",
         ending: (6, "stalled"),
     },
-    // Its byte has not been accepted after so few turns, nor ever if the backup gets no entry.
+    // Its byte has not been accepted after so few turns.
     Row {
         words: &["live", "--turns", "20"],
         script: FIRST_BYTE,
         printed: "",
         ending: (6, "stalled"),
     },
+    // The backup gets no entry, so nobody gets on after a while.
     Row {
-        words: &["live", "--link", "drop", "--turns", "500"],
+        words: &["live", "--link", "drop"],
         script: FIRST_BYTE,
         printed: "",
         ending: (6, "stalled"),

@@ -1,5 +1,5 @@
 //! The chores of a primary's worker at its guest, the link and the terminals.
-ghost use Rattle.std.specs.Prelude.{◌≡◌, ◌+◌, ◌<◌, ◌≤◌, false, true, nat_lt, if◌then◌else◌, IfSome, IsTrue, None, OnOk, Some, length};
+ghost use Rattle.std.specs.Prelude.{◌≡◌, ◌⊎◌, ◌≢◌, ◌+◌, ◌<◌, ◌≤◌, false, true, nat_lt, if◌then◌else◌, IfSome, IsTrue, None, OnOk, Some, length};
 ghost use Rattle.event_callbacks.specs.declared.devices.TheConstants.{PORTS};
 ghost use Rattle.event_callbacks.specs.declared.operations.OpId.TheVariants as id;
 ghost use Rattle.event_callbacks.specs.declared.operations.Operation.TheVariants.{Byte};
@@ -60,35 +60,44 @@ impl<B: Lockstep> PrimaryWorker<B> {
         self.seen != before
     }
 
-    // Lets the guest run, unless an entry of it waits.
+    // Lets the guest run, unless an entry of it waits. While something of it is in flight it may do nothing but poll, so only a
+    // new operation is a change then.
     pub(super) fn run(&mut self) -> R<bool>
         ensures works { OnOk result (Works B.state B.machine self.old self.new) }
         ensures seat { self.new.seat ≡ self.old.seat }
+        ensures polls { result ≡ Ok true → (in_flight self.old ≡ 0) ⊎ (self.new.guest.waiting ≢ None) }
     {
         if self.guest.waiting.is_some() {
             return Ok(false);
         }
-        let steps = self.steps();
+        let under_way = self.in_flight();
+        let steps = self.steps(under_way);
         match self.guest.run(steps) {
             Ok(moved) => {
                 if !moved {
                     self.key_count = 0;
                 }
                 self.held_up = self.guest.is_held_up();
-                Ok(moved)
+                Ok(moved && (under_way == 0 || self.guest.waiting.is_some()))
             }
             Err(Fault::OutOfMemory) => Err(Fault::OutOfMemory),
             Err(_) => Err(Fault::Stalled),
         }
     }
 
-    // How many steps the guest may make in this turn: the fewer, the more of what it gave or asked is in flight.
-    fn steps(&self) -> u64
-        ensures { result ≡ steps_by self.now.plan.steps (in_flight self.now) }
+    // How many operations of the guest are on their way, with what was asked of the disk.
+    fn in_flight(&self) -> u64
+        ensures { result ≡ in_flight self.now }
     {
         let asked = self.asked || self.answer.is_some();
-        let in_flight = self.guest.given.len() as u64 + u64::from(asked);
-        match SHORT_STEPS.checked_div(in_flight) {
+        self.guest.given.len() as u64 + u64::from(asked)
+    }
+
+    // How many steps the guest may make in this turn: the fewer, the more of what it gave or asked is in flight.
+    fn steps(&self, under_way: u64) -> u64
+        ensures { result ≡ steps_by self.now.plan.steps under_way }
+    {
+        match SHORT_STEPS.checked_div(under_way) {
             Some(share) => share.min(self.plan.steps),
             None => self.plan.steps,
         }

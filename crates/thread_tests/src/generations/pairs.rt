@@ -7,7 +7,7 @@ ghost use Rattle.shared_disk.specs.Records.{IsUnwritten};
 
 use altair_laws::altairs_are_lawful;
 use disk_dcdd::SectorAddress;
-use event_callbacks::{Callbacks, Completes};
+use event_callbacks::{Callbacks, Completes, plain_completions};
 use guest_board::{Board, Setup};
 use guest_lockstep::{Lockstep, Reads};
 use i8080_words::{Fault, R};
@@ -77,7 +77,8 @@ fn boot<T: Completes + Drop, S: Completes + Drop, W: Completes + Drop>(
 }
 
 /// How a pair is to end that nobody leaves: how many entries are in both lists and acknowledged, what the terminals of
-/// both ports have accepted, the count of the primary's guest if it is always the same, and the number of the last write of sector 0 of track 0.
+/// both ports have accepted, the count of the primary's guest if it is always the same, and the number of the last write of
+/// sector 0 of track 0.
 #[derive(Clone, Copy)]
 pub(super) struct Want<'a> {
     pub(super) entries: usize,
@@ -86,40 +87,37 @@ pub(super) struct Want<'a> {
     pub(super) write: u64,
 }
 
-// Runs a pair of Altairs of a setup.
-fn run_setup<
-    T: Completes + Drop + Copy + Send,
-    S: Completes + Drop + Copy + Send,
-    W: Completes + Drop + Copy + Send,
-    G: Gate + Sync,
-    H: Threads + Clock + Sync,
->(
-    rt: &H,
-    alloc: Global,
-    setup: &Setup,
-    case: &Case,
-    gate: &G,
-    sent: T,
-    sector: S,
-    written: W,
-) -> R<GenerationEnd<Board<T, S, W>, Store>>
-    requires sent { Keeps (T.may sent) (T.gives sent) SENT }
-    requires sector { Keeps (S.may sector) (S.gives sector) SECTOR }
-    requires written { Keeps (W.may written) (W.gives written) WRITTEN }
-{
-    altairs_are_lawful();
-    let workers = Workers {
-        primary: boot(alloc, setup, Callbacks::of(sent, sector, written))?,
-        backup: boot(alloc, setup, Callbacks::of(sent, sector, written))?,
-        disk: unwritten_disk(alloc, case.fails)?,
-        typed0: Vec::from_slice(alloc, case.typed)?,
-        typed1: Vec::new(alloc),
-        fates: Vec::from_slice(alloc, case.fates)?,
-        primary_contests: case.primary_contests,
-        backup_contests: case.backup_contests,
-        steps: case.steps,
-    };
-    run_generation(rt, alloc, workers, gate, case.turns)
+/// How a pair has ended: who goes on alone, the count of the primary's guest, both lists and how much of them is acknowledged, what
+/// the terminals have accepted, and the number of the last write of sector 0 of track 0.
+#[derive(Drop)]
+pub(super) struct Outcome {
+    winner: Option<Who>,
+    count: u64,
+    primary: Vec<Entry>,
+    backup: Vec<Entry>,
+    held: u64,
+    accepted: [Vec<u8>; 2],
+    write: u64,
+}
+
+impl Outcome {
+    /// Nobody has left the pair, and it has ended so.
+    pub(super) fn expect_end(&self, rt: &impl Abort, want: &Want) {
+        assert!(rt; self.winner.is_none());
+        assert!(rt; want.count.is_none() || want.count == Some(self.count));
+        assert!(rt; self.primary.len() == want.entries && self.held == want.entries as u64);
+        assert!(rt; self.primary == self.backup);
+        assert!(rt; self.accepted[0].as_slice() == want.accepted[0]);
+        assert!(rt; self.accepted[1].as_slice() == want.accepted[1]);
+        assert!(rt; self.write == want.write);
+    }
+
+    /// One of them goes on alone. How far it has come by then is different from run to run.
+    pub(super) fn expect_winner(&self, rt: &impl Abort, winner: Who) {
+        assert!(rt; self.winner == Some(winner));
+        assert!(rt; self.primary.starts_with(&self.backup));
+        assert!(rt; self.held <= self.backup.len() as u64);
+    }
 }
 
 // A disk of one drive, on which nothing is written, and of which this access fails.
@@ -157,104 +155,66 @@ fn run<
         sense: 0x00,
         reads: Reads::Logged,
     };
-    run_setup(rt, alloc, &setup, case, gate, sent, sector, written)
+    altairs_are_lawful();
+    let workers = Workers {
+        primary: boot(alloc, &setup, Callbacks::of(sent, sector, written))?,
+        backup: boot(alloc, &setup, Callbacks::of(sent, sector, written))?,
+        disk: unwritten_disk(alloc, case.fails)?,
+        typed0: Vec::from_slice(alloc, case.typed)?,
+        typed1: Vec::new(alloc),
+        fates: Vec::from_slice(alloc, case.fates)?,
+        primary_contests: case.primary_contests,
+        backup_contests: case.backup_contests,
+        steps: case.steps,
+    };
+    run_generation(rt, alloc, workers, gate, case.turns)
 }
 
-// Both lists have so many entries, all of them acknowledged.
-fn check_lists(rt: &impl Abort, primary: &[Entry], backup: &[Entry], held: u64, entries: usize) {
-    assert!(rt; primary.len() == entries && held == entries as u64);
-    assert!(rt; primary == backup);
-}
-
-// The terminals have accepted these bytes.
-fn check_accepted(rt: &impl Abort, accepted: &[Vec<u8>; 2], want: [&[u8]; 2]) {
-    for (found, bytes) in accepted.iter().zip(want) {
-        assert!(rt; found.as_slice() == bytes);
-    }
-}
-
-// Sector 0 of track 0 has the write of this number.
-fn check_disk(rt: &impl Abort, disk: &mut SharedDisk<Store>, write: u64) -> R<()> {
-    let address = SectorAddress {
+// What a pair has come to.
+fn outcome_of<T: Completes + Drop, S: Completes + Drop, W: Completes + Drop>(
+    end: GenerationEnd<Board<T, S, W>, Store>,
+) -> R<Outcome> {
+    let GenerationEnd {
+        primary,
+        backup,
+        primary_board,
+        held,
+        winner,
+        accepted,
+        mut disk,
+        ..
+    } = end;
+    let sector = disk.get(SectorAddress {
         drive: 0,
         track: 0,
         sector: 0,
-    };
-    let found = disk.get(address)?;
-    assert!(rt; found.number == write);
-    Ok(())
+    })?;
+    Ok(Outcome {
+        winner,
+        count: primary_board.count(),
+        primary,
+        backup,
+        held,
+        accepted,
+        write: sector.number,
+    })
 }
 
-/// Runs a pair, which is to end so.
-pub(super) fn ends<
-    T: Completes + Drop + Copy + Send,
-    S: Completes + Drop + Copy + Send,
-    W: Completes + Drop + Copy + Send,
-    G: Gate + Sync,
-    H: Threads + Clock + Sync + Abort,
->(
+/// Runs a pair with the plain completions.
+pub(super) fn outcome<G: Gate + Sync, H: Threads + Clock + Sync>(
     rt: &H,
     alloc: Global,
     case: &Case,
     gate: &G,
-    want: &Want,
-    sent: T,
-    sector: S,
-    written: W,
-) -> R<()>
-    requires sent { Keeps (T.may sent) (T.gives sent) SENT }
-    requires sector { Keeps (S.may sector) (S.gives sector) SECTOR }
-    requires written { Keeps (W.may written) (W.gives written) WRITTEN }
-{
-    let mut end = run(rt, alloc, case, gate, sent, sector, written)?;
-    assert!(rt; end.winner.is_none());
-    if let Some(count) = want.count {
-        assert!(rt; end.primary_board.count() == count);
-    }
-    check_lists(rt, &end.primary, &end.backup, end.held, want.entries);
-    check_accepted(rt, &end.accepted, want.accepted);
-    check_disk(rt, &mut end.disk, want.write)
-}
-
-/// Runs a pair of which one goes on alone. How far it has come by then is different from run to run.
-pub(super) fn is_won<
-    T: Completes + Drop + Copy + Send,
-    S: Completes + Drop + Copy + Send,
-    W: Completes + Drop + Copy + Send,
-    G: Gate + Sync,
-    H: Threads + Clock + Sync + Abort,
->(
-    rt: &H,
-    alloc: Global,
-    case: &Case,
-    gate: &G,
-    winner: Who,
-    sent: T,
-    sector: S,
-    written: W,
-) -> R<()>
-    requires sent { Keeps (T.may sent) (T.gives sent) SENT }
-    requires sector { Keeps (S.may sector) (S.gives sector) SECTOR }
-    requires written { Keeps (W.may written) (W.gives written) WRITTEN }
-{
-    let end = run(rt, alloc, case, gate, sent, sector, written)?;
-    assert!(rt; end.winner == Some(winner));
-    assert!(rt; end.primary.starts_with(&end.backup));
-    assert!(rt; end.held <= end.backup.len() as u64);
-    Ok(())
-}
-
-/// Runs a pair, which is refused.
-pub(super) fn is_refused<
-    T: Completes + Drop + Copy + Send,
-    S: Completes + Drop + Copy + Send,
-    W: Completes + Drop + Copy + Send,
-    G: Gate + Sync,
-    H: Threads + Clock + Sync,
->(rt: &H, alloc: Global, case: &Case, gate: &G, sent: T, sector: S, written: W) -> Option<Fault>
-    requires sent { Keeps (T.may sent) (T.gives sent) SENT }
-    requires sector { Keeps (S.may sector) (S.gives sector) SECTOR }
-    requires written { Keeps (W.may written) (W.gives written) WRITTEN }
-{
-    run(rt, alloc, case, gate, sent, sector, written).err()
+) -> R<Outcome> {
+    let end = run(
+        rt,
+        alloc,
+        case,
+        gate,
+        plain_completions::sent,
+        plain_completions::sector,
+        plain_completions::written,
+    )?;
+    outcome_of(end)
 }

@@ -2,11 +2,9 @@
 ghost use Rattle.std.specs.Prelude.{◌≡◌, IsTrue};
 
 use super::gates::{Closed, Together, Turnstile};
-use super::pairs::{Case, Want, alone, ends, is_refused, is_won};
-use event_callbacks::plain_completions;
+use super::pairs::{Case, Outcome, Want, alone, outcome};
 use i8080_words::{Fault, R};
 use pair_threads::{Fate, Gate, OpenGate, Who};
-use std::alloc::Global;
 use std::process::Abort;
 use std::thread::Threads;
 use std::time::{Clock, Instant};
@@ -60,76 +58,56 @@ fn first_byte() -> Want<'static> {
     }
 }
 
-// Runs a case with the plain completions through a gate.
-fn through<G: Gate + Sync, H: Threads + Clock + Sync + Abort>(
-    rt: &H,
-    alloc: Global,
-    case: &Case,
-    gate: &G,
-    want: &Want,
-) -> R<()> {
-    ends(
-        rt,
-        alloc,
-        case,
-        gate,
-        want,
-        plain_completions::sent,
-        plain_completions::sector,
-        plain_completions::written,
-    )
-}
-
 // Runs a case on threads that wait for each other.
-fn together<H: Threads + Clock + Sync + Abort>(
-    rt: &H,
-    alloc: Global,
+fn together(rt: &(impl Threads + Clock + Sync + AllocGlobal), case: &Case) -> R<Outcome> {
+    outcome(rt, rt.alloc(), case, &Together::new())
+}
+
+// A case on threads that wait for each other ends so.
+fn ends(
+    rt: &(impl Threads + Clock + Sync + AllocGlobal + Abort),
     case: &Case,
     want: &Want,
 ) -> R<()> {
-    through(rt, alloc, case, &Together::new(), want)
+    together(rt, case)?.expect_end(rt, want);
+    Ok(())
 }
 
-fn stalls<G: Gate + Sync, H: Threads + Clock + Sync + Abort>(
-    rt: &H,
-    alloc: Global,
+fn wins(
+    rt: &(impl Threads + Clock + Sync + AllocGlobal + Abort),
+    case: &Case,
+    winner: Who,
+) -> R<()> {
+    together(rt, case)?.expect_winner(rt, winner);
+    Ok(())
+}
+
+fn stalls<G: Gate + Sync>(
+    rt: &(impl Threads + Clock + Sync + AllocGlobal + Abort),
     case: &Case,
     gate: &G,
 ) {
-    let refusal = is_refused(
-        rt,
-        alloc,
-        case,
-        gate,
-        plain_completions::sent,
-        plain_completions::sector,
-        plain_completions::written,
-    );
-    assert!(rt; refusal == Some(Fault::Stalled));
+    let outcome = outcome(rt, rt.alloc(), case, gate);
+    assert!(rt; outcome.err() == Some(Fault::Stalled));
 }
 
 #[test]
 fn a_byte_goes_out(rt: HostRuntime) -> R<()> {
-    together(&rt, rt.alloc(), &alone(&FIRST_BYTE), &first_byte())
+    ends(&rt, &alone(&FIRST_BYTE), &first_byte())
 }
 
 #[test]
 fn a_byte_goes_out_at_port_1(rt: HostRuntime) -> R<()> {
     let mut want = first_byte();
     want.accepted = [&[], &[0x48]];
-    together(&rt, rt.alloc(), &alone(&FIRST_BYTE_AT_1), &want)
+    ends(&rt, &alone(&FIRST_BYTE_AT_1), &want)
 }
 
 #[test]
 fn each_turn_leaves_the_gate(rt: HostRuntime) -> R<()> {
     let turnstile = Turnstile::new();
-    through(
-        &rt,
-        rt.alloc(),
-        &alone(&FIRST_BYTE),
-        &turnstile,
-        &first_byte(),
-    )?;
+    let outcome = outcome(&rt, rt.alloc(), &alone(&FIRST_BYTE), &turnstile)?;
+    outcome.expect_end(&rt, &first_byte());
     assert!(rt; turnstile.entered() > 0);
     assert!(rt; turnstile.left() == turnstile.entered());
     Ok(())
@@ -140,32 +118,14 @@ fn each_turn_leaves_the_gate(rt: HostRuntime) -> R<()> {
 fn fates_are_left_over(rt: HostRuntime) -> R<()> {
     let mut many = alone(&FIRST_BYTE);
     many.fates = &[Fate::Pass; 100];
-    together(&rt, rt.alloc(), &many, &first_byte())
+    ends(&rt, &many, &first_byte())
 }
 
 #[test]
 fn packets_are_lost_and_come_twice(rt: HostRuntime) -> R<()> {
     let mut lossy = alone(&FIRST_BYTE);
     lossy.fates = &[Fate::Drop, Fate::Twice];
-    together(&rt, rt.alloc(), &lossy, &first_byte())
-}
-
-fn wins<H: Threads + Clock + Sync + Abort>(
-    rt: &H,
-    alloc: Global,
-    case: &Case,
-    winner: Who,
-) -> R<()> {
-    is_won(
-        rt,
-        alloc,
-        case,
-        &Together::new(),
-        winner,
-        plain_completions::sent,
-        plain_completions::sector,
-        plain_completions::written,
-    )
+    ends(&rt, &lossy, &first_byte())
 }
 
 #[test]
@@ -173,7 +133,7 @@ fn a_backup_goes_on_alone(rt: HostRuntime) -> R<()> {
     for turn in [0, 1_000] {
         let mut contested = alone(&FIRST_BYTE);
         contested.backup_contests = Some(turn);
-        wins(&rt, rt.alloc(), &contested, Who::Backup)?;
+        wins(&rt, &contested, Who::Backup)?;
     }
     Ok(())
 }
@@ -183,7 +143,7 @@ fn a_primary_goes_on_alone(rt: HostRuntime) -> R<()> {
     for turn in [0, 1_000] {
         let mut contested = alone(&FIRST_BYTE);
         contested.primary_contests = Some(turn);
-        wins(&rt, rt.alloc(), &contested, Who::Primary)?;
+        wins(&rt, &contested, Who::Primary)?;
     }
     Ok(())
 }
@@ -197,7 +157,7 @@ fn a_pair_that_waits_sleeps(rt: HostRuntime) -> R<()> {
     let Ok(start) = Instant::now(&rt) else {
         return Err(Fault::Stalled);
     };
-    wins(&rt, rt.alloc(), &waits, Who::Backup)?;
+    wins(&rt, &waits, Who::Backup)?;
     let Ok(passed) = start.elapsed(&rt) else {
         return Err(Fault::Stalled);
     };
@@ -217,7 +177,7 @@ fn sector_written() -> Want<'static> {
 
 #[test]
 fn a_sector_is_written(rt: HostRuntime) -> R<()> {
-    together(&rt, rt.alloc(), &alone(&DISK_WRITE), &sector_written())
+    ends(&rt, &alone(&DISK_WRITE), &sector_written())
 }
 
 // The disk fails at each of its first accesses in turn, and is asked again.
@@ -226,15 +186,14 @@ fn a_disk_that_fails_is_asked_again(rt: HostRuntime) -> R<()> {
     for fails in 1..5 {
         let mut failing = alone(&DISK_WRITE);
         failing.fails = fails;
-        together(&rt, rt.alloc(), &failing, &sector_written())?;
+        ends(&rt, &failing, &sector_written())?;
     }
     Ok(())
 }
 
 // Two keys, two marks, two acceptances, with many steps in a turn.
-fn two_keys_come_back<H: Threads + Clock + Sync + Abort>(
-    rt: &H,
-    alloc: Global,
+fn two_keys_come_back(
+    rt: &(impl Threads + Clock + Sync + AllocGlobal + Abort),
     program: &[u8],
 ) -> R<()> {
     let mut echo = alone(program);
@@ -246,25 +205,25 @@ fn two_keys_come_back<H: Threads + Clock + Sync + Abort>(
         count: None,
         write: 0,
     };
-    together(rt, alloc, &echo, &want)
+    ends(rt, &echo, &want)
 }
 
 #[test]
 fn keys_come_back(rt: HostRuntime) -> R<()> {
-    two_keys_come_back(&rt, rt.alloc(), &TWO_KEYS)
+    two_keys_come_back(&rt, &TWO_KEYS)
 }
 
 // Between keys no count grows.
 #[test]
 fn keys_come_back_from_a_guest_that_idles(rt: HostRuntime) -> R<()> {
-    two_keys_come_back(&rt, rt.alloc(), &KEYS_BY_INTERRUPT)
+    two_keys_come_back(&rt, &KEYS_BY_INTERRUPT)
 }
 
 #[test]
 fn a_guest_without_end_stalls(rt: HostRuntime) {
     let mut endless = alone(&FOREVER);
     endless.turns = 10;
-    stalls(&rt, rt.alloc(), &endless, &OpenGate);
+    stalls(&rt, &endless, &OpenGate);
 }
 
 // Who is to ask at a turn that never comes does not, and the run is not decided.
@@ -273,17 +232,17 @@ fn a_contest_that_never_comes_stalls(rt: HostRuntime) {
     let mut late = alone(&FIRST_BYTE);
     late.turns = 2_000;
     late.primary_contests = Some(2_000);
-    stalls(&rt, rt.alloc(), &late, &OpenGate);
+    stalls(&rt, &late, &OpenGate);
 }
 
 #[test]
 fn a_closed_gate_stalls(rt: HostRuntime) {
-    stalls(&rt, rt.alloc(), &alone(&FIRST_BYTE), &Closed);
+    stalls(&rt, &alone(&FIRST_BYTE), &Closed);
 }
 
 #[test]
 fn no_turns_stall(rt: HostRuntime) {
     let mut none = alone(&FIRST_BYTE);
     none.turns = 0;
-    stalls(&rt, rt.alloc(), &none, &OpenGate);
+    stalls(&rt, &none, &OpenGate);
 }

@@ -26,6 +26,17 @@ fn workers_hear_whether_the_guest_is_held_up(rt: HostRuntime) {
     assert!(rt; !signals.is_held_up());
 }
 
+// A link that loses what is posted again and again gets nobody on.
+#[test]
+fn workers_hear_how_often_others_get_on(rt: HostRuntime) {
+    let signals = Signals::new();
+    signals.moves(Who::Link);
+    assert!(rt; signals.moved() == 0);
+    signals.moves(Who::Terminal);
+    signals.moves(Who::Primary);
+    assert!(rt; signals.moved() == 2);
+}
+
 #[test]
 fn all_have_begun_when_five_have(rt: HostRuntime) {
     let signals = Signals::new();
