@@ -17,7 +17,7 @@ pub fn case_of(alloc: Global, chance: &mut Chance) -> R<Case> {
     case.gate = gate_of(chance);
     if chance.is_one_of(16) {
         case.stalls = true;
-        case.turns = u64::from(chance.below(20));
+        case.turns = u64::from(chance.below(2));
     } else {
         contest(chance, &mut case);
     }

@@ -84,7 +84,7 @@ impl<B: Lockstep> BackupWorker<B> {
             }
             None => {
                 self.stride = self.stride.saturating_mul(2);
-                Ok(self.pace())
+                Ok(self.pace(Turn::Waits))
             }
         }
     }
@@ -133,12 +133,13 @@ impl<B: Lockstep> BackupWorker<B> {
         Ok(Turn::Moved)
     }
 
-    // Whether anything is left to repeat.
-    fn pace(&self) -> Turn
+    // Gets on if anything is left to repeat, and has nothing to do here otherwise.
+    fn pace(&self, nothing: Turn) -> Turn
+        requires { Leaves (Ok nothing) (Unit {0}) ⊥ }
         ensures { Leaves (Ok result) (Unit {0}) ⊥ }
     {
         if self.guest.has_replayed_all() {
-            Turn::Waits
+            nothing
         } else {
             Turn::Moved
         }
@@ -162,12 +163,12 @@ impl<B: Lockstep> BackupWorker<B> {
             Chore::Hold => {
                 self.chore = Chore::Replay;
                 self.hold(fabric);
-                Ok(self.pace())
+                Ok(self.pace(Turn::Looks))
             }
             Chore::Replay => {
                 self.chore = Chore::Take;
                 self.guest.replay(self.plan.steps.min(self.stride))?;
-                Ok(self.pace())
+                Ok(self.pace(Turn::Looks))
             }
         }
     }

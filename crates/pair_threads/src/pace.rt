@@ -1,4 +1,4 @@
-//! How a worker gets on: the turns that it has left, how long it has found nothing, and when it gives up.
+//! How a worker gets on: the turns that it has left, how it waits, and when it gives up.
 ghost use Rattle.std.specs.Prelude.{◌≡◌, ◌<◌, ◌-◌};
 ghost use Rattle.pair_threads.specs.Choosing.{left_after_waiting};
 
@@ -10,7 +10,7 @@ use std::time::{Clock, Duration, Instant};
 // For how many seconds nobody may get on before a run is given up.
 const PATIENCE: u64 = 10;
 
-// A worker that gets on says so every so many turns, and one that waits looks at the clock as often.
+// A worker that gets on again and again says so every so many turns.
 const NOTED: u64 = 64;
 
 /// What a worker has left, and how long it has found nothing to do.
@@ -18,11 +18,12 @@ const NOTED: u64 = 64;
 pub(crate) struct Pace {
     /// How many turns it has left.
     pub(crate) left: u64,
-    // How many turns in a row have found nothing.
-    fruitless: u32,
-    // How often workers had got on when it looked at the clock, and when that was.
+    // Since when it has found nothing, and how often it has slept since.
+    waiting: Option<Instant>,
+    sleeps: u32,
+    // Since when nobody has got on, as far as it has looked, and how often workers had got on by then.
+    quiet: Option<Instant>,
     moves: u64,
-    since: Option<Instant>,
 }
 
 impl Pace {
@@ -32,9 +33,10 @@ impl Pace {
     {
         Pace {
             left: turns,
-            fruitless: 0,
+            waiting: None,
+            sleeps: 0,
+            quiet: None,
             moves: 0,
-            since: None,
         }
     }
 
@@ -43,42 +45,61 @@ impl Pace {
         requires { 0 < self.old.left }
         ensures { self.new.left ≡ self.old.left - 1 }
     {
-        if self.fruitless > 0 || self.left % NOTED == 0 {
+        if self.waiting.is_some() || self.left % NOTED == 0 {
             signals.moves(who);
         }
-        self.fruitless = 0;
+        self.waiting = None;
+        self.sleeps = 0;
         self.left -= 1;
     }
 
-    /// It has found nothing to do, and lets the others get on. A turn like that is one of those that it has only if somebody
-    /// is to ask at a turn; otherwise the run is given up, which false says, if nobody has got on for ten seconds.
-    pub(crate) fn waits<C: Clock>(&mut self, clock: &C, signals: &Signals, contested: bool) -> bool
-        requires { 0 < self.old.left }
+    /// It has found nothing in a turn. That is one of the turns that it has only if somebody is to ask at a turn.
+    pub(crate) fn looks(&mut self, contested: bool)
         ensures { self.new.left ≡ left_after_waiting contested self.old.left }
     {
-        Rest::after(self.fruitless, signals.is_held_up()).take(clock);
-        self.fruitless = self.fruitless.saturating_add(1);
         if contested {
-            self.left -= 1;
-            return true;
+            self.left = self.left.saturating_sub(1);
         }
-        u64::from(self.fruitless) % NOTED != 0 || self.is_patient(clock, signals.moved())
     }
 
-    // Whether anybody has got on in the last ten seconds, as far as it has looked.
-    fn is_patient<C: Clock>(&mut self, clock: &C, moves: u64) -> bool
+    /// It has found nothing wherever it looked, and lets the others get on. False if the run is given up, as nobody has got on
+    /// for ten seconds; never if somebody is to ask at a turn.
+    pub(crate) fn waits<C: Clock>(&mut self, clock: &C, signals: &Signals, contested: bool) -> bool
+        ensures { self.new.left ≡ left_after_waiting contested self.old.left }
+    {
+        self.looks(contested);
+        let Ok(now) = Instant::now(clock) else {
+            return false;
+        };
+        self.rest_at(now, signals.is_held_up()).take(clock);
+        self.is_patient(now, signals.moved()) || contested
+    }
+
+    // How it waits at this moment.
+    fn rest_at(&mut self, now: Instant, held_up: bool) -> Rest
         ensures { self.new.left ≡ self.old.left }
     {
-        let Ok(now) = Instant::now(clock) else {
-            return true;
-        };
-        match self.since {
-            Some(since) if self.moves == moves => {
-                now.duration_since(since) < Duration::from_secs(PATIENCE)
+        let began = self.waiting.unwrap_or(now);
+        self.waiting = Some(began);
+        let micros = u64::try_from(now.duration_since(began).as_micros()).unwrap_or(u64::MAX);
+        let rest = Rest::after(micros, self.sleeps, held_up);
+        if rest != Rest::Yield {
+            self.sleeps = self.sleeps.saturating_add(1);
+        }
+        rest
+    }
+
+    // Whether anybody has got on in the ten seconds before this moment, as far as it has looked.
+    fn is_patient(&mut self, now: Instant, moves: u64) -> bool
+        ensures { self.new.left ≡ self.old.left }
+    {
+        match self.quiet {
+            Some(quiet) if self.moves == moves => {
+                now.duration_since(quiet) < Duration::from_secs(PATIENCE)
             }
             _ => {
                 self.moves = moves;
-                self.since = Some(now);
+                self.quiet = Some(now);
                 true
             }
         }

@@ -1,14 +1,14 @@
 //! How a worker waits that finds nothing to do.
-ghost use Rattle.std.specs.Prelude.{◌≡◌, ◌<◌, ◌+◌, ◌*◌, ℕ, cond, min};
+ghost use Rattle.std.specs.Prelude.{◌≡◌, ◌<◌, ◌≤◌, ◌+◌, ◌*◌, cond, min};
 ghost use Rattle.pair_threads.specs.declared.rest.Rest.TheVariants.{Yield, Sleep};
 
 use std::thread;
 use std::time::{Clock, Duration};
 
-// How many turns in a row may find nothing to do before a worker sleeps: while a guest is held up, and while none is.
-const MOST_YIELDS: u32 = 2_000;
+// For how many microseconds a worker that finds nothing yields before it sleeps: while a guest is held up, and while none is.
+const LONG_YIELDS: u64 = 600;
 
-const FEW_YIELDS: u32 = 25;
+const SHORT_YIELDS: u64 = 10;
 
 // The first sleep takes this many microseconds, and each of so many further ones in a row as much more: 500 at most.
 const SHORTEST_SLEEP: u32 = 5;
@@ -25,18 +25,19 @@ pub enum Rest {
 }
 
 impl Rest {
-    /// What a worker does after its first turn that found nothing, and after this many more of them. A sleep takes some 55
+    /// What a worker does that has found nothing for so many microseconds, and has slept so often since. A sleep takes some 55
     /// microseconds more than it should, which a guest that is held up would wait for at each hop of a key or a byte;
-    /// yields keep a processor busy, which a guest that computes may need.
-    pub fn after(fruitless: u32, held_up: bool) -> Rest
-        ensures yields { fruitless < cond held_up 2000 25 → result ≡ Yield }
-        ensures sleeps { (n : ℕ) → fruitless ≡ cond held_up 2000 25 + n → result ≡ Sleep (5 * (1 + min n 99)) }
+    /// yields keep a processor busy, which a guest that computes may need. On a busy machine one yield may take longer than
+    /// all of them should, so what bounds them is a time and not their number.
+    pub fn after(micros: u64, sleeps: u32, held_up: bool) -> Rest
+        ensures yields { micros < cond held_up 600 10 → result ≡ Yield }
+        ensures sleeps { cond held_up 600 10 ≤ micros → result ≡ Sleep (5 * (1 + min sleeps 99)) }
     {
-        let yields = if held_up { MOST_YIELDS } else { FEW_YIELDS };
-        if fruitless < yields {
+        let yields = if held_up { LONG_YIELDS } else { SHORT_YIELDS };
+        if micros < yields {
             return Rest::Yield;
         }
-        Rest::Sleep(SHORTEST_SLEEP * (1 + (fruitless - yields).min(LONGER_SLEEPS)))
+        Rest::Sleep(SHORTEST_SLEEP * (1 + sleeps.min(LONGER_SLEEPS)))
     }
 
     /// Lets the other threads get on.

@@ -5,7 +5,6 @@ ghost use Rattle.pair_threads.specs.Turns.{Leaves};
 
 use crate::gate::{Gate, Who};
 use crate::pace::Pace;
-use crate::rest::Rest;
 use crate::signals::{Signals, Told};
 use i8080_words::{Fault, R};
 use pair_rule::{Fabric, MOST_SWAPS};
@@ -16,7 +15,9 @@ use std::time::Clock;
 pub(crate) enum Turn {
     /// It changed something.
     Moved,
-    /// It found nothing to do.
+    /// It found nothing, and looks for something else at once.
+    Looks,
+    /// It found nothing wherever it looked.
     Waits,
     /// The worker is at its end.
     Ends,
@@ -56,17 +57,17 @@ pub(crate) trait Worker {
     fn is_held_up(&self) -> bool;
 }
 
-// How often a worker waits at most until all have begun: for about ten seconds.
-const MOST_WAITS: u32 = 20_000;
-
-// Waits until all workers have begun, or one has failed. If no thread can be made for one of them, it begins only after
-// another one has come back.
+// Waits until all workers have begun, or one has failed, for ten seconds at most. If no thread can be made for one of them, it
+// begins only after another one has come back.
 fn all_begin<C: Clock>(clock: &C, signals: &Signals) -> bool {
-    for waited in 0..MOST_WAITS {
+    let mut pace = Pace::new(0);
+    for _ in 0..u64::MAX {
         if signals.have_all_begun() || signals.has_failed() {
             return true;
         }
-        Rest::after(waited, true).take(clock);
+        if !pace.waits(clock, signals, false) {
+            return false;
+        }
     }
     false
 }
@@ -127,6 +128,7 @@ pub(crate) fn serve<C: Clock, W: Worker, G: Gate>(
         }
         match turn {
             Ok(Turn::Moved) => pace.moves(signals, who),
+            Ok(Turn::Looks) => pace.looks(contested),
             Ok(Turn::Waits) => {
                 if !pace.waits(clock, signals, contested) {
                     break;

@@ -38,7 +38,7 @@ const SCRIPTS: &[Row<'static>] = &[
     },
     // Its byte has not been accepted after so few turns.
     Row {
-        words: &["live", "--turns", "20"],
+        words: &["live", "--turns", "5"],
         script: FIRST_BYTE,
         printed: "",
         ending: (6, "stalled"),

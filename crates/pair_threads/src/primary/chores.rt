@@ -60,44 +60,37 @@ impl<B: Lockstep> PrimaryWorker<B> {
         self.seen != before
     }
 
-    // Lets the guest run, unless an entry of it waits. While something of it is in flight it may do nothing but poll, so only a
-    // new operation is a change then.
+    // Lets the guest run, unless an entry of it waits. While several operations of it are outstanding it may do nothing but poll,
+    // so only a new one is a change then.
     pub(super) fn run(&mut self) -> R<bool>
         ensures works { OnOk result (Works B.state B.machine self.old self.new) }
         ensures seat { self.new.seat ≡ self.old.seat }
-        ensures polls { result ≡ Ok true → (in_flight self.old ≡ 0) ⊎ (self.new.guest.waiting ≢ None) }
+        ensures polls { result ≡ Ok true → (length self.new.guest.given.items ≤ 1) ⊎ (self.new.guest.waiting ≢ None) }
     {
         if self.guest.waiting.is_some() {
             return Ok(false);
         }
-        let under_way = self.in_flight();
-        let steps = self.steps(under_way);
+        let steps = self.steps();
         match self.guest.run(steps) {
             Ok(moved) => {
                 if !moved {
                     self.key_count = 0;
                 }
                 self.held_up = self.guest.is_held_up();
-                Ok(moved && (under_way == 0 || self.guest.waiting.is_some()))
+                Ok(moved && (self.guest.given.len() <= 1 || self.guest.waiting.is_some()))
             }
             Err(Fault::OutOfMemory) => Err(Fault::OutOfMemory),
             Err(_) => Err(Fault::Stalled),
         }
     }
 
-    // How many operations of the guest are on their way, with what was asked of the disk.
-    fn in_flight(&self) -> u64
-        ensures { result ≡ in_flight self.now }
+    // How many steps the guest may make in this turn: the fewer, the more of what it gave or asked is in flight.
+    fn steps(&self) -> u64
+        ensures { result ≡ steps_by self.now.plan.steps (in_flight self.now) }
     {
         let asked = self.asked || self.answer.is_some();
-        self.guest.given.len() as u64 + u64::from(asked)
-    }
-
-    // How many steps the guest may make in this turn: the fewer, the more of what it gave or asked is in flight.
-    fn steps(&self, under_way: u64) -> u64
-        ensures { result ≡ steps_by self.now.plan.steps under_way }
-    {
-        match SHORT_STEPS.checked_div(under_way) {
+        let in_flight = self.guest.given.len() as u64 + u64::from(asked);
+        match SHORT_STEPS.checked_div(in_flight) {
             Some(share) => share.min(self.plan.steps),
             None => self.plan.steps,
         }

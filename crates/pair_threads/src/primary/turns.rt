@@ -154,9 +154,10 @@ impl<B: Lockstep> PrimaryWorker<B> {
         }
         if self.fruitless < ROTATION {
             self.fruitless += 1;
-            return Ok(Turn::Moved);
+        } else if self.chore == Chore::See {
+            return Ok(Turn::Waits);
         }
-        Ok(Turn::Waits)
+        Ok(Turn::Looks)
     }
 }
 

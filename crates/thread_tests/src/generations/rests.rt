@@ -2,20 +2,22 @@
 
 use pair_threads::Rest;
 
-// How many turns found nothing before, whether the guest is held up, and what a worker does.
-static RESTS: [(u32, bool, Rest); 7] = [
-    (1999, true, Rest::Yield),
-    (2000, true, Rest::Sleep(5)),
-    (24, false, Rest::Yield),
-    (25, false, Rest::Sleep(5)),
-    (26, false, Rest::Sleep(10)),
-    (124, false, Rest::Sleep(500)),
-    (u32::MAX, false, Rest::Sleep(500)),
+// For how many microseconds it has found nothing, how often it has slept since, whether the guest is held up, and what a
+// worker does.
+static RESTS: [(u64, u32, bool, Rest); 8] = [
+    (599, 0, true, Rest::Yield),
+    (600, 0, true, Rest::Sleep(5)),
+    (9, 0, false, Rest::Yield),
+    (10, 0, false, Rest::Sleep(5)),
+    (70, 1, false, Rest::Sleep(10)),
+    (599, 3, true, Rest::Yield),
+    (1_000_000, 99, false, Rest::Sleep(500)),
+    (u64::MAX, u32::MAX, true, Rest::Sleep(500)),
 ];
 
 #[test]
 fn a_worker_yields_and_then_sleeps(rt: HostRuntime) {
-    for (fruitless, held_up, rest) in &RESTS {
-        assert!(rt; Rest::after(*fruitless, *held_up) == *rest);
+    for (micros, sleeps, held_up, rest) in &RESTS {
+        assert!(rt; Rest::after(*micros, *sleeps, *held_up) == *rest);
     }
 }

@@ -148,12 +148,12 @@ fn a_primary_goes_on_alone(rt: HostRuntime) -> R<()> {
     Ok(())
 }
 
-// A backup that finds nothing in 2,400 turns sleeps after 2,000 of them at the latest: for 175 milliseconds in all. Without
-// sleeps a machine with processors to spare takes some milliseconds.
+// A backup that finds nothing waits after each third turn, and sleeps once it has found nothing for 600 microseconds. Without
+// sleeps a machine with processors to spare takes some milliseconds for so many turns.
 #[test]
 fn a_pair_that_waits_sleeps(rt: HostRuntime) -> R<()> {
     let mut waits = alone(&HALT);
-    waits.backup_contests = Some(2_400);
+    waits.backup_contests = Some(15_000);
     let Ok(start) = Instant::now(&rt) else {
         return Err(Fault::Stalled);
     };
