@@ -200,8 +200,8 @@ fn outcome_of<T: Completes + Drop, S: Completes + Drop, W: Completes + Drop>(
     })
 }
 
-/// Runs a pair with the plain completions.
-pub(super) fn outcome<G: Gate + Sync, H: Threads + Clock + Sync>(
+/// Runs a case with the plain completions.
+pub(super) fn run_case<G: Gate + Sync, H: Threads + Clock + Sync>(
     rt: &H,
     alloc: Global,
     case: &Case,

@@ -2,7 +2,7 @@
 ghost use Rattle.std.specs.Prelude.{◌≡◌, IsTrue};
 
 use super::gates::{Closed, Together, Turnstile};
-use super::pairs::{Case, Outcome, Want, alone, outcome};
+use super::pairs::{Case, Outcome, Want, alone, run_case};
 use i8080_words::{Fault, R};
 use pair_threads::{Fate, Gate, OpenGate, Who};
 use std::process::Abort;
@@ -60,7 +60,7 @@ fn first_byte() -> Want<'static> {
 
 // Runs a case on threads that wait for each other.
 fn together(rt: &(impl Threads + Clock + Sync + AllocGlobal), case: &Case) -> R<Outcome> {
-    outcome(rt, rt.alloc(), case, &Together::new())
+    run_case(rt, rt.alloc(), case, &Together::new())
 }
 
 // A case on threads that wait for each other ends so.
@@ -87,7 +87,7 @@ fn stalls<G: Gate + Sync>(
     case: &Case,
     gate: &G,
 ) {
-    let outcome = outcome(rt, rt.alloc(), case, gate);
+    let outcome = run_case(rt, rt.alloc(), case, gate);
     assert!(rt; outcome.err() == Some(Fault::Stalled));
 }
 
@@ -106,7 +106,7 @@ fn a_byte_goes_out_at_port_1(rt: HostRuntime) -> R<()> {
 #[test]
 fn each_turn_leaves_the_gate(rt: HostRuntime) -> R<()> {
     let turnstile = Turnstile::new();
-    let outcome = outcome(&rt, rt.alloc(), &alone(&FIRST_BYTE), &turnstile)?;
+    let outcome = run_case(&rt, rt.alloc(), &alone(&FIRST_BYTE), &turnstile)?;
     outcome.expect_end(&rt, &first_byte());
     assert!(rt; turnstile.entered() > 0);
     assert!(rt; turnstile.left() == turnstile.entered());
