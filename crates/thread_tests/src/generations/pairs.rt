@@ -128,7 +128,7 @@ fn unwritten_disk(alloc: Global, fails: u64) -> R<SharedDisk<Store>>
     Ok(SharedDisk::new(FailOnce::new(store, fails)))
 }
 
-// Runs a pair of Altairs with one drive.
+// Runs a pair of Altairs of a setup.
 fn run<
     T: Completes + Drop + Copy + Send,
     S: Completes + Drop + Copy + Send,
@@ -138,6 +138,7 @@ fn run<
 >(
     rt: &H,
     alloc: Global,
+    setup: &Setup,
     case: &Case,
     gate: &G,
     sent: T,
@@ -148,17 +149,10 @@ fn run<
     requires sector { Keeps (S.may sector) (S.gives sector) SECTOR }
     requires written { Keeps (W.may written) (W.gives written) WRITTEN }
 {
-    let setup = Setup {
-        memory: memory(alloc, case.program)?,
-        drives: 1,
-        levels: [7; 3],
-        sense: 0x00,
-        reads: Reads::Logged,
-    };
     altairs_are_lawful();
     let workers = Workers {
-        primary: boot(alloc, &setup, Callbacks::of(sent, sector, written))?,
-        backup: boot(alloc, &setup, Callbacks::of(sent, sector, written))?,
+        primary: boot(alloc, setup, Callbacks::of(sent, sector, written))?,
+        backup: boot(alloc, setup, Callbacks::of(sent, sector, written))?,
         disk: unwritten_disk(alloc, case.fails)?,
         typed0: Vec::from_slice(alloc, case.typed)?,
         typed1: Vec::new(alloc),
@@ -200,16 +194,24 @@ fn outcome_of<T: Completes + Drop, S: Completes + Drop, W: Completes + Drop>(
     })
 }
 
-/// Runs a case with the plain completions.
+/// Runs a case on Altairs with one drive, with the plain completions.
 pub(super) fn run_case<G: Gate + Sync, H: Threads + Clock + Sync>(
     rt: &H,
     alloc: Global,
     case: &Case,
     gate: &G,
 ) -> R<Outcome> {
+    let setup = Setup {
+        memory: memory(alloc, case.program)?,
+        drives: 1,
+        levels: [7; 3],
+        sense: 0x00,
+        reads: Reads::Logged,
+    };
     let end = run(
         rt,
         alloc,
+        &setup,
         case,
         gate,
         plain_completions::sent,
