@@ -20,17 +20,11 @@ abbrev pub of_script : ScriptError → Failure
 of_script (script.BadScript line) = BadScript line
 of_script script.OutOfMemory = OutOfMemory
 
--- what may be wrong before anything is read, and what may be wrong with what is read
+-- what may be wrong before anything is read
 abbrev pub is_of_command_line : Failure → Bool
 is_of_command_line (CommandLine text) = true
 is_of_command_line OutOfMemory = true
 is_of_command_line _ = false
-
-abbrev pub is_of_input : Failure → Bool
-is_of_input (BadScript line) = true
-is_of_input OutOfMemory = true
-is_of_input InputOrOutput = true
-is_of_input _ = false
 
 -- the exit status of a failure; 2 if the command line is refused, or asks for help or the version. A run that ends well
 -- has 0.

@@ -23,6 +23,8 @@ pub enum Request {
     Live(LiveOrder),
     /// To answer lines as they come.
     Shell,
+    /// To print this text, which says what there is to ask for; it ends with a line end.
+    Help(String),
 }
 
 const EXAMPLE: &str = "\
@@ -30,7 +32,7 @@ The script comes from standard input: a setup, and then one event or query a lin
 Here the guest sends the byte 48 and halts, the backup acknowledges it, and the
 terminal of port 0 accepts it:
 
-pair script << END
+./pair script << END
 mem 0000 3E 03 D3 10 3E 15 D3 10 3E 48 D3 11 76
 step 0 10
 send 0 0
@@ -61,9 +63,22 @@ const TURNS: u64 = 1_000_000;
 pub fn request_of(alloc: Global, arguments: &[String]) -> Result<Request, Failure>
     ensures { IfErr result (λ e. is_of_command_line e ≡ true) }
 {
-    match parse(alloc, arguments) {
-        Ok(request) => Ok(request),
-        Err(error) => Err(refusal(alloc, &error)),
+    let error = match parse(alloc, arguments) {
+        Ok(request) => return Ok(request),
+        Err(error) => error,
+    };
+    if asks_for_help(arguments) && matches!(error.kind(), ErrorKind::DisplayHelp) {
+        let text = format!(in alloc; "{error}")?;
+        return Ok(Request::Help(text));
+    }
+    Err(refusal(alloc, &error))
+}
+
+// Whether the command is `help`, and not an option `--help`.
+fn asks_for_help(arguments: &[String]) -> bool {
+    match arguments {
+        [_, word, ..] => word.as_str() == "help",
+        _ => false,
     }
 }
 

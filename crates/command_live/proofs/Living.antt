@@ -15,7 +15,8 @@ use Rattle.command_ending.specs.Reports.{AddsLine}
 use Rattle.command_ending.specs.declared.failure.Failure.{Failure}
 use Rattle.command_ending.specs.declared.failure.Failure.TheVariants as failure
 use Rattle.command_ending.proofs.Handing.{settled_kept, settled_line}
-use Rattle.pair_threads.specs.Ending.{EndsBy}
+use Rattle.command_line.specs.declared.live_order.LiveOrder.{LiveOrder}
+use Rattle.pair_threads.specs.Ending.{EndsBy, WonBy}
 use Rattle.pair_threads.specs.Stores.{bytes_in}
 use Rattle.pair_threads.specs.declared.gate.Who.{Who}
 use Rattle.shared_disk.specs.Records.{IsAtBoot, boot_record, bytes_after}
@@ -24,27 +25,30 @@ use Rattle.script_language.specs.Scripts.{boot_write}
 use Rattle.script_language.specs.declared.line.Line.{Line}
 use Rattle.script_language.specs.declared.setup.ScriptSetup.{ScriptSetup}
 
-module _ (setup : ScriptSetup) (typed0 typed1 : List ℕ) where
+module _ (setup : ScriptSetup) (typed0 typed1 : List ℕ) (order : LiveOrder) where
   -- the end is printed, or it is not
   pub prints_end : (result : Result (Unit {0}) Failure) (old new : Option (List ℕ)) (first second : List ℕ) (winner : Option Who)
-      → EndsOf setup typed0 typed1 winner (first ∷ second ∷ []) → OnOk result (AddsLine (Some (end_text first second winner)) old new)
+      → WonBy order.primary_asks order.backup_asks winner → EndsOf setup typed0 typed1 winner (first ∷ second ∷ [])
+      → OnOk result (AddsLine (Some (end_text first second winner)) old new)
       → (result ≡ Err failure.OutOfMemory → Keeps old new)
       → IfErr result (λ e. (e ≡ failure.OutOfMemory) ⊎ (e ≡ failure.InputOrOutput))
-      → PrintsLive setup typed0 typed1 result old new
-  prints_end (Ok done) old new first second winner ends one kept why =
-      record { first = first; second = second; winner = winner; ends = ends; printed = one }
-  prints_end (Err e) old new first second winner ends one kept (inl is) =
+      → PrintsLive setup typed0 typed1 order result old new
+  prints_end (Ok done) old new first second winner won ends one kept why =
+      record { first = first; second = second; winner = winner; won = won; ends = ends; printed = one }
+  prints_end (Err e) old new first second winner won ends one kept (inl is) =
       subst (λ f. PrintsNone f old new) (sym is) (kept (ap (λ f. Err f) is))
-  prints_end (Err e) old new first second winner ends one kept (inr is) = subst (λ f. PrintsNone f old new) (sym is) tt
+  prints_end (Err e) old new first second winner won ends one kept (inr is) = subst (λ f. PrintsNone f old new) (sym is) tt
 
   -- if a report has no lines at first, and all that is handed in is then written, that is what the writer got
   pub settled_live : (a b c : Option (List ℕ)) (first rest : List ℕ) → first ≡ [] → Appends b c rest
-      → (result : Result (Unit {0}) Failure) → PrintsLive setup typed0 typed1 result (append_known a first) (append_known b rest)
-      → PrintsLive setup typed0 typed1 result a c
+      → (result : Result (Unit {0}) Failure)
+      → PrintsLive setup typed0 typed1 order result (append_known a first) (append_known b rest)
+      → PrintsLive setup typed0 typed1 order result a c
   settled_live a b c first rest none q (Ok done) h = record {
     first = h.first;
     second = h.second;
     winner = h.winner;
+    won = h.won;
     ends = h.ends;
     printed = settled_line a b c first rest none q (Some (end_text h.first h.second h.winner)) h.printed;
   }

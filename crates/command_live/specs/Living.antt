@@ -12,7 +12,8 @@ use Rattle.pair_events.specs.declared.event.Event.TheVariants.{TypeByte}
 use Rattle.command_ending.specs.Reports.{AddsLine}
 use Rattle.command_ending.specs.declared.failure.Failure.{Failure}
 use Rattle.command_ending.specs.declared.failure.Failure.TheVariants.{OutOfMemory, InputOrOutput, Stalled}
-use Rattle.pair_threads.specs.Ending.{EndsBy}
+use Rattle.command_line.specs.declared.live_order.LiveOrder.{LiveOrder}
+use Rattle.pair_threads.specs.Ending.{EndsBy, WonBy}
 use Rattle.pair_threads.specs.declared.gate.Who.{Who}
 use Rattle.pair_threads.specs.declared.gate.Who.TheVariants.{Primary}
 use Rattle.script_language.specs.Scripts.{boot_write}
@@ -63,11 +64,12 @@ pub record EndsOf (setup : ScriptSetup) (typed0 typed1 : List ℕ) (winner : Opt
   pub t : Guest
   pub ends : EndsBy (altair setup.guest sectors) typed0 typed1 winner primary backup held screens records s t
 
--- such an end is printed
-pub record PrintsEnd (setup : ScriptSetup) (typed0 typed1 : List ℕ) (old new : Option (List ℕ)) : Type 0 where
+-- such an end is printed; whoever goes on alone in it was to ask, and if nobody does, nobody was
+pub record PrintsEnd (setup : ScriptSetup) (typed0 typed1 : List ℕ) (order : LiveOrder) (old new : Option (List ℕ)) : Type 0 where
   pub first : List ℕ
   pub second : List ℕ
   pub winner : Option Who
+  pub won : WonBy order.primary_asks order.backup_asks winner
   pub ends : EndsOf setup typed0 typed1 winner (first ∷ second ∷ [])
   pub printed : AddsLine (Some (end_text first second winner)) old new
 
@@ -78,6 +80,7 @@ PrintsNone Stalled old new = Keeps old new
 PrintsNone InputOrOutput old new = Unit {0}
 PrintsNone failure old new = ⊥
 
-abbrev pub PrintsLive : ScriptSetup → List ℕ → List ℕ → Result (Unit {0}) Failure → Option (List ℕ) → Option (List ℕ) → Type 0
-PrintsLive setup typed0 typed1 result old new = MatchResult result (λ done. PrintsEnd setup typed0 typed1 old new)
-    (λ failure. PrintsNone failure old new)
+abbrev pub PrintsLive : ScriptSetup → List ℕ → List ℕ → LiveOrder → Result (Unit {0}) Failure → Option (List ℕ)
+    → Option (List ℕ) → Type 0
+PrintsLive setup typed0 typed1 order result old new = MatchResult result
+    (λ done. PrintsEnd setup typed0 typed1 order old new) (λ failure. PrintsNone failure old new)

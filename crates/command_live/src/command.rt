@@ -1,7 +1,7 @@
 //! A script of a pair on threads that is read, run, and told of.
-ghost use Rattle.std.specs.Prelude.{◌≡◌, IfErr, true};
-ghost use Rattle.command_ending.specs.Statuses.{is_of_input};
+ghost use Rattle.command_ending.specs.Inputs.{Reads};
 ghost use Rattle.command_live.specs.Living.{PrintsLive, typed_in};
+ghost use Rattle.script_language.specs.Live as live_meaning;
 
 use crate::live;
 use command_ending::{Failure, Report};
@@ -14,8 +14,9 @@ use std::thread::Threads;
 use std::time::Clock;
 
 /// The whole script of the reader, for a pair on threads.
+#[tactic(auto, using(command_ending::proofs::Inputs::reads_script, command_ending::proofs::Inputs::reads_no_script, command_ending::proofs::Inputs::reads_nothing))]
 pub fn live_script_of<R: Read + Drop>(alloc: Global, reader: &mut R) -> Result<Script, Failure>
-    ensures { IfErr result (λ e. is_of_input e ≡ true) }
+    ensures { Reads live_meaning.live_script_of (R.remaining reader.old) result }
 {
     let bytes = read_script(alloc, reader)?;
     let script = parse_live(alloc, &bytes)?;
@@ -31,7 +32,7 @@ pub fn run_live<H: Threads + Clock + Sync, W: Write + Drop>(
     script: &Script,
     writer: &mut W,
 ) -> Result<(), Failure>
-    ensures { PrintsLive script.now.setup (typed_in 0 script.now.lines.items) (typed_in 1 script.now.lines.items) result
+    ensures { PrintsLive script.now.setup (typed_in 0 script.now.lines.items) (typed_in 1 script.now.lines.items) order result
         (W.contents writer.old) (W.contents writer.new) }
 {
     let mut printed = Report::new(alloc);

@@ -6,6 +6,7 @@ ghost use Rattle.guest_board.specs.Guest.{guest_at_boot};
 ghost use Rattle.command_ending.specs.Reports.{handed};
 ghost use Rattle.command_live.specs.Living.{EndsOf, PrintsLive, end_text, typed_by, typed_in};
 ghost use Rattle.command_ending.specs.declared.failure.Failure.TheVariants as failure;
+ghost use Rattle.pair_threads.specs.Ending.{WonBy};
 
 use altair_laws::altairs_are_lawful;
 use command_ending::{Failure, Report};
@@ -82,7 +83,7 @@ pub fn run<
     requires sent { Keeps (T.may sent) (T.gives sent) SENT }
     requires sector { Keeps (S.may sector) (S.gives sector) SECTOR }
     requires written { Keeps (W.may written) (W.gives written) WRITTEN }
-    ensures { PrintsLive script.now.setup (typed_in 0 script.now.lines.items) (typed_in 1 script.now.lines.items) result
+    ensures { PrintsLive script.now.setup (typed_in 0 script.now.lines.items) (typed_in 1 script.now.lines.items) order result
         (handed (O.contents writer.old) report.old) (handed (O.contents writer.new) report.new) }
 {
     let end = match live(rt, alloc, order, script, sent, sector, written) {
@@ -126,8 +127,9 @@ fn live<
     requires sent { Keeps (T.may sent) (T.gives sent) SENT }
     requires sector { Keeps (S.may sector) (S.gives sector) SECTOR }
     requires written { Keeps (W.may written) (W.gives written) WRITTEN }
-    ensures { IfOk result (λ end. EndsOf script.now.setup (typed_in 0 script.now.lines.items)
+    ensures ends { IfOk result (λ end. EndsOf script.now.setup (typed_in 0 script.now.lines.items)
         (typed_in 1 script.now.lines.items) end.winner (map (λ v. v.items) end.accepted)) }
+    ensures won { IfOk result (λ end. WonBy order.primary_asks order.backup_asks end.winner) }
 {
     altairs_are_lawful();
     let setup = &script.setup;

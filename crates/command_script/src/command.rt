@@ -1,6 +1,6 @@
 //! A script that is read, run, and told of.
-ghost use Rattle.std.specs.Prelude.{◌≡◌, IfErr, true};
-ghost use Rattle.command_ending.specs.Statuses.{is_of_input};
+ghost use Rattle.command_ending.specs.Inputs.{Reads};
+ghost use Rattle.script_language.specs.Meaning as meaning;
 ghost use Rattle.command_script.specs.Printing.{Prints};
 
 use crate::order::Order;
@@ -12,8 +12,9 @@ use std::alloc::Global;
 use std::io::{Read, Write};
 
 /// The whole script of the reader.
+#[tactic(auto, using(command_ending::proofs::Inputs::reads_script, command_ending::proofs::Inputs::reads_no_script, command_ending::proofs::Inputs::reads_nothing))]
 pub fn script_of<R: Read + Drop>(alloc: Global, reader: &mut R) -> Result<Script, Failure>
-    ensures { IfErr result (λ e. is_of_input e ≡ true) }
+    ensures { Reads meaning.script_of (R.remaining reader.old) result }
 {
     let bytes = read_script(alloc, reader)?;
     let script = parse(alloc, &bytes)?;

@@ -1,10 +1,12 @@
 -- One run of the program: what it has read and printed, and how it ends.
-use Rattle.std.specs.Prelude.{◌≡◌, ℕ, Option, List, Result, Ok, Err}
+use Rattle.std.specs.Prelude.{◌≡◌, ◌⊎◌, ℕ, Option, List, Result, Ok, Err, string_bytes}
+use Rattle.std.specs.Io.KnownBytes.{Appends}
 use Rattle.std.specs.declared.borrow.CowStr.{CowStr}
 use Rattle.command_live.specs.Living.{PrintsLive, typed_in}
 use Rattle.command_script.specs.Drawing.{Draws}
 use Rattle.command_script.specs.Printing.{Prints}
 use Rattle.command_shell.specs.Sessions.{Answers}
+use Rattle.command_ending.specs.Inputs.{Meaning, Reads}
 use Rattle.command_ending.specs.Statuses.{EndsAs}
 use Rattle.command_ending.specs.declared.failure.Failure.{Failure}
 use Rattle.command_ending.specs.declared.failure.Failure.TheVariants.{CommandLine, BadScript}
@@ -12,40 +14,59 @@ use Rattle.command_ending.specs.declared.failure.Failure.TheVariants.{OutOfMemor
 use Rattle.command_line.specs.declared.options.Request.{Request}
 use Rattle.command_line.specs.declared.options.Request.TheVariants as request
 use Rattle.command_script.specs.declared.order.Order.TheVariants as order
-use Rattle.script_language.specs.declared.line.Line.{Line}
-use Rattle.script_language.specs.declared.setup.ScriptSetup.{ScriptSetup}
+use Rattle.script_language.specs.Live.{live_script_of}
+use Rattle.script_language.specs.Meaning.{script_of}
+use Rattle.script_language.specs.declared.script.Script.{Script}
 
--- what a command prints: the lines of a script are answered, or the pair at their end is compared, or what happens is drawn; a pair runs on threads, or lines are answered as they come
-abbrev pub Obeys : Request → Result (Unit {0}) Failure → Option (List ℕ) → Option (List ℕ) → Type 0
-Obeys request.Script result old new = (setup : ScriptSetup) × (lines : List Line) × Prints order.Script setup lines result old new
-Obeys request.Check result old new = (setup : ScriptSetup) × (lines : List Line) × Prints order.Check setup lines result old new
-Obeys request.Picture result old new = Draws result old new
-Obeys (request.Live how) result old new =
-    (setup : ScriptSetup) × (lines : List Line) × PrintsLive setup (typed_in 0 lines) (typed_in 1 lines) result old new
-Obeys request.Shell result old new = Answers result old new
+-- bytes are written, whole, or input or output fails, and nothing is claimed
+abbrev pub Writes : List ℕ → Result (Unit {0}) Failure → Option (List ℕ) → Option (List ℕ) → Type 0
+Writes bytes (Ok done) old new = Appends old new bytes
+Writes bytes (Err InputOrOutput) old new = Unit {0}
+Writes bytes (Err failure) old new = ⊥
+
+-- the script of what a reader had left
+pub record IsOfReader (meaning : Meaning) (remaining : Option (List ℕ)) (Obeyed : Script → Type 0) : Type 0 where
+  pub script : Script
+  pub read : Reads meaning remaining (Ok script)
+  pub obeyed : Obeyed script
+
+-- what a command prints: the lines of a script are answered, or the pair at their end is compared, or what happens is drawn; a
+-- pair runs on threads, lines are answered as they come, or it is said what there is to ask for
+abbrev pub Obeys : Request → Option (List ℕ) → Result (Unit {0}) Failure → Option (List ℕ) → Option (List ℕ) → Type 0
+Obeys request.Script remaining result old new =
+    IsOfReader script_of remaining (λ script. Prints order.Script script.setup script.lines.items result old new)
+Obeys request.Check remaining result old new =
+    IsOfReader script_of remaining (λ script. Prints order.Check script.setup script.lines.items result old new)
+Obeys request.Picture remaining result old new = IsOfReader script_of remaining (λ script. Draws result old new)
+Obeys (request.Live how) remaining result old new = IsOfReader live_script_of remaining (λ script.
+    PrintsLive script.setup (typed_in 0 script.lines.items) (typed_in 1 script.lines.items) how result old new)
+Obeys request.Shell remaining result old new = Answers result old new
+Obeys (request.Help text) remaining result old new = Writes (string_bytes text) result old new
 
 -- some command was obeyed
-pub record IsObeyed (result : Result (Unit {0}) Failure) (old new : Option (List ℕ)) : Type 0 where
+pub record IsObeyed (remaining : Option (List ℕ)) (result : Result (Unit {0}) Failure) (old new : Option (List ℕ)) : Type 0 where
   pub request : Request
-  pub obeys : Obeys request result old new
+  pub obeys : Obeys request remaining result old new
 
-module _ {R W : Type 0} (contents : W → Option (List ℕ)) (reader reader' : R) (writer writer' : W) where
-  -- what a failure leaves: a refused command line reads nothing, and a refused script prints nothing
+module _ {R W : Type 0} (remaining : R → Option (List ℕ)) (contents : W → Option (List ℕ)) (reader reader' : R)
+    (writer writer' : W) where
+  -- what a failure leaves: a refused command line reads nothing, and a script that is refused for a line that is bad prints nothing
   abbrev pub Leaves : Failure → Type 0
   Leaves (CommandLine text) = (reader' ≡ reader) × (writer' ≡ writer)
-  Leaves (BadScript line) = writer' ≡ writer
-  Leaves OutOfMemory = IsObeyed (Err OutOfMemory) (contents writer) (contents writer')
-  Leaves InputOrOutput = IsObeyed (Err InputOrOutput) (contents writer) (contents writer')
-  Leaves Stalled = IsObeyed (Err Stalled) (contents writer) (contents writer')
-  Leaves Differs = IsObeyed (Err Differs) (contents writer) (contents writer')
+  Leaves (BadScript line) = (writer' ≡ writer) × (Reads script_of (remaining reader) (Err (BadScript line))
+      ⊎ Reads live_script_of (remaining reader) (Err (BadScript line)))
+  Leaves OutOfMemory = IsObeyed (remaining reader) (Err OutOfMemory) (contents writer) (contents writer')
+  Leaves InputOrOutput = IsObeyed (remaining reader) (Err InputOrOutput) (contents writer) (contents writer')
+  Leaves Stalled = IsObeyed (remaining reader) (Err Stalled) (contents writer) (contents writer')
+  Leaves Differs = IsObeyed (remaining reader) (Err Differs) (contents writer) (contents writer')
 
   abbrev pub IsRun : Result (Unit {0}) Failure → Type 0
-  IsRun (Ok done) = IsObeyed (Ok done) (contents writer) (contents writer')
+  IsRun (Ok done) = IsObeyed (remaining reader) (Ok done) (contents writer) (contents writer')
   IsRun (Err failure) = Leaves failure
 
 -- some run ends with this status and this text
-pub record IsEnding {R W Z : Type 0} (contents : W → Option (List ℕ)) (reader reader' : R) (writer writer' : W)
-    (ending : ℕ × CowStr Z) : Type 0 where
+pub record IsEnding {R W Z : Type 0} (remaining : R → Option (List ℕ)) (contents : W → Option (List ℕ)) (reader reader' : R)
+    (writer writer' : W) (ending : ℕ × CowStr Z) : Type 0 where
   pub result : Result (Unit {0}) Failure
-  pub run : IsRun contents reader reader' writer writer' result
+  pub run : IsRun remaining contents reader reader' writer writer' result
   pub ends : EndsAs result ending

@@ -1,5 +1,6 @@
 //! One run of the program.
-ghost use Rattle.pair_program.specs.Runs.{IsEnding, IsRun};
+ghost use Rattle.std.specs.Prelude.{string_bytes};
+ghost use Rattle.pair_program.specs.Runs.{IsEnding, IsRun, Writes};
 
 use command_ending::Failure;
 use command_line::{Request, request_of};
@@ -22,7 +23,7 @@ pub fn run_program<H: Threads + Clock + Sync, R: Read + Drop, W: Write + Drop>(
     reader: &mut R,
     writer: &mut W,
 ) -> (u8, CowStr<'static>)
-    ensures { IsEnding W.contents reader.old reader.new writer.old writer.new result }
+    ensures { IsEnding R.remaining W.contents reader.old reader.new writer.old writer.new result }
 {
     match run(rt, alloc, arguments, reader, writer) {
         Ok(()) => (0, CowStr::Borrowed("")),
@@ -30,7 +31,7 @@ pub fn run_program<H: Threads + Clock + Sync, R: Read + Drop, W: Write + Drop>(
     }
 }
 
-#[tactic(auto, using(crate::proofs::Runs::refuses_words, crate::proofs::Runs::refuses_input, crate::proofs::Runs::is_picture, crate::proofs::Runs::is_live, crate::proofs::Runs::is_session))]
+#[tactic(auto, using(crate::proofs::Runs::refuses_words, crate::proofs::Runs::refuses_script, crate::proofs::Runs::refuses_live, crate::proofs::Runs::is_picture, crate::proofs::Runs::is_live, crate::proofs::Runs::is_session, crate::proofs::Runs::is_help))]
 fn run<H: Threads + Clock + Sync, R: Read + Drop, W: Write + Drop>(
     rt: &H,
     alloc: Global,
@@ -38,7 +39,7 @@ fn run<H: Threads + Clock + Sync, R: Read + Drop, W: Write + Drop>(
     reader: &mut R,
     writer: &mut W,
 ) -> Result<(), Failure>
-    ensures { IsRun W.contents reader.old reader.new writer.old writer.new result }
+    ensures { IsRun R.remaining W.contents reader.old reader.new writer.old writer.new result }
 {
     match request_of(alloc, arguments)? {
         Request::Script => run_order(alloc, Order::Script, reader, writer),
@@ -59,18 +60,28 @@ fn run<H: Threads + Clock + Sync, R: Read + Drop, W: Write + Drop>(
             plain_completions::sector,
             plain_completions::written,
         ),
+        Request::Help(text) => print_help(&text, writer),
     }
 }
 
+// Writes what there is to ask for.
+fn print_help<W: Write + Drop>(text: &String, writer: &mut W) -> Result<(), Failure>
+    ensures { Writes (string_bytes text.now) result (W.contents writer.old) (W.contents writer.new) }
+{
+    writer.write_all(text.as_bytes())?;
+    writer.flush()?;
+    Ok(())
+}
+
 // Reads a script, and does this with it.
-#[tactic(auto, using(crate::proofs::Runs::refuses_input, crate::proofs::Runs::is_run))]
+#[tactic(auto, using(crate::proofs::Runs::refuses_script, crate::proofs::Runs::is_run))]
 fn run_order<R: Read + Drop, W: Write + Drop>(
     alloc: Global,
     order: Order,
     reader: &mut R,
     writer: &mut W,
 ) -> Result<(), Failure>
-    ensures { IsRun W.contents reader.old reader.new writer.old writer.new result }
+    ensures { IsRun R.remaining W.contents reader.old reader.new writer.old writer.new result }
 {
     let script = script_of(alloc, reader)?;
     run_script(alloc, order, &script, writer)

@@ -128,9 +128,9 @@ fn output_fails_at_its_end_too(rt: HostRuntime) -> Result<(), Fail> {
 
 // Words after the program's name, and what the text about them says.
 static COMMAND_LINES: [(&[&str], &str); 12] = [
+    (&["help", "run"], "run"),
     (&[], "Usage: pair <COMMAND>"),
     (&["--help"], "Usage: pair <COMMAND>"),
-    (&["help"], "pair script << END"),
     (&["--version"], "pair 0.1.0"),
     (&["script", "--help"], "Runs a script"),
     (&["run"], "run"),
@@ -156,6 +156,24 @@ fn command_lines_are_refused_or_explained(rt: HostRuntime) -> Result<(), Fail> {
     Ok(())
 }
 
+// `help` prints on standard output, with a line end, what an option `--help` says on standard error.
+#[test]
+fn help_is_printed(rt: HostRuntime) -> Result<(), Fail> {
+    for (words, asked) in [
+        (["help"].as_slice(), ["--help"].as_slice()),
+        (["help", "live"].as_slice(), ["live", "--help"].as_slice()),
+    ] {
+        let mut reader: &[u8] = b"stop 0";
+        let mut printed = Vec::new(rt.alloc());
+        let (status, text) = run_on(&rt, words, &mut reader, &mut printed)?;
+        assert_eq!(rt; (status, text.as_str()), WELL);
+        let (_, said) = run_on(&rt, asked, &mut reader, &mut Vec::new(rt.alloc()))?;
+        let printed = String::from_utf8_lossy(rt.alloc(), &printed)?;
+        assert!(rt; printed.as_str().strip_suffix("\n") == Some(said.as_str()));
+    }
+    Ok(())
+}
+
 // The script in the help is taken as it is, from the line after its first to the one before its last.
 #[test]
 fn the_example_of_the_help_runs_as_it_is(rt: HostRuntime) -> Result<(), Fail> {
@@ -164,7 +182,7 @@ fn the_example_of_the_help_runs_as_it_is(rt: HostRuntime) -> Result<(), Fail> {
     let (_, text) = run_on(&rt, &["--help"], &mut reader, &mut printed)?;
     let (_, example) = text
         .as_str()
-        .split_once("\npair script << END\n")
+        .split_once("\n./pair script << END\n")
         .ok_or("no example")?;
     let (script, _) = example.split_once("\nEND\n").ok_or("no end")?;
     let output =

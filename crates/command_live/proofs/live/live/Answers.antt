@@ -12,8 +12,8 @@ pub run_generation-requires-clause-unwritten : goal.run_generation-requires-clau
 run_generation-requires-clause-unwritten g c κs within =
     subst (λ (records : List Record). IsUnwritten records) (sym c.new.ensures) c.in_ok-store.ensures.unwritten
 
-pub returns : goal.returns
-returns g c =
+pub returns-clause-ends : goal.returns-clause-ends
+returns-clause-ends g c =
     let setup = c.args.script.now.setup in
     let writes = c.in_ok-sectors.sectors.items in
     ends_of setup c.args.script.now.lines.items c.in_ok-primary.primary.guest writes c.new.result c.in_ok-typed0.typed0.items
