@@ -194,6 +194,31 @@ fn outcome_of<T: Completes + Drop, S: Completes + Drop, W: Completes + Drop>(
     })
 }
 
+// Runs a pair of Altairs of a setup, and tells what it has come to.
+fn come_out<
+    T: Completes + Drop + Copy + Send,
+    S: Completes + Drop + Copy + Send,
+    W: Completes + Drop + Copy + Send,
+    G: Gate + Sync,
+    H: Threads + Clock + Sync,
+>(
+    rt: &H,
+    alloc: Global,
+    setup: &Setup,
+    case: &Case,
+    gate: &G,
+    sent: T,
+    sector: S,
+    written: W,
+) -> R<Outcome>
+    requires sent { Keeps (T.may sent) (T.gives sent) SENT }
+    requires sector { Keeps (S.may sector) (S.gives sector) SECTOR }
+    requires written { Keeps (W.may written) (W.gives written) WRITTEN }
+{
+    let end = run(rt, alloc, setup, case, gate, sent, sector, written)?;
+    outcome_of(end)
+}
+
 /// Runs a case on Altairs with one drive, with the plain completions.
 pub(super) fn run_case<G: Gate + Sync, H: Threads + Clock + Sync>(
     rt: &H,
@@ -208,7 +233,7 @@ pub(super) fn run_case<G: Gate + Sync, H: Threads + Clock + Sync>(
         sense: 0x00,
         reads: Reads::Logged,
     };
-    let end = run(
+    come_out(
         rt,
         alloc,
         &setup,
@@ -217,6 +242,5 @@ pub(super) fn run_case<G: Gate + Sync, H: Threads + Clock + Sync>(
         plain_completions::sent,
         plain_completions::sector,
         plain_completions::written,
-    )?;
-    outcome_of(end)
+    )
 }
