@@ -1,5 +1,5 @@
--- What a follower waits for, and the bytes that come for it: its replayer's read is the node's, and so are the refusals of
--- bytes that are not wanted.
+-- What a follower waits for, and the bytes that arrive for it: its replayer's read is the node's, and so are the refusals
+-- of bytes that are not wanted.
 use Rattle.std.proofs.Common.{◌≡◌, ℕ, Bool, true, false, cond, not, ◌==◌, Option, Some, None, List, [], ◌∷◌, Result, Ok, Err, refl, sym, ap, subst, ◌∙◌}
 use Rattle.std.specs.Prelude.{OnOk, OnErr, is_none}
 use Rattle.disk_dcdd.specs.Address.{same_address}

@@ -1,4 +1,4 @@
--- A packet of the log comes to a backup. Its end of the channel tells whether the entry is the next one, and a backup
+-- A packet of the log arrives at a backup. Its end of the channel tells whether the entry is the next one, and a backup
 -- holds as many entries as its end has ever held.
 use Rattle.std.proofs.Common.{ℕ, Option, List, ◌≢◌, ◌<◌, ◌+◌, [], ◌∷◌, ◌++◌, length, Result, Ok, Err, refl, sym, ap, subst, ◌∙◌, arith, length-append, inl, inr}
 use Rattle.std.proofs.lemmas.Bool.Decides.{leb_tells}

@@ -1,5 +1,5 @@
--- What an assembly answers to a part that comes, and what the part leaves of it. A refusal and a repeat leave it as it
--- was, and so does a new part that is taken back; whatever comes, it is of the same generation, for as many drives.
+-- What an assembly answers to a part that arrives, and what the part leaves of it. A refusal and a repeat leave it as it
+-- was, and so does a new part that is taken back; it is always of the same generation, for as many drives.
 use Rattle.std.proofs.Common.{◌≡◌, ℕ, zero, suc, ◌<◌, Bool, true, false, cond, ◌==◌, ◌&&◌, Option, Some, None, is_none, List, [], ◌∷◌, length, Ok, Err, refl, sym, ap, ◌∙◌, arith}
 use Rattle.std.specs.Prelude.{slice_get, slice_index_or, slice_set}
 use Rattle.std.proofs.lemmas.Option.{none-some}

@@ -1,6 +1,6 @@
--- The bytes of a part come to a joining node. What the code answers and leaves is said in words of the part that they
--- spell, and then each lemma of `PartsThatCome` gives the call's answer: a refusal, a repeat, a new part, or the last one,
--- with which the guest is made, or which is taken back.
+-- The bytes of a part arrive at a joining node. What the code answers and leaves is said in words of the part that they
+-- spell, and then each lemma of `PartsThatCome` gives the call's answer: a refusal, a repeat, a new part, or the last
+-- one. With the last one the guest is made, or the part is taken back.
 use Rattle.std.proofs.Common.{◌≡◌, ℕ, ◌<◌, Bool, true, false, Option, Some, None, is_some, List, [], Result, Ok, Err, refl, sym, ap, subst, ◌∙◌}
 use Rattle.std.specs.Prelude.{OnErr}
 use Rattle.clone_state.specs.Assembly as table

@@ -1,5 +1,5 @@
--- How a node drains. Its moves are those of a replay, so while they leave entries the node goes on draining, and when
--- they leave none it is what an alone node is.
+-- How a node drains. Its moves are those of a replay. While they leave entries the node is still draining; when they
+-- leave none it is what an alone node is.
 use Rattle.std.proofs.Common.{◌≡◌, ◌≢◌, ℕ, true, false, Bool, cond, is_none, Option, List, length, Ok, Err, refl, sym, subst, ap, ◌∙◌}
 use Rattle.std.specs.Prelude.{◌==◌}
 use Rattle.std.proofs.lemmas.Bool.{eqb-true}

@@ -1,4 +1,4 @@
--- Where the last read of a log is, as entries come.
+-- Where the last read of a log is, as entries are added.
 use Rattle.std.proofs.Common.{◌≡◌, ℕ, zero, suc, ◌+◌, Bool, true, false, cond, List, [], ◌∷◌, ◌++◌, length, refl, sym, ap, ◌∙◌, arith}
 use Rattle.log_entry.specs.Entries.{is_read}
 use Rattle.log_entry.specs.declared.entry.Entry.{Entry}

@@ -1,5 +1,5 @@
--- A part comes to a joining node: a repeat, a new one, or the last one that was missing. With the last one the parts make
--- the guest, and the node is the backup; if they make none, the part is taken back.
+-- A part arrives at a joining node: a repeat, a new one, or the last one that was missing. With the last one the parts
+-- make the guest, and the node is the backup; if they make none, the part is taken back.
 use Rattle.std.proofs.Common.{◌≡◌, ℕ, ◌<◌, Bool, true, false, cond, not, ◌==◌, Option, Some, None, is_none, is_some, List, [], ◌∷◌, length, Result, Ok, Err, refl, sym, ap, subst, ◌∙◌, arith}
 use Rattle.std.specs.Prelude.{slice_get, slice_index_or, slice_set}
 use Rattle.std.proofs.lemmas.List.{length-set}

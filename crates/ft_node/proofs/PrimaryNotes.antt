@@ -1,5 +1,5 @@
--- What a coverage knows of a primary as its machine moves. A new operation has its note, one that goes no longer has
--- one, and every other is found and noted as before: so the notes are those of the protocol, and only outstanding
+-- What a coverage knows of a primary as its machine moves. A new operation has its note, one that is completed no longer
+-- has one, and every other is found and noted as before: so the notes are those of the protocol, and only outstanding
 -- operations, of which there are few, have notes.
 use Rattle.std.specs.Option.{option_map}
 use Rattle.std.proofs.Common.{◌≡◌, ◌≢◌, ℕ, zero, suc, ◌<◌, ◌≤◌, ◌⊎◌, inl, inr, ⊎_elim, Bool, true, false, cond, Option, Some, None, List, [], ◌∷◌, ◌++◌, length, take, get_or, length-append, refl, sym, ap, ◌∙◌, arith}

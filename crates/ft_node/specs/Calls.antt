@@ -1,5 +1,5 @@
--- What each call of a node returns and leaves, by the node of the protocol that it is before the call: the refusal of
--- the event's node part, or what its row says of the node.
+-- What each call of a node returns and leaves, from the node of the protocol before the call: the refusal of the event's
+-- node part, or what its row says of the node.
 use Rattle.std.specs.Prelude.{◌≡◌, ◌≢◌, ℕ, suc, ◌<◌, ◌^◌, Bool, true, Option, Some, None, is_none, List, [], ◌∷◌, length, replicate, slice_index_or, unwrap_or, ◌==◌, nat_le, if◌then◌else◌, Result, Ok, Err}
 use Rattle.std.specs.Global.{Vec}
 use Rattle.disk_dcdd.specs.declared.address.SectorAddress.{SectorAddress}
@@ -90,7 +90,7 @@ pub record Begins {S : Type 0} (M : Machine S) (role : Role) (generation : ℕ) 
   pub no_copy : x.copy ≡ []
   pub no_image : x.image ≡ None
 
--- a node that joins, to be given the copy of a machine that has made this many steps: no part came yet
+-- a node that joins, to be given the copy of a machine that has made this many steps: no part has arrived
 pub record Joins {S : Type 0} (C : Copying S) (generation count : ℕ) (reads : Reads) (x : Node S) : Type 0 where
   pub role_is : x.role ≡ Joining
   pub up : x.running ≡ true
@@ -149,11 +149,11 @@ Expects (Some (Log generation index e)) x result =
 Expects _ x result =
     Unless (refusals.first_of (refusals.role_refusal (Backup ∷ []) x ∷ Some Malformed ∷ [])) result (Unit {0}) ⊥
 
--- the next entry is held, or there is no memory, which is needed only if another entry is held and not replayed
+-- the next entry is held, or memory ran out, which is needed only if another entry is held and not replayed
 abbrev pub Holds : {S : Type 0} → Entry → Node S → Result (Unit {0}) Fault → (Node S → Type 0) → Type 0
 Holds e x result Is = Call None (λ x. x.replayed < length x.held) (λ done x y. y ≡ holds x e) x result Is
 
--- how many entries a backup's packet reports as replayed: it says so only if its log leaves sectors to the shared disk
+-- how many entries a backup's packet reports as replayed: only if its log leaves sectors to the shared disk
 abbrev pub reported_by : Reads → ℕ → Option ℕ
 reported_by Logged replayed = None
 reported_by Shared replayed = Some replayed
@@ -163,14 +163,14 @@ abbrev pub Acknowledges : {S : Type 0} → Node S → Result (Vec ℕ) Fault →
 Acknowledges x result =
     Ask (refusals.acknowledge_refusal x) Ever (λ bytes x. IsSpelled (Ack x.generation (length x.held) (reported_by x.reads x.replayed)) bytes) x result
 
--- an acknowledgement arrives; one that does not say so reports nothing as replayed
+-- an acknowledgement arrives; one without a report reports 0 as replayed
 abbrev pub DeliversAcknowledgement : {S : Type 0} → Option Packet → Node S → Result ℕ Fault → (Node S → Type 0) → Type 0
 DeliversAcknowledgement (Some (Ack generation held replayed)) x result Is =
     Call (refusals.deliver_acknowledgement_refusal generation held x) Never (Heard held (unwrap_or replayed 0)) x result Is
 DeliversAcknowledgement _ x result Is =
     Unless (refusals.first_of (refusals.role_refusal (Primary ∷ []) x ∷ Some Malformed ∷ [])) result (Is x) ⊥
 
--- moves of a backup, of what it holds
+-- moves of a backup, from the entries that it holds
 abbrev pub ReplayedBy : {S : Type 0} → Machine S → ℕ → replayer.Replayed → Node S → Node S → Type 0
 ReplayedBy M turns r x y = Replayed M turns r.moves r.why x y
 
@@ -210,7 +210,7 @@ Gets M sector x result = Ask (refusals.get_refusal M x) Never (IsUnder M sector)
 abbrev pub Stops : {S : Type 0} → Node S → Result (Unit {0}) Fault → (Node S → Type 0) → Type 0
 Stops x result Is = Call (refusals.stop_refusal x) Never (λ done. Halted) x result Is
 
--- a node asks for its generation: the first has won, a winner has won again, and any other is halted
+-- a node asks for its generation: the first has won, a winner that asks again has won, and any other is halted
 abbrev pub SuspectsOf : {S : Type 0} → Option ℕ → List Asking → ℕ → Node S → Result Won Fault → List Asking
     → (Node S → Type 0) → Type 0
 SuspectsOf None old n x (Ok won) new Is = (new ≡ after_asking old x.generation n) × Is (wins x)
@@ -274,7 +274,7 @@ reply_of came.New = event.New
 reply_of came.Old = event.Old
 reply_of came.Whole = event.Whole
 
--- all parts that came, with this one
+-- all parts that arrived, with this one
 abbrev pub parts_with : {S : Type 0} → PartMessage → Node S → Option (List (List ℕ))
 parts_with m x = gathered (gets_part x m.index m.payload).parts
 

@@ -7,7 +7,7 @@ use Rattle.log_entry.specs.declared.entry.Entry.{Entry}
 use Rattle.output_rule.specs.Covering.{Covering, after_note, after_forget}
 use Rattle.output_rule.specs.declared.notes.TheConstants.{PLACES}
 
--- an operation that was given has the note of its mark, and no other note under its name
+-- an operation that was given has the note of its mark, and its name has no other note
 abbrev pub noted : Covering → StopReason → ℕ → Covering
 noted c reason.Turns mark = c
 noted c (reason.Operation name) mark = after_note (after_forget c name) name mark

@@ -1,4 +1,4 @@
--- What the fields of a node in each role say of the node of the protocol that it is.
+-- What the fields of a node in each role say of its node of the protocol.
 use Rattle.std.specs.Option.{option_map}
 use Rattle.std.specs.Prelude.{◌≡◌, ℕ, ◌<◌, ◌≤◌, true, false, Option, Some, None, All, List, [], length, drop, slice_index}
 use Rattle.ft_node.specs.Kept.{ImageParts}
@@ -55,8 +55,8 @@ abbrev pub HasImage : {S : Type 0} → Copying S → ℕ → Option ImageParts �
 HasImage C generation None image = image ≡ None
 HasImage C generation (Some kept) image = IsImageOf C generation kept image
 
--- a primary that logs its sectors so, with this guest, this log, its end of the channel and its coverage, of whose image this is known; the log
--- keeps the entries that are not acknowledged
+-- a primary with this guest, this log, its end of the channel and its coverage, whose log carries sectors as `reads`
+-- says, and of whose image `Keeps` holds; the log keeps the entries that are not acknowledged
 pub record IsPrimary {S : Type 0} (M : Machine S) (Keeps : Option S → Type 0) (reads : Reads) (s : S) (l : Log)
     (sending : Sending) (c : Covering) (x : Node S) : Type 0 where
   pub role : x.role ≡ Primary
@@ -72,8 +72,8 @@ pub record IsPrimary {S : Type 0} (M : Machine S) (Keeps : Option S → Type 0) 
   pub covers : Covers M c x
   pub image : Keeps x.image
 
--- a backup or a draining node, whose log carries its sectors so, with this guest, the bytes that have come for its next
--- entry, and its end of the channel; what it has not replayed is still held
+-- a backup or a draining node with this guest, the bytes that have arrived for its next entry, and its end of the
+-- channel; its log carries sectors as `reads` says, and what it has not replayed is still held
 pub record IsFollower {S : Type 0} (role : Role) (reads : Reads) (s : S) (fetched : Option (List ℕ)) (r : Receiving)
     (x : Node S) : Type 0 where
   pub role_is : x.role ≡ role
@@ -86,7 +86,7 @@ pub record IsFollower {S : Type 0} (role : Role) (reads : Reads) (s : S) (fetche
   pub left : r.entries ≡ drop x.replayed x.held
   pub within : x.replayed ≤ length x.held
 
--- an alone node with this guest, whose next generation logs its sectors so
+-- an alone node with this guest, whose next generation's log carries sectors as `reads` says
 pub record IsAlone {S : Type 0} (reads : Reads) (s : S) (generation : ℕ) (x : Node S) : Type 0 where
   pub role : x.role ≡ Alone
   pub up : x.running ≡ true
@@ -94,7 +94,7 @@ pub record IsAlone {S : Type 0} (reads : Reads) (s : S) (generation : ℕ) (x : 
   pub reads_are : x.reads ≡ reads
   pub machine : x.machine ≡ s
 
--- a joining node, with the parts that came of an image for this many drives; it holds nothing yet
+-- a joining node, with the parts that arrived of an image for this many drives; it holds nothing yet
 pub record IsJoining {S : Type 0} (C : Copying S) (drives : ℕ) (j : Joined) (x : Node S) : Type 0 where
   pub role : x.role ≡ Joining
   pub up : x.running ≡ true

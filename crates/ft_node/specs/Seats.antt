@@ -26,7 +26,7 @@ use Rattle.ft_node.specs.declared.node.Node.TheVariants as seat
 use Rattle.pair_events.specs.declared.reply.Role as shown
 use Rattle.pair_events.specs.declared.reply.Role.TheVariants as role
 
--- the node of the protocol that a node is, if machines are copied so and have this many drives
+-- the node of the protocol that a node is, for this copying of its machine and this many drives
 abbrev pub IsNode : {B S : Type 0} {H : Type 0} → (B → S) → Machine S → Copying S → ℕ → code.Node B H → Node S → Type 0
 IsNode state M C drives (seat.Primary p) x =
     IsPrimary M (HasImage C p.sender.generation p.image) p.recorder.reads (state p.recorder.board) p.recorder.log p.sender
@@ -96,8 +96,8 @@ MayHold (seat.Draining d) e = ⊥
 MayHold (seat.Alone a) e = ⊥
 MayHold (seat.Halted h) e = ⊥
 
--- a primary's coverage has room for the note of each operation, wherever the guest goes: few operations are
--- outstanding, and no others have notes
+-- a primary's coverage has room for the note of each operation, wherever the guest goes: few operations are outstanding,
+-- and only those have notes
 abbrev pub MayRun : {B S : Type 0} {H : Type 0} → (B → S) → Machine S → code.Node B H → Type 0
 MayRun state M (seat.Primary p) =
     IsFrugal M (state p.recorder.board) × AreOfOutstanding M (state p.recorder.board) p.coverage
@@ -134,7 +134,7 @@ MayFetch state M (seat.Halted h) read = Unit {0}
 -- ---- what a node becomes
 
 -- what a joining node becomes with the last part: a backup of this generation with the guest that the parts make, which
--- holds nothing yet; if none is made, it is as it was without the part
+-- holds nothing yet; if they make none, it is as it was without the part
 abbrev pub Becomes : {B H : Type 0} → (B → Guest) → List ℕ → Joined → Result PartCame Fault → code.Node B H → Type 0
 Becomes copied bytes j (Ok part) (seat.Backup b) =
     (part ≡ came.Whole) × (machine_in j.gathering ≡ Some (copied b.replayer.board))

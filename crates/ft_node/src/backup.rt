@@ -51,7 +51,7 @@ impl<B: Lockstep> Backup<B> {
         self.receiver.hold(entry)
     }
 
-    /// The packet that acknowledges all that is held, and with shared reads says how much of it is replayed.
+    /// The packet that acknowledges all that is held, and with shared reads reports how much of it is replayed.
     pub(crate) fn ack(&self, alloc: Global) -> R<Vec<u8>>
         ensures { (x : protocol.Node B.State)
             → IsFollower protocol.Backup self.now.reads (B.state self.now.replayer.board) self.now.replayer.fetched

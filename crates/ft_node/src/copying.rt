@@ -30,8 +30,8 @@ use std::alloc::Global;
 use std::mem;
 
 impl<B: Copies<H> + Drop, H: Drop> Node<B, H> {
-    /// The generation that an alone node may begin, for a machine with its drives, and with a log that carries sectors as the
-    /// log of its own generation does. `Spent` if that of the node is the greatest.
+    /// The generation that an alone node may begin, for a machine with its drives, and with a log that carries sectors as
+    /// its own does. `Spent` if that of the node is the greatest.
     pub fn next_generation(&self) -> R<NextGeneration>
         ensures answer { (C : Copying B.State) (drives : ℕ) (x : protocol.Node B.State)
             → CopiesAs B.state B.copied drives C.parts C.part_count C.assemble
@@ -72,7 +72,7 @@ impl<B: Copies<H> + Drop, H: Drop> Node<B, H> {
     }
 
     /// Copies the lowest stale pages of an alone node's machine, `pages` at most, for the image with which it may begin
-    /// the next generation. Returns how many are stale then. `OutOfMemory` if the allocator refuses.
+    /// the next generation. Returns how many are still stale. `OutOfMemory` if the allocator refuses.
     pub fn freshen(&mut self, alloc: Global, pages: u64) -> R<u64>
         ensures answer { (C : Copying B.State) (drives : ℕ) (x : protocol.Node B.State)
             → IsNode B.state B.machine C drives self.old x
@@ -100,7 +100,7 @@ impl<B: Copies<H> + Drop, H: Drop> Node<B, H> {
 
     /// A joining node takes the message of a part; with the last one that was missing it is the backup. `Malformed` if
     /// the bytes spell no part, otherwise `WrongGeneration` if they spell one of another generation. With the last part
-    /// also `Malformed` if the parts fit no machine together, which those of one image do, or `OutOfMemory`.
+    /// also `OutOfMemory`, or `Malformed` if the parts together make no machine; those of one image do make one.
     pub fn part(&mut self, alloc: Global, bytes: &[u8]) -> R<PartCame>
         ensures answer { (C : Copying B.State) (drives : ℕ) (x : protocol.Node B.State)
             → CopiesAs B.state B.copied drives C.parts C.part_count C.assemble
@@ -140,7 +140,7 @@ fn next_of(generation: u32, drives: u8, reads: Reads) -> R<NextGeneration>
     })
 }
 
-// An alone node copies pages of its machine early. How many are stale then.
+// An alone node copies pages of its machine early. Returns how many are still stale.
 fn freshened<B: Copies<H> + Drop, H: Drop>(
     alone: &mut Alone<B>,
     alloc: Global,
@@ -155,7 +155,7 @@ fn freshened<B: Copies<H> + Drop, H: Drop>(
     alone.board.freshen(alloc, pages)
 }
 
-// The node that an alone node is once it has begun the next generation; if it can't, it stays alone.
+// The node that an alone node becomes when it begins the next generation; if it can't, it stays alone.
 fn begun<B: Copies<H> + Drop, H: Drop>(alloc: Global, mut alone: Alone<B>) -> (R<u32>, Node<B, H>)
     ensures answer { (C : Copying B.State) (drives : ℕ) (x : protocol.Node B.State)
         → CopiesAs B.state B.copied drives C.parts C.part_count C.assemble
@@ -199,7 +199,7 @@ fn log_and_image<B: Copies<H> + Drop, H: Drop>(
     Ok((log, image))
 }
 
-// The node that a joining node is once a part has come.
+// The node that a joining node becomes when a part arrives.
 fn with_part<B: Copies<H> + Drop, H: Drop>(
     mut joining: Joining<H>,
     alloc: Global,

@@ -13,8 +13,8 @@ use i8080_words::{Fault, R};
 use shared_disk::SectorRead;
 
 impl<B: Copies<H> + Drop, H: Drop> Node<B, H> {
-    /// The sector for whose bytes a backup or a draining node waits, which is to be read from the shared disk (VMware FT,
-    /// section 4.2). `NotDue` if it waits for none.
+    /// The sector for whose bytes a backup or a draining node waits, to be read from the shared disk (VMware FT, section
+    /// 4.2). `NotDue` if it waits for none.
     pub fn wanted(&self) -> R<SectorAddress>
         ensures { (C : Copying B.State) (drives : ℕ) (x : protocol.Node B.State) → IsNode B.state B.machine C drives self.now x
             → calls.Wanted B.machine x result }

@@ -1,7 +1,7 @@
 //! A halted node.
 ghost use Rattle.std.specs.Prelude.{◌<◌};
 
-/// A node that does nothing more, with the count at which it halted.
+/// A halted node, with the count at which it halted.
 #[derive(Clone, Copy)]
 pub struct Halted {
     pub(crate) generation: u32,

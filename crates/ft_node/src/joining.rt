@@ -15,8 +15,8 @@ use replayer::Replayer;
 use std::alloc::Global;
 use std::marker::Model;
 
-/// The parts that came of a machine's image, the stored closures that the machine will have here, how many steps it had
-/// made when its image was made, and how the log of its generation carries sectors.
+/// The parts of a machine's image that arrived, the stored closures that the machine will have here, how many steps it
+/// had made when its image was made, and how the log of its generation carries sectors.
 #[derive(Drop)]
 pub struct Joining<H> {
     assembly: Assembly,
@@ -67,14 +67,14 @@ impl<H: Drop> Joining<H> {
         self.generation
     }
 
-    /// How many steps the machine had made that is copied.
+    /// How many steps the machine that is copied had made.
     pub(crate) fn count(&self) -> u64
         ensures { result ≡ self.now.count }
     {
         self.count
     }
 
-    /// A part comes: whether it is new. A repeat and a refusal change nothing.
+    /// A part arrives; returns whether it is new. A repeat and a refusal change nothing.
     pub(crate) fn gather(&mut self, bytes: &[u8]) -> R<bool>
         ensures answer { result ≡ part_answer self.old.gathering bytes.now }
         ensures after { self.new ≡ record self.old { gathering = after_part self.old.gathering bytes.now } }
@@ -82,14 +82,15 @@ impl<H: Drop> Joining<H> {
         self.assembly.part(bytes)
     }
 
-    /// Whether every part came.
+    /// Whether every part has arrived.
     pub(crate) fn is_whole(&self) -> bool
         ensures { result ≡ is_whole self.now.gathering }
     {
         self.assembly.whole().is_ok()
     }
 
-    /// The backup that a node is with the last part, which the bytes spell. If no machine is made, the part is taken back.
+    /// The backup that the node becomes with the last part, which the bytes spell. If no machine is made, the part is
+    /// taken back.
     pub(crate) fn become_backup<B: Copies<H> + Drop>(
         self,
         alloc: Global,

@@ -39,7 +39,7 @@ impl KeptImage {
         KeptImage { image: Some(image) }
     }
 
-    /// Lets it go.
+    /// Drops it.
     pub(crate) fn forget(&mut self)
         ensures { self.new ≡ None }
     {
@@ -57,7 +57,7 @@ impl KeptImage {
     }
 }
 
-// The bytes of a part of an image, of which it has fewer than an index has numbers.
+// A part of an image, in the bytes of its message. An image has fewer parts than an index has numbers.
 #[tactic(auto, using(crate::proofs::KeptParts::no_part))]
 fn part_of_image(image: &Image, alloc: Global, index: u64) -> R<Vec<u8>>
     ensures { Spells (part_of (Some (image_of image.now)) index) result }

@@ -43,7 +43,7 @@ pub enum Node<B, H> {
 }
 
 impl<B: Copies<H> + Drop, H: Drop> Node<B, H> {
-    /// The primary of a generation, with a log that is still empty and carries its sectors so.
+    /// The primary of a generation, with an empty log; `reads` says whether that log carries sector bytes.
     pub fn primary(board: B, log: LogBuffer, generation: u32, reads: Reads) -> Node<B, H>
         requires generation { 0 < generation }
         requires unused { log ≡ logs.log 0 [] }
@@ -66,7 +66,7 @@ impl<B: Copies<H> + Drop, H: Drop> Node<B, H> {
         })
     }
 
-    /// A node that joins in a generation, to be given the copy of a machine that has made `count` steps. No part came yet.
+    /// A node that joins in a generation, to be given the copy of a machine that has made `count` steps. No part has arrived.
     pub fn joining(
         assembly: Assembly,
         callbacks: H,
@@ -84,7 +84,7 @@ impl<B: Copies<H> + Drop, H: Drop> Node<B, H> {
     }
 
     /// Makes at most `turns` steps of a primary's or an alone node's machine, up to the first that gives an operation.
-    /// `LogFull`, `Spent`, `Idle` and `OutOfMemory` come only if no step is made.
+    /// `LogFull`, `Spent`, `Idle` and `OutOfMemory` are returned only if no step is made.
     pub fn step(&mut self, turns: u64) -> R<Ran>
         requires few { MayRun B.state B.machine self.old }
         ensures answer { (C : Copying B.State) (drives : ℕ) (x : protocol.Node B.State) → IsNode B.state B.machine C drives self.old x
@@ -125,8 +125,8 @@ impl<B: Copies<H> + Drop, H: Drop> Node<B, H> {
         }
     }
 
-    /// How many steps the machine has made; for a halted node, how many it had made, and for a joining node, how many
-    /// the machine had made that is copied.
+    /// How many steps the machine has made; for a halted node, how many it had made, and for a joining node, how many the
+    /// machine that is copied had made.
     pub fn count(&self) -> u64
         ensures { (C : Copying B.State) (drives : ℕ) (x : protocol.Node B.State) → IsNode B.state B.machine C drives self.now x
             → count_of B.machine x x.role ≡ result }
@@ -168,7 +168,7 @@ impl<B: Copies<H> + Drop, H: Drop> Node<B, H> {
         }
     }
 
-    // It does nothing more.
+    // Halts the node.
     pub(crate) fn halt(&mut self)
         ensures { (C : Copying B.State) (drives : ℕ) (x : protocol.Node B.State) → IsNode B.state B.machine C drives self.old x
             → IsNode B.state B.machine C drives self.new (halts x) }

@@ -1,4 +1,4 @@
-//! The packets of the log, and what a node does by them: it replays, releases and tells.
+//! The packets of the log, and what a node does with them: it replays, releases and tells its terminals.
 ghost use Rattle.std.specs.Prelude.{◌≡◌, ◌<◌, ℕ, IfOk, IfSome, OnErr};
 ghost use Rattle.event_callbacks.specs.declared.devices.TheConstants.{PORTS};
 ghost use Rattle.log_channel.specs.Packet.{packet_at};
@@ -16,7 +16,7 @@ use replayer::Replayed;
 use std::alloc::Global;
 
 impl<B: Copies<H> + Drop, H: Drop> Node<B, H> {
-    /// The packet of a primary's log entry at an index. `Unknown` if the entry is acknowledged or not there yet, and at
+    /// The packet of a primary's log entry at an index. `Unknown` if the entry is acknowledged or not yet logged, and at
     /// every other node.
     pub fn packet(&self, alloc: Global, index: u64) -> R<Vec<u8>>
         ensures { (C : Copying B.State) (drives : ℕ) (x : protocol.Node B.State) → IsNode B.state B.machine C drives self.now x → calls.Sends index x result }
@@ -27,8 +27,8 @@ impl<B: Copies<H> + Drop, H: Drop> Node<B, H> {
         }
     }
 
-    /// The entry that a packet of the log brings; `None` if the packet is a repeat or past a gap. `Malformed` and
-    /// `WrongGeneration` as the packet is.
+    /// The entry that a packet of the log brings; `None` if the packet is a repeat or past a gap. `Malformed` if the
+    /// bytes spell no entry, `WrongGeneration` if they are of another generation.
     pub fn next_entry(&self, bytes: &[u8]) -> R<Option<Entry>>
         ensures answer { (C : Copying B.State) (drives : ℕ) (x : protocol.Node B.State) → IsNode B.state B.machine C drives self.now x
             → calls.Expects (packet_at bytes.now) x result }
@@ -67,7 +67,7 @@ impl<B: Copies<H> + Drop, H: Drop> Node<B, H> {
         Ok(true)
     }
 
-    /// The packet by which a backup acknowledges all that it holds, and with shared reads says how much of it is replayed.
+    /// The packet by which a backup acknowledges all that it holds; with shared reads it reports how much of it is replayed.
     pub fn ack(&self, alloc: Global) -> R<Vec<u8>>
         ensures { (C : Copying B.State) (drives : ℕ) (x : protocol.Node B.State) → IsNode B.state B.machine C drives self.now x → calls.Acknowledges x result }
     {
@@ -77,8 +77,8 @@ impl<B: Copies<H> + Drop, H: Drop> Node<B, H> {
         }
     }
 
-    /// Takes an acknowledgement, with or without the number of replayed entries, and returns how many entries are acknowledged then. `BadAck` if it is of more entries
-    /// than the log has.
+    /// Takes an acknowledgement, with or without the number of replayed entries, and returns how many entries are
+    /// acknowledged then. `BadAck` if it is of more entries than the log has.
     pub fn on_ack(&mut self, bytes: &[u8]) -> R<u64>
         ensures answer { (C : Copying B.State) (drives : ℕ) (x : protocol.Node B.State) → IsNode B.state B.machine C drives self.old x
             → calls.DeliversAcknowledgement (packet_at bytes.now) x result (IsNode B.state B.machine C drives self.new) }
@@ -90,7 +90,7 @@ impl<B: Copies<H> + Drop, H: Drop> Node<B, H> {
         }
     }
 
-    /// Makes at most `turns` moves of what a backup holds. `OutOfMemory` comes only if no move is made.
+    /// Makes at most `turns` moves from the entries that a backup holds. `OutOfMemory` is returned only if no move is made.
     pub fn replay(&mut self, turns: u64) -> R<Replayed>
         requires on_trace { MayReplay B.state B.machine self.old }
         ensures answer { (C : Copying B.State) (drives : ℕ) (x : protocol.Node B.State) → IsNode B.state B.machine C drives self.old x

@@ -37,15 +37,15 @@ pub struct Primary<B> {
     pub(crate) sender: Sender,
     pub(crate) coverage: Coverage,
     pub(crate) image: KeptImage,
-    // The log keeps what is not acknowledged, and all three know how much is acknowledged.
+    // The log keeps what is not acknowledged; recorder, sender and coverage agree on how much is acknowledged.
     ghost first: { recorder.log.first ≡ sender.held },
     ghost acknowledged: { coverage.acknowledged ≡ sender.held },
     ghost within: { sender.held ≤ next_of recorder.log },
 }
 
 impl<B: Lockstep + Drop> Primary<B> {
-    /// The primary of a generation that begins, with a log that is still empty: what is outstanding is covered, and this
-    /// many keys of each port.
+    /// The primary of a generation that begins, with an empty log: what is outstanding is covered, and this many keys of
+    /// each port.
     pub(crate) fn begin(
         board: B,
         log: LogBuffer,
@@ -117,7 +117,7 @@ impl<B: Lockstep + Drop> Primary<B> {
         }
     }
 
-    /// The packet of the entry at an index; `Unknown` if it is acknowledged or not there yet.
+    /// The packet of the entry at an index; `Unknown` if it is acknowledged or not yet logged.
     pub(crate) fn packet(&self, alloc: Global, index: u64) -> R<Vec<u8>>
         ensures { (C : Copying B.State) (x : Node B.State)
             → IsPrimary B.machine (HasImage C self.now.sender.generation self.now.image) self.now.recorder.reads (B.state self.now.recorder.board) self.now.recorder.log self.now.sender
@@ -171,7 +171,7 @@ impl<B: Lockstep + Drop> Primary<B> {
         self.coverage.told(port)
     }
 
-    /// The message of a part of its image; `Unknown` if it keeps none, or that has no such part.
+    /// The message of a part of its image; `Unknown` if it keeps no image, or the image has no such part.
     pub(crate) fn part(&self, alloc: Global, index: u64) -> R<Vec<u8>>
         ensures { (C : Copying B.State) (x : Node B.State)
             → IsPrimary B.machine (HasImage C self.now.sender.generation self.now.image) self.now.recorder.reads (B.state self.now.recorder.board)
@@ -205,7 +205,7 @@ fn completed_by<B: Lockstep>(board: &B, input: &Input) -> Option<OpId>
     }
 }
 
-// A read that was logged is the last one from now on, at this index.
+// Notes that a read that was logged at this index is the last one.
 fn note_read(coverage: &mut Coverage, is_read: bool, index: u64)
     requires { index < GREATEST_NUMBER }
     ensures { coverage.new ≡ noting.with_read coverage.old is_read index }
@@ -215,7 +215,7 @@ fn note_read(coverage: &mut Coverage, is_read: bool, index: u64)
     }
 }
 
-// An operation that a guest gave waits for its mark from now on, which has this index.
+// Notes that an operation that a guest gave waits for its mark, which has this index.
 fn note(coverage: &mut Coverage, reason: StopReason, mark: u64)
     requires place { noting.HasPlace coverage.old reason }
     ensures { coverage.new ≡ noting.noted coverage.old reason mark }

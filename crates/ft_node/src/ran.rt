@@ -1,4 +1,4 @@
-//! How far a node got and why no further, what it may begin, and what a part was to it.
+//! How many moves a node made and why no more, what it may begin, and what a part was to it.
 
 use guest_lockstep::{Reads, ReplayEnd, StopReason};
 

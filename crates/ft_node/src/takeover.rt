@@ -20,9 +20,9 @@ use i8080_words::{Fault, R};
 use std::mem;
 
 impl<B: Copies<H> + Drop, H: Drop> Node<B, H> {
-    /// Asks the arbiter for the generation: the first node to ask goes on alone, a backup once it is drained. `Lost` if
-    /// the other node has asked before; this one is then halted. `NotWhole` at a joining node, which may not ask.
-    /// `OutOfMemory` if the arbiter has no room.
+    /// Asks the arbiter for the generation: the first node to ask has won, and is alone, or drains first if it was a
+    /// backup. `Lost` if the other node has asked before; this one is then halted. `NotWhole` at a joining node, which
+    /// may not ask. `OutOfMemory` if the arbiter has no room.
     pub fn suspect(&mut self, id: u64, arbiter: &mut Arbiter) -> R<Won>
         ensures answer { (C : Copying B.State) (drives : ℕ) (x : protocol.Node B.State) → IsNode B.state B.machine C drives self.old x
             → calls.Suspects arbiter.old id x result arbiter.new (IsNode B.state B.machine C drives self.new) }
@@ -52,8 +52,8 @@ impl<B: Copies<H> + Drop, H: Drop> Node<B, H> {
         }
     }
 
-    /// Makes at most `turns` moves of what a node that won still holds; with nothing left the node is alone.
-    /// `OutOfMemory` comes only if no move is made.
+    /// Makes at most `turns` moves from the entries that a node that won still holds; with nothing left the node is
+    /// alone. `OutOfMemory` is returned only if no move is made.
     pub fn drain(&mut self, turns: u64) -> R<Drained>
         requires on_trace { MayReplay B.state B.machine self.old }
         ensures answer { (C : Copying B.State) (drives : ℕ) (x : protocol.Node B.State) → IsNode B.state B.machine C drives self.old x
@@ -73,7 +73,7 @@ impl<B: Copies<H> + Drop, H: Drop> Node<B, H> {
         })
     }
 
-    // The winner of the test-and-set goes on: a primary is alone, a backup drains.
+    // The node has won: a primary is alone, a backup drains.
     fn win(&mut self)
         ensures { (C : Copying B.State) (drives : ℕ) (x : protocol.Node B.State) → x.running ≡ true → IsNode B.state B.machine C drives self.old x
             → IsNode B.state B.machine C drives self.new (wins x) }

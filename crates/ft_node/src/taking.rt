@@ -80,8 +80,8 @@ impl<B: Copies<H> + Drop, H: Drop> Node<B, H> {
         }
     }
 
-    /// Takes the key that was typed at an index, from 0. `WrongNumber` if it is not the next one; `LogFull` and `Spent`
-    /// as the log and the number of keys say.
+    /// Takes the key that was typed at an index, from 0. `WrongNumber` if it is not the next one; `LogFull` if the log
+    /// has no room, `Spent` if no number is left for an entry or a key.
     pub fn key(&mut self, port: u8, index: u64, byte: u8) -> R<()>
         requires port { port < PORTS }
         ensures answer { (C : Copying B.State) (drives : ℕ) (x : protocol.Node B.State) → IsNode B.state B.machine C drives self.old x
@@ -120,7 +120,7 @@ impl<B: Copies<H> + Drop, H: Drop> Node<B, H> {
         Ok(())
     }
 
-    /// The sector with a number at the selected drive, at its head's track. `NotDue` if no drive is selected.
+    /// The sector with a number on the track under the head of the selected drive. `NotDue` if no drive is selected.
     pub fn place(&self, sector: u8) -> R<SectorAddress>
         requires { sector < SECTORS }
         ensures { (C : Copying B.State) (drives : ℕ) (x : protocol.Node B.State) → IsNode B.state B.machine C drives self.now x
@@ -132,7 +132,7 @@ impl<B: Copies<H> + Drop, H: Drop> Node<B, H> {
     }
 
     /// Takes a sector that was read, with the number of the write that brought its bytes. `NotDue` if the head is
-    /// elsewhere by now, `SectorBusy` if a write of the sector is outstanding, `StaleRead` if it was read too early.
+    /// elsewhere by now, `SectorBusy` if a write of the sector is outstanding, `StaleRead` if a later write is done.
     pub fn under(&mut self, address: SectorAddress, number: u64, bytes: [u8; SECTOR_BYTES]) -> R<()>
         requires drive { address.drive < DRIVES }
         requires sector { address.sector < SECTORS }

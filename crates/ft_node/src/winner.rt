@@ -13,8 +13,8 @@ use i8080_words::{Fault, R};
 use replayer::Replayed;
 use shared_disk::SectorRead;
 
-/// A guest that replays all that its node holds, and is then alone (VMware FT, section 2.3, "go live"); how its log
-/// carries sectors is how the next generation's log will.
+/// A guest that replays all that its node holds, and is then alone (VMware FT, section 2.3, "go live"); the next
+/// generation's log will carry sectors as its own does.
 #[derive(Drop)]
 pub struct Winner<B> {
     pub(crate) draining: Draining<B>,
@@ -22,7 +22,7 @@ pub struct Winner<B> {
 }
 
 impl<B: Lockstep> Winner<B> {
-    /// Makes at most `turns` moves of what is held.
+    /// Makes at most `turns` moves from the entries that are held.
     pub(crate) fn drain(&mut self, turns: u64) -> R<Replayed>
         requires on_trace { IsOnTrace B.machine (B.state self.old.draining.replayer.board)
             self.old.draining.receiver.entries self.old.draining.replayer.fetched }

@@ -1,7 +1,7 @@
--- A node that replays reads the shared disk. It waits for the sector of its next entry, a read at its machine's count; the
--- run that it follows takes that sector there, so it was ready at the selected drive, and is a sector of the disk. If what
--- comes in answer has the number of the read, its bytes are those that the run takes, as in every world that actions
--- reach; so they may be kept.
+-- A node that replays reads the shared disk. It waits for the sector of its next entry, a read at its machine's count;
+-- the run that it follows takes that sector there, so it was ready at the selected drive, and is a sector of the disk. If
+-- the answer has the number of the read, its bytes are those that the run takes, as in every world that actions reach; so
+-- they may be kept.
 use Rattle.guest_parts.specs.Guest.{Guest}
 use Rattle.std.proofs.Common.{◌≡◌, ◌≤◌, ◌+◌, ◌∙◌, ◌++◌, [], ◌∷◌, Bool, Err, List, None, Ok, Option, Some, ap, arith, drop, eqb-true, false, inl, inr, not, refl, subst, suc, sym, true, zero, ℕ}
 use Rattle.std.specs.Option.{option_and_then}

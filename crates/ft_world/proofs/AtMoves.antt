@@ -1,7 +1,7 @@
 -- The machine of a node makes steps, a backup replays, and a node that won drains; a node halts. What such a node holds
--- and has not replayed are the next entries of a recorded run, as at every node of a world that actions reach; so its calls may be made. Its moves keep its generation
--- and its role, and a machine that begins elsewhere makes the same moves. A drained node is alone, and was no backup
--- before.
+-- and has not replayed are the next entries of a recorded run, as at every node of a world that actions reach; so its
+-- calls may be made. Its moves keep its generation and its role, and a machine that begins elsewhere makes the same
+-- moves. A drained node is alone, and was no backup before.
 use Rattle.guest_parts.specs.Guest.{Guest}
 use Rattle.std.proofs.Common.{◌≡◌, Err, List, Ok, Option, Some, drop, inl, inr, refl, subst, sym, ℕ}
 use Rattle.std.specs.Prelude.{slice_get, ◌<◌}

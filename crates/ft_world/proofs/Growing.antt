@@ -1,4 +1,4 @@
--- What is settled before rows of events is a beginning of what is settled after them, since rows are actions.
+-- What is settled before rows of events is a prefix of what is settled after them, since rows are actions.
 use Rattle.std.proofs.Common.{List}
 use Rattle.std.specs.Prelude.{map}
 use Rattle.guest_lockstep.specs.Machine.{Machine}

@@ -1,4 +1,4 @@
--- A spare host comes: it has generation 0 and no role, so it is neither of the highest generation nor its backup.
+-- A spare host is added: it has generation 0 and no role, so it is neither of the highest generation nor its backup.
 use Rattle.guest_parts.specs.Guest.{Guest}
 use Rattle.std.proofs.Common.{◌≡◌, [], ◌∷◌, ◌++◌, ◌∙◌, Err, List, Ok, Some, ap, false, inl, inr, refl, subst, suc, sym, true, zero, ℕ}
 use Rattle.std.specs.Prelude.{max, OnErr, OnOk, Result, slice_get, ◌⊎◌}

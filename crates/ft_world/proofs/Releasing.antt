@@ -1,6 +1,6 @@
 -- A node releases an operation to its device, and a terminal is told how many of its keys a node has covered. Each is
 -- refused if there is no such port, and then as the node refuses it. Neither changes a node: a release sends one more
--- message, and a telling leaves the greatest number told on the screen, here and in the world.
+-- message, and a terminal keeps the greatest number that it was told, here and in the world.
 use Rattle.guest_parts.specs.Guest.{Guest}
 use Rattle.std.proofs.Common.{◌≡◌, ◌<◌, ◌≤◌, [], ◌∷◌, ◌∙◌, Err, List, None, Ok, Some, ap, refl, subst, sym, ℕ}
 use Rattle.std.specs.Prelude.{Option, Result, length, max, nat_le, slice_get, slice_set}

@@ -70,7 +70,7 @@ Happens {S = S} state copied M records old e answer new =
 abbrev pub IsFaithful : {S : Type 0} → Machine S → Course S → Type 0
 IsFaithful M c = Faithful (machine_of M c) c.world
 
--- how many device failures an event's answer tells of; only a put, a get and a fetch reach the device
+-- how many device failures an event's answer reports; only a put, a get and a fetch reach the device
 abbrev pub failures_told : Event → Result Reply Fault → ℕ
 failures_told (event.Put message) answer = faults_in answer
 failures_told (event.Get node sector) answer = faults_in answer
@@ -82,7 +82,7 @@ abbrev pub failures_over : List Event → List (Result Reply Fault) → ℕ
 failures_over (e ∷ events) (answer ∷ answers) = failures_told e answer + failures_over events answers
 failures_over _ _ = 0
 
--- rows of events, one after another; no host comes in between
+-- rows of events, one after another; no host is added in between
 pub data Rows {S : Type 0} (M : Machine S) (C : Copying S) : World S → List protocol.Event → List protocol.Reply → World S
     → Type 0 where
   Nothing : {w : World S} → Rows M C w [] [] w

@@ -16,7 +16,7 @@ use Rattle.ft_world.specs.Standing.{Course, IsMachine}
 abbrev pub bytes_in : List Record → SectorAddress → List ℕ
 bytes_in records address = option_map_or (λ (r : Record). r.bytes) (record_at records address) []
 
--- the world that a pair begins with, if its machine is in the state s and is copied so, and its log carries sectors so
+-- the world that a pair begins with: its machine in the state s, how it is copied, and how its log carries sectors
 abbrev pub beginning : {S : Type 0} → Machine S → Copying S → Reads → S → List Record → Course S
 beginning M C reads s records = record {
   boot = s;
@@ -25,7 +25,7 @@ beginning M C reads s records = record {
   world = opening (booted_from M s (bytes_in records)) reads;
 }
 
--- a pair may begin with these guests and this disk, and its machine may be copied so
+-- a pair may begin with these guests and this disk, and its machine may be copied in this way
 pub record MayBegin {B D S : Type 0} (state : B → S) (copied : B → Guest) (M : Machine S) (C : Copying S)
     (records : D → List Record) (primary backup : B) (store : D) : Type 0 where
   pub drives : ℕ

@@ -12,7 +12,7 @@ use Rattle.ft_world.specs.Running.{Running}
 use Rattle.ft_world.specs.Staying.{SparesAfter, Stays}
 
 -- an event has happened: its row, whatever was shown; what the device counted; what a refusal leaves; the spare hosts;
--- and how many pages are stale, if it was asked
+-- and, of a freshening, how many pages are stale
 pub record HasApplied {B H D S : Type 0} (state : B → S) (copied : B → Guest) (M : Machine S) (records : D → List Record)
     (failures : D → ℕ) (stale : B → ℕ) (old : Running B H D) (e : Event) (answer : Result Reply Fault) (new : Running B H D)
     : Type 0 where
@@ -22,7 +22,7 @@ pub record HasApplied {B H D S : Type 0} (state : B → S) (copied : B → Guest
   pub spares : SparesAfter e answer old.hosts new.hosts
   pub told_stale : TellsStale stale e answer old.hosts new.hosts
 
--- each event has happened in what those before it left, with its own answer
+-- each event has happened in the world that those before it left, with its own answer
 pub data HaveApplied {B H D S : Type 0} (state : B → S) (copied : B → Guest) (M : Machine S) (records : D → List Record)
     (failures : D → ℕ) (stale : B → ℕ) : Running B H D → List Event → List (Result Reply Fault) → Running B H D → Type 0 where
   Nothing : {v : Running B H D} → HaveApplied state copied M records failures stale v [] [] v

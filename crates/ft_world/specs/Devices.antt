@@ -34,7 +34,7 @@ Types old port byte (Ok r) new =
     × (new ≡ slice_set old port (after_key (screen_in old port) byte))
 Types old port byte (Err fault) new = LacksPort port fault × (new ≡ old)
 
--- a byte arrives: it is accepted if it is the next one, and dropped if not, as is each byte of a port that is not there
+-- a byte arrives: it is accepted if it is the next one, and dropped if not; a byte for a port that does not exist is dropped
 abbrev pub ArrivesAt : List Screen → ℕ → ℕ → ℕ → Reply → List Screen → Type 0
 ArrivesAt old port number byte r new =
     (port < PORTS) × (r ≡ (if comes_next (screen_in old port) number then reply.Accepted else reply.Dropped))
@@ -47,7 +47,7 @@ abbrev pub Arrives : List Screen → ℕ → ℕ → ℕ → Result Reply Fault 
 Arrives old port number byte (Ok r) new = ArrivesAt old port number byte r new ⊎ ArrivesNowhere old port r new
 Arrives old port number byte (Err fault) new = (fault ≡ OutOfMemory) × (new ≡ old)
 
--- an operation is a byte of a port that is not there
+-- an operation is a byte for a port that does not exist
 abbrev pub no_device : OpId → Option Fault
 no_device (id.Byte port number) = fault_if (nat_le PORTS port) Unknown
 no_device (id.Write number) = None

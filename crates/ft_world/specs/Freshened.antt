@@ -18,7 +18,7 @@ pub record HostFreshened {B H : Type 0} (stale : B → ℕ) (n pages left : ℕ)
   pub then : slice_get new n ≡ Some (host.Node after)
   pub freshened : AreFreshened stale pages left before.node after.node
 
--- what an event's answer says of that
+-- the answer to a freshening says so; other answers say nothing of it
 abbrev pub TellsStale : {B H : Type 0} → (B → ℕ) → Event → Result Reply Fault → List (Host B H) → List (Host B H)
     → Type 0
 TellsStale stale (event.Freshen n pages) (Ok (reply.Stale left)) old new = HostFreshened stale n pages left old new

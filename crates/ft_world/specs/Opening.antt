@@ -26,8 +26,8 @@ pub record Opens {S : Type 0} (M : Machine S) (drives : ℕ) (opening : Opening)
   pub same_count : opening.count ≡ count
   pub after : y ≡ begun M x
 
--- why a generation can't begin with a host, as far as the hosts tell: there is no such host, or no such node, or the
--- host has a role
+-- why a generation can't begin with a host, by what the hosts are: there is no such host, or no such node, or the host
+-- has a role
 abbrev pub host_refusal : {B H : Type 0} → Option (Host B H) → Option (Host B H) → Option Fault
 host_refusal None here = Some Unknown
 host_refusal (Some there) None = Some Unknown
@@ -35,7 +35,7 @@ host_refusal (Some there) (Some (host.Spare resources)) = Some Unknown
 host_refusal (Some (host.Node other)) (Some (host.Node station)) = Some WrongRole
 host_refusal (Some (host.Spare resources)) (Some (host.Node station)) = None
 
--- a host is a node that has joined with what it was given: whatever node of the protocol joins so, its station shows
+-- a host is a node that has joined with what it was given: its station shows every node of the protocol that joins with that
 abbrev pub IsJoined : {B H S : Type 0} → (B → S) → Machine S → Opening → Station B H → Type 0
 IsJoined {B} {H} {S} state M opening station =
     (C : Copying S) (drives : ℕ) (x : Node S) → C.part_count ≡ part_count drives → opening.assembly.drives ≡ drives

@@ -18,16 +18,16 @@ abbrev pub spare_of : {B H : Type 0} → Host B H → Option H
 spare_of (host.Node h) = None
 spare_of (host.Spare resources) = Some resources
 
--- no host comes, and each spare host is still spare, with the same resources
+-- no host is added, and each spare host is still spare, with the same resources
 abbrev pub SpareHostsStay : {B H : Type 0} → List (Host B H) → List (Host B H) → Type 0
 SpareHostsStay old new = map spare_of new ≡ map spare_of old
 
--- what the spare hosts have after an event: the host with which a generation begins is spare no more
+-- what the spare hosts have after an event: the host with which a generation begins is no longer spare
 abbrev pub SparesAfter : {B H : Type 0} → Event → Result Reply Fault → List (Host B H) → List (Host B H) → Type 0
 SparesAfter (event.BeginPair n host) (Ok r) old new = map spare_of new ≡ slice_set (map spare_of old) host None
 SparesAfter e answer old new = SpareHostsStay old new
 
--- what they have after a list of events: no host comes, and each one that is still spare has the same resources
+-- what they have after a list of events: no host is added, and each one that is still spare has the same resources
 pub record SparesLeft {B H : Type 0} (old new : List (Host B H)) : Type 0 where
   pub count : length new ≡ length old
   pub same : (n : ℕ) (resources : H) → slice_get new n ≡ Some (host.Spare resources)
@@ -47,7 +47,7 @@ pub record DiskFails {B H D : Type 0} (records : D → List Record) (old new : R
   pub kept : records new.disk ≡ records old.disk
   pub rest : new ≡ record old { disk = new.disk }
 
--- a refusal leaves a change if it is this one, and otherwise everything as it was
+-- a refusal for this reason leaves a change; any other leaves everything as it was
 abbrev pub Except : Fault → Fault → Type 0 → Type 0 → Type 0
 Except reason fault changes same = (fault ≡ reason → changes) × (fault ≢ reason → same)
 

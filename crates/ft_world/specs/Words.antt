@@ -74,8 +74,8 @@ answer_of (Err fault) = protocol.Refused fault
 abbrev pub read_address : SectorRead → SectorAddress
 read_address r = record { drive = r.drive; track = r.track; sector = r.sector }
 
--- a message is this one of the protocol: packets by their spelling, of which an acknowledgement that doesn't say so
--- reports nothing as replayed, and parts of images by theirs, in a generation from 1 that a message has room for
+-- a message is this one of the protocol: a packet or a part of an image, by its bytes; an acknowledgement without a
+-- report reports 0 as replayed, and the generation of a part is from 1 to 2^32 - 1
 abbrev pub IsMessage : Message → sent.Message → Type 0
 IsMessage (message.Log bytes) (sent.LogEntry generation index e) =
     packet_at bytes.items ≡ Some (packet.Log generation index e)

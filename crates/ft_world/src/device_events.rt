@@ -1,4 +1,4 @@
-//! The events at terminals and at the disk, and what nodes hear of them.
+//! The events at terminals and at the disk, and the answers that nodes get.
 ghost use Rattle.std.specs.Prelude.{◌≡◌, ◌+◌, IfErr, OnErr};
 ghost use Rattle.shared_disk.specs.Records.{faults_in};
 ghost use Rattle.ft_world.specs.Applies.{Happens, ShowsSome};
@@ -56,7 +56,7 @@ impl<B: Copies<H> + Drop, D: SectorStore, H: Drop> Pair<B, D, H> {
         devices::arrive(&mut self.terminals, port, number, byte)
     }
 
-    /// A node hears that the terminal of a port has accepted the byte with a number.
+    /// A node is told that the terminal of a port has accepted the byte with a number.
     pub(crate) fn tell_sent(&mut self, node: u64, port: u8, number: u64) -> R<Reply>
         requires shown { ShowsSome B.state B.copied B.machine D.records (running_of self.old) }
         ensures row { Happens B.state B.copied B.machine D.records (running_of self.old) (happens.TellSent node port number)

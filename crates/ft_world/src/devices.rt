@@ -71,7 +71,7 @@ pub(crate) fn key_at(terminals: &[Terminal; PORTS], port: u8, index: u64) -> R<u
     terminals[port as usize].key(index)
 }
 
-/// Whether the terminal of a port has accepted the byte with a number, from 1. `Unknown` if it has not.
+/// Checks that the terminal of a port has accepted the byte with a number, from 1. `Unknown` if it has not.
 pub(crate) fn check_accepted(terminals: &[Terminal; PORTS], port: u8, number: u64) -> R<()>
     ensures answer { result ≡ answered (table.not_accepted terminals.now port number) }
     ensures port { OnOk result (port < PORTS) }
@@ -85,7 +85,7 @@ pub(crate) fn check_accepted(terminals: &[Terminal; PORTS], port: u8, number: u6
     Ok(())
 }
 
-/// Whether the device of an operation is there. `Unknown` if the operation is a byte for a port that is not there.
+/// Checks that the device of an operation exists. `Unknown` if the operation is a byte for a port that does not.
 pub(crate) fn check_device(id: OpId) -> R<()>
     ensures { result ≡ answered (table.no_device id) }
 {

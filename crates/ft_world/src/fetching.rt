@@ -1,4 +1,4 @@
-//! What happens at a station when the bytes come of a sector that its log does not carry.
+//! A station receives the bytes of a sector that its log does not carry.
 ghost use Rattle.std.specs.Prelude.{◌≡◌, ℕ, OnErr};
 ghost use Rattle.pair_protocol.specs.Copying.{Copying};
 ghost use Rattle.pair_protocol.specs.Node as protocol;

@@ -91,7 +91,7 @@ pub(crate) fn settled<B: Copies<H> + Drop, H: Drop>(
     }
 }
 
-/// Whether a node may begin a generation with a host, as far as the hosts tell. `Unknown` if there is no such host or no
+/// Checks that a node may begin a generation with a host, by what the hosts are. `Unknown` if there is no such host or no
 /// such node, `WrongRole` if the host has a role.
 pub(crate) fn check_pair<B: Copies<H> + Drop, H: Drop>(
     hosts: &Vec<Host<B, H>>,
@@ -110,7 +110,7 @@ pub(crate) fn check_pair<B: Copies<H> + Drop, H: Drop>(
     }
 }
 
-/// A spare host is a node from now on, which joins a generation.
+/// A spare host becomes a node that joins a generation.
 pub(crate) fn join<B: Copies<H> + Drop, H: Drop>(
     hosts: &mut Vec<Host<B, H>>,
     host: u64,

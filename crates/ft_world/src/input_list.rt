@@ -11,7 +11,7 @@ use log_entry::Entry;
 use std::alloc::Global;
 use std::marker::Model;
 
-/// Timed inputs, in order. How much room they have does not show, so a push that finds no room changes nothing.
+/// Timed inputs, in order. Their room is no part of their value, so a push that finds no room changes nothing.
 #[derive(Drop)]
 pub struct Inputs {
     list: Vec<Timed>,

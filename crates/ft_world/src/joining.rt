@@ -17,7 +17,7 @@ use i8080_words::R;
 use std::alloc::Global;
 
 impl<B: Copies<H> + Drop, H: Drop> Station<B, H> {
-    /// An alone node begins the next generation as its primary. Returns what the host is given that joins it.
+    /// An alone node begins the next generation as its primary. Returns what the joining host is given.
     pub(crate) fn begin(&mut self, alloc: Global) -> R<Opening>
         ensures answer { (C : Copying B.State) (drives : ℕ) (x : protocol.Node B.State)
             → CopiesAs B.state B.copied drives C.parts C.part_count C.assemble

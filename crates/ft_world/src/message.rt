@@ -86,7 +86,7 @@ impl Message {
         }
     }
 
-    // The number of the write that the disk has taken, if it says so.
+    // The number of the write that the disk has taken, if it is such an answer.
     pub(crate) fn written(&self) -> Option<u64>
         ensures { result ≡ table.written_of self.now }
     {

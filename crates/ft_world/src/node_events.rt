@@ -113,7 +113,7 @@ impl<B: Copies<H> + Drop, D: SectorStore, H: Drop> Pair<B, D, H> {
         Ok(Reply::Held { held })
     }
 
-    /// A backup makes at most this many moves of what it holds.
+    /// A backup makes at most this many moves from the entries that it holds.
     pub(crate) fn replay(&mut self, node: u64, turns: u64) -> R<Reply>
         requires shown { ShowsSome B.state B.copied B.machine D.records (running_of self.old) }
         ensures row { Happens B.state B.copied B.machine D.records (running_of self.old) (happens.Replay node turns) result
@@ -145,7 +145,7 @@ impl<B: Copies<H> + Drop, D: SectorStore, H: Drop> Pair<B, D, H> {
         Ok(Reply::Won)
     }
 
-    /// A node that won makes at most this many moves of what it still holds.
+    /// A node that won makes at most this many moves from the entries that it still holds.
     pub(crate) fn drain(&mut self, node: u64, turns: u64) -> R<Reply>
         requires shown { ShowsSome B.state B.copied B.machine D.records (running_of self.old) }
         ensures row { Happens B.state B.copied B.machine D.records (running_of self.old) (happens.Drain node turns) result

@@ -1,4 +1,4 @@
-//! What a host is given that joins a new generation.
+//! What a host that joins a new generation is given.
 ghost use Rattle.std.specs.Prelude.{◌≡◌, ◌<◌};
 ghost use Rattle.clone_state.specs.Assembly.{nothing_gathered};
 ghost use Rattle.clone_state.specs.Parts.{part_count};
@@ -7,7 +7,7 @@ use crate::input_list::Inputs;
 use clone_state::Assembly;
 use guest_lockstep::Reads;
 
-/// The generation, an assembly for the parts of its image, none of which came yet, the inputs of the machine that is
+/// The generation, an assembly for the parts of its image, none of which has arrived, the inputs of the machine that is
 /// copied, the count up to which they settle it, and how the generation's log carries sectors.
 #[derive(Drop)]
 pub(crate) struct Opening {

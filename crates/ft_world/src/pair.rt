@@ -40,7 +40,7 @@ pub(crate) struct Pair<B: Copies<H> + Drop, D: SectorStore, H: Drop> {
 }
 
 impl<B: Copies<H> + Drop, D: SectorStore, H: Drop> Pair<B, D, H> {
-    /// A pair with these guests and this disk, whose log carries sectors so. It allocates no further memory.
+    /// A pair with these guests and this disk; `reads` says whether its log carries sector bytes. Allocates no further memory.
     pub(crate) fn begin(
         alloc: Global,
         room: Room<B, H>,
@@ -131,7 +131,7 @@ impl<B: Copies<H> + Drop, D: SectorStore, H: Drop> Pair<B, D, H> {
         Ok(answers)
     }
 
-    /// A host without a role comes; returns its number. `OutOfMemory` hands its resources back.
+    /// Adds a host without a role, and returns its number. `OutOfMemory` hands its resources back.
     pub(crate) fn host(&mut self, resources: H) -> Result<u64, (H, Fault)>
         ensures ok { OnOk result ((c : Course B.State) → Shows B.state B.copied B.machine D.records (running_of self.old) c
             → Shows B.state B.copied B.machine D.records (running_of self.new)

@@ -36,8 +36,8 @@ impl<B: Copies<H> + Drop, H: Drop> Room<B, H> {
         Ok(Room { hosts, log })
     }
 
-    /// The primary and the backup of generation 1, with these guests and a log that carries sectors so. Allocates no
-    /// further memory.
+    /// The primary and the backup of generation 1, with these guests; `reads` says whether the log carries sector bytes.
+    /// Allocates no further memory.
     pub(crate) fn begin(self, alloc: Global, reads: Reads, primary: B, backup: B) -> Vec<Host<B, H>>
         ensures { (C : Copying B.State) (drives : ℕ) (c : Course B.State) → B.state primary ≡ c.boot → B.state backup ≡ c.boot
             → B.machine.count c.boot ≡ 0

@@ -178,7 +178,7 @@ impl<B: Copies<H> + Drop, H: Drop> Station<B, H> {
         self.node.on_ack(bytes)
     }
 
-    /// A backup makes at most `turns` moves of what it holds.
+    /// A backup makes at most `turns` moves from the entries that it holds.
     pub(crate) fn replay(&mut self, turns: u64) -> R<Replayed>
         requires on_trace { MayReplay B.state B.machine self.old.node }
         ensures answer { (C : Copying B.State) (drives : ℕ) (x : protocol.Node B.State) → IsStation B.state B.machine C drives self.old x
@@ -188,7 +188,7 @@ impl<B: Copies<H> + Drop, H: Drop> Station<B, H> {
         self.node.replay(turns)
     }
 
-    /// A node that won makes at most `turns` moves of what it still holds; with nothing left it is alone.
+    /// A node that won makes at most `turns` moves from the entries that it still holds; with nothing left it is alone.
     pub(crate) fn drain(&mut self, turns: u64) -> R<Drained>
         requires on_trace { MayReplay B.state B.machine self.old.node }
         ensures answer { (C : Copying B.State) (drives : ℕ) (x : protocol.Node B.State) → IsStation B.state B.machine C drives self.old x

@@ -52,9 +52,9 @@ impl<B: Copies<H> + Drop, D: SectorStore, H: Drop> World<B, D, H> {
     ghost use Rattle.ft_world.specs.Words.{IsMessage};
     ghost use Rattle.ft_world.specs.declared.host.Host.TheVariants as host;
 
-    /// A pair begins: nodes 0 and 1 are primary and backup of generation 1, both guests are in the same state, and the
-    /// log carries sectors so. It shows that world for whatever copying its machine may have. `OutOfMemory` hands the
-    /// guests and the disk's store back.
+    /// A pair begins: nodes 0 and 1 are primary and backup of generation 1, both guests are in the same state, and
+    /// `reads` says whether the log carries sector bytes. The world shows that pair however its machine may be copied.
+    /// `OutOfMemory` hands the guests and the disk's store back.
     pub fn begin(
         alloc: Global,
         reads: Reads,
@@ -128,7 +128,7 @@ impl<B: Copies<H> + Drop, D: SectorStore, H: Drop> World<B, D, H> {
         self.pair.run(alloc, events)
     }
 
-    /// A host without a role comes; returns its number. `OutOfMemory` hands its resources back.
+    /// Adds a host without a role, and returns its number. `OutOfMemory` hands its resources back.
     pub fn host(&mut self, resources: H) -> Result<u64, (H, Fault)>
         ensures ok { OnOk result ((c : Course B.State) → Shows B.state B.copied B.machine D.records self.old c
             → Shows B.state B.copied B.machine D.records self.new

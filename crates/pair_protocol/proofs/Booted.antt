@@ -1,5 +1,5 @@
--- A node whose machine boots elsewhere advances and replays as before: neither asks where its machine boots. Each fact
--- is carried to the machine that boots elsewhere, and back by the same lemma.
+-- A node whose machine boots elsewhere advances and replays as before: neither depends on where its machine boots. Each
+-- fact is carried to the machine that boots elsewhere, and back by the same lemma.
 use Rattle.std.proofs.Common.{◌≡◌, Bool, List, Option, refl, ℕ}
 use Rattle.pair_protocol.proofs.Words.{Entry, Input, Machine, Move, Node, Reads, Role, SectorAddress, booted_from, keys_covered}
 use Rattle.guest_lockstep.proofs.Booted.{Recorded-booted}

@@ -23,8 +23,8 @@ pub record Acts {S : Type 0} (w : World S) (n : ℕ) (x : Node S) (role : Role) 
   pub up : x.running ≡ true
   pub role_is : x.role ≡ role
 
--- where an input may come from: a key is the next one typed, a byte that is heard to be accepted was accepted, and
--- what comes from the disk is one of its answers
+-- where an input may come from: a key is the next one typed, an accepted byte was accepted at its terminal, and what comes
+-- from the disk is one of its answers
 abbrev pub MayTake : {S : Type 0} → Machine S → World S → Node S → Input → Type 0
 MayTake M w x (Rx port byte) = slice_get (terminal w port).typed (M.keys x.machine port) ≡ Some byte
 MayTake M w x (Sent port) = (k : ℕ) × (M.due_byte x.machine port ≡ Some k) × (k ≤ length (accepted w port))
@@ -36,7 +36,7 @@ MayTake M w x (Written number) = Among (WriteDone number) w.messages
 abbrev pub Replaying : Role → Type 0
 Replaying role = (role ≡ Backup) ⊎ (role ≡ Draining)
 
--- the next entry of a node is at its machine's count, and reads the sector of this drive and number as a write left it
+-- the next entry of a node is due at its machine's count: a read of this sector, as the write of this number left it
 abbrev pub IsAtRead : {S : Type 0} → Machine S → Node S → ℕ → ℕ → ℕ → Type 0
 IsAtRead M x drive sector number =
     slice_get x.held x.replayed ≡ Some (entry.Read (M.count x.machine) drive sector number)
@@ -52,7 +52,7 @@ pub data Change {S : Type 0} (M : Machine S) (C : Copying S) (w : World S) : Wor
       Change M C w (with_node w n (primary_steps M x s gives))
   AloneSteps : (n : ℕ) (x : Node S) (s : S) (gives : Option Operation) →
       Acts w n x Alone → M.step x.machine ≡ Some (s, gives) → Change M C w (with_node w n (plainly_steps x s))
-  -- or takes an input that it does not refuse; so never a sector that was read before the last completed write there
+  -- or takes an input that it does not refuse; it refuses a sector that was read before the last completed write of it
   PrimaryTakes : (n : ℕ) (x : Node S) (s : S) (i : Input) →
       Acts w n x Primary → MayTake M w x i → refusal_of M x.machine i ≡ None → M.take x.machine i ≡ Some s →
       Change M C w (with_node w n (primary_takes M x s i))
@@ -69,15 +69,15 @@ pub data Change {S : Type 0} (M : Machine S) (C : Copying S) (w : World S) : Wor
   Holds : (n : ℕ) (x : Node S) (m : ℕ) (e : Entry) →
       Acts w n x Backup → slice_get w.messages m ≡ Some (LogEntry x.generation (length x.held) e) →
       Change M C w (with_node w n (holds x e))
-  -- it acknowledges as many entries as it holds, and may report as replayed as many as it has replayed, or fewer
+  -- it acknowledges all entries that it holds, and reports at most as many replayed as it has replayed
   Acknowledges : (n : ℕ) (x : Node S) (replayed : ℕ) →
       Acts w n x Backup → replayed ≤ x.replayed →
       Change M C w (with_message w (Acknowledgement x.generation (length x.held) replayed))
-  -- a primary hears an acknowledgement
+  -- a primary receives an acknowledgement
   Hears : (n : ℕ) (x : Node S) (m held replayed : ℕ) →
       Acts w n x Primary → slice_get w.messages m ≡ Some (Acknowledgement x.generation held replayed) →
       Change M C w (with_node w n (hears x held replayed))
-  -- a node replays: below the count of the next entry a step, at its count the entry itself
+  -- a node replays: a step below the count of its next entry, and at that count the entry itself
   ReplaysStep : (n : ℕ) (x : Node S) (role : Role) (e : Entry) (s : S) (gives : Option Operation) →
       Acts w n x role → Replaying role → slice_get x.held x.replayed ≡ Some e → M.count x.machine < count_of e →
       M.step x.machine ≡ Some (s, gives) → Change M C w (with_node w n (plainly_steps x s))
@@ -87,7 +87,7 @@ pub data Change {S : Type 0} (M : Machine S) (C : Copying S) (w : World S) : Wor
   ReplaysInput : (n : ℕ) (x : Node S) (role : Role) (e : Entry) (i : Input) (s : S) →
       Acts w n x role → Replaying role → slice_get x.held x.replayed ≡ Some e → M.count x.machine ≡ count_of e →
       input_of e ≡ Some i → M.take x.machine i ≡ Some s → Change M C w (with_node w n (passes_input x s))
-  -- at a read it waits until the disk has answered with the sector as that write left it, and takes those bytes
+  -- at a read: once the disk has answered with the sector as that write left it, the node takes those bytes
   Fetches : (n : ℕ) (x : Node S) (role : Role) (m drive sector number : ℕ) (bytes : List ℕ) →
       Acts w n x role → Replaying role → IsAtRead M x drive sector number →
       slice_get w.messages m ≡ Some (SectorRead (M.address x.machine drive sector) number bytes) →
@@ -131,7 +131,7 @@ pub data Change {S : Type 0} (M : Machine S) (C : Copying S) (w : World S) : Wor
   Joins : (n : ℕ) (x : Node S) (parts : List (List ℕ)) (s : S) →
       Acts w n x Joining → gathered x.parts ≡ Some parts → C.assemble parts ≡ Some s →
       Change M C w (with_node w n (joins x s))
-  -- a spare host comes
+  -- a spare host is added
   HostComes : Change M C w (with_host M w)
   -- a write arrives at the disk, or a sector of it is read
   Puts : (m : ℕ) (write : SectorWrite) → slice_get w.messages m ≡ Some (Released (Write write)) →

@@ -52,7 +52,7 @@ pub data Advances {S : Type 0} (M : Machine S) : Node S → ℕ → Node S → �
   Goes : {x y : Node S} {turns made : ℕ} {why : StopReason} (s : S) → M.step x.machine ≡ Some (s, None) →
       Advances M (stepped M x x.role s None) turns y made why → Advances M x (suc turns) y (suc made) why
 
--- the drive, the sector and the number of the read that a node has come to: its next entry, at its machine's count
+-- the drive, the sector and the number of the read that a node has reached: its next entry, at its machine's count
 abbrev pub read_at : ℕ → Option Entry → Option (ℕ × ℕ × ℕ)
 read_at count None = None
 read_at count (Some e) = if count == count_of e then read_of e else None
@@ -60,7 +60,7 @@ read_at count (Some e) = if count == count_of e then read_of e else None
 abbrev pub next_read : {S : Type 0} → Machine S → Node S → Option (ℕ × ℕ × ℕ)
 next_read M x = read_at (M.count x.machine) (slice_get x.held x.replayed)
 
--- the read that it waits for: the bytes have not come
+-- the read that it waits for, if its bytes have not arrived
 abbrev pub wanted_of : Option (List ℕ) → Option (ℕ × ℕ × ℕ) → Option (ℕ × ℕ × ℕ)
 wanted_of None read = read
 wanted_of (Some bytes) read = None
@@ -74,11 +74,11 @@ pub record IsBehind {S : Type 0} (M : Machine S) (x : Node S) : Type 0 where
   pub held : slice_get x.held x.replayed ≡ Some next
   pub later : M.count x.machine < count_of next
 
--- x makes at most this many moves of what it holds, and is then y
+-- x makes at most this many moves from the entries that it holds, and is then y
 pub data Replays {S : Type 0} (M : Machine S) : Node S → ℕ → Node S → ℕ → Type 0 where
   NoTurns : {x : Node S} → Replays M x 0 x 0
   AtEnd : {x : Node S} {turns : ℕ} → x.replayed ≡ length x.held → Replays M x (suc turns) x 0
-  -- the bytes of a sector have not come
+  -- the bytes of a sector have not arrived
   AwaitsBytes : {x : Node S} {turns : ℕ} → is_none (wanted M x) ≡ false → Replays M x (suc turns) x 0
   -- a step is out of memory; no other move needs any
   NoMemory : {x : Node S} {turns : ℕ} → IsBehind M x → Replays M x (suc turns) x 0
@@ -102,7 +102,7 @@ abbrev pub MovesSome : {S : Type 0} → Machine S → Node S → ℕ → ℕ →
 MovesSome M x turns made =
     (1 ≤ made) ⊎ (turns ≡ 0) ⊎ (x.replayed ≡ length x.held) ⊎ (is_none (wanted M x) ≡ false)
 
--- why a node that was to make `turns` moves made `made` of them: nothing is left, it waits for bytes, all were made, or a step
+-- why a node that was asked for `turns` moves made `made`: nothing is left, it waits for bytes, all were made, or a step
 -- ran out of memory
 abbrev pub replay_end : {S : Type 0} → Machine S → Node S → ℕ → ℕ → ReplayEnd
 replay_end M y turns made =
@@ -140,7 +140,7 @@ Held index e false x y = (index ≢ length x.held) × (y ≡ x)
 abbrev pub Heard : {S : Type 0} → ℕ → ℕ → ℕ → Node S → Node S → Type 0
 Heard held replayed covered x y = (covered ≡ (hears x held replayed).covered) × (y ≡ hears x held replayed)
 
--- moves are made of what a node holds
+-- a node makes moves from the entries that it holds
 pub record Replayed {S : Type 0} (M : Machine S) (turns made : ℕ) (why : ReplayEnd) (x y : Node S) : Type 0 where
   pub moves : Replays M x turns y made
   pub some : MovesSome M x turns made
@@ -187,7 +187,7 @@ HasOutstanding M name o x = M.find x.machine name ≡ Some o
 abbrev pub HasCovered : {S : Type 0} → Machine S → ℕ → ℕ → Node S → Type 0
 HasCovered M port keys x = keys ≡ keys_covered M x port x.role
 
--- the sector with a number at the selected drive, at its head's track
+-- the sector with this number on the track under the head of the selected drive
 pub record IsUnder {S : Type 0} (M : Machine S) (sector : ℕ) (address : SectorAddress) (x : Node S) : Type 0 where
   pub drive : ℕ
   pub selected : M.selected x.machine ≡ Some drive
@@ -201,7 +201,7 @@ pub record Wants {S : Type 0} (M : Machine S) (address : SectorAddress) (x : Nod
   pub read : wanted M x ≡ Some (drive, sector, number)
   pub address_is : address ≡ M.address x.machine drive sector
 
--- the image has a part
+-- the image has this part at an index
 pub record HasPart {S : Type 0} (C : Copying S) (index : ℕ) (part : List ℕ) (x : Node S) : Type 0 where
   pub s : S
   pub image : x.image ≡ Some s
@@ -209,10 +209,10 @@ pub record HasPart {S : Type 0} (C : Copying S) (index : ℕ) (part : List ℕ) 
 
 -- ---- what holds of a node at which an event is out of memory
 
--- it is to make moves, and the first one is a step
+-- it is asked for moves, and the first one is a step
 abbrev pub NeedsMoves : {S : Type 0} → Machine S → ℕ → Node S → Type 0
 NeedsMoves M turns x = (0 < turns) × IsBehind M x
 
--- it holds the entry next
+-- the index is that of the next entry to hold
 abbrev pub NeedsEntry : {S : Type 0} → ℕ → Node S → Type 0
 NeedsEntry index x = index ≡ length x.held

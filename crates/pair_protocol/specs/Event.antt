@@ -17,15 +17,15 @@ pub data Event : Type 0 where
   DeliverLog : (m n : ℕ) → Event
   Acknowledge : (n : ℕ) → Event
   DeliverAcknowledgement : (m n : ℕ) → Event
-  -- a backup makes at most this many moves of what it holds
+  -- a backup makes at most this many moves from the entries that it holds
   Replay : (n turns : ℕ) → Event
-  -- an operation is released; a byte arrives at its terminal; a node hears that the terminal has accepted it
+  -- an operation is released; a byte arrives at its terminal; a node is told that the terminal has accepted it
   Release : (n : ℕ) (name : OpId) → Event
   Arrive : (m : ℕ) → Event
   TellSent : (n port number : ℕ) → Event
   -- a terminal is told how many keys are covered
   Told : (n port : ℕ) → Event
-  -- a node halts; it suspects its peer, and asks the arbiter; it makes at most this many moves of what it still holds
+  -- a node halts; it suspects its peer, and asks the arbiter; it makes at most this many moves from what it still holds
   Stop : (n : ℕ) → Event
   Suspect : (n : ℕ) → Event
   Drain : (n turns : ℕ) → Event
@@ -38,7 +38,7 @@ pub data Event : Type 0 where
   BeginPair : (n host : ℕ) → Event
   SendPart : (n index : ℕ) → Event
   PartComes : (m n : ℕ) → Event
-  -- at most this many pages of an alone node's machine are copied early, for the image with which it may begin one
+  -- at most this many pages of an alone node's machine are copied early, for the image of a generation that it may begin
   Freshen : (n pages : ℕ) → Event
   -- the disk is asked for the sector that a replaying node waits for, and its bytes arrive
   Fetch : (n : ℕ) → Event

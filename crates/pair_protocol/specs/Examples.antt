@@ -176,8 +176,8 @@ WritesDisk =
 
 -- ---- the backup reads the sector itself
 
--- entry 0 of the log is a read now, so the write waits for more than its mark: it is released once the backup has come to
--- the read, has asked the disk, and has told that both entries are replayed
+-- entry 0 of the log is a read now, so the write waits for more than its mark: it is released once the backup has reached
+-- the read, has asked the disk, and has reported both entries as replayed
 abbrev pub shared_read : List Event
 shared_read =
     Step 0 2 ∷ Get 0 0 ∷ GetReply 0 0 ∷ Step 0 10 ∷ Send 0 0 ∷ Send 0 1 ∷ DeliverLog 1 1 ∷ DeliverLog 2 1 ∷ Acknowledge 1
@@ -190,7 +190,7 @@ shared_read_replies =
     ∷ MessageIs 3 ∷ HeldIs 2 ∷ Refused NotCovered ∷ Moved 2 Wait ∷ MessageIs 4 ∷ Taken ∷ Moved 3 End ∷ MessageIs 5 ∷ HeldIs 2
     ∷ MessageIs 6 ∷ []
 
--- the backup is answered as its primary was; its second acknowledgement tells that both entries are replayed
+-- the backup gets the same answer as its primary; its second acknowledgement reports both entries as replayed
 abbrev pub shared_read_messages : List Message
 shared_read_messages =
     SectorRead (address_of sector_write) 0 (0 ∷ 0 ∷ []) ∷ LogEntry 1 0 (Read 2 0 0 0) ∷ LogEntry 1 1 (Mark 3)

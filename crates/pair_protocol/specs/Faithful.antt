@@ -17,7 +17,7 @@ use Rattle.pair_protocol.specs.Settled.{Settled}
 abbrev pub IsPrefix : {A : Type 0} → List A → List A → Type 0
 IsPrefix {A} front all = (rest : List A) × (front ++ rest ≡ all)
 
--- one list is another but for at most its last n elements
+-- one list is another without its last few elements, at most n
 abbrev pub IsAllBut : ℕ → List ℕ → List ℕ → Type 0
 IsAllBut n front all = (rest : List ℕ) × (front ++ rest ≡ all) × (length rest ≤ n)
 

@@ -12,7 +12,7 @@ abbrev pub AllFrom : ℕ → List Timed → Type 0
 AllFrom count [] = Unit {0}
 AllFrom count (t ∷ list) = (count ≤ t.count) × AllFrom count list
 
--- the old list goes on: each added input is at the old count or later
+-- the new list extends the old one: each added input is at the old count or later
 pub record Extends (old : List Timed) (count : ℕ) (new : List Timed) (later : ℕ) : Type 0 where
   pub added : List Timed
   pub goes_on : old ++ added ≡ new
@@ -20,7 +20,7 @@ pub record Extends (old : List Timed) (count : ℕ) (new : List Timed) (later : 
   pub added_later : AllFrom count added
 
 pub record Grows {S : Type 0} (M : Machine S) (old new : World S) : Type 0 where
-  -- growth: what is settled goes on
+  -- growth: what is settled is extended
   pub settled : (list : List Timed) (count : ℕ) (longer : List Timed) (later : ℕ) →
       Settled M old list count → Settled M new longer later → Extends list count longer later
   -- a winner stays

@@ -18,7 +18,7 @@ pub record IsGiven {S : Type 0} (M : Machine S) (C : Copying S) (w : World S) (x
       → slice_get (C.parts machine) index ≡ Some part
   pub all : (parts : List (List ℕ)) → gathered x.parts ≡ Some parts → C.assemble parts ≡ Some machine
 
--- in every world that actions reach, each joining node is given such parts, and with all of them it has the machine
+-- in every world that actions reach, each joining node is given such parts, and all of them make the machine
 abbrev pub JoiningIsGiven : (S : Type 0) → Type 0
 JoiningIsGiven S =
     (M : Machine S) (C : Copying S) → Lawful M → IsCopying M C → Makes M C → (w : World S) → Reached M C w →

@@ -47,14 +47,14 @@ pub record IsWritten {S : Type 0} (M : Machine S) (moves : List Move) (s : S) (a
   pub completed : IsDone write.number moves
 
 pub record Lawful {S : Type 0} (M : Machine S) : Type 0 where
-  -- its count is the number of its steps, and it has taken the keys that its inputs have
+  -- its count is the number of its steps, and the keys that it has taken are those of its inputs
   pub counts : (moves : List Move) (s : S) → Reaches M moves s → M.count s ≡ steps moves
   pub takes_keys : (moves : List Move) (s : S) (port : ℕ) → Reaches M moves s
       → M.keys s port ≡ length (keys port (inputs 0 moves))
   -- no count passes the limit
   pub limit : (moves : List Move) (s : S) → Reaches M moves s → M.count s ≤ top
   pub spent : (moves : List Move) (s : S) → Reaches M moves s → M.is_spent s ≡ true → M.step s ≡ None
-  -- no more bytes of a port are sent and not accepted than the window holds
+  -- the bytes of a port that are sent and not accepted fit the window
   pub window : (moves : List Move) (s : S) (port : ℕ) → Reaches M moves s
       → length (output port moves) ≤ acceptances port (inputs 0 moves) + M.window_size
   -- bytes are numbered from 1 at each port, and the next one to be accepted is the oldest that is not accepted
@@ -75,7 +75,7 @@ pub record Lawful {S : Type 0} (M : Machine S) : Type 0 where
   -- each sector of the machine's own disk is unwritten, or holds its last completed write
   pub own_disk : (moves : List Move) (s : S) (address : SectorAddress) → Reaches M moves s
       → IsUnwritten M moves s address ⊎ IsWritten M moves s address
-  -- a write is either completed, and then no later than the last completed write of its sector, or outstanding
+  -- a write is outstanding, or it is completed, and then no later than the last completed write of its sector
   pub write_is : (moves : List Move) (s : S) (w : SectorWrite) → Reaches M moves s
       → Among (Write w) (operations moves)
       → (w.number ≤ M.done s (address_of w)) ⊎ (M.find s (id.Write w.number) ≡ Some (Write w))
@@ -87,6 +87,6 @@ pub record Lawful {S : Type 0} (M : Machine S) : Type 0 where
       → M.busy s (M.address s drive sector) ≡ true
   -- few operations are outstanding at once
   pub few : (moves : List Move) (s : S) → Reaches M moves s → AreFew M s
-  -- an input that is taken and not refused is of a port or a sector that is there, and there was room for it
+  -- an input that is taken and not refused names a port or a sector that exists, and there was room for it
   pub accepts : (moves : List Move) (s t : S) (i : Input) → Reaches M moves s → refusal_of M s i ≡ None
       → M.take s i ≡ Some t → IsInput i × HasRoom M s i

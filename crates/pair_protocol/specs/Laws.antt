@@ -37,7 +37,7 @@ AloneIsHighest S =
     (M : Machine S) (C : Copying S) → Lawful M → IsCopying M C → (w : World S) → Reached M C w →
     (n : ℕ) (x : Node S) → slice_get w.nodes n ≡ Some x → x.role ≡ Alone → x.generation ≡ highest w.nodes
 
--- making no copies is a copying of every machine
+-- `no_copies` is a copying of every machine
 abbrev pub NeedsNoCopies : (S : Type 0) → Type 0
 NeedsNoCopies S = (M : Machine S) → IsCopying M no_copies
 

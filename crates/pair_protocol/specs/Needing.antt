@@ -1,4 +1,4 @@
--- Which events are never refused as out of memory, and where a replay may stop for lack of it.
+-- Which events are never refused as out of memory, and where a replay may stop when memory runs out.
 use Rattle.std.specs.Prelude.{◌≡◌, ◌≢◌, ℕ, ◌<◌, ◌⊎◌, Some, is_none, false, length, slice_get}
 use Rattle.guest_lockstep.specs.Machine.{Machine}
 use Rattle.i8080_words.specs.declared.refusal.Fault.TheVariants.{OutOfMemory}

@@ -80,7 +80,7 @@ abbrev pub acts_as : {S : Type 0} → Node S → List Role → Bool
 acts_as x [] = false
 acts_as x (role ∷ roles) = x.running && (is_role x.role role) || acts_as x roles
 
--- the role in which the winner of the test-and-set goes on
+-- the role that a node takes when it wins the test-and-set
 abbrev pub won_role : Role → Role
 won_role Primary = Alone
 won_role Backup = Draining
@@ -173,7 +173,7 @@ alone_takes M x s i = record x { machine = s; list = x.list ++ timed (M.count x.
 abbrev pub holds : {S : Type 0} → Node S → Entry → Node S
 holds x e = record x { held = x.held ++ e ∷ [] }
 
--- an entry is replayed: a mark leaves the machine as it is, an input is taken, a read with the bytes that have come
+-- an entry is replayed: a mark leaves the machine as it is, an input is taken, a read is taken with the bytes that arrived
 abbrev pub passes_mark : {S : Type 0} → Node S → Node S
 passes_mark x = record x { replayed = suc x.replayed }
 
@@ -183,7 +183,7 @@ passes_input x s = record x { machine = s; replayed = suc x.replayed }
 abbrev pub passes_read : {S : Type 0} → Node S → S → Node S
 passes_read x s = record x { machine = s; replayed = suc x.replayed; fetched = None }
 
--- the bytes come that the next entry reads
+-- the bytes that the next entry reads arrive
 abbrev pub fetches : {S : Type 0} → Node S → List ℕ → Node S
 fetches x bytes = record x { fetched = Some bytes }
 

@@ -159,7 +159,7 @@ abbrev pub fetch_refusal : {S : Type 0} → Machine S → Node S → Option Faul
 fetch_refusal M x =
     first_of (role_refusal (Backup ∷ Draining ∷ []) x ∷ fault_if (is_none (wanted M x)) NotDue ∷ [])
 
--- a sector arrives that is not the one waited for, or as another write left it
+-- the sector that arrives is not the one waited for, or is not as that write left it
 abbrev pub unwanted : {S : Type 0} → Machine S → Node S → SectorAddress → ℕ → Option (ℕ × ℕ × ℕ) → Option Fault
 unwanted M x address number None = Some NotDue
 unwanted M x address number (Some read) =
@@ -173,7 +173,7 @@ fetched_refusal M address number x =
 
 -- ---- the world's part
 
--- the node's part, for the node of a number; a spare host is no node
+-- the node's part, for the node with this number; a spare host is not a node
 abbrev pub at_node : {S : Type 0} → Option (Node S) → (Node S → Option Fault) → Option Fault
 at_node None part = Some Unknown
 at_node (Some x) part = if is_role x.role Spare then Some Unknown else part x

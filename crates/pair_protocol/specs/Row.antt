@@ -51,7 +51,7 @@ pub data Row {S : Type 0} (M : Machine S) (C : Copying S) (w : World S) (e : Eve
   -- an allocation was refused
   NeedsMemory : refusal M C w e ≡ None → MayNeedMemory M w e → Row M C w e (Refused OutOfMemory) w
 
--- a whole run: one reply for each event; hosts may come at any time
+-- a whole run: one reply for each event; hosts may be added at any time
 pub data Run {S : Type 0} (M : Machine S) (C : Copying S) : World S → List Event → List Reply → World S → Type 0 where
   Nothing : {w : World S} → Run M C w [] [] w
   First : {w mid new : World S} {e : Event} {events : List Event} {r : Reply} {replies : List Reply} →

@@ -154,6 +154,6 @@ abbrev pub with_pair : {S : Type 0} → Machine S → Copying S → World S → 
 with_pair M C w n host x =
     record w { nodes = slice_set (slice_set w.nodes n (begun M x)) host (joiner M C x) }
 
--- a spare host comes
+-- a spare host is added
 abbrev pub with_host : {S : Type 0} → Machine S → World S → World S
 with_host M w = record w { nodes = w.nodes ++ spare M ∷ [] }

@@ -67,9 +67,9 @@ pub fn every_event_is_answered<S>()
     ensures replies { RunReplies S }
 {}
 
-/// A step, replay or drain of no turns, a replay or drain whose first move is not a step, a log entry that is a repeat
-/// or past a gap, and a winner that asks again are never answered with out of memory. A replay or drain that makes
-/// fewer moves than it was asked for has nothing left, a step as its next move, or a sector whose bytes have not come.
+/// A step, replay or drain of no turns, a replay or drain whose first move is not a step, a log entry that is a repeat or
+/// past a gap, and a winner that asks again are never answered with out of memory. If a replay or drain makes fewer moves
+/// than it was asked for, nothing is left, the next move is a step, or the bytes of a sector have not arrived.
 pub fn some_events_need_no_memory<S>()
     ensures no_turns { NoTurnsNeedNone S }
     ensures other_moves { OtherMovesNeedNone S }

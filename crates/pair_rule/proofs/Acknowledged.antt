@@ -1,4 +1,4 @@
--- Steps that are events of the world: an acknowledgement is sent and heard, a packet comes.
+-- Steps that are events of the world: an acknowledgement is sent and received, a packet arrives.
 use Rattle.std.proofs.Common.{◌≡◌, ℕ, zero, suc, ◌≤◌, max, eqb, cond, Bool, true, false, List, [], ◌∷◌, ◌++◌, length, sym, refl, ap, ◌∙◌, subst, ◌⊎◌, inl, inr, ⊎_elim, arith, eq-eqb, Some, slice_get, slice_set}
 use Rattle.guest_lockstep.specs.Machine.{Machine}
 use Rattle.pair_protocol.specs.Lawful.{Among}

@@ -1,4 +1,4 @@
--- What stands goes on to stand where boxes are emptied.
+-- What held still holds after boxes are emptied.
 use Rattle.std.proofs.Common.{[], ◌∷◌, ◌++◌, length, refl, Some}
 use Rattle.event_callbacks.specs.declared.operations.Operation.{Operation}
 use Rattle.pair_protocol.specs.Lawful.{Among}

@@ -1,4 +1,4 @@
--- What each step does to what is known: who may make it, and that what stands goes on to stand.
+-- What each step does to what is known: who may make it, and that what held still holds.
 use Rattle.std.proofs.Common.{◌≡◌, ℕ, List, [], ◌∷◌, ◌++◌, sym, refl, ap, ◌∙◌, subst, inl, inr, ⊎_elim, Option, Some, None}
 use lib.ListN.{get_elem?}
 use Rattle.atomic_table.proofs.Lists.{at_longer}

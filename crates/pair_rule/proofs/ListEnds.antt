@@ -1,4 +1,4 @@
--- The end of a list that grows by one element, and what equations of numbers, names and tests come to.
+-- The end of a list that grows by one element, and what follows from equations of numbers, names and tests.
 use Rattle.std.proofs.Common.{◌≡◌, ℕ, zero, suc, ◌<◌, Bool, true, false, List, [], ◌∷◌, ◌++◌, length, refl, ap, ◌⊎◌, inl, inr, ⊎_elim, arith, Option, Some, None, slice_get, nat_le}
 use Rattle.disk_dcdd.specs.Address.{same_address}
 use Rattle.disk_dcdd.specs.declared.address.SectorAddress.{SectorAddress}

@@ -1,4 +1,4 @@
--- A run whose list of entries begins with another run's goes on from where that one ends, at its last entry.
+-- A run whose list of entries begins with another run's continues that one, at its last entry.
 use Rattle.std.proofs.Common.{◌≡◌, ℕ, suc, ◌+◌, ◌≤◌, List, [], ◌∷◌, ◌++◌, sym, refl, ap, ◌∙◌, subst, arith, Option, Some, None, append-nil, le_refl}
 use Rattle.event_callbacks.specs.declared.operations.Operation.{Operation}
 use Rattle.guest_lockstep.specs.Machine.{Machine, Move, Do, Take, Runs}

@@ -1,4 +1,4 @@
--- The record of a sector that the disk answered is the same where its entry is appended: no write of it is outstanding then.
+-- The record of a sector that the disk answered is the same when its entry is appended: no write of it is outstanding then.
 use Rattle.std.proofs.Common.{◌≡◌, ℕ, ◌+◌, ◌≤◌, Bool, true, false, cond, not, List, ◌++◌, Some, None, ◌⊎◌, inl, inr, refl, sym, ap, subst, ◌∙◌, arith, map, append-nil, nat_le, length}
 use Rattle.std.specs.Prelude.{◌==◌}
 use Rattle.disk_dcdd.specs.Address.{address_of}

@@ -1,4 +1,4 @@
--- The steps that are no event leave the world as it is, and it shows what is known then.
+-- The steps that are not events leave the world as it is, and it shows what is known then.
 use Rattle.std.proofs.Common.{◌≡◌, ℕ, zero, suc, List, [], ◌∷◌, ◌++◌, ◌⊎◌, inl, inr, sym, ap, ◌∙◌, subst}
 use Rattle.pair_protocol.specs.Lawful.{Among}
 use Rattle.pair_rule.specs.declared.payload.DiskAnswer.{DiskAnswer}

@@ -1,4 +1,4 @@
--- Each kind of step of the table is events of the world, or none; and what stands goes on to stand.
+-- Each kind of step of the table is events of the world, or none; and what held still holds.
 use Rattle.std.proofs.Common.{◌≡◌, ℕ, zero, suc, ◌<◌, ◌≤◌, List, sym, refl, ap, ◌∙◌, subst, inl, inr, ◌⊎◌, arith, Option, Some, None}
 use Rattle.event_callbacks.specs.declared.operations.Operation.{Operation}
 use Rattle.event_callbacks.specs.declared.operations.Operation.TheVariants.{Byte, Write}

@@ -1,4 +1,4 @@
--- What stands goes on to stand where a word changes: the list, what is acknowledged, who won, the counts.
+-- What held still holds when a word changes: the list, what is acknowledged, who won, the counts.
 use Rattle.std.proofs.Common.{◌≡◌, ℕ, zero, suc, ◌≤◌, eqb, List, [], ◌∷◌, ◌++◌, length, refl, ap, inl, inr, ⊎_elim, arith, length-append, le_refl}
 use prog.Atomic.{either}
 use Rattle.std.specs.Prelude.{Option}

@@ -109,7 +109,7 @@ pub record Laid (words hands : List ℕ) (has_slot : List Bool) (homes : Homes) 
   pub bare : (s h : ℕ) → get_elem? hands s ≡ some h → get_elem? has_slot s ≡ some false →
       get_elem? homes h ≡ some (some None)
 
--- each box stands as its two sides say
+-- each box is as its two sides say
 abbrev pub Boxes : List ℕ → Homes → List Side → List Side → Type 0
 Boxes words homes fills empties =
     (b : Mailbox) (w : ℕ) (f e : Side) → get_elem? words (box_index b) ≡ some w →

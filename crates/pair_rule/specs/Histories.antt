@@ -1,5 +1,5 @@
--- The steps that led to what is known: each of a kind of the table, one after another, as the table allows them. No machine
--- is spoken of here.
+-- The steps that led to what is known, one after another, each of a kind that the table allows. No machine is mentioned
+-- here.
 use Rattle.std.specs.Prelude.{◌≡◌, ℕ, ◌+◌, ◌<◌, [], length, None}
 use Rattle.log_entry.specs.declared.entry.Entry.{Entry}
 use Rattle.pair_protocol.specs.Lawful.{top}
@@ -28,13 +28,13 @@ AsksNot Primary k = k.primary.winner ≡ 0
 AsksNot Backup k = k.backup.winner ≡ 0
 AsksNot _ k = Unit {0}
 
--- a primary appends where it has not asked and its log is not full
+-- a primary appends if it has not asked and its log is not full
 pub record MayAppend (k : Knowledge) : Type 0 where
   pub asks_not : k.primary.winner ≡ 0
   pub few : length k.primary.list < top
   pub room : length k.primary.list < k.primary.seen + 256
 
--- a seat puts into a box before it has asked, and the disk only an answer to the request that it took last
+-- a seat fills a box only before it has asked, and the disk only with an answer to the request that it took last
 abbrev pub IsReply : Mailbox → Knowledge → Payload → Type 0
 IsReply Answers k (Answer a) = Replies k.disk a
 IsReply _ k _ = Unit {0}

@@ -24,7 +24,7 @@ Mine = Me (Option Payload) SeatView
 abbrev pub side_at : List Side → ℕ → Side
 side_at sides b = slice_index_or sides b new_side
 
--- the core after a box was filled, where this word was found
+-- the core after a box was filled in which this word was found
 abbrev pub filled : Mailbox → Payload → ℕ → Core → Core
 filled b q r c = record c {
   hands = slice_set c.hands (seat_index (filler b)) (slot_of r);
@@ -42,7 +42,7 @@ emptied b q r c = record c {
   known = after_empty b q c.known;
 }
 
--- the same where the box was empty
+-- the same if the box was empty
 abbrev pub found_empty : Mailbox → ℕ → Core → Core
 found_empty b r c = record c {
   hands = slice_set c.hands (seat_index (emptier b)) (slot_of r);
@@ -51,11 +51,11 @@ found_empty b r c = record c {
       (side_at c.empties (box_index b)).last);
 }
 
--- the core, where what is known is another
+-- the core with what is known changed
 abbrev pub with_known : (Knowledge → Knowledge) → Core → Core
 with_known turn c = record c { known = turn c.known }
 
--- the view, where the core is another
+-- the view with its core changed
 abbrev pub with_core : SeatView → Core → SeatView
 with_core v c = record v { core = c }
 
@@ -72,14 +72,14 @@ Filled b m r n =
 abbrev pub WasIn : Mailbox → Knowledge → Payload → Type 0
 WasIn b own q = (all : Knowledge) × Moment (emptier b) own all × Fits b all q
 
--- what a seat finds that empties a box
+-- what a seat that empties a box finds
 abbrev pub Emptied : Mailbox → Mine → ℕ → Mine → Bool → Type 0
 Emptied b m r n true =
     (q : Payload) × WasIn b m.0.core.known q × (n.1 ≡ (slot_of r, Some q) ∷ [])
     × ((side_at m.0.core.empties (box_index b)).met < number_of r) × (n.0 ≡ with_core m.0 (emptied b q r m.0.core))
 Emptied b m r n false = n.0 ≡ with_core m.0 (found_empty b r m.0.core)
 
--- a fill and an emptying of the box that stands at this word
+-- a fill and an emptying of the box at this word
 abbrev pub fills : ℕ → Mine → ℕ → Mine → Type 0
 fills word m r n = (b : Mailbox) → word ≡ 5 + box_index b → Filled b m r n
 
@@ -143,7 +143,7 @@ sees_count port m r n =
     (n.1 ≡ m.1) × (counted_at port m.0.core.known ≤ r) × WasAccepted port m.0.core.known r
     × (n.0 ≡ with_core m.0 (with_known (saw_count port r) m.0.core))
 
--- ---- a seat takes its first slot, puts its last one back, comes, and is joined
+-- ---- a seat takes its first slot, puts its last one back, is split off, and is joined
 
 -- a seat has its slot, or has none
 abbrev pub with_slot : Who → Bool → Core → Core
@@ -184,7 +184,7 @@ mixed who s own rest =
     pick who s own rest Outbox ∷ pick who s own rest Inbox ∷ pick who s own rest Bytes0 ∷ pick who s own rest Bytes1
     ∷ pick who s own rest Requests ∷ pick who s own rest Answers ∷ []
 
--- what is known, with one seat's part of another
+-- what is known, with one seat's part from another
 abbrev pub know_of : Who → Knowledge → Knowledge → Knowledge
 know_of Primary own rest = record rest { primary = own.primary }
 know_of Link own rest = record rest { link = own.link }
@@ -192,7 +192,7 @@ know_of Backup own rest = record rest { backup = own.backup }
 know_of Terminal own rest = record rest { terminal = own.terminal }
 know_of Disk own rest = record rest { disk = own.disk }
 
--- a core with one seat's part of another
+-- a core with one seat's part from another
 abbrev pub part_of : Who → Core → Core → Core
 part_of s own rest = record {
   hands = slice_set rest.hands (seat_index s) (slice_index_or own.hands (seat_index s) 0);
@@ -202,14 +202,14 @@ part_of s own rest = record {
   known = know_of s own.known rest.known;
 }
 
--- a view with one seat's part more, and what is left of the view that had it
+-- a view with one more seat's part, and what is left of the view that had it
 abbrev pub with_part : Who → SeatView → SeatView → SeatView
 with_part s v w = record { mine = slice_set v.mine (seat_index s) true; core = part_of s w.core v.core }
 
 abbrev pub spent_view : SeatView
 spent_view = record (first_view 0) { mine = nobody }
 
--- the counts stand at words 3 and 4
+-- the counts are at words 3 and 4
 abbrev pub counts_at : ℕ → Mine → ℕ → Mine → Type 0
 counts_at word m r n = (port : ℕ) → port < 2 → word ≡ 3 + port → counts port m r n
 

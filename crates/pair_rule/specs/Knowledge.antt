@@ -1,4 +1,4 @@
--- What the seats know together, what stands of it, and how each step changes it.
+-- What the seats know together, what holds of it, and how each step changes it.
 use Rattle.std.specs.Prelude.{◌≡◌, ◌≢◌, ◌⊎◌, ℕ, zero, suc, ◌+◌, ◌<◌, ◌≤◌, ◌==◌, cond, List, [], ◌∷◌, ◌++◌, length, Option, Some, None}
 use mathlib.Core.Option.{some}
 use lib.ListN.{get_elem?}
@@ -55,7 +55,7 @@ words_of k =
     length k.primary.list ∷ last_or 0 k.backup.held_values ∷ winner_of k.primary.winner k.backup.winner
     ∷ accepted_after 0 k.terminal.arrivals0 ∷ accepted_after 0 k.terminal.arrivals1 ∷ []
 
--- ---- what stands
+-- ---- what holds
 
 -- the packet is that entry of the primary's list
 abbrev pub IsEntryOf : ℕ → List Entry → Packet → Type 0
@@ -93,7 +93,7 @@ MayLie _ g list released given _ = ⊥
 abbrev pub Fits : Mailbox → Knowledge → Payload → Type 0
 Fits b k x = MayLie b k.generation k.primary.list k.primary.released k.disk.given x
 
--- it holds of what is there, if anything is
+-- it holds of the value, if there is one
 abbrev pub WhereSome : {A : Type 0} → Option A → (A → Type 0) → Type 0
 WhereSome None holds = Unit {0}
 WhereSome (Some x) holds = holds x
@@ -103,7 +103,7 @@ abbrev pub AllAre : {A : Type 0} → List A → (A → Type 0) → Type 0
 AllAre [] holds = Unit {0}
 AllAre (x ∷ xs) holds = holds x × AllAre xs holds
 
--- who won is known to whoever asked, and is one
+-- whoever asked knows who won, and there is only one winner
 pub record Decided (primary backup : ℕ) : Type 0 where
   pub few : winner_of primary backup < 3
   pub same : primary ≢ 0 → backup ≢ 0 → primary ≡ backup
@@ -148,7 +148,7 @@ pub record DiskStands (released : List Operation) (had : List DiskAnswer) (disk 
   pub answers : AllAre had (λ a. Among a disk.given)
   pub replies : AllAre disk.given (IsReplied disk.puts)
 
--- what stands of all that the seats know
+-- what holds of all that the seats know
 pub record Stands (k : Knowledge) : Type 0 where
   pub log : ListStands k.generation k.primary.list k.link k.backup.list k.backup.held_values k.primary.seen
   pub decided : Decided k.primary.winner k.backup.winner
@@ -223,7 +223,7 @@ saw n k = record k { primary = record k.primary { seen = n } }
 abbrev pub held : Knowledge → Knowledge
 held k = record k { backup = record k.backup { held_values = k.backup.held_values ++ length k.backup.list ∷ [] } }
 
--- who asks is told the first that asked, itself where nobody had
+-- who asks is told who asked first, which is itself if nobody had
 abbrev pub winner_after : ℕ → ℕ → ℕ
 winner_after me found = cond (found == 0) me found
 

@@ -61,9 +61,9 @@ pub record HasLonger {S : Type 0} (M : Machine S) (list : List Entry) (e : Entry
   pub entries_are : entries Logged 0 (moves ++ move ∷ []) ≡ list ++ e ∷ []
   pub count : M.count after ≡ count_of e
 
--- what a primary was told of the input that its list then ends with: the keys of the list are the first of those typed;
--- the bytes that it says are accepted are counted; the disk has answered, and the sector is the one under the head. Threads
--- log their sectors with the bytes, so none is told of a read
+-- what a primary was told of the input at the end of its list: the keys of the list are the first of those typed; the
+-- bytes that it says are accepted are counted; the disk has answered, and the sector is the one under the head. Threads
+-- log their sectors with the bytes, so the input is never a read
 abbrev pub IsTold : {S : Type 0} → Machine S → List ℕ → List ℕ → Knowledge → S → Entry → Type 0
 IsTold M typed0 typed1 k s (Mark count) = Unit {0}
 IsTold M typed0 typed1 k s (Rx count port byte) =
@@ -76,12 +76,12 @@ IsTold M typed0 typed1 k s (Sector count drive sector number bytes) =
     × (r.number ≡ number) × (r.bytes ≡ bytes)
 IsTold M typed0 typed1 k s (Read count drive sector number) = ⊥
 
--- the operation is a write, or a byte of a port that is there
+-- the operation is a write, or a byte of a port that exists
 abbrev pub HasPort : Operation → Type 0
 HasPort (Byte port number byte) = port < 2
 HasPort (Write w) = Unit {0}
 
--- the operation is outstanding where a run of the list ends, and its mark is acknowledged
+-- the operation is outstanding at the end of a run of the list, and its mark is acknowledged
 abbrev pub IsCovered : {S : Type 0} (M : Machine S) (k : Knowledge) → HasRun M k.primary.list → Operation → Type 0
 IsCovered M k run o =
     (M.find run.last (id_of o) ≡ Some o)
@@ -112,8 +112,8 @@ pub data ThreadStep {S : Type 0} (M : Machine S) (typed0 typed1 : List ℕ) (k :
   Puts : (write : SectorWrite) → k.disk.taken ≡ Some (ask.Write write) →
       ThreadStep M typed0 typed1 k (after_fill Answers (Answer (answer.Written write.number)) k)
 
--- the events of an append, the i-th: the machine's steps up to the entry's count, the input that it takes there, if the
--- entry is one, and the entry is sent. No list has a read
+-- the events of the i-th append: the machine's steps up to the entry's count, then the entry's input, if it has one, and
+-- then the entry is sent. No list has a read
 abbrev pub AppendEvents : ℕ → Entry → List Event → Type 0
 AppendEvents i (Mark count) events = (n : ℕ) × (events ≡ Step 0 n ∷ Send 0 i ∷ [])
 AppendEvents i (Rx count port byte) events = (n key : ℕ) × (events ≡ Step 0 n ∷ TakeKey 0 port key ∷ Send 0 i ∷ [])
@@ -123,7 +123,7 @@ AppendEvents i (Sector count drive sector number bytes) events =
     (n m : ℕ) × (events ≡ Step 0 n ∷ Get 0 sector ∷ GetReply m 0 ∷ Send 0 i ∷ [])
 AppendEvents i (Read count drive sector number) events = ⊥
 
--- what is seen is one acknowledgement that comes, or nothing at 0
+-- what is seen is one acknowledgement that arrives, or nothing at 0
 abbrev pub SeeEvents : ℕ → List Event → Type 0
 SeeEvents zero events = events ≡ []
 SeeEvents (suc n) events = (m : ℕ) × (events ≡ DeliverAcknowledgement m 0 ∷ [])
@@ -143,7 +143,7 @@ EventsOf (Releases o run port serves covered) events = events ≡ Release 0 (id_
 EventsOf (Arrives port number byte two hand) events = (m : ℕ) × (events ≡ Arrive m ∷ [])
 EventsOf (Puts write taken) events = (m : ℕ) × (events ≡ Put m ∷ [])
 
--- a step that is no event: the world shows what is known after it as before
+-- a step that is not an event: the same world shows what is known before it and after it
 pub data SilentStep {S : Type 0} (M : Machine S) (k : Knowledge) : Knowledge → Type 0 where
   Keeps : SilentStep M k k
   CountsNone : (port : ℕ) → hand_of port k ≡ None → SilentStep M k (byte_arrived port k)
@@ -179,7 +179,7 @@ StepsAreEvents S =
     Shows M typed0 typed1 k w → Stands k → (step : ThreadStep M typed0 typed1 k new) →
     Leads M C typed0 typed1 new w (EventsOf step)
 
--- from a world that actions reach, the events lead to one that actions reach; it is faithful, and what was settled goes on
+-- from a world that actions reach, the events lead to one that actions reach; it is faithful, and what was settled grows
 pub record LeadsFaithfully {S : Type 0} (M : Machine S) (C : Copying S) (typed0 typed1 : List ℕ) (k : Knowledge)
     (w : World S) (Form : List Event → Type 0) : Type 0 where
   pub leads : Leads M C typed0 typed1 k w Form
@@ -187,7 +187,7 @@ pub record LeadsFaithfully {S : Type 0} (M : Machine S) (C : Copying S) (typed0 
   pub faithful : Faithful M leads.new
   pub grows : Grows M w leads.new
 
--- and faithful ones
+-- the worlds that they lead to are faithful
 abbrev pub StepsAreFaithful : Type 0 → Type 0
 StepsAreFaithful S =
     (M : Machine S) (C : Copying S) → Runnable M → IsCopying M C → (typed0 typed1 : List ℕ) (k new : Knowledge)

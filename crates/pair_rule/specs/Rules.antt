@@ -22,7 +22,7 @@ SamePart Backup k l = k.backup ≡ l.backup
 SamePart Terminal k l = k.terminal ≡ l.terminal
 SamePart Disk k l = k.disk ≡ l.disk
 
--- what all seats know at one moment, for a seat that knows its own part of it: it stands
+-- what all seats know at one moment, for a seat that knows its own part of it: what must hold of it does
 pub record Moment (s : Who) (own all : Knowledge) : Type 0 where
   pub stands : Stands all
   pub generation : own.generation ≡ all.generation

@@ -101,7 +101,7 @@ pub record Carrier : Type 0 where
   pub core : Core
   pub hand : Option Packet
 
--- the numbers that a primary keeps beside are those of its view
+-- the numbers that a primary keeps itself are those of its view
 pub record IsPrimary (me : Mine) (slot : ℕ) (fills empties : List ℕ) (generation count seen : ℕ) : Type 0 where
   pub keeps : Keeps Primary me slot fills empties
   pub generation_is : generation ≡ me.0.core.known.generation
@@ -114,13 +114,13 @@ pub record IsLink (me : Mine) (slot : ℕ) (fills empties : List ℕ) (hand : Op
   pub keeps : Keeps Link me slot fills empties
   pub hand_is : (p : Packet) → hand ≡ Some p → me.0.core.known.link ≡ Some p
 
--- the list grew by one with a taking at most
+-- each taking adds one entry to the list at most
 pub record IsBackup (me : Mine) (slot : ℕ) (fills empties : List ℕ) (count : ℕ) : Type 0 where
   pub keeps : Keeps Backup me slot fills empties
   pub count_is : count ≡ length me.0.core.known.backup.list
   pub count_low : count ≤ (side_at me.0.core.empties (box_index Inbox)).number
 
--- what terminals keep beside is of their view
+-- what the terminals keep themselves is what their view says
 pub record IsTerminal (me : Mine) (slot : ℕ) (fills empties : List ℕ) (hand0 : Option Operation) (accepted0 : ℕ)
     (hand1 : Option Operation) (accepted1 : ℕ) : Type 0 where
   pub keeps : Keeps Terminal me slot fills empties
@@ -149,11 +149,11 @@ met_at sides b = (side_at sides (box_index b)).met
 abbrev pub last_at : List Side → Mailbox → Option Payload
 last_at sides b = (side_at sides (box_index b)).last
 
--- a byte that came, as an operation of its port
+-- a byte that arrived, as an operation of its port
 abbrev pub byte_of : ℕ → PortByte → Payload
 byte_of port b = Out (Byte port b.number b.byte)
 
--- a list after a packet came, or none
+-- a list after a packet arrived, or none
 abbrev pub with_packet : List Entry → Option Packet → List Entry
 with_packet list None = list
 with_packet list (Some p) = grown list p
@@ -164,7 +164,7 @@ Fills b q old new =
     ((r : ℕ) × (new ≡ filled b q r old)) × (swaps_at new.fills b ≡ swaps_at old.fills b + 1)
     × (last_at new.fills b ≡ Some q)
 
--- it emptied a box: it swapped once more there, and it found something exactly if it met a new number
+-- it emptied a box: it swapped once more there, and it found something exactly if it found a new number
 abbrev pub Empties : Mailbox → Option Payload → Core → Core → Type 0
 Empties b (Some q) old new =
     WasIn b old.known q × ((r : ℕ) × (new ≡ emptied b q r old))

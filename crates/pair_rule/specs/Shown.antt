@@ -1,5 +1,5 @@
--- The world that the core stands for: a primary that has the list and stands at its last count, a backup that holds its
--- copy, and what was sent, accepted and written. Both log the sectors that the primary reads with their bytes.
+-- The world that the core stands for: a primary that has the list and is at its last count, a backup that holds its copy,
+-- and what was sent, accepted and written. Both log the sectors that the primary reads with their bytes.
 use Rattle.std.specs.Prelude.{◌≡◌, ◌⊎◌, ◌<◌, length, ℕ, zero, suc, Bool, true, false, Option, Some, None, List, [], ◌∷◌, ◌++◌, map, slice_get}
 use Rattle.event_callbacks.specs.declared.operations.Operation.{Operation}
 use Rattle.guest_lockstep.specs.Machine.{Machine, Move, Do, Take}
@@ -75,7 +75,7 @@ abbrev pub backup_runs : ℕ → Bool
 backup_runs (suc zero) = false
 backup_runs _ = true
 
--- the primary has the list, stands at its last count, and is covered as far as it has seen; the backup holds its list
+-- the primary has the list, is at its last count, and is covered up to what it has seen; the backup holds its list
 abbrev pub primary_node : {S : Type 0} → Visible → List Move → S → Node S
 primary_node v moves s = record (blank (primary_role v.winner) 1 Logged s) {
   running = primary_runs v.winner;
@@ -91,7 +91,7 @@ backup_node M v = record (blank (backup_role v.backup.winner) 1 Logged M.boot) {
   held = v.backup.list;
 }
 
--- ---- what stands beside them
+-- ---- the rest of the world
 
 -- the terminals have the arrivals of their view
 abbrev pub arrival_of : Arrived → Arrival
@@ -152,7 +152,7 @@ pub record ShowsVisible {S : Type 0} (M : Machine S) (typed0 typed1 : List ℕ) 
   pub covered : (o : Operation) → Among o v.released → IsAcknowledged moves v.seen o
   pub first_reads : (r : disk.SectorRead) → Among (Read r) v.given → r.number ≡ 0 → r.bytes ≡ M.boot_sector (read_at r)
 
--- and so by what is known
+-- and so it is by what is known
 abbrev pub Shows : {S : Type 0} → Machine S → List ℕ → List ℕ → Knowledge → World S → Type 0
 Shows M typed0 typed1 k w = ShowsVisible M typed0 typed1 (visible k) w
 

@@ -55,12 +55,12 @@ pub data TableStep {S : Type 0} (M : Machine S) (typed0 typed1 : List ℕ) (k : 
   SeesCount : (port : ℕ) → port < 2 → AsksNot Primary k →
       TableStep M typed0 typed1 k (saw_count port (accepted_at port k) k)
 
--- what stands goes on to stand, and the step is one that is events of the world, or none
+-- what held still holds, and the step is events of the world, or none
 pub record IsStep {S : Type 0} (M : Machine S) (typed0 typed1 : List ℕ) (k new : Knowledge) : Type 0 where
   pub stands : Stands new
   pub step : ThreadStep M typed0 typed1 k new ⊎ SilentStep M k new
 
--- so with each kind of step
+-- so it is with each kind of step
 abbrev pub TableStepsAreSteps : Type 0 → Type 0
 TableStepsAreSteps S =
     (M : Machine S) (typed0 typed1 : List ℕ) (k new : Knowledge) → Stands k → TableStep M typed0 typed1 k new →

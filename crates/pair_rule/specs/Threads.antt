@@ -93,7 +93,7 @@ pub record Promises {S : Type 0} (M : Machine S) (typed0 typed1 : List ℕ) (k :
   pub disk : (address : SectorAddress) → MayHave M trace reach.last address (sector_record M k.disk.puts address).bytes
   pub keys_kept : (port : ℕ) → port < 2 → IsPrefix (keys port list) (typed_at port typed0 typed1)
 
--- what an entry says of the disk is an answer that came; a sector comes with its bytes, so no entry is a read
+-- what an entry says of the disk is an answer that arrived; a sector comes with its bytes, so no entry is a read
 abbrev pub IsAnswered : List DiskAnswer → Entry → Type 0
 IsAnswered answers (Written count number) = Among (answer.Written number) answers
 IsAnswered answers (Sector count drive sector number bytes) =

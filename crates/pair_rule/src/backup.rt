@@ -72,7 +72,7 @@ impl BackupSeat {
         self.length
     }
 
-    /// Asks who goes on alone: Ok if it is the backup. `Lost` if the primary asked first.
+    /// The test-and-set: Ok if the backup goes on alone. `Lost` if the primary asked first.
     pub fn contest(&mut self, fabric: &Fabric) -> Result<(), Fault>
         requires table { self.old.table ≡ fabric.now }
         requires before { self.old.core.known.backup.winner ≡ 0 }

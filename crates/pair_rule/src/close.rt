@@ -17,7 +17,7 @@ use crate::payload::Payload;
 use crate::seat::SeatState;
 use std::alloc::Global;
 
-/// The words of a table that no thread shares any more.
+/// The words of a table that no thread shares any longer.
 #[derive(Clone, Copy)]
 pub struct Closed {
     /// How many entries the primary's list has.

@@ -48,7 +48,7 @@ impl DiskSeat {
         }
     }
 
-    /// Answers the request that was taken last. An answer that lay in the box is lost.
+    /// Answers the request that was taken last. An answer still in the box is lost.
     #[tactic(auto, using(crate::proofs::Replies::can_reply))]
     pub fn reply(&mut self, fabric: &Fabric, answer: DiskAnswer)
         requires table { self.old.table ≡ fabric.now }

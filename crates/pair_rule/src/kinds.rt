@@ -38,7 +38,7 @@ impl Play<Option<Payload>, SeatView> for Hold {
     ghost then = { λ _. holds_entries };
 }
 
-// Primary and backup ask who goes on alone.
+// The test-and-set of primary and backup.
 pub struct ContestPrimary;
 
 impl Play<Option<Payload>, SeatView> for ContestPrimary {

@@ -7,8 +7,8 @@ use altair_laws::altairs_are_lawful;
 use guest_board::{boards_count, boards_issue_and_complete};
 use pair_protocol::{actions_are_faithful, events_are_actions, events_grow};
 
-/// Each kind of step of the table keeps what stands of all that the seats know, and it is a step of the law below: one that
-/// is events of a pair, or one that is none.
+/// Each kind of step of the table keeps what holds of all that the seats know, and it is a step of the law below: one
+/// that is events of a pair, or one that is none.
 pub fn table_steps_are_steps<S>()
     ensures steps { TableStepsAreSteps S }
 {}
@@ -26,7 +26,7 @@ pub fn steps_are_events<S>()
     ensures events { StepsAreEvents S }
 {}
 
-/// The other steps of the threads are no event: the same world shows what is known after them.
+/// The other steps of the threads are not events: the same world shows what is known after them.
 pub fn silent_steps_are_shown<S>()
     ensures shown { SilentStepsShow S }
 {}
@@ -40,8 +40,8 @@ pub fn steps_are_faithful<S>()
     events_grow::<S>();
 }
 
-/// The steps of the table that led to what is known are steps of the threads, if each call of the primary and each answer of
-/// the disk kept its promise: so the law below is of them.
+/// The steps of the table that led to what is known are steps of the threads, if each call of the primary and each answer
+/// of the disk kept its promise: so the law below is about them.
 pub fn kept_steps_are_threads<S>()
     ensures threads { KeptStepsAreThreads S }
 {}

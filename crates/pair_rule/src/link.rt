@@ -57,8 +57,8 @@ impl LinkSeat {
         }
     }
 
-    /// Puts the packet in the hand into the inbox. What lay there is lost. With `keep` the hand has it still. With an
-    /// empty hand it does nothing.
+    /// Puts the packet in the hand into the inbox. A packet still there is lost. With `keep` it also stays in the hand.
+    /// With an empty hand it does nothing.
     pub fn carry_in(&mut self, fabric: &Fabric, keep: bool)
         requires table { self.old.table ≡ fabric.now }
         requires few { swaps_at self.old.core.fills Inbox < 2 ^ 40 }

@@ -79,7 +79,7 @@ impl PrimarySeat {
         Ok(index)
     }
 
-    /// Puts the packet of an entry into the outbox. What lay there is lost.
+    /// Puts the packet of an entry into the outbox. A packet still there is lost.
     pub fn post(&mut self, fabric: &Fabric, index: u64, entry: &Entry)
         requires table { self.old.table ≡ fabric.now }
         requires before { self.old.core.known.primary.winner ≡ 0 }
@@ -110,7 +110,7 @@ impl PrimarySeat {
         self.seen
     }
 
-    /// Asks who goes on alone: Ok if it is the primary. `Lost` if the backup asked first.
+    /// The test-and-set: Ok if the primary goes on alone. `Lost` if the backup asked first.
     pub fn contest(&mut self, fabric: &Fabric) -> Result<(), Fault>
         requires table { self.old.table ≡ fabric.now }
         requires before { self.old.core.known.primary.winner ≡ 0 }
@@ -126,7 +126,7 @@ impl PrimarySeat {
         }
     }
 
-    /// Gives a byte of a port to its terminal. What lay in the box is lost.
+    /// Gives a byte of a port to its terminal. A byte still in the box is lost.
     pub fn emit(&mut self, fabric: &Fabric, port: u8, number: u64, byte: u8)
         requires table { self.old.table ≡ fabric.now }
         requires before { self.old.core.known.primary.winner ≡ 0 }
@@ -156,7 +156,7 @@ impl PrimarySeat {
         self.state.counted(fabric, port)
     }
 
-    /// Asks the disk. A request that lay in the box is lost.
+    /// Asks the disk. A request still in the box is lost.
     pub fn request(&mut self, fabric: &Fabric, request: DiskRequest)
         requires table { self.old.table ≡ fabric.now }
         requires before { self.old.core.known.primary.winner ≡ 0 }

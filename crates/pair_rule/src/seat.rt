@@ -33,7 +33,7 @@ impl SeatState {
         are_below(&self.fills) && are_below(&self.empties)
     }
 
-    // Puts a payload into a box. What lay there is lost.
+    // Puts a payload into a box. One still there is lost.
     pub(crate) fn fill(&mut self, fabric: &Fabric, mailbox: Mailbox, payload: Payload)
         requires table { self.old.seat.table_id ≡ fabric.now }
         requires seat { Keeps (filler mailbox) self.old.seat.me self.old.slot self.old.fills self.old.empties }
@@ -141,7 +141,7 @@ impl SeatState {
             .fetch_max::<Count>(&mut self.seat, 3 + port as usize, accepted);
     }
 
-    // Asks for the primary who goes on alone.
+    // The primary's test-and-set: returns who goes on alone.
     pub(crate) fn contest_primary(&mut self, fabric: &Fabric) -> u64
         requires table { self.old.seat.table_id ≡ fabric.now }
         requires before { self.old.seat.me.0.core.known.primary.winner ≡ 0 }
@@ -158,7 +158,7 @@ impl SeatState {
             .compare_exchange::<ContestPrimary>(&mut self.seat, 2, 0, 1)
     }
 
-    // Asks for the backup who goes on alone.
+    // The backup's test-and-set: returns who goes on alone.
     pub(crate) fn contest_backup(&mut self, fabric: &Fabric) -> u64
         requires table { self.old.seat.table_id ≡ fabric.now }
         requires before { self.old.seat.me.0.core.known.backup.winner ≡ 0 }
@@ -201,7 +201,7 @@ fn are_below(numbers: &[u64; 6]) -> bool
     numbers.iter().all(|number| *number < MOST_SWAPS)
 }
 
-// The number of the next swap at a box, by those that a seat has made.
+// The number of the next swap at a box, from the numbers of those that a seat has made.
 fn next_number(numbers: &[u64; 6], index: usize) -> u64
     requires within { index < 6 }
     requires few { slice_index_or numbers.now index 0 < 2 ^ 40 }
@@ -219,7 +219,7 @@ fn full_word(number: u64, slot: usize) -> u64
     number * 32 + 16 + slot as u64
 }
 
-// The same of an empty box.
+// The word of an empty box, likewise.
 fn empty_word(number: u64, slot: usize) -> u64
     requires number { number ≤ 2 ^ 40 }
     requires slot { slot < 11 }

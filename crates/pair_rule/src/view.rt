@@ -13,13 +13,13 @@ pub struct Side {
     pub last: Option<Payload>,
 }
 
-/// A byte that came to a terminal.
+/// A byte that arrived at a terminal.
 pub struct Arrived {
     pub number: u64,
     pub byte: u8,
 }
 
-/// A call of the primary that promises something, and what it promises it of: the list, and what it had been told.
+/// A call of the primary that promises something, with what the promise is about: the list, and what it had been told.
 pub enum PrimaryCall {
     Appended {
         list: LinkedList<Entry>,
@@ -54,7 +54,7 @@ pub struct BackupView {
     pub winner: u64,
 }
 
-/// What the terminals know: what came, and the byte that was taken last.
+/// What the terminals know: what arrived, and the byte that was taken last.
 pub struct TerminalView {
     pub arrivals0: LinkedList<Arrived>,
     pub arrivals1: LinkedList<Arrived>,

@@ -1,5 +1,5 @@
--- What terminals and a disk have of what was released, beside a trace that gave all of it: a terminal has the trace's
--- output, or all of it but the last bytes of a window; a sector has the bytes of the machine's own disk, or of an
+-- What terminals and a disk have of what was released, compared with a trace that gave all of it: a terminal has the
+-- trace's output, or all of it but the last bytes of a window; a sector has the bytes of the machine's own disk, or of an
 -- outstanding write.
 use Rattle.std.proofs.Common.{◌≡◌, ℕ, ◌+◌, ◌≤◌, ◌⊎◌, inl, inr, Option, Some, None, List, [], ◌∷◌, ◌++◌, length, map, refl, sym, ap, subst, ◌∙◌, arith, append-nil, length-append, slice_get}
 use Rattle.disk_dcdd.specs.Address.{address_of}

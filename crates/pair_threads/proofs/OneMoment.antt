@@ -1,4 +1,4 @@
--- What stands of the views of one moment.
+-- What holds of the views of one moment.
 use Rattle.std.proofs.Common.{◌≡◌, ℕ, ◌+◌, ◌≤◌, ◌==◌, Bool, true, false, cond, List, [], ◌∷◌, length, map, subst, arith}
 use Rattle.event_callbacks.specs.declared.operations.Operation.TheVariants.{Byte, Write}
 use Rattle.pair_protocol.specs.Lawful.{Among}

@@ -1,5 +1,5 @@
--- The guest of a backup's worker: entries that come leave what it has repeated as it was; steps towards an entry keep
--- it, and the entry's own move adds the entry.
+-- The guest of a backup's worker: entries that arrive leave what it has repeated as it was; steps towards an entry keep it,
+-- and the entry's own move adds the entry.
 use Rattle.std.proofs.Common.{◌≡◌, ℕ, suc, ◌+◌, ◌<◌, ◌≤◌, Bool, true, false, Ok, List, [], ◌∷◌, ◌++◌, length, take, get_or, refl, sym, ap, subst, ◌∙◌, arith}
 use Rattle.std.proofs.Math.Seq.{take-suc}
 use Rattle.std.proofs.lemmas.List.{take-append-le}

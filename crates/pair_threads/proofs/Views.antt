@@ -1,4 +1,4 @@
--- What each call of its seat leaves of a primary's view, and how a guest leads on under it.
+-- What each call of its seat leaves of a primary's view, and that its guest still leads under it.
 use Rattle.std.proofs.Common.{◌≡◌, ℕ, zero, suc, ◌≤◌, inl, inr, List, [], ◌∷◌, ◌++◌, length, Some, None, refl, sym, ap, subst, ◌∙◌, arith, eqb, true, Option}
 use Rattle.std.specs.Prelude.{◌-◌, IsSome, slice_get}
 use Rattle.std.specs.Option.{option_eq}

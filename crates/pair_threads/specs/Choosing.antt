@@ -27,8 +27,8 @@ next_chore Run = See
 abbrev pub next_sector : ℕ → ℕ
 next_sector sector = (sector + 1) % 32
 
--- Whether a sector may come: not if the guest would be refused it, but one is due that it has a stale copy of; and a busy one
--- is passed by.
+-- Whether a sector may be read: not if the guest would refuse it; but one of which the guest was offered a stale copy is
+-- due, and a busy one is passed by.
 abbrev pub due_by : Option Fault → SectorAddress → Option (SectorAddress × Bool)
 due_by None address = Some (address, false)
 due_by (Some StaleRead) address = Some (address, false)
@@ -39,11 +39,11 @@ abbrev pub due_sector : {S : Type 0} → Machine S → S → ℕ → Option (Sec
 due_sector M s sector =
     option_and_then (λ drive. due_by (sector_refusal M s (M.address s drive sector) 0) (M.address s drive sector)) (M.selected s)
 
--- how many operations of a guest are on their way, with what was asked of the disk
+-- how many operations of a guest are in flight, with what was asked of the disk
 abbrev pub in_flight : {B : Type 0} → PrimaryWorker B → ℕ
 in_flight w = vec_len w.guest.given + (if w.asked || is_some w.answer then 1 else 0)
 
--- how many steps it may make in a turn: all, or a share of 2,000 while some are
+-- how many steps it may make in a turn: all, or a share of 2,000 while some are in flight
 abbrev pub steps_by : ℕ → ℕ → ℕ
 steps_by steps zero = steps
 steps_by steps (suc n) = min (2000 / suc n) steps
@@ -52,7 +52,7 @@ steps_by steps (suc n) = min (2000 / suc n) steps
 abbrev pub post_next : ℕ → ℕ → ℕ → ℕ
 post_next next seen entries = if nat_lt next seen || nat_le entries next then seen else next
 
--- how many turns a worker has left after one that found nothing: as many, unless somebody is to ask at a turn
+-- how many turns a worker has left after one that found nothing: as many, unless somebody is planned to ask at a turn
 abbrev pub left_after_waiting : Bool → ℕ → ℕ
 left_after_waiting contested left = if contested then left - 1 else left
 

@@ -23,18 +23,18 @@ winner_named zero = None
 winner_named (suc zero) = Some Primary
 winner_named (suc (suc n)) = Some Backup
 
--- a seat whose view names a winner has asked, so it was to ask at a turn
+-- a seat whose view names a winner has asked, so it was planned to ask at a turn
 abbrev pub HasAsked : Option ℕ → ℕ → Type 0
 HasAsked contests_at winner = (winner ≡ 0) ⊎ IsSome contests_at
 
--- whoever goes on alone was to ask for it at a turn; if nobody does, nobody was to ask
+-- whoever goes on alone was planned to ask at a turn; if nobody does, nobody was planned to
 abbrev pub WonBy : Option ℕ → Option ℕ → Option Who → Type 0
 WonBy primary_contests backup_contests None = (primary_contests ≡ None) × (backup_contests ≡ None)
 WonBy primary_contests backup_contests (Some Primary) = IsSome primary_contests
 WonBy primary_contests backup_contests (Some Backup) = IsSome backup_contests
 WonBy primary_contests backup_contests (Some who) = ⊥
 
--- the two ways in which a run comes to no end
+-- the two ways in which a run fails
 abbrev pub IsEnding : Fault → Type 0
 IsEnding fault = (fault ≡ OutOfMemory) ⊎ (fault ≡ Stalled)
 

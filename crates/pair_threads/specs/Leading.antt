@@ -40,7 +40,7 @@ IsAnswer M answers s (input.Sector drive sector number bytes) =
     × (r.bytes ≡ bytes)
 IsAnswer M answers s (input.Written number) = Among (answer.Written number) answers
 
--- so is what each input along moves says
+-- so is what each input of these moves says
 abbrev pub AreAnswers : {S : Type 0} → Machine S → List DiskAnswer → S → List Move → Type 0
 AreAnswers M answers s [] = Unit {0}
 AreAnswers {S} M answers s (Do gives ∷ moves) =
@@ -48,8 +48,8 @@ AreAnswers {S} M answers s (Do gives ∷ moves) =
 AreAnswers {S} M answers s (Take i ∷ moves) =
     IsAnswer M answers s i × ((u : S) → M.take s i ≡ Some u → AreAnswers M answers u moves)
 
--- from its boot the guest has made a recorded run with these entries; whatever is outstanding was given in it; of whatever
--- the seat released the mark is among the entries seen; and the disk answered what the run's inputs say of it
+-- from its boot the guest has made a recorded run with these entries; all that is outstanding was given in it; the mark of
+-- all that the seat released is among the entries seen; and the disk answered what the run's inputs say of it
 pub record Leads {S : Type 0} (M : Machine S) (boot : S) (list : List Entry) (names : List OpId) (view : PrimaryView)
     (s : S) : Type 0 where
   pub moves : List Move
@@ -74,7 +74,7 @@ by_port first second none (suc (suc n)) = none
 abbrev pub IdlesIf : {S : Type 0} → Machine S → Bool → S → Type 0
 IdlesIf M idle s = idle ≡ true → step_refusal M s ≡ Some Idle
 
--- so with what a seat knows and the entry that waits, and what the inputs say
+-- it is so with what a seat knows, the entry that waits, and what the inputs say
 abbrev pub IsLeading : {B S : Type 0} → (B → S) → Machine S → S → PrimaryView → (ℕ → List ℕ) → (ℕ → ℕ) →
     Recording B → Type 0
 IsLeading state M boot view taken accepted r =
@@ -87,7 +87,7 @@ LeadsOn {B} {S} state M old new =
     (boot : S) (view : PrimaryView) (taken : ℕ → List ℕ) (accepted : ℕ → ℕ) →
     IsLeading state M boot view taken accepted old → IsLeading state M boot view taken accepted new
 
--- and after an input that the disk's answers allow, its key and its acceptance are said too
+-- and after an input that the disk's answers allow, with its key and its acceptance added
 abbrev pub TakesOn : {B S : Type 0} → (B → S) → Machine S → Input → Recording B → Recording B → Type 0
 TakesOn {B} {S} state M input old new =
     (boot : S) (view : PrimaryView) (taken after : ℕ → List ℕ) (accepted more : ℕ → ℕ) →

@@ -1,4 +1,4 @@
--- A primary's worker: what it goes on with, what it may ask of the disk, and how it is at rest.
+-- A primary's worker: what it keeps from turn to turn, what it may ask of the disk, and when it is at rest.
 use Rattle.std.specs.Prelude.{◌≡◌, ℕ, true, List, [], length, take, vec_len, Some, None}
 use Rattle.event_callbacks.specs.declared.operations.OpId.TheVariants as id
 use Rattle.event_callbacks.specs.declared.operations.Operation.TheVariants.{Write}
@@ -17,7 +17,7 @@ use Rattle.pair_threads.specs.Leading.{IsLeading, by_port}
 abbrev pub keys_taken : PortInputs → List ℕ
 keys_taken p = take p.taken p.typed.items
 
--- its guest has made the run of its seat's list and of the entry that waits, in which it took what is said to be taken
+-- its guest has made the run of its seat's list and of the entry that waits, and took in it what its ports say was taken
 abbrev pub WorkerLeads : {B S : Type 0} → (B → S) → Machine S → S → PrimaryWorker B → Type 0
 WorkerLeads state M boot w =
     IsLeading state M boot w.seat.core.known.primary (by_port (keys_taken w.port0) (keys_taken w.port1) [])
@@ -32,7 +32,7 @@ CallsKept M boot typed0 typed1 calls =
 abbrev pub WorkerKeeps : {B S : Type 0} → Machine S → S → PrimaryWorker B → Type 0
 WorkerKeeps M boot w = CallsKept M boot w.port0.typed.items w.port1.typed.items w.seat.core.known.primary.calls
 
--- it goes on so, keeping what its calls promise, at its table, with its plan and what was typed, and without asking to go on alone
+-- it still leads, with its promises kept, its table, its plan and what was typed, and has not asked to go on alone
 abbrev pub Works : {B S : Type 0} → (B → S) → Machine S → PrimaryWorker B → PrimaryWorker B → Type 0
 Works {B} {S} state M old new =
     (new.seat.table ≡ old.seat.table) × (new.seat.core.known.primary.winner ≡ old.seat.core.known.primary.winner)

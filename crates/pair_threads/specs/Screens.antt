@@ -1,4 +1,4 @@
--- What the worker of the terminals keeps beside its seat.
+-- What the worker of the terminals keeps besides its seat.
 use Rattle.std.specs.Prelude.{◌≡◌, ℕ, ◌+◌, ◌==◌, cond, Bool, true, false, List, [], ◌∷◌, Some}
 use Rattle.event_callbacks.specs.declared.operations.Operation.TheVariants.{Byte}
 use Rattle.pair_rule.specs.declared.payload.PortByte.{PortByte}

@@ -1,4 +1,4 @@
--- What the disk's worker keeps beside its seat: a store whose sectors are as they booted, but for the writes answered.
+-- What the disk's worker keeps besides its seat: a store whose sectors are as they booted, but for the writes answered.
 use Rattle.std.specs.Prelude.{◌≡◌, ℕ, List, [], Some}
 use Rattle.std.specs.Option.{option_map_or}
 use Rattle.disk_dcdd.specs.declared.address.SectorAddress.{SectorAddress}

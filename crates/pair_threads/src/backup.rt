@@ -13,7 +13,7 @@ use i8080_words::{Fault, R};
 use pair_rule::{BackupSeat, Fabric};
 use std::alloc::Global;
 
-// How many steps its guest makes at most before it looks at its box again, after an entry came. As long as none comes, it
+// How many steps its guest makes at most before it looks at its box again, after an entry arrived. While none arrives, it
 // makes twice as many each time.
 const STEPS: u64 = 1_000;
 
@@ -60,7 +60,7 @@ impl<B: Lockstep> BackupWorker<B> {
         }
     }
 
-    // Takes the packet that came.
+    // Takes the packet that arrived.
     fn take(&mut self, fabric: &Fabric) -> R<Turn>
         requires table { self.old.seat.table ≡ fabric.now }
         requires before { self.old.seat.core.known.backup.winner ≡ 0 }
@@ -133,7 +133,7 @@ impl<B: Lockstep> BackupWorker<B> {
         Ok(Turn::Moved)
     }
 
-    // Gets on if anything is left to repeat, and has nothing to do here otherwise.
+    // `Moved` if anything is left to repeat, and otherwise `nothing`.
     fn pace(&self, nothing: Turn) -> Turn
         requires { Leaves (Ok nothing) (Unit {0}) ⊥ }
         ensures { Leaves (Ok result) (Unit {0}) ⊥ }

@@ -59,7 +59,7 @@ impl<D: SectorStore> Worker for DiskWorker<D> {
 
     ghost ended = { λ w. Unit {0} };
 
-    // A request that the disk fails is tried again at the next turn.
+    // A request that the disk fails is tried again in the next turn.
     fn turn(&mut self, fabric: &Fabric, _number: u64) -> R<Turn> {
         if !self.seat.has_swaps_left() {
             return Err(Fault::Stalled);

@@ -10,8 +10,8 @@ pub enum Who {
     Disk,
 }
 
-/// A caller's hold on the turns. Each worker counts its turns from 0. A gate may wait; `enter` answering false ends the
-/// run as stalled.
+/// A caller's hold on the turns. Each worker counts its turns from 0. A gate may wait; the run ends as stalled if `enter`
+/// returns false.
 pub trait Gate {
     fn enter(&self, who: Who, turn: u64) -> bool;
 

@@ -20,11 +20,11 @@ pub(crate) struct Five<P, L, B, T, D> {
     pub(crate) disk: D,
 }
 
-/// A worker after its turns, and what it came to.
+/// A worker after its turns, and its result.
 pub(crate) type Served<W> = (W, R<()>);
 
-/// The five workers at once, each on a thread of its own, with this many turns at most for the primary and for the backup, and
-/// whether one of them is to ask at a turn.
+/// Runs the five workers, each on its own thread, with at most this many turns for the primary and for the backup.
+/// `contested` says whether one of them is planned to ask at a turn.
 pub(crate) fn work<
     P: Worker + Send + Drop,
     L: Worker + Send + Drop,

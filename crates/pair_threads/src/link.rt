@@ -1,4 +1,4 @@
-//! The link's worker: it carries packets, loses them, and brings them twice.
+//! The link's worker: it delivers packets, loses them, and delivers them twice.
 ghost use Rattle.std.specs.Prelude.{◌≡◌, ◌<◌, ◌^◌, IsTrue, Some};
 ghost use Rattle.pair_rule.specs.Seats.{swaps_at};
 ghost use Rattle.pair_rule.specs.declared.mailbox.Mailbox.TheVariants.{Inbox};
@@ -10,19 +10,19 @@ use crate::worker::{Turn, Worker};
 use i8080_words::{Fault, R};
 use pair_rule::{Fabric, LinkSeat};
 
-/// What becomes of a packet.
+/// What happens to a packet.
 #[derive(Clone, Copy, PartialEq, Eq)]
 pub enum Fate {
-    /// It is brought.
+    /// It is delivered.
     Pass,
     /// It is lost.
     Drop,
-    /// It is brought twice.
+    /// It is delivered twice.
     Twice,
 }
 
-/// The link's seat, and the fates of its packets in order; the last fate is that of all further packets, and without any
-/// each packet is brought.
+/// The link's seat, and the fates of its packets in order; the last fate applies to all further packets, and without any
+/// each packet is delivered.
 #[derive(Drop)]
 pub(crate) struct LinkWorker {
     pub(crate) seat: LinkSeat,

@@ -1,4 +1,4 @@
-//! How a worker gets on: the turns that it has left, how it waits, and when it gives up.
+//! How a worker makes progress: the turns that it has left, how it waits, and when it gives up.
 ghost use Rattle.std.specs.Prelude.{◌≡◌, ◌<◌, ◌-◌};
 ghost use Rattle.pair_threads.specs.Choosing.{left_after_waiting};
 
@@ -7,10 +7,10 @@ use crate::rest::Rest;
 use crate::signals::Signals;
 use std::time::{Clock, Duration, Instant};
 
-// For how many seconds nobody may get on before a run is given up.
+// A run is given up after this many seconds without progress of any worker.
 const PATIENCE: u64 = 10;
 
-// A worker that gets on again and again says so every so many turns.
+// A worker that keeps making progress says so once in this many turns.
 const NOTED: u64 = 64;
 
 /// What a worker has left, and how long it has found nothing to do.
@@ -21,13 +21,13 @@ pub(crate) struct Pace {
     // Since when it has found nothing, and how often it has slept since.
     waiting: Option<Instant>,
     sleeps: u32,
-    // Since when nobody has got on, as far as it has looked, and how often workers had got on by then.
+    // Since when no worker has made progress, as last seen, and how often workers had said so by then.
     quiet: Option<Instant>,
     moves: u64,
 }
 
 impl Pace {
-    /// A worker begins that has so many turns.
+    /// A worker that begins with this many turns.
     pub(crate) fn new(turns: u64) -> Pace
         ensures { result.left ≡ turns }
     {
@@ -40,7 +40,7 @@ impl Pace {
         }
     }
 
-    /// It has got on.
+    /// It has made progress.
     pub(crate) fn moves(&mut self, signals: &Signals, who: Who)
         requires { 0 < self.old.left }
         ensures { self.new.left ≡ self.old.left - 1 }
@@ -53,7 +53,7 @@ impl Pace {
         self.left -= 1;
     }
 
-    /// It has found nothing in a turn. That is one of the turns that it has only if somebody is to ask at a turn.
+    /// It has found nothing in a turn. This uses up one of its turns only if somebody is planned to ask at a turn.
     pub(crate) fn looks(&mut self, contested: bool)
         ensures { self.new.left ≡ left_after_waiting contested self.old.left }
     {
@@ -62,8 +62,8 @@ impl Pace {
         }
     }
 
-    /// It has found nothing wherever it looked, and lets the others get on. False if the run is given up, as nobody has got on
-    /// for ten seconds; never if somebody is to ask at a turn.
+    /// It has found nothing in a whole rotation, and lets the others run. False if the run is given up, after ten seconds
+    /// without progress of any worker; never if somebody is planned to ask at a turn.
     pub(crate) fn waits<C: Clock>(&mut self, clock: &C, signals: &Signals, contested: bool) -> bool
         ensures { self.new.left ≡ left_after_waiting contested self.old.left }
     {
@@ -89,7 +89,7 @@ impl Pace {
         rest
     }
 
-    // Whether anybody has got on in the ten seconds before this moment, as far as it has looked.
+    // Whether any worker has made progress in the ten seconds before this moment, as last seen.
     fn is_patient(&mut self, now: Instant, moves: u64) -> bool
         ensures { self.new.left ≡ self.old.left }
     {

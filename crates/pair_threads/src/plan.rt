@@ -14,7 +14,7 @@ pub(crate) struct Plan {
 }
 
 impl Plan {
-    /// A plan; whether it is contested says also whether the other one asks.
+    /// A plan; `contested` says whether this worker or the other one asks.
     pub(crate) fn new(contests_at: Option<u64>, contested: bool, steps: u64) -> Plan
         requires told { IsSome contests_at → contested ≡ true }
         ensures asks { (result.contests_at ≡ contests_at) × (result.contested ≡ contested) }

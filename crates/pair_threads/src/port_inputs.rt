@@ -1,4 +1,4 @@
-//! What a primary's guest has taken of what came at one port.
+//! What a primary's guest has taken of what arrived at one port.
 ghost use Rattle.std.specs.Prelude.{◌≡◌, ◌≤◌, ◌<◌, ◌↔◌, [], vec_len, IsTrue, slice_get};
 
 /// The bytes that are typed at a port, and how many of them and of the acceptances the guest has taken.
@@ -22,7 +22,7 @@ impl PortInputs {
         }
     }
 
-    /// The byte to be taken next.
+    /// The next byte to take.
     pub(crate) fn next(&self) -> Option<u8>
         ensures { result ≡ slice_get self.now.typed.items self.now.taken }
     {

@@ -14,7 +14,7 @@ use crate::recording::Recording;
 use log_entry::Entry;
 use pair_rule::{DiskAnswer, PrimarySeat};
 
-/// The primary's seat, its list, its guest, and what came for it.
+/// The primary's seat, its list, its guest, and what arrived for it.
 #[derive(Drop)]
 pub(crate) struct PrimaryWorker<B> {
     pub(crate) seat: PrimarySeat,
@@ -22,11 +22,11 @@ pub(crate) struct PrimaryWorker<B> {
     pub(crate) guest: Recording<B>,
     pub(crate) port0: PortInputs,
     pub(crate) port1: PortInputs,
-    // How many entries are acknowledged, and how many bytes of each port are accepted, as it saw last.
+    // How many entries are acknowledged, and how many bytes of each port are accepted, as last seen.
     seen: u64,
     counted0: u64,
     counted1: u64,
-    // The index of the entry to be posted next, and whether the log was full.
+    // The index of the next entry to post, and whether the log was full.
     next: u64,
     full: bool,
     // How many entries were posted once, and which byte of each port was given last.
@@ -35,14 +35,14 @@ pub(crate) struct PrimaryWorker<B> {
     // Whether the disk was asked and has not answered, and what it answered and the guest has not taken.
     asked: bool,
     answer: Option<DiskAnswer>,
-    // The sector to be read next.
+    // The next sector to read.
     sector: u8,
     // How many steps the guest was at when it took its last key.
     key_count: u64,
     chore: Chore,
     second: bool,
     fruitless: u8,
-    // Whether its guest was held up when it had run last.
+    // Whether its guest was held up after its last run.
     held_up: bool,
     plan: Plan,
     ghost same: { list.items ≡ seat.core.known.primary.list },

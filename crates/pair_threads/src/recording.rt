@@ -9,7 +9,7 @@ use log_entry::Entry;
 #[derive(Drop)]
 pub(crate) struct Recording<B> {
     pub(crate) board: B,
-    /// The entry of its last move, if the list has not got it yet.
+    /// The entry of its last move, if it is not in the list yet.
     pub(crate) waiting: Option<Entry>,
     /// The names of the operations that are outstanding, oldest first.
     pub(crate) given: Vec<OpId>,

@@ -57,7 +57,7 @@ fn failure_of(one: R<()>, other: R<()>) -> R<()>
     }
 }
 
-// The seats and what is beside them, of workers that are at their ends.
+// The seats, and what is kept besides them, of workers that are at their ends.
 #[derive(Drop)]
 struct Parts<B, D: SectorStore> {
     seats: FiveSeats,
@@ -146,7 +146,7 @@ type AllServed<B, D> = Five<
     Served<DiskWorker<D>>,
 >;
 
-// What workers end with that are all at their ends.
+// What workers that are all at their ends leave.
 #[tactic(auto, using(crate::proofs::Ending::starts, crate::proofs::Ending::ends))]
 fn conclude<B: Lockstep + Drop, D: SectorStore>(
     fabric: Fabric,
@@ -216,7 +216,7 @@ fn conclude<B: Lockstep + Drop, D: SectorStore>(
     })
 }
 
-// What workers ended with, if all of them are at their ends.
+// What workers leave, if all of them are at their ends.
 fn finish<B: Lockstep + Drop, D: SectorStore>(
     fabric: Fabric,
     five: AllServed<B, D>,
@@ -271,9 +271,9 @@ fn finish<B: Lockstep + Drop, D: SectorStore>(
     conclude(fabric, primary, link, backup, terminal, disk, contested)
 }
 
-/// Runs one generation, a worker for each of the five seats on a thread of its own, with this many turns at most for the
-/// primary and for the backup. If nobody is to go on alone, it ends well when the guest idles, all keys are taken, nothing
-/// is outstanding, and all entries are acknowledged and repeated; otherwise when it is decided who goes on alone, and a
+/// Runs one generation, a worker for each of the five seats on its own thread, with at most this many turns for the primary
+/// and for the backup. If nobody is planned to go on alone, it ends well when the guest idles, all keys are taken, nothing
+/// is outstanding, and all entries are acknowledged and repeated. Otherwise it ends when it is decided who goes on alone; a
 /// backup that does has repeated its list. `Stalled` if it does not end so; `OutOfMemory`.
 #[tactic(auto, using(crate::proofs::Beginning::nothing_yet, crate::proofs::Serving::first_disk))]
 pub fn run_generation<

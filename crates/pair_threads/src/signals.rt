@@ -1,4 +1,4 @@
-//! What the workers tell each other beside the table. No contract rests on it.
+//! What the workers tell each other besides the table. No contract rests on it.
 
 use crate::gate::Who;
 use std::sync::atomic::{AtomicBool, AtomicU64, Ordering};
@@ -7,7 +7,7 @@ use std::sync::atomic::{AtomicBool, AtomicU64, Ordering};
 const WORKERS: u64 = 5;
 
 /// How many workers have begun, who is at its end, whether the guest is held up, whether the run has failed, and how often
-/// workers have got on.
+/// workers have made progress.
 #[derive(Drop)]
 pub struct Signals {
     begun: AtomicU64,
@@ -56,7 +56,7 @@ impl Signals {
         }
     }
 
-    /// A guest is held up from now on, or no longer.
+    /// A guest is held up, or is no longer.
     pub fn holds_up(&self, held_up: bool) {
         self.held_up.store(held_up, Ordering::SeqCst);
     }
@@ -71,7 +71,7 @@ impl Signals {
         self.failed.load(Ordering::SeqCst)
     }
 
-    /// A worker is at its end. The others need not hear it of link, terminals and disk.
+    /// A worker is at its end. The others need not know this of link, terminals and disk.
     pub fn ends(&self, who: Who) {
         match who {
             Who::Primary => self.primary.store(true, Ordering::SeqCst),
@@ -85,14 +85,14 @@ impl Signals {
         self.failed.store(true, Ordering::SeqCst);
     }
 
-    /// A worker has got on. The link does so when it loses a packet that is posted again and again, so it does not count.
+    /// A worker has made progress. The link does not count: it moves even when it loses one packet again and again.
     pub fn moves(&self, who: Who) {
         if who != Who::Link {
             let _ = self.moves.fetch_add(1, Ordering::SeqCst);
         }
     }
 
-    /// How often workers have said that they got on.
+    /// How often workers have said that they made progress.
     pub fn moved(&self) -> u64 {
         self.moves.load(Ordering::SeqCst)
     }

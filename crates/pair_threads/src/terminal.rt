@@ -36,7 +36,7 @@ fn accept(accepted: &mut Vec<u8>, byte: PortByte)
 }
 
 impl TerminalWorker {
-    /// Terminals at which nothing has arrived yet.
+    /// Terminals at which nothing has arrived.
     pub(crate) fn new(alloc: Global, seat: TerminalSeat) -> TerminalWorker
         requires first { bytes_accepted 0 seat.core.known ≡ [] }
         requires second { bytes_accepted 1 seat.core.known ≡ [] }
@@ -97,7 +97,7 @@ impl TerminalWorker {
         Ok(())
     }
 
-    // Takes the byte that is in the box of the port whose turn it is; of an empty one the other port is next.
+    // Takes the byte in the box of the port whose turn it is; if the box is empty, the other port is next.
     fn take(&mut self, fabric: &Fabric) -> R<Turn>
         requires table { self.old.seat.table ≡ fabric.now }
         requires hand { self.old.hand ≡ None }

@@ -10,20 +10,20 @@ use i8080_words::{Fault, R};
 use pair_rule::{Fabric, MOST_SWAPS};
 use std::time::Clock;
 
-/// What a turn came to.
+/// The result of a turn.
 #[derive(Clone, Copy, PartialEq, Eq)]
 pub(crate) enum Turn {
     /// It changed something.
     Moved,
     /// It found nothing, and looks for something else at once.
     Looks,
-    /// It found nothing wherever it looked.
+    /// It found nothing in a whole rotation.
     Waits,
     /// The worker is at its end.
     Ends,
 }
 
-/// A seat with all that its thread keeps beside it.
+/// A seat with all that its thread keeps besides it.
 pub(crate) trait Worker {
     ghost use Rattle.atomic_table.specs.Seated.{TableId};
 
@@ -39,7 +39,7 @@ pub(crate) trait Worker {
     // What holds of a worker that is at its end.
     ghost ended: { Self → Type 0 };
 
-    /// Makes one call of its seat at most, or lets its guest move. Refused if nothing can come of the run any more:
+    /// Makes at most one call of its seat, or lets its guest move. Refused if the run can no longer end well:
     /// `OutOfMemory`, and `Stalled` otherwise.
     fn turn(&mut self, fabric: &Fabric, number: u64) -> R<Turn>
         requires table { table self.old ≡ fabric.now }
@@ -53,12 +53,12 @@ pub(crate) trait Worker {
         requires ready { ready self.now }
         ensures ended { IsTrue result → ended self.now };
 
-    /// Whether its guest can get on only if the other workers do.
+    /// Whether its guest makes progress only if the other workers do.
     fn is_held_up(&self) -> bool;
 }
 
-// Waits until all workers have begun, or one has failed, for ten seconds at most. If no thread can be made for one of them, it
-// begins only after another one has come back.
+// Waits until all workers have begun, or one has failed, for ten seconds at most. If no thread can be made for one of them,
+// it begins only after another one has returned.
 fn all_begin<C: Clock>(clock: &C, signals: &Signals) -> bool {
     let mut pace = Pace::new(0);
     for _ in 0..u64::MAX {
@@ -73,7 +73,7 @@ fn all_begin<C: Clock>(clock: &C, signals: &Signals) -> bool {
 }
 
 // How many turns a worker has at most: the primary and the backup as many as they are given, the others as many as a table
-// has swaps. Those in which it finds nothing to do are among them only if somebody is to ask at a turn.
+// has swaps. Turns in which it finds nothing to do count only if somebody is planned to ask at a turn.
 fn turns_of(who: Who, turns: u64) -> u64
     ensures { result ≡ turns_of who turns }
 {
@@ -83,8 +83,8 @@ fn turns_of(who: Who, turns: u64) -> u64
     }
 }
 
-/// Lets a worker have its turns, until it is at its end. `Stalled` if it is not after all of them, if nobody gets on any more,
-/// if the gate ends the run, or if another worker has failed; `OutOfMemory` if the others have no threads to begin on.
+/// Lets a worker have its turns, until it is at its end. `Stalled` if it is not at its end after all of them, if no worker
+/// makes progress, if the gate ends the run, or if another worker has failed; `OutOfMemory` if the others have no threads.
 pub(crate) fn serve<C: Clock, W: Worker, G: Gate>(
     clock: &C,
     mut worker: W,

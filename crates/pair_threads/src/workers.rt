@@ -16,7 +16,7 @@ pub struct Workers<B: Drop, D: SectorStore> {
     /// What is typed at each port.
     pub typed0: Vec<u8>,
     pub typed1: Vec<u8>,
-    /// The fates of the link's packets, in order. The last is that of all further ones; without any each is brought.
+    /// The fates of the link's packets, in order. The last applies to all further ones; without any each is delivered.
     pub fates: Vec<Fate>,
     /// The turn at which the primary, or the backup, asks to go on alone.
     pub primary_contests: Option<u64>,

@@ -1,4 +1,4 @@
--- Every action keeps the invariant, and the settled moves only go on.
+-- Every action keeps the invariant, and only extends the settled moves.
 use Rattle.std.proofs.Common.{[], ◌++◌, ◌∙◌, ◌∷◌, ◌≡◌, ◌≤◌, ◌⊎◌, List, None, Option, Some, ap, arith, inl, inr, length, max, refl, subst, suc, sym, ℕ}
 use Rattle.std.specs.Prelude.{slice_get}
 use Rattle.pair_protocol.proofs.Words.{Acknowledgement, Acknowledges, Acts, Alone, AloneReleases, AloneSteps, AloneTakes, Among, Arrival, Arrives, Backup, Byte, Change, Copying, Do, Draining, Entry, GetsPart, GoesLive, ImagePart, Input, IsCopying, IsPrefix, Joining, Lawful, LogEntry, Machine, MayTake, Node, Operation, Primary, PrimaryReleases, PrimarySteps, PrimaryTakes, Recorded, Released, Replaying, ReplaysInput, ReplaysMark, ReplaysStep, Role, SendsPart, Spare, Take, Tells, Types, World, Write, alone_takes, entries, fetches, gets_part, goes_live, halts, hears, joins, keys_covered, operations, passes_input, passes_mark, passes_read, plainly_steps, primary_steps, primary_takes, refusal_of, sector_record, steps, terminal, timed, winner_in, with_node, with_winner}

@@ -1,4 +1,4 @@
--- Test-and-set: the first node of a generation to ask has won, and what is settled goes on from what that node has.
+-- Test-and-set: the first node of a generation to ask has won, and what is settled is extended by what that node has.
 use Rattle.std.proofs.Common.{[], ◌++◌, ◌∙◌, ◌∷◌, ◌≡◌, ◌⊎◌, Bool, List, None, Option, Some, ap, append-nil, arith, cond, eq-eqb, eqb-true, false, inl, inr, length, refl, subst, sym, true, ℕ}
 use Rattle.std.specs.Prelude.{◌==◌}
 use Rattle.pair_protocol.proofs.Words.{Alone, Copying, IsPrefix, Joining, Machine, Move, Node, Owns, Primary, Winner, World, cut, winner_in, wins, with_winner, won_role}

@@ -1,5 +1,5 @@
--- What a node's changes leave of its generation: replaying, hearing, halting, going live, joining; and what more moves
--- of the primary leave of the backup.
+-- What a node's changes leave of its generation: replaying, receiving an acknowledgement, halting, going live, joining; and
+-- what more moves of the primary leave of the backup.
 use Rattle.std.proofs.Common.{[], ◌++◌, ◌+◌, ◌∙◌, ◌∷◌, ◌≡◌, ◌≤◌, ◌⊎◌, List, None, Option, Some, ap, append-nil, arith, inl, inr, length, length-set, refl, subst, suc, sym, take, ℕ}
 use Rattle.std.specs.Prelude.{slice_get, slice_set}
 use Rattle.pair_protocol.proofs.Words.{Copying, Draining, Entry, IsCopying, IsPrefix, Joining, Lawful, Machine, Move, Node, Owns, Replaying, Role, Runs, cut, entries, gathered, gets_part, goes_live, halts, hears, inputs, joins, steps, with_first}

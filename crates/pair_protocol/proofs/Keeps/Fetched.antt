@@ -1,5 +1,5 @@
--- The bytes that a node keeps for its next entry are an answer of the disk to that read, in every world that actions reach:
--- they come with such an answer, and go with the entry.
+-- In every world that actions reach, the bytes that a node keeps for its next entry are an answer of the disk to that read:
+-- they arrive with such an answer, and are dropped with the entry.
 use Rattle.std.proofs.Common.{[], ◌++◌, ◌∙◌, ◌∷◌, ◌≡◌, List, None, Some, ap, arith, inl, inr, refl, subst, suc, sym, zero, ℕ}
 use Rattle.std.proofs.lemmas.Option.{slice_get_within}
 use Rattle.std.specs.Prelude.{slice_get, slice_set}

@@ -1,4 +1,4 @@
--- A backup holds one more entry: while nobody has won, what is settled goes on up to that entry.
+-- A backup holds one more entry: while nobody has won, what is settled is extended up to that entry.
 use Rattle.std.proofs.Common.{[], ◌++◌, ◌∙◌, ◌∷◌, ◌≡◌, ◌≤◌, List, Some, ap, arith, inl, inr, length, length-append, refl, subst, sym, ℕ}
 use Rattle.std.proofs.lemmas.Option.{slice_get_within}
 use Rattle.std.specs.Prelude.{slice_get, slice_set}

@@ -1,4 +1,4 @@
--- What the disk answers to a read that a backup has come to is what its primary took there: both are what the machine's own
+-- What the disk answers to a read that a backup has reached is what its primary took there: both are what the machine's own
 -- disk has at that place. So the backup makes its primary's move.
 use Rattle.std.proofs.Common.{[], ◌++◌, ◌∙◌, ◌∷◌, ◌≡◌, ◌⊎◌, List, ap, append-nil, append_assoc, arith, inl, inr, length, refl, subst, sym, ℕ}
 use Rattle.guest_lockstep.specs.declared.input.Input.TheVariants as input

@@ -1,6 +1,6 @@
--- A write that is released waits for each read that the highest generation's backup holds and has not replayed. A write
--- that a primary releases was outstanding when its generation began, or waits for the reads up to its note, which the
--- backup has reported as replayed; and beside an alone node of the highest generation nobody replays.
+-- A write that is released waits for each read that the highest generation's backup holds and has not replayed. If a
+-- primary releases it, either it was outstanding when its generation began, or the backup has reported the reads up to its
+-- note as replayed. If a node of the highest generation is alone, nobody replays.
 use Rattle.std.proofs.Common.{◌++◌, ◌+◌, ◌<◌, ◌∙◌, ◌≡◌, ◌≤◌, ◌⊎◌, Some, ap, append-nil, arith, inl, inr, length, ltb-true, refl, subst, suc, sym, take, true, ℕ}
 use Rattle.std.specs.Prelude.{nat_le, nat_lt, slice_get}
 use Rattle.pair_protocol.proofs.Words.{Acts, Alone, Among, Copying, IsPrefix, Lawful, Machine, Node, OpId, Operation, Primary, Replaying, Role, Runs, SectorWrite, Serving, World, Write, covers, cut, entries, id_of, inputs, inputs_of, keys, keys_covered, note_of, operations, steps}

@@ -1,4 +1,4 @@
--- A terminal that accepts more, and a host that comes, keep the invariant.
+-- A terminal that accepts more, and a host that is added, keep the invariant.
 use Rattle.std.proofs.Common.{[], ◌++◌, ◌+◌, ◌∷◌, ◌≡◌, ◌≤◌, ◌⊎◌, Bool, List, ap, arith, cond, false, inl, inr, length, refl, subst, suc, sym, true, zero, ℕ}
 use Rattle.std.specs.Prelude.{◌==◌, slice_set}
 use Rattle.pair_protocol.proofs.Words.{Among, Arrival, Byte, Copying, IsPrefix, Machine, Node, Terminal, Timed, World, accepted_after, inputs, keys, operations, spare, terminal, terminal_in, with_host, with_terminal}

@@ -1,4 +1,4 @@
--- What terminals have accepted is a front of the settled trace's output: each byte that arrives is one of the trace,
+-- What terminals have accepted is a prefix of the settled trace's output: each byte that arrives is one of the trace,
 -- numbered in order, and a terminal takes byte k only as its k-th.
 use Rattle.std.proofs.Common.{[], ◌++◌, ◌+◌, ◌∙◌, ◌∷◌, ◌≡◌, ◌⊎◌, List, None, Some, ap, append-nil, append_assoc, arith, cond, eq-eqb, eqb-true, false, inl, inr, length, length-append, refl, subst, sym, true, ℕ}
 use Rattle.std.specs.Prelude.{◌==◌, slice_get}

@@ -1,5 +1,5 @@
--- Recorded runs, each of whose inputs was accepted. Such a run is a run; a front of it is recorded too, and so is what
--- follows a front; and one more move after it makes another recorded run, if an input there is also accepted.
+-- Recorded runs, each of whose inputs was accepted. Such a run is a run; a prefix of it is recorded too, and so is what
+-- follows a prefix; and one more move after it makes another recorded run, if an input there is also accepted.
 use Rattle.std.proofs.Common.{[], ◌++◌, ◌∷◌, ◌≡◌, List, Option, ap, refl, subst, sym}
 use Rattle.pair_protocol.proofs.Words.{Do, Input, IsPrefix, Machine, Move, Operation, Recorded, Runs, Take}
 use Rattle.guest_lockstep.specs.Recorded.{Accepts}

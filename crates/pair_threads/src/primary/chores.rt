@@ -16,13 +16,13 @@ use pair_rule::Fabric;
 /// 9,600 baud.
 const KEY_STEPS: u64 = 300;
 
-/// How many steps a guest makes at most in a turn while one operation of it is outstanding, and a share of them while
-/// several are: so its bytes leave soon, and a guest that waits for its window does not wait for its own turns.
+/// How many steps a guest makes at most in a turn while one of its operations is outstanding; while several are, each has a
+/// share of them. So its bytes leave soon, and a guest that waits for its window does not wait for its own turns.
 const SHORT_STEPS: u64 = 2_000;
 
 impl<B: Lockstep> PrimaryWorker<B> {
-    // Posts the next entry that is not acknowledged, the first of them after the last. Whether it was posted for the
-    // first time.
+    // Posts the next entry that is not acknowledged, and after the last one the first again. Returns whether it was posted
+    // for the first time.
     #[tactic(auto, using(crate::proofs::Leading::at_index))]
     pub(super) fn post(&mut self, fabric: &Fabric) -> bool
         requires table { self.old.seat.table ≡ fabric.now }
@@ -60,8 +60,8 @@ impl<B: Lockstep> PrimaryWorker<B> {
         self.seen != before
     }
 
-    // Lets the guest run, unless an entry of it waits. While several operations of it are outstanding it may do nothing but poll,
-    // so only a new one is a change then.
+    // Lets the guest run, unless one of its entries waits. While several of its operations are outstanding it may do
+    // nothing but poll, so only a new one is a change then.
     pub(super) fn run(&mut self) -> R<bool>
         ensures works { OnOk result (Works B.state B.machine self.old self.new) }
         ensures seat { self.new.seat ≡ self.old.seat }
@@ -158,7 +158,7 @@ impl<B: Lockstep> PrimaryWorker<B> {
         true
     }
 
-    // Gives the next byte of a port to its terminal, if all is acknowledged. Whether it was given for the first time.
+    // Gives the next byte of a port to its terminal, if all is acknowledged. Returns whether it was given for the first time.
     pub(super) fn emit(&mut self, fabric: &Fabric, port: u8) -> bool
         requires table { self.old.seat.table ≡ fabric.now }
         requires before { self.old.seat.core.known.primary.winner ≡ 0 }
@@ -172,7 +172,7 @@ impl<B: Lockstep> PrimaryWorker<B> {
         }
     }
 
-    // The first byte of a port that its terminal has not accepted, as far as was seen, if the guest has given it.
+    // The first byte of a port that its terminal has not accepted, as last seen, if the guest has given it.
     fn due_byte(&self, port: u8) -> Option<(u64, u8)>
         requires { port < PORTS }
         ensures { IfSome result (λ b. B.machine.find (B.state self.now.guest.board) (id.Byte port b.0) ≡ Some (Byte port b.0 b.1)) }
@@ -182,7 +182,7 @@ impl<B: Lockstep> PrimaryWorker<B> {
         Some((number, byte))
     }
 
-    // Gives an outstanding byte to its terminal. Whether it was given for the first time.
+    // Gives an outstanding byte to its terminal. Returns whether it was given for the first time.
     fn give(&mut self, fabric: &Fabric, port: u8, number: u64, byte: u8) -> bool
         requires table { self.old.seat.table ≡ fabric.now }
         requires before { self.old.seat.core.known.primary.winner ≡ 0 }
@@ -198,7 +198,7 @@ impl<B: Lockstep> PrimaryWorker<B> {
         is_new
     }
 
-    // How many bytes of a port are accepted, as it saw last.
+    // How many bytes of a port are accepted, as last seen.
     fn counted(&self, port: u8) -> u64 {
         if port == 0 {
             self.counted0
@@ -299,8 +299,8 @@ impl<B: Lockstep> PrimaryWorker<B> {
         true
     }
 
-    // Whether a run that nobody is to go on from alone is at its end: the guest idles with all keys taken, nothing is
-    // outstanding, in flight or due, and all is acknowledged.
+    // Whether a run in which nobody is planned to go on alone is at its end: the guest idles with all keys taken, nothing
+    // is outstanding, in flight or due, and all is acknowledged.
     pub(super) fn is_at_its_end(&self) -> bool
         ensures { IsTrue result → IsAtRest self.now }
     {

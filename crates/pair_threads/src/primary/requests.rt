@@ -14,7 +14,7 @@ use i8080_words::Fault;
 use pair_rule::{DiskAnswer, DiskRequest, Fabric};
 
 impl<B: Lockstep> PrimaryWorker<B> {
-    // The sector that is to come next, if the guest waits for one.
+    // The sector to read next, if the guest waits for one.
     pub(super) fn due_sector(&self) -> Option<(SectorAddress, bool)>
         ensures { result ≡ due_sector B.machine (B.state self.now.guest.board) self.now.sector }
     {
@@ -48,7 +48,7 @@ impl<B: Lockstep> PrimaryWorker<B> {
         None
     }
 
-    // What is to be asked of the disk: the oldest write, or the sector that is due.
+    // The next request to the disk: the oldest write, or the sector that is due.
     fn due_request(&mut self) -> Option<DiskRequest>
         ensures works { Works B.state B.machine self.old self.new }
         ensures seat { self.new.seat ≡ self.old.seat }
@@ -82,7 +82,7 @@ impl<B: Lockstep> PrimaryWorker<B> {
         self.sector = (self.sector + 1) % SECTORS;
     }
 
-    // Asks the disk, if it has answered before.
+    // Asks the disk, if its last request is answered.
     pub(super) fn ask(&mut self, fabric: &Fabric) -> bool
         requires table { self.old.seat.table ≡ fabric.now }
         requires before { self.old.seat.core.known.primary.winner ≡ 0 }
@@ -102,7 +102,7 @@ impl<B: Lockstep> PrimaryWorker<B> {
         }
     }
 
-    // Hears what the disk answers.
+    // Receives the disk's answer.
     pub(super) fn hear(&mut self, fabric: &Fabric) -> bool
         requires table { self.old.seat.table ≡ fabric.now }
         requires before { self.old.seat.core.known.primary.winner ≡ 0 }
@@ -122,7 +122,7 @@ impl<B: Lockstep> PrimaryWorker<B> {
         }
     }
 
-    // Takes what the disk answered. A sector that is not under the head any more is dropped.
+    // Takes the disk's answer. A sector that is no longer under the head is dropped.
     pub(super) fn complete(&mut self) -> bool
         ensures works { Works B.state B.machine self.old self.new }
     {

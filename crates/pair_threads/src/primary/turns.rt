@@ -1,4 +1,4 @@
-//! The turns of a primary's worker: what waits is appended, and otherwise its chores come in rotation.
+//! The turns of a primary's worker: it appends the entry that waits, and otherwise does its chores in rotation.
 ghost use Rattle.std.specs.Prelude.{◌≡◌, ◌↔◌, [], length, None, Some, true, IsTrue, OnOk};
 ghost use Rattle.pair_threads.specs.declared.worker.Turn.TheVariants as turn;
 ghost use Rattle.event_callbacks.specs.declared.operations.OpId.{OpId};
@@ -64,7 +64,7 @@ impl<B: Lockstep> PrimaryWorker<B> {
         }
     }
 
-    // Gives the list the entry that waits, unless the log is full.
+    // Appends the entry that waits, unless the log is full.
     pub(super) fn append(&mut self, fabric: &Fabric, entry: Entry) -> R<Turn>
         requires table { self.old.seat.table ≡ fabric.now }
         requires before { self.old.seat.core.known.primary.winner ≡ 0 }
@@ -89,7 +89,7 @@ impl<B: Lockstep> PrimaryWorker<B> {
         }
     }
 
-    // Whether everything that its guest did is in the list, and acknowledged.
+    // Whether all that its guest did is in the list, and acknowledged.
     pub(super) fn is_covered(&self) -> bool
         ensures { IsTrue result ↔ ((self.now.guest.waiting ≡ None) × (self.now.seen ≡ length self.now.list.items)) }
     {
@@ -108,7 +108,7 @@ impl<B: Lockstep> PrimaryWorker<B> {
         !self.port1.is_taken() || self.guest.board.due_byte(1).is_some()
     }
 
-    // Does one chore. Whether it changed anything.
+    // Does one chore. Returns whether it changed anything.
     fn attempt(&mut self, fabric: &Fabric) -> R<bool>
         requires table { self.old.seat.table ≡ fabric.now }
         requires before { self.old.seat.core.known.primary.winner ≡ 0 }

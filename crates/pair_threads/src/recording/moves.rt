@@ -35,8 +35,8 @@ impl<B: Lockstep> Recording<B> {
         }
     }
 
-    /// Executes `steps` steps at most, up to the first that gives an operation, whose mark then waits. Whether it has
-    /// made one. `OutOfMemory`, and `Spent` if a number is at its greatest.
+    /// Executes at most `steps` steps, up to the first that gives an operation, whose mark then waits. Returns whether it
+    /// has made any. `OutOfMemory`, and `Spent` if a number is at its greatest.
     #[tactic(auto, using(crate::proofs::Leading::made_all, crate::proofs::Leading::stopped_there, crate::proofs::Leading::gave_one, crate::proofs::Leading::idles_there, crate::proofs::Telling::says_mark))]
     pub(crate) fn run(&mut self, steps: u64) -> R<bool>
         requires free { self.old.waiting ≡ None }
@@ -63,7 +63,7 @@ impl<B: Lockstep> Recording<B> {
         }
     }
 
-    // Takes an input, whose entry then waits; whether it did.
+    // Takes an input, whose entry then waits; returns whether it did.
     fn offer(&mut self, input: Input) -> bool
         requires free { self.old.waiting ≡ None }
         requires input { IsInput input }
@@ -84,7 +84,7 @@ impl<B: Lockstep> Recording<B> {
         }
     }
 
-    // An operation is outstanding no longer.
+    // An operation is no longer outstanding.
     #[tactic(auto, using(crate::proofs::Offering::forgets))]
     fn forget(&mut self, id: OpId)
         requires gone { B.machine.find (B.state self.old.board) id ≡ None }
@@ -93,7 +93,7 @@ impl<B: Lockstep> Recording<B> {
         drop_name(&mut self.given, id);
     }
 
-    /// Takes a key, if one more can be counted; whether it did.
+    /// Takes a key, if one more can be counted; returns whether it did.
     pub(crate) fn key(&mut self, port: u8, byte: u8) -> bool
         requires free { self.old.waiting ≡ None }
         requires port { port < PORTS }
@@ -103,7 +103,7 @@ impl<B: Lockstep> Recording<B> {
         self.board.keys(port) < GREATEST_NUMBER && self.offer(Input::Rx(port, byte))
     }
 
-    /// Takes the acceptance of the byte of a port that is due; whether it did.
+    /// Takes the acceptance of the byte of a port that is due; returns whether it did.
     pub(crate) fn sent(&mut self, port: u8) -> bool
         requires free { self.old.waiting ≡ None }
         requires port { port < PORTS }
@@ -120,7 +120,7 @@ impl<B: Lockstep> Recording<B> {
         true
     }
 
-    /// Takes the completion of a write; whether it did.
+    /// Takes the completion of a write; returns whether it did.
     pub(crate) fn written(&mut self, number: u64) -> bool
         requires free { self.old.waiting ≡ None }
         ensures refused { result ≡ false → self.new ≡ self.old }
@@ -133,7 +133,7 @@ impl<B: Lockstep> Recording<B> {
         true
     }
 
-    /// Takes a sector that was read, if it is under the head still; whether it did.
+    /// Takes a sector that was read, if it is still under the head; returns whether it did.
     pub(crate) fn sector(&mut self, read: &SectorRead) -> bool
         requires free { self.old.waiting ≡ None }
         ensures refused { result ≡ false → self.new ≡ self.old }
@@ -154,7 +154,7 @@ impl<B: Lockstep> Recording<B> {
         })
     }
 
-    /// Whether it gets on only if others do something: it idles, has just given an operation, or has several outstanding.
+    /// Whether only others can help it make progress: it idles, has just given an operation, or has several outstanding.
     pub(crate) fn is_held_up(&self) -> bool
         ensures { IsTrue result ↔ ((self.now.idle ≡ true) ⊎ ((self.now.waiting ≢ None) ⊎ (1 < length self.now.given.items))) }
     {

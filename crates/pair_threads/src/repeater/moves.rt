@@ -31,7 +31,7 @@ impl<B: Lockstep> Repeater<B> {
         self.replayed == self.list.len()
     }
 
-    /// An entry comes.
+    /// An entry arrives.
     pub(crate) fn hear(&mut self, entry: Entry)
         requires room { vec_len self.old.list < vec_capacity self.old.list }
         ensures list { self.new.list.items ≡ self.old.list.items ++ entry ∷ [] }
@@ -40,7 +40,7 @@ impl<B: Lockstep> Repeater<B> {
         self.list.push_reserved(entry);
     }
 
-    /// Makes `steps` steps at most towards the next entry, or that entry's move. `Stalled` if it cannot.
+    /// Makes at most `steps` steps towards the next entry, or that entry's move. `Stalled` if it cannot.
     pub(crate) fn replay(&mut self, steps: u64) -> R<()>
         ensures list { self.new.list ≡ self.old.list }
         ensures goes_on { OnOk result (GoesOn B.state B.machine self.old self.new) }

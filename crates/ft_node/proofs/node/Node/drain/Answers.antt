@@ -1,4 +1,4 @@
--- With nothing left the node is alone; otherwise it goes on draining.
+-- With nothing left the node is alone; otherwise it is still draining.
 use Rattle.std.proofs.Common.{subst, sym}
 use Rattle.std.proofs.lemmas.Result.{err_from_is_err_and}
 use Rattle.pair_protocol.specs.Node.{Draining}

@@ -1,4 +1,4 @@
--- The message brings an acknowledgement, or none; there is no such node, or it refuses it, or hears it.
+-- The message brings an acknowledgement, or none; there is no such node, or it refuses it, or takes it.
 use Rattle.std.proofs.Common.{◌≡◌, None, Some, ap, is_ok, sym, Err, Ok}
 use Rattle.std.specs.Option.{option_and_then}
 use Rattle.std.specs.Prelude.{slice_get}

@@ -1,4 +1,4 @@
--- The node has begun, and what the host is given that joins it is of this station.
+-- The node has begun, and the joining host is given what is of this station.
 use Rattle.std.proofs.Common.{ap, refl}
 use Rattle.clone_state.specs.Assembly.{Gathering}
 use Rattle.ft_world.proofs.CopiedStations.{alone_role, begins_on, may_begin}

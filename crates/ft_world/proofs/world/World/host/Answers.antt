@@ -1,4 +1,4 @@
--- Some world is shown, even after a host came.
+-- Some world is shown, even after a host is added.
 use Rattle.ft_world.specs.Pairs.{running_of}
 use Rattle.ft_world.proofs.Hosting.{hosts_go_on}
 use Rattle.ft_world.proofs.world.World.host.Goals as goal

@@ -1,4 +1,4 @@
--- A turn of a primary's worker: it goes on as it came, or asks who goes on alone.
+-- A turn of a primary's worker: it leads as before, or asks who goes on alone.
 use Rattle.std.proofs.Common.{ap, inr}
 use Rattle.pair_rule.specs.declared.view.Core.{Core}
 use Rattle.pair_threads.proofs.Ending.{on_ok}
