@@ -1,4 +1,4 @@
--- A halted processor does not wait to hear requests: HLT is itself the instruction after EI.
+-- A halted processor does not wait for EI to take effect: HLT is itself the instruction after EI.
 use Rattle.std.proofs.Common.{◌≡◌, ℕ, Bool, true, false, cond, List, Option, Some, None, subst}
 use Rattle.i8080_words.specs.Steps.{step, ran, idle, unless_heard, heard, interrupts_after, is_halt}
 use Rattle.i8080_words.specs.declared.instruction.Op.{Op}

@@ -1,4 +1,4 @@
-//! The image of an Altair is a copy that a pair may use; what holds of pairs that are copied so. No code.
+//! The image of an Altair is a copy that a pair may use; what holds of pairs with such copies. No code.
 #![tactic(auto)]
 
 mod laws;

@@ -1,5 +1,5 @@
--- An input that an Altair takes is of a port or a sector that is there, and the key count of its port has room for one
--- more: a port takes what comes to it, and the selected drive, if any, is an attached one.
+-- An input that an Altair takes is of a port or a sector that exists, and the key count of its port has room for one
+-- more: a port takes what arrives at it, and the selected drive, if any, is an attached one.
 use Rattle.std.proofs.Common.{◌≡◌, ℕ, ◌<◌, true, false, List, Option, Some, None, refl, arith}
 use Rattle.std.specs.Prelude.{IfSome, not, slice_index, nat_lt, is_none, ◌==◌, ◌&&◌}
 use Rattle.std.specs.Option.{option_map_or}

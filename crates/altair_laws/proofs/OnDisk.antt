@@ -1,6 +1,6 @@
 -- The sectors that an Altair reads and writes. The selected drive is an attached one, the head of every drive is at one
--- of its tracks, and an outstanding write was issued to such a drive, at its track, for a sector under its head. None
--- of this depends on how many bytes a sector that came had.
+-- of its tracks, and an outstanding write was issued to such a drive, at its track, for a sector under its head. None of
+-- this depends on how many bytes a sector under the head had.
 use Rattle.std.proofs.Common.{◌≡◌, ℕ, ◌<◌, List, Some, sym, subst}
 use Rattle.std.specs.Prelude.{IfSome, IsTrue, nat_lt}
 use Rattle.std.proofs.lemmas.Bool.{and_from, lt-ltb}

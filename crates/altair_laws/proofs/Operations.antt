@@ -1,5 +1,5 @@
 -- The outstanding operations of a trace. Each is found under its own name, and was given by a step: the step that gives
--- an operation puts it under its name, and one that goes takes no other with it.
+-- an operation puts it under its name, and one that is completed takes no other with it.
 use Rattle.std.proofs.Common.{◌≡◌, ◌≢◌, ◌⊎◌, Option, Some, None, List, [], ◌∷◌, ◌++◌, sym, ap, subst, ◌∙◌, inl, inr}
 use Rattle.std.specs.FinMap as map
 use Rattle.event_callbacks.specs.Operations.{Operations, id_of, operation_at, with_operation, without_operation}

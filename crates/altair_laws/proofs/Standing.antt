@@ -1,5 +1,5 @@
--- What holds of an Altair after any moves, besides its writes: if each sector that came had all its bytes, so has the
--- one under the head; and no completed write has a greater number than the number of writes issued.
+-- What holds of an Altair after any moves, besides its writes: if each sector that came under a head had all its bytes,
+-- so has the one under the head; and no completed write has a greater number than the number of writes issued.
 use Rattle.std.proofs.Common.{◌≡◌, ℕ, ◌+◌, ◌*◌, ◌≤◌, List, [], ◌∷◌, ◌++◌, length, Option, Some, None, ◌⊎◌, inl, inr, refl, sym, ap, ◌∙◌, subst, arith}
 use Rattle.std.specs.Prelude.{IfSome, slice_index, slice_set, ◌==◌}
 use Rattle.std.specs.Option.{option_map_or}

@@ -21,7 +21,7 @@ use Rattle.guest_board.specs.declared.setup.Setup.{Setup}
 use Rattle.guest_trace.specs.Reach.{operations}
 use Rattle.pair_protocol.specs.Lawful.{top, Among}
 
--- a sector that comes has all its bytes
+-- a sector that comes under the head has all its bytes
 abbrev pub IsWhole : Input → Type 0
 IsWhole (Rx port byte) = Unit {0}
 IsWhole (Sent port) = Unit {0}
@@ -68,7 +68,7 @@ pub record AreWrites (g : Guest) : Type 0 where
   pub pending : (place : Place) → Among place g.devices.disk.outstanding
       → (write : SectorWrite) × IsPending g write × (place_of write ≡ place)
 
--- the tables have a place for each port and each sector, and no drive came or went
+-- the tables have a place for each port and each sector, and the number of drives stays
 pub record HasSizes (setup : Setup) (g : Guest) : Type 0 where
   pub ports : length g.devices.ports ≡ PORTS
   pub issued : length g.issued ≡ PORTS

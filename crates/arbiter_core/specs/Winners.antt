@@ -11,7 +11,7 @@ abbrev pub winner_of : List Asking → ℕ → Option ℕ
 winner_of askings generation =
     option_map (λ asking. asking.node) (find (λ asking. asking.generation == generation) askings)
 
--- if nobody has won the asker wins, unless memory is refused; a winner has won again, and any other node has lost
+-- if nobody has won the asker wins, unless memory is refused; a winner that asks again has won, and any other node has lost
 abbrev pub IsAnswer : Option ℕ → ℕ → Result Won Fault → Type 0
 IsAnswer None node result = IsOkUnless result OutOfMemory
 IsAnswer (Some winner) node result = result ≡ (if winner == node then Ok (record {}) else Err Lost)

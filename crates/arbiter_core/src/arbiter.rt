@@ -18,7 +18,7 @@ pub struct Asking {
 #[derive(Clone, Copy, PartialEq, Eq)]
 pub struct Won;
 
-/// The test-and-set that decides which node of a generation goes on alone (VMware FT, OSR 44(4), 2010, section 2.3).
+/// The test-and-set that decides which node of a generation goes live (VMware FT, OSR 44(4), 2010, section 2.3).
 #[derive(Drop)]
 pub struct Arbiter {
     winners: Vec<Asking>,
@@ -43,7 +43,7 @@ impl Arbiter {
         }
     }
 
-    /// A node asks for a generation: whoever asks first has won it, and is told so again if it asks again. `Lost` to
+    /// A node asks for a generation: whoever asks first has won it, and gets the same answer if it asks again. `Lost` for
     /// every other node. `OutOfMemory` is returned only to the first that asks, and then it has not asked.
     #[tactic(auto, using(crate::proofs::FirstAskers::first_wins, crate::proofs::FirstAskers::later_lose))]
     pub fn test_and_set(&mut self, generation: u32, node: u64) -> R<Won>
@@ -62,7 +62,7 @@ impl Arbiter {
         }
     }
 
-    /// The node that has won a generation. It is the winner for good.
+    /// The node that has won a generation; it never changes.
     pub fn winner(&self, generation: u32) -> Option<u64>
         ensures { result ≡ table.winner_of self.now generation }
     {

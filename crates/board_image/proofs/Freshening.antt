@@ -1,4 +1,4 @@
--- Pages are copied one after another: what was copied of the first pages, and how each page is copied, or passed.
+-- Pages are copied one after another: what was copied of the first pages, and how each page is copied or passed over.
 use Rattle.std.proofs.Common.{◌≡◌, ℕ, ◌+◌, ◌-◌, ◌*◌, ◌/◌, ◌<◌, ◌≤◌, Bool, true, false, cond, List, ◌++◌, length, take, drop, Option, Some, None, refl, sym, ap, subst, ◌∙◌, inl, inr, arith}
 use Rattle.std.specs.Prelude.{◌==◌, nat_lt, slice_index, slice_index_or, slice_set, slice_range}
 use Rattle.std.proofs.lemmas.Bool.{cases_lt, cases_eq, and_from, and_left, and_right, cond-false, cond-true, eqb-true, eqb-false, eq-eqb, ne_eqb, not-false}

@@ -1,4 +1,4 @@
--- A draft of a board is one of the board later: a page that was copied at the version of now was not written since.
+-- A draft of a board is also one of the board later: a page that was copied at its present version was not written since.
 use Rattle.std.proofs.Common.{◌≡◌, ℕ, zero, suc, ◌+◌, ◌<◌, ◌≤◌, Bool, true, false, List, length, Option, Some, None, Result, Ok, Err, IsOk, inl, inr, refl, sym, ap, subst, ◌∙◌, arith}
 use Rattle.std.specs.Prelude.{replicate, slice_index_or}
 use Rattle.std.proofs.lemmas.Bool.{cond-true, cond-false}

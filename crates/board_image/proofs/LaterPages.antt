@@ -1,5 +1,5 @@
--- Memory after a write is later memory: its page's version is higher, and every other page is as it was. So it is after
--- the accesses of a step, which are too few for a version to wrap, and after an input, which writes nothing.
+-- Memory after a write is later memory: its page's version is higher, and every other page is as it was. So is memory
+-- after the accesses of a step, which are too few for a version to wrap, and after an input, which writes nothing.
 use Rattle.std.proofs.Common.{◌≡◌, ℕ, zero, suc, ◌+◌, ◌*◌, ◌%◌, ◌^◌, ◌<◌, ◌≤◌, Bool, true, false, cond, List, [], ◌∷◌, length, Option, Some, None, is_none, Result, Ok, Err, refl, sym, ap, subst, ◌∙◌, inl, inr, arith}
 use Rattle.std.specs.Prelude.{◌==◌, nat_lt, slice_index, slice_set}
 use Rattle.std.specs.Option.{option_map_or}

@@ -28,7 +28,7 @@ board_after answer board = record {
   versions = versions_after_answer answer board.guest board.versions;
 }
 
--- a new draft is one of any board, with every page stale; it stays one when pages are copied, and so many fewer are stale
+-- a new draft is one of any board, with every page stale; it stays one when k stale pages are copied, and k fewer are stale
 pub record DraftsBegin : Type 0 where
   pub keeps_up : (board : OnBoard) → KeepsUp nothing_copied board
   pub stale : (board : OnBoard) → stale_pages nothing_copied board ≡ PAGES
@@ -37,7 +37,7 @@ pub record DraftsBegin : Type 0 where
   pub fewer : (k : ℕ) (board : OnBoard) (old new : Drafted) → IsFreshened k board old new
       → stale_pages new board ≡ stale_pages old board - k
 
--- it stays one as the board goes on: a write raises its page's version, an input writes nothing
+-- it stays one while the board moves: a write raises its page's version, an input writes nothing
 pub record DraftsKeepUp : Type 0 where
   pub keeps_up : (draft : Drafted) (old new : OnBoard) → IsLater (memory_of old) (memory_of new) → KeepsUp draft old
       → KeepsUp draft new

@@ -66,7 +66,7 @@ pub record IsFreshened (k : ℕ) (board : OnBoard) (old new : Drafted) : Type 0 
   pub bytes : (address : ℕ) → address < BYTES → slice_index new.bytes address
       ≡ (if is_next k old board (page_of address) then slice_index board.guest.memory address else slice_index old.bytes address)
 
--- of the first n pages the k lowest stale ones were copied; so many more may be, and so many are stale
+-- of the first n pages the k lowest stale ones were copied; `left` more may be, and `stale` are still stale
 pub record HasCopied (k : ℕ) (board : OnBoard) (old : Drafted) (n : ℕ) (new : Drafted) (left stale : ℕ) : Type 0 where
   pub room : HasRoom new
   pub versions : (page : ℕ) → page < n
@@ -87,7 +87,7 @@ pub record Agrees (draft : Drafted) (board : OnBoard) : Type 0 where
       → copied_at draft (page_of address) ≡ Some (version_of board (page_of address))
       → slice_index draft.bytes address ≡ slice_index board.guest.memory address
 
--- and no page was copied at a version that is still to come
+-- and no page was copied at a later version than the present one
 pub record KeepsUp (draft : Drafted) (board : OnBoard) : Type 0 where
   pub agrees : Agrees draft board
   pub past : (page version : ℕ) → page < PAGES → copied_at draft page ≡ Some version → version ≤ version_of board page

@@ -15,7 +15,7 @@ use std::alloc::Global;
 /// The board that the parts of an assembly make, with these closures; no page of its memory was written yet.
 ///
 /// `NotWhole` if a part is missing, otherwise `Malformed` if the parts fit no board together, otherwise `OutOfMemory` if
-/// there is no memory for it. Each hands everything back, with every part that came.
+/// there is no memory for it. Each hands everything back, with every part that arrived.
 pub fn board_of<T: Completes, S: Completes, W: Completes>(
     alloc: Global,
     assembly: Assembly,

@@ -102,7 +102,7 @@ fn copied_devices<T: Completes, S: Completes, W: Completes>(board: &Board<T, S, 
     }
 }
 
-// The bytes that a port has on its way, oldest first, and 00 after them.
+// The unaccepted bytes of a port, oldest first, and 00 after them.
 fn unaccepted_bytes<T: Completes, S: Completes, W: Completes>(
     board: &Board<T, S, W>,
     port: u8,
@@ -123,7 +123,7 @@ fn unaccepted_bytes<T: Completes, S: Completes, W: Completes>(
     bytes
 }
 
-// The byte of this number, which the port has on its way.
+// The unaccepted byte of this number of a port.
 fn outstanding_byte<T: Completes, S: Completes, W: Completes>(
     board: &Board<T, S, W>,
     port: u8,

@@ -44,7 +44,7 @@ impl Draft {
         Ok(Draft { bytes, copied })
     }
 
-    /// Copies the `k` lowest stale pages, all of them if there are fewer. How many are stale then. Takes no memory.
+    /// Copies the `k` lowest stale pages, all of them if there are fewer. Returns how many are still stale. Takes no memory.
     pub fn freshen<T: Completes, S: Completes, W: Completes>(
         &mut self,
         board: &Board<T, S, W>,
@@ -75,7 +75,7 @@ impl Draft {
         draft.into_bytes()
     }
 
-    // Whatever was copied, there is room for every page.
+    // There is always room for every page.
     fn has_room(&self)
         ensures { HasRoom self.now }
     {

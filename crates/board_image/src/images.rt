@@ -30,8 +30,8 @@ pub fn image_of<T: Completes, S: Completes, W: Completes>(
     Ok(image_with(board, memory, lists, generation))
 }
 
-/// The same image, in the memory of a draft of the board: only the pages that are stale are copied, and memory is taken
-/// only for what is not in pages. `OutOfMemory` if the allocator refuses that; the draft is handed back.
+/// The same image, in the memory of a draft of the board: only the stale pages are copied, and memory is taken only for
+/// what is not in pages. `OutOfMemory` if the allocator refuses that; the draft is handed back.
 pub fn image_of_draft<T: Completes, S: Completes, W: Completes>(
     alloc: Global,
     draft: Draft,

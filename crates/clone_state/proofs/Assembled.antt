@@ -1,4 +1,4 @@
--- What an assembly makes when every part came, and why it makes nothing.
+-- What an assembly makes when every part has arrived, and why it makes nothing.
 use Rattle.std.proofs.Common.{◌≡◌, ℕ, true, false, cond, List, [], ◌∷◌, drop, map, Option, Some, None, Result, Ok, Err, is_some, refl, sym, ap, subst, ◌∙◌, arith}
 use Rattle.std.specs.Prelude.{All, IsTrue, is_err}
 use Rattle.std.specs.Global.{Vec}

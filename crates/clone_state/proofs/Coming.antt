@@ -1,4 +1,4 @@
--- A part that comes to an assembly: what its bytes say, the slot that its payload fits, and what is answered.
+-- A part that arrives at an assembly: what its bytes say, the slot that its payload fits, and what is answered.
 use Rattle.std.proofs.Common.{◌≡◌, ℕ, ◌+◌, ◌≤◌, Bool, true, false, cond, eqb, ltb, ◌&&◌, List, length, Option, Some, None, Result, Ok, Err, is_some, refl, sym, ap, subst, ◌∙◌, arith}
 use Rattle.std.specs.Prelude.{slice_set, vec_capacity}
 use Rattle.std.specs.Global.{Vec}

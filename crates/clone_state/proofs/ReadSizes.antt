@@ -1,4 +1,4 @@
--- How many bytes a value takes that is read: no fewer and no more than these.
+-- How many bytes a value that is read takes: no fewer and no more than these.
 use Rattle.std.proofs.Common.{◌≡◌, ℕ, zero, suc, ◌+◌, ◌*◌, ◌^◌, ◌≤◌, Bool, true, false, cond, ltb, eqb, List, [], ◌∷◌, length, take, drop, Some, None, refl, ap, subst, length-drop, arith}
 use Rattle.std.specs.Int.{w64, from_be_bytes}
 use Rattle.std.proofs.lemmas.Bool.{eqb-true}

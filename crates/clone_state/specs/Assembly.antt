@@ -1,4 +1,4 @@
--- The parts of one image as they come, in any order, and what is answered to each.
+-- The parts of one image as they arrive, in any order, and what is answered to each.
 use Rattle.std.specs.Prelude.{ℕ, ◌==◌, Bool, if◌then◌else◌, ◌&&◌, List, [], ◌∷◌, replicate, slice_index_or, slice_set, is_none, is_some, Option, Some, None, Result, Ok, Err}
 use Rattle.i8080_words.specs.declared.refusal.Fault.{Fault}
 use Rattle.i8080_words.specs.declared.refusal.Fault.TheVariants.{Malformed, NotWhole, WrongGeneration}
@@ -6,7 +6,7 @@ use Rattle.guest_parts.specs.Guest.{Guest}
 use Rattle.log_entry.specs.Numbers.{◌>>=◌}
 use Rattle.clone_state.specs.Parts.{PartMessage, guest_in, message_at}
 
--- the payloads of the parts that came, by index
+-- the payloads of the parts that arrived, by index
 abbrev pub Slots : Type 0
 Slots = List (Option (List ℕ))
 
@@ -16,20 +16,20 @@ pub record Gathering : Type 0 where
   pub drives : ℕ
   pub slots : Slots
 
--- no part came yet, of so many
+-- none of this many parts has arrived
 abbrev pub nothing_gathered : ℕ → ℕ → ℕ → Gathering
 nothing_gathered generation drives count =
     record { generation = generation; drives = drives; slots = replicate count None }
 
--- the payloads, if all came
+-- the payloads, if all arrived
 abbrev pub gathered : Slots → Option (List (List ℕ))
 gathered [] = Some []
 gathered (None ∷ slots) = None
 gathered (Some payload ∷ slots) = gathered slots >>= λ rest. Some (payload ∷ rest)
 
--- ---- a part comes
+-- ---- a part arrives
 
--- no part of this index came before
+-- no part of this index arrived before
 abbrev pub is_missing : Gathering → ℕ → Bool
 is_missing g index = is_none (slice_index_or g.slots index None)
 
@@ -61,7 +61,7 @@ after_part g bytes = with_part g (message_at g.drives bytes)
 unfoldable pub after_forgetting : Gathering → List ℕ → Gathering
 after_forgetting g bytes = without_part g (message_at g.drives bytes)
 
--- ---- all parts came
+-- ---- all parts arrived
 
 abbrev pub is_whole : Gathering → Bool
 is_whole g = is_some (gathered g.slots)
@@ -69,6 +69,6 @@ is_whole g = is_some (gathered g.slots)
 abbrev pub whole_answer : Gathering → Result (Unit {0}) Fault
 whole_answer g = if is_whole g then Ok tt else Err NotWhole
 
--- the machine that the parts make, if all came and they fit a board together
+-- the machine that the parts make, if all arrived and they fit a board together
 abbrev pub machine_in : Gathering → Option Guest
 machine_in g = gathered g.slots >>= guest_in g.drives

@@ -21,7 +21,7 @@ read_all c bytes = alone (c.read bytes)
 pub record Again {A : Type 0} (c : Codec A) (x : A) : Type 0 where
   pub again : (rest : List ℕ) → c.read (c.spell x ++ rest) ≡ Some (x, rest)
 
--- what is read is written just so: each value has one spelling
+-- what is read is written in the same bytes: each value has one spelling
 pub record OneSpelling {A : Type 0} (c : Codec A) : Type 0 where
   pub exact : (bytes rest : List ℕ) (x : A) → IsBytes bytes → c.read bytes ≡ Some (x, rest)
       → bytes ≡ c.spell x ++ rest

@@ -6,7 +6,7 @@ use Rattle.clone_state.specs.Checkpoint.{checkpoint_of}
 use Rattle.clone_state.specs.Laws.{IsCopyable}
 use Rattle.clone_state.specs.Parts.{PartMessage, message_at, part_count, parts_of}
 
--- each part that came is the image's part of that index
+-- each part that arrived is the image's part of that index
 pub record AreOf (parts : List (List ℕ)) (slots : Slots) : Type 0 where
   pub long : length slots ≡ length parts
   pub each : (index : ℕ) (payload : List ℕ) → slice_get slots index ≡ Some (Some payload)
@@ -17,7 +17,7 @@ abbrev pub IsOfImage : Gathering → List (List ℕ) → List ℕ → Type 0
 IsOfImage g parts bytes = (m : PartMessage) → message_at g.drives bytes ≡ Some m → m.generation ≡ g.generation
     → slice_get parts m.index ≡ Some m.payload
 
--- that holds before any part came, and after each message that comes
+-- that holds before any part arrived, and after each message that arrives
 abbrev pub BeginsOfImage : Type 0
 BeginsOfImage = (parts : List (List ℕ)) (generation drives : ℕ) → length parts ≡ part_count drives
     → AreOf parts (nothing_gathered generation drives (part_count drives)).slots
@@ -26,7 +26,7 @@ abbrev pub StaysOfImage : Type 0
 StaysOfImage = (parts : List (List ℕ)) (g : Gathering) (bytes : List ℕ) → AreOf parts g.slots
     → IsOfImage g parts bytes → AreOf parts (after_part g bytes).slots
 
--- it is whole exactly when every part came
+-- it is whole exactly when every part arrived
 abbrev pub IsWholeWhenAllCame : Type 0
 IsWholeWhenAllCame = (slots : Slots) → IsTrue (is_some (gathered slots))
     ↔ ((index : ℕ) → index < length slots → IsTrue (is_some (slice_index_or slots index None)))

@@ -74,7 +74,7 @@ abbrev pub FirstIsWrittenSo : Type 0
 FirstIsWrittenSo = (drives : ℕ) (payload : List ℕ) (f : FirstPart) → IsBytes payload
     → first_in drives payload ≡ Some f → IsFirstPart f payload
 
--- the parts are those that are written of what they say, but that the first may be in version 01
+-- the parts are those that are written of what they say, except that the first may be in version 01
 abbrev pub AreParts : Checkpoint → List (List ℕ) → Type 0
 AreParts c parts = (parts ≡ parts_of c) ⊎ (parts ≡ spelling_01 c.first ∷ later_parts c)
 

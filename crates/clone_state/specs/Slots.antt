@@ -11,7 +11,7 @@ use Rattle.clone_state.specs.Assembly.{Slots}
 use Rattle.clone_state.specs.Codec.{read_all}
 use Rattle.clone_state.specs.Parts.{table, table_count}
 
--- the payload of the first part, of which no bytes are kept until it came
+-- the payload of the first part, of which no bytes are kept until it arrives
 abbrev pub first_slot : List ℕ → Option (List ℕ)
 first_slot bytes = if length bytes == 0 then None else Some bytes
 
@@ -30,7 +30,7 @@ pub record HasSlots (drives : ℕ) (first : Vec ℕ) (later : Vec (Option (List 
   pub count : length later.items ≡ PAGES + table_count drives
   pub pages : All IsPage later.items
 
--- a payload fits the slot of its index, if there are so many after the first
+-- a payload fits the slot of its index, if there are this many after the first
 pub record FitsSlot (count index : ℕ) (payload : List ℕ) : Type 0 where
   pub inside : index ≤ count
   pub some : 1 ≤ length payload
@@ -66,7 +66,7 @@ abbrev pub fit_slots : Drives → Option (List ℕ) → Bool
 fit_slots disk slot =
     option_map_or (λ payload. option_map_or (list_all (may_be_completed disk)) (read_all table payload) false) slot false
 
--- all pages of a memory came
+-- all pages of a memory arrived
 pub record HasPages (later : Slots) : Type 0 where
   pub enough : PAGES ≤ length later
   pub full : All (λ slot. IsTrue (is_some slot)) later

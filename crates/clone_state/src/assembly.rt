@@ -1,4 +1,4 @@
-//! The parts of one image as they come, in any order, and what they say of a board.
+//! The parts of one image as they arrive, in any order, and what they say of a board.
 ghost use Rattle.std.specs.Prelude.{◌≡◌, ◌<◌, ◌≤◌, true, false, None, Some, length, IfOk, IfErr, IsOkUnless, is_none, is_some, slice_index_or, slice_set, if◌then◌else◌, vec_capacity};
 ghost use Rattle.disk_dcdd.specs.declared.controller.TheConstants.{DRIVES};
 ghost use Rattle.i8080_words.specs.declared.refusal.Fault.TheVariants.{OutOfMemory};
@@ -22,14 +22,14 @@ use std::marker::Model;
 // The most bytes that the payload of a first part has: with eight outstanding writes.
 const FIRST_MOST: usize = 1445;
 
-/// The payloads of the parts of one image, as far as they came. Memory for all of them is taken at the start.
+/// The payloads of the parts of one image that have arrived. Memory for all of them is taken at the start.
 #[derive(Drop)]
 pub struct Assembly {
     generation: u32,
     drives: u8,
-    // The payload of the first part; it is empty until that part comes.
+    // The payload of the first part; it is empty until that part arrives.
     first: Vec<u8>,
-    // The payload of each other part that came, in order of index.
+    // The payload of each other part that arrived, in order of index.
     later: Vec<Option<[u8; PAGE_BYTES]>>,
 }
 
@@ -50,8 +50,8 @@ impl Model for Assembly {
 }
 
 impl Assembly {
-    /// An assembly of the image of this generation, for a machine of this many drives, with no part yet. `OutOfMemory`
-    /// if the allocator refuses; no part that comes needs memory.
+    /// An assembly of the image of this generation, for a machine of this many drives, with no part yet. `OutOfMemory` if
+    /// the allocator refuses; no part that arrives needs memory.
     pub fn new(alloc: Global, generation: u32, drives: u8) -> R<Assembly>
         requires some { 1 ≤ drives }
         requires few { drives ≤ DRIVES }
@@ -68,7 +68,7 @@ impl Assembly {
         })
     }
 
-    /// A part comes: whether it is new. `Malformed` if the bytes spell no part of an image for this many drives,
+    /// A part arrives; returns whether it is new. `Malformed` if the bytes spell no part of an image for this many drives,
     /// otherwise `WrongGeneration` if they spell one of another generation. A repeat and a refusal change nothing.
     pub fn part(&mut self, bytes: &[u8]) -> R<bool>
         ensures answer { result ≡ table.part_answer self.old bytes.now }
@@ -83,7 +83,7 @@ impl Assembly {
         Ok(slots::keep(&mut self.first, &mut self.later, part.index, part.payload))
     }
 
-    /// Takes back the part that the bytes spell, as if it had not come. If they spell none of this image, nothing
+    /// Takes back the part that the bytes spell, as if it had not arrived. If they spell none of this image, nothing
     /// changes.
     pub fn forget(&mut self, bytes: &[u8])
         ensures { self.new ≡ table.after_forgetting self.old bytes.now }
@@ -96,7 +96,7 @@ impl Assembly {
         }
     }
 
-    /// Whether every part came. `NotWhole` if one is missing.
+    /// Whether every part has arrived. `NotWhole` if one is missing.
     pub fn whole(&self) -> R<()>
         ensures { result ≡ table.whole_answer self.now }
     {
@@ -107,7 +107,7 @@ impl Assembly {
         }
     }
 
-    /// What the parts that came say of a board: one can be in that state.
+    /// What the parts that arrived say of a board: one can be in that state.
     ///
     /// `NotWhole` if a part is missing, otherwise `Malformed` if the parts fit no board together, otherwise
     /// `OutOfMemory` if there is no memory for it.

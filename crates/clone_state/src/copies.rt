@@ -17,7 +17,7 @@ use guest_lockstep::Lockstep;
 use i8080_words::{Fault, R};
 use std::alloc::Global;
 
-/// A guest whose copy another host can be given, part by part. `H` is what a guest has on its host besides what is
+/// A guest whose copy can be given to another host, part by part. `H` is what a guest has on its host besides what is
 /// copied: its stored closures.
 pub trait Copies<H>: Lockstep {
     // What is copied of a guest.
@@ -32,8 +32,8 @@ pub trait Copies<H>: Lockstep {
     // How many pages of a guest are stale: all of them if there is no draft of its image.
     ghost stale: { Self → ℕ };
 
-    /// Copies the lowest stale pages, at most so many, into a draft of the guest's image, which begins here if there is
-    /// none. How many are stale then. `OutOfMemory` if the allocator refuses.
+    /// Copies the lowest stale pages, `pages` at most, into a draft of the guest's image, which begins here if there is
+    /// none. Returns how many are still stale. `OutOfMemory` if the allocator refuses.
     fn freshen(&mut self, alloc: Global, pages: u64) -> R<u64>
         ensures state { Self.state self.new ≡ Self.state self.old }
         ensures copied { copied self.new ≡ copied self.old }
@@ -42,8 +42,8 @@ pub trait Copies<H>: Lockstep {
         ensures full { IsOkUnless result OutOfMemory }
         ensures unchanged { OnErr result (self.new ≡ self.old) };
 
-    /// The image of the guest, as it is now, for the generation that it begins. Uses the draft, so that only stale pages
-    /// are copied, and there is no draft after it. `OutOfMemory` if the allocator refuses; the draft stays then.
+    /// The image of the guest, as it is now, for the generation that it begins. Uses up the draft, so that only stale
+    /// pages are copied. `OutOfMemory` if the allocator refuses; then the draft stays.
     fn image(&mut self, alloc: Global, generation: u32) -> R<Image>
         requires { 0 < generation }
         ensures copied { IfOk result (λ image. guest_of_parts image.copied ≡ copied self.old) }

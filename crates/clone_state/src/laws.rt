@@ -26,13 +26,13 @@ pub fn parts_make_their_machines()
     ensures sizes { PartsHaveSizes }
 {}
 
-/// What is read is written just so: every part has one spelling, but that the first may also come in version 01.
+/// Every part has one spelling, except that the first may also be in version 01.
 pub fn parts_are_written_one_way()
     ensures first { FirstIsWrittenSo }
     ensures parts { PartsAreWrittenSo }
 {}
 
-/// A part's message is read again, and what is read as one is written just so.
+/// A part's message is read again, and each such message has one spelling.
 pub fn messages_are_written_one_way()
     ensures again { MessageIsReadAgain }
     ensures one_way { MessageIsWrittenSo }
@@ -55,8 +55,8 @@ pub fn boards_can_be_rebuilt()
     ensures { BoardsCanBeRebuilt }
 {}
 
-/// If the parts that come are of one image, in whatever order, with parts that are lost or repeated, the assembly is
-/// whole exactly when each of them came, and then it makes the machine of the image.
+/// If the parts that arrive are of one image, in whatever order, with parts that are lost or repeated, the assembly is
+/// whole exactly when each of them has arrived, and then it makes the machine of the image.
 pub fn assemblies_gather_images()
     ensures begins { BeginsOfImage }
     ensures stays { StaysOfImage }

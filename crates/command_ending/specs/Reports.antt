@@ -1,4 +1,4 @@
--- What becomes of the lines that are handed in.
+-- What happens to the lines that are handed in.
 use Rattle.std.specs.Prelude.{◌≡◌, ℕ, Option, List, IfSome, string_bytes}
 use Rattle.std.specs.Fmt.{with_newline}
 use Rattle.std.specs.Io.KnownBytes.{Appends, append_known}

@@ -12,13 +12,13 @@ use std::io::Write;
 // How many bytes of output are written line by line; after that, lines are gathered.
 const UNGATHERED_BYTES: usize = 65_536;
 
-// How many bytes are gathered, at least, before they are written.
+// At least this many bytes are gathered before they are written.
 const BLOCK_BYTES: usize = 16_384;
 
-// How many turns guests may make, at most, while lines wait.
+// Guests may make at most this many turns while lines wait.
 const TURNS: u64 = 10_000;
 
-/// Lines on their way to a writer: one by one at first, and many at a time once there are many; never a part of a line.
+/// Lines for a writer: one by one at first, and many at a time once there are many; never a part of a line.
 #[derive(Drop)]
 pub struct Report {
     lines: String,
@@ -62,7 +62,7 @@ impl Report {
         self.flush(writer)
     }
 
-    /// To be called before guests make this many turns, so that lines wait for at most 10,000 turns.
+    /// Called before guests make this many turns, so that lines wait for at most 10,000 turns.
     pub fn before_turns<W: Write>(&mut self, writer: &mut W, turns: u64) -> Result<(), Failure>
         ensures ok { OnOk result
             (Keeps (handed (W.contents writer.old) self.old) (handed (W.contents writer.new) self.new)) }

@@ -43,8 +43,8 @@ fn complete<T: Completes, S: Completes, W: Completes>(
     after
 }
 
-// Completes each kind once: a byte is accepted, sector 5 comes, and its write is done, so that it can come again. A closure
-// that is stored twice serves both holders.
+// Completes each kind once: a byte is accepted, sector 5 comes under the head, and its write is done, so that it can come
+// again. A closure that is stored twice serves both holders.
 fn complete_each<T: Completes + Drop + Copy, S: Completes + Drop, W: Completes + Drop>(
     rt: &impl Abort,
     sent: T,
@@ -94,7 +94,7 @@ fn functions_and_closures_complete_alike(rt: HostRuntime) {
     );
 }
 
-// Issues an operation that is not there yet.
+// Issues an operation that is not outstanding yet.
 fn issue_new(rt: &impl Abort, pending: &mut Pending, operation: Operation) -> R<()> {
     assert!(rt; pending.find(operation.id()).is_none());
     pending.reserve()?;

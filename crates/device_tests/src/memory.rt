@@ -44,7 +44,7 @@ fn new_memory_reads_zero_at_version_zero(rt: HostRuntime) -> Result<(), Fail> {
     Ok(())
 }
 
-// How often a page is written that has such edges.
+// How often a page with such edges is written.
 fn writes(page: u8) -> u64 {
     match page {
         0x00 => 2,

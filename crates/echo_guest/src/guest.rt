@@ -8,9 +8,9 @@ use guest_lockstep::{Input, Lockstep};
 use i8080_words::{Fault, GREATEST_NUMBER, R};
 use std::marker::Model;
 
-/// A guest that reads the key that came last and sends it at the next step. It sends no byte while one is not accepted,
-/// and idles then if it has no key to read. It has room for a given number of operations in all; the step that would give
-/// one more is out of memory.
+/// A guest that reads the key that arrived last and sends it at the next step. It sends no byte while one is not
+/// accepted; then it idles if it has no key to read. It has room for a given number of operations in all; the step that
+/// would give one more is out of memory.
 #[derive(Drop)]
 pub struct Echo {
     count: u64,

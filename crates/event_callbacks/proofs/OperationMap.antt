@@ -1,5 +1,5 @@
--- What the map of operations has after one comes or goes: under its name, the one that came, or nothing; under every
--- other name, what it had. Two maps that have the same operations are equal.
+-- What the map of operations has after one is added or removed: under its name, the one that was added, or nothing; under
+-- every other name, what it had. Two maps that have the same operations are equal.
 use Rattle.std.proofs.Common.{◌≡◌, ◌≢◌, cond, Option, Some, None, refl, sym, ap, ◌∙◌}
 use Rattle.std.specs.FinMap as map
 use Rattle.event_callbacks.specs.declared.operations.OpId.{OpId}

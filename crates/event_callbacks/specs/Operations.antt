@@ -1,4 +1,4 @@
--- The outstanding operations: a finite map from names to operations, and how many more have room.
+-- The outstanding operations: a finite map from names to operations, and for how many more there is room.
 use Rattle.std.specs.Prelude.{◌≡◌, ◌≢◌, ℕ, ◌+◌, ◌-◌, max, nat_lt, Bool, if◌then◌else◌, List, [], ◌∷◌, Option, Some, None, is_some, Result, refl}
 use Rattle.std.specs.Option.{ok_or}
 use Rattle.std.specs.declared.cmp.Ordering.{Ordering}
@@ -35,25 +35,25 @@ Operations = map.FinMap name_cmp Operation
 abbrev pub operation_at : Operations → OpId → Option Operation
 operation_at m i = map.get m i
 
--- an operation comes
+-- an operation is added
 abbrev pub with_operation : Operations → Operation → Operations
 with_operation m op = map.insert m (id_of op) op
 
--- the operation of this name goes
+-- the operation of this name is removed
 abbrev pub without_operation : Operations → OpId → Operations
 without_operation m i = map.remove m i
 
--- after an operation comes, it is under its name, and every other name has what it had
+-- after an operation is added, it is under its name, and every other name has what it had
 pub record Comes (old new : Operations) (op : Operation) : Type 0 where
   pub itself : operation_at new (id_of op) ≡ Some op
   pub others : (j : OpId) → j ≢ id_of op → operation_at new j ≡ operation_at old j
 
--- after an operation goes, its name has none, and every other name has what it had
+-- after an operation is removed, its name has none, and every other name has what it had
 pub record Goes (old new : Operations) (i : OpId) : Type 0 where
   pub itself : operation_at new i ≡ None
   pub others : (j : OpId) → j ≢ i → operation_at new j ≡ operation_at old j
 
--- the operations that are outstanding, and how many more have room
+-- the operations that are outstanding, and for how many more there is room
 pub record Outstanding : Type 0 where
   pub operations : Operations
   pub spare : ℕ
@@ -72,7 +72,7 @@ outstanding_code id_code operation_code =
 abbrev pub nothing_outstanding : Outstanding
 nothing_outstanding = record { operations = map.empty; spare = 0 }
 
--- one more operation has room
+-- there is room for one more operation
 abbrev pub has_room : Outstanding → Bool
 has_room o = nat_lt 0 o.spare
 

@@ -5,7 +5,7 @@ use Rattle.event_callbacks.specs.Operations.{Outstanding}
 use Rattle.event_callbacks.specs.Slots.{operations_of, IsNamedOnce}
 use Rattle.event_callbacks.specs.declared.pending.Pending.TheInside.{Inside}
 
--- the operations in the slots are outstanding, and this many more have room
+-- the operations in the slots are outstanding, and there is room for this many more
 abbrev pub outstanding_of : Inside → Outstanding
 outstanding_of p = record { operations = operations_of p.slab.slots; spare = p.spare }
 

@@ -10,7 +10,7 @@ ghost use Rattle.event_callbacks.specs.declared.operations.Operation.{Operation}
 use crate::callbacks::{Callbacks, Completes};
 use crate::plain_completions;
 
-/// An operation that comes is found under its name, one that goes leaves its name free, and no other is touched.
+/// An operation that is added is found under its name, one that is removed leaves its name free, and no other is touched.
 pub fn operations_come_and_go()
     ensures none_at_first { (i : OpId) → operation_at nothing_outstanding.operations i ≡ None }
     ensures comes { (m : Operations) (op : Operation) → Comes m (with_operation m op) op }

@@ -46,9 +46,9 @@ impl<B: Lockstep> Draining<B> {
         &self.receiver
     }
 
-    /// Makes at most `turns` moves, each of them a step or an entry. Makes fewer only if no entry is held any more, the
-    /// next one is a read whose bytes have not come, or a step runs out of memory; `OutOfMemory` is returned only if no
-    /// move was made.
+    /// Makes at most `turns` moves, each of them a step or an entry. Makes fewer only if no entry is held any longer, the
+    /// next one is a read whose bytes have not arrived, or a step runs out of memory; `OutOfMemory` is returned only if
+    /// no move was made.
     pub fn drain(&mut self, turns: u64) -> R<Replayed>
         requires on_trace { IsOnTrace B.machine (B.state self.old.replayer.board) self.old.receiver.entries
             self.old.replayer.fetched }
@@ -93,7 +93,7 @@ impl<B: Lockstep> Draining<B> {
         self.replayer.bytes(&self.receiver, read)
     }
 
-    /// The guest, which is alone from now on. `WrongRole` if an entry is still held, with the value unchanged.
+    /// The guest, which is then alone. `WrongRole` if an entry is still held, with the value unchanged.
     pub fn finish(self) -> Result<B, (Draining<B>, Fault)>
         ensures drained { IsOk result ↔ (self.receiver.entries ≡ []) }
         ensures board { IfOk result (λ board. board ≡ self.replayer.board) }

@@ -47,7 +47,7 @@ with_disk d disk = record d { disk = disk }
 abbrev pub with_port : Devices → ℕ → serial.Port → Devices
 with_port d number port = record d { ports = slice_set d.ports number port }
 
--- IN: the byte that a device gives; where none stands, the bus floats high
+-- IN: the byte that a device gives; if there is none, the bus floats high
 abbrev pub byte_from : Wired → Device → ℕ
 byte_from w (SerialControl port) = serial.status_of (port_of w.devices port)
 byte_from w (SerialData port) = serial.data_in_answer (port_of w.devices port)

@@ -17,7 +17,7 @@ pub fn boards_count()
     ensures { Counts some_altair }
 {}
 
-/// An operation that a step gives is outstanding from then on, until an input completes it; no other move touches it.
+/// An operation that a step gives is outstanding until an input completes it; no other move touches it.
 pub fn boards_issue_and_complete()
     ensures { ComesAndGoes some_altair }
 {}

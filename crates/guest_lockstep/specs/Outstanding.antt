@@ -33,6 +33,6 @@ pub record AreFew {S : Type 0} (M : Machine S) (s : S) : Type 0 where
   pub few : length names ≤ 40
   pub all : (name : OpId) (o : Operation) → M.find s name ≡ Some o → Contains names name
 
--- and that stays so, wherever the machine goes from here
+-- and that stays so, whatever moves the machine makes from here
 abbrev pub IsFrugal : {S : Type 0} → Machine S → S → Type 0
 IsFrugal {S} M s = (moves : List Move) (t : S) → Runs M s moves t → AreFew M t

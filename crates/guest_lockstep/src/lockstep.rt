@@ -32,8 +32,8 @@ pub trait Lockstep: Sized {
         ensures answer { Executes machine (state self.old) result (state self.new) }
         ensures unchanged { OnErr result (self.new ≡ self.old) };
 
-    /// Whether an input would be taken now: what `take` would return. No write number that would be taken is past the
-    /// greatest.
+    /// Whether an input would be taken now: what `take` would return. No input with a write number past the greatest
+    /// would be taken.
     fn check(&self, input: &Input) -> R<()>
         requires { IsInput input.now }
         ensures answer { result ≡ answered (refusal_of machine (state self.now) input.now) }

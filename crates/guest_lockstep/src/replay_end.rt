@@ -7,7 +7,7 @@ pub enum ReplayEnd {
     Turns,
     /// No entry is left.
     End,
-    /// The next entry is of a sector that is read from the shared disk, and its bytes have not come yet.
+    /// The next entry is of a sector that is read from the shared disk, and its bytes have not arrived.
     Wait,
     /// A step ran out of memory.
     Memory,

@@ -1,4 +1,4 @@
--- Operations under their names: one that comes or goes leaves all others under theirs.
+-- Operations under their names: one that is added or removed leaves all others under theirs.
 use Rattle.std.proofs.Common.{◌≡◌, ◌≢◌, ℕ, false, Option, Some, None, is_some, refl, sym, subst, ⊎_elim}
 use Rattle.std.specs.Prelude.{IfSome}
 use Rattle.event_callbacks.specs.declared.operations.OpId.{OpId}

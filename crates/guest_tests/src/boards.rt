@@ -10,7 +10,7 @@ use guest_parts::BoardParts;
 use i8080_words::{Fault, GREATEST_NUMBER, R};
 use std::process::Abort;
 
-// The byte of port 0 that is on its way.
+// The unaccepted byte of port 0.
 const THIRD: Operation = Operation::Byte {
     port: 0,
     number: 3,

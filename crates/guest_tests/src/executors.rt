@@ -18,14 +18,14 @@ use rand_pcg::Pcg32;
 use std::alloc::Global;
 use std::process::Abort;
 
-// How often a program is run on before an input is offered to it.
+// How many steps a program makes before an input is offered to it.
 const INPUTS: u32 = 100;
 
 // The ports that have a device.
 static PORTS: [u8; 8] = [0x08, 0x09, 0x0a, 0x10, 0x11, 0x12, 0x13, 0xff];
 
 // Selects drive 0, loads its head, enables interrupts of the drives, waits for a sector, writes E5 to all of it, and
-// goes on at 0027.
+// continues at 0027.
 static WRITES_A_SECTOR: [u8; 39] = [
     0x31, 0x00, 0x80, 0x3e, 0x00, 0xd3, 0x08, 0x3e, 0x04, 0xd3, 0x09, 0xdb, 0x09, 0x0f, 0xda, 0x0b,
     0x00, 0x3e, 0x80, 0xd3, 0x09, 0x06, 0x89, 0xdb, 0x08, 0x0f, 0xda, 0x17, 0x00, 0x3e, 0xe5, 0xd3,
@@ -122,7 +122,7 @@ fn sector_bytes(done: &[SectorWrite], address: SectorAddress) -> [u8; SECTOR_BYT
     }
 }
 
-// A random input that this board might take now, without what only the log carries and with it.
+// A random input that this board might take now, without and with what only the log carries.
 fn random_input<T: Completes, S: Completes, W: Completes>(
     board: &Board<T, S, W>,
     course: &Course,
@@ -396,7 +396,7 @@ fn agrees(alloc: Global, setup: &Setup, shown: &Shown) -> R<bool> {
     Ok(is_alike(&single, shown))
 }
 
-// Runs a random program on a board, and then on the single machine, which is to do the same.
+// Runs a random program on a board, and then on the single machine, which must do the same.
 fn run_program(rt: &(impl Abort + AllocGlobal), program: u64, totals: &mut Totals) -> R<()> {
     let mut random = Pcg32::new(program, 54);
     let setup = setup_of(rt.alloc(), &mut random, program)?;

@@ -1,5 +1,5 @@
-//! Parts of an image that no primary sends: the first part in version 01, and bytes that are almost a part; and what no board
-//! can be in.
+//! Parts of an image that no primary sends: the first part in version 01, and bytes that are almost a part; and what no
+//! board can be in.
 
 use clone_state::Assembly;
 use guest_parts::BoardParts;
@@ -20,7 +20,7 @@ static FIRST: [Bytes; 12] = [
     // The count, and the flags.
     (20, &[9]),
     (22, &[0x02]),
-    // Bytes sent; port 0, with 48 on its way, and port 1.
+    // Bytes sent; port 0, with 48 unaccepted, and port 1.
     (58, &[3]),
     (67, &[0x15, 0, 0, 1, 0x48]),
     (87, &[0x15]),
@@ -65,7 +65,7 @@ fn later_part(alloc: Global, index: u16) -> R<Vec<u8>> {
     Ok(message)
 }
 
-/// What the parts say that come after this first one.
+/// What the parts say that follow this first one.
 pub(crate) fn board_parts(rt: &(impl Abort + AllocGlobal), first: &[u8]) -> R<BoardParts> {
     let mut assembly = Assembly::new(rt.alloc(), 2, 1)?;
     assert!(rt; assembly.part(first) == Ok(true));
@@ -117,7 +117,7 @@ fn no_board_has_completed_an_outstanding_write(rt: HostRuntime) -> Result<(), Fa
 // How many changes of a byte give a part of generation 2, one of another generation, and none.
 type Answers = (u64, u64, u64);
 
-// With what came of one more, in an assembly of generation 2.
+// The same with one more answer, in an assembly of generation 2.
 fn counted(answers: Answers, came: R<bool>) -> Answers {
     let (own, other, malformed) = answers;
     match came {
@@ -134,7 +134,7 @@ fn flip(bytes: &mut [u8], place: usize, change: u8) {
     }
 }
 
-// No proper beginning of a part is one, and nothing may follow it.
+// No proper prefix of a part is one, and nothing may follow it.
 fn expect_whole(rt: &impl Abort, assembly: &mut Assembly, bytes: &mut Vec<u8>) -> R<()> {
     for length in 0..bytes.len() {
         let beginning = bytes.get(..length).unwrap_or_default();

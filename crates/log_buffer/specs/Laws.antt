@@ -3,7 +3,7 @@ use Rattle.std.specs.Prelude.{◌≡◌, ℕ, ◌<◌, ◌≤◌, Some}
 use Rattle.log_entry.specs.declared.entry.Entry.{Entry}
 use Rattle.log_buffer.specs.Log.{Log, next_of, kept_at, pushed, dropped_to}
 
--- an entry that comes is at the index that was next, the others stay where they were, and so does each that is not
+-- an entry that is pushed is at the index that was next, the others stay where they were, and so does each that is not
 -- dropped
 pub record KeepsIndexes (l : Log) : Type 0 where
   pub comes : (entry : Entry) → kept_at (pushed l entry) (next_of l) ≡ Some entry

@@ -27,7 +27,7 @@ pub record IsWithinLimits (l : Log) : Type 0 where
   pub few : length l.entries ≤ CAPACITY
   pub next : next_of l ≤ GREATEST_NUMBER
 
--- why no entry can come: the log is full, or its last index is used
+-- why no entry can be pushed: the log is full, or its last index is used
 abbrev pub refusal_of : Log → Option Fault
 refusal_of l =
     if length l.entries == CAPACITY
@@ -39,7 +39,7 @@ abbrev pub answered : {A : Type 0} → Option Fault → A → Result A Fault
 answered None value = Ok value
 answered (Some fault) value = Err fault
 
--- whether an entry can come, and the index of one that does
+-- whether an entry can be pushed, and the index of one that is
 abbrev pub room_answer : Log → Result (Unit {0}) Fault
 room_answer l = answered (refusal_of l) tt
 

@@ -64,7 +64,7 @@ impl LogBuffer {
         self.entries.len()
     }
 
-    /// Whatever a log has been through, it is within its limits.
+    /// Every log is within its limits.
     pub fn stands(&self)
         ensures { table.IsWithinLimits self.now }
     {
@@ -85,8 +85,7 @@ impl LogBuffer {
         Ok(())
     }
 
-    /// Appends an entry, and returns the index that it has from then on. Allocates no memory, and is refused as `room`
-    /// is.
+    /// Appends an entry, and returns its index. Allocates no memory, and is refused as `room` is.
     pub fn push(&mut self, entry: Entry) -> R<u64>
         ensures answer { result ≡ table.push_answer self.old }
         ensures after { self.new ≡ table.after_push self.old entry }

@@ -1,4 +1,4 @@
--- The bytes after a mark: what is appended to all bytes is appended to those, and a mark may move on past some of them.
+-- The bytes after a mark: what is appended to all bytes is appended to those, and a mark may move past some of them.
 use Rattle.std.proofs.Common.{◌≡◌, ℕ, zero, suc, ◌+◌, ◌≤◌, List, [], ◌∷◌, ◌++◌, length, drop, refl, sym, ◌∙◌, arith}
 
 pub drop_longer : (n : ℕ) (xs ys : List ℕ) → n ≤ length xs → drop n (xs ++ ys) ≡ drop n xs ++ ys

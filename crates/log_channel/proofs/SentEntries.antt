@@ -1,5 +1,5 @@
--- What the backup has held is the first part of the log. Only the entry at the next index is held, and the log has that
--- entry there; a log that grows keeps its first part, and what is popped only moves to the other list.
+-- What the backup has held is a prefix of the log. Only the entry at the next index is held, and the log has that entry
+-- there; a log that grows keeps its prefix, and what is popped only moves to the other list.
 use Rattle.std.proofs.Common.{◌≡◌, ℕ, ◌+◌, ◌<◌, Bool, true, false, cond, eqb, List, [], ◌∷◌, ◌++◌, length, take, drop, get_or, Option, Some, None, Result, Ok, Err, refl, sym, ap, subst, ◌∙◌, arith, append_assoc}
 use Rattle.std.specs.List.{slice_get}
 use Rattle.std.specs.Prelude.{not}

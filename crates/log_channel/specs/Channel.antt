@@ -35,7 +35,7 @@ abbrev pub packet_of : ℕ → ℕ → Option Entry → Option Packet
 packet_of generation index None = None
 packet_of generation index (Some entry) = Some (Log generation index entry)
 
--- the packet that acknowledges what is held, and says how much of it is replayed
+-- the packet that acknowledges what is held, and reports how much of it is replayed
 abbrev pub ack_of : Receiving → Option ℕ → Packet
 ack_of r replayed = Ack r.generation r.held replayed
 
@@ -50,7 +50,7 @@ ack_answer s next (Some (Ack generation held replayed)) =
     else if nat_lt next held then Err BadAck
     else Ok (max s.held held)
 
--- how many entries a packet reports as replayed; one that does not say so reports none
+-- how many entries a packet reports as replayed; one without a report reports 0
 abbrev pub replayed_in : Option Packet → ℕ
 replayed_in None = 0
 replayed_in (Some (Log generation index entry)) = 0
@@ -91,7 +91,7 @@ next_in (Next entry) = Ok (Some entry)
 abbrev pub MayHold : Receiving → Entry → Type 0
 MayHold r entry = IsEntry entry × (r.held < 2 ^ 62 - 1)
 
--- an entry is held, or there is no memory, which is needed only if others are held before it
+-- an entry is held, or memory ran out, which is needed only if others are held before it
 abbrev pub Holds : Entry → Receiving → Result (Unit {0}) Fault → Receiving → Type 0
 Holds entry old (Ok done) new = new ≡ holding old entry
 Holds entry old (Err fault) new = (fault ≡ OutOfMemory) × (new ≡ old) × (old.entries ≢ [])

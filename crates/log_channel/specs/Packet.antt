@@ -8,7 +8,7 @@ use Rattle.log_entry.specs.Spelling.{spelling, IsEntry, entry_at}
 use Rattle.log_channel.specs.declared.packet.Packet.{Packet}
 use Rattle.log_channel.specs.declared.packet.Packet.TheVariants.{Log, Ack}
 
--- an acknowledgement is spelled by one tag if it does not say how many entries are replayed, and by another if it does
+-- an acknowledgement has one tag without the number of replayed entries, and another one with it
 abbrev pub ack_bytes : ℕ → ℕ → Option ℕ → List ℕ
 ack_bytes generation held None = 0x41 ∷ big_bytes 4 generation ++ big_bytes 8 held
 ack_bytes generation held (Some replayed) =
@@ -48,7 +48,7 @@ whole packet rest = if length rest == 0 then Some packet else None
 unfoldable pub ack_at : ℕ → List ℕ → Option Packet
 ack_at generation bytes = number_from bytes >>= λ held. whole (Ack generation held.0 None) held.1
 
--- more entries replayed than held are no acknowledgement
+-- more entries replayed than held are not an acknowledgement
 unfoldable pub report_at : ℕ → List ℕ → Option Packet
 report_at generation bytes = number_from bytes >>= λ held. number_from held.1 >>= λ replayed.
     if nat_lt held.0 replayed.0 then None else whole (Ack generation held.0 (Some replayed.0)) replayed.1

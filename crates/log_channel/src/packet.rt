@@ -14,7 +14,7 @@ const LOG_TAG: u8 = 0x4c;
 /// The byte that an acknowledgement begins with, the letter `A`.
 const ACK_TAG: u8 = 0x41;
 
-/// The byte that an acknowledgement begins with which also says how many entries are replayed, the letter `B`.
+/// The byte that an acknowledgement begins with which also reports how many entries are replayed, the letter `B`.
 const REPORT_TAG: u8 = 0x42;
 
 /// What travels between the two ends of a log's channel. Generations count from 1.
@@ -27,7 +27,7 @@ pub enum Packet {
         entry: Entry,
     },
     /// How many entries the backup has held, counted from the first one, and how many of them it has replayed, if it
-    /// says so.
+    /// reports that.
     Ack {
         generation: u32,
         held: u64,
@@ -88,7 +88,7 @@ fn head(tag: u8, generation: u32, number: u64) -> [u8; 13]
     bytes
 }
 
-// An acknowledgement that says how many entries are replayed.
+// An acknowledgement that reports how many entries are replayed.
 fn report(generation: u32, held: u64, replayed: u64) -> [u8; 21]
     ensures { result ≡ ack_bytes generation held (Some replayed) }
 {

@@ -10,7 +10,7 @@ use log_entry::Entry;
 use std::alloc::Global;
 use std::marker::Model;
 
-/// Holds the entries that came in order of index, without gaps, until they are popped: the first of them, and the
+/// Holds the entries that arrived in order of index, without gaps, until they are popped: the first of them, and the
 /// spellings of those after it.
 #[derive(Drop)]
 pub struct Receiver {
@@ -102,8 +102,8 @@ impl Receiver {
         Ok(true)
     }
 
-    /// The packet that acknowledges all that was held, and that says how many of these entries are replayed, if that is
-    /// given.
+    /// The packet that acknowledges all that was held, and that reports how many of these entries are replayed, if that
+    /// is given.
     pub fn ack(&self, alloc: Global, replayed: Option<u64>) -> R<Vec<u8>>
         requires { IfSome replayed (λ number. number ≤ self.now.held) }
         ensures { Spells (Some (ack_of self.now replayed)) result }

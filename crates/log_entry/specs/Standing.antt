@@ -12,14 +12,14 @@ use Rattle.log_entry.specs.declared.entry.Entry.TheVariants.{Mark, Read}
 abbrev pub owed : ℕ → Bool → List Entry
 owed count owes = if owes then Mark count ∷ [] else []
 
--- if bytes have come for a sector, the first entry is its read, and the next move takes it with these bytes
+-- if bytes have arrived for a sector, the first entry is its read, and the next move takes it with these bytes
 abbrev pub TakesFetched : Option (List ℕ) → List Entry → List Move → Type 0
 TakesFetched None held moves = Unit {0}
 TakesFetched (Some bytes) (Read count drive sector number ∷ held) (Take i ∷ moves) = i ≡ Sector drive sector number bytes
 TakesFetched (Some bytes) _ _ = ⊥
 
 -- these moves of a recorded run are still to be made, and the entries that are held are the next ones; the bytes that
--- have come for the first of them are those that the run takes
+-- have arrived for the first of them are those that the run takes
 pub record Stands {S : Type 0} (M : Machine S) (reads : Reads) (s : S) (held : List Entry)
     (fetched : Option (List ℕ)) (owes : Bool) (moves : List Move) (last : S) : Type 0 where
   pub runs : Recorded M s moves last

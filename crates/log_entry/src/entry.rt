@@ -51,8 +51,8 @@ impl Entry {
     ghost use Rattle.log_entry.specs.Entries.{count_of, entry_of, input_of, read_of, timed_of};
     ghost use Rattle.log_entry.specs.Spelling.{IsEntry};
 
-    /// The entry of an input that is taken at this count, in a log that carries its sectors so. If the input may come and
-    /// the count is in range, all fields are in range.
+    /// The entry of an input that is taken at this count; `reads` says whether the log carries sector bytes. If the input
+    /// may come and the count is in range, all fields are in range.
     pub fn of_input(reads: Reads, count: u64, input: Input) -> Entry
         ensures value { result ≡ entry_of reads count input }
         ensures valid { IsInput input → IsNumbered input → count < 2 ^ 62 → IsEntry result }
@@ -122,7 +122,7 @@ impl Entry {
         }
     }
 
-    /// The drive, the sector and the number of a sector that is to be read from the shared disk; every other entry has
+    /// The drive, the sector and the number of a sector that the backup reads from the shared disk; every other entry has
     /// none.
     pub fn read_of(&self) -> Option<(u8, u8, u64)>
         ensures { result ≡ read_of self.now }

@@ -5,7 +5,7 @@ ghost use Rattle.guest_lockstep.specs.Machine.{Move};
 ghost use Rattle.guest_lockstep.specs.declared.reads.Reads.{Reads};
 ghost use Rattle.log_entry.specs.Laws.{KeepsInputs, OneMeaning, OneSpelling, ReadsAgain, StandInOrder};
 
-/// What is written is read back, nothing else is read as it, and no two entries are written alike.
+/// What is written is read back, nothing else is read as that entry, and no two entries are written alike.
 pub fn entries_spell_one_way()
     ensures again { ReadsAgain }
     ensures one_spelling { OneSpelling }

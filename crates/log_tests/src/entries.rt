@@ -73,7 +73,7 @@ fn entries_stand_in_bytes(rt: HostRuntime) -> Result<(), Fail> {
     Ok(())
 }
 
-// The entry of an entry's input, in a log that carries sectors so, if it has an input.
+// The entry of an entry's input, if it has one; `reads` says whether the log carries sector bytes.
 fn again(reads: Reads, entry: &Entry) -> Option<Entry> {
     let input = entry.input()?;
     Some(Entry::of_input(reads, entry.count(), input))

@@ -1,5 +1,5 @@
--- The notes as they come and go. If a name has no note, every note is of another name, so a new note for it is apart
--- from all others and is found after them. A filter leaves no note of the name, and leaves all others in order.
+-- The notes as they are added and removed. If a name has no note, every note is of another name, so a new note for it is
+-- apart from all others and is found after them. A filter leaves no note of the name, and leaves all others in order.
 use Rattle.std.proofs.Common.{◌≡◌, ◌≢◌, ℕ, true, false, not, cond, List, [], ◌∷◌, Some, None, refl, sym, ap}
 use Rattle.std.specs.Prelude.{All, AllPairs}
 use Rattle.std.proofs.lemmas.List.Elements.{All-cons, All-nil}

@@ -1,4 +1,4 @@
--- What holds of every coverage holds after every change: a note that may come is apart from the others, a filter keeps
+-- What holds of every coverage holds after every change: a note that may be added is apart from the others, a filter keeps
 -- what holds of each two, and an acknowledgement raises each number of keys by no more than it raises the acknowledged number.
 use Rattle.std.proofs.Common.{◌≡◌, ℕ, zero, suc, ◌+◌, ◌<◌, ◌≤◌, Bool, not, List, [], ◌∷◌, length, None, refl, arith}
 use Rattle.std.specs.Prelude.{slice_index}

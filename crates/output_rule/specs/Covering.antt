@@ -38,7 +38,7 @@ nothing_acknowledged keys = record {
 abbrev pub covers : Covering → ℕ → ℕ → Bool
 covers c index after = c.all || nat_lt index c.acknowledged && nat_le after c.reported
 
--- what is at an index is covered so, with what is noted there; what has no index was part of the image
+-- whether what is at an index is covered, with what is noted there; what has no index was part of the image
 abbrev pub is_covered : Covering → Option ℕ → Bool
 is_covered c None = true
 is_covered c (Some index) = covers c index (after_at c.notes index)
@@ -56,7 +56,7 @@ abbrev pub waits_for : Covering → OpId → ℕ
 waits_for c (id.Byte port number) = 0
 waits_for c (id.Write number) = c.last_read
 
--- an operation's note comes, and goes
+-- an operation's note is added, and removed
 abbrev pub after_note : Covering → OpId → ℕ → Covering
 after_note c id index = record c { notes = with_note c.notes id index (waits_for c id) }
 
@@ -75,7 +75,7 @@ after_acknowledge c log held replayed = record c {
   keys = if c.all then c.keys else with_keys c.keys (between log c.acknowledged held);
 }
 
--- all is covered from now on
+-- all is covered, now and later
 abbrev pub after_all : Covering → List ℕ → Covering
 after_all c keys = record c { all = true; keys = keys }
 

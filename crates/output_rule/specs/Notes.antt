@@ -25,7 +25,7 @@ abbrev pub after_at : List Note → ℕ → ℕ
 after_at [] index = 0
 after_at (note ∷ notes) index = if note.index == index then note.after else after_at notes index
 
--- an operation's note comes, and goes
+-- an operation's note is added, and removed
 abbrev pub with_note : List Note → OpId → ℕ → ℕ → List Note
 with_note notes id index after = notes ++ record { id = id; index = index; after = after } ∷ []
 

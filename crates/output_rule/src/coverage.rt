@@ -98,7 +98,7 @@ impl Coverage {
         self.reported = self.reported.max(replayed);
     }
 
-    /// Nothing waits for a backup any more: whatever was done and will be done is covered, and this many keys of each
+    /// Nothing waits for a backup any longer: whatever was done and will be done is covered, and this many keys of each
     /// port.
     pub fn all(&mut self, keys: [u64; PORTS])
         requires { (port : ℕ) → slice_index keys port ≤ GREATEST_NUMBER }
@@ -155,7 +155,7 @@ impl Coverage {
         self.keys[port as usize]
     }
 
-    /// Whatever a coverage has been through, it is within its limits, and has at most one note for each operation.
+    /// Every coverage is within its limits, and has at most one note for each operation.
     pub fn stands(&self)
         ensures { table.IsCovering self.now }
     {

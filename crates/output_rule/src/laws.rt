@@ -9,7 +9,7 @@ ghost use Rattle.output_rule.specs.Limits.{Limits};
 ghost use Rattle.output_rule.specs.Notes.{AreApart};
 ghost use Rattle.output_rule.specs.declared.notes.Note.{Note};
 
-/// A note is under its operation's name until that is forgotten, and no other note is touched.
+/// A note is under its operation's name until it is removed, and no other note is touched.
 pub fn notes_come_and_go()
     ensures comes { (notes : List Note) (id : OpId) (index after : ℕ) → Comes notes id index after }
     ensures goes { (notes : List Note) (id : OpId) → Goes notes id }
@@ -29,8 +29,8 @@ pub fn coverage_never_falls()
 {}
 
 /// For a log that begins at index 0, the covered keys are those of the image and those among the acknowledged entries:
-/// when a coverage begins, as the log grows, as notes come and go, and when an acknowledgement arrives while the log
-/// keeps the entries that were not acknowledged before.
+/// when a coverage begins, as the log grows, as notes are added and removed, and when an acknowledgement arrives while
+/// the log keeps the entries that were not acknowledged before.
 #[tactic(auto, using(crate::proofs::Told::tells_at_first, crate::proofs::Told::tells_of_more))]
 pub fn told_keys_are_acknowledged()
     ensures at_first { (image : List ℕ) → Tells image [] (nothing_acknowledged image) }

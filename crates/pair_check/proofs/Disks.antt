@@ -1,4 +1,4 @@
--- A device that fails once is asked once more, and then answers. What a world over it shows, one over its records shows.
+-- A device that fails once is asked once more, and then answers. What a world over it shows, one over its records shows too.
 use Rattle.guest_parts.specs.Guest.{Guest}
 use Rattle.std.proofs.Common.{◌≡◌, ◌+◌, Bool, true, false, List, Option, Some, None, refl, arith, ap, sym, subst, ◌∙◌}
 use Rattle.std.specs.Prelude.{if◌then◌else◌, is_some, IsSome, IfOk, Result, Ok, Err}

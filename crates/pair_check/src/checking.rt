@@ -28,8 +28,8 @@ use plain_single::Single;
 use shared_disk::Disk;
 use std::alloc::Global;
 
-/// Runs the single machine of this setup from what is settled in a pair. `Same` if each terminal has accepted the
-/// machine's output, or all but the last 16 bytes, and each sector of the pair's disk has the bytes of the machine's
+/// Runs the single machine of this setup from the inputs that are settled in a pair. `Same` if each terminal has accepted
+/// the machine's output, or all but the last 16 bytes, and each sector of the pair's disk has the bytes of the machine's
 /// disk or of a write of the machine that is not settled as done. `OutOfMemory` if the allocator refuses memory.
 pub fn compare<B: Copies<H> + Drop, H: Drop>(
     alloc: Global,
@@ -79,7 +79,7 @@ fn is_alike<B: Copies<H> + Drop, H: Drop>(
     has_output(world, single) && has_disk(world, single, drives, inputs)
 }
 
-// Whether each terminal has accepted what the machine has sent, or all but the end of it.
+// Whether each terminal has accepted what the machine has sent, or all but its last bytes.
 fn has_output<B: Copies<H> + Drop, H: Drop>(world: &World<B, Disk, H>, single: &Single) -> bool
     ensures { (c : Course B.State) → Shows B.state B.copied B.machine records_in world.now c
         → IsTrue result ↔ ((port : ℕ) → port < 2 → IsAllBut 16 (accepted c.world port) (output_of single.now port)) }

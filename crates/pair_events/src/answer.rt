@@ -12,7 +12,7 @@ use std::fmt;
 pub enum Answer<'a> {
     /// An event happened.
     Reply(Reply),
-    /// An event was refused, or what was asked for is not there.
+    /// An event was refused, or what was asked for does not exist.
     Refused(Fault),
     /// The bytes that the terminal of a port has accepted.
     Accepted {
@@ -22,7 +22,7 @@ pub enum Answer<'a> {
     /// The bytes of a message of the log.
     Packet(&'a [u8]),
     /// What a node shows of itself: its role, its generation, from 1, and how many steps its machine has executed, which
-    /// is not printed of a node whose machine still comes.
+    /// is not printed for a joining node.
     Node {
         role: Role,
         generation: u32,

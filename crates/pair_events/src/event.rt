@@ -20,7 +20,7 @@ pub enum Event {
     Acknowledge { node: u64 },
     /// A message with such a number is delivered to a primary.
     DeliverAcknowledgement { message: u64, node: u64 },
-    /// A backup makes at most this many moves of the log that it holds; a move is a step or an entry.
+    /// A backup makes at most this many moves from the log that it holds; a move is a step or an entry.
     Replay { node: u64, turns: u64 },
     /// A node sends an outstanding operation to its device.
     Release { node: u64, id: OpId },
@@ -44,12 +44,12 @@ pub enum Event {
     Fetched { message: u64, node: u64 },
     /// A node suspects its peer and asks the arbiter for its generation.
     Suspect { node: u64 },
-    /// A backup that has won makes at most this many moves of the log that it still holds.
+    /// A backup that has won makes at most this many moves from the log that it still holds.
     Drain { node: u64, turns: u64 },
     /// A node that is alone begins a new pair with a spare host.
     BeginPair { node: u64, host: u64 },
-    /// A node that is alone copies at most this many pages of its machine early, for the image with which it may begin a
-    /// new pair.
+    /// A node that is alone copies at most this many pages of its machine early, for the image of a new pair that it may
+    /// begin.
     Freshen { node: u64, pages: u64 },
     /// A primary sends the part of this index of its image.
     SendPart { node: u64, index: u64 },

@@ -45,7 +45,7 @@ pub enum Reply {
     Message {
         message: u64,
     },
-    /// The backup holds the entry, or the joining node the part, from now on.
+    /// The backup now holds the entry, or the joining node the part.
     New,
     /// It held it before, or lacks an entry before it: nothing changed.
     Old,
@@ -76,12 +76,12 @@ pub enum Reply {
     Generation {
         generation: u32,
     },
-    /// How many pages of the node's machine are stale: never copied for the image that it would begin with, or written
+    /// How many pages of the node's machine are stale: never copied for the image of its next generation, or written
     /// since.
     Stale {
         pages: u64,
     },
-    /// Every part came: the node is a backup from now on.
+    /// Every part has arrived: the node is now a backup.
     Whole,
     /// The node is halted.
     Stopped,

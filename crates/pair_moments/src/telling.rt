@@ -10,8 +10,8 @@ use pair_events::{Event, Reply};
 use sequence_diagram::{Cargo, Look, Moment, node_of};
 use shared_disk::Disk;
 
-/// An event that has just happened in a world, with its answer: what the message carries that it has sent, and what the
-/// node shows at which it happened.
+/// An event that has just happened in a world, with its answer, what the message that it sent carries, and what the node
+/// at which it happened shows.
 pub fn moment_of<B: Copies<H> + Drop, H: Drop>(
     world: &World<B, Disk, H>,
     event: Event,
@@ -28,7 +28,7 @@ pub fn moment_of<B: Copies<H> + Drop, H: Drop>(
     }
 }
 
-// What the message carries that was sent, if one was.
+// What the message that was sent carries, if one was sent.
 fn cargo_of<B: Copies<H> + Drop, H: Drop>(
     world: &World<B, Disk, H>,
     answer: R<Reply>,
@@ -78,7 +78,7 @@ fn packed(bytes: &[u8]) -> Option<Cargo> {
     }
 }
 
-// What the node shows at which an event happened.
+// What the node at which an event happened shows.
 fn look_at<B: Copies<H> + Drop, H: Drop>(world: &World<B, Disk, H>, event: Event) -> Option<Look> {
     let node = node_of(event)?;
     let status = world.node(node)?;

@@ -1,4 +1,4 @@
--- A pair begins with two hosts, and each spare host that comes is one more.
+-- A pair begins with two hosts, and each spare host that is added is one more.
 use Rattle.guest_parts.specs.Guest.{Guest}
 use Rattle.std.proofs.Common.{ℕ, ◌+◌, List}
 use Rattle.disk_dcdd.specs.declared.sector.SectorWrite.{SectorWrite}

@@ -14,7 +14,7 @@ use Rattle.ft_world.specs.Running.{Running}
 use Rattle.ft_world.specs.Standing.{machine_of}
 use Rattle.shared_disk.specs.Failing.{Disk, records_in}
 
--- a pair, and spare hosts that came after it, up to this many hosts
+-- a pair, and spare hosts that are added to it, up to this many hosts
 pub data HostsCome {S : Type 0} (M : Machine S) (w : World S) : ℕ → World S → Type 0 where
   Pair : HostsCome M w 2 w
   Spare : {hosts : ℕ} {v : World S} → HostsCome M w hosts v → HostsCome M w (hosts + 1) (with_host M v)

@@ -1,5 +1,5 @@
--- A run that a recorder logs call by call, and those of its entries that came to a receiver: for a guest that stands
--- where the run began, they are the next entries of that run.
+-- A run that a recorder logs call by call, and those of its entries that arrived at a receiver: for a guest in the state in
+-- which the run began, they are the next entries of that run.
 use Rattle.std.proofs.Common.{◌≡◌, ℕ, ◌-◌, Bool, false, cond, List, [], ◌∷◌, ◌++◌, drop, Option, Some, None, Result, Ok, Err, refl, sym, ap, subst, ◌∙◌, arith, nat_lt}
 use Rattle.std.specs.List.{slice_get}
 use Rattle.std.proofs.lemmas.Bool.{le-ltb}

@@ -1,4 +1,4 @@
-//! A board repeats what another one recorded, where the closures of both are of different types.
+//! A board repeats what another one recorded, with closures of different types.
 ghost use Rattle.std.specs.Prelude.{◌≡◌, [], IsTrue, List, None, OnOk, Some};
 ghost use Rattle.event_callbacks.specs.Completions.{is_due, done_of};
 ghost use Rattle.event_callbacks.specs.Keeping.{Keeps, kind_of};
@@ -28,7 +28,7 @@ use replayer::Replayer;
 use std::alloc::Global;
 use std::process::Abort;
 
-// No test offers so many keys.
+// No test offers this many keys.
 const KEYS: u64 = 1000;
 
 // Sends back each key of port 0 up to the first I; then loads the head of drive 0, waits for a sector, fills it with E5,
@@ -64,7 +64,7 @@ const FIRST_READ: Input = Input::Sector {
 
 // What is done to the guest that is recorded.
 enum Act {
-    // It has so many turns, makes so many steps, and stops for this reason.
+    // It runs this many turns, makes this many steps, and stops for this reason.
     Run(u64, u64, StopReason),
     // It takes an input, which is logged under this index.
     Take(Input, u64),
@@ -102,7 +102,7 @@ fn setup(alloc: Global) -> R<Setup> {
     })
 }
 
-// Whether the input is for a port and a sector that exist, and so few keys were taken that one more may come.
+// Whether the input is for a port and a sector that exist, and there is room for one more key.
 fn may_offer<B: Lockstep>(board: &B, input: &Input) -> bool
     ensures input { IsTrue result → IsInput input.now }
     ensures room { IsTrue result → HasRoom B.machine (B.state board.now) input.now }
@@ -115,7 +115,7 @@ fn may_offer<B: Lockstep>(board: &B, input: &Input) -> bool
     }
 }
 
-// The recorder has so many turns, and stops so.
+// The recorder runs this many turns, and stops like this.
 fn advance<B: Lockstep>(rt: &impl Abort, recorder: &mut Recorder<B>, turns: u64, stopped: Stopped)
     requires { recorder.old.reads ≡ Logged }
     ensures reads { recorder.new.reads ≡ Logged }
@@ -142,7 +142,7 @@ fn offer<B: Lockstep>(rt: &impl Abort, recorder: &mut Recorder<B>, input: Input,
     }
 }
 
-// This is done to the guest of a recorder.
+// Does this to the guest of a recorder.
 fn make<B: Lockstep>(rt: &impl Abort, recorder: &mut Recorder<B>, act: &Act)
     requires { recorder.old.reads ≡ Logged }
     ensures reads { recorder.new.reads ≡ Logged }
@@ -158,7 +158,7 @@ fn make<B: Lockstep>(rt: &impl Abort, recorder: &mut Recorder<B>, act: &Act)
     }
 }
 
-// All of it is done.
+// Does all of it.
 fn make_all<B: Lockstep>(rt: &impl Abort, recorder: &mut Recorder<B>)
     requires { recorder.old.reads ≡ Logged }
     ensures records { (moves : List Move) × Records B.machine Logged (B.state recorder.old.board) recorder.old.log
@@ -169,7 +169,7 @@ fn make_all<B: Lockstep>(rt: &impl Abort, recorder: &mut Recorder<B>)
     }
 }
 
-// The packet of an entry comes to the receiver, as the entry that is next.
+// The packet of an entry arrives at the receiver, as the entry that is next.
 fn deliver(
     rt: &(impl Abort + AllocGlobal),
     log: &LogBuffer,
@@ -206,7 +206,7 @@ fn expect_read(rt: &impl Abort, bytes: &[u8], packet: &Packet)
     }
 }
 
-// All that is logged comes to the receiver in its packets.
+// All that is logged arrives at the receiver in its packets.
 fn deliver_all(rt: &(impl Abort + AllocGlobal), log: &LogBuffer, receiver: &mut Receiver) -> R<()>
     requires first { log.now.first ≡ 0 }
     requires generation { receiver.old.generation ≡ 1 }
@@ -219,7 +219,7 @@ fn deliver_all(rt: &(impl Abort + AllocGlobal), log: &LogBuffer, receiver: &mut 
     Ok(())
 }
 
-// A board with these closures is recorded, and its log comes to the receiver.
+// A board with these closures is recorded, and its log arrives at the receiver.
 fn record_on<T: Completes + Drop, S: Completes + Drop, W: Completes + Drop>(
     rt: &(impl Abort + AllocGlobal),
     setup: &Setup,
@@ -261,9 +261,9 @@ fn replay_on<T: Completes + Drop, S: Completes + Drop, W: Completes + Drop>(
     Ok(replayer.into_board())
 }
 
-// What a board shows: its processor, its memory, its count, the keys that were taken, how many bytes each port has on its way,
-// the status of its drives, the drive and track of the head, the last completed write of the sector, and what is outstanding of
-// the operations that were given.
+// What a board shows: its processor, its memory, its count, the keys that were taken, how many bytes of each port are
+// unaccepted, the status of its drives, the drive and track of the head, the last completed write of the sector, and which
+// of the given operations are outstanding.
 #[derive(Drop)]
 struct Shown {
     processor: Processor,
@@ -302,7 +302,7 @@ fn show<T: Completes, S: Completes, W: Completes>(
     })
 }
 
-// It ends so: after so many steps, two keys, an accepted byte, one on its way, and a write that is done.
+// It ends like this: after this many steps, two keys, an accepted byte, an unaccepted one, and a write that is done.
 fn expect_end(rt: &impl Abort, shown: &Shown) {
     assert!(rt; shown.count == 995);
     assert!(rt; shown.keys == [2, 0]);

@@ -32,7 +32,7 @@ fn two_marks(rt: &impl Abort, log: &mut LogBuffer) {
     assert!(rt; log.push(Entry::Mark { count: 9 }) == Ok(3));
 }
 
-// What the release of each of these bytes is answered with.
+// The answers to the release of each of these bytes.
 fn releases(rt: &impl Abort, coverage: &Coverage, answers: &[(u64, R<()>)]) {
     for (number, answer) in answers {
         assert!(rt; coverage.release(&byte(*number)) == *answer);
@@ -53,7 +53,7 @@ fn covers(rt: &impl Abort, coverage: &Coverage, marks: &[(Option<u64>, bool)]) {
     }
 }
 
-// So many entries are acknowledged, and so many reported as replayed.
+// This many entries are acknowledged, and this many reported as replayed.
 fn acknowledge(coverage: &mut Coverage, log: &LogBuffer, held: u64, replayed: u64) {
     if log.first() == 0 && held <= log.next() {
         coverage.acknowledge(log, held, replayed);

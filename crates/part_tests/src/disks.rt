@@ -37,7 +37,7 @@ fn gets<D: SectorStore>(rt: &impl Abort, disk: &mut SharedDisk<D>, wanted: R<Sec
     assert!(rt; disk.get(FIVE) == wanted);
 }
 
-// What a put comes to.
+// The result of a put.
 fn puts<D: SectorStore>(
     rt: &impl Abort,
     disk: &mut SharedDisk<D>,
@@ -138,7 +138,7 @@ fn made(disk: &mut SharedDisk<FailOnce<MemoryStore>>, call: Call) -> R<Option<Se
     }
 }
 
-// A get is one access; so is a put that comes too late, and one that is not too late is two.
+// A get is one access; so is a put that comes too late, and any other put is two.
 #[test]
 fn each_access_fails_in_turn_and_only_once(rt: HostRuntime) -> R<()> {
     let calls = [
@@ -198,7 +198,7 @@ fn a_store_may_fail_over_one_that_fails(rt: HostRuntime) -> R<()> {
         assert!(rt; store.read(FIVE).is_err() == first);
         assert!(rt; store.write(FIVE, content).is_err() == second);
         assert!(rt; store.read(FIVE).is_err() == third);
-        // Two of these were counted; the third one is now, and the fourth one fails.
+        // Two of these were counted; the third one is counted now, and the fourth one fails.
         assert!(rt; store.write(FIVE, content) == Ok(()));
         assert!(rt; store.write(FIVE, content) == Err(Fault::DeviceFault));
         assert!(rt; store.read(FIVE) == Ok(content));

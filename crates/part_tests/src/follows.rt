@@ -50,7 +50,7 @@ static OF_ANOTHER: [Step; 6] = [
     (NOWHERE, 9, Ok(Followed::Differs)),
     (Entry::Sent { count: 0, port: 0 }, 9, Ok(Followed::Differs)),
     (KEY, 9, Ok(Followed::Done)),
-    // The operation comes at count 2.
+    // The operation is given at count 2.
     (Entry::Mark { count: 3 }, 9, Ok(Followed::Differs)),
     (KEY, 9, Ok(Followed::Differs)),
 ];

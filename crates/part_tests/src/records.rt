@@ -48,7 +48,7 @@ fn a_full_log_takes_nothing_until_an_entry_is_dropped(rt: HostRuntime) -> R<()> 
     Ok(())
 }
 
-// What a recorder is asked, and its answer: to advance so many turns, or to take an input.
+// What a recorder is asked, and its answer: to advance this many turns, or to take an input.
 enum Asked {
     Advance(u64, R<Stopped>),
     Key(u8, R<u64>),

@@ -59,7 +59,7 @@ pub(crate) fn came(moves: u64, why: ReplayEnd) -> R<Replayed> {
     Ok(Replayed { moves, why })
 }
 
-// A guest that has room for so many operations repeats from now on.
+// A guest that has room for this many operations begins to repeat.
 fn repeating(room: u64) -> Replayer<Echo>
     ensures board { result.board ≡ at_boot }
     ensures fetched { result.fetched ≡ None }
@@ -88,7 +88,7 @@ fn recorded(rt: &(impl Abort + AllocGlobal)) -> R<Echo> {
     Ok(recorder.into_board())
 }
 
-// A replay of so many turns comes to this, and the guest has made so many steps then.
+// A replay of this many turns ends like this, and then the guest has made this many steps.
 fn moves<B: Lockstep>(
     rt: &impl Abort,
     replayer: &mut Replayer<B>,

@@ -1,5 +1,5 @@
--- If the inputs of a list lead to a count, the trace of the first of them is the beginning of that trace: it does not
--- end short of the next input or of the count, and no input is refused or left.
+-- If the inputs of a list lead to a count, the trace of the first of them is a prefix of that trace: it does not end short
+-- of the next input or of the count, and no input is refused or left.
 use Rattle.std.proofs.Common.{◌≡◌, ℕ, suc, ◌+◌, ◌<◌, ◌≤◌, List, [], ◌∷◌, ◌++◌, Option, None, Some, Bool, true, false, refl, sym, ap, ◌∙◌, subst, arith, inl, inr}
 use Rattle.event_callbacks.specs.declared.operations.Operation.{Operation}
 use Rattle.i8080_words.specs.declared.refusal.Fault.{Fault}

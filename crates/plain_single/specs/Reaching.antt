@@ -40,7 +40,7 @@ pub record StandsAt (M : Machine Guest) (list : List Timed) (a : SingleState) : 
   pub reach : Reach M list a.count moves
   pub stands : StandsAfter M moves reach.last a
 
--- and it has reached this count
+-- and it is at this count
 pub record RunsTo (M : Machine Guest) (list : List Timed) (count : ℕ) (a : SingleState) : Type 0 where
   pub stands : StandsAt M list a
   pub count_is : a.count ≡ count
@@ -108,8 +108,8 @@ pub record LeavesInput (M : Machine Guest) (list : List Timed) (count : ℕ) : T
   pub moves : List Move
   pub reach : Reach M before count moves
 
--- why a run is refused: an input is refused; otherwise the limit is passed or a number is spent before the count;
--- otherwise the machine idles before it, or an input is left then; or out of memory
+-- why a run is refused: an input is refused; otherwise the limit is passed or a number is spent before the count; otherwise
+-- the machine idles before it, or an input is left at its end; or out of memory
 abbrev pub Fails : Machine Guest → List Timed → ℕ → Fault → Type 0
 Fails M list count NotDue = MeetsRefused M list count NotDue
 Fails M list count SectorBusy = MeetsRefused M list count SectorBusy

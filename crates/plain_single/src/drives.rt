@@ -19,7 +19,7 @@ use std::alloc::Global;
 // The most drives that a controller can have.
 const DRIVES: usize = 4;
 
-// The most writes that may wait to be done.
+// The most writes that may be outstanding.
 const AWAITED: usize = 8;
 
 // The places of the status bits. Bit 1 (the head may move) is always 0, and so are bits 3 and 4, which are not used.
@@ -93,7 +93,7 @@ impl DiskDrives {
         })
     }
 
-    // Whether one more write may wait to be done.
+    // Whether there is room for one more outstanding write.
     fn has_room(&self) -> bool
         ensures { result ≡ table.has_room (drives_of self.now) }
     {

@@ -13,7 +13,7 @@ use std::alloc::Global;
 // How many sent bytes may be unaccepted.
 const WINDOW: u8 = 16;
 
-/// Whether a byte waits to be read, whether later ones were lost, and whether that shows yet (MC6850 data sheet,
+/// Whether a byte waits to be read, whether later ones were lost, and whether the overrun shows yet (MC6850 data sheet,
 /// "Receiver Overrun").
 #[derive(Clone, Copy)]
 pub(crate) enum Receiver {

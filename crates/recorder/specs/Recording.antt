@@ -29,7 +29,7 @@ pub record Advances {S : Type 0} (M : Machine S) (s : S) (log : Log) (turns : �
   pub runs : RunsOn M s turns a t
   pub log_is : new ≡ logged log (M.count t) a.reason
 
--- the log's refusal comes before the guest's
+-- the refusal of the log comes before that of the guest
 abbrev pub refusal_behind : Result (Unit {0}) Fault → Option Fault → Option Fault
 refusal_behind (Err fault) refusal = Some fault
 refusal_behind (Ok room) refusal = refusal

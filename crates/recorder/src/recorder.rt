@@ -25,7 +25,7 @@ pub struct Recorder<B> {
 }
 
 impl<B: Lockstep> Recorder<B> {
-    /// A guest whose moves are recorded from now on, in a log that carries its sectors so.
+    /// A guest with a log of its moves; `reads` says whether that log carries sector bytes.
     pub fn new(board: B, log: LogBuffer, reads: Reads) -> Recorder<B>
         ensures board { result.board ≡ board }
         ensures log { result.log ≡ log }

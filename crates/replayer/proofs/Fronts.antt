@@ -1,7 +1,7 @@
--- What the first entry that is held says of the next move. No entry of a run is below the count at which the run
--- begins. So if the first entry is at a later count than the machine, the next move is a step and no mark is owed; if
--- it is at the machine's count and has an input, that input is the next move; if it is a read whose bytes have come,
--- the next move takes the sector with these bytes; and if it is a mark, it is the one that is owed.
+-- What the first entry that is held says of the next move. No entry of a run is below the count at which the run begins.
+-- So if the first entry is at a later count than the machine, the next move is a step and no mark is owed; if it is at
+-- the machine's count and has an input, that input is the next move; if it is a read whose bytes have arrived, the next
+-- move takes the sector with these bytes; and if it is a mark, it is the one that is owed.
 use Rattle.std.proofs.Common.{◌≡◌, ℕ, suc, ◌<◌, ◌≤◌, Bool, true, false, List, [], ◌∷◌, ◌++◌, Option, Some, None, refl, sym, ap, subst, ◌∙◌, arith}
 use Rattle.event_callbacks.specs.declared.operations.Operation.{Operation}
 use Rattle.guest_lockstep.specs.Machine.{Machine, Move, Do, Take}

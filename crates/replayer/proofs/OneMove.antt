@@ -1,6 +1,6 @@
 -- What the first entry that is held allows. If it is at a later count, a step can be executed, and is refused only when
 -- out of memory; it is never at an earlier one; if it is at the machine's count, its input, if it has one, is accepted,
--- and it is popped with that move. The input of a read is the sector with the bytes that have come.
+-- and it is popped with that move. The input of a read is the sector with the bytes that have arrived.
 use Rattle.std.proofs.Common.{◌≡◌, ℕ, ◌<◌, ◌≤◌, Bool, true, false, List, [], ◌∷◌, ◌++◌, Option, Some, None, Ok, Err, refl, sym, ap, subst, ◌∙◌, arith, drop, slice_get, cond, is_none, length, eq-eqb}
 use Rattle.std.specs.Prelude.{◌==◌}
 use Rattle.event_callbacks.specs.declared.operations.Operation.{Operation}

@@ -1,6 +1,6 @@
 -- A replayer keeps to every recorded run that it was on. A step is the run's next move, and the mark of what it gave is
--- owed from then on; the mark that is owed is passed; an input is the run's next move, and its entry is popped with it,
--- as is a read, which the run's next move takes with the bytes that have come.
+-- owed after it; the mark that is owed is passed; an input is the run's next move, and its entry is popped with it, as is
+-- a read, which the run's next move takes with the bytes that have arrived.
 -- So after each move what was popped, with the mark that may be owed, is the entries of the moves that were made.
 use Rattle.std.proofs.Common.{◌≡◌, ℕ, suc, Bool, true, false, List, [], ◌∷◌, ◌++◌, Option, Some, None, refl, sym, ap, subst, ◌∙◌}
 use Rattle.std.proofs.lemmas.List.{append-nil, append_assoc}

@@ -32,7 +32,7 @@ pub data Strays {S : Type 0} (M : Machine S) (s : S) : S → Type 0 where
   GivesNothing : {n : ℕ} {t : S} → Quiet M s n t → Strays M s t
   GivesAtLast : {n : ℕ} {t u : S} {o : Operation} → Quiet M s n t → M.step t ≡ Some (u, Some o) → Strays M s u
 
--- what is returned, and where the guest is then. It strays only if it would never come to the entry
+-- what is returned, and the guest's state then. It strays only if it would never reach the entry
 abbrev pub Follows : {S : Type 0} → Machine S → S → Entry → ℕ → Result Followed Fault → S → Type 0
 Follows M s e turns (Ok (Stepped n)) t =
     (n ≤ turns) × ((0 < n) ⊎ (turns ≡ 0)) × (M.count t ≤ count_of e) × Quiet M s n t

@@ -19,8 +19,8 @@ use Rattle.shared_disk.specs.declared.disk.SectorRead.{SectorRead}
 
 -- ---- moves
 
--- one move: a step below the count of the first entry that is held, or that entry at its count; a read is taken with
--- the bytes that have come for it, and then no bytes are kept
+-- one move: a step below the count of the first entry that is held, or that entry at its count; a read is taken with the
+-- bytes that have arrived for it, and then no bytes are kept
 pub data Moves {S : Type 0} (M : Machine S) (s : S) (held : List Entry) (fetched : Option (List ℕ))
     : S → List Entry → Option (List ℕ) → Type 0 where
   Steps : {t : S} {gives : Option Operation} {e : Entry} {es : List Entry} → held ≡ e ∷ es → M.count s < count_of e
@@ -50,12 +50,12 @@ pub record IsBehind {S : Type 0} (M : Machine S) (s : S) (held : List Entry) : T
 
 -- ---- reads
 
--- the drive, the sector and the number of the read that is to be made now: the next entry, at the machine's count
+-- the drive, the sector and the number of the read that is due: the next entry, at the machine's count
 abbrev pub read_at : ℕ → Option Entry → Option (ℕ × ℕ × ℕ)
 read_at count None = None
 read_at count (Some e) = if count == count_of e then read_of e else None
 
--- the read that it waits for: the bytes have not come
+-- the read that it waits for, if its bytes have not arrived
 abbrev pub wanted_of : Option (List ℕ) → Option (ℕ × ℕ × ℕ) → Option (ℕ × ℕ × ℕ)
 wanted_of None read = read
 wanted_of (Some bytes) read = None
@@ -63,7 +63,7 @@ wanted_of (Some bytes) read = None
 abbrev pub wanted : {S : Type 0} → Machine S → S → List Entry → Option (List ℕ) → Option (ℕ × ℕ × ℕ)
 wanted M s held fetched = wanted_of fetched (read_at (M.count s) (slice_get held 0))
 
--- the input of an entry; a read has the bytes that have come for it
+-- the input of an entry; a read has the bytes that have arrived for it
 abbrev pub input_with : Option (List ℕ) → Entry → Option Input
 input_with fetched (entry.Mark count) = None
 input_with fetched (entry.Rx count port byte) = Some (Rx port byte)
@@ -72,7 +72,7 @@ input_with fetched (entry.Sector count drive sector number bytes) = Some (Sector
 input_with fetched (entry.Written count number) = Some (Written number)
 input_with fetched (entry.Read count drive sector number) = option_map (Sector drive sector number) fetched
 
--- where what was read was
+-- the address of a sector that was read
 abbrev pub place_of : SectorRead → SectorAddress
 place_of read = record { drive = read.drive; track = read.track; sector = read.sector }
 

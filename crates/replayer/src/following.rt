@@ -10,7 +10,7 @@ use guest_lockstep::{Input, Lockstep, StopReason, Stopped, run};
 use i8080_words::{GREATEST_NUMBER, R};
 use log_entry::Entry;
 
-/// How far a guest came toward an entry.
+/// How far a guest got toward an entry.
 #[derive(Clone, Copy, PartialEq, Eq)]
 pub enum Followed {
     /// It executed this many steps, which gave nothing; the entry's own move is still to be made.

@@ -12,7 +12,7 @@ use log_entry::Entry;
 use shared_disk::SectorRead;
 
 // The drive, the sector and the number of the read that is the first entry, at the guest's count, and whose bytes have
-// not come.
+// not arrived.
 pub(crate) fn wanted<B: Lockstep>(
     board: &B,
     fetched: Option<[u8; SECTOR_BYTES]>,
@@ -35,7 +35,7 @@ pub(crate) fn is_at(read: &SectorRead, place: SectorAddress) -> bool
     place.drive == read.drive && place.track == read.track && place.sector == read.sector
 }
 
-// The input of an entry; a read has the bytes that have come for it.
+// The input of an entry; a read has the bytes that have arrived for it.
 pub(crate) fn input_with(fetched: Option<[u8; SECTOR_BYTES]>, entry: &Entry) -> Option<Input>
     ensures { result ≡ table.input_with fetched entry.now }
 {

@@ -32,7 +32,7 @@ pub struct Replayer<B> {
 }
 
 impl<B: Lockstep> Replayer<B> {
-    /// A guest that repeats from now on.
+    /// A guest that begins to repeat.
     pub fn new(board: B) -> Replayer<B>
         ensures board { result.board ≡ board }
         ensures fetched { result.fetched ≡ None }
@@ -58,9 +58,9 @@ impl<B: Lockstep> Replayer<B> {
         board
     }
 
-    /// Makes at most `turns` moves, each of them a step or an entry. Makes fewer only if no entry is held any more, the
-    /// next one is a read whose bytes have not come, or a step runs out of memory; `OutOfMemory` is returned only if no
-    /// move was made.
+    /// Makes at most `turns` moves, each of them a step or an entry. Makes fewer only if no entry is held any longer, the
+    /// next one is a read whose bytes have not arrived, or a step runs out of memory; `OutOfMemory` is returned only if
+    /// no move was made.
     pub fn replay(&mut self, receiver: &mut Receiver, turns: u64) -> R<Replayed>
         requires on_trace { IsOnTrace B.machine (B.state self.old.board) receiver.old.entries self.old.fetched }
         ensures answers { table.Answers B.machine (B.state self.old.board) receiver.old.entries self.old.fetched turns
@@ -77,7 +77,7 @@ impl<B: Lockstep> Replayer<B> {
     }
 
     /// The drive, the sector and the number of the read that it waits for: the next entry, at its count, whose bytes have
-    /// not come.
+    /// not arrived.
     pub fn wanted(&self, receiver: &Receiver) -> Option<(u8, u8, u64)>
         ensures value { result
             ≡ table.wanted B.machine (B.state self.now.board) receiver.now.entries self.now.fetched }

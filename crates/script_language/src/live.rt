@@ -55,7 +55,7 @@ fn first_unfit(text: &[u8]) -> Option<u64>
     None
 }
 
-// Whether a pair on threads takes a line. Of a line that is bad in any script it does not matter.
+// Whether a pair on threads takes a line. The answer does not matter for a line that is bad in any script.
 fn fits(text: &[u8]) -> bool
     ensures { result ≡ fits text.now }
 {

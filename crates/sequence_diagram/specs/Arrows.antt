@@ -26,7 +26,7 @@ module _ (moments : List Moment) where
   HasArrow place found = MatchOption found ((message : ℕ) → brought_at moments place ≡ Some message → SentNowhere 0 place message)
       (λ arrow. IsArrowTo place arrow)
 
-  -- a message leaves at the event that sent it, and comes at the first event after it that brought it; or it is lost, and
+  -- a message leaves at the event that sent it, and arrives at the first event after it that brought it; or it is lost, and
   -- none did
   pub record IsDepartureFrom (place : ℕ) (departure : Departure) : Type 0 where
     pub sent : sent_at moments place ≡ Some departure.message
@@ -34,6 +34,6 @@ module _ (moments : List Moment) where
         (λ came. (place < came) × (brought_at moments came ≡ Some departure.message)
         × BroughtNowhere (place + 1) came departure.message)
 
-  -- an event that no message leaves has sent none
+  -- an event without a departure has sent no message
   abbrev pub HasDeparture : ℕ → Option Departure → Type 0
   HasDeparture place found = MatchOption found (sent_at moments place ≡ None) (λ departure. IsDepartureFrom place departure)

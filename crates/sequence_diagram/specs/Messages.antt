@@ -25,7 +25,7 @@ delivered_by (event.Fetched message node) = Some message
 delivered_by (event.PartComes message node) = Some message
 delivered_by _ = None
 
--- nothing is brought if the message, or the one to whom it is brought, is not there
+-- no message is brought if it does not exist, or nobody to whom it could be brought does
 abbrev pub unless_unknown : Result Reply Fault → Option ℕ → Option ℕ
 unless_unknown (Err Unknown) message = None
 unless_unknown _ message = message

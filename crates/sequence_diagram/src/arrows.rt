@@ -5,7 +5,7 @@ ghost use Rattle.sequence_diagram.specs.Messages.{brought_at, sent_at};
 
 use crate::moment::Moment;
 
-/// A message that came: its number, and the place in the run of the event that sent it.
+/// A message that arrived: its number, and the place in the run of the event that sent it.
 #[derive(Clone, Copy)]
 pub struct Arrow {
     pub message: u64,
@@ -28,7 +28,7 @@ pub fn arrow_to(moments: &[Moment], place: usize) -> Option<Arrow>
     Some(Arrow { message, sent })
 }
 
-/// The message that leaves at an event.
+/// The message that was sent at an event, by its place in the run.
 pub fn departure_from(moments: &[Moment], place: usize) -> Option<Departure>
     ensures { HasDeparture moments.now place result }
 {

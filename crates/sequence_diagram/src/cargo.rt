@@ -6,7 +6,7 @@ use guest_trace::Bare;
 use pair_events::Event;
 use std::fmt;
 
-/// What the message carries that an event has sent.
+/// What the message that an event sent carries.
 #[derive(Clone, Copy)]
 pub struct Carried(pub Moment);
 
@@ -43,7 +43,7 @@ impl fmt::Display for Carried {
     }
 }
 
-// What goes to a device, or comes from it.
+// What is sent to a device, or by it.
 fn write_effect<W: fmt::Write>(f: &mut fmt::Formatter<W>, cargo: Cargo) -> fmt::Result {
     match cargo {
         Cargo::Byte { number, byte, .. } => {

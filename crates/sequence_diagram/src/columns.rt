@@ -22,7 +22,7 @@ struct Parts {
 }
 
 impl Columns {
-    /// Those of a run.
+    /// The places that take part in a run.
     pub fn of(alloc: Global, moments: &[Moment]) -> Result<Columns, AllocError> {
         let mut parts = Parts {
             ports: [false; PORTS],

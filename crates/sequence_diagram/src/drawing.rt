@@ -88,7 +88,7 @@ impl Drawing {
         )
     }
 
-    /// Words beside a point; nothing if there are none. How many bytes they have.
+    /// Words beside a point, or none. Returns how many bytes they have.
     pub fn words<D: fmt::Display>(
         &mut self,
         class: &str,

@@ -12,7 +12,7 @@ pub struct Exchange {
     pub to: Place,
 }
 
-/// The exchange that an event is, if it was not refused; the arbiter's refusal is an answer of its own.
+/// The exchange that an event is, if it was not refused; a refusal by the arbiter is also an answer.
 pub fn exchange_of(moment: &Moment) -> Option<Exchange> {
     match (moment.event, moment.answer) {
         (Event::Suspect { node }, Ok(_) | Err(Fault::Lost)) => Some(Exchange {

@@ -1,4 +1,4 @@
-//! The way of a message from place to place, and the parts of a copy, which go together.
+//! The way of a message from place to place, and the parts of a copy, which share a line.
 
 use crate::arrows::{arrow_to, departure_from};
 use crate::lines::Lines;
@@ -6,8 +6,8 @@ use crate::moment::Moment;
 use crate::place::{Place, receiver_of, sender_of};
 use pair_events::{Event, Reply};
 
-/// The way of a message that came: from where to where, the place in the run of the event that sent it, and whether it had
-/// come before.
+/// The way of a message that arrived: from where to where, the place in the run of the event that sent it, and whether it
+/// had arrived before.
 #[derive(Clone, Copy)]
 pub struct Flight {
     pub from: Place,
@@ -30,8 +30,8 @@ pub fn flight_to(moments: &[Moment], place: usize) -> Option<Flight> {
     })
 }
 
-/// Parts of a copy on one line: how many were sent and how many came, the way of the first that came, and whether the copy
-/// is whole.
+/// Parts of a copy on one line: how many were sent and how many arrived, the way of the first that arrived, and whether the
+/// copy is whole.
 #[derive(Clone, Copy)]
 pub struct Parts {
     pub sent: u64,

@@ -19,7 +19,7 @@ pub const TOP: u64 = 92;
 
 pub const LINE: u64 = 26;
 
-/// What is below the last line.
+/// The height below the last line.
 pub const BOTTOM: u64 = 30;
 
 /// How many columns and lines there may be at most.
@@ -42,7 +42,7 @@ pub fn column_gap(columns: u64) -> u64
     room.min(MOST_GAP).max(LEAST_GAP)
 }
 
-/// Where a column is, of so many.
+/// Where a column is, of this many.
 pub fn column_x(columns: u64, column: u64) -> u64
     requires { column ≤ MOST }
     ensures { result ≡ x_of columns column }

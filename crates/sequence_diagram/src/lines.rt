@@ -18,8 +18,8 @@ impl Lines {
     }
 }
 
-/// Each event has a line of its own, with two exceptions: the parts of a copy that come one after another are on one line,
-/// and so is a message that comes right after it was sent.
+/// Each event has a line of its own, with two exceptions: consecutive parts of a copy share one line, and so does a message
+/// that arrives right after it was sent.
 pub fn lines_of(alloc: Global, moments: &[Moment]) -> Result<Lines, AllocError> {
     let mut of = Vec::new(alloc);
     let mut count = 0usize;

@@ -10,13 +10,13 @@ use pair_events::{Event, Reply, Role};
 /// What a message carries.
 #[derive(Clone, Copy)]
 pub enum Cargo {
-    /// An entry of the log: its index, its count, and its input; none if it marks that the machine gave output.
+    /// An entry of the log: its index, its count, and its input; none if it is a mark.
     Entry {
         index: u64,
         count: u64,
         input: Option<Bare>,
     },
-    /// How many entries the backup holds, and how many it has replayed, if it says so.
+    /// How many entries the backup holds, and how many it has replayed, if it reports that.
     Acknowledgement {
         held: u64,
         replayed: Option<u64>,
@@ -53,8 +53,8 @@ pub struct Look {
     pub count: u64,
 }
 
-/// An event, its answer, what the message carries that it has sent, if it has sent one, and what the node shows after it
-/// at which it happens, if it happens at one.
+/// An event, its answer, what the message that it sent carries, if it sent one, and what the node at which it happens shows
+/// after it, if it happens at one.
 #[derive(Clone, Copy)]
 pub struct Moment {
     pub event: Event,
@@ -64,7 +64,7 @@ pub struct Moment {
 }
 
 impl Moment {
-    /// The message that the event has sent.
+    /// The message that the event sent.
     pub fn sends(&self) -> Option<u64>
         ensures { result ≡ sent_by self.now }
     {
@@ -74,7 +74,7 @@ impl Moment {
         }
     }
 
-    /// The message that the event has brought to someone, even if it was refused there; none if either was not there.
+    /// The message that the event brought to someone, even if it was refused there; none if either does not exist.
     pub fn brings(&self) -> Option<u64>
         ensures { result ≡ brought_by self.now }
     {

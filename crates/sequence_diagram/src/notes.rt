@@ -66,7 +66,7 @@ fn write_run<W: fmt::Write>(f: &mut fmt::Formatter<W>, steps: u64, why: StopReas
     }
 }
 
-// So many of something.
+// A number of things.
 fn write_count<W: fmt::Write>(
     f: &mut fmt::Formatter<W>,
     words: &str,

@@ -1,17 +1,16 @@
-//! What becomes of a message where it comes, and what the arbiter answers, in words.
+//! What happens to a message where it arrives, and what the arbiter answers, in words.
 
 use crate::moment::{Look, Moment};
 use i8080_words::Fault;
 use pair_events::{Event, Reply};
 use std::fmt;
 
-/// What an event did with the message that it brought, or what an exchange has come to; nothing if that goes without
-/// saying.
+/// What an event did with the message that it brought, or the result of an exchange; nothing if that is plain.
 #[derive(Clone, Copy)]
 pub struct Outcome(pub Moment);
 
 impl Outcome {
-    /// Whether it goes without saying.
+    /// Whether there is nothing to say.
     pub fn is_plain(&self) -> bool {
         match (self.0.event, self.0.answer) {
             (Event::Put { .. }, Ok(_)) => false,

@@ -6,7 +6,7 @@ use event_callbacks::OpId;
 use pair_events::{Event, Reply};
 use std::fmt;
 
-/// A line of the diagram from top to bottom.
+/// A column of the diagram.
 #[derive(Clone, Copy, PartialEq, Eq)]
 pub enum Place {
     Terminal(u8),
@@ -67,7 +67,7 @@ fn change_node_of(event: Event) -> Option<u64> {
     }
 }
 
-/// Where a message leaves that an event has sent.
+/// Where the message that an event sent leaves.
 pub fn sender_of(event: Event) -> Place {
     match event {
         Event::Send { node, .. }
@@ -78,7 +78,7 @@ pub fn sender_of(event: Event) -> Place {
     }
 }
 
-/// Where a message comes that the first event has sent and the second one brings.
+/// Where the message that the first event sent and the second one brings arrives.
 pub fn receiver_of(sent: &Moment, event: Event) -> Place {
     match (event, sent.cargo) {
         (Event::Put { .. }, _) => Place::Disk,
@@ -102,7 +102,7 @@ pub fn place_of(event: Event) -> Place {
     }
 }
 
-/// Where a message is to come that the event at a place of the run has sent.
+/// Where the message that the event at a place of the run sent is to arrive.
 pub fn aim_of(moments: &[Moment], place: usize) -> Option<Place> {
     let moment = moments.get(place)?;
     match moment.event {
@@ -126,7 +126,7 @@ pub fn aim_of(moments: &[Moment], place: usize) -> Option<Place> {
     }
 }
 
-// The node with which a node was a pair before a place of the run.
+// The other node of a node's pair before a place of the run.
 fn peer_of(moments: &[Moment], place: usize, node: u64) -> u64 {
     let before = moments.get(..place).unwrap_or(moments);
     for moment in before.iter().rev() {

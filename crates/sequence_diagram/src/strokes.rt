@@ -16,8 +16,8 @@ const EDGE: u64 = 7;
 
 const WAITS: u64 = 11;
 
-/// Draws the arrow that ends at an event, and the message that leaves there, if it is lost. The parts of a copy that are
-/// on one line have one arrow.
+/// Draws the arrow that ends at an event, and the message that leaves there, if it is lost. The parts of a copy that are on
+/// one line have one arrow.
 pub fn draw_strokes(
     drawing: &mut Drawing,
     plan: &Plan,

@@ -25,7 +25,7 @@ const FAR: u64 = 18;
 // How wide a digit is in a count.
 const DIGIT: u64 = 8;
 
-/// Says what an event does, carries and comes to.
+/// Says what an event does, what it carries and what it results in.
 pub fn draw_texts(
     drawing: &mut Drawing,
     plan: &Plan,
@@ -79,7 +79,7 @@ fn draw_label<D: fmt::Display>(
     Ok(())
 }
 
-// What it comes to, beyond the end of its arrow.
+// The result, beyond the end of its arrow.
 fn draw_outcome(
     drawing: &mut Drawing,
     way: (u64, u64),
@@ -228,7 +228,7 @@ fn draw_parts(
     Ok(())
 }
 
-// Parts of which none came.
+// Parts of which none arrived.
 fn draw_sent(
     drawing: &mut Drawing,
     plan: &Plan,

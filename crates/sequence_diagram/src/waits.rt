@@ -14,14 +14,14 @@ pub struct Wait {
     pub operations: usize,
 }
 
-// An operation that waits: the index of its entry, and how many entries have to be replayed before it.
+// An operation that waits: the index of its entry, and how many entries must be replayed for it.
 #[derive(Clone, Copy)]
 struct Operation {
     index: u64,
     after: u64,
 }
 
-// How far the log of a generation has come.
+// How far the log of a generation is held and replayed.
 #[derive(Drop)]
 struct Tally {
     node: u64,
@@ -113,7 +113,7 @@ impl Tally {
         Ok(())
     }
 
-    // An acknowledgement has come. One that does not say how far the backup has replayed is of a log with all bytes.
+    // An acknowledgement has arrived. One without a report is of a log with all bytes.
     fn note_arrival(&mut self, moment: &Moment, cargo: Option<Cargo>) {
         let Some(Cargo::Acknowledgement { held, replayed }) = cargo else {
             return;

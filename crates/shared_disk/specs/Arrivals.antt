@@ -24,17 +24,17 @@ pub record IsGreatest (records : List Record) (greatest : Record) : Type 0 where
   pub above : All (λ (other : Record). other.number < greatest.number) before
   pub at_least : All (λ (other : Record). other.number ≤ greatest.number) later
 
--- a sector keeps the greatest of its first record and those brought to it; if there was no sector, none comes
+-- a sector keeps the greatest of its first record and those brought to it; if there is no such sector, there is no record
 abbrev pub Keeps : Option Record → List Record → Option Record → Type 0
 Keeps None writes kept = kept ≡ None
 Keeps (Some first) writes kept = IsSomeAnd kept (IsGreatest (first ∷ writes))
 
--- the records of a disk that had these first, and to which these writes came
+-- the records of a disk that had these first, and at which these writes arrived
 abbrev pub IsShared : List Record → List SectorWrite → List Record → Type 0
 IsShared first arrivals records = (address : SectorAddress)
     → Keeps (record_at first address) (written_at address arrivals) (record_at records address)
 
--- whatever was there first and came before, the new records are those after all writes with this one after them
+-- whatever was there first and arrived before, the new records are those after all writes with this one after them
 pub record GoesOn (old : List Record) (write : SectorWrite) (new : List Record) : Type 0 where
   pub so_far : (first : List Record) (arrivals : List SectorWrite) → IsShared first arrivals old
       → IsShared first (arrivals ++ write ∷ []) new

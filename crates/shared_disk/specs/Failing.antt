@@ -2,8 +2,8 @@
 use Rattle.std.specs.Prelude.{◌≡◌, ◌≢◌, ℕ, ◌+◌, ◌-◌, Bool, true, IsTrue, List, if◌then◌else◌}
 use Rattle.shared_disk.specs.declared.store.Record.{Record}
 
--- the store underneath; how many accesses are left up to the one that fails, itself included, or 0 if none is to fail;
--- and whether the device has failed
+-- the store underneath; how many accesses are left up to the one that fails, itself included, or 0 if none will fail; and
+-- whether the device has failed
 pub record FailsOnce (D : Type 0) : Type 0 where
   pub store : D
   pub left : ℕ
@@ -23,7 +23,7 @@ pub record Counts {D : Type 0} (old new : FailsOnce D) : Type 0 where
   pub left : new.left ≡ old.left - 1
   pub failed : new.failed ≡ old.failed
 
--- the device fails at the access that was to fail
+-- the device fails at its failing access
 pub record Fails {D : Type 0} (old new : FailsOnce D) : Type 0 where
   pub now : old.left ≡ 1
   pub left : new.left ≡ 0

@@ -52,7 +52,7 @@ boot_record bytes = record { number = 0; bytes = bytes }
 abbrev pub put_answer : List Record → SectorAddress → Result (Unit {0}) Fault
 put_answer records address = if is_some (record_at records address) then Ok tt else Err Unknown
 
--- a disk has each sector of this many drives, and no write has come to it
+-- a disk has each sector of this many drives, and no write has arrived
 abbrev pub HasDrives : List Record → ℕ → Type 0
 HasDrives records drives = (address : SectorAddress) → IsTrue (has_sector drives address) → IsThere records address
 
@@ -70,8 +70,8 @@ bytes_after [] address bytes = bytes
 bytes_after (sector ∷ sectors) address bytes =
     bytes_after sectors address (if same_address (address_of sector) address then sector.bytes else bytes)
 
--- each sector of this many drives has the bytes of the last of these that goes there, or zeros if none does; no write
--- has come to it, and no other sector exists
+-- each sector of this many drives has the bytes of the last of these that goes there, or zeros if none does; no write has
+-- arrived at it, and no other sector exists
 abbrev pub IsAtBoot : List Record → ℕ → List SectorWrite → Type 0
 IsAtBoot records drives sectors = (address : SectorAddress) → record_at records address
     ≡ (if has_sector drives address then Some (boot_record (bytes_after sectors address (replicate SECTOR_BYTES 0)))

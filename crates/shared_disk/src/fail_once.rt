@@ -15,7 +15,7 @@ use std::marker::Model;
 #[derive(Drop)]
 pub struct FailOnce<D: SectorStore> {
     store: D,
-    // How many accesses are left up to the one that fails, itself included; 0 if none is to fail.
+    // How many accesses are left up to the one that fails, itself included; 0 if none will fail.
     left: u64,
     failed: bool,
 }

@@ -41,7 +41,7 @@ impl MemoryStore {
     }
 
     /// A store of this many drives that have these sectors at boot, the later one of two for one place; all others are
-    /// zeros. No write has come to any sector: the numbers of these are ignored. `Unknown` if no drive has one.
+    /// zeros. No write has arrived at any sector: the numbers of these are ignored. `Unknown` if no drive has one.
     pub fn at_boot(alloc: Global, drives: u8, sectors: &[SectorWrite]) -> R<MemoryStore>
         ensures drives { IfOk result (λ store. table.HasDrives store drives) }
         ensures unwritten { IfOk result (λ store. table.IsUnwritten store) }

@@ -90,7 +90,7 @@ impl Terminal {
         self.told = self.told.max(keys);
     }
 
-    /// The greatest number of keys that it was told; 0 before it was told any.
+    /// The greatest number of keys that it was told; 0 if it was told none.
     pub fn told(&self) -> u64
         ensures { result ≡ self.now.told }
     {

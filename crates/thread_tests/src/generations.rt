@@ -1,4 +1,4 @@
-//! What no contract says: that a pair on threads gets to its end, and that its threads run at once.
+//! What no contract says: that a pair on threads comes to its end, and that its threads run at once.
 mod gates;
 mod pairs;
 mod rests;

@@ -8,7 +8,7 @@ use event_callbacks::Completes;
 use guest_board::Board;
 use guest_memory::{PAGE_BYTES, PAGES};
 
-/// Copies the lowest stale pages, at most this many. How many are stale then.
+/// Copies the lowest stale pages, at most this many. Returns how many are still stale.
 pub(super) fn copy_stale_pages<T: Completes, S: Completes, W: Completes>(
     bytes: &mut Vec<u8>,
     copied: &mut Vec<Option<u64>>,
@@ -61,7 +61,7 @@ fn visit_page<T: Completes, S: Completes, W: Completes>(
     *left -= 1;
 }
 
-// Whether the page is to be copied: it was not, or was written since.
+// Whether the page must be copied: it was not, or was written since.
 fn is_stale<T: Completes, S: Completes, W: Completes>(
     copied: &Vec<Option<u64>>,
     board: &Board<T, S, W>,

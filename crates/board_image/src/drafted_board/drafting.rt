@@ -1,4 +1,4 @@
-//! The draft of a board, beside it: how it is begun and goes on, and the image that it gives.
+//! The draft of a board: how it is begun and freshened, and the image that it gives.
 ghost use Rattle.std.specs.Prelude.{◌≡◌, ◌<◌, ◌-◌, IfOk, IsOkUnless, OnErr, OnOk, None};
 ghost use Rattle.i8080_words.specs.declared.refusal.Fault.TheVariants.{OutOfMemory};
 ghost use Rattle.guest_parts.specs.Parts.{guest_of_parts};
@@ -14,7 +14,7 @@ use i8080_words::R;
 use std::alloc::Global;
 use std::mem;
 
-// Copies the lowest stale pages into the draft, which begins here if there is none. How many are stale then.
+// Copies the lowest stale pages into the draft, which begins here if there is none. Returns how many are still stale.
 pub(super) fn freshen<T: Completes, S: Completes, W: Completes>(
     alloc: Global,
     draft: &mut Option<Draft>,
@@ -38,7 +38,7 @@ pub(super) fn freshen<T: Completes, S: Completes, W: Completes>(
     }
 }
 
-// A draft of the board, with its lowest pages copied, and how many are stale then.
+// A draft of the board, with its lowest pages copied, and how many are still stale.
 fn begin<T: Completes, S: Completes, W: Completes>(
     alloc: Global,
     board: &Board<T, S, W>,

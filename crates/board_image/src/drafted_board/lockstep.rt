@@ -68,7 +68,7 @@ impl<T: Completes, S: Completes, W: Completes> Lockstep for DraftedBoard<T, S, W
         self.board.sector_under(drive, sector)
     }
 
-    // Steps in one go say nothing of the versions of pages, so with a draft none is made so.
+    // Steps in one go say nothing of the versions of pages, so with a draft no step is made here.
     #[inline(always)]
     fn step_quietly(&mut self, turns: u64) -> u64 {
         if self.draft.is_some() {
@@ -99,7 +99,7 @@ fn step_with_draft<T: Completes, S: Completes, W: Completes>(
     }
 }
 
-// An input of a board that a draft may be of.
+// An input of a board that may have a draft.
 fn take_with_draft<T: Completes, S: Completes, W: Completes>(
     board: &mut Board<T, S, W>,
     draft: &Option<Draft>,

@@ -1,4 +1,4 @@
-//! The slots of an assembly: the payload of each part that came.
+//! The slots of an assembly: the payload of each part that arrived.
 ghost use Rattle.std.specs.Prelude.{All, ◌≡◌, ◌<◌, ◌≤◌, ◌+◌, ◌==◌, None, Some, [], length, is_none, is_some, slice_index_or, slice_set, if◌then◌else◌, vec_capacity};
 ghost use Rattle.std.specs.List.{list_all};
 ghost use Rattle.clone_state.specs.Assembly.{gathered};
@@ -6,7 +6,7 @@ ghost use Rattle.clone_state.specs.Slots.{FitsSlot, IsPage, is_free, slots_of, t
 
 use guest_memory::PAGE_BYTES;
 
-/// Puts the payload of a new part into its slot; of a repeat, nothing. Whether it was new.
+/// Puts the payload of a new part into its slot; a repeat changes nothing. Returns whether it was new.
 pub(super) fn keep(
     first: &mut Vec<u8>,
     later: &mut Vec<Option<[u8; PAGE_BYTES]>>,

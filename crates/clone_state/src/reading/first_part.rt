@@ -46,7 +46,7 @@ struct DeviceFields {
     controller: ControllerFields,
 }
 
-// What bytes say of a machine, but for its version.
+// What bytes say of a machine, except its version.
 #[derive(Drop)]
 struct Fields {
     attached: u8,
@@ -258,7 +258,7 @@ fn may_halt(processor: &Processor) -> bool
     !(processor.halted && processor.interrupts == Interrupts::Soon)
 }
 
-// Whether the bytes of a port that are on their way were issued, and its numbers are in range.
+// Whether the unaccepted bytes of a port were issued, and its numbers are in range.
 fn port_stands(devices: &Devices, issued: &[u64; PORTS], keys: &[u64; PORTS], port: u8) -> bool
     requires { port < PORTS }
     ensures { result ≡ board.port_stands devices.now issued.now keys.now port }

@@ -22,7 +22,7 @@ pub(super) enum Call {
 
 /// A call that takes or brings a sector.
 pub(super) enum DiskCall {
-    /// A sector comes.
+    /// A sector comes under the head.
     Sector(u8, R<()>),
     /// All bytes of a sector are read.
     ReadAll,

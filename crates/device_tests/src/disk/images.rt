@@ -1,4 +1,4 @@
-//! A controller in an image: it comes back from its own, and no controller has what no controller could be in.
+//! A controller in an image: it is rebuilt from its own image, and no controller from a state that none could be in.
 
 use super::OLD_BYTES;
 use disk_dcdd::*;

@@ -1,5 +1,5 @@
-//! The tables of the MITS 88-DCDD manual, row by row: the bits of the three ports, and the ends of the disk; and what becomes of a
-//! sector that comes, is read and is written.
+//! The tables of the MITS 88-DCDD manual, row by row: the bits of the three ports, the ends of the disk, and what happens
+//! to a sector that comes under the head, is read and is written.
 
 use super::calls::{Call, DiskCall, make};
 use disk_dcdd::Controller;

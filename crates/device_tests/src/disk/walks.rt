@@ -54,7 +54,7 @@ fn send(rt: &impl Abort, walk: &mut Walk, disk: &mut Controller, byte: u8) {
     }
 }
 
-// Sends so many of the bytes that count up from this one.
+// Sends this many of the bytes that count up from the first one.
 fn send_all(rt: &impl Abort, walk: &mut Walk, disk: &mut Controller, first: u8, count: u8) {
     let mut next = first;
     for _ in 0..count {

@@ -63,7 +63,7 @@ impl Controller {
         self.outstanding.as_slice()
     }
 
-    /// Whatever a controller has been through, an image can describe its state, and `rebuild` accepts that image.
+    /// An image can describe the state of every controller, and `rebuild` accepts that image.
     pub fn stands(&self)
         ensures { IsDrives self.now }
     {

@@ -160,8 +160,7 @@ impl<T: Completes, S: Completes, W: Completes> Board<T, S, W> {
         self.wiring.sense
     }
 
-    /// Whatever a board has been through, what holds of boards holds of it, and its memory has a byte at every address and
-    /// a version for every page.
+    /// The invariant of boards holds of this one; its memory has a byte at every address and a version for every page.
     pub fn stands(&self)
         ensures board { IsBoard self.now.guest self.now.versions }
         ensures memory { length self.now.guest.memory ≡ BYTES }

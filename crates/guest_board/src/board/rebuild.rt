@@ -63,7 +63,7 @@ impl<T: Completes, S: Completes, W: Completes> Board<T, S, W> {
         })
     }
 
-    /// Whatever a board has been through, what it shows can be rebuilt, and gives the same guest.
+    /// What any board shows can be rebuilt, and gives the same guest.
     pub fn can_be_rebuilt(&self, parts: &BoardParts)
         requires { table.Shows self.now.guest parts.now }
         ensures stands { table.stands parts.now ≡ true }
@@ -90,7 +90,7 @@ fn outstanding(alloc: Global, parts: &BoardParts) -> R<Pending>
     Ok(pending)
 }
 
-// Adds the bytes of a port that are on their way to the outstanding operations.
+// Adds the unaccepted bytes of a port to the outstanding operations.
 fn issue_port(pending: &mut Pending, parts: &BoardParts, port: u8) -> R<()>
     requires port { port < PORTS }
     requires stands { table.stands parts.now ≡ true }

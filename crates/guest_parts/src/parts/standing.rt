@@ -31,7 +31,7 @@ impl BoardParts {
         let _sense = self.sense;
     }
 
-    /// There is a byte for each one that a port has on its way.
+    /// The parts have each unaccepted byte of a port.
     pub fn has_window(&self, port: u8)
         requires { port < PORTS }
         ensures { (port_of self.now.devices port).unaccepted ≤ length (slice_index_or self.now.unaccepted port []) }
@@ -59,7 +59,7 @@ fn has_all<X, const N: usize>(array: &[X; N])
     ensures { length array.now ≡ N }
 {}
 
-// Whether the bytes of a port that are on their way were issued, and its numbers are in range.
+// Whether the unaccepted bytes of a port were issued, and its numbers are in range.
 fn port_stands(devices: &Devices, issued: &[u64; PORTS], keys: &[u64; PORTS], port: u8) -> bool
     requires { port < PORTS }
     ensures { result ≡ table.port_stands devices.now issued.now keys.now port }

@@ -129,7 +129,7 @@ impl Walk {
         Ok(())
     }
 
-    // A sector comes, with bytes from this one upwards.
+    // A sector comes under the head, with bytes from this one upwards.
     fn sector(&mut self, number: u8, first: u8) {
         let mut bytes = [0; 137];
         for (byte, place) in bytes.iter_mut().zip(0..137u8) {

@@ -27,7 +27,7 @@ impl Machine {
     }
 
     /// Executes one step on the way to a count. `Spent` if a number is at its greatest; otherwise, if the processor is
-    /// halted and hears no request, `Spent` if that count is past the limit and `Idle` if not.
+    /// halted and no request is accepted, `Spent` if that count is past the limit and `Idle` if not.
     #[tactic(auto, unfolding(guest_board::specs::Guest::step_of, guest_board::specs::Guest::wired_after))]
     pub(crate) fn step(&mut self, last: u64) -> R<()>
         ensures can { IfOk result (λ _. step_refusal last (state_of self.old) ≡ None) }

@@ -4,8 +4,8 @@ use pair_threads::{Gate, Who};
 use std::sync::atomic::{AtomicBool, AtomicU64, Ordering};
 use std::thread;
 
-/// Holds the first turn of primary and backup until both have begun, and that of terminals and disk until the primary
-/// has: one thread alone never gets on.
+/// Holds the first turn of primary and backup until both have begun, and that of terminals and disk until the primary has:
+/// one thread alone never makes progress.
 #[derive(Drop)]
 pub(super) struct Together {
     primary: AtomicBool,

@@ -19,7 +19,7 @@ use std::process::Abort;
 use std::thread::Threads;
 use std::time::Clock;
 
-/// Records of which one read or write fails if a case says so.
+/// Records on a device whose read or write fails once if a case says so.
 pub(super) type Store = FailOnce<MemoryStore>;
 
 /// What a pair runs: a program at 0000, what is typed at port 0, the fates of the packets, which access of the disk fails
@@ -76,9 +76,9 @@ fn boot<T: Completes + Drop, S: Completes + Drop, W: Completes + Drop>(
     }
 }
 
-/// How a pair is to end that nobody leaves: how many entries are in both lists and acknowledged, what the terminals of
-/// both ports have accepted, the count of the primary's guest if it is always the same, and the number of the last write of
-/// sector 0 of track 0.
+/// How a pair in which nobody goes on alone ends: how many entries are in both lists and acknowledged, what the terminals
+/// of both ports have accepted, the count of the primary's guest if it is always the same, and the number of the last write
+/// of sector 0 of track 0.
 #[derive(Clone, Copy)]
 pub(super) struct Want<'a> {
     pub(super) entries: usize,
@@ -87,8 +87,8 @@ pub(super) struct Want<'a> {
     pub(super) write: u64,
 }
 
-/// How a pair has ended: who goes on alone, the count of the primary's guest, both lists and how much of them is acknowledged, what
-/// the terminals have accepted, and the number of the last write of sector 0 of track 0.
+/// How a pair has ended: who goes on alone, the count of the primary's guest, both lists and how much of them is
+/// acknowledged, what the terminals have accepted, and the number of the last write of sector 0 of track 0.
 #[derive(Drop)]
 pub(super) struct Outcome {
     winner: Option<Who>,
@@ -101,7 +101,7 @@ pub(super) struct Outcome {
 }
 
 impl Outcome {
-    /// Nobody has left the pair, and it has ended so.
+    /// Nobody goes on alone, and the pair has ended like this.
     pub(super) fn expect_end(&self, rt: &impl Abort, want: &Want) {
         assert!(rt; self.winner.is_none());
         assert!(rt; want.count.is_none() || want.count == Some(self.count));
@@ -112,7 +112,7 @@ impl Outcome {
         assert!(rt; self.write == want.write);
     }
 
-    /// One of them goes on alone. How far it has come by then is different from run to run.
+    /// One of them goes on alone. How far it is by then differs from run to run.
     pub(super) fn expect_winner(&self, rt: &impl Abort, winner: Who) {
         assert!(rt; self.winner == Some(winner));
         assert!(rt; self.primary.starts_with(&self.backup));
@@ -164,7 +164,7 @@ fn run<
     run_generation(rt, alloc, workers, gate, case.turns)
 }
 
-// What a pair has come to.
+// How a pair has ended.
 fn outcome_of<T: Completes + Drop, S: Completes + Drop, W: Completes + Drop>(
     end: GenerationEnd<Board<T, S, W>, Store>,
 ) -> R<Outcome> {
@@ -194,7 +194,7 @@ fn outcome_of<T: Completes + Drop, S: Completes + Drop, W: Completes + Drop>(
     })
 }
 
-// Runs a pair of Altairs of a setup, and tells what it has come to.
+// Runs a pair of Altairs of a setup, and returns how it ended.
 fn come_out<
     T: Completes + Drop + Copy + Send,
     S: Completes + Drop + Copy + Send,

@@ -27,14 +27,14 @@ static DISK_WRITE: [u8; 34] = [
     0x00, 0x76,
 ];
 
-// Port 0 is reset, and set; then two keys are read as they come (IN 10, RRC, JNC), and each is sent back; HLT.
+// Port 0 is reset, and set; then two keys are read as they arrive (IN 10, RRC, JNC), and each is sent back; HLT.
 static TWO_KEYS: [u8; 25] = [
     0x3e, 0x03, 0xd3, 0x10, 0x3e, 0x15, 0xd3, 0x10, 0x06, 0x02, 0xdb, 0x10, 0x0f, 0xd2, 0x0a, 0x00,
     0xdb, 0x11, 0xd3, 0x11, 0x05, 0xc2, 0x0a, 0x00, 0x76,
 ];
 
-// Port 0 is set with its receive interrupt, and the guest halts with interrupts on, time and again; at 0038 a key is read, and
-// sent back.
+// Port 0 is set with its receive interrupt, and the guest halts with interrupts on, again and again; at 0038 a key is read,
+// and sent back.
 static KEYS_BY_INTERRUPT: [u8; 61] = [
     0x31, 0x00, 0x80, 0x3e, 0x95, 0xd3, 0x10, 0xfb, 0x76, 0xc3, 0x07, 0x00, 0x00, 0x00, 0x00, 0x00,
     0x00, 0x00, 0x00, 0x00, 0x00, 0x00, 0x00, 0x00, 0x00, 0x00, 0x00, 0x00, 0x00, 0x00, 0x00, 0x00,
@@ -63,7 +63,7 @@ fn together(rt: &(impl Threads + Clock + Sync + AllocGlobal), case: &Case) -> R<
     run_case(rt, rt.alloc(), case, &Together::new())
 }
 
-// A case on threads that wait for each other ends so.
+// A case on threads that wait for each other ends like this.
 fn ends(
     rt: &(impl Threads + Clock + Sync + AllocGlobal + Abort),
     case: &Case,
@@ -148,8 +148,8 @@ fn a_primary_goes_on_alone(rt: HostRuntime) -> R<()> {
     Ok(())
 }
 
-// A backup that finds nothing waits after each third turn, and sleeps once it has found nothing for 600 microseconds. Without
-// sleeps a machine with processors to spare takes some milliseconds for so many turns.
+// A backup that finds nothing waits after each third turn, and sleeps once it has found nothing for 600 microseconds.
+// Without sleeps a machine with processors to spare takes some milliseconds for this many turns.
 #[test]
 fn a_pair_that_waits_sleeps(rt: HostRuntime) -> R<()> {
     let mut waits = alone(&HALT);
@@ -226,7 +226,7 @@ fn a_guest_without_end_stalls(rt: HostRuntime) {
     stalls(&rt, &endless, &OpenGate);
 }
 
-// Who is to ask at a turn that never comes does not, and the run is not decided.
+// Who is planned to ask at a turn that never comes does not ask, and the run is not decided.
 #[test]
 fn a_contest_that_never_comes_stalls(rt: HostRuntime) {
     let mut late = alone(&FIRST_BYTE);

@@ -26,7 +26,7 @@ fn workers_hear_whether_the_guest_is_held_up(rt: HostRuntime) {
     assert!(rt; !signals.is_held_up());
 }
 
-// A link that loses what is posted again and again gets nobody on.
+// A link that loses the same packet again and again is no progress.
 #[test]
 fn workers_hear_how_often_others_get_on(rt: HostRuntime) {
     let signals = Signals::new();

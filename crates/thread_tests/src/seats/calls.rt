@@ -28,7 +28,7 @@ fn a_primary_that_asks_first_has_won(rt: HostRuntime) -> Result<(), Fail> {
     Ok(())
 }
 
-// Appends as many entries as a log holds, and gives how many it took.
+// Appends as many entries as a log holds, and returns how many it took.
 fn fill_log(fabric: &Fabric, seat: &mut PrimarySeat) -> u64
     requires ready { (seat.old.table ≡ fabric.now) × (seat.old.core.known.primary.winner ≡ 0) }
     ensures ready { (seat.new.table ≡ fabric.now) × (seat.new.core.known.primary.winner ≡ 0) }
@@ -52,7 +52,7 @@ fn a_full_log_takes_no_entry(rt: HostRuntime) -> Result<(), Fail> {
     Ok(())
 }
 
-// A packet is lost where another one is posted over it, and comes twice where the link keeps it.
+// A packet is lost if another one is posted over it, and arrives twice if the link keeps it.
 #[test]
 fn packets_are_lost_and_repeated(rt: HostRuntime) -> Result<(), Fail> {
     let (fabric, mut seats) = Fabric::open(rt.alloc(), 1)?;
@@ -77,7 +77,7 @@ fn packets_are_lost_and_repeated(rt: HostRuntime) -> Result<(), Fail> {
     Ok(())
 }
 
-// A byte is lost where another one is emitted over it; one that is out of order is not counted.
+// A byte is lost if another one is emitted over it; one that is out of order is not counted.
 #[test]
 fn bytes_come_in_order(rt: HostRuntime) -> Result<(), Fail> {
     let (fabric, mut seats) = Fabric::open(rt.alloc(), 1)?;
@@ -139,7 +139,7 @@ fn both_ports_have_boxes(rt: HostRuntime) -> Result<(), Fail> {
     Ok(())
 }
 
-// A request is lost where another one is made over it, and an answer where another one is given over it.
+// A request is lost if another one is made over it, and an answer if another one is given over it.
 #[test]
 fn a_sector_is_read(rt: HostRuntime) -> Result<(), Fail> {
     let (fabric, mut seats) = Fabric::open(rt.alloc(), 1)?;

@@ -58,7 +58,7 @@ pub(super) fn post_once(fabric: &Fabric, seat: &mut PrimarySeat, index: u64) -> 
     seat.see(fabric)
 }
 
-// Posts an entry until the backup has acknowledged it, and gives what was seen.
+// Posts an entry until the backup has acknowledged it, and returns what was seen.
 pub(super) fn post(fabric: &Fabric, seat: &mut PrimarySeat, index: u64) -> u64
     requires ready { (seat.old.table ≡ fabric.now) × (seat.old.core.known.primary.winner ≡ 0) }
     requires stands { get_elem? seat.old.core.known.primary.list index ≡ some (Mark 6) }
@@ -86,7 +86,7 @@ pub(super) fn emit_once(fabric: &Fabric, seat: &mut PrimarySeat, byte: u8) -> u6
     seat.counted(fabric, 1)
 }
 
-// Emits a byte until its terminal has counted it, and gives how many it counted.
+// Emits a byte until its terminal has counted it, and returns how many it counted.
 pub(super) fn emit(fabric: &Fabric, seat: &mut PrimarySeat) -> u64
     requires ready { (seat.old.table ≡ fabric.now) × (seat.old.core.known.primary.winner ≡ 0) }
     ensures ready { (seat.new.table ≡ fabric.now) × (seat.new.core.known.primary.winner ≡ 0) }
@@ -173,7 +173,7 @@ pub(super) fn take_once(fabric: &Fabric, seat: &mut BackupSeat) -> Option<Packet
     seat.take(fabric)
 }
 
-// Takes until a packet comes.
+// Takes until a packet arrives.
 pub(super) fn take(fabric: &Fabric, seat: &mut BackupSeat) -> Option<Packet>
     requires ready { (seat.old.table ≡ fabric.now) × (seat.old.core.known.backup.winner ≡ 0) }
     ensures ready { (seat.new.table ≡ fabric.now) × (seat.new.core.known.backup.winner ≡ 0) }
@@ -252,7 +252,7 @@ pub(super) fn serve(fabric: &Fabric, seat: &mut DiskSeat)
     }
 }
 
-// Answers one read twice, where no write was answered before it.
+// Answers one read twice, with no write answered before it.
 pub(super) fn read_once(fabric: &Fabric, seat: &mut DiskSeat) -> bool
     requires ready { seat.old.table ≡ fabric.now }
     requires unwritten { seat.old.core.known.disk.puts ≡ [] }

@@ -1,4 +1,4 @@
--- So many hosts have come.
+-- This many hosts were added.
 use Rattle.guest_board.specs.Guest.{guest_at_boot}
 use Rattle.altair_copies.specs.Copies.{image_copy}
 use Rattle.guest_board.specs.Inputs.{some_altair}

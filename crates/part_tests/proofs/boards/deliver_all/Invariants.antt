@@ -1,4 +1,4 @@
--- What came so far are the first entries that are logged.
+-- What has arrived is the first entries that are logged.
 use Rattle.std.proofs.Common.{◌≡◌, []}
 use Rattle.log_channel.specs.Laws.{HoldsFirst}
 use Rattle.part_tests.proofs.boards.deliver_all.Given as goal

@@ -1,4 +1,4 @@
--- As many fewer are stale as were copied.
+-- The stale pages are fewer by those that were copied.
 use Rattle.std.proofs.Common.{sym, ◌∙◌, arith}
 use Rattle.board_image.proofs.StalePages.{left_below}
 use Rattle.board_image.proofs.draft.Draft.freshen.Goals as goal

@@ -1,4 +1,4 @@
--- Every part came: the first part is read or not, the tables fit it or not, and there is memory for the board or not.
+-- Every part has arrived: the first part is read or not, the tables fit it or not, and there is memory for the board or not.
 use Rattle.std.proofs.Common.{List, Option, Result, ℕ, ap, drop, subst, sym, ◌∙◌}
 use Rattle.std.specs.List.{list_all}
 use Rattle.std.specs.Prelude.{is_err}
