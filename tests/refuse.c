@@ -1,5 +1,5 @@
-// Refuses one allocation of a program that it is loaded before: the one whose number is in REFUSE, from 1. When the program
-// ends it writes into the file that is named in REFUSE_COUNT how many allocations were asked for.
+// Preloaded into a program, it refuses one allocation: number REFUSE, from 1. When the program ends it writes how many
+// allocations were asked for into the file that REFUSE_COUNT names.
 #define _GNU_SOURCE
 #include <dlfcn.h>
 #include <errno.h>
@@ -30,7 +30,7 @@ __attribute__((destructor)) static void end(void) {
   fclose(file);
 }
 
-// A program that may start threads ends so, and runs no destructors.
+// A program that may start threads ends this way, and runs no destructors.
 void _exit(int status) {
   static void (*real)(int);
   end();

@@ -7,8 +7,8 @@ from collections import namedtuple
 # How many events a copy takes at least.
 COPY_EVENTS = 950
 
-# A phase of a pair's life: how many events it has at most, of 100 messages or names how many are not simply the next one,
-# and what is drawn in it, how often.
+# A phase of a pair's life: how many events it has at most, how many of 100 messages or names are not simply the next one,
+# and what is drawn in it, with how often.
 Phase = namedtuple("Phase", "least most noise draws")
 
 
@@ -22,7 +22,7 @@ DAY = shares("step 10 type 3 key 5 send 16 log 16 ack 4 acked 6 replay 4 release
              "under 9 fetch 3 fetched 4 freshen 1 any 1")
 
 # An ordinary day, one on which messages are lost, a takeover, a copy to a spare host, a time at which anything is tried, and
-# one at which keys come and nothing is acknowledged, until the log is full.
+# one at which keys arrive and nothing is acknowledged, until the log is full.
 ORDINARY = Phase(40, 140, 4, DAY)
 LOSSY = Phase(30, 100, 30, DAY)
 TAKEOVER = Phase(20, 50, 20, shares("stop 1 suspect 3 drain 4 fetch 2 fetched 2 step 1 send 1 log 1 key 1 replay 1 release 2 "
@@ -54,7 +54,7 @@ class Schedule:
         return self.draw_type()
 
     def go_on(self):
-        """The phase goes on, or another one begins."""
+        """The phase continues, or another one begins."""
         self.left -= 1
         is_over = self.phase is TAKEOVER and self.cast.is_alone
         is_over |= self.phase is COPY and not self.cast.is_alone and self.cast.joining is None
@@ -63,7 +63,7 @@ class Schedule:
             self.left = self.chance.between(self.phase.least, self.phase.most)
 
     def another(self):
-        """The phase that comes next. A pair that cannot be copied any more does not live for long."""
+        """The phase that comes next. A pair that can no longer be copied does not live for long."""
         cast = self.cast
         if cast.draining is not None:
             return TAKEOVER
@@ -91,7 +91,7 @@ class Schedule:
         return None if node is None or None in rest else (word, node, *rest)
 
     def turns(self, most):
-        """Some turns, so many at most: seldom none, or all of them."""
+        """At most this many turns: seldom none, or all of them."""
         number = self.chance.below(10)
         if number == 0:
             return self.chance.below(4)
@@ -156,7 +156,7 @@ class Schedule:
         return self.of_node("release", self.cast.server, "byte", port, number)
 
     def draw_sent(self):
-        """A node hears that a byte was accepted: mostly the oldest of which it has not heard."""
+        """A node is told that a byte was accepted: mostly the oldest of which it was not told."""
         port = self.chance.port()
         notes = self.book.ports[port]
         if self.is_noise():
@@ -173,10 +173,10 @@ class Schedule:
         """A node that waits for a sector asks for it."""
         return self.of_node("fetch", self.cast.follower()) if self.book.waits or self.is_noise(0.25) else None
 
-    # Messages that come.
+    # Messages that arrive.
 
     def comes(self, word, *nodes):
-        """A message comes: to a node, if it is not for a device; none if there is no such node."""
+        """A message arrives: at a node, if it is not for a device; none if there is no such node."""
         if None in nodes:
             return None
         message = self.book.mail[word].bring(self.chance, self.phase.noise)
@@ -201,7 +201,7 @@ class Schedule:
         return self.comes("part", self.cast.joining)
 
     def sector_comes(self, word, node):
-        """A sector that was read, mostly the last one, comes to a node."""
+        """A sector that was read, mostly the last one, arrives at a node."""
         message = self.book.mail[word].recent(self.chance)
         node = self.cast.near(node, self.chance)
         return None if message is None or node is None else (word, message, node)
@@ -239,7 +239,7 @@ class Schedule:
         return self.of_node("freshen", self.cast.server, self.chance.below(80)) if self.cast.is_alone else None
 
     def draw_sendpart(self):
-        """A primary sends a part of its image: one that has not come."""
+        """A primary sends a part of its image: one that has not arrived."""
         if self.cast.joining is None:
             return None
         return self.of_node("sendpart", self.cast.server, self.chance.below(500) if self.is_noise() else self.book.missing.next())
@@ -251,7 +251,7 @@ class Schedule:
         return self.chance.any_of([self.any_delivery, self.any_of_node, self.any_seldom])()
 
     def any_delivery(self):
-        """A message comes somewhere."""
+        """A message arrives somewhere."""
         message, node = self.chance.below(self.book.messages + 1), self.cast.any(self.chance)
         word = self.chance.any_of(["log", "acked", "arrive", "put", "done", "under", "fetched", "part"])
         return (word, message) if word in ("arrive", "put") else (word, message, node)

@@ -1,26 +1,26 @@
-"""What tests/schedules notes of a pair from its answers: which node has which part, which messages there are, and how far
-the guest and its log have come."""
+"""What tests/schedules notes of a pair from its answers: which node has which role, which messages there are, and how far
+the guest and its log are."""
 
 # How many parts an image of a machine with one drive has, and how many more for each further drive.
 PARTS = 334
 DRIVE_PARTS = 77
 
-# How far from one another parts are sent; no number of parts has a divisor of this.
+# The step from the index of one part to that of the next one sent; it has no divisor in common with a number of parts.
 STRIDE = 101
 
-# After an answer that begins so, nodes may have other parts.
+# After an answer that begins like this, nodes may have other roles.
 TURNS = ("won", "generation", "whole", "stopped")
 
 
 class Cast:
-    """The nodes of the highest generation by their parts; a node that was overtaken, a spare host, and how many nodes can
+    """The nodes of the highest generation by their roles; a node that was overtaken, a spare host, and how many nodes can
     go on."""
 
     def __init__(self, hosts):
         self.hosts, self.generation, self.winner = hosts, 1, None
 
     def after(self, event, answer):
-        """Notes an answer; whether nodes may have other parts now."""
+        """Notes an answer; returns whether nodes may have other roles now."""
         words = answer.split()
         if words[0] == "won":
             self.winner = event[1]
@@ -50,7 +50,7 @@ class Cast:
         self.able += part != "joining"
 
     def is_last(self, node):
-        """Whether no other node can go on than this one."""
+        """Whether no node but this one can go on."""
         return self.able <= 1 and node in (self.server, self.backup, self.draining)
 
     def follower(self):
@@ -109,7 +109,7 @@ class Mail:
 
 
 class Missing:
-    """The parts of an image that have not come."""
+    """The parts of an image that have not arrived."""
 
     def __init__(self, drives):
         self.many, self.last = PARTS + DRIVE_PARTS * (drives - 1), 0
@@ -131,7 +131,7 @@ class Missing:
 
 class Port:
     """How many keys were typed and taken, and how many bytes the guest has sent, the terminal has accepted, and the guest
-    has heard of."""
+    was told of."""
 
     def __init__(self):
         self.typed = self.taken = self.sent = self.accepted = self.heard = 0
@@ -144,11 +144,11 @@ class Book:
         self.mail = {word: Mail() for word in ("log", "acked", "part", "arrive", "put", "done", "under")}
         self.mail["fetched"] = self.mail["under"]
         self.missing, self.messages = Missing(drives), 0
-        # The last one is not there.
+        # The last one does not exist.
         self.ports = [Port(), Port(), Port()]
-        # The entries of the log that the node that runs the guest has, and how many were sent, came, and were acknowledged.
+        # The log of the node that runs the guest, and how many of its entries were sent, arrived, and were acknowledged.
         self.log, self.posted, self.kept, self.held = [], 0, 0, 0
-        # How many writes the guest has given, and how many it has heard of.
+        # How many writes the guest has given, and of how many it was told that they are done.
         self.given = self.done = 0
         # What had happened when the log began.
         self.before = self.numbers()
@@ -160,7 +160,7 @@ class Book:
         return [(port.taken, port.sent, port.heard) for port in self.ports], self.given, self.done
 
     def note(self, event, answer, cast):
-        """Notes an answer that is no refusal; the cast is as it was before the event."""
+        """Notes an answer that is not a refusal; the cast is as it was before the event."""
         words = answer.split()
         first = words[0]
         if first == "message":
@@ -233,7 +233,7 @@ class Book:
         self.missing.begin()
 
     def begin_again(self):
-        """A backup has won, and goes on from what it holds."""
+        """A backup has won, and continues from what it holds."""
         ports, self.given, self.done = self.before
         for port, numbers in zip(self.ports, ports):
             port.taken, port.sent, port.heard = numbers

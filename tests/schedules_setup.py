@@ -8,8 +8,8 @@ DRIVE_SECTORS = 77 * 32
 # A guest: its bytes from address 0, how many steps a step event may make, and whether it uses its disk.
 Guest = namedtuple("Guest", "bytes turns has_disk")
 
-# Prints a letter again and again, capital at port 0 and small at port 1: which one depends on how often it has looked
-# whether port 0 is ready, and so on the counts at which it hears of its bytes.
+# Prints a letter again and again, capital at port 0 and small at port 1: which one depends on how often it has polled
+# port 0, and so on the counts at which its bytes are accepted.
 #   0000 MVI A,15  OUT 10
 #   0004 INR C  IN 10  ANI 02  JZ 0004
 #   000C MOV A,C  ANI 1F  ORI 40  OUT 11
@@ -63,7 +63,7 @@ class Chance:
         return first + self.below(last - first + 1)
 
     def happens(self, percent):
-        """Whether this happens, which happens in so many of 100 cases."""
+        """Whether this happens, as it does in this many of 100 cases."""
         return self.random() * 100 < percent
 
     def any_of(self, choices):
@@ -71,14 +71,14 @@ class Chance:
         return choices[self.below(len(choices))]
 
     def port(self):
-        """A port, which is seldom one that is not there."""
+        """A port, seldom one that does not exist."""
         number = self.below(80)
         return 2 if number == 0 else number % 2
 
 
 class Opening:
-    """How a random pair boots. If its disk fails, that is to be in an event, and not in a comparison, which reads the
-    whole disk: none is made after `pause` comparisons, until the disk has failed or `patience` events have come."""
+    """How a random pair boots. If its disk fails, it must fail in an event, and not in a comparison, which reads the
+    whole disk: none is made after `pause` comparisons, until the disk has failed or there were `patience` events."""
 
     def __init__(self, chance):
         self.guest = chance.any_of(GUESTS)
