@@ -1,5 +1,5 @@
--- If each sector that came had the bytes of the machine's own disk, it had all its bytes: the sectors at boot have them,
--- and so has each write of such a sector.
+-- If each sector that came under a head had the bytes of the machine's own disk, it had all its bytes: the sectors at
+-- boot have them, and so has each write of such a sector.
 use Rattle.std.proofs.Common.{◌≡◌, ◌<◌, ℕ, Bool, true, false, cond, not, List, [], ◌∷◌, ◌++◌, length, Option, Some, None, inl, inr, refl, sym, ap, ◌∙◌}
 use Rattle.std.specs.Prelude.{IsTrue, nat_lt, ◌&&◌, ◌==◌, is_none}
 use Rattle.std.specs.Option.{option_map_or}

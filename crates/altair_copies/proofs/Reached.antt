@@ -1,4 +1,4 @@
--- After any moves from boot an Altair stands as boards do: each move keeps what holds of every board.
+-- After any moves from boot an Altair meets the invariant of boards: each move keeps it.
 use Rattle.std.proofs.Common.{◌≡◌, ℕ, ◌^◌, ◌<◌, true, false, Option, Some, None, List, refl, sym, ap, subst, ◌∙◌}
 use Rattle.std.specs.Prelude.{nat_lt, slice_index, is_some, IfSome}
 use Rattle.std.proofs.lemmas.Bool.{ltb-true, and_parts}

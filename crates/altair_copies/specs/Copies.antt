@@ -39,7 +39,7 @@ pub record IsSetup (setup : Setup) (sectors : SectorAddress → List ℕ) : Type
   pub disk : (address : SectorAddress) → IsTrue (has_sector setup.drives address)
       → length (sectors address) ≡ SECTOR_BYTES
 
--- an Altair that is reached from boot may be copied, if each sector that came had all its bytes
+-- an Altair that is reached from boot may be copied, if each sector that came under a head had all its bytes
 abbrev pub AltairsMayBeCopied : Type 0
 AltairsMayBeCopied = (setup : Setup) (sectors : SectorAddress → List ℕ) → IsSetup setup sectors
     → (moves : List Move) (g : Guest) → AreWhole moves → Reaches (altair setup sectors) moves g → IsCopyable g

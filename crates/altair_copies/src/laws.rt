@@ -12,8 +12,9 @@ use altair_laws::{
 };
 use clone_state::parts_make_their_machines;
 
-/// Every Altair that is reached from boot may be copied, if each sector that came had all its bytes: it stands as boards
-/// do, no number or table is out of its range, and it is never halted while it waits for the instruction after EI.
+/// Every Altair that is reached from boot may be copied, if each sector that came under a head had all its bytes: it
+/// meets the invariant of boards, no number or table is out of its range, and it is never halted while it waits for the
+/// instruction after EI.
 pub fn altairs_may_be_copied()
     ensures { AltairsMayBeCopied }
 {

@@ -28,7 +28,7 @@ IsWhole (Sent port) = Unit {0}
 IsWhole (Sector drive sector number bytes) = length bytes ≡ SECTOR_BYTES
 IsWhole (Written number) = Unit {0}
 
--- the same, for each sector that comes along the moves
+-- the same, for each sector along the moves
 abbrev pub AreWhole : List Move → Type 0
 AreWhole [] = Unit {0}
 AreWhole (Do gives ∷ moves) = AreWhole moves
@@ -87,7 +87,7 @@ pub record AltairStands (setup : Setup) (moves : List Move) (g : Guest) : Type 0
   pub within : IsWithin g
   pub unaccepted : (port : ℕ) → AreUnaccepted g port
   pub bytes : (port : ℕ) → AreBytes g port
-  -- if each sector that came had all its bytes, the controller is well-formed, and each write has all its bytes
+  -- if each sector along the moves had all its bytes, the controller is well-formed, and each write has all its bytes
   pub drives : AreWhole moves → IsDrives g.devices.disk
   pub whole : AreWhole moves → AreWholeWrites moves
   pub completed : (index : ℕ) → slice_index g.completed index ≤ g.devices.disk.issued

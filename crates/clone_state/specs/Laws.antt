@@ -22,8 +22,8 @@ use Rattle.clone_state.specs.Possible.{fits_together, is_possible, may_halt}
 
 -- ---- an image makes its machine again
 
--- a guest that stands as boards do, whose tables have the lengths of a board's, and that is not halted while it waits for
--- the instruction after EI
+-- a guest that meets the invariant of boards, whose tables have the lengths of a board's, and that is not halted while it
+-- waits for the instruction after EI
 pub record IsCopyable (g : Guest) : Type 0 where
   pub versions : List ℕ
   pub board : IsBoard g versions

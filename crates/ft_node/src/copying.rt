@@ -71,8 +71,8 @@ impl<B: Copies<H> + Drop, H: Drop> Node<B, H> {
         }
     }
 
-    /// Copies the lowest stale pages of an alone node's machine, `pages` at most, for the image with which it may begin
-    /// the next generation. Returns how many are still stale. `OutOfMemory` if the allocator refuses.
+    /// Copies the lowest stale pages of an alone node's machine, `pages` at most, for the image of a generation that it
+    /// may begin. Returns how many are still stale. `OutOfMemory` if the allocator refuses.
     pub fn freshen(&mut self, alloc: Global, pages: u64) -> R<u64>
         ensures answer { (C : Copying B.State) (drives : ℕ) (x : protocol.Node B.State)
             → IsNode B.state B.machine C drives self.old x

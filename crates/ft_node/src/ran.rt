@@ -25,7 +25,7 @@ pub struct NextGeneration {
     pub reads: Reads,
 }
 
-/// What a part of an image was to a joining node: a new one, one that came before, or the last one that was missing.
+/// What a part of an image was to a joining node: a new one, one that had arrived before, or the last one that was missing.
 #[derive(Clone, Copy, PartialEq, Eq)]
 pub enum PartCame {
     New,

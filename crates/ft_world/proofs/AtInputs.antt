@@ -1,5 +1,5 @@
--- Events by which a node takes an input: it keeps its role and its generation. A key that was typed at a terminal, and
--- a byte that a terminal has accepted, are so in the world that is shown too, so their events are refused alike.
+-- Events by which a node takes an input: it keeps its role and its generation. A key was typed, and a byte was accepted,
+-- exactly if it was in the world that is shown, so their events are refused alike.
 use Rattle.guest_parts.specs.Guest.{Guest}
 use Rattle.std.proofs.Common.{◌≡◌, ◌≤◌, ◌∙◌, Err, List, None, Ok, Some, ap, inl, inr, length, refl, subst, sym, ℕ}
 use Rattle.std.specs.Prelude.{Option, Result, is_none, nat_lt, ok_or, slice_get, ◌==◌, ◌||◌}

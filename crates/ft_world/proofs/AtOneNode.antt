@@ -1,5 +1,5 @@
--- An event that comes to one node: its row follows from what it does at that node, since every other node stays, the
--- node keeps its generation, and it is a backup afterwards exactly if it was one before.
+-- An event at one node: its row follows from what it does at that node, since every other node stays, the node keeps its
+-- generation, and it is a backup afterwards exactly if it was one before.
 use Rattle.guest_parts.specs.Guest.{Guest}
 use Rattle.std.proofs.Common.{◌≡◌, ◌∷◌, ◌∙◌, [], Err, List, None, Ok, Some, ap, inl, inr, refl, subst, sym, ℕ}
 use Rattle.std.specs.Prelude.{Option, slice_get, ◌⊎◌}

@@ -1,5 +1,5 @@
--- A part of an image is sent, and comes to a joining node. A part that was sent is of a machine that was run from boot, so
--- it is read again from its message, and the parts that came fit one machine: nothing refuses the last one as malformed.
+-- A part of an image is sent, and arrives at a joining node. A part that was sent is of a machine that was run from boot, so
+-- it is read again from its message, and the parts that arrived fit one machine: nothing refuses the last one as malformed.
 use Rattle.guest_parts.specs.Guest.{Guest}
 use Rattle.std.proofs.Common.{◌≡◌, ◌∙◌, [], ◌∷◌, ℕ, ◌<◌, ◌^◌, Err, List, None, Ok, Option, Result, Some, ap, eqb-true, false, is_some, refl, subst, sym, true}
 use Rattle.std.specs.Global.{Vec}

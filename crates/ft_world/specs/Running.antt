@@ -1,5 +1,5 @@
 -- A running world: its hosts, the messages sent, what each terminal shows, who asked the arbiter, the disk, the highest
--- generation, and the number of the node that is or is to be its backup.
+-- generation, and the number of the only node that may be its backup.
 use Rattle.std.specs.Prelude.{ℕ, List}
 use Rattle.arbiter_core.specs.declared.arbiter.Asking.{Asking}
 use Rattle.terminals.specs.Screen.{Screen}

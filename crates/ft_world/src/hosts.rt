@@ -29,7 +29,7 @@ pub struct NodeStatus {
     pub count: u64,
 }
 
-/// The station of a node, for an event that comes to it. `Unknown` if no node has this number.
+/// The station of a node, for an event that happens there. `Unknown` if no node has this number.
 pub(crate) fn station_mut<B: Copies<H> + Drop, H: Drop>(
     hosts: &mut Vec<Host<B, H>>,
     node: u64,

@@ -1,4 +1,4 @@
-//! The inputs beside a node.
+//! The list of inputs that is kept with a node.
 ghost use Rattle.std.specs.Prelude.{◌≡◌, [], ◌∷◌, ◌++◌, length, take, IfErr, IfOk, OnErr, OnOk};
 ghost use Rattle.i8080_words.specs.declared.refusal.Fault.TheVariants.{OutOfMemory};
 ghost use Rattle.guest_trace.specs.Reach.{timed};

@@ -1,4 +1,4 @@
-//! A pair with everything that it shares, how it begins, and the events that come to it.
+//! A pair with everything that it shares, how it begins, and the events that happen in it.
 ghost use Rattle.std.specs.Prelude.{◌≡◌, ◌+◌, [], ◌∷◌, ◌++◌, length, IfErr, IfOk, OnErr, OnOk};
 ghost use Rattle.i8080_words.specs.declared.refusal.Fault.TheVariants.{OutOfMemory};
 ghost use Rattle.pair_protocol.specs.Copying.{Copying};
@@ -27,7 +27,7 @@ use std::alloc::Global;
 use terminals::Terminal;
 
 /// The hosts, every message ever sent, a terminal at each port, the arbiter and the disk; also the highest generation,
-/// and the number of the node that is or is to be its backup.
+/// and the number of the only node that may be its backup.
 #[derive(Drop)]
 pub(crate) struct Pair<B: Copies<H> + Drop, D: SectorStore, H: Drop> {
     pub(crate) hosts: Vec<Host<B, H>>,

@@ -25,8 +25,8 @@ use i8080_words::R;
 use replayer::Replayed;
 use std::alloc::Global;
 
-/// A node with the list of inputs that its machine has taken or is to take, and the count up to which they settle it.
-/// No node reads either.
+/// A node with the list of inputs that its machine has taken or will take, and the count up to which they settle it. No
+/// node reads either.
 #[derive(Drop)]
 pub struct Station<B, H> {
     pub(crate) node: Node<B, H>,
@@ -209,7 +209,7 @@ impl<B: Copies<H> + Drop, H: Drop> Station<B, H> {
         self.node.stop()
     }
 
-    /// Asks the arbiter for the generation: the first node to ask goes on alone, a backup once it is drained.
+    /// Asks the arbiter for the generation: the first node to ask has won, and is alone, or drains first if it was a backup.
     pub(crate) fn suspect(&mut self, id: u64, arbiter: &mut Arbiter) -> R<Won>
         ensures answer { (C : Copying B.State) (drives : ℕ) (x : protocol.Node B.State) → IsStation B.state B.machine C drives self.old x
             → calls.Suspects arbiter.old id x result arbiter.new (IsStation B.state B.machine C drives self.new) }

@@ -96,7 +96,7 @@ is_spent_at count issued writes =
 abbrev pub is_spent : Guest → Bool
 is_spent g = is_spent_at g.count g.issued g.devices.disk.issued
 
--- the processor is halted and hears no line
+-- the processor is halted and accepts no interrupt
 abbrev pub is_idle : Guest → Bool
 is_idle g = idles g.processor (line_of g.devices g.levels)
 

@@ -11,7 +11,7 @@ pub fn few_accesses()
         → length (step p memory ports line).accesses ≤ 2 }
 {}
 
-/// A step does nothing exactly when the processor is halted and hears no line.
+/// A step does nothing exactly when the processor is halted and accepts no interrupt.
 pub fn idles_where_halted()
     ensures { (p : Processor) (memory : ℕ → ℕ) (ports : ℕ → ℕ) (line : Option ℕ)
         → IsTrue (idles p line) ↔ ((step p memory ports line).kind ≡ stepped.Idle) }

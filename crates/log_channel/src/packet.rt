@@ -14,7 +14,7 @@ const LOG_TAG: u8 = 0x4c;
 /// The byte that an acknowledgement begins with, the letter `A`.
 const ACK_TAG: u8 = 0x41;
 
-/// The byte that an acknowledgement begins with which also reports how many entries are replayed, the letter `B`.
+/// The byte that an acknowledgement with the number of replayed entries begins with, the letter `B`.
 const REPORT_TAG: u8 = 0x42;
 
 /// What travels between the two ends of a log's channel. Generations count from 1.

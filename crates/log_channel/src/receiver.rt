@@ -61,7 +61,7 @@ impl Receiver {
     }
 
     /// The entry that a packet of the log brings, if it is the next one; `None` if the packet is a repeat or past a gap.
-    /// `Malformed` if the bytes are no packet of the log, `WrongGeneration` if the packet is of another generation.
+    /// `Malformed` if the bytes are not a packet of the log, `WrongGeneration` if the packet is of another generation.
     pub fn next_entry(&self, bytes: &[u8]) -> R<Option<Entry>>
         ensures answer { result ≡ next_in (heard self.now (packet_at bytes.now)) }
         ensures may { IfOk result (λ next. IfSome next (MayHold self.now)) }

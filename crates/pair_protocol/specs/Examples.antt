@@ -149,7 +149,7 @@ small_disk = record {
 -- ---- a sector is read and written
 
 -- the sector that comes is entry 0 of the log, and the mark of its write is entry 1; once the backup has acknowledged
--- both, the primary releases the write, the disk has it, and the primary hears that it is done; then the sector is read
+-- both, the primary releases the write, the disk has it, and the primary is told that it is done; then the sector is read
 -- again
 abbrev pub disk_write : List Event
 disk_write =

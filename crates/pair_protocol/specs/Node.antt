@@ -50,7 +50,7 @@ pub record Node (S : Type 0) : Type 0 where
   pub copy : List Timed
   pub start : ℕ
   -- of a backup: the entries that it holds, how many of them it has replayed, and the bytes of the sector that the next
-  -- one reads, if they have come
+  -- one reads, if they have arrived
   pub held : List Entry
   pub replayed : ℕ
   pub fetched : Option (List ℕ)

@@ -22,6 +22,6 @@ pub record NodeStands {S : Type 0} (M : Machine S) (x : Node S) : Type 0 where
   -- a primary has logged everything that is covered
   pub covered : x.role ≡ Primary → x.covered ≤ length x.log
   -- a node that replays has replayed no more than it holds, the rest are the next entries of a recorded run, and the
-  -- bytes that have come for the first of them are those that the run takes
+  -- bytes that have arrived for the first of them are those that the run takes
   pub replayed : Replaying x.role → x.replayed ≤ length x.held
   pub on_trace : Replaying x.role → IsOnTrace M x.machine (drop x.replayed x.held) x.fetched

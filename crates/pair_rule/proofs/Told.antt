@@ -1,5 +1,5 @@
--- What the primary's list says was told: each entry that is appended adds what its append asks, and no other step changes the
--- list or takes back what came.
+-- What the primary's list says was told: each entry that is appended adds what its append asks, and no other step changes
+-- the list or takes back what arrived.
 use Rattle.std.proofs.Common.{◌≡◌, ℕ, zero, suc, ◌+◌, ◌≤◌, Bool, true, false, ◌==◌, if◌then◌else◌, List, [], ◌∷◌, ◌++◌, sym, ap, ◌∙◌, subst, arith, append-nil, le_refl, refl, ⊎_elim}
 use Rattle.guest_lockstep.specs.Machine.{Machine}
 use Rattle.log_entry.specs.Entries.{inputs_of}

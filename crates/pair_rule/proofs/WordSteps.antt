@@ -1,4 +1,4 @@
--- The steps on the words that are no boxes keep the rule of the table.
+-- The steps on the words that are not boxes keep the rule of the table.
 use Rattle.std.proofs.Common.{◌≡◌, ℕ, zero, suc, ◌+◌, ◌%◌, ◌^◌, ◌<◌, max, eqb, List, [], ◌∷◌, ◌++◌, length, get_or, set, sym, refl, ap, ◌∙◌, subst, arith, length-append, Some}
 use mathlib.Core.Option.{some}
 use lib.ListN.{get_elem?}

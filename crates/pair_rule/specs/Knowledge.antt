@@ -134,7 +134,7 @@ pub record ListStands (generation : ℕ) (list : List Entry) (link : Option Pack
   pub behind : seen ≤ last_or 0 held_values
   pub once : (seen ≡ 0) ⊎ Among seen held_values
 
--- a port: the primary counts no byte that its terminal has not accepted, and what came there was released
+-- a port: the primary counts no byte that its terminal has not accepted, and what arrived there was released
 pub record PortStands (port : ℕ) (released : List Operation) (counted : ℕ) (hand : Option Operation)
     (arrivals : List Arrived) : Type 0 where
   pub accepted : counted ≤ accepted_after 0 arrivals

@@ -3,7 +3,7 @@ use Rattle.std.specs.Prelude.{◌≡◌, OnOk, Result}
 use Rattle.atomic_table.specs.Seated.{TableId}
 use Rattle.i8080_words.specs.declared.refusal.Fault.{Fault}
 
--- its seat is of the table, it is ready, and it is related to itself as `came` asks
+-- its seat is of the table, it is ready, and it came from itself
 abbrev pub MayBegin : {W : Type 0} → (W → TableId) → (W → Type 0) → (W → W → Type 0) → TableId → W → Type 0
 MayBegin table ready came id w = (table w ≡ id) × ready w × came w w
 

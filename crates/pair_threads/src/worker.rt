@@ -33,7 +33,7 @@ pub(crate) trait Worker {
     // What holds before each turn.
     ghost ready: { Self → Type 0 };
 
-    // What a worker is to the one that began.
+    // How a worker is related to itself as it began.
     ghost came: { Self → Self → Type 0 };
 
     // What holds of a worker that is at its end.

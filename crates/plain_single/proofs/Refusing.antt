@@ -1,4 +1,4 @@
--- An input that the single machine refuses is no move of the guest that it stands for, and so a run is refused.
+-- An input that the single machine refuses is not a move of the guest that it stands for, and so a run is refused.
 use Rattle.std.proofs.Common.{◌≡◌, ℕ, suc, ◌+◌, ◌<◌, ◌≤◌, min, Bool, true, false, not, ◌==◌, ◌&&◌, List, [], ◌∷◌, ◌++◌, Option, None, Some, Result, Ok, Err, IfErr, IfOk, OnOk, refl, sym, ap, ◌∙◌, subst, ◌⊎◌, inl, inr, length, take, drop, arith}
 use Rattle.std.specs.Prelude.{if◌then◌else◌, slice_index_or}
 use Rattle.std.specs.Option.{option_map_or}

@@ -1,5 +1,5 @@
--- An input that the single machine takes is a move of the guest that it stands for, with what the machine's own disk
--- has; one that it refuses is no move.
+-- An input that the single machine takes is a move of the guest that it stands for, with what the machine's own disk has;
+-- one that it refuses is not a move.
 use Rattle.std.proofs.Common.{◌≡◌, ℕ, zero, suc, ◌+◌, ◌<◌, Bool, true, false, not, ◌==◌, ◌&&◌, List, [], ◌∷◌, ◌++◌, None, Some, refl, sym, ap, ◌∙◌, subst, arith}
 use Rattle.std.specs.Prelude.{if◌then◌else◌, nat_lt, reverse}
 use Rattle.std.proofs.lemmas.Bool.{eqb-true, ltb-true, false_from_ne_true, false≢true}

@@ -102,7 +102,7 @@ pub fn place_of(event: Event) -> Place {
     }
 }
 
-/// Where the message that the event at a place of the run sent is to arrive.
+/// Where the message that the event at a place of the run sent should arrive.
 pub fn aim_of(moments: &[Moment], place: usize) -> Option<Place> {
     let moment = moments.get(place)?;
     match moment.event {

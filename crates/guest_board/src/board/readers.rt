@@ -27,7 +27,7 @@ impl<T: Completes, S: Completes, W: Completes> Board<T, S, W> {
         self.count
     }
 
-    /// Whether the guest is halted and hears no line, so that the next `exec` would be `Idle` if it is not spent.
+    /// Whether the guest is halted and accepts no interrupt, so that the next `exec` would be `Idle` if it is not spent.
     pub fn idle(&self) -> bool
         ensures { result ≡ table.is_idle self.now.guest }
     {

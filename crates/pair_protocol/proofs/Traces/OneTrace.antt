@@ -1,4 +1,4 @@
--- One trace for each list and count: the count says where an input comes, a step gives what it gives, and the bytes of
+-- One trace for each list and count: the count says where an input is taken, a step gives what it gives, and the bytes of
 -- a sector are those of the machine's own disk. And what the first entries of a trace give.
 use Rattle.std.proofs.Common.{[], ◌++◌, ◌∙◌, ◌∷◌, ◌≡◌, ◌≤◌, List, None, Option, Some, ap, append-nil, arith, length, refl, subst, suc, sym, take, zero, ℕ}
 use Rattle.pair_protocol.proofs.Words.{Do, Input, Machine, Move, Operation, Own, Owns, Reach, Runs, Take, Timed, bare, cut, entries, image, inputs, inputs_of, last_count, quiet, steps, timed, Reads}

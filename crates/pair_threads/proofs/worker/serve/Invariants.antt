@@ -1,4 +1,4 @@
--- A worker keeps its table, is ready, and is what it came from.
+-- A worker keeps its table, is ready, and came from the one that began.
 use Rattle.std.proofs.Common.{◌≡◌}
 use Rattle.pair_threads.proofs.worker.serve.Given as goal
 

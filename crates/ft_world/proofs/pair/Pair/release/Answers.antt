@@ -1,4 +1,4 @@
--- The device is not there, or there is no such node, or it refuses, or the operation is sent.
+-- The device does not exist, or there is no such node, or it refuses, or the operation is sent.
 use Rattle.std.proofs.Common.{subst}
 use Rattle.ft_world.specs.Messages.{Says}
 use Rattle.ft_world.specs.Pairs.{running_of}
