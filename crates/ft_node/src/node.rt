@@ -111,7 +111,7 @@ impl<B: Copies<H> + Drop, H: Drop> Node<B, H> {
         Ok(())
     }
 
-    /// The role.
+    /// Its role in its generation.
     pub fn role(&self) -> Role
         ensures { (C : Copying B.State) (drives : ℕ) (x : protocol.Node B.State) → IsNode B.state B.machine C drives self.now x → IsRole x result }
     {

@@ -204,7 +204,7 @@ impl<B: Copies<H> + Drop, D: SectorStore, H: Drop> World<B, D, H> {
         self.pair.settled()
     }
 
-    /// The highest generation.
+    /// The highest generation, at least 1.
     pub fn generation(&self) -> u32
         ensures { (c : Course B.State) → Shows B.state B.copied B.machine D.records self.now c
             → result ≡ highest c.world.nodes }

@@ -126,7 +126,7 @@ impl Receiver {
         self.held
     }
 
-    /// How many entries were popped.
+    /// How many entries were popped, which is the index of the first one held.
     pub fn popped(&self) -> u64
         ensures popped { result + length self.now.entries ≡ self.now.held }
         ensures within { result < 2 ^ 62 }

@@ -27,14 +27,14 @@ pub enum DiskRequest {
     Read(SectorAddress),
 }
 
-/// What the disk answers.
+/// The disk's answer: the write of this number is done, or a sector was read.
 #[derive(Clone, Copy, PartialEq, Eq)]
 pub enum DiskAnswer {
     Written(u64),
     Read(SectorRead),
 }
 
-/// What lies in a slot.
+/// What a box hands over: a log packet, a byte for a terminal, a request to the disk or its answer.
 #[derive(Clone, Copy)]
 pub enum Payload {
     Log(Packet),

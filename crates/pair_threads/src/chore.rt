@@ -31,7 +31,7 @@ pub enum Chore {
 pub(crate) const ROTATION: u8 = 20;
 
 impl Chore {
-    /// What comes after it.
+    /// The chore after this one in the rotation.
     pub fn next(self) -> Chore
         ensures { result ≡ next_chore self }
     {

@@ -35,7 +35,7 @@ pub(crate) fn accept(level: u8, processor: &mut Processor, wires: &mut Wires)
     wires.store(outcome.stores);
 }
 
-/// Executes the instruction at PC.
+/// Executes the instruction at PC. `OutOfMemory` if what it sends or writes cannot be kept.
 pub fn run(processor: &mut Processor, wires: &mut Wires) -> R<()>
     requires { is_full (behind_of wires.old) ≡ false }
     ensures processor { IfOk result (λ _. processor.new

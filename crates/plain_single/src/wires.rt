@@ -63,7 +63,7 @@ impl Wires {
         })
     }
 
-    /// A copy.
+    /// A copy of all of it. `OutOfMemory` if the allocator refuses.
     pub fn copy(&self, alloc: Global) -> R<Self>
         ensures ok { IfOk result (λ wires. behind_of wires ≡ behind_of self.now) }
         ensures only_memory { IfErr result (λ fault. fault ≡ OutOfMemory) }

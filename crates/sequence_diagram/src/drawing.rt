@@ -49,7 +49,7 @@ impl Drawing {
         Ok(drawing)
     }
 
-    /// The whole picture.
+    /// The whole picture, as the text of an SVG file.
     pub fn finish(self) -> Result<String, AllocError> {
         let Drawing { mut text, .. } = self;
         text.push_str("</svg>\n")?;

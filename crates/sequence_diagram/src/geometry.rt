@@ -25,14 +25,14 @@ pub const BOTTOM: u64 = 30;
 /// How many columns and lines there may be at most.
 pub const MOST: u64 = 1_000_000_000;
 
-/// A point of the picture.
+/// A point of the picture, in pixels from its upper left corner.
 #[derive(Clone, Copy)]
 pub struct Point {
     pub x: u64,
     pub y: u64,
 }
 
-/// How far columns are apart.
+/// How far two of this many columns are apart.
 pub fn column_gap(columns: u64) -> u64
     ensures exact { result ≡ gap_of columns }
     ensures within { result ≤ MOST_GAP }
@@ -42,7 +42,7 @@ pub fn column_gap(columns: u64) -> u64
     room.min(MOST_GAP).max(LEAST_GAP)
 }
 
-/// Where a column is, of this many.
+/// How far a column, counted from 0, is from the left edge, in a picture of this many.
 pub fn column_x(columns: u64, column: u64) -> u64
     requires { column ≤ MOST }
     ensures { result ≡ x_of columns column }
@@ -50,7 +50,7 @@ pub fn column_x(columns: u64, column: u64) -> u64
     LEFT + column_gap(columns) * column
 }
 
-/// How wide a picture is.
+/// How wide a picture of this many columns is.
 pub fn picture_width(columns: u64) -> u64
     requires { columns ≤ MOST }
     ensures { result ≡ width_of columns }
@@ -58,7 +58,7 @@ pub fn picture_width(columns: u64) -> u64
     LEFT + column_gap(columns) * columns.saturating_sub(1) + RIGHT
 }
 
-/// Where a line is.
+/// How far a line, counted from 0, is from the top.
 pub fn line_y(line: u64) -> u64
     requires { line ≤ MOST }
     ensures { result ≡ y_of line }

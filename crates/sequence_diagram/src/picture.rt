@@ -15,7 +15,7 @@ use std::alloc::{AllocError, Global};
 // How high a line below the columns is.
 const FOOT: u64 = 22;
 
-/// The run as SVG.
+/// The run as the text of an SVG file.
 pub fn draw(alloc: Global, moments: &[Moment]) -> Result<String, AllocError> {
     let plan = Plan::of(alloc, moments)?;
     let width = picture_width(plan.width());

@@ -55,7 +55,7 @@ impl Model for Acia {
 }
 
 impl Acia {
-    /// A port at boot.
+    /// A port at boot: format 8N1, interrupts disabled, nothing received and nothing sent.
     pub fn new() -> Self
         ensures { result ≡ table.at_boot }
     {

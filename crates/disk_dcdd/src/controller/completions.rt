@@ -45,7 +45,7 @@ impl Controller {
         Ok(())
     }
 
-    /// The selected drive, if any.
+    /// The selected drive, from 0, if any.
     pub fn selected(&self) -> Option<u8>
         ensures value { result ≡ self.now.selected }
         ensures range { IfSome result (λ drive. drive < DRIVES) }

@@ -124,14 +124,14 @@ impl<T: Completes, S: Completes, W: Completes> Board<T, S, W> {
         self.wiring.memory.version(page)
     }
 
-    /// The processor.
+    /// The processor: its registers, flags and interrupt enable, and whether it is halted.
     pub fn processor(&self) -> &Processor
         ensures { result.now ≡ self.now.guest.processor }
     {
         self.cpu.processor()
     }
 
-    /// A serial port.
+    /// The serial port of this number, 0 or 1.
     pub fn port(&self, port: u8) -> Acia
         requires { port < PORTS }
         ensures { result ≡ port_of self.now.guest.devices port }
