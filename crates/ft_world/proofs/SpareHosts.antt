@@ -1,4 +1,4 @@
--- A generation begins with a spare host: what refuses that by what the hosts are, and the hosts after it.
+-- A generation begins with a spare host: why the hosts may refuse that, and the hosts after it.
 use Rattle.std.proofs.Common.{◌≡◌, ◌∙◌, ◌∷◌, [], ◌<◌, ℕ, zero, suc, Err, List, None, Ok, Option, Result, Some, ap, arith, inl, inr, refl, subst, sym}
 use Rattle.std.proofs.lemmas.List.{length-map, length-set}
 use Rattle.std.specs.List.{insert, remove}

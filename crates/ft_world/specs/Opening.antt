@@ -26,8 +26,8 @@ pub record Opens {S : Type 0} (M : Machine S) (drives : ℕ) (opening : Opening)
   pub same_count : opening.count ≡ count
   pub after : y ≡ begun M x
 
--- why a generation can't begin with a host, by what the hosts are: there is no such host, or no such node, or the host
--- has a role
+-- why a generation can't begin with these hosts: there is no such host, or no such node, or the host that would join it has
+-- a role
 abbrev pub host_refusal : {B H : Type 0} → Option (Host B H) → Option (Host B H) → Option Fault
 host_refusal None here = Some Unknown
 host_refusal (Some there) None = Some Unknown

@@ -91,8 +91,8 @@ pub(crate) fn settled<B: Copies<H> + Drop, H: Drop>(
     }
 }
 
-/// Checks that a node may begin a generation with a host, by what the hosts are. `Unknown` if there is no such host or no
-/// such node, `WrongRole` if the host has a role.
+/// Checks that a generation may begin with these hosts: the first is a node, and the other is spare. `Unknown` if there is
+/// no such host or no such node, `WrongRole` if the host has a role.
 pub(crate) fn check_pair<B: Copies<H> + Drop, H: Drop>(
     hosts: &Vec<Host<B, H>>,
     node: u64,

@@ -123,7 +123,7 @@ AppendEvents i (Sector count drive sector number bytes) events =
     (n m : ℕ) × (events ≡ Step 0 n ∷ Get 0 sector ∷ GetReply m 0 ∷ Send 0 i ∷ [])
 AppendEvents i (Read count drive sector number) events = ⊥
 
--- what is seen is one acknowledgement that arrives, or nothing at 0
+-- seeing a number is one acknowledgement that arrives; seeing 0 is no event
 abbrev pub SeeEvents : ℕ → List Event → Type 0
 SeeEvents zero events = events ≡ []
 SeeEvents (suc n) events = (m : ℕ) × (events ≡ DeliverAcknowledgement m 0 ∷ [])

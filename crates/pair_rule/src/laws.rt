@@ -7,8 +7,8 @@ use altair_laws::altairs_are_lawful;
 use guest_board::{boards_count, boards_issue_and_complete};
 use pair_protocol::{actions_are_faithful, events_are_actions, events_grow};
 
-/// Each kind of step of the table keeps what holds of all that the seats know, and it is a step of the law below: one
-/// that is events of a pair, or one that is none.
+/// Each kind of step of the table keeps what holds of all that the seats know, and is a step of the laws below: events of a
+/// pair, or no event.
 pub fn table_steps_are_steps<S>()
     ensures steps { TableStepsAreSteps S }
 {}

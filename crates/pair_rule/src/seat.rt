@@ -94,7 +94,7 @@ impl SeatState {
         table.fetch_add::<Append>(&mut self.seat, 0, 1)
     }
 
-    // What the backup has acknowledged.
+    // How many entries the backup has acknowledged.
     pub(crate) fn see(&mut self, fabric: &Fabric) -> u64
         requires table { self.old.seat.table_id ≡ fabric.now }
         requires before { self.old.seat.me.0.core.known.primary.winner ≡ 0 }

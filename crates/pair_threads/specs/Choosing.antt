@@ -27,8 +27,8 @@ next_chore Run = See
 abbrev pub next_sector : ℕ → ℕ
 next_sector sector = (sector + 1) % 32
 
--- Whether a sector may be read: not if the guest would refuse it; but one of which the guest was offered a stale copy is
--- due, and a busy one is passed by.
+-- The sector to read, by the guest's refusal of it: if there is none, or a copy is stale, it is read; a busy one is passed
+-- by; otherwise there is none to read.
 abbrev pub due_by : Option Fault → SectorAddress → Option (SectorAddress × Bool)
 due_by None address = Some (address, false)
 due_by (Some StaleRead) address = Some (address, false)

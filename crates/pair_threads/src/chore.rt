@@ -7,7 +7,7 @@ ghost use Rattle.pair_threads.specs.Choosing.{next_chore};
 pub enum Chore {
     /// See how many entries are acknowledged.
     See,
-    /// Give the oldest byte of the port that has its turn to its terminal.
+    /// Give the oldest byte of the port whose turn it is to its terminal.
     Emit,
     /// See how many of its bytes are accepted.
     Count,

@@ -271,10 +271,10 @@ fn finish<B: Lockstep + Drop, D: SectorStore>(
     conclude(fabric, primary, link, backup, terminal, disk, contested)
 }
 
-/// Runs one generation, a worker for each of the five seats on its own thread, with at most this many turns for the primary
-/// and for the backup. If nobody is planned to go on alone, it ends well when the guest idles, all keys are taken, nothing
-/// is outstanding, and all entries are acknowledged and repeated. Otherwise it ends when it is decided who goes on alone; a
-/// backup that does has repeated its list. `Stalled` if it does not end so; `OutOfMemory`.
+/// Runs one generation, a worker for each of the five seats on its own thread, with at most this many turns for the primary and
+/// for the backup. If nobody is planned to go on alone, it ends well when the guest idles, all keys are taken, nothing is
+/// outstanding, and all entries are acknowledged and repeated. Otherwise it ends when it is decided who goes on alone; a backup
+/// that does has repeated its list. `Stalled` if it ends in no such way, `OutOfMemory` if memory or a thread is refused.
 #[tactic(auto, using(crate::proofs::Beginning::nothing_yet, crate::proofs::Serving::first_disk))]
 pub fn run_generation<
     B: Lockstep + Send + Drop,
