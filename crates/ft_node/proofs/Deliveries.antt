@@ -1,5 +1,4 @@
--- A packet of the log arrives at a node, or at what keeps one: what is done with the entry that it brings is what the
--- event does.
+-- A packet of the log arrives at a node, or at what contains one: what is done with its entry is what the event does.
 use Rattle.std.proofs.Common.{◌≡◌, ℕ, Bool, true, false, Option, Some, None, length, Result, Ok, Err, refl, sym, ap, subst, ◌∙◌}
 use Rattle.std.specs.Prelude.{◌==◌, if◌then◌else◌}
 use Rattle.std.proofs.lemmas.Bool.{eq-eqb, eqb-true}

@@ -1,6 +1,6 @@
--- A log entry arrives at a backup, and an acknowledgement at a primary. The bytes of a message spell one packet, so
--- what the node does with that packet is what the row says of the entry, or of the acknowledgement, that was sent; a
--- message of another kind brings neither, and is unknown.
+-- A log entry arrives at a backup, and an acknowledgement at a primary. The bytes of a message spell one packet, so the
+-- node does with it what the row says of the entry or the acknowledgement that was sent; a message of another kind brings
+-- neither, and is unknown.
 use Rattle.guest_parts.specs.Guest.{Guest}
 use Rattle.std.proofs.Common.{◌≡◌, Bool, Err, List, None, Ok, Some, ap, cond, false, refl, subst, true, ℕ}
 use Rattle.std.specs.Option.{option_and_then}

@@ -1,5 +1,5 @@
--- What a refused event leaves if that is not just what was there: a node that lost is halted, and a disk that failed
--- has the same records.
+-- What a refused event changes, if anything: a node that lost is halted, and a disk that failed keeps its records and may
+-- have counted the failure.
 use Rattle.pair_protocol.specs.Copying.{Copying}
 use Rattle.guest_parts.specs.Guest.{Guest}
 use Rattle.std.proofs.Common.{◌≡◌, ◌∷◌, ◌<◌, ◌∙◌, ◌≢◌, [], Bool, Err, List, None, Ok, Option, Result, Some, ap, false, inl, inr, not, refl, subst, sym, true, ℕ}

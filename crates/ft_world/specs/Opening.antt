@@ -35,7 +35,7 @@ host_refusal (Some there) (Some (host.Spare resources)) = Some Unknown
 host_refusal (Some (host.Node other)) (Some (host.Node station)) = Some WrongRole
 host_refusal (Some (host.Spare resources)) (Some (host.Node station)) = None
 
--- a host is a node that has joined with what it was given: its station shows every node of the protocol that joins with that
+-- a host has joined with what it was given: its station shows every node of the protocol that joins with the same
 abbrev pub IsJoined : {B H S : Type 0} → (B → S) → Machine S → Opening → Station B H → Type 0
 IsJoined {B} {H} {S} state M opening station =
     (C : Copying S) (drives : ℕ) (x : Node S) → C.part_count ≡ part_count drives → opening.assembly.drives ≡ drives

@@ -1,6 +1,5 @@
--- What is outstanding is what the devices await: a byte that a port sends and a write that the drives are given are
--- added to it, a byte that is accepted and a write that is done are removed from it, and no other change of the devices
--- touches it.
+-- What is outstanding is what the devices await. A byte that is sent and a write that is issued are added to it, a byte
+-- that is accepted and a write that is done are removed from it, and no other change of the devices touches it.
 use Rattle.std.proofs.Common.{◌≡◌, ◌≢◌, ℕ, zero, suc, ◌+◌, ◌-◌, ◌<◌, ◌≤◌, Bool, true, false, not, ◌==◌, ◌||◌, ◌&&◌, List, [], ◌∷◌, length, filter, None, is_some, refl, sym, ap, subst, ◌∙◌, ⊎_elim, arith}
 use Rattle.std.specs.Prelude.{nat_lt, slice_index, slice_index_or, slice_set, IfSome, All}
 use Rattle.std.specs.List.{list_any}

@@ -1,5 +1,5 @@
--- A write that is outstanding has a number that a write can have: its place is in the controller's table, where the
--- numbers are from 1 to the last that was issued.
+-- An outstanding write has a number that a write can have: its place is in the controller's table, where the numbers are
+-- from 1 to the last that was issued.
 use Rattle.std.proofs.Common.{◌≡◌, ℕ, zero, ◌<◌, ◌≤◌, Bool, true, false, ◌==◌, ◌||◌, List, [], ◌∷◌, All, Result, OnOk, refl, sym, ◌∙◌, arith}
 use Rattle.std.specs.Prelude.{is_some}
 use Rattle.std.specs.List.{list_any}

@@ -1,5 +1,5 @@
--- The entries of a block are those that it spells: the tag of the first says where its spelling ends, what is cut there
--- is read as that entry, and so on with the rest, which is at least one byte shorter.
+-- The entries of a block are those that it spells. The tag of the first gives the length of its spelling, which is read
+-- as that entry; the rest is at least one byte shorter, and is read likewise.
 use Rattle.std.proofs.Common.{◌≡◌, ℕ, zero, suc, ◌≤◌, false, ltb, List, [], ◌∷◌, ◌++◌, length, Some, refl, ap, arith}
 use Rattle.std.specs.List.{flat_map, AllByRecursion}
 use Rattle.std.proofs.lemmas.Bool.{le-ltb}

@@ -102,8 +102,8 @@ impl Receiver {
         Ok(true)
     }
 
-    /// The packet that acknowledges all that was held, and that reports how many of these entries are replayed, if that
-    /// is given.
+    /// The packet that acknowledges all entries held so far, and reports that `replayed` of them are replayed, if that is
+    /// given.
     pub fn ack(&self, alloc: Global, replayed: Option<u64>) -> R<Vec<u8>>
         requires { IfSome replayed (λ number. number ≤ self.now.held) }
         ensures { Spells (Some (ack_of self.now replayed)) result }

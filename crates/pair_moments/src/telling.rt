@@ -10,8 +10,8 @@ use pair_events::{Event, Reply};
 use sequence_diagram::{Cargo, Look, Moment, node_of};
 use shared_disk::Disk;
 
-/// An event that has just happened in a world, with its answer, what the message that it sent carries, and what the node
-/// at which it happened shows.
+/// An event that has just happened in a world: its answer, the cargo of the message that it sent, and what its node
+/// shows, if there are such.
 pub fn moment_of<B: Copies<H> + Drop, H: Drop>(
     world: &World<B, Disk, H>,
     event: Event,

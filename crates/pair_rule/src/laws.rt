@@ -20,8 +20,8 @@ pub fn starts_are_shown<S>()
     events_are_actions::<S>();
 }
 
-/// Each step of the threads that changes what is shown is events of a pair: from a world that shows what was known they
-/// lead to one that shows what is known then.
+/// A step of the threads that changes what is shown is events of a pair: they lead from a world that shows what was known
+/// before it to one that shows what is known after it.
 pub fn steps_are_events<S>()
     ensures events { StepsAreEvents S }
 {}

@@ -53,8 +53,8 @@ pub struct Look {
     pub count: u64,
 }
 
-/// An event, its answer, what the message that it sent carries, if it sent one, and what the node at which it happens shows
-/// after it, if it happens at one.
+/// An event, its answer, the cargo of the message that it sent, if any, and what the node at which it happened shows
+/// after it, if any.
 #[derive(Clone, Copy)]
 pub struct Moment {
     pub event: Event,

@@ -1,5 +1,5 @@
--- What the disk answers to a read that a backup has reached is what its primary took there: both are what the machine's own
--- disk has at that place. So the backup makes its primary's move.
+-- When a backup reaches a read, the disk answers what its primary took there: both are what the machine's own disk has at
+-- that place. So the backup makes its primary's move.
 use Rattle.std.proofs.Common.{[], ◌++◌, ◌∙◌, ◌∷◌, ◌≡◌, ◌⊎◌, List, ap, append-nil, append_assoc, arith, inl, inr, length, refl, subst, sym, ℕ}
 use Rattle.guest_lockstep.specs.declared.input.Input.TheVariants as input
 use Rattle.guest_lockstep.specs.declared.reads.Reads.TheVariants.{Logged, Shared}
