@@ -15,7 +15,7 @@ use std::marker::Model;
 #[derive(Drop)]
 pub struct Pending {
     slab: Slab<Operation>,
-    // How many more operations are certain to have room.
+    // For how many more operations there certainly is room.
     spare: usize,
 }
 

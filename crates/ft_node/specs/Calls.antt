@@ -50,14 +50,14 @@ pub record Makes {S : Type 0} (x : Node S) (does : Node S → Node S → Type 0)
   pub done : does x y
   pub after : Is y
 
--- a call of a node: it is refused, or is out of memory at a node of which this holds, and the node stays; or it gives a
+-- a call of a node: it is refused, or is out of memory at a node for which this holds, and the node stays; or it gives a
 -- value, and the node becomes another one
 abbrev pub Call : {A S : Type 0} → Option Fault → (Node S → Type 0) → (A → Node S → Node S → Type 0) → Node S
     → Result A Fault → (Node S → Type 0) → Type 0
 Call refusal needs does x result Is =
     Unless refusal result (Is x) (Gives result (needs x × Is x) (λ value. Makes x (does value) Is))
 
--- a call that only asks: it is refused, or is out of memory at a node of which this holds, or gives a value
+-- a call that only asks: it is refused, or is out of memory at a node for which this holds, or gives a value
 abbrev pub Ask : {A S : Type 0} → Option Fault → (Node S → Type 0) → (A → Node S → Type 0) → Node S → Result A Fault
     → Type 0
 Ask refusal needs says x result = Unless refusal result (Unit {0}) (Gives result (needs x) (λ value. says value x))

@@ -78,7 +78,7 @@ impl<B: Copies<H> + Drop, H: Drop> Node<B, H> {
     }
 
     /// Takes an acknowledgement, with or without the number of replayed entries, and returns how many entries are
-    /// acknowledged then. `BadAck` if it is of more entries than the log has.
+    /// acknowledged then. `BadAck` if it covers more entries than the log has.
     pub fn on_ack(&mut self, bytes: &[u8]) -> R<u64>
         ensures answer { (C : Copying B.State) (drives : ℕ) (x : protocol.Node B.State) → IsNode B.state B.machine C drives self.old x
             → calls.DeliversAcknowledgement (packet_at bytes.now) x result (IsNode B.state B.machine C drives self.new) }

@@ -1,5 +1,5 @@
 -- Pages of an alone node's machine are copied early: the node of the protocol stays as it is, and so does the world. The
--- reply has how many pages are stale then.
+-- reply says how many pages are still stale.
 use Rattle.guest_parts.specs.Guest.{Guest}
 use Rattle.std.proofs.Common.{◌≡◌, ◌∙◌, ℕ, Err, List, Ok, Result, Some, ap, refl, sym}
 use Rattle.std.specs.Prelude.{slice_get, slice_set}

@@ -10,7 +10,7 @@ use Rattle.ft_world.specs.declared.host.Host.{Host}
 use Rattle.ft_world.specs.declared.host.Host.TheVariants as host
 use Rattle.ft_world.specs.declared.station.Station.{Station}
 
--- the node of this number is alone, at most this many pages of its machine were copied, and how many are stale then
+-- the node of this number is alone, at most this many pages of its machine were copied, and how many are still stale
 pub record HostFreshened {B H : Type 0} (stale : B → ℕ) (n pages left : ℕ) (old new : List (Host B H)) : Type 0 where
   pub before : Station B H
   pub there : slice_get old n ≡ Some (host.Node before)

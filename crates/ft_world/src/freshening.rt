@@ -12,7 +12,7 @@ use i8080_words::R;
 use std::alloc::Global;
 
 impl<B: Copies<H> + Drop, H: Drop> Station<B, H> {
-    /// An alone node copies the lowest stale pages of its machine, `pages` at most. Returns how many are stale then.
+    /// An alone node copies the lowest stale pages of its machine, `pages` at most. Returns how many are still stale.
     pub(crate) fn freshen(&mut self, alloc: Global, pages: u64) -> R<u64>
         ensures answer { (C : Copying B.State) (drives : ℕ) (x : protocol.Node B.State)
             → IsStation B.state B.machine C drives self.old x

@@ -30,7 +30,7 @@ pub record Machine (S : Type 0) : Type 0 where
   -- the selected drive, and the sector of this number on the track that a drive's head is at
   pub selected : S → Option ℕ
   pub address : S → ℕ → ℕ → SectorAddress
-  -- whether the sector may come under the head, apart from an outstanding write of it, and whether there is such a one
+  -- whether the sector may come under the head if no write of it is outstanding, and whether one is
   pub ready : S → SectorAddress → Bool
   pub busy : S → SectorAddress → Bool
   -- the number of the last completed write of a sector, 0 if there is none

@@ -77,7 +77,7 @@ impl Sender {
     }
 
     /// Takes an acknowledgement, and returns the greatest number of entries acknowledged so far. `Malformed` if the bytes
-    /// are not an acknowledgement, `WrongGeneration` if it is of another generation, and `BadAck` if it is of more
+    /// are not an acknowledgement, `WrongGeneration` if it is of another generation, and `BadAck` if it covers more
     /// entries than the log has. One without a report reports 0 entries as replayed.
     pub fn on_ack(&mut self, log: &LogBuffer, bytes: &[u8]) -> R<u64>
         ensures answer { result ≡ ack_answer self.old (next_of log.now) (packet_at bytes.now) }

@@ -28,7 +28,7 @@ pub struct Closed {
     pub winner: u64,
 }
 
-// The backup's seat ends, and the primary's has its part.
+// The backup's seat ends, and the primary's takes over its part.
 fn join_backup(table: &SharedTable, lead: &mut TableSeat, state: SeatState)
     requires table { (lead.old.table_id ≡ table.now.table_id) × (state.seat.table_id ≡ table.now.table_id)
         × (table.now.table_id.words ≡ 11) }
@@ -48,7 +48,7 @@ fn join_backup(table: &SharedTable, lead: &mut TableSeat, state: SeatState)
     table.join_seat::<JoinBackup>(lead, other);
 }
 
-// The terminal's seat ends, and the primary's has its part.
+// The terminal's seat ends, and the primary's takes over its part.
 fn join_terminal(table: &SharedTable, lead: &mut TableSeat, state: SeatState)
     requires table { (lead.old.table_id ≡ table.now.table_id) × (state.seat.table_id ≡ table.now.table_id)
         × (table.now.table_id.words ≡ 11) }
@@ -68,7 +68,7 @@ fn join_terminal(table: &SharedTable, lead: &mut TableSeat, state: SeatState)
     table.join_seat::<JoinTerminal>(lead, other);
 }
 
-// The disk's seat ends, and the primary's has its part.
+// The disk's seat ends, and the primary's takes over its part.
 fn join_disk(table: &SharedTable, lead: &mut TableSeat, state: SeatState)
     requires table { (lead.old.table_id ≡ table.now.table_id) × (state.seat.table_id ≡ table.now.table_id)
         × (table.now.table_id.words ≡ 11) }

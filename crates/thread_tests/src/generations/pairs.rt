@@ -120,7 +120,7 @@ impl Outcome {
     }
 }
 
-// A disk of one drive, on which nothing is written, and of which this access fails.
+// An unwritten disk of one drive, whose access of this number fails.
 fn unwritten_disk(alloc: Global, fails: u64) -> R<SharedDisk<Store>>
     ensures { IfOk result (λ disk. IsUnwritten disk.store) }
 {
