@@ -1,18 +1,12 @@
 -- A run that is told event after event, in whatever world it shows.
-use Rattle.std.proofs.Common.{◌≡◌, ℕ, ◌+◌, ◌<◌, List, [], ◌∷◌, ◌++◌, append-nil, append_assoc, Result, get_or, length, refl, subst, sym, ap, ◌∙◌}
-use Rattle.std.specs.Prelude.{map, take}
+use Rattle.std.proofs.Common.{◌≡◌, ℕ, ◌+◌, ◌<◌, List, [], ◌∷◌, ◌++◌, append-nil, Result, get_or, length, subst, sym}
+use Rattle.std.specs.Prelude.{take}
 use Rattle.std.proofs.lemmas.List.{take_more}
-use Rattle.altair_copies.specs.Copies.{image_copy}
-use Rattle.command_script.proofs.Starting.{booted_as}
-use Rattle.command_script.specs.Telling.{EventTold, HaveTold, IsToldOf, NoneTold, QueryPassed, TellsAfter, Told}
-use Rattle.disk_dcdd.specs.declared.sector.SectorWrite.{SectorWrite}
+use Rattle.command_script.specs.Telling.{EventTold, HaveTold, NoneTold, QueryPassed, TellsAfter, Told}
 use Rattle.ft_world.specs.Applies.{Happens, Shows}
-use Rattle.ft_world.specs.Beginning.{beginning, bytes_in}
 use Rattle.ft_world.specs.Running.{Running}
 use Rattle.ft_world.specs.Standing.{Course, machine_of}
 use Rattle.ft_world.specs.Words.{answer_of, event_of}
-use Rattle.guest_board.specs.Guest.{altair, guest_at_boot}
-use Rattle.guest_board.specs.Inputs.{some_altair}
 use Rattle.guest_lockstep.specs.Machine.{Machine}
 use Rattle.guest_parts.specs.Guest.{Guest}
 use Rattle.i8080_words.specs.declared.refusal.Fault.{Fault}
@@ -21,12 +15,9 @@ use Rattle.pair_events.specs.declared.reply.Reply.{Reply}
 use Rattle.pair_protocol.specs.Copying.{Copying}
 use Rattle.pair_protocol.specs.Row.{Row}
 use Rattle.pair_protocol.specs.World.{World}
-use Rattle.pair_setup.specs.Booting.{IsBooted}
-use Rattle.script_language.specs.Scripts.{boot_write}
 use Rattle.script_language.specs.declared.line.Line.{Line}
 use Rattle.script_language.specs.declared.line.Line.TheVariants as line
 use Rattle.script_language.specs.declared.line.Query.{Query}
-use Rattle.script_language.specs.declared.setup.ScriptSetup.{ScriptSetup}
 use Rattle.sequence_diagram.specs.declared.moment.Moment.{Moment}
 use Rattle.shared_disk.specs.Failing.{Disk, records_in}
 
@@ -72,9 +63,13 @@ module _ {B H S : Type 0} (state : B → S) (copied : B → Guest) (M : Machine 
 
   -- ---- line after line
 
-  pub told_none : (v : Running B H Disk) (c : Course S) → Shows state copied M records_in v c
-      → HaveTold state copied M c [] [] v
-  told_none v c shows = record { after = c.world; told = NoneTold; shows = shows }
+  pub told_none : (v : Running B H Disk) (moments : List Moment) → moments ≡ [] → (c : Course S)
+      → Shows state copied M records_in v c → HaveTold state copied M c [] moments v
+  told_none v moments none c shows = record {
+    after = c.world;
+    told = subst (λ ms. Told (machine_of M c) c.copying c.world [] ms c.world) (sym none) NoneTold;
+    shows = shows;
+  }
 
   pub told_on : (start mid new : Running B H Disk) (lines : List Line) (k : ℕ) (d : Line) (before now : List Moment)
       → k < length lines
@@ -92,25 +87,3 @@ module _ {B H S : Type 0} (state : B → S) (copied : B → Guest) (M : Machine 
             one.moments f.told o.told));
         shows = o.shows;
       }
-
--- what is told of a pair that has booted
-pub told_of_booted : {B H : Type 0} (state : B → Guest) (setup : ScriptSetup) (lines given : List Line)
-    (moments : List Moment) (sectors : List SectorWrite) (v after : Running B H Disk) → given ≡ lines
-    → sectors ≡ map boot_write setup.sectors.items
-    → IsBooted state state some_altair (image_copy setup.guest.drives) setup.guest.reads (guest_at_boot setup.guest)
-    setup.guest.drives setup.hosts sectors v
-    → ((c : Course Guest) → Shows state state some_altair records_in v c
-    → HaveTold state state some_altair c given moments after)
-    → IsToldOf setup lines moments
-unfolding booted_as
-told_of_booted state setup lines given moments sectors v after same are b told =
-    let first = record (beginning some_altair (image_copy setup.guest.drives) setup.guest.reads (guest_at_boot setup.guest) b.store) {
-      world = b.world;
-    } in
-    let t = told first b.shows in
-    record {
-      booted = booted_as state setup sectors v are b;
-      after = t.after;
-      told = subst (λ l. Told (altair setup.guest (bytes_in b.store)) (image_copy setup.guest.drives) b.world l moments t.after)
-          same t.told;
-    }

@@ -80,7 +80,7 @@ fn tell_each<B: Copies<H> + Drop, H: Drop>(
 }
 
 // Makes a line's event happen, if it has one, and tells of it after the others.
-#[tactic(auto, using(crate::proofs::Telling::tells_event, crate::proofs::Telling::tells_no_query))]
+#[tactic(auto, using(crate::proofs::Telling::tells_no_query))]
 fn tell<B: Copies<H> + Drop, H: Drop>(
     alloc: Global,
     world: &mut World<B, Disk, H>,
