@@ -1,3 +1,4 @@
 pub mod Answering
 pub mod Lines
 pub mod Starting
+pub mod Telling

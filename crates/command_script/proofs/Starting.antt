@@ -17,6 +17,7 @@ use Rattle.shared_disk.specs.Failing.{records_in}
 use Rattle.command_script.specs.Answering.{Happen}
 use Rattle.command_script.specs.Printing.{AnswersLines, IsSameAfter, Prints, PrintsVerdict}
 use Rattle.command_script.specs.Running.{HaveHappened}
+use Rattle.command_script.specs.Telling.{HaveTold, IsToldOf, Told}
 use Rattle.command_ending.specs.declared.failure.Failure.{Failure}
 use Rattle.command_script.specs.declared.order.Order.TheVariants.{Script, Check}
 use Rattle.command_script.proofs.Answering.{says_more}
@@ -36,6 +37,7 @@ use Rattle.script_language.specs.Scripts.{boot_write}
 use Rattle.script_language.specs.declared.setup.ScriptSetup.{ScriptSetup}
 use Rattle.shared_disk.specs.Records.{IsAtBoot, boot_record, bytes_after}
 use Rattle.shared_disk.specs.declared.store.Record.{Record}
+use Rattle.sequence_diagram.specs.declared.moment.Moment.{Moment}
 
 -- both tables of a sector's bytes at boot are one
 same_bytes : (sectors : List SectorWrite) (address : SectorAddress) (bytes : List ℕ)
@@ -141,3 +143,17 @@ module _ {B H : Type 0} (state : B → Guest) (setup : ScriptSetup) (lines given
             })
             result old new (verdict (record first { world = h.after }) h.shows),
       )
+
+  -- by a picture
+  pub told_of : (moments : List Moment) (after : Running B H Disk)
+      → ((c : Course Guest) → Shows state state some_altair records_in v c
+      → HaveTold state state some_altair c given moments after)
+      → IsToldOf setup lines moments
+  unfolding first booted booted_as
+  told_of moments after told =
+      let t = told first b.shows in record {
+        booted = booted;
+        after = t.after;
+        told = subst (λ l. Told (altair setup.guest (bytes_in b.store)) (image_copy setup.guest.drives) b.world l moments t.after)
+            same t.told;
+      }

@@ -2,3 +2,4 @@ pub mod Answering
 pub mod Drawing
 pub mod Printing
 pub mod Running
+pub mod Telling

@@ -1,9 +1,13 @@
 //! A script that is run, and drawn.
-ghost use Rattle.std.specs.Prelude.{◌≡◌, IfErr};
+ghost use Rattle.std.specs.Prelude.{◌≡◌, ◌∷◌, [], IfErr, IfOk, OnOk};
 ghost use Rattle.command_ending.specs.declared.failure.Failure.TheVariants as failure;
 ghost use Rattle.command_script.specs.Drawing.{Draws};
+ghost use Rattle.command_script.specs.Telling.{HaveTold, IsToldOf, TellsAfter};
 ghost use Rattle.event_callbacks.specs.declared.devices.TheConstants.{SENT, SECTOR, WRITTEN};
 ghost use Rattle.event_callbacks.specs.Keeping.{Keeps};
+ghost use Rattle.ft_world.specs.Applies.{Shows};
+ghost use Rattle.ft_world.specs.Standing.{Course};
+ghost use Rattle.shared_disk.specs.Failing.{records_in};
 
 use clone_state::Copies;
 use command_ending::Failure;
@@ -38,7 +42,7 @@ pub fn run_picture<W: Write + Drop>(
     Ok(())
 }
 
-// Boots a pair whose completions are these closures, and makes the events of a script happen.
+// Boots a pair whose completions are these closures, makes the events of a script happen, and tells of each.
 fn run<T: Completes + Drop + Copy, S: Completes + Drop + Copy, W: Completes + Drop + Copy>(
     alloc: Global,
     script: &Script,
@@ -49,27 +53,45 @@ fn run<T: Completes + Drop + Copy, S: Completes + Drop + Copy, W: Completes + Dr
     requires sent { Keeps (T.may sent) (T.gives sent) SENT }
     requires sector { Keeps (S.may sector) (S.gives sector) SECTOR }
     requires written { Keeps (W.may written) (W.gives written) WRITTEN }
-    ensures { IfErr result (λ e. e ≡ failure.OutOfMemory) }
+    ensures told { IfOk result (λ moments. IsToldOf script.now.setup script.now.lines.items moments.items) }
+    ensures refused { IfErr result (λ e. e ≡ failure.OutOfMemory) }
 {
     let setup = &script.setup;
     let sectors = writes_of(alloc, &setup.sectors)?;
     let mut world = boot(alloc, setup, &sectors, sent, sector, written)?;
-    let moments = tell(alloc, &mut world, &script.lines)?;
+    let moments = tell_each(alloc, &mut world, &script.lines)?;
     Ok(moments)
 }
 
 // Makes every event happen, and tells of each.
-fn tell<B: Copies<H> + Drop, H: Drop>(
+fn tell_each<B: Copies<H> + Drop, H: Drop>(
     alloc: Global,
     world: &mut World<B, Disk, H>,
     lines: &[Line],
-) -> Result<Vec<Moment>, AllocError> {
+) -> Result<Vec<Moment>, AllocError>
+    ensures { IfOk result (λ moments. (c : Course B.State) → Shows B.state B.copied B.machine records_in world.old c
+        → HaveTold B.state B.copied B.machine c lines.now moments.items world.new) }
+{
     let mut moments = Vec::new(alloc);
     for line in lines {
-        if let Line::Event(event) = *line {
-            let answer = world.apply(alloc, event);
-            moments.push(moment_of(world, event, answer))?;
-        }
+        tell(alloc, world, *line, &mut moments)?;
     }
     Ok(moments)
+}
+
+// Makes a line's event happen, if it has one, and tells of it after the others.
+#[tactic(auto, using(crate::proofs::Telling::tells_no_query))]
+fn tell<B: Copies<H> + Drop, H: Drop>(
+    alloc: Global,
+    world: &mut World<B, Disk, H>,
+    line: Line,
+    moments: &mut Vec<Moment>,
+) -> Result<(), AllocError>
+    ensures { OnOk result (TellsAfter B.state B.copied B.machine world.old (line ∷ []) moments.old.items moments.new.items world.new) }
+{
+    if let Line::Event(event) = line {
+        let answer = world.apply(alloc, event);
+        moments.push(moment_of(world, event, answer))?;
+    }
+    Ok(())
 }

@@ -1,0 +1,49 @@
+-- What is told of a run of a script: its events with their answers, one after another.
+use Rattle.std.specs.Prelude.{◌≡◌, List, [], ◌∷◌, ◌++◌}
+use Rattle.altair_copies.specs.Copies.{image_copy}
+use Rattle.command_script.specs.Answering.{Booted}
+use Rattle.ft_world.specs.Applies.{Shows}
+use Rattle.ft_world.specs.Running.{Running}
+use Rattle.ft_world.specs.Standing.{Course, machine_of}
+use Rattle.ft_world.specs.Words.{answer_of, event_of}
+use Rattle.guest_board.specs.Guest.{altair}
+use Rattle.guest_lockstep.specs.Machine.{Machine}
+use Rattle.guest_parts.specs.Guest.{Guest}
+use Rattle.pair_protocol.specs.Copying.{Copying}
+use Rattle.pair_protocol.specs.Row.{Row}
+use Rattle.pair_protocol.specs.World.{World}
+use Rattle.script_language.specs.declared.line.Line.{Line}
+use Rattle.script_language.specs.declared.line.Line.TheVariants as line
+use Rattle.script_language.specs.declared.line.Query.{Query}
+use Rattle.script_language.specs.declared.setup.ScriptSetup.{ScriptSetup}
+use Rattle.sequence_diagram.specs.declared.moment.Moment.{Moment}
+use Rattle.shared_disk.specs.Failing.{Disk, records_in}
+
+-- each event of the lines is told with its answer, by its row, in the world that those before it have left; a query is not told
+pub data Told {S : Type 0} (M : Machine S) (C : Copying S) : World S → List Line → List Moment → World S → Type 0 where
+  NoneTold : {w : World S} → Told M C w [] [] w
+  EventTold : {w mid new : World S} {moment : Moment} {lines : List Line} {moments : List Moment}
+      → Row M C w (event_of moment.event) (answer_of moment.answer) mid → Told M C mid lines moments new
+      → Told M C w (line.Event moment.event ∷ lines) (moment ∷ moments) new
+  QueryPassed : {w new : World S} {q : Query} {lines : List Line} {moments : List Moment}
+      → Told M C w lines moments new → Told M C w (line.Query q ∷ lines) moments new
+
+-- these moments are what is told of a run of a script with this setup and these lines
+pub record IsToldOf (setup : ScriptSetup) (lines : List Line) (moments : List Moment) : Type 0 where
+  pub booted : Booted setup
+  pub after : World Guest
+  pub told : Told (altair setup.guest booted.start) (image_copy setup.guest.drives) booted.world lines moments after
+
+-- the events of the lines have happened in a running pair, and were told
+pub record HaveTold {B H S : Type 0} (state : B → S) (copied : B → Guest) (M : Machine S) (c : Course S)
+    (lines : List Line) (moments : List Moment) (v : Running B H Disk) : Type 0 where
+  pub after : World S
+  pub told : Told (machine_of M c) c.copying c.world lines moments after
+  pub shows : Shows state copied M records_in v (record c { world = after })
+
+-- they were told after others
+pub record TellsAfter {B H S : Type 0} (state : B → S) (copied : B → Guest) (M : Machine S) (old : Running B H Disk)
+    (lines : List Line) (before now : List Moment) (v : Running B H Disk) : Type 0 where
+  pub moments : List Moment
+  pub are : now ≡ before ++ moments
+  pub told : (c : Course S) → Shows state copied M records_in old c → HaveTold state copied M c lines moments v

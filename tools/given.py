@@ -1,0 +1,221 @@
+#!/usr/bin/env python3
+"""Runs the program on files. It opens none itself: what they have comes to it as lines of its input.
+
+usage: tools/given.py PROGRAM COMMAND [WORD ..]
+
+Of the words after the command these are taken, each as often as it is given; all others are the program's own:
+  --load FILE           a program in Intel HEX, as lines `mem` before the input
+  --disk D=FILE         for `shell`: the image of a disk in drive D, as lines `sector` before the input
+  --save-disk D=FILE    for `shell`: at the end of the input the disk of drive D is written to a file
+  --type P=TEXT         for `live`: keys typed at port P, as lines `type` after the input; \\r, \\n, \\t, \\\\ and \\xHH are one key each
+
+An image has 77 tracks of 32 sectors of 137 bytes. A file is read whole before the program starts; one that is not what it should be
+is refused, with status 2. A file is written whole, or is left as it was, and then the status is 5.
+"""
+
+import os
+import re
+import secrets
+import signal
+import subprocess
+import sys
+import threading
+
+sys.path.insert(0, os.path.dirname(os.path.realpath(__file__)))
+import disks
+
+OPTIONS = {"--load": None, "--disk": "shell", "--save-disk": "shell", "--type": "live"}
+ESCAPES = {"r": b"\r", "n": b"\n", "t": b"\t", "\\": b"\\"}
+# No line of the shell begins with this word; what it answers to it comes between the session and the saved disks.
+MARK = f"end-{secrets.token_hex(8)}"
+
+
+def complain(why, status=2):
+    """Ends the command with a reason; status 2 is that of a command line that is refused."""
+    print(f"pair: {why}", file=sys.stderr)
+    sys.exit(status)
+
+
+def read(path):
+    try:
+        with open(path, "rb") as file:
+            return file.read()
+    except OSError as error:
+        complain(f"{path}: {error.strerror}")
+
+
+def record(place, line):
+    """The address, the type and the bytes of a record of Intel HEX."""
+    if not re.fullmatch(r":([0-9A-Fa-f]{2}){5,}", line):
+        complain(f"{place}: not a record of Intel HEX, which is a colon and then pairs of hexadecimal digits")
+    count, high, low, kind, *data, _ = found = bytes.fromhex(line[1:])
+    if len(data) != count:
+        complain(f"{place}: the record says that it has {count} bytes, and has {len(data)}")
+    if sum(found) % 256:
+        complain(f"{place}: the checksum is wrong")
+    return 256 * high + low, kind, data
+
+
+def hex_lines(path):
+    """The lines of a setup that put a program in Intel HEX into memory."""
+    base, lines = 0, []
+    for number, line in enumerate(read(path).decode("latin-1").splitlines(), 1):
+        place = f"{path}, line {number}"
+        if not line.strip():
+            continue
+        address, kind, data = record(place, line.strip())
+        if kind == 1:
+            return lines
+        if kind in (2, 4) and len(data) == 2:
+            base = (256 * data[0] + data[1]) << (4 if kind == 2 else 16)
+        elif kind == 0 and base + address + len(data) <= 65536:
+            lines += [f"mem {base + address:04X} {bytes(data).hex(' ').upper()}"] * bool(data)
+        elif kind == 0:
+            complain(f"{place}: the record ends above 64K, which is all the memory that there is")
+        elif kind not in (3, 5):
+            complain(f"{place}: no record of Intel HEX is of type {kind:02X} and has {len(data)} bytes")
+    complain(f"{path}: the record that ends a program in Intel HEX, :00000001FF, is missing")
+
+
+def numbered(option, word, most):
+    """The number before the `=` of an option's value, and what comes after it."""
+    number, equals, value = word.partition("=")
+    if not equals or not number.isdigit() or int(number) > most:
+        complain(f"{option} {word}: expected a number from 0 to {most}, `=` and a value")
+    return int(number), value
+
+
+def disk_lines(drive, path):
+    image = read(path)
+    if len(image) != disks.IMAGE_BYTES:
+        complain(
+            f"{path}: a disk has {disks.IMAGE_BYTES:,} bytes, 77 tracks of 32 sectors of 137 bytes, and this file has {len(image):,}"
+        )
+    return disks.setup_lines(drive, image)
+
+
+def key_lines(port, text):
+    """The lines of a script for `live` that type a text."""
+    keys, rest = b"", text
+    while rest:
+        found = re.match(r"\\([rnt\\])|\\x([0-9A-Fa-f]{2})|([^\\])", rest, re.DOTALL)
+        if not found:
+            complain(f"--type {port}={text}: after a backslash comes r, n, t, x with two hexadecimal digits, or a backslash")
+        named, code, plain = found.groups()
+        keys += ESCAPES[named] if named else bytes.fromhex(code) if code else plain.encode()
+        rest = rest[found.end() :]
+    return [f"type {port} {key:02X}" for key in keys]
+
+
+class Given:
+    """What the words of a command line give beside the program's own: lines before and after its input, and disks to be saved."""
+
+    def __init__(self, command, words):
+        self.before, self.after, self.own, self.saves = [], [], [command], {}
+        words = iter(words)
+        for word in words:
+            option, equals, value = word.partition("=")
+            if option not in OPTIONS:
+                self.own.append(word)
+                continue
+            value = value if equals else next(words, None)
+            if value is None:
+                complain(f"{option} lacks its value")
+            if OPTIONS[option] not in (None, command):
+                complain(f"{option} is for `pair {OPTIONS[option]}`")
+            self.take(option, value)
+
+    def take(self, option, value):
+        if option == "--load":
+            self.before += hex_lines(value)
+        elif option == "--type":
+            self.after += key_lines(*numbered(option, value, 1))
+        elif option == "--disk":
+            self.before += disk_lines(*numbered(option, value, 3))
+        else:
+            drive, path = numbered(option, value, 3)
+            if not os.access(os.path.dirname(os.path.abspath(path)), os.W_OK):
+                complain(f"{path}: there is no folder in which it can be written")
+            self.saves[drive] = path
+
+    def input(self):
+        """The standard input, as it comes. A script of files alone needs nobody who ends it; if a disk is to be saved, `quit` ends it."""
+        if os.isatty(0) and self.own[0] != "shell":
+            return
+        if not self.saves:
+            while some := os.read(0, 65536):
+                yield some
+            return
+        for line in sys.stdin.buffer:
+            if line.strip() == b"quit":
+                return
+            yield line
+
+    def feed(self, program):
+        """Gives the program all its lines, and then the end of its input."""
+        last = b"\n"
+        try:
+            program.stdin.write(spelled(self.before))
+            for some in self.input():
+                program.stdin.write(some)
+                program.stdin.flush()
+                last = some
+            program.stdin.write(b"\n" if not last.endswith(b"\n") else b"")
+            program.stdin.write(spelled(self.after))
+            if self.saves:
+                program.stdin.write(spelled([MARK] + [line for drive in self.saves for line in disks.query_lines(drive)]))
+            program.stdin.close()
+        except BrokenPipeError:
+            pass
+
+    def save(self, answers):
+        """Writes each disk that is to be saved."""
+        for drive, path in self.saves.items():
+            image = disks.image_in(answers, drive)
+            if image is None:
+                complain(f"{path} is not written: the session ended early, has no drive {drive}, or could not read its disk", 5)
+            try:
+                disks.write(path, image)
+            except OSError as error:
+                complain(f"{path} is not written: {error.strerror}", 5)
+
+
+def spelled(lines):
+    return "".join(f"{line}\n" for line in lines).encode()
+
+
+def session(program):
+    """Passes on what the program prints up to the mark, and returns the lines after it."""
+    lines = iter(program.stdout)
+    for line in lines:
+        if MARK.encode() in line:
+            break
+        sys.stdout.buffer.write(line)
+        sys.stdout.buffer.flush()
+    return [line.decode("latin-1").rstrip("\n") for line in lines]
+
+
+def main(path, command, *words):
+    given = Given(command, words)
+    signal.signal(signal.SIGINT, signal.SIG_IGN)
+    how = {"preexec_fn": lambda: signal.signal(signal.SIGINT, signal.SIG_DFL)}
+    how["stdout"] = subprocess.PIPE if given.saves else None
+    with subprocess.Popen([path, *given.own], stdin=subprocess.PIPE, **how) as program:
+        threading.Thread(target=given.feed, args=(program,), daemon=True).start()
+        answers = session(program) if given.saves else []
+        status = program.wait()
+    if not status:
+        given.save(answers)
+    return status if status >= 0 else 128 - status
+
+
+if __name__ == "__main__":
+    if sys.argv[1:2] in (["--help"], ["-h"]) or len(sys.argv) < 3:
+        print(__doc__.strip())
+        sys.exit(0 if len(sys.argv) > 1 else 2)
+    try:
+        ended = main(*sys.argv[1:])
+    except SystemExit as end:
+        ended = end.code
+    # The thread that reads the terminal may still wait for a line.
+    os._exit(ended)
