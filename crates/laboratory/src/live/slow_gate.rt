@@ -1,10 +1,8 @@
 //! A gate that delays one of the workers.
 
+use super::chance::Chance;
 use pair_threads::{Gate, Who};
 use std::thread;
-
-// An odd number whose multiples look random.
-const SPREAD: u64 = 0x9e37_79b9_7f4a_7c15;
 
 /// Lets everybody pass, but delays one worker, if there is one: at one turn of `every`, for `yields` yields.
 #[derive(Clone, Copy)]
@@ -18,7 +16,7 @@ pub struct SlowGate {
 impl SlowGate {
     // Whether a worker is delayed at this turn.
     fn delays(&self, who: Who, turn: u64) -> bool {
-        let random = turn.wrapping_add(self.seed).wrapping_mul(SPREAD) >> 32;
+        let random = u64::from(Chance::new(self.seed, turn).below(u32::MAX));
         self.who == Some(who) && random % self.every.max(1) == 0
     }
 }
