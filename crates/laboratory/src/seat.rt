@@ -1,6 +1,7 @@
 //! The steps of the threads' table, and the same packets over channels and over rings.
 
-mod lanes;
+mod channels;
+mod rings;
 mod steps;
 mod threads;
 
@@ -45,10 +46,10 @@ pub fn run<H: Threads + Wait + Sync + Print>(
         return Ok(());
     }
     let seen = match what {
-        "channel" => lanes::run(rt, lanes::channels(alloc)?, rounds),
-        "channel_threads" => lanes::run_threads(rt, lanes::channels(alloc)?, rounds),
-        "ring" => lanes::run(rt, lanes::rings(alloc)?, rounds),
-        "ring_threads" => lanes::run_threads(rt, lanes::rings(alloc)?, rounds),
+        "channel" => channels::run(rt, alloc, rounds)?,
+        "channel_threads" => channels::run_threads(rt, alloc, rounds)?,
+        "ring" => rings::run(alloc, rounds)?,
+        "ring_threads" => rings::run_threads(rt, alloc, rounds)?,
         _ => bail!("no seats work at {what}"),
     };
     println!(rt; "{rounds} rounds: {seen} seen last")?;
