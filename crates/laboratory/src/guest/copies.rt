@@ -1,0 +1,128 @@
+//! What copies of a board take: drafts, images, and boards that are made of the parts of an image.
+ghost use Rattle.event_callbacks.specs.declared.devices.TheConstants.{SENT, SECTOR, WRITTEN};
+ghost use Rattle.event_callbacks.specs.Keeping.{Keeps};
+
+use crate::boards::boot;
+use board_image::{Draft, board_of, drafts_keep_up, image_of, image_of_draft};
+use clone_state::Assembly;
+use event_callbacks::{Callbacks, Completes, plain_completions};
+use guest_board::{Board, Setup};
+use i8080_words::{Fault, R};
+use std::alloc::Global;
+
+// How many pages a draft has.
+const PAGES: u64 = 256;
+
+// The generation that an image begins.
+const GENERATION: u32 = 2;
+
+/// What is made of a board.
+#[derive(Clone, Copy)]
+pub enum Made {
+    /// A draft, in which this many pages are stale.
+    Draft(u64),
+    /// That draft, and its image.
+    Drafted(u64),
+    /// An image.
+    Image,
+    /// An image, each of its parts as a message, and the board that they make: a whole copy.
+    Copy,
+}
+
+impl Made {
+    /// What a word names.
+    pub fn of(word: &str) -> Option<Made> {
+        match word {
+            "draft-0" => Some(Made::Draft(0)),
+            "draft-16" => Some(Made::Draft(16)),
+            "draft-256" => Some(Made::Draft(256)),
+            "drafted-0" => Some(Made::Drafted(0)),
+            "drafted-16" => Some(Made::Drafted(16)),
+            "drafted-256" => Some(Made::Drafted(256)),
+            "image" => Some(Made::Image),
+            "copy" => Some(Made::Copy),
+            _ => None,
+        }
+    }
+}
+
+/// Boots a board, and makes this of it, this many times. Returns how many parts of images there were in all; of a draft, how
+/// many stale pages.
+pub fn make(alloc: Global, setup: &Setup, made: Made, times: u64) -> R<u64> {
+    make_with(
+        alloc,
+        setup,
+        made,
+        times,
+        plain_completions::sent,
+        plain_completions::sector,
+        plain_completions::written,
+    )
+}
+
+// Makes it of a board with these closures as completions.
+fn make_with<T: Completes + Drop + Copy, S: Completes + Drop + Copy, W: Completes + Drop + Copy>(
+    alloc: Global,
+    setup: &Setup,
+    made: Made,
+    times: u64,
+    sent: T,
+    sector: S,
+    written: W,
+) -> R<u64>
+    requires sent { Keeps (T.may sent) (T.gives sent) SENT }
+    requires sector { Keeps (S.may sector) (S.gives sector) SECTOR }
+    requires written { Keeps (W.may written) (W.gives written) WRITTEN }
+{
+    let board = boot(alloc, setup, Callbacks::of(sent, sector, written))?;
+    let mut all = 0u64;
+    for _ in 0..times {
+        let many = match made {
+            Made::Draft(stale) => draft(alloc, &board, stale, false)?,
+            Made::Drafted(stale) => draft(alloc, &board, stale, true)?,
+            Made::Image => u64::from(image_of(alloc, &board, GENERATION)?.parts()),
+            Made::Copy => copy(alloc, &board, Callbacks::of(sent, sector, written))?,
+        };
+        all = all.wrapping_add(many);
+    }
+    Ok(all)
+}
+
+// Makes a draft, and its image if it is to have one. Returns how many parts that has, or how many pages of the draft are stale.
+fn draft<T: Completes, S: Completes, W: Completes>(
+    alloc: Global,
+    board: &Board<T, S, W>,
+    stale: u64,
+    is_finished: bool,
+) -> R<u64> {
+    drafts_keep_up();
+    let mut draft = Draft::new(alloc)?;
+    let stale = draft.freshen(board, PAGES.saturating_sub(stale));
+    if !is_finished {
+        return Ok(stale);
+    }
+    match image_of_draft(alloc, draft, board, GENERATION) {
+        Ok(image) => Ok(u64::from(image.parts())),
+        Err((_draft, fault)) => Err(fault),
+    }
+}
+
+// Copies a board, and returns how many parts that took.
+fn copy<T: Completes + Drop, S: Completes + Drop, W: Completes + Drop>(
+    alloc: Global,
+    board: &Board<T, S, W>,
+    callbacks: Callbacks<T, S, W>,
+) -> R<u64> {
+    let image = image_of(alloc, board, GENERATION)?;
+    board.disk().stands();
+    let mut assembly = Assembly::new(alloc, GENERATION, board.disk().attached())?;
+    for index in 0..image.parts() {
+        let part = image.part(alloc, index)?;
+        assembly.part(&part)?;
+    }
+    match board_of(alloc, assembly, callbacks) {
+        Ok(copy) if copy.processor() == board.processor() => Ok(u64::from(image.parts())),
+        Ok(_) => Err(Fault::Malformed),
+        Err((_assembly, _callbacks, fault)) => Err(fault),
+    }
+}

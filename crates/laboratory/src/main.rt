@@ -1,0 +1,56 @@
+//! Measures guests on each executor and the copies of a board (`guest`), the steps of the threads' table (`seat`), and pairs
+//! on threads (`live`), which it also runs at random, to compare each with one machine.
+#![tactic(auto)]
+
+mod alone;
+mod boards;
+mod guest;
+mod live;
+mod seat;
+
+use anyhow::{Result, bail};
+use std::alloc::Global;
+use std::env;
+use std::sync::Wait;
+use std::thread::Threads;
+use std::time::Clock;
+
+// The number that a word is, if there is one.
+fn number_of(word: Option<&String>) -> Result<Option<u64>> {
+    match word {
+        Some(word) => Ok(Some(word.as_str().parse::<u64>()?)),
+        None => Ok(None),
+    }
+}
+
+// Carries out a command: its subject, what is measured, how often, and words that depend on it.
+fn carry_out<H: Threads + Wait + Sync + Clock + Print>(
+    rt: &H,
+    alloc: Global,
+    command: &[String],
+) -> Result<()> {
+    let [subject, what, number, words @ ..] = command else {
+        bail!(
+            "usage: laboratory guest|seat|live WHAT NUMBER ..; docs/PERFORMANCE.md has all of it"
+        );
+    };
+    let number = number.as_str().parse::<u64>()?;
+    match subject.as_str() {
+        "guest" => guest::run(rt, alloc, what.as_str(), number, words),
+        "seat" => seat::run(rt, alloc, what.as_str(), number),
+        "live" => live::run(rt, alloc, what.as_str(), number, number_of(words.first())?),
+        other => bail!("the laboratory has no {other}"),
+    }
+}
+
+// Arguments: commands, with `--` between them.
+fn main(rt: HostRuntime) -> Result<()> {
+    let mut words = Vec::new(rt.alloc());
+    for word in env::args(&rt)?.skip(1) {
+        words.push(word)?;
+    }
+    for command in words.split(|word| word.as_str() == "--") {
+        carry_out(&rt, rt.alloc(), command)?;
+    }
+    Ok(())
+}
