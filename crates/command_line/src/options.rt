@@ -147,7 +147,9 @@ fn pair_command<'a>(alloc: Global) -> Result<Command<'a>, AllocError> {
 // The command that runs a pair on threads.
 fn live_command<'a>(alloc: Global) -> Result<Command<'a>, AllocError> {
     let turns = turn(alloc, "turns", 1)
-        .help("How many turns the primary and the backup have at most")
+        .help(
+            "In how many turns the primary, and the backup, may make progress; one that finds nothing to do is none of them",
+        )
         .default_value("1000000");
     let mut command = Command::new(alloc, "live")
         .about("Runs a pair on threads, and prints what its terminals have accepted")
