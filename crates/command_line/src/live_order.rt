@@ -5,7 +5,7 @@ use pair_threads::Fate;
 /// How a pair is run on threads.
 #[derive(Drop)]
 pub struct LiveOrder {
-    /// How many turns the primary, and the backup, have at most.
+    /// In how many turns the primary, and the backup, may make progress. One that finds nothing to do is none of them.
     pub turns: u64,
     /// The turn at which the primary, or the backup, asks to go on alone.
     pub primary_asks: Option<u64>,

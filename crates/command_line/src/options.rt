@@ -19,6 +19,8 @@ pub enum Request {
     Check,
     /// To draw what happens in a script.
     Picture,
+    /// To name the bad lines of a script.
+    Lint,
     /// To run a pair on threads.
     Live(LiveOrder),
     /// To answer lines as they come.
@@ -83,7 +85,7 @@ fn asks_for_help(arguments: &[String]) -> bool {
 }
 
 // The commands without options: their names, what they do, and how they are called.
-static PLAIN_COMMANDS: [(&str, &str, &str); 4] = [
+static PLAIN_COMMANDS: [(&str, &str, &str); 5] = [
     (
         "script",
         "Runs a script, and prints a line for each event and query",
@@ -98,6 +100,11 @@ static PLAIN_COMMANDS: [(&str, &str, &str); 4] = [
         "picture",
         "Runs a script silently, and draws what happened in it as an SVG picture",
         "pair picture < FILE > PICTURE.svg (the script comes from standard input)",
+    ),
+    (
+        "lint",
+        "Names every bad line of a script, and what was expected there; it runs nothing",
+        "pair lint < FILE (the script comes from standard input)",
     ),
     (
         "shell",
@@ -123,6 +130,7 @@ fn parse(alloc: Global, arguments: &[String]) -> Result<Request, Error> {
     match matches.subcommand() {
         Some(("check", _)) => Ok(Request::Check),
         Some(("picture", _)) => Ok(Request::Picture),
+        Some(("lint", _)) => Ok(Request::Lint),
         Some(("shell", _)) => Ok(Request::Shell),
         Some(("live", live)) => Ok(Request::Live(live_order(alloc, live)?)),
         _ => Ok(Request::Script),
@@ -147,7 +155,9 @@ fn pair_command<'a>(alloc: Global) -> Result<Command<'a>, AllocError> {
 // The command that runs a pair on threads.
 fn live_command<'a>(alloc: Global) -> Result<Command<'a>, AllocError> {
     let turns = turn(alloc, "turns", 1)
-        .help("How many turns the primary and the backup have at most")
+        .help(
+            "In how many turns the primary, and the backup, may make progress; one that finds nothing to do is none of them",
+        )
         .default_value("1000000");
     let mut command = Command::new(alloc, "live")
         .about("Runs a pair on threads, and prints what its terminals have accepted")

@@ -1,12 +1,13 @@
 -- What a command prints is a run of the program.
 use Rattle.std.proofs.Common.{◌≡◌, ℕ, Option, List, [], true, Result, Ok, Err, String, Global, string_bytes, inl, inr, refl}
 use Rattle.std.proofs.KnownBytes.{Appends-nil}
+use Rattle.command_lint.specs.Linting.{Lints}
 use Rattle.command_live.specs.Living.{PrintsLive, typed_in}
 use Rattle.command_script.specs.Drawing.{Draws}
 use Rattle.command_script.specs.Printing.{Prints}
 use Rattle.pair_program.specs.Runs.{IsObeyed, IsRun, Writes}
 use Rattle.command_shell.specs.Sessions.{Answers}
-use Rattle.command_ending.specs.Inputs.{Reads}
+use Rattle.command_ending.specs.Inputs.{BytesSay, Reads}
 use Rattle.command_ending.specs.Statuses.{is_of_command_line}
 use Rattle.command_ending.specs.declared.failure.Failure.{Failure}
 use Rattle.command_ending.specs.declared.failure.Failure.TheVariants as failure
@@ -90,6 +91,21 @@ module _ {R W : Type 0} (remaining : R → Option (List ℕ)) (contents : W → 
   is_picture script (Err (failure.CommandLine text)) read h = absurd h
   is_picture script (Err (failure.BadScript line)) read h = absurd h
 
+  by_lint : (result : Result (Unit {0}) Failure) → Lints (BytesSay script_of (remaining reader)) result (contents writer) (contents writer')
+      → IsObeyed (remaining reader) result (contents writer) (contents writer')
+  by_lint result h = record { request = request.Lint; obeys = h }
+
+  -- so are bad lines that are named
+  pub is_lint : (result : Result (Unit {0}) Failure) → Lints (BytesSay script_of (remaining reader)) result (contents writer) (contents writer')
+      → IsRun remaining contents reader reader' writer writer' result
+  is_lint (Ok done) h = by_lint (Ok done) h
+  is_lint (Err failure.OutOfMemory) h = by_lint (Err failure.OutOfMemory) h
+  is_lint (Err failure.InputOrOutput) h = by_lint (Err failure.InputOrOutput) h
+  is_lint (Err (failure.BadScript line)) h = inr (by_lint (Err (failure.BadScript line)) h)
+  is_lint (Err failure.Stalled) h = absurd h
+  is_lint (Err failure.Differs) h = absurd h
+  is_lint (Err (failure.CommandLine text)) h = absurd h
+
   by_threads : (order : LiveOrder) (script : Script) (result : Result (Unit {0}) Failure)
       → Reads live_script_of (remaining reader) (Ok script)
       → PrintsLive script.setup (typed_in 0 script.lines.items) (typed_in 1 script.lines.items) order result
@@ -128,7 +144,7 @@ module _ {R W : Type 0} (remaining : R → Option (List ℕ)) (contents : W → 
   -- and what ends before anything is written: a script was refused, of any pair or of one on threads
   pub refuses_script : (f : Failure) → Reads script_of (remaining reader) (Err f)
       → IsRun remaining contents reader reader' writer writer (Err f)
-  refuses_script (failure.BadScript line) h = (refl, inl h)
+  refuses_script (failure.BadScript line) h = inl (refl, inl h)
   refuses_script failure.OutOfMemory h = by_silence
   refuses_script failure.InputOrOutput h = by_failure
   refuses_script (failure.CommandLine text) h = absurd h
@@ -137,7 +153,7 @@ module _ {R W : Type 0} (remaining : R → Option (List ℕ)) (contents : W → 
 
   pub refuses_live : (f : Failure) → Reads live_script_of (remaining reader) (Err f)
       → IsRun remaining contents reader reader' writer writer (Err f)
-  refuses_live (failure.BadScript line) h = (refl, inr h)
+  refuses_live (failure.BadScript line) h = inl (refl, inr h)
   refuses_live failure.OutOfMemory h = by_silence
   refuses_live failure.InputOrOutput h = by_failure
   refuses_live (failure.CommandLine text) h = absurd h

@@ -2,11 +2,12 @@
 use Rattle.std.specs.Prelude.{◌≡◌, ◌⊎◌, ℕ, Option, List, Result, Ok, Err, string_bytes}
 use Rattle.std.specs.Io.KnownBytes.{Appends}
 use Rattle.std.specs.declared.borrow.CowStr.{CowStr}
+use Rattle.command_lint.specs.Linting.{Lints}
 use Rattle.command_live.specs.Living.{PrintsLive, typed_in}
 use Rattle.command_script.specs.Drawing.{Draws}
 use Rattle.command_script.specs.Printing.{Prints}
 use Rattle.command_shell.specs.Sessions.{Answers}
-use Rattle.command_ending.specs.Inputs.{Meaning, Reads}
+use Rattle.command_ending.specs.Inputs.{BytesSay, Meaning, Reads}
 use Rattle.command_ending.specs.Statuses.{EndsAs}
 use Rattle.command_ending.specs.declared.failure.Failure.{Failure}
 use Rattle.command_ending.specs.declared.failure.Failure.TheVariants.{CommandLine, BadScript}
@@ -30,14 +31,15 @@ pub record IsOfReader (meaning : Meaning) (remaining : Option (List ℕ)) (Obeye
   pub read : Reads meaning remaining (Ok script)
   pub obeyed : Obeyed script
 
--- what a command prints: the lines of a script are answered, or the pair at their end is compared, or what happens is drawn; a
--- pair runs on threads, lines are answered as they come, or it is said what there is to ask for
+-- what a command prints: the lines of a script are answered, or the pair at their end is compared, or what happens is drawn, or
+-- bad lines are named; a pair runs on threads, lines are answered as they come, or it is said what there is to ask for
 abbrev pub Obeys : Request → Option (List ℕ) → Result (Unit {0}) Failure → Option (List ℕ) → Option (List ℕ) → Type 0
 Obeys request.Script remaining result old new =
     IsOfReader script_of remaining (λ script. Prints order.Script script.setup script.lines.items result old new)
 Obeys request.Check remaining result old new =
     IsOfReader script_of remaining (λ script. Prints order.Check script.setup script.lines.items result old new)
 Obeys request.Picture remaining result old new = IsOfReader script_of remaining (λ script. Draws result old new)
+Obeys request.Lint remaining result old new = Lints (BytesSay script_of remaining) result old new
 Obeys (request.Live how) remaining result old new = IsOfReader live_script_of remaining (λ script.
     PrintsLive script.setup (typed_in 0 script.lines.items) (typed_in 1 script.lines.items) how result old new)
 Obeys request.Shell remaining result old new = Answers result old new
@@ -50,11 +52,15 @@ pub record IsObeyed (remaining : Option (List ℕ)) (result : Result (Unit {0}) 
 
 module _ {R W : Type 0} (remaining : R → Option (List ℕ)) (contents : W → Option (List ℕ)) (reader reader' : R)
     (writer writer' : W) where
-  -- what a failure leaves: a refused command line reads nothing, and a script that is refused for a line that is bad prints nothing
+  -- a script that is refused for a line that is bad prints nothing
+  abbrev pub Refuses : ℕ → Type 0
+  Refuses line = (writer' ≡ writer) × (Reads script_of (remaining reader) (Err (BadScript line))
+      ⊎ Reads live_script_of (remaining reader) (Err (BadScript line)))
+
+  -- what a failure leaves: a refused command line reads nothing, and a script with a bad line is refused, or its bad lines are named
   abbrev pub Leaves : Failure → Type 0
   Leaves (CommandLine text) = (reader' ≡ reader) × (writer' ≡ writer)
-  Leaves (BadScript line) = (writer' ≡ writer) × (Reads script_of (remaining reader) (Err (BadScript line))
-      ⊎ Reads live_script_of (remaining reader) (Err (BadScript line)))
+  Leaves (BadScript line) = Refuses line ⊎ IsObeyed (remaining reader) (Err (BadScript line)) (contents writer) (contents writer')
   Leaves OutOfMemory = IsObeyed (remaining reader) (Err OutOfMemory) (contents writer) (contents writer')
   Leaves InputOrOutput = IsObeyed (remaining reader) (Err InputOrOutput) (contents writer) (contents writer')
   Leaves Stalled = IsObeyed (remaining reader) (Err Stalled) (contents writer) (contents writer')

@@ -4,6 +4,7 @@ ghost use Rattle.pair_program.specs.Runs.{IsEnding, IsRun, Writes};
 
 use command_ending::Failure;
 use command_line::{Request, request_of};
+use command_lint::run_lint;
 use command_live::{live_script_of, run_live};
 use command_script::{Order, run_picture, run_script, script_of};
 use command_shell::run_shell;
@@ -31,7 +32,7 @@ pub fn run_program<H: Threads + Clock + Sync, R: Read + Drop, W: Write + Drop>(
     }
 }
 
-#[tactic(auto, using(crate::proofs::Runs::refuses_words, crate::proofs::Runs::refuses_script, crate::proofs::Runs::refuses_live, crate::proofs::Runs::is_picture, crate::proofs::Runs::is_live, crate::proofs::Runs::is_session, crate::proofs::Runs::is_help))]
+#[tactic(auto, using(crate::proofs::Runs::refuses_words, crate::proofs::Runs::refuses_script, crate::proofs::Runs::refuses_live, crate::proofs::Runs::is_picture, crate::proofs::Runs::is_lint, crate::proofs::Runs::is_live, crate::proofs::Runs::is_session, crate::proofs::Runs::is_help))]
 fn run<H: Threads + Clock + Sync, R: Read + Drop, W: Write + Drop>(
     rt: &H,
     alloc: Global,
@@ -48,6 +49,7 @@ fn run<H: Threads + Clock + Sync, R: Read + Drop, W: Write + Drop>(
             let script = script_of(alloc, reader)?;
             run_picture(alloc, &script, writer)
         }
+        Request::Lint => run_lint(alloc, reader, writer),
         Request::Live(order) => {
             let script = live_script_of(alloc, reader)?;
             run_live(rt, alloc, order, &script, writer)

@@ -22,6 +22,8 @@ mod interrupts;
 #[cfg(test)]
 mod joining;
 #[cfg(test)]
+mod lints;
+#[cfg(test)]
 mod live;
 #[cfg(test)]
 mod outputs;

@@ -1,0 +1,13 @@
+-- All that was handed in is written, and what is said of the bytes that were read is said of those of the reader.
+use Rattle.std.proofs.Common.{string_bytes}
+use Rattle.command_lint.proofs.Linting.{settled_lints}
+use Rattle.command_lint.proofs.lint.run_lint.Goals as goal
+
+pub returns : goal.returns
+returns g c =
+    let old = g.W.Write.contents c.args.writer.now in
+    let mid = g.W.Write.contents c.lint-ended.new.writer in
+    let new = g.W.Write.contents c.flush.new.writer in
+    settled_lints old mid new (string_bytes c.new-report.result.lines) (string_bytes c.lint-ended.new.report.lines)
+    c.new-report.ensures c.in_ok-flush.ensures.written (g.R.Read.remaining c.args.reader.now) c.in_ok-bytes.bytes.items
+    c.deref.result.now c.in_ok-bytes.ensures.bytes c.deref.ensures.value c.lint-ended.result c.lint-ended.ensures
