@@ -24,13 +24,13 @@ fails_then failure.Stalled old mid new first h = h
 fails_then failure.Differs old mid new first h = h
 
 -- the lines of a block, or the last line, are answered after the others
-pub answers_then : (result : Result (Unit {0}) Failure) (old mid new : Option (List ℕ)) → Writes old mid
+pub answers_then : {A : Type 0} (result : Result A Failure) (old mid new : Option (List ℕ)) → Writes old mid
     → Answers result mid new → Answers result old new
 answers_then (Ok done) old mid new first h = writes_more old mid new first h
 answers_then (Err e) old mid new first h = fails_then e old mid new first h
 
 -- a call that fails after the first answers, and so ends this one
-pub answers_until : (result : Result (Unit {0}) Failure) (e : Failure) (old mid new : Option (List ℕ))
+pub answers_until : {A : Type 0} (result : Result A Failure) (e : Failure) (old mid new : Option (List ℕ))
     → IsErrAnd result (λ k. k ≡ e) → Writes old mid → AnswersTo e mid new → Answers result old new
 answers_until (Ok done) e old mid new is first h = absurd is
 answers_until (Err k) e old mid new is first h = subst (λ f. AnswersTo f old new) (sym is) (fails_then e old mid new first h)

@@ -15,5 +15,5 @@ AnswersTo InputOrOutput old new = Unit {0}
 AnswersTo _ old new = ⊥
 
 -- a session that has ended like this
-abbrev pub Answers : Result (Unit {0}) Failure → Option (List ℕ) → Option (List ℕ) → Type 0
+abbrev pub Answers : {A : Type 0} → Result A Failure → Option (List ℕ) → Option (List ℕ) → Type 0
 Answers result old new = MatchResult result (λ _. Writes old new) (λ failure. AnswersTo failure old new)

@@ -3,11 +3,12 @@ ghost use Rattle.std.specs.Prelude.{◌≡◌, ◌≤◌, IfErr, IfOk, IfSome};
 ghost use Rattle.event_callbacks.specs.declared.devices.TheConstants.{SENT, SECTOR, WRITTEN};
 ghost use Rattle.event_callbacks.specs.Keeping.{Keeps};
 ghost use Rattle.command_shell.specs.Sessions.{Answers};
+ghost use Rattle.pair_shell.specs.Sessions.{is_ended};
 ghost use Rattle.command_ending.specs.declared.failure.Failure.TheVariants as failure;
 
 use command_ending::Failure;
 use event_callbacks::Completes;
-use pair_shell::Session;
+use pair_shell::{Outcome, Session};
 use shell_language::LINE_BYTES;
 use std::alloc::Global;
 use std::io::{ErrorKind, Read, Write};
@@ -47,7 +48,7 @@ pub fn run_shell<
             break;
         };
         let block = &block[..count];
-        take_block(
+        let outcome = take_block(
             alloc,
             &mut session,
             &mut line,
@@ -57,92 +58,18 @@ pub fn run_shell<
             sector,
             written,
         )?;
+        if has_ended(outcome) {
+            return Ok(());
+        }
     }
     if line.is_empty() {
         return Ok(());
     }
-    answer(alloc, &mut session, &line, writer, sent, sector, written)
+    answer_last(alloc, &mut session, &line, writer, sent, sector, written)
 }
 
-// Reads once. None at the reader's end; no bytes if the read was interrupted.
-fn read_block<R: Read + Drop>(
-    reader: &mut R,
-    block: &mut [u8; BLOCK_BYTES],
-) -> Result<Option<usize>, Failure>
-    ensures within { IfOk result (λ count. IfSome count (λ n. n ≤ BLOCK_BYTES)) }
-    ensures errors { IfErr result (λ e. e ≡ failure.InputOrOutput) }
-{
-    match reader.read(&mut block[..]) {
-        Ok(0) => Ok(None),
-        Ok(count) => Ok(Some(count)),
-        Err(error) if error.kind() == ErrorKind::Interrupted => Ok(Some(0)),
-        Err(_) => Err(Failure::InputOrOutput),
-    }
-}
-
-// Answers the lines that end in a block, and keeps what comes after them.
-#[tactic(auto, using(crate::proofs::Sessions::writes_none, crate::proofs::Sessions::writes_more, crate::proofs::Sessions::answers_until))]
-fn take_block<
-    T: Completes + Drop + Copy,
-    S: Completes + Drop + Copy,
-    W: Completes + Drop + Copy,
-    O: Write + Drop,
->(
-    alloc: Global,
-    session: &mut Session<T, S, W>,
-    line: &mut Vec<u8>,
-    block: &[u8],
-    writer: &mut O,
-    sent: T,
-    sector: S,
-    written: W,
-) -> Result<(), Failure>
-    requires sent { Keeps (T.may sent) (T.gives sent) SENT }
-    requires sector { Keeps (S.may sector) (S.gives sector) SECTOR }
-    requires written { Keeps (W.may written) (W.gives written) WRITTEN }
-    ensures { Answers result (O.contents writer.old) (O.contents writer.new) }
-{
-    for byte in block {
-        take_byte(alloc, session, line, *byte, writer, sent, sector, written)?;
-    }
-    Ok(())
-}
-
-// Keeps a byte of a line, or answers the line that it ends.
-#[tactic(auto, using(crate::proofs::Sessions::writes_none, crate::proofs::Sessions::answers_until))]
-fn take_byte<
-    T: Completes + Drop + Copy,
-    S: Completes + Drop + Copy,
-    W: Completes + Drop + Copy,
-    O: Write + Drop,
->(
-    alloc: Global,
-    session: &mut Session<T, S, W>,
-    line: &mut Vec<u8>,
-    byte: u8,
-    writer: &mut O,
-    sent: T,
-    sector: S,
-    written: W,
-) -> Result<(), Failure>
-    requires sent { Keeps (T.may sent) (T.gives sent) SENT }
-    requires sector { Keeps (S.may sector) (S.gives sector) SECTOR }
-    requires written { Keeps (W.may written) (W.gives written) WRITTEN }
-    ensures { Answers result (O.contents writer.old) (O.contents writer.new) }
-{
-    if byte == b'\n' {
-        let answered = answer(alloc, session, line, writer, sent, sector, written);
-        line.clear();
-        return answered;
-    }
-    if line.len() < KEPT_BYTES {
-        line.push(byte)?;
-    }
-    Ok(())
-}
-
-// Answers a line, and writes the answer at once.
-fn answer<
+// Answers the last line of the reader, which has no end.
+fn answer_last<
     T: Completes + Drop + Copy,
     S: Completes + Drop + Copy,
     W: Completes + Drop + Copy,
@@ -161,9 +88,123 @@ fn answer<
     requires written { Keeps (W.may written) (W.gives written) WRITTEN }
     ensures { Answers result (O.contents writer.old) (O.contents writer.new) }
 {
+    match answer(alloc, session, line, writer, sent, sector, written) {
+        Ok(_) => Ok(()),
+        Err(failure) => Err(failure),
+    }
+}
+
+// Whether the session has ended with a line.
+fn has_ended(outcome: Outcome) -> bool
+    ensures { result ≡ is_ended outcome }
+{
+    matches!(outcome, Outcome::Ended)
+}
+
+// Reads once. None at the reader's end; no bytes if the read was interrupted.
+fn read_block<R: Read + Drop>(
+    reader: &mut R,
+    block: &mut [u8; BLOCK_BYTES],
+) -> Result<Option<usize>, Failure>
+    ensures within { IfOk result (λ count. IfSome count (λ n. n ≤ BLOCK_BYTES)) }
+    ensures errors { IfErr result (λ e. e ≡ failure.InputOrOutput) }
+{
+    match reader.read(&mut block[..]) {
+        Ok(0) => Ok(None),
+        Ok(count) => Ok(Some(count)),
+        Err(error) if error.kind() == ErrorKind::Interrupted => Ok(Some(0)),
+        Err(_) => Err(Failure::InputOrOutput),
+    }
+}
+
+// Answers the lines that end in a block, up to one with which the session ends, and keeps what comes after them. What it
+// returns became of the last of them.
+#[tactic(auto, using(crate::proofs::Sessions::writes_none, crate::proofs::Sessions::writes_more, crate::proofs::Sessions::answers_until))]
+fn take_block<
+    T: Completes + Drop + Copy,
+    S: Completes + Drop + Copy,
+    W: Completes + Drop + Copy,
+    O: Write + Drop,
+>(
+    alloc: Global,
+    session: &mut Session<T, S, W>,
+    line: &mut Vec<u8>,
+    block: &[u8],
+    writer: &mut O,
+    sent: T,
+    sector: S,
+    written: W,
+) -> Result<Outcome, Failure>
+    requires sent { Keeps (T.may sent) (T.gives sent) SENT }
+    requires sector { Keeps (S.may sector) (S.gives sector) SECTOR }
+    requires written { Keeps (W.may written) (W.gives written) WRITTEN }
+    ensures { Answers result (O.contents writer.old) (O.contents writer.new) }
+{
+    for byte in block {
+        let outcome = take_byte(alloc, session, line, *byte, writer, sent, sector, written)?;
+        if has_ended(outcome) {
+            return Ok(Outcome::Ended);
+        }
+    }
+    Ok(Outcome::Done)
+}
+
+// Keeps a byte of a line, or answers the line that it ends.
+#[tactic(auto, using(crate::proofs::Sessions::writes_none, crate::proofs::Sessions::answers_until))]
+fn take_byte<
+    T: Completes + Drop + Copy,
+    S: Completes + Drop + Copy,
+    W: Completes + Drop + Copy,
+    O: Write + Drop,
+>(
+    alloc: Global,
+    session: &mut Session<T, S, W>,
+    line: &mut Vec<u8>,
+    byte: u8,
+    writer: &mut O,
+    sent: T,
+    sector: S,
+    written: W,
+) -> Result<Outcome, Failure>
+    requires sent { Keeps (T.may sent) (T.gives sent) SENT }
+    requires sector { Keeps (S.may sector) (S.gives sector) SECTOR }
+    requires written { Keeps (W.may written) (W.gives written) WRITTEN }
+    ensures { Answers result (O.contents writer.old) (O.contents writer.new) }
+{
+    if byte == b'\n' {
+        let answered = answer(alloc, session, line, writer, sent, sector, written);
+        line.clear();
+        return answered;
+    }
+    if line.len() < KEPT_BYTES {
+        line.push(byte)?;
+    }
+    Ok(Outcome::Done)
+}
+
+// Answers a line, and writes the answer at once.
+fn answer<
+    T: Completes + Drop + Copy,
+    S: Completes + Drop + Copy,
+    W: Completes + Drop + Copy,
+    O: Write + Drop,
+>(
+    alloc: Global,
+    session: &mut Session<T, S, W>,
+    line: &[u8],
+    writer: &mut O,
+    sent: T,
+    sector: S,
+    written: W,
+) -> Result<Outcome, Failure>
+    requires sent { Keeps (T.may sent) (T.gives sent) SENT }
+    requires sector { Keeps (S.may sector) (S.gives sector) SECTOR }
+    requires written { Keeps (W.may written) (W.gives written) WRITTEN }
+    ensures { Answers result (O.contents writer.old) (O.contents writer.new) }
+{
     let text = line.strip_suffix(b"\r").unwrap_or(line);
-    let (_, answered) = session.answer(alloc, sent, sector, written, text)?;
+    let (outcome, answered) = session.answer(alloc, sent, sector, written, text)?;
     writer.write_all(answered.as_bytes())?;
     writer.flush()?;
-    Ok(())
+    Ok(outcome)
 }

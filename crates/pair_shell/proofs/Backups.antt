@@ -7,6 +7,6 @@ use Rattle.guest_lockstep.specs.Machine.{Machine}
 use Rattle.pair_protocol.specs.Node.{Node}
 use Rattle.pair_shell.specs.Backups.{FindsBackup, is_backup}
 
-pub finds : {S : Type 0} (M : Machine S) (nodes : List (Node S)) (number : ℕ) (found : Bool) (status : Option NodeStatus)
-    → IsStatusAt M (slice_get nodes number) status → found ≡ is_backup status → FindsBackup M nodes number found
-finds M nodes number found status there told = record { status = status; is_there = there; told = told }
+pub finds : {S : Type 0} (M : Machine S) (nodes : List (Node S)) (generation number : ℕ) (found : Bool) (status : Option NodeStatus)
+    → IsStatusAt M (slice_get nodes number) status → found ≡ is_backup generation status → FindsBackup M nodes generation number found
+finds M nodes generation number found status there told = record { status = status; is_there = there; told = told }

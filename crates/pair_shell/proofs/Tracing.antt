@@ -7,7 +7,8 @@ use Rattle.pair_events.specs.declared.event.Event.{Event}
 use Rattle.pair_events.specs.declared.reply.Reply.{Reply}
 use Rattle.shell_language.specs.declared.line.ShellLine.{ShellLine}
 use Rattle.shell_opening.specs.Openings.{SetsUp, SetsUpSaid}
-use Rattle.pair_shell.specs.Sessions.{HeedsSaid, IsHeeded, trace_after}
+use Rattle.pair_shell.specs.Sessions.{Ends, EndsSaid, HeedsSaid, IsHeeded, trace_after}
+use Rattle.shell_book.specs.declared.outcome.Outcome.{Outcome}
 use Rattle.shell_book.specs.Tapes.{Begins, IsAnswered, Traces, event_lines, played, told_text, trace_text}
 use Rattle.shell_book.specs.Texts.{Adds, AddsSome}
 use Rattle.shell_opening.specs.declared.opening.Opening.{Opening}
@@ -32,6 +33,13 @@ pub begins_more : (front : List ℕ) (old new : Printed) → Begins front (strin
     → Begins front (string_bytes new.text)
 begins_more front old new h more =
     (h.0 ++ more.0, more.1.0 ∙ ap (λ t. t ++ more.0) h.1 ∙ append_assoc front h.0 more.0)
+
+-- the same if memory may have been refused
+pub begins_on : {X E : Type 0} (result : Result X E) (front : List ℕ) (traced : Bool) (before : List ℕ) (old new : Printed)
+    → (traced ≡ true → before ≡ [] → Begins front (string_bytes old.text)) → IfOk result (λ done. AddsSome old new)
+    → IfOk result (λ done. traced ≡ true → before ≡ [] → Begins front (string_bytes new.text))
+begins_on (Ok done) front traced before old new h more = λ is none. begins_more front old new (h is none) more
+begins_on (Err refused) front traced before old new h more = tt
 
 -- an event alone was traced
 pub answered_traced : (happened : Event) (answer : Result Reply Fault) (tape : List Played) (traced : Bool)
@@ -80,6 +88,11 @@ traces_answer (Err refused) happened tape traced old new a = tt
 pub heeds_said : (line : ShellLine) (said : Option ShellLine) (tape : List Played) (traced : Bool) (text : List ℕ)
     → Some line ≡ said → IsHeeded line tape traced [] text → HeedsSaid said tape traced [] text
 heeds_said line said tape traced text is heeded = subst (λ s. HeedsSaid s tape traced [] text) is heeded
+
+-- so is that it ends the session
+pub ends_said : (line : ShellLine) (said : Option ShellLine) (told : Outcome) → Some line ≡ said → Ends line told
+    → EndsSaid said told
+ends_said line said told is ends = subst (λ s. EndsSaid s told) is ends
 
 -- so is what it changes in the setup
 pub sets_up_said : (line : ShellLine) (said : Option ShellLine) (old new : Opening) → Some line ≡ said → SetsUp line old new

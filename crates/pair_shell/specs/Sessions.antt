@@ -1,5 +1,5 @@
 -- What a line does to a session.
-use Rattle.std.specs.Prelude.{◌≡◌, ℕ, Bool, List, Option, Some, None}
+use Rattle.std.specs.Prelude.{◌≡◌, ℕ, zero, suc, Bool, true, false, List, Option, Some, None, slice_set}
 use Rattle.altair_copies.specs.Copies.{image_copy}
 use Rattle.guest_parts.specs.Guest.{Guest}
 use Rattle.guest_board.specs.Guest.{guest_at_boot}
@@ -16,6 +16,8 @@ use Rattle.shell_book.specs.Tapes.{IsAnswered}
 use Rattle.pair_shell.specs.declared.notes.Notes.{Notes}
 use Rattle.shell_opening.specs.declared.opening.Opening.{Opening}
 use Rattle.shell_book.specs.declared.tape.Played.{Played}
+use Rattle.shell_book.specs.declared.outcome.Outcome.{Outcome}
+use Rattle.shell_book.specs.declared.outcome.Outcome.TheVariants as outcome
 
 -- a pair has just booted as a session's setup says
 abbrev pub BootsBy : {B H : Type 0} → (B → Guest) → Opening → Running B H Disk → Type 0
@@ -51,6 +53,27 @@ HeedsSaid None tape is_traced old new = Unit {0}
 abbrev pub trace_after : Option ShellLine → Bool → Bool
 trace_after (Some (shell.Trace is_on)) is_traced = is_on
 trace_after _ is_traced = is_traced
+
+-- `quit` ends the session
+abbrev pub Ends : ShellLine → Outcome → Type 0
+Ends shell.Quit told = told ≡ outcome.Ended
+Ends _ told = Unit {0}
+
+-- the same of a text that says some line
+abbrev pub EndsSaid : Option ShellLine → Outcome → Type 0
+EndsSaid (Some line) told = Ends line told
+EndsSaid None told = Unit {0}
+
+-- what became of a line was that
+abbrev pub is_ended : Outcome → Bool
+is_ended outcome.Ended = true
+is_ended _ = false
+
+-- so many bytes of a terminal were shown
+abbrev pub shown_at : List ℕ → ℕ → ℕ → List ℕ
+shown_at shown zero count = slice_set shown 0 count
+shown_at shown (suc zero) count = slice_set shown 1 count
+shown_at shown (suc (suc n)) count = shown
 
 -- nothing has changed but the tape, which is that of the last line: neither the setup, nor the pair, nor what was noted
 pub record IsAsBefore {X : Type 0} (setup setup' : Opening) (pair pair' : Option X) (noted noted' : Notes)

@@ -6,3 +6,4 @@ mod play;
 mod session;
 
 pub use session::Session;
+pub use shell_book::Outcome;

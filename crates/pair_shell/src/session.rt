@@ -9,7 +9,7 @@ use pair_setup::{Altairs, boot};
 use shell_book::{Outcome, Printed, refuse};
 use shell_language::{Mistake, ShellLine, read_line};
 use shell_opening::Opening;
-use shell_picture::print_help;
+use shell_picture::{print_help, print_refusals};
 use std::alloc::{AllocError, Global};
 
 /// The shell with its pair.
@@ -29,7 +29,7 @@ impl<T: Completes + Drop + Copy, S: Completes + Drop + Copy, W: Completes + Drop
     ghost use Rattle.std.specs.Prelude.{◌≡◌, [], true, IfOk, None, Some, string_bytes};
     ghost use Rattle.shell_language.specs.Saying.{said};
     ghost use Rattle.shell_opening.specs.Openings.{IsSame, SetsUp, SetsUpSaid};
-    ghost use Rattle.pair_shell.specs.Sessions.{AltairsPlay, HeedsSaid, IsAsBefore, IsHeeded, trace_after};
+    ghost use Rattle.pair_shell.specs.Sessions.{AltairsPlay, Ends, EndsSaid, HeedsSaid, IsAsBefore, IsHeeded, trace_after};
     ghost use Rattle.shell_book.specs.Tapes.{Begins, trace_text};
     ghost use Rattle.shell_book.specs.declared.outcome.Outcome.TheVariants as outcome;
 
@@ -46,7 +46,7 @@ impl<T: Completes + Drop + Copy, S: Completes + Drop + Copy, W: Completes + Drop
     /// Answers a line, which is without its LF and a CR before that. What it makes happen is on the tape, event by event,
     /// each with its answer; a trace says it line by line. A line that is wrong changes nothing. One that is an event of the
     /// script language makes that event alone, and is answered as a script is.
-    #[tactic(auto, using(crate::proofs::Playing::line_plays, crate::proofs::Playing::line_boots, crate::proofs::Playing::line_plays_nothing, crate::proofs::Tracing::begins_nothing, crate::proofs::Tracing::heeds_said, crate::proofs::Tracing::sets_up_said, crate::proofs::Tracing::switches, crate::proofs::Tracing::switches_not))]
+    #[tactic(auto, using(crate::proofs::Playing::line_plays, crate::proofs::Playing::line_boots, crate::proofs::Playing::line_plays_nothing, crate::proofs::Tracing::begins_nothing, crate::proofs::Tracing::heeds_said, crate::proofs::Tracing::ends_said, crate::proofs::Tracing::sets_up_said, crate::proofs::Tracing::switches, crate::proofs::Tracing::switches_not))]
     pub fn answer(
         &mut self,
         alloc: Global,
@@ -70,6 +70,7 @@ impl<T: Completes + Drop + Copy, S: Completes + Drop + Copy, W: Completes + Drop
         ensures switched { self.new.is_traced ≡ trace_after (said text.now) self.old.is_traced }
         ensures refused { IfOk result (λ told. told.0 ≡ outcome.Refused → IsAsBefore self.old.opening self.new.opening
             self.old.world self.new.world self.old.notes self.new.notes self.old.is_traced self.new.is_traced) }
+        ensures ended { IfOk result (λ told. EndsSaid (said text.now) told.0) }
     {
         self.notes.tape.clear();
         let mut printed = Printed::new(alloc, self.is_traced);
@@ -108,6 +109,7 @@ impl<T: Completes + Drop + Copy, S: Completes + Drop + Copy, W: Completes + Drop
         ensures switched { self.new.is_traced ≡ trace_after (Some line.entry) self.old.is_traced }
         ensures refused { IfOk result (λ told. told ≡ outcome.Refused → IsAsBefore self.old.opening self.new.opening
             self.old.world self.new.world self.old.notes self.new.notes self.old.is_traced self.new.is_traced) }
+        ensures ended { IfOk result (λ told. Ends line.entry told) }
     {
         match line {
             ShellLine::Empty => Ok(Outcome::Done),
@@ -119,6 +121,11 @@ impl<T: Completes + Drop + Copy, S: Completes + Drop + Copy, W: Completes + Drop
                 print_help(printed)?;
                 Ok(Outcome::Done)
             }
+            ShellLine::Refusals => {
+                print_refusals(printed)?;
+                Ok(Outcome::Done)
+            }
+            ShellLine::Quit => Ok(Outcome::Ended),
             ShellLine::Setup { .. } | ShellLine::SetSector { .. } | ShellLine::Load(_) => {
                 if self.world.is_some() {
                     return refuse(Mistake::Late { line: text }, printed);

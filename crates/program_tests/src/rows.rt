@@ -21,6 +21,9 @@ suspect 0 -> won
 suspect 1 -> refused 14
 ";
 
+// What the shell tells besides if nothing is settled.
+const UNSETTLED: &str = "  nothing is settled so far: no input and no output\n";
+
 /// A sector of track 0 of drive 0: its number, that of its last write, and the byte that fills it, which is not printable.
 pub type Filled = (u8, u64, u8);
 
@@ -83,16 +86,21 @@ impl Spelled {
             let (hexadecimal, shown) = (text.repeat(alloc, bytes)?, ".".repeat(alloc, bytes)?);
             writeln!(self.printed, "{place}0 {hexadecimal}  |{shown}|")?;
         }
-        self.printed.push_str("refused 15\n")
+        self.printed.push_str("refused 15, unknown\n")
     }
 
-    // The script as a session, which ends with looks at sectors and with a comparison.
+    // The script as a session, which ends with looks at sectors and with a comparison. A key may be taken, and settled,
+    // before the first step.
     fn session(&mut self, alloc: Global, checked: &str, disk: &[Filled]) -> Result<(), AllocError> {
         for filled in disk {
             self.filled(alloc, filled)?;
         }
         self.lines.push_str("check\n")?;
-        self.printed.push_str(checked)
+        self.printed.push_str(checked)?;
+        if checked == "same 0\n" && !self.printed.as_str().contains("taken") {
+            self.printed.push_str(UNSETTLED)?;
+        }
+        Ok(())
     }
 
     /// The script prints this by `script` and in the shell, which finds these sectors, and `check` prints that.

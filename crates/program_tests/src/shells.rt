@@ -41,6 +41,20 @@ impl Read for Typist {
     }
 }
 
+// What comes after `quit` is not answered: neither in the same read, nor in a later one.
+#[test]
+fn nothing_is_read_after_the_end(rt: HostRuntime) -> Result<(), Fail> {
+    let mut reader = Typist {
+        texts: &[b"stop 0\nqu", b"it\r\nnode 0\n", b"node 0\n"],
+    };
+    let mut printed = Vec::new(rt.alloc());
+    let (status, _) = run_on(&rt, &["shell"], &mut reader, &mut printed)?;
+    assert_eq!(rt; status, 0);
+    assert_eq!(rt; printed.as_slice(), b"stopped\n".as_slice());
+    assert_eq!(rt; reader.texts.len(), 1);
+    Ok(())
+}
+
 // What was answered before the input fails is written; a line that has not ended by then is not answered.
 #[test]
 fn lines_are_answered_before_more_is_read(rt: HostRuntime) -> Result<(), Fail> {

@@ -1,3 +1,4 @@
+pub mod HeldUp
 pub mod Notes
 pub mod Noting
 pub mod Tapes

@@ -1,9 +1,10 @@
 -- What a book says of a pair: how far its ports have come, its log, and its writes.
-use Rattle.std.specs.Prelude.{◌≡◌, ℕ, zero, suc, ◌+◌, ◌-◌, ◌^◌, ◌==◌, min, not, List, [], filter, replicate, slice_get, slice_set, unwrap_or}
+use Rattle.std.specs.Prelude.{◌≡◌, ℕ, zero, suc, ◌+◌, ◌-◌, ◌^◌, ◌==◌, min, Bool, false, not, List, [], filter, replicate, slice_get, slice_set, unwrap_or, vec_len}
 use Rattle.guest_trace.specs.declared.timed.Bare.{Bare}
 use Rattle.guest_trace.specs.declared.timed.Bare.TheVariants.{Rx, Sent, Sector, Written}
 use Rattle.shell_book.specs.declared.book.Book.{Book}
 use Rattle.shell_book.specs.declared.book.PortNotes.{PortNotes}
+use Rattle.shell_book.specs.declared.book.Waiting.{Waiting}
 
 -- nothing has come of a port yet
 abbrev pub blank : PortNotes
@@ -23,6 +24,8 @@ pub record Progress : Type 0 where
   pub logged : ℕ
   pub posted : ℕ
   pub held : ℕ
+  pub parts : ℕ
+  pub has_run : Bool
   pub writes : ℕ
   pub undone : List ℕ
 
@@ -32,6 +35,8 @@ progress book = record {
   logged = book.logged;
   posted = book.posted;
   held = book.held;
+  parts = book.parts;
+  has_run = book.has_run;
   writes = book.writes;
   undone = book.undone.items;
 }
@@ -40,8 +45,19 @@ progress book = record {
 pub record IsBlank (book : Book) : Type 0 where
   pub letters : book.letters.items ≡ []
   pub ports : book.ports ≡ replicate 2 blank
-  pub log : (book.logged ≡ 0) × (book.posted ≡ 0) × (book.held ≡ 0)
+  pub log : (book.logged ≡ 0) × (book.posted ≡ 0) × (book.held ≡ 0) × (book.parts ≡ 0)
+  pub has_run : book.has_run ≡ false
   pub writes : (book.writes ≡ 0) × (book.undone.items ≡ [])
+
+-- the bytes that no terminal has accepted, and the writes that the guest has not heard of
+abbrev pub bytes_out : PortNotes → ℕ
+bytes_out notes = notes.sent - notes.accepted
+
+abbrev pub waiting_in : Book → Waiting
+waiting_in book = record {
+  bytes = min (bytes_out (notes_of book.ports 0) + bytes_out (notes_of book.ports 1)) (2 ^ 64 - 1);
+  writes = vec_len book.undone;
+}
 
 -- a port has come so far; one that is not there changes nothing
 abbrev pub put_at : List PortNotes → ℕ → PortNotes → List PortNotes

@@ -1,8 +1,9 @@
 -- What a book notes of each event.
-use Rattle.std.specs.Prelude.{ℕ, ◌-◌, min, max, Bool, true, false, List, [], ◌∷◌, ◌++◌, Option, Some, None, option_map, Result, Ok, Err, slice_get, slice_set}
+use Rattle.std.specs.Prelude.{ℕ, ◌-◌, ◌||◌, nat_lt, min, max, true, false, List, [], ◌∷◌, ◌++◌, Option, Some, None, option_map, Result, Ok, Err, slice_get, slice_set}
 use Rattle.std.specs.Option.{option_map_or}
 use Rattle.event_callbacks.specs.declared.operations.OpId.{OpId}
 use Rattle.event_callbacks.specs.declared.operations.OpId.TheVariants as id
+use Rattle.guest_lockstep.specs.declared.running.StopReason.{StopReason}
 use Rattle.guest_lockstep.specs.declared.running.StopReason.TheVariants.{Operation}
 use Rattle.i8080_words.specs.declared.refusal.Fault.{Fault}
 use Rattle.i8080_words.specs.declared.refusal.Fault.TheVariants.{NotDue}
@@ -72,14 +73,24 @@ given (id.Byte port number) p =
 given (id.Write number) p =
     record p { logged = next p.logged; writes = number; undone = p.undone ++ number ∷ [] }
 
+abbrev pub stopped_by : StopReason → Progress → Progress
+stopped_by (Operation name) p = given name p
+stopped_by other p = p
+
+-- it has made steps, if any
 abbrev pub noted_steps : Reply → Progress → Progress
-noted_steps (reply.Ran steps count (Operation name)) p = given name p
+noted_steps (reply.Ran steps count why) p = stopped_by why (record p { has_run = p.has_run || nat_lt 0 steps })
 noted_steps other p = p
 
 -- an entry was sent: it and those before it are not to be sent for the first time any more
 abbrev pub noted_sent : ℕ → Reply → Progress → Progress
 noted_sent index (reply.Message message) p = record p { posted = max p.posted (next index) }
 noted_sent index other p = p
+
+-- so it is of a part of an image
+abbrev pub noted_part : ℕ → Reply → Progress → Progress
+noted_part index (reply.Message message) p = record p { parts = max p.parts (next index) }
+noted_part index other p = p
 
 -- so many entries are acknowledged
 abbrev pub noted_held : Reply → Progress → Progress
@@ -113,10 +124,10 @@ taken_by (event.TellSent node port number) letters p = with_port port (record (n
 taken_by (event.PutReply message node) letters p = heard_written (brought letters message) p
 taken_by other letters p = p
 
--- so it did; or a pair has begun, and its log is empty
+-- so it did; or a pair has begun, whose log is empty, and of whose image nothing was sent
 abbrev pub noted_taken : Event → Reply → List Letter → Progress → Progress
 noted_taken happened reply.Taken letters p = taken_by happened letters (record p { logged = next p.logged })
-noted_taken happened (reply.Generation generation) letters p = record p { logged = 0; posted = 0; held = 0 }
+noted_taken happened (reply.Generation generation) letters p = record p { logged = 0; posted = 0; held = 0; parts = 0 }
 noted_taken happened other letters p = p
 
 -- by the event; a sector that a backup was handed is no input of the guest that runs
@@ -124,6 +135,7 @@ abbrev pub replied : Event → Reply → List Letter → Progress → Progress
 replied (event.TypeByte port typed) answer letters p = noted_typed port answer p
 replied (event.Step node turns) answer letters p = noted_steps answer p
 replied (event.Send node index) answer letters p = noted_sent index answer p
+replied (event.SendPart node index) answer letters p = noted_part index answer p
 replied (event.DeliverAcknowledgement message node) answer letters p = noted_held answer p
 replied (event.Told node port) answer letters p = noted_told port answer p
 replied (event.Arrive message) answer letters p = noted_accepted (brought letters message) answer p

@@ -1,7 +1,7 @@
 //! What the shell has noted of a pair: the messages that were sent, and how far the node that runs the guest has come.
-ghost use Rattle.std.specs.Prelude.{◌≡◌, ◌<◌, IfOk, length, slice_get, vec_capacity, vec_len};
+ghost use Rattle.std.specs.Prelude.{◌≡◌, ◌-◌, ◌<◌, IfOk, length, slice_get, vec_capacity, vec_len};
 ghost use Rattle.shell_book.specs.Noting.{brought};
-ghost use Rattle.shell_book.specs.Notes.{IsBlank, notes_of, progress, put_at, restarted_at, settled, without};
+ghost use Rattle.shell_book.specs.Notes.{IsBlank, notes_of, progress, put_at, restarted_at, settled, waiting_in, without};
 
 use event_callbacks::PORTS;
 use guest_trace::{Bare, Timed};
@@ -49,6 +49,13 @@ const BLANK: PortNotes = PortNotes {
     heard: 0,
 };
 
+/// Output that the guest has given and that is still out.
+#[derive(Clone, Copy)]
+pub struct Waiting {
+    pub bytes: u64,
+    pub writes: u64,
+}
+
 /// What was noted of the events of a session.
 #[derive(Drop)]
 pub struct Book {
@@ -59,6 +66,10 @@ pub struct Book {
     pub logged: u64,
     pub posted: u64,
     pub held: u64,
+    /// How many parts of its image it has sent.
+    pub parts: u64,
+    /// Whether the guest has made a step.
+    pub has_run: bool,
     /// The number of the guest's last write, and the writes that it has not heard of.
     pub writes: u64,
     pub undone: Vec<u64>,
@@ -75,6 +86,8 @@ impl Book {
             logged: 0,
             posted: 0,
             held: 0,
+            parts: 0,
+            has_run: false,
             writes: 0,
             undone: Vec::new(alloc),
         }
@@ -119,6 +132,18 @@ impl Book {
         ensures { result ≡ notes_of self.now.ports port }
     {
         self.ports.get(usize::from(port)).copied().unwrap_or(BLANK)
+    }
+
+    /// The bytes that no terminal has accepted, and the writes that the guest has not heard of.
+    pub fn waiting(&self) -> Waiting
+        ensures { result ≡ waiting_in self.now }
+    {
+        let first = bytes_out(self.port(0));
+        let second = bytes_out(self.port(1));
+        Waiting {
+            bytes: first.saturating_add(second),
+            writes: self.undone.len() as u64,
+        }
     }
 
     // What is known of a port from now on; nothing changes at one that is not there.
@@ -186,6 +211,13 @@ impl Book {
             Bare::Sector(..) => {}
         }
     }
+}
+
+// How many bytes of a port its terminal has not accepted.
+fn bytes_out(notes: PortNotes) -> u64
+    ensures { result ≡ notes.sent - notes.accepted }
+{
+    notes.sent.saturating_sub(notes.accepted)
 }
 
 // A write is not among those that the guest has not heard of.

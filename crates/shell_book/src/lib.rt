@@ -3,12 +3,14 @@
 #![tactic(auto)]
 
 mod book;
+mod held_up;
 mod noting;
 mod outcome;
 mod printing;
 mod tape;
 
-pub use book::{Book, Brings, Letter, PortNotes};
+pub use book::{Book, Brings, Letter, PortNotes, Waiting};
+pub use held_up::{Meeting, holds_up, meeting_of};
 pub use outcome::{Outcome, refuse};
 pub use printing::Printed;
 pub use tape::Played;

@@ -1,7 +1,7 @@
 //! How a book notes what has happened.
 ghost use Rattle.std.specs.Prelude.{◌≡◌, ◌<◌, vec_capacity, vec_len};
 ghost use Rattle.shell_book.specs.Notes.{progress};
-ghost use Rattle.shell_book.specs.Noting.{arrived, brought, delivered_by, given, heard_written, letters_after, noted, noted_accepted, noted_held, noted_sent, noted_steps, noted_taken, noted_told, noted_typed, posted, replied, sender_of, taken_by, ungiven};
+ghost use Rattle.shell_book.specs.Noting.{arrived, brought, delivered_by, given, heard_written, letters_after, noted, noted_accepted, noted_held, noted_part, noted_sent, noted_steps, noted_taken, noted_told, noted_typed, posted, replied, sender_of, taken_by, ungiven};
 
 use crate::book::{Book, Brings, Letter, PortNotes, forget_write};
 use event_callbacks::OpId;
@@ -54,6 +54,7 @@ impl Book {
             Event::TypeByte { port, .. } => self.note_typed(port, reply),
             Event::Step { .. } => self.note_steps(reply),
             Event::Send { index, .. } => self.note_sent(index, reply),
+            Event::SendPart { index, .. } => self.note_part(index, reply),
             Event::DeliverAcknowledgement { .. } => self.note_held(reply),
             Event::Told { port, .. } => self.note_told(port, reply),
             Event::Arrive { message } => self.note_accepted(message, reply),
@@ -78,12 +79,11 @@ impl Book {
         ensures progress { progress self.new ≡ noted_steps reply (progress self.old) }
         ensures letters { self.new.letters ≡ self.old.letters }
     {
-        if let Reply::Ran {
-            why: StopReason::Operation(id),
-            ..
-        } = reply
-        {
-            self.note_given(id);
+        if let Reply::Ran { steps, why, .. } = reply {
+            self.has_run = self.has_run || steps > 0;
+            if let StopReason::Operation(id) = why {
+                self.note_given(id);
+            }
         }
     }
 
@@ -118,6 +118,15 @@ impl Book {
     {
         if let Reply::Message { .. } = reply {
             self.posted = self.posted.max(index.saturating_add(1));
+        }
+    }
+
+    fn note_part(&mut self, index: u64, reply: Reply)
+        ensures progress { progress self.new ≡ noted_part index reply (progress self.old) }
+        ensures letters { self.new.letters ≡ self.old.letters }
+    {
+        if let Reply::Message { .. } = reply {
+            self.parts = self.parts.max(index.saturating_add(1));
         }
     }
 
@@ -161,7 +170,8 @@ impl Book {
         }
     }
 
-    // The guest took an input, and a primary has logged it; or a pair has begun, and its log is empty.
+    // The guest took an input, and a primary has logged it; or a pair has begun, whose log is empty, and of whose image
+    // nothing was sent.
     fn note_taken(&mut self, event: Event, reply: Reply)
         ensures progress { progress self.new ≡ noted_taken event reply self.old.letters.items (progress self.old) }
         ensures letters { self.new.letters ≡ self.old.letters }
@@ -175,6 +185,7 @@ impl Book {
                 self.logged = 0;
                 self.posted = 0;
                 self.held = 0;
+                self.parts = 0;
             }
             _ => {}
         }

@@ -13,6 +13,8 @@ pub enum Outcome {
     Refused,
     /// It was done.
     Done,
+    /// The session ends with it.
+    Ended,
 }
 
 /// Tells what is wrong.

@@ -12,4 +12,6 @@ mod series;
 
 pub use day::Day;
 pub use plan::Plan;
-pub use remaining::{bytes_to_arrive, entries_to_deliver, entries_to_send};
+pub use remaining::{
+    bytes_to_arrive, entries_to_deliver, entries_to_send, parts_to_deliver, parts_to_send,
+};

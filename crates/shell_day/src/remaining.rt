@@ -37,3 +37,28 @@ pub fn bytes_to_arrive(alloc: Global, book: &Book) -> Result<Vec<Event>, AllocEr
     Series::BytesOut.add(book, 0, book.messages(), &mut events)?;
     Ok(events)
 }
+
+/// The parts of its image that a primary has not sent yet, of so many.
+pub fn parts_to_send(
+    alloc: Global,
+    book: &Book,
+    node: u64,
+    parts: u64,
+) -> Result<Vec<Event>, AllocError>
+    ensures { IfOk result (λ events. events.items
+        ≡ run_of (event_of (series.Parts node) book.now) book.now.parts (parts - book.now.parts)) }
+{
+    let mut events = Vec::new(alloc);
+    Series::Parts { node }.add(book, book.parts, parts, &mut events)?;
+    Ok(events)
+}
+
+/// The messages with a part that have reached no node yet.
+pub fn parts_to_deliver(alloc: Global, book: &Book, node: u64) -> Result<Vec<Event>, AllocError>
+    ensures { IfOk result (λ events. events.items
+        ≡ run_of (event_of (series.PartsOut node) book.now) 0 (length book.now.letters.items)) }
+{
+    let mut events = Vec::new(alloc);
+    Series::PartsOut { node }.add(book, 0, book.messages(), &mut events)?;
+    Ok(events)
+}

@@ -1,6 +1,6 @@
 //! Series of events, one after another by a number.
 ghost use Rattle.std.specs.Prelude.{◌≡◌, ◌-◌, ◌<◌, ◌^◌, ◌++◌, IfOk, option_to_list};
-ghost use Rattle.shell_day.specs.Series.{event_of, is_byte, is_entry, run_of};
+ghost use Rattle.shell_day.specs.Series.{event_of, is_byte, is_entry, is_part, run_of};
 ghost use Rattle.shell_day.specs.declared.series.Series.TheVariants as series;
 
 use event_callbacks::OpId;
@@ -23,6 +23,10 @@ pub enum Series {
     EntriesOut { node: u64 },
     /// Messages: of those with a byte that are out, each arrives.
     BytesOut,
+    /// Parts of an image that a node sends.
+    Parts { node: u64 },
+    /// Messages: of those with a part that are out, each is delivered to a node.
+    PartsOut { node: u64 },
 }
 
 impl Series {
@@ -66,6 +70,11 @@ impl Series {
             }),
             Series::EntriesOut { node } => entry_out(book, node, number),
             Series::BytesOut => byte_out(book, number),
+            Series::Parts { node } => Some(Event::SendPart {
+                node,
+                index: number,
+            }),
+            Series::PartsOut { node } => part_out(book, node, number),
         }
     }
 }
@@ -115,6 +124,17 @@ fn byte_out(book: &Book, message: u64) -> Option<Event>
     None
 }
 
+// The delivery of a message with a part that has reached no node yet.
+fn part_out(book: &Book, node: u64, message: u64) -> Option<Event>
+    ensures { result ≡ event_of (series.PartsOut node) book.now message }
+{
+    let letter = book.letter(message)?;
+    if is_part(letter.brings) && !letter.has_arrived {
+        return Some(Event::PartComes { message, node });
+    }
+    None
+}
+
 /// Whether a message brings a log entry.
 pub fn is_entry(brings: Brings) -> bool
     ensures { result ≡ is_entry brings }
@@ -127,4 +147,11 @@ pub fn is_byte(brings: Brings) -> bool
     ensures { result ≡ is_byte brings }
 {
     matches!(brings, Brings::Byte { .. })
+}
+
+// Whether a message brings a part of an image.
+fn is_part(brings: Brings) -> bool
+    ensures { result ≡ is_part brings }
+{
+    matches!(brings, Brings::Part)
 }

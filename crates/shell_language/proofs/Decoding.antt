@@ -1,5 +1,5 @@
 -- Digits that are decoded into a place for as many bytes.
-use Rattle.std.proofs.Common.{◌≡◌, ℕ, ◌/◌, ◌%◌, Bool, true, false, nat_eq, List, length, Option, Some, None, Result, Ok, Err, refl, ap, sym, ◌∙◌}
+use Rattle.std.proofs.Common.{◌≡◌, ℕ, ◌/◌, ◌%◌, Bool, true, false, List, length, Some, None, Result, Ok, Err, refl, ap, sym, ◌∙◌}
 use Rattle.std.specs.Prelude.{◌==◌, if◌then◌else◌, MatchResult}
 use Rattle.std.specs.Result.{is_ok, result_ok}
 use Rattle.hex.specs.Hex.{decode_of, decode_pairs, decode_sized}

@@ -15,10 +15,11 @@ use Rattle.shell_language.specs.Records.{record_of}
 -- The words with which such lines begin.
 abbrev pub own_words : List (List ℕ × OwnWord)
 own_words =
-    (codes "load", own.Load) ∷ (codes "send", own.Send) ∷ (codes "log", own.Log) ∷ (codes "arrive", own.Arrive)
+    (codes "load", own.Load) ∷ (codes "send", own.Send) ∷ (codes "log", own.Log)
+    ∷ (codes "sendpart", own.SendPart) ∷ (codes "part", own.Part) ∷ (codes "arrive", own.Arrive)
     ∷ (codes "type", own.Type) ∷ (codes "run", own.Run) ∷ (codes "screen", own.Screen) ∷ (codes "sector", own.Sector)
     ∷ (codes "last", own.Last) ∷ (codes "check", own.Check) ∷ (codes "picture", own.Picture) ∷ (codes "trace", own.Trace)
-    ∷ (codes "help", own.Help) ∷ []
+    ∷ (codes "help", own.Help) ∷ (codes "quit", own.Quit) ∷ []
 
 -- the first of these rows that has the word
 abbrev pub own_among : List (List ℕ × OwnWord) → List ℕ → Option OwnWord
@@ -61,21 +62,37 @@ pictured [] = Some (shell.Picture None, [])
 pictured (word ∷ words) = number (λ first. number (λ last.
     says (shell.Picture (Some (record { first = first; last = last }))))) (word ∷ words)
 
--- The lines that are words: those after the first, and what they say.
+-- no more, or `new`
+abbrev pub screen_by : ℕ → Reader ShellLine
+screen_by port [] = Some (shell.Screen port false, [])
+screen_by port (word ∷ words) = if bytes_eq word (codes "new") then Some (shell.Screen port true, words) else None
+
+-- no more, or `refusals`
+abbrev pub helped : Reader ShellLine
+helped [] = Some (shell.Help, [])
+helped (word ∷ words) = if bytes_eq word (codes "refusals") then Some (shell.Refusals, words) else None
+
+-- The lines that show something, or are about the session: the words after the first, and what they say.
+abbrev pub shown_of : OwnWord → Reader ShellLine
+shown_of own.Screen = small (λ port. screen_by port)
+shown_of own.Sector = λ words. address words >>= λ place. Some (shell.Sector place.0, place.1)
+shown_of own.Last = says shell.Last
+shown_of own.Check = says shell.Check
+shown_of own.Picture = pictured
+shown_of own.Trace = switch
+shown_of own.Help = helped
+shown_of own.Quit = says shell.Quit
+shown_of other = bad
+
+-- All lines that are words; `load` and `type` are none.
 abbrev pub own_of : OwnWord → Reader ShellLine
 own_of own.Send = number (λ node. all (shell.SendAll node))
 own_of own.Log = number (λ node. all (shell.LogAll node))
+own_of own.SendPart = number (λ node. all (shell.SendPartAll node))
+own_of own.Part = number (λ node. all (shell.PartAll node))
 own_of own.Arrive = all shell.ArriveAll
 own_of own.Run = number (λ node. number (λ turns. run_by node turns))
-own_of own.Screen = small (λ port. says (shell.Screen port))
-own_of own.Sector = λ words. address words >>= λ place. Some (shell.Sector place.0, place.1)
-own_of own.Last = says shell.Last
-own_of own.Check = says shell.Check
-own_of own.Picture = pictured
-own_of own.Trace = switch
-own_of own.Help = says shell.Help
-own_of own.Load = bad
-own_of own.Type = bad
+own_of other = shown_of other
 
 -- a record of Intel HEX
 abbrev pub load_of : List ℕ → Option ShellLine

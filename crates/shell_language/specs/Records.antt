@@ -1,5 +1,5 @@
 -- Records of Intel HEX: what each says, or why a line is none.
-use Rattle.std.specs.Prelude.{ℕ, ◌+◌, ◌-◌, ◌*◌, ◌/◌, ◌%◌, ◌==◌, nat_lt, nat_le, if◌then◌else◌, List, [], ◌∷◌, length, take, drop, sum, slice_index, Option, Some, None, Result, Ok, Err}
+use Rattle.std.specs.Prelude.{ℕ, zero, ◌+◌, ◌-◌, ◌*◌, ◌/◌, ◌%◌, ◌==◌, ◌||◌, nat_lt, nat_le, if◌then◌else◌, List, [], ◌∷◌, length, take, drop, sum, slice_index, Option, Some, None, Result, Ok, Err}
 use Rattle.std.specs.Result.{result_ok}
 use Rattle.hex.specs.Hex.{decode_of}
 use Rattle.shell_language.specs.declared.loading.RecordMistake.{RecordMistake}
@@ -15,11 +15,29 @@ abbrev pub data_from : ℕ → List ℕ → Result Loaded RecordMistake
 data_from start bytes =
     if nat_le (start + length bytes) 65536 then Ok (record { address = start; bytes = bytes }) else Err (mistake.Past start)
 
--- type 00 is data, and type 01 is the end
-abbrev pub by_type : ℕ → ℕ → List ℕ → Result Loaded RecordMistake
-by_type kind start bytes =
-    if kind == 0 then data_from start bytes
-    else (if kind == 1 then Ok (record { address = start; bytes = [] }) else Err (mistake.Type kind))
+-- no bytes
+abbrev pub nothing_at : ℕ → Result Loaded RecordMistake
+nothing_at start = Ok (record { address = start; bytes = [] })
+
+-- Types 02 and 04 are an extended segment and an extended linear address, of two bytes: what follows is in the first 64K
+-- if both are 00.
+abbrev pub extended : ℕ → ℕ → List ℕ → Result Loaded RecordMistake
+extended kind address (zero ∷ zero ∷ []) = nothing_at address
+extended kind address (high ∷ low ∷ []) = Err (mistake.Extended kind)
+extended kind address bytes = Err (mistake.Size kind 2)
+
+-- Types 03 and 05 are a start segment and a start linear address, of four bytes: they are skipped.
+abbrev pub start : ℕ → ℕ → List ℕ → Result Loaded RecordMistake
+start kind address (first ∷ second ∷ third ∷ fourth ∷ []) = nothing_at address
+start kind address bytes = Err (mistake.Size kind 4)
+
+-- by the type: 00 is data, and 01 is the end
+unfoldable pub by_type : ℕ → ℕ → List ℕ → Result Loaded RecordMistake
+by_type kind address bytes =
+    if kind == 0 then data_from address bytes
+    else (if kind == 1 then nothing_at address
+    else (if (kind == 2) || (kind == 4) then extended kind address bytes
+    else (if (kind == 3) || (kind == 5) then start kind address bytes else Err (mistake.Type kind))))
 
 -- the byte that would bring a sum to a multiple of 256, if the last byte were that one
 abbrev pub wanted_sum : List ℕ → ℕ

@@ -23,7 +23,7 @@ macro_rules! forms {
 
 // All forms.
 #[rattlefmt::skip]
-static FORMS: [Form; 53] = forms![
+static FORMS: [Form; 58] = forms![
     ["mem", [Address, Bytes], "mem AAAA HH ..", "setup: these bytes from this address on"],
     ["load", [Record], "load :LLAAAATTDD..CC", "setup: a record of Intel HEX; the word load may be left out"],
     ["drives", [Within(1, 4)], "drives N", "setup: 1 to 4 drives"],
@@ -61,12 +61,15 @@ static FORMS: [Form; 53] = forms![
     ["pair", [Number, Number], "pair N H", "node N, which is alone, begins a pair with spare host H"],
     ["freshen", [Number, Number], "freshen N K", "node N, which is alone, copies at most K stale pages early"],
     ["sendpart", [Number, Number], "sendpart N I", "node N sends part I of its image"],
+    ["sendpart", [Number, Exactly("all")], "sendpart N all", "all its parts that were not sent yet"],
     ["part", [Number, Number], "part M N", "message M, a part, arrives at node N"],
+    ["part", [Number, Exactly("all")], "part N all", "all parts that have reached no node yet reach node N"],
     ["stop", [Number], "stop N", "node N halts for good"],
     ["run", [Number, Number], "run N K", "the pair's ordinary day, for K turns of node N"],
     ["run", [Number, Number, Exactly("loss"), Within(0, 100), Number], "run N K loss P SEED", "the same; of 100 messages P are lost, repeated or overtaken"],
     ["show", [Number], "show P", "the bytes that terminal P has accepted"],
     ["screen", [Number], "screen P", "the same as text"],
+    ["screen", [Number, Exactly("new")], "screen P new", "what of it was not shown as text before"],
     ["packet", [Number], "packet M", "the bytes of a message of the log"],
     ["node", [Number], "node N", "a node's role, generation and count"],
     ["last", [], "last", "the number of the last message"],
@@ -77,6 +80,8 @@ static FORMS: [Form; 53] = forms![
     ["trace", [Exactly("on")], "trace on", "from here on what is printed is a script"],
     ["trace", [Exactly("off")], "trace off", "no longer"],
     ["help", [], "help", "this list"],
+    ["help", [Exactly("refusals")], "help refusals", "the refusals: their numbers and their words"],
+    ["quit", [], "quit", "ends the session; what comes after it is not read"],
 ];
 
 /// All forms, in the order in which `help` prints them. What reads them by this call is proved without the whole table.

@@ -2,6 +2,7 @@
 #![tactic(auto)]
 
 mod form;
+mod in_words;
 mod kind;
 mod line;
 mod loading;
@@ -13,6 +14,7 @@ mod reading;
 mod spelled;
 
 pub use form::{Form, forms, mistake_in};
+pub use in_words::{InWords, refusals};
 pub use kind::Kind;
 pub use line::{Loss, ShellLine, Stretch, Turns};
 pub use loading::{Record, RecordMistake, read_record};

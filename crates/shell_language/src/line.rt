@@ -57,6 +57,14 @@ pub enum ShellLine<'a> {
     LogAll {
         node: u64,
     },
+    /// All parts of a node's image that were not sent yet are sent.
+    SendPartAll {
+        node: u64,
+    },
+    /// All messages with a part that have not reached a node yet reach this one.
+    PartAll {
+        node: u64,
+    },
     /// All bytes that have not arrived yet arrive.
     ArriveAll,
     /// The pair's ordinary day.
@@ -66,9 +74,10 @@ pub enum ShellLine<'a> {
         port: u8,
         text: Quoted<'a>,
     },
-    /// What a terminal has accepted, as text.
+    /// What a terminal has accepted, as text: all of it, or what was not shown so before.
     Screen {
         port: u8,
+        is_new: bool,
     },
     /// What the disk has in a sector.
     Sector(SectorAddress),
@@ -82,4 +91,8 @@ pub enum ShellLine<'a> {
     Trace(bool),
     /// The list of all lines.
     Help,
+    /// The list of all refusals.
+    Refusals,
+    /// The session ends.
+    Quit,
 }

@@ -2,7 +2,7 @@
 ghost use Rattle.std.specs.Prelude.{◌≡◌, ◌+◌, ◌/◌, ◌%◌, ◌≤◌, Some, None, if◌then◌else◌, length, sum, take};
 ghost use Rattle.std.specs.Result.{result_ok};
 ghost use Rattle.hex.specs.Hex.{decode_of};
-ghost use Rattle.shell_language.specs.Records.{Loaded, by_type, record_by, record_in, record_of};
+ghost use Rattle.shell_language.specs.Records.{Loaded, by_type, extended, start, record_by, record_in, record_of};
 
 use std::fmt;
 use std::marker::Model;
@@ -18,7 +18,7 @@ const LONGEST: usize = RECORD_BYTES + OTHER_BYTES;
 // How many bytes a memory has.
 const MEMORY_BYTES: usize = 65_536;
 
-/// Bytes that are put into memory from an address on; none of them is past FFFF.
+/// Bytes that are put into memory from an address on; none of them is past FFFF. A record that says something else has none.
 #[derive(Drop)]
 pub struct Record {
     address: u16,
@@ -44,8 +44,12 @@ pub enum RecordMistake {
     Length { said: u8, there: usize },
     /// Its last byte does not bring the sum of all to a multiple of 256; this one would.
     Sum { wanted: u8, there: u8 },
-    /// Its type is neither 00, data, nor 01, the end.
+    /// Its type is none of 00 to 05.
     Type(u8),
+    /// A record of its type has this many bytes of data.
+    Size { kind: u8, wanted: u8 },
+    /// It says that what follows is not in the first 64K.
+    Extended { kind: u8 },
     /// Its bytes go past address FFFF.
     Past(u16),
 }
@@ -67,7 +71,15 @@ impl fmt::Display for RecordMistake {
             ),
             RecordMistake::Type(kind) => write!(
                 f,
-                "the record is of type {kind:02X}: 00, data, and 01, the end, are expected"
+                "the record is of type {kind:02X}: a type from 00, data, to 05 is expected"
+            ),
+            RecordMistake::Size { kind, wanted } => write!(
+                f,
+                "a record of type {kind:02X} has {wanted} bytes of data"
+            ),
+            RecordMistake::Extended { kind } => write!(
+                f,
+                "the record of type {kind:02X} puts what follows past FFFF: 0000 is expected, as memory has 64K"
             ),
             RecordMistake::Past(address) => {
                 write!(f, "the record's bytes from {address:04X} on go past FFFF")
@@ -179,6 +191,7 @@ fn excess(bytes: &[u8]) -> u8
 }
 
 // A record of this type.
+#[tactic(auto, unfolding(crate::specs::Records::by_type))]
 fn by_type(kind: u8, address: u16, given: &[u8]) -> Result<Record, RecordMistake>
     requires { length given.now ≤ 255 }
     ensures { result ≡ by_type kind address given.now }
@@ -189,6 +202,29 @@ fn by_type(kind: u8, address: u16, given: &[u8]) -> Result<Record, RecordMistake
         }
         0 => Ok(Record::of(address, given)),
         1 => Ok(Record::of(address, &[])),
+        2 | 4 => extended(kind, address, given),
+        3 | 5 => start(kind, address, given),
         _ => Err(RecordMistake::Type(kind)),
+    }
+}
+
+// An extended address: what follows is in the first 64K.
+fn extended(kind: u8, address: u16, given: &[u8]) -> Result<Record, RecordMistake>
+    ensures { result ≡ extended kind address given.now }
+{
+    match given {
+        [0, 0] => Ok(Record::of(address, &[])),
+        [_, _] => Err(RecordMistake::Extended { kind }),
+        _ => Err(RecordMistake::Size { kind, wanted: 2 }),
+    }
+}
+
+// A start address, which is skipped.
+fn start(kind: u8, address: u16, given: &[u8]) -> Result<Record, RecordMistake>
+    ensures { result ≡ start kind address given.now }
+{
+    match given {
+        [_, _, _, _] => Ok(Record::of(address, &[])),
+        _ => Err(RecordMistake::Size { kind, wanted: 4 }),
     }
 }

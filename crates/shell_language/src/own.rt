@@ -8,6 +8,8 @@ pub enum OwnWord {
     Load,
     Send,
     Log,
+    SendPart,
+    Part,
     Arrive,
     Type,
     Run,
@@ -18,13 +20,16 @@ pub enum OwnWord {
     Picture,
     Trace,
     Help,
+    Quit,
 }
 
 // Each with its word.
-static OWN_WORDS: [(&[u8], OwnWord); 13] = [
+static OWN_WORDS: [(&[u8], OwnWord); 16] = [
     (b"load", OwnWord::Load),
     (b"send", OwnWord::Send),
     (b"log", OwnWord::Log),
+    (b"sendpart", OwnWord::SendPart),
+    (b"part", OwnWord::Part),
     (b"arrive", OwnWord::Arrive),
     (b"type", OwnWord::Type),
     (b"run", OwnWord::Run),
@@ -35,6 +40,7 @@ static OWN_WORDS: [(&[u8], OwnWord); 13] = [
     (b"picture", OwnWord::Picture),
     (b"trace", OwnWord::Trace),
     (b"help", OwnWord::Help),
+    (b"quit", OwnWord::Quit),
 ];
 
 impl OwnWord {

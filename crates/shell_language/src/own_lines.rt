@@ -2,7 +2,7 @@
 ghost use Rattle.std.specs.Prelude.{◌≡◌, ◌≤◌, length};
 ghost use Rattle.std.specs.List.{position_or_len};
 ghost use Rattle.script_language.specs.Words.{found, whole, words_of};
-ghost use Rattle.shell_language.specs.Lines.{all, address, is_quote, own_of, pictured, port_in, quoted_in, run_by, switch, typed_in};
+ghost use Rattle.shell_language.specs.Lines.{all, address, helped, is_quote, own_of, pictured, port_in, quoted_in, run_by, screen_by, shown_of, switch, typed_in};
 
 use crate::line::{Loss, ShellLine, Stretch, Turns};
 use crate::own::OwnWord;
@@ -32,15 +32,32 @@ fn line_of<'a>(own: OwnWord, words: &mut Words<'a>) -> Option<ShellLine<'a>>
             let node = words.number()?;
             all(words, ShellLine::LogAll { node })
         }
+        OwnWord::SendPart => {
+            let node = words.number()?;
+            all(words, ShellLine::SendPartAll { node })
+        }
+        OwnWord::Part => {
+            let node = words.number()?;
+            all(words, ShellLine::PartAll { node })
+        }
         OwnWord::Arrive => all(words, ShellLine::ArriveAll),
         OwnWord::Run => {
             let node = words.number()?;
             let turns = words.number()?;
             run(node, turns, words)
         }
+        other => line_shown(other, words),
+    }
+}
+
+// One that shows something of the pair, or is about the session.
+fn line_shown<'a>(own: OwnWord, words: &mut Words<'a>) -> Option<ShellLine<'a>>
+    ensures { shown_of own words.old ≡ found result words.new }
+{
+    match own {
         OwnWord::Screen => {
             let port = words.small_number()?;
-            Some(ShellLine::Screen { port })
+            screen(port, words)
         }
         OwnWord::Sector => {
             let sector = sector_address(words)?;
@@ -50,8 +67,9 @@ fn line_of<'a>(own: OwnWord, words: &mut Words<'a>) -> Option<ShellLine<'a>>
         OwnWord::Check => Some(ShellLine::Check),
         OwnWord::Picture => picture(words),
         OwnWord::Trace => trace(words),
-        OwnWord::Help => Some(ShellLine::Help),
-        OwnWord::Load | OwnWord::Type => None,
+        OwnWord::Help => help(words),
+        OwnWord::Quit => Some(ShellLine::Quit),
+        _ => None,
     }
 }
 
@@ -79,6 +97,34 @@ fn run<'a>(node: u64, turns: u64, words: &mut Words<'a>) -> Option<ShellLine<'a>
         let seed = words.number()?;
         let loss = Some(Loss { percent, seed });
         return Some(ShellLine::Run(Turns { node, turns, loss }));
+    }
+    None
+}
+
+// What a terminal has accepted, all of it or what is new.
+fn screen<'a>(port: u8, words: &mut Words<'a>) -> Option<ShellLine<'a>>
+    ensures { screen_by port words.old ≡ found result words.new }
+{
+    let Some(word) = words.next() else {
+        let is_new = false;
+        return Some(ShellLine::Screen { port, is_new });
+    };
+    if word == b"new".as_slice() {
+        let is_new = true;
+        return Some(ShellLine::Screen { port, is_new });
+    }
+    None
+}
+
+// The list of all lines, or that of all refusals.
+fn help<'a>(words: &mut Words<'a>) -> Option<ShellLine<'a>>
+    ensures { helped words.old ≡ found result words.new }
+{
+    let Some(word) = words.next() else {
+        return Some(ShellLine::Help);
+    };
+    if word == b"refusals".as_slice() {
+        return Some(ShellLine::Refusals);
     }
     None
 }

@@ -6,22 +6,36 @@ use crate::screen::{Dump, ScreenLine};
 use disk_dcdd::SectorAddress;
 use event_callbacks::PORTS;
 use i8080_words::{Fault, R};
-use pair_events::{Answer, Reply};
+use pair_events::Reply;
 use shared_disk::SectorRead;
 use shell_book::{Book, Played, Printed};
-use shell_language::forms;
+use shell_language::{InWords, forms, refusals};
 use std::alloc::{AllocError, Global};
 
-/// What the terminal of a port has accepted, as text.
-pub fn print_screen(port: u8, bytes: &[u8], printed: &mut Printed) -> Result<(), AllocError> {
+/// What the terminal of a port has accepted, as text: all of it, or what came after its first so many bytes.
+pub fn print_screen(
+    port: u8,
+    bytes: &[u8],
+    seen: Option<usize>,
+    printed: &mut Printed,
+) -> Result<(), AllocError> {
     if usize::from(port) >= PORTS {
-        return printed.line(&Answer::Refused(Fault::Unknown));
+        return print_refusal(Fault::Unknown, printed);
     }
-    printed.line(&format_args!("screen {port}: {} bytes", bytes.len()))?;
-    for line in bytes.split_inclusive(|byte| *byte == b'\n') {
+    let shown = bytes.get(seen.unwrap_or(0)..).unwrap_or(&[]);
+    let new = if seen.is_some() { "new " } else { "" };
+    printed.line(&format_args!("screen {port}: {} {new}bytes", shown.len()))?;
+    for line in shown.split_inclusive(|byte| *byte == b'\n') {
         printed.line(&ScreenLine(line))?;
     }
     Ok(())
+}
+
+/// A refusal of a line that only the shell has, in words.
+pub fn print_refusal(fault: Fault, printed: &mut Printed) -> Result<(), AllocError>
+    ensures { IfOk result (λ _. AddsSome printed.old printed.new) }
+{
+    printed.line(&InWords(fault))
 }
 
 /// What was read of a sector.
@@ -32,7 +46,7 @@ pub fn print_sector(
 ) -> Result<(), AllocError> {
     let read = match read {
         Ok(read) => read,
-        Err(fault) => return printed.line(&Answer::Refused(fault)),
+        Err(fault) => return print_refusal(fault, printed),
     };
     let SectorAddress {
         drive,
@@ -60,6 +74,14 @@ pub fn print_last(book: &Book, printed: &mut Printed) -> Result<(), AllocError> 
 pub fn print_help(printed: &mut Printed) -> Result<(), AllocError> {
     for form in forms() {
         printed.line(&format_args!("{:<24}{}", form.usage, form.meaning))?;
+    }
+    Ok(())
+}
+
+/// All refusals of events.
+pub fn print_refusals(printed: &mut Printed) -> Result<(), AllocError> {
+    for fault in refusals() {
+        printed.line(&format_args!("{:<4}{fault}", fault.number()))?;
     }
     Ok(())
 }
@@ -104,8 +126,11 @@ impl std::fmt::Display for Sum {
             return write!(f, "nothing to do");
         };
         let happened = self.happened;
-        let answer = last.said();
-        write!(f, "{happened} done, the last: {answer}")?;
+        write!(f, "{happened} done, the last: ")?;
+        match last.answer {
+            Ok(reply) => write!(f, "{reply}")?,
+            Err(fault) => write!(f, "{}", InWords(fault))?,
+        }
         if self.refused > 0 {
             write!(f, "; {} refused", self.refused)?;
         }

@@ -2,10 +2,14 @@
 #![tactic(auto)]
 
 mod answers;
+mod held_up;
 mod lanes;
 mod picture;
 mod screen;
 mod words;
 
-pub use answers::{print_help, print_last, print_screen, print_sector, print_sum};
+pub use answers::{
+    print_help, print_last, print_refusal, print_refusals, print_screen, print_sector, print_sum,
+};
+pub use held_up::print_held_up;
 pub use picture::print_picture;

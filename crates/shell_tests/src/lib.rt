@@ -2,9 +2,15 @@
 #![tactic(auto)]
 
 #[cfg(test)]
+mod copies;
+#[cfg(test)]
 mod guests;
 #[cfg(test)]
+mod held_up;
+#[cfg(test)]
 mod lines;
+#[cfg(test)]
+mod notices;
 #[cfg(test)]
 mod rows;
 #[cfg(test)]

@@ -8,6 +8,10 @@ const SESSION: &str = "\
 > load :100000003100013E95D3103E48D311FB76C30B005F
 > :05003800DB11D311C92A
 > :00000001FF
+> :020000020000FC
+> :020000040000FA
+> :0400000300003800C1
+> :0400000500000000F7
 > sector 0 0 5 E5
 > sector 0 0 6 01 02
 > last
@@ -44,7 +48,7 @@ screen 0: 1 bytes
 > type 0 \"\"
 nothing to do
 > type 2 \"x\"
-0 done, the last: refused 15; 1 refused
+0 done, the last: refused 15, unknown; 1 refused
 > run 0 10000
 ran 58 count 63 waits for a key
 > screen 0
@@ -60,13 +64,13 @@ backup 1 count 59
 > run 0 0
 ran 0 count 63 turns
 > run 1 10
-refused 8
+refused 8, wrong role
 > run 7 10
-refused 15
+refused 15, unknown
 > screen 2
-refused 15
+refused 15, unknown
 > sector 3 0 0
-refused 15
+refused 15, unknown
 > trace on
 > step 0 1
 step 0 1
@@ -144,7 +148,15 @@ const WRONG: &str = "\
 > :0300300002337A
 ? the record says that it has 3 bytes of data, and has 2: `:LLAAAATTDD..CC`
 > :0300300202337A1C
-? the record is of type 02: 00, data, and 01, the end, are expected
+? a record of type 02 has 2 bytes of data
+> :020000021000EC
+? the record of type 02 puts what follows past FFFF: 0000 is expected, as memory has 64K
+> :020000040001F9
+? the record of type 04 puts what follows past FFFF: 0000 is expected, as memory has 64K
+> :0100000300FC
+? a record of type 03 has 4 bytes of data
+> :00000006FA
+? the record is of type 06: a type from 00, data, to 05 is expected
 > :02FFFF000102FD
 ? the record's bytes from FFFF on go past FFFF
 > :03

@@ -3,7 +3,7 @@ ghost use Rattle.event_callbacks.specs.declared.devices.TheConstants.{SENT, SECT
 ghost use Rattle.event_callbacks.specs.Keeping.{Keeps};
 
 use event_callbacks::{Completes, plain_completions};
-use pair_shell::Session;
+use pair_shell::{Outcome, Session};
 use std::alloc::{AllocError, Global};
 use std::process::Abort;
 use std::test::Fail;
@@ -60,11 +60,14 @@ fn answers_after<
         let Some(said) = line.strip_prefix(prompt) else {
             continue;
         };
-        let (_, answer) = session.answer(alloc, sent, sector, written, said.as_bytes())?;
+        let (outcome, answer) = session.answer(alloc, sent, sector, written, said.as_bytes())?;
         if !prompt.is_empty() {
             writeln!(printed, "{line}")?;
         }
         printed.push_str(answer.as_str())?;
+        if matches!(outcome, Outcome::Ended) {
+            break;
+        }
     }
     Ok(printed)
 }

@@ -1,4 +1,4 @@
--- None of the hosts so far is a backup.
+-- None of the hosts so far is a backup of the generation.
 use Rattle.std.proofs.Common.{ℕ, ◌<◌, false}
 use Rattle.ft_world.specs.Applies.{Shows}
 use Rattle.ft_world.specs.Standing.{Course}
@@ -9,4 +9,4 @@ use Rattle.pair_shell.proofs.notes.backup_of.Given as goal
 abbrev pub invariant-loop-node : goal.invariant-loop-node
 invariant-loop-node g l =
     (c : Course g.B.Lockstep.State) → Shows g.B.Lockstep.state g.B.Copies.copied g.B.Lockstep.machine records_in l.world c
-    → (m : ℕ) → m < l.node → FindsBackup g.B.Lockstep.machine c.world.nodes m false
+    → (m : ℕ) → m < l.node → FindsBackup g.B.Lockstep.machine c.world.nodes l.fn.generation m false
