@@ -1,43 +1,9 @@
-//! Scripts that are not scripts, input and output that fail, and command lines.
+//! Scripts that are too long, input and output that fail, and what the help says.
 use crate::runs::{Ending, WELL, expect, run_on};
 use command_ending::{Failure, Report};
 use pair_check::Verdict;
 use std::io::{self, ErrorKind, Read, Write};
 use std::test::Fail;
-
-// Scripts, with what is printed and how the run ends.
-static SCRIPTS: [(&[u8], &str, Ending<'static>); 10] = [
-    (b"", "", WELL),
-    (b"\r\n\n# a comment, and then nothing\n", "", WELL),
-    (
-        b"# what follows has a CR\r\nsend 0 0\r\nstop 0",
-        "refused 15\nstopped\n",
-        WELL,
-    ),
-    (b"step 0", "", (3, "bad script at line 1")),
-    (
-        b"stop 0\n\nstop 0 1\nnode 0\n",
-        "",
-        (3, "bad script at line 3"),
-    ),
-    (b"stop 0\nmem 0000 76\n", "", (3, "bad script at line 2")),
-    (b"stop 0\nstop 1\r", "", (3, "bad script at line 2")),
-    (b"mem FFFF 01 02", "", (3, "bad script at line 1")),
-    (
-        b"drives 2\nsector 2 0 0 E5\n",
-        "",
-        (3, "bad script at line 2"),
-    ),
-    (b"#\n \n", "", (3, "bad script at line 2")),
-];
-
-#[test]
-fn bad_scripts_are_refused_whole(rt: HostRuntime) -> Result<(), Fail> {
-    for (script, printed, ending) in SCRIPTS {
-        expect(&rt, "script", script, printed, ending)?;
-    }
-    Ok(())
-}
 
 #[test]
 fn a_script_has_at_most_1_048_576_bytes(rt: HostRuntime) -> Result<(), Fail> {
@@ -122,36 +88,6 @@ fn output_fails_at_its_end_too(rt: HostRuntime) -> Result<(), Fail> {
             let (status, text) = run_on(&rt, &[command], &mut reader, &mut writer)?;
             assert!(rt; (status, text.as_str()) == ending, "{command} {room}");
         }
-    }
-    Ok(())
-}
-
-// Words after the program's name, and what the text about them says.
-static COMMAND_LINES: [(&[&str], &str); 12] = [
-    (&["help", "run"], "run"),
-    (&[], "Usage: pair <COMMAND>"),
-    (&["--help"], "Usage: pair <COMMAND>"),
-    (&["--version"], "pair 0.1.0"),
-    (&["script", "--help"], "Runs a script"),
-    (&["run"], "run"),
-    (&["script", "first"], "the script comes from standard input"),
-    (&["check", "first"], "pair check < FILE"),
-    (&["check", "--quiet"], "--quiet"),
-    (&["live", "first"], "pair live [OPTIONS] < FILE"),
-    (&["live", "--turns", "0"], "--turns"),
-    (&["live", "--link", "pass,lose"], "lose"),
-];
-
-#[test]
-fn command_lines_are_refused_or_explained(rt: HostRuntime) -> Result<(), Fail> {
-    for (words, part) in COMMAND_LINES {
-        let mut reader: &[u8] = b"stop 0";
-        let mut printed = Vec::new(rt.alloc());
-        let (status, text) = run_on(&rt, words, &mut reader, &mut printed)?;
-        assert!(rt; status == 2, "{part}");
-        assert!(rt; text.contains(part), "{part}");
-        assert!(rt; !text.contains("pair_main"), "{part}");
-        assert!(rt; !text.ends_with("\n"), "{part}");
     }
     Ok(())
 }

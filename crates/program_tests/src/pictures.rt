@@ -1,6 +1,6 @@
 //! Pictures of scripts, beyond those of the examples.
 
-use crate::runs::{expect, run_on};
+use crate::runs::run_on;
 use std::test::Fail;
 
 // Each part is sent, and comes; the messages of the parts are the first ones.
@@ -28,15 +28,4 @@ fn a_copy_is_one_arrow_with_its_number(rt: HostRuntime) -> Result<(), Fail> {
     // One more arrow is in the legend.
     assert_eq!(rt; (arrows, labels), (2, 1));
     Ok(())
-}
-
-#[test]
-fn a_bad_script_has_no_picture(rt: HostRuntime) -> Result<(), Fail> {
-    expect(
-        &rt,
-        "picture",
-        b"stop 0\nstep 0\n",
-        "",
-        (3, "bad script at line 2"),
-    )
 }

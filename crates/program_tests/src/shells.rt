@@ -1,27 +1,8 @@
-//! Sessions of the shell, as the program reads and answers them.
+//! Sessions of the shell whose input fails, or has long lines, and a session that is a script.
 use crate::runs::{WELL, expect, run_on};
+use shell_language::forms;
 use std::io::{self, ErrorKind, Read};
 use std::test::Fail;
-
-#[test]
-fn lines_are_answered_up_to_the_end(rt: HostRuntime) -> Result<(), Fail> {
-    expect(&rt, "shell", b"", "", WELL)?;
-    expect(&rt, "shell", b"node 0", "primary 1 count 0\n", WELL)?;
-    expect(
-        &rt,
-        "shell",
-        b"node 0\r\nstop 0\n\nnode 0\n",
-        "primary 1 count 0\nstopped\nhalted\n",
-        WELL,
-    )?;
-    expect(
-        &rt,
-        "shell",
-        b"\xff\n\x00\nlast\n",
-        "? byte 1 of the line is FF: a line is printable ASCII\n? byte 1 of the line is 00: a line is printable ASCII\nno message\n",
-        WELL,
-    )
-}
 
 // A reader that gives each of these texts at one read, and then fails.
 #[derive(Drop)]
@@ -98,4 +79,24 @@ fn a_traced_session_is_a_script(rt: HostRuntime) -> Result<(), Fail> {
     let mut script = Vec::new(rt.alloc());
     run_on(&rt, &["shell"], &mut session, &mut script)?;
     expect(&rt, "check", &script, "same 40\n", WELL)
+}
+
+// A line is taken with 65,536 bytes, and told with one more.
+#[test]
+fn long_lines_are_told(rt: HostRuntime) -> Result<(), Fail> {
+    let mut line = vec![in rt.alloc(); b'#'; 65_536]?;
+    expect(&rt, "shell", &line, "", WELL)?;
+    line.push(b'#')?;
+    let told = "? the line has more than 65536 bytes\n";
+    expect(&rt, "shell", &line, told, WELL)
+}
+
+#[test]
+fn help_has_a_line_for_each_form(rt: HostRuntime) -> Result<(), Fail> {
+    let mut reader: &[u8] = b"help";
+    let mut printed = Vec::new(rt.alloc());
+    run_on(&rt, &["shell"], &mut reader, &mut printed)?;
+    let printed = String::from_utf8_lossy(rt.alloc(), &printed)?;
+    assert_eq!(rt; printed.as_str().lines().count(), forms().len());
+    Ok(())
 }
