@@ -9,6 +9,8 @@ Of the words after the command these are taken, each as often as it is given; al
   --save-disk D=FILE    for `shell`: at the end of the input the disk of drive D is written to a file
   --type P=TEXT         for `live`: keys typed at port P, as lines `type` after the input; \\r, \\n, \\t, \\\\ and \\xHH are one key each
 
+If the input is a terminal, `shell` has a prompt there.
+
 An image has 77 tracks of 32 sectors of 137 bytes. A file is read whole before the program starts; one that is not what it should be
 is refused, with status 2. A file is written whole, or is left as it was, and then the status is 5.
 """
@@ -23,6 +25,7 @@ import threading
 
 sys.path.insert(0, os.path.dirname(os.path.realpath(__file__)))
 import disks
+from sitting import Ended, Sitting
 
 OPTIONS = {"--load": None, "--disk": "shell", "--save-disk": "shell", "--type": "live"}
 ESCAPES = {"r": b"\r", "n": b"\n", "t": b"\t", "\\": b"\\"}
@@ -161,9 +164,15 @@ class Given:
                 program.stdin.flush()
                 last = some
             program.stdin.write(b"\n" if not last.endswith(b"\n") else b"")
-            program.stdin.write(spelled(self.after))
-            if self.saves:
-                program.stdin.write(spelled([MARK] + [line for drive in self.saves for line in disks.query_lines(drive)]))
+        except BrokenPipeError:
+            pass
+        self.finish(program)
+
+    def finish(self, program):
+        """The lines after the input, and its end."""
+        queries = [line for drive in self.saves for line in disks.query_lines(drive)]
+        try:
+            program.stdin.write(spelled(self.after + [MARK] * bool(queries) + queries))
             program.stdin.close()
         except BrokenPipeError:
             pass
@@ -195,14 +204,31 @@ def session(program):
     return [line.decode("latin-1").rstrip("\n") for line in lines]
 
 
+def sit(given, program):
+    """A session at a terminal; what the program answers to the last lines, those that ask for disks to be saved."""
+    try:
+        program.stdin.write(spelled(given.before))
+        Sitting(program, MARK).sit()
+    except Ended:
+        return []
+    asking = threading.Thread(target=given.finish, args=(program,), daemon=True)
+    asking.start()
+    return session(program)
+
+
 def main(path, command, *words):
     given = Given(command, words)
-    signal.signal(signal.SIGINT, signal.SIG_IGN)
-    how = {"preexec_fn": lambda: signal.signal(signal.SIGINT, signal.SIG_DFL)}
-    how["stdout"] = subprocess.PIPE if given.saves else None
+    is_sitting = command == "shell" and os.isatty(0) and os.isatty(1)
+    # A program hears no signals: at a terminal it is this command that Ctrl-C is for.
+    signal.signal(signal.SIGINT, signal.default_int_handler if is_sitting else signal.SIG_IGN)
+    how = {"preexec_fn": lambda: signal.signal(signal.SIGINT, signal.SIG_IGN if is_sitting else signal.SIG_DFL)}
+    how["stdout"] = subprocess.PIPE if given.saves or is_sitting else None
     with subprocess.Popen([path, *given.own], stdin=subprocess.PIPE, **how) as program:
-        threading.Thread(target=given.feed, args=(program,), daemon=True).start()
-        answers = session(program) if given.saves else []
+        if is_sitting:
+            answers = sit(given, program)
+        else:
+            threading.Thread(target=given.feed, args=(program,), daemon=True).start()
+            answers = session(program) if given.saves else []
         status = program.wait()
     if not status:
         given.save(answers)
@@ -217,5 +243,7 @@ if __name__ == "__main__":
         ended = main(*sys.argv[1:])
     except SystemExit as end:
         ended = end.code
+    except KeyboardInterrupt:
+        ended = 130
     # The thread that reads the terminal may still wait for a line.
     os._exit(ended)
