@@ -1,9 +1,12 @@
-"""A session of the shell at a terminal: a greeting, a prompt before each line, lines that can be edited and recalled."""
+"""A session of the shell at a terminal: a greeting, a prompt before each line, lines that can be edited and recalled, and `save`."""
 
+import re
 import readline  # noqa: F401 (input() edits and recalls lines by it)
 import sys
 
-GREETING = "A pair of Altairs. `help` lists the lines; `quit`, or Ctrl-D, ends the session."
+import disks
+
+GREETING = "A pair of Altairs. `help` lists the lines; `save D FILE` writes the disk of drive D; `quit`, or Ctrl-D, ends the session."
 PROMPT = "> "
 BUSY = "\nstill at this line; Ctrl-C once more ends the session, and what it has is lost"
 
@@ -34,19 +37,15 @@ class Sitting:
                 return
             yield line
 
-    def answer(self, line):
-        """Says a line, and prints what is answered to it."""
+    def answers(self, lines):
+        """Says lines, and gives each line that is answered, as it comes."""
         try:
-            self.program.stdin.write(f"{line}\n{self.mark}\n".encode())
+            self.program.stdin.write("".join(f"{line}\n" for line in [*lines, self.mark]).encode())
             self.program.stdin.flush()
         except BrokenPipeError as error:
             raise Ended from error
-        while True:
-            said = self.said()
-            if self.mark.encode() in said:
-                return
-            sys.stdout.buffer.write(said)
-            sys.stdout.buffer.flush()
+        while self.mark.encode() not in (said := self.said()):
+            yield said
 
     def said(self):
         """The next line that the program prints. The first Ctrl-C only says that it is busy, since it hears no signals."""
@@ -65,7 +64,24 @@ class Sitting:
                 raise Ended
             return said
 
+    def save(self, drive, path):
+        """Writes what the disk of a drive has now to a file; what is said of that."""
+        image = disks.image_in([it.decode("latin-1").rstrip("\n") for it in self.answers(disks.query_lines(drive))], drive)
+        if image is None:
+            return f"? {path} is not written: there is no drive {drive}, or its disk could not be read"
+        try:
+            disks.write(path, image)
+        except OSError as error:
+            return f"? {path} is not written: {error.strerror}"
+        return f"saved {drive} {path}: {len(image)} bytes"
+
     def sit(self):
         """Asks and answers, until the session ends."""
         for line in self.lines():
-            self.answer(line)
+            saving = re.fullmatch(r"\s*save ([0-3]) (\S.*)", line)
+            if saving:
+                print(self.save(int(saving[1]), saving[2].strip()))
+                continue
+            for said in self.answers([line]):
+                sys.stdout.buffer.write(said)
+                sys.stdout.buffer.flush()
