@@ -10,9 +10,10 @@ line 1048570: the script has more than 1048576 bytes, and the first that is too 
 // The line with the byte after 1,048,576 is bad for that, and what is before it for its own words.
 #[test]
 fn a_script_that_is_too_large_is_named_so(rt: HostRuntime) -> Result<(), Fail> {
-    let mut script = vec![in rt.alloc(); b'\n'; 1_048_576]?;
-    expect(&rt, "lint", &script, "well formed; lines: 1048576\n", WELL)?;
-    script[..7].copy_from_slice(b"stopp 0");
+    let longest = vec![in rt.alloc(); b'\n'; 1_048_576]?;
+    expect(&rt, "lint", &longest, "well formed; lines: 1048576\n", WELL)?;
+    let mut script = Vec::from_slice(rt.alloc(), b"stopp 0")?;
+    script.resize(1_048_576, b'\n')?;
     script.push(b'#')?;
     expect(&rt, "lint", &script, TOO_LARGE, (3, "bad script at line 1"))
 }
