@@ -86,10 +86,16 @@ static ACTS: [Act; 12] = [
     Act::Take(Input::Written(1), 7),
 ];
 
-// A guest with one drive, and the program at address 0.
-fn setup(alloc: Global) -> R<Setup> {
+// A memory with the program at address 0.
+fn program(alloc: Global) -> R<Vec<u8>> {
     let mut memory = Vec::from_slice(alloc, &ECHO_AND_WRITE)?;
     memory.resize(BYTES, 0x00)?;
+    Ok(memory)
+}
+
+// A guest with one drive, and the program in its memory.
+fn setup(alloc: Global) -> R<Setup> {
+    let memory = program(alloc)?;
     if memory.len() != BYTES {
         return Err(Fault::Malformed);
     }
