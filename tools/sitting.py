@@ -1,14 +1,16 @@
 """A session of the shell at a terminal: a greeting, a prompt before each line, lines that can be edited and recalled, and `save`."""
 
+import os
 import re
 import readline  # noqa: F401 (input() edits and recalls lines by it)
+import signal
 import sys
 
 import disks
 
 GREETING = "A pair of Altairs. `help` lists the lines; `save D FILE` writes the disk of drive D; `quit`, or Ctrl-D, ends the session."
 PROMPT = "> "
-BUSY = "\nstill at this line; Ctrl-C once more ends the session, and what it has is lost"
+BUSY = b"\nstill at this line; Ctrl-C once more ends the session, and what it has is lost\n"
 
 
 class Ended(Exception):
@@ -19,7 +21,7 @@ class Sitting:
     """A terminal and a program. After each line comes a word that no session has; what is answered to it ends the line's answer."""
 
     def __init__(self, program, mark):
-        self.program, self.mark = program, mark
+        self.program, self.mark, self.is_warned = program, mark, False
 
     def lines(self):
         """The lines that are typed, up to `quit` or the end of the input. Ctrl-C drops what is typed so far."""
@@ -37,32 +39,30 @@ class Sitting:
                 return
             yield line
 
+    def interrupted(self, _number, _frame):
+        """Ctrl-C in a line: the program hears no signals, so the first only says that it is busy, and the second ends it."""
+        if self.is_warned:
+            self.program.kill()
+        else:
+            self.is_warned = True
+            os.write(2, BUSY)
+
     def answers(self, lines):
         """Says lines, and gives each line that is answered, as it comes."""
+        self.is_warned = False
+        signal.signal(signal.SIGINT, self.interrupted)
         try:
             self.program.stdin.write("".join(f"{line}\n" for line in [*lines, self.mark]).encode())
             self.program.stdin.flush()
-        except BrokenPipeError as error:
-            raise Ended from error
-        while self.mark.encode() not in (said := self.said()):
-            yield said
-
-    def said(self):
-        """The next line that the program prints. The first Ctrl-C only says that it is busy, since it hears no signals."""
-        is_warned = False
-        while True:
-            try:
-                said = self.program.stdout.readline()
-            except KeyboardInterrupt as error:
-                if is_warned:
-                    self.program.kill()
-                    raise Ended from error
-                is_warned = True
-                print(BUSY, file=sys.stderr)
-                continue
-            if not said:
-                raise Ended
-            return said
+            for said in iter(self.program.stdout.readline, b""):
+                if self.mark.encode() in said:
+                    return
+                yield said
+        except BrokenPipeError:
+            pass
+        finally:
+            signal.signal(signal.SIGINT, signal.default_int_handler)
+        raise Ended
 
     def save(self, drive, path):
         """Writes what the disk of a drive has now to a file; what is said of that."""
