@@ -21,13 +21,15 @@ class Sitting:
     """A terminal and a program. After each line comes a word that no session has; what is answered to it ends the line's answer."""
 
     def __init__(self, program, mark):
-        self.program, self.mark, self.is_warned = program, mark, False
+        self.program, self.mark = program, mark
+        self.is_asking = self.is_warned = False
 
     def lines(self):
         """The lines that are typed, up to `quit` or the end of the input. Ctrl-C drops what is typed so far."""
         print(GREETING)
         while True:
             try:
+                self.is_asking = True
                 line = input(PROMPT)
             except KeyboardInterrupt:
                 print()
@@ -35,12 +37,16 @@ class Sitting:
             except EOFError:
                 print()
                 return
+            finally:
+                self.is_asking = False
             if line.strip() == "quit":
                 return
             yield line
 
     def interrupted(self, _number, _frame):
-        """Ctrl-C in a line: the program hears no signals, so the first only says that it is busy, and the second ends it."""
+        """Ctrl-C. In a line the program hears no signals, so the first only says that it is busy, and the second ends it."""
+        if self.is_asking:
+            raise KeyboardInterrupt
         if self.is_warned:
             self.program.kill()
         else:
@@ -50,7 +56,6 @@ class Sitting:
     def answers(self, lines):
         """Says lines, and gives each line that is answered, as it comes."""
         self.is_warned = False
-        signal.signal(signal.SIGINT, self.interrupted)
         try:
             self.program.stdin.write("".join(f"{line}\n" for line in [*lines, self.mark]).encode())
             self.program.stdin.flush()
@@ -60,8 +65,6 @@ class Sitting:
                 yield said
         except BrokenPipeError:
             pass
-        finally:
-            signal.signal(signal.SIGINT, signal.default_int_handler)
         raise Ended
 
     def save(self, drive, path):
@@ -77,6 +80,7 @@ class Sitting:
 
     def sit(self):
         """Asks and answers, until the session ends."""
+        signal.signal(signal.SIGINT, self.interrupted)
         for line in self.lines():
             saving = re.fullmatch(r"\s*save ([0-3]) (\S.*)", line)
             if saving:
