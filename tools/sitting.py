@@ -1,4 +1,4 @@
-"""A session of the shell at a terminal: a greeting, a prompt before each line, lines that can be edited and recalled, and `save`."""
+"""A shell session at a terminal: a greeting, a prompt before each line, lines that can be edited and recalled, and `save`."""
 
 import os
 import re
