@@ -4,7 +4,7 @@ ghost use Rattle.altair_copies.specs.Copies.{image_copy};
 ghost use Rattle.guest_board.specs.Guest.{guest_at_boot};
 ghost use Rattle.guest_board.specs.Inputs.{some_altair};
 ghost use Rattle.i8080_words.specs.declared.refusal.Fault.TheVariants.{OutOfMemory};
-ghost use Rattle.shared_disk.specs.Records.{HasDrives, HasWholeSectors, IsUnwritten};
+ghost use Rattle.shared_disk.specs.Records.{HasDrives, IsUnwritten};
 ghost use Rattle.ft_world.specs.Applies.{IsFaithful, Shows};
 ghost use Rattle.ft_world.specs.Beginning.{beginning};
 
@@ -33,7 +33,6 @@ pub fn boot_pair<T: Completes + Drop, S: Completes + Drop, W: Completes + Drop, 
 ) -> Result<Altairs<T, S, W, D>, (D, Callbacks<T, S, W>, Callbacks<T, S, W>, Fault)>
     requires drives { HasDrives (D.records store) setup.now.drives }
     requires unwritten { IsUnwritten (D.records store) }
-    requires whole { HasWholeSectors (D.records store) }
     ensures ok { IfOk result (λ world. Shows (λ d. d.board.guest) (λ d. d.board.guest) some_altair D.records world
         (beginning some_altair (image_copy setup.now.drives) setup.now.reads (guest_at_boot setup.now) (D.records store))) }
     ensures faithful { OnOk result (IsFaithful some_altair
@@ -45,6 +44,7 @@ pub fn boot_pair<T: Completes + Drop, S: Completes + Drop, W: Completes + Drop, 
     the_image_copies();
     boards_are_copied_as_guests();
     sizes(&setup.levels, setup.sense);
+    store.has_whole_sectors();
     let (Ok(first), Ok(second), Ok(room)) = (
         BoardMemory::of(alloc, setup),
         BoardMemory::of(alloc, setup),

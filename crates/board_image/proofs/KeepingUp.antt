@@ -10,7 +10,8 @@ use Rattle.guest_parts.specs.Guest.{Guest}
 use Rattle.guest_board.specs.Stepping.{IsAnswer, by_name, guest_after, versions_after_answer}
 use Rattle.guest_board.specs.declared.executed.Executed.{Executed}
 use Rattle.guest_board.specs.declared.executed.Executed.TheVariants.{Ran, Accepted}
-use Rattle.board_image.specs.Drafts.{Drafted, IsFreshened, KeepsUp, copied_at, is_next, is_old, is_stale, none_copied, nothing_copied, one_if, stale_below, version_of}
+use Rattle.board_image.specs.Drafts.{Drafted, IsFreshened, KeepsUp, copied_at, is_next, is_old, is_stale, none_copied, nothing_copied, stale_below, version_of}
+use Rattle.clone_state.specs.Stale.{one_if}
 use Rattle.board_image.specs.DraftLaws.{IsLater, memory_of, DraftsBegin, DraftsKeepUp}
 use Rattle.board_image.proofs.StalePages.{left_below, next_below, none_below}
 use Rattle.board_image.proofs.Freshening.{page_low, still_agrees}
@@ -18,7 +19,7 @@ use Rattle.board_image.proofs.LaterPages.{each, inputs_later, steps_later}
 
 -- ---- a new draft
 
-none_at : (n k : ℕ) → slice_index_or (none_copied n) k None ≡ None
+pub none_at : (n k : ℕ) → slice_index_or (none_copied n) k None ≡ None
 unfolding none_copied
 none_at n k = still None n k
   where

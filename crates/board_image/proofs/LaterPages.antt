@@ -45,7 +45,7 @@ each old middle new first second = record {
 no_less : (n : ℕ) → n ≤ n
 no_less n = omega arith
 
-up : (xs : List ℕ) (p n k : ℕ) → n ≡ slice_index xs p → n + 1 < 2 ^ 64
+pub up : (xs : List ℕ) (p n k : ℕ) → n ≡ slice_index xs p → n + 1 < 2 ^ 64
     → slice_index xs k ≤ slice_index (slice_set xs p ((n + 1) % 2 ^ 64)) k
 up [] p n k e low = no_less 0
 up (x ∷ xs) zero n zero e low =
@@ -148,14 +148,14 @@ access_later (Output number byte) w versions bound long all low =
     subst (λ (memory : List ℕ). IsLater (pages_with w versions) (record { bytes = memory; versions = versions })) (sym same)
     (unchanged (pages_with w versions))
 
-access_little : (access : Access) (versions : List ℕ) (bound : ℕ) → ((q : ℕ) → slice_index versions q ≤ bound)
+pub access_little : (access : Access) (versions : List ℕ) (bound : ℕ) → ((q : ℕ) → slice_index versions q ≤ bound)
     → (q : ℕ) → slice_index (versions_after access versions) q ≤ bound + 1
 access_little (Write address byte) versions bound all q =
     little versions (page_of address) (slice_index versions (page_of address)) bound q all (all (page_of address))
 access_little (Input number) versions bound all q = let here : slice_index versions q ≤ bound = all q in omega (arith, here)
 access_little (Output number byte) versions bound all q = let here : slice_index versions q ≤ bound = all q in omega (arith, here)
 
-access_long : (access : Access) (versions : List ℕ) → length (versions_after access versions) ≡ length versions
+pub access_long : (access : Access) (versions : List ℕ) → length (versions_after access versions) ≡ length versions
 access_long (Write address byte) versions =
     length-set versions (page_of address) ((slice_index versions (page_of address) + 1) % 2 ^ 64)
 access_long (Input number) versions = refl
@@ -173,7 +173,7 @@ accesses_later (x ∷ xs) w versions bound long all low =
     (accesses_later xs (after_access x w) (versions_after x versions) (bound + 1) (access_long x versions ∙ long)
     (access_little x versions bound all) (omega (arith, low)))
 
-few : (g : Guest) → length (step_of g).accesses ≤ 2
+pub few : (g : Guest) → length (step_of g).accesses ≤ 2
 unfolding step_of
 few g = few_accesses g.processor (memory_byte (wired g)) (port_byte (wired g)) (line_of g.devices g.levels)
 

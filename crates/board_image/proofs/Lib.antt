@@ -4,3 +4,4 @@ pub mod StalePages
 pub mod Freshening
 pub mod LaterPages
 pub mod KeepingUp
+pub mod WrittenPages

@@ -4,7 +4,8 @@ use Rattle.std.specs.Prelude.{◌==◌, ◌&&◌, not, nat_lt}
 use Rattle.std.proofs.lemmas.Bool.Decides.{nat_tests}
 use Rattle.guest_parts.specs.Board.{OnBoard}
 use Rattle.guest_memory.specs.declared.memory.TheConstants.{PAGES}
-use Rattle.board_image.specs.Drafts.{Drafted, IsFreshened, copied_at, version_of, is_old, is_stale, one_if, stale_below}
+use Rattle.clone_state.specs.Stale.{count_below, one_if}
+use Rattle.board_image.specs.Drafts.{Drafted, IsFreshened, copied_at, version_of, is_old, is_stale, stale_below}
 
 pub lt_true : (a b : ℕ) → nat_lt a b ≡ true → a < b
 lt_true a b h = grind (arith, nat_tests)
@@ -24,12 +25,12 @@ same n = grind (arith, nat_tests)
 -- ---- counting
 
 pub none_below : (draft : Drafted) (board : OnBoard) → stale_below draft board 0 ≡ 0
-unfolding stale_below
+unfolding count_below
 none_below draft board = refl
 
 pub next_below : (draft : Drafted) (board : OnBoard) (page : ℕ)
     → stale_below draft board (suc page) ≡ stale_below draft board page + one_if (is_stale draft board page)
-unfolding stale_below
+unfolding count_below
 next_below draft board page = refl
 
 pub one_more : (draft : Drafted) (board : OnBoard) (page : ℕ) (stale : Bool) → is_stale draft board page ≡ stale

@@ -1,10 +1,10 @@
 -- A board with the draft of its image, if one was begun; and such boards as guests that can be copied.
-use Rattle.std.specs.Prelude.{ℕ, refl, List, Option, Some, None}
+use Rattle.std.specs.Prelude.{ℕ, Bool, refl, List, Option, Some, None}
 use Rattle.std.specs.Coded.{Coded, code_by, coded×, coded_ℕ, coded_list, coded_option}
 use Rattle.guest_parts.specs.Board.{OnBoard}
-use Rattle.guest_memory.specs.declared.memory.TheConstants.{PAGES}
+use Rattle.guest_lockstep.specs.Pages.{every_page}
 use Rattle.clone_state.specs.Copies.{CopiesAs, image_parts}
-use Rattle.board_image.specs.Drafts.{Agrees, Drafted, KeepsUp, stale_pages}
+use Rattle.board_image.specs.Drafts.{Agrees, Drafted, KeepsUp, stale_in}
 use Rattle.clone_state.specs.Parts.{guest_in, part_count}
 
 pub record WithDraft : Type 0 where
@@ -31,12 +31,12 @@ abbrev pub AgreesWith : OnBoard → Option Drafted → Type 0
 AgreesWith board None = Unit {0}
 AgreesWith board (Some draft) = Agrees draft board
 
--- how many pages are stale: all of them if there is no draft
-abbrev pub stale_with : OnBoard → Option Drafted → ℕ
-stale_with board None = PAGES
-stale_with board (Some draft) = stale_pages draft board
+-- which pages are stale: all of them if there is no draft
+abbrev pub stale_with : OnBoard → Option Drafted → ℕ → Bool
+stale_with board None = every_page
+stale_with board (Some draft) = stale_in draft board
 
-abbrev pub stale_on : WithDraft → ℕ
+abbrev pub stale_on : WithDraft → ℕ → Bool
 stale_on d = stale_with d.board d.draft
 
 -- a law: the guests of boards are copied by their images

@@ -1,9 +1,10 @@
 -- Pages that are copied before their image is asked for: which are stale, which are copied next, and when a draft is that
 -- of a board.
-use Rattle.std.specs.Prelude.{◌≡◌, ℕ, zero, suc, ◌+◌, ◌<◌, ◌≤◌, ◌==◌, ◌-◌, nat_lt, Bool, true, false, not, ◌&&◌, if◌then◌else◌, List, length, replicate, slice_index, slice_index_or, Option, Some, None}
+use Rattle.std.specs.Prelude.{◌≡◌, ℕ, ◌<◌, ◌≤◌, ◌==◌, ◌-◌, nat_lt, Bool, true, not, ◌&&◌, if◌then◌else◌, List, length, replicate, slice_index, slice_index_or, Option, Some, None}
 use Rattle.guest_memory.specs.Pages.{page_of, zeros}
 use Rattle.guest_memory.specs.declared.memory.TheConstants.{BYTES, PAGES}
 use Rattle.guest_parts.specs.Board.{OnBoard}
+use Rattle.clone_state.specs.Stale.{count_below, stale_count}
 
 -- the bytes that were copied, by address, and the version at which each page was copied
 pub record Drafted : Type 0 where
@@ -41,17 +42,16 @@ is_old (Some copied) version = not (copied == version)
 abbrev pub is_stale : Drafted → OnBoard → ℕ → Bool
 is_stale draft board page = is_old (copied_at draft page) (version_of board page)
 
-abbrev pub one_if : Bool → ℕ
-one_if true = 1
-one_if false = 0
+-- the stale pages of a board with this draft
+abbrev pub stale_in : Drafted → OnBoard → ℕ → Bool
+stale_in draft board = λ page. is_stale draft board page
 
 -- how many of the pages below this one are stale
-unfoldable pub stale_below : Drafted → OnBoard → ℕ → ℕ
-stale_below draft board zero = 0
-stale_below draft board (suc page) = stale_below draft board page + one_if (is_stale draft board page)
+abbrev pub stale_below : Drafted → OnBoard → ℕ → ℕ
+stale_below draft board page = count_below (stale_in draft board) page
 
 abbrev pub stale_pages : Drafted → OnBoard → ℕ
-stale_pages draft board = stale_below draft board PAGES
+stale_pages draft board = stale_count (stale_in draft board)
 
 -- ---- copies
 

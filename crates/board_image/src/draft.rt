@@ -76,7 +76,7 @@ impl Draft {
     }
 
     // There is always room for every page.
-    fn has_room(&self)
+    pub(crate) fn has_room(&self)
         ensures { HasRoom self.now }
     {
         let _ = &self.bytes;

@@ -8,8 +8,8 @@ mod copied;
 mod drafting;
 mod lockstep;
 
-/// A board, and a draft of it if one was begun. The draft stays one of the board whatever the board does. A guest with a
-/// draft runs by plain steps until its image is made; without one it runs as its board does.
+/// A board, and a draft of it if one was begun. The guest runs as its board does, and the draft stays one of the board
+/// whatever the board does.
 #[derive(Drop)]
 pub struct DraftedBoard<T: Completes, S: Completes, W: Completes> {
     board: Board<T, S, W>,

@@ -9,4 +9,5 @@ pub mod Gathering
 pub mod Image
 pub mod Reading
 pub mod Copies
+pub mod Stale
 pub mod Slots

@@ -4,12 +4,13 @@ ghost use Rattle.disk_dcdd.specs.declared.controller.TheConstants.{DRIVES};
 ghost use Rattle.event_callbacks.specs.declared.devices.TheConstants.{PORTS};
 ghost use Rattle.guest_parts.specs.Guest.{Guest};
 ghost use Rattle.guest_parts.specs.Parts.{guest_of_parts};
-ghost use Rattle.guest_memory.specs.declared.memory.TheConstants.{PAGES};
+ghost use Rattle.guest_lockstep.specs.Pages.{every_page};
 ghost use Rattle.i8080_words.specs.declared.limits.TheConstants.{GREATEST_NUMBER};
 ghost use Rattle.i8080_words.specs.declared.refusal.Fault.TheVariants.{OutOfMemory};
 ghost use Rattle.clone_state.specs.Assembly.{gathered, machine_in};
 ghost use Rattle.clone_state.specs.Copies.{refused_as};
 ghost use Rattle.clone_state.specs.Parts.{guest_in};
+ghost use Rattle.clone_state.specs.Stale.{AreCopied, stale_count};
 
 use crate::assembly::Assembly;
 use crate::image::Image;
@@ -29,18 +30,23 @@ pub trait Copies<H>: Lockstep {
         ensures some { 1 ≤ result }
         ensures few { result ≤ DRIVES };
 
-    // How many pages of a guest are stale: all of them if there is no draft of its image.
-    ghost stale: { Self → ℕ };
-
     /// Copies the lowest stale pages, `pages` at most, into a draft of the guest's image, which begins here if there is
-    /// none. Returns how many are still stale. `OutOfMemory` if the allocator refuses.
+    /// none. Returns how many are still stale. `OutOfMemory` if the allocator refuses; only a draft that begins needs memory.
     fn freshen(&mut self, alloc: Global, pages: u64) -> R<u64>
         ensures state { Self.state self.new ≡ Self.state self.old }
         ensures copied { copied self.new ≡ copied self.old }
-        ensures fewer { IfOk result (λ left. left ≡ stale self.old - pages) }
-        ensures left { IfOk result (λ left. left ≡ stale self.new) }
+        ensures fewer { IfOk result (λ left. left ≡ stale_count (Self.stale self.old) - pages) }
+        ensures left { IfOk result (λ left. left ≡ stale_count (Self.stale self.new)) }
+        ensures lowest { OnOk result (AreCopied pages (Self.stale self.old) (Self.stale self.new)) }
+        ensures begins { OnErr result (Self.stale self.old ≡ every_page) }
         ensures full { IsOkUnless result OutOfMemory }
         ensures unchanged { OnErr result (self.new ≡ self.old) };
+
+    /// Drops the draft of the guest's image, if there is one: then every page is stale.
+    fn forget(&mut self)
+        ensures state { Self.state self.new ≡ Self.state self.old }
+        ensures copied { copied self.new ≡ copied self.old }
+        ensures forgotten { Self.stale self.new ≡ every_page };
 
     /// The image of the guest, as it is now, for the generation that it begins. Uses up the draft, so that only stale
     /// pages are copied. `OutOfMemory` if the allocator refuses; then the draft stays.
@@ -52,7 +58,7 @@ pub trait Copies<H>: Lockstep {
             → Self.machine.keys (Self.state self.new) port ≤ GREATEST_NUMBER }
         ensures state { Self.state self.new ≡ Self.state self.old }
         ensures same { copied self.new ≡ copied self.old }
-        ensures used { OnOk result (stale self.new ≡ PAGES) }
+        ensures used { OnOk result (Self.stale self.new ≡ every_page) }
         ensures full { IsOkUnless result OutOfMemory }
         ensures unchanged { OnErr result (self.new ≡ self.old) };
 

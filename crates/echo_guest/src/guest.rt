@@ -76,6 +76,7 @@ fn byte_of(number: u64, byte: u8) -> Operation
     }
 }
 
+ghost use Rattle.guest_lockstep.specs.Pages.{every_page};
 ghost use Rattle.echo_guest.specs.Echo.{Echo, at_boot, echo};
 ghost use Rattle.echo_guest.specs.MoveLaws.{echo_counts, echo_issues_and_completes};
 
@@ -85,6 +86,10 @@ impl Lockstep for Echo {
     ghost state = { λ e. e };
 
     ghost machine = { echo };
+
+    ghost writes = { λ e page. false };
+
+    ghost stale = { λ e. every_page };
 
     ghost counts = { echo_counts };
 

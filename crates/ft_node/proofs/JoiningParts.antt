@@ -19,7 +19,7 @@ use Rattle.pair_protocol.specs.Node.{Node, Backup, gets_part, joins}
 use Rattle.ft_node.specs.Calls.{GetsPart}
 use Rattle.ft_node.specs.Joined.{Joined}
 use Rattle.ft_node.specs.Roles.{IsFollower, IsJoining}
-use Rattle.ft_node.specs.Seats.{Becomes, IsNode}
+use Rattle.ft_node.specs.Seats.{Becomes, IsNode, alone_board}
 use Rattle.ft_node.specs.declared.node.Node as code
 use Rattle.ft_node.specs.declared.node.Node.TheVariants as seat
 use Rattle.ft_node.specs.declared.ran.PartCame.{PartCame}
@@ -225,3 +225,11 @@ module _ {B S : Type 0} (state : B → S) (copied : B → Guest) (C : Copying S)
     comes_last k same full (Err fault) (seat.Draining d) becomes = absurd becomes
     comes_last k same full (Err fault) (seat.Alone a) becomes = absurd becomes
     comes_last k same full (Err fault) (seat.Halted h) becomes = absurd becomes
+
+-- ---- it is not alone
+
+pub becomes_none : {B H : Type 0} (copied : B → Guest) (bytes : List ℕ) (j : Joined) (r : Result PartCame Fault)
+    (node : code.Node B H) → Becomes copied bytes j r node → alone_board node ≡ None
+becomes_none copied bytes j (Ok part) (seat.Backup b) is = refl
+becomes_none copied bytes j (Err fault) (seat.Joining k) is = refl
+becomes_none copied bytes j r node is = absurd is

@@ -1,11 +1,13 @@
 -- Which node of the protocol a node is, in whatever role, and what its calls require.
-use Rattle.std.specs.Prelude.{◌≡◌, ℕ, ◌-◌, true, false, Option, Some, None, is_some, List, [], Result, Ok, Err}
+use Rattle.std.specs.Prelude.{◌≡◌, ℕ, ◌-◌, Bool, true, false, Option, Some, None, is_some, List, [], Result, Ok, Err}
 use Rattle.clone_state.specs.Assembly.{after_forgetting, gathered, machine_in}
 use Rattle.clone_state.specs.Copies.{refused_as}
 use Rattle.clone_state.specs.Parts.{guest_in}
+use Rattle.clone_state.specs.Stale.{AreCopied, stale_count}
 use Rattle.guest_parts.specs.Guest.{Guest}
 use Rattle.guest_lockstep.specs.Machine.{Machine}
 use Rattle.guest_lockstep.specs.Outstanding.{IsFrugal}
+use Rattle.guest_lockstep.specs.Pages.{every_page}
 use Rattle.guest_lockstep.specs.declared.input.Input.{Input}
 use Rattle.i8080_words.specs.declared.refusal.Fault.{Fault}
 use Rattle.log_buffer.specs.Log.{room_answer}
@@ -18,6 +20,7 @@ use Rattle.recorder.specs.Recording.{IsDue}
 use Rattle.replayer.specs.Replaying.{bytes_refusal}
 use Rattle.shared_disk.specs.declared.disk.SectorRead.{SectorRead}
 use Rattle.ft_node.specs.Joined.{Joined}
+use Rattle.ft_node.specs.Pages.{PagesGoOn, SamePages}
 use Rattle.ft_node.specs.Roles.{AreOfOutstanding, HasImage, IsPrimary, IsFollower, IsJoining, IsAlone, IsHalted}
 use Rattle.ft_node.specs.declared.ran.PartCame.{PartCame}
 use Rattle.ft_node.specs.declared.ran.PartCame.TheVariants as came
@@ -61,22 +64,33 @@ room_of (seat.Halted h) = Ok tt
 
 -- ---- a node that is alone
 
--- how many pages of its guest are stale
-abbrev pub stale_at : {B : Type 0} {H : Type 0} → (B → ℕ) → code.Node B H → Option ℕ
-stale_at stale (seat.Primary p) = None
-stale_at stale (seat.Backup b) = None
-stale_at stale (seat.Joining j) = None
-stale_at stale (seat.Draining d) = None
-stale_at stale (seat.Alone a) = Some (stale a.board)
-stale_at stale (seat.Halted h) = None
+-- its guest
+abbrev pub alone_board : {B : Type 0} {H : Type 0} → code.Node B H → Option B
+alone_board (seat.Primary p) = None
+alone_board (seat.Backup b) = None
+alone_board (seat.Joining j) = None
+alone_board (seat.Draining d) = None
+alone_board (seat.Alone a) = Some a.board
+alone_board (seat.Halted h) = None
 
--- at most this many of them were copied, and how many are left
-pub record AreFreshened {B : Type 0} {H : Type 0} (stale : B → ℕ) (pages left : ℕ)
+-- this many pages of its guest are stale, once the lowest of them, at most `pages`, were copied
+pub record AreFreshened {B : Type 0} {H : Type 0} (stale : B → ℕ → Bool) (pages left : ℕ)
     (old new : code.Node B H) : Type 0 where
-  pub before : ℕ
-  pub were : stale_at stale old ≡ Some before
-  pub fewer : left ≡ before - pages
-  pub are : stale_at stale new ≡ Some left
+  pub before : B
+  pub was : alone_board old ≡ Some before
+  pub after : B
+  pub is : alone_board new ≡ Some after
+  pub fewer : left ≡ stale_count (stale before) - pages
+  pub left_are : left ≡ stale_count (stale after)
+  pub lowest : AreCopied pages (stale before) (stale after)
+
+-- only a draft that begins needs memory
+abbrev pub NoneCopied : {B : Type 0} {H : Type 0} → (B → ℕ → Bool) → code.Node B H → Type 0
+NoneCopied {B} stale node = (board : B) → alone_board node ≡ Some board → stale board ≡ every_page
+
+-- its stale pages are the same
+abbrev pub PagesStay : {B : Type 0} {H : Type 0} → (B → ℕ → Bool) → code.Node B H → code.Node B H → Type 0
+PagesStay stale old new = PagesGoOn stale (SamePages stale) (alone_board old) (alone_board new)
 
 -- ---- what the calls of a node require
 

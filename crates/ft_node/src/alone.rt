@@ -1,11 +1,12 @@
 //! A node that is live.
-ghost use Rattle.std.specs.Prelude.{◌≡◌, ◌<◌, Ok, OnErr};
+ghost use Rattle.std.specs.Prelude.{◌≡◌, ◌<◌, IfOk, Ok, OnErr};
 ghost use Rattle.event_callbacks.specs.declared.devices.TheConstants.{PORTS};
 ghost use Rattle.pair_protocol.specs.Effects.{Took};
 ghost use Rattle.pair_protocol.specs.Node.{Node};
 ghost use Rattle.recorder.specs.Recording.{IsDue};
 ghost use Rattle.ft_node.specs.Calls as calls;
 ghost use Rattle.ft_node.specs.Roles.{IsAlone};
+ghost use Rattle.ft_node.specs.Pages.{SamePages, StepsWrite};
 
 use crate::ran::Ran;
 use event_callbacks::{OpId, Operation};
@@ -28,6 +29,7 @@ impl<B: Lockstep> Alone<B> {
         ensures answer { (x : Node B.State)
             → IsAlone self.old.reads (B.state self.old.board) self.old.generation x
             → calls.Steps B.machine turns x result (IsAlone self.new.reads (B.state self.new.board) self.new.generation) }
+        ensures pages { IfOk result (λ ran. StepsWrite B.state B.machine B.writes B.stale ran.steps self.old.board self.new.board) }
         ensures unchanged { OnErr result (self.new ≡ self.old) }
     {
         let Stopped { steps, reason } = guest_lockstep::run(&mut self.board, turns);
@@ -47,7 +49,8 @@ impl<B: Lockstep> Alone<B> {
     /// Takes an input that its guest awaits.
     pub(crate) fn accept(&mut self, input: Input)
         requires { IsDue B.machine (B.state self.old.board) input }
-        ensures { (x : Node B.State)
+        ensures pages { SamePages B.stale self.old.board self.new.board }
+        ensures node { (x : Node B.State)
             → IsAlone self.old.reads (B.state self.old.board) self.old.generation x
             → calls.Makes x (Took B.machine input) (IsAlone self.new.reads (B.state self.new.board) self.new.generation) }
     {

@@ -1,7 +1,9 @@
 //! A generation that begins with the copy of a machine: an alone node begins it, and a joining node is given the parts.
-ghost use Rattle.std.specs.Prelude.{◌≡◌, ◌+◌, ◌-◌, ◌<◌, ◌≤◌, ℕ, [], length, IfOk, IsOkUnless, OnErr};
+ghost use Rattle.std.specs.Prelude.{◌≡◌, ◌+◌, ◌-◌, ◌<◌, ◌≤◌, ℕ, None, [], length, IfErr, IfOk, IsOkUnless, OnErr, OnOk};
 ghost use Rattle.clone_state.specs.Copies.{CopiesAs, image_parts};
 ghost use Rattle.clone_state.specs.Parts.{message_at};
+ghost use Rattle.clone_state.specs.Stale.{AreCopied, stale_count};
+ghost use Rattle.guest_lockstep.specs.Pages.{every_page};
 ghost use Rattle.disk_dcdd.specs.declared.controller.TheConstants.{DRIVES};
 ghost use Rattle.event_callbacks.specs.declared.devices.TheConstants.{PORTS};
 ghost use Rattle.i8080_words.specs.declared.limits.TheConstants.{GREATEST_NUMBER};
@@ -13,7 +15,7 @@ ghost use Rattle.ft_node.specs.Calls as calls;
 ghost use Rattle.ft_node.specs.Calls.{next_after};
 ghost use Rattle.ft_node.specs.Kept.{image_of};
 ghost use Rattle.ft_node.specs.Roles.{IsAlone, IsJoining};
-ghost use Rattle.ft_node.specs.Seats.{AreFreshened, IsNode};
+ghost use Rattle.ft_node.specs.Seats.{AreFreshened, IsNode, NoneCopied, PagesStay, alone_board};
 ghost use Rattle.ft_node.specs.declared.node.Node.TheVariants as seat;
 
 use crate::alone::Alone;
@@ -55,6 +57,7 @@ impl<B: Copies<H> + Drop, H: Drop> Node<B, H> {
             → CopiesAs B.state B.copied drives C.parts C.part_count C.assemble
             → calls.HasTakenKeys B.machine x → IsNode B.state B.machine C drives self.old x
             → calls.BeginsPair B.machine x result (IsNode B.state B.machine C drives self.new) }
+        ensures pages { OnOk result (PagesStay B.stale self.old self.new) }
         ensures unchanged { OnErr result (self.new ≡ self.old) }
     {
         let halted = self.halted();
@@ -78,6 +81,7 @@ impl<B: Copies<H> + Drop, H: Drop> Node<B, H> {
             → IsNode B.state B.machine C drives self.old x
             → calls.Freshens x result (IsNode B.state B.machine C drives self.new) }
         ensures stale { IfOk result (λ left. AreFreshened B.stale pages left self.old self.new) }
+        ensures begins { IfErr result (λ fault. fault ≡ OutOfMemory → NoneCopied B.stale self.old) }
         ensures unchanged { OnErr result (self.new ≡ self.old) }
     {
         match self {
@@ -106,6 +110,7 @@ impl<B: Copies<H> + Drop, H: Drop> Node<B, H> {
             → CopiesAs B.state B.copied drives C.parts C.part_count C.assemble
             → IsNode B.state B.machine C drives self.old x
             → calls.GetsPart C (message_at drives bytes.now) x result (IsNode B.state B.machine C drives self.new) }
+        ensures pages { OnOk result (PagesStay B.stale self.old self.new) }
         ensures unchanged { OnErr result (self.new ≡ self.old) }
     {
         let halted = self.halted();
@@ -148,8 +153,10 @@ fn freshened<B: Copies<H> + Drop, H: Drop>(
 ) -> R<u64>
     ensures answer { (x : protocol.Node B.State) → IsAlone alone.old.reads (B.state alone.old.board) alone.old.generation x
         → calls.Freshens x result (IsAlone alone.new.reads (B.state alone.new.board) alone.new.generation) }
-    ensures fewer { IfOk result (λ left. left ≡ B.stale alone.old.board - pages) }
-    ensures left { IfOk result (λ left. left ≡ B.stale alone.new.board) }
+    ensures fewer { IfOk result (λ left. left ≡ stale_count (B.stale alone.old.board) - pages) }
+    ensures left { IfOk result (λ left. left ≡ stale_count (B.stale alone.new.board)) }
+    ensures lowest { OnOk result (AreCopied pages (B.stale alone.old.board) (B.stale alone.new.board)) }
+    ensures begins { OnErr result (B.stale alone.old.board ≡ every_page) }
     ensures unchanged { OnErr result (alone.new ≡ alone.old) }
 {
     alone.board.freshen(alloc, pages)
@@ -161,6 +168,7 @@ fn begun<B: Copies<H> + Drop, H: Drop>(alloc: Global, mut alone: Alone<B>) -> (R
         → CopiesAs B.state B.copied drives C.parts C.part_count C.assemble
         → calls.HasTakenKeys B.machine x → IsAlone alone.reads (B.state alone.board) alone.generation x
         → calls.BeginsPair B.machine x result.0 (IsNode B.state B.machine C drives result.1) }
+    ensures pages { OnOk result.0 (alone_board result.1 ≡ None) }
     ensures unchanged { OnErr result.0 (result.1 ≡ seat.Alone alone) }
 {
     if alone.generation == u32::MAX {
@@ -200,6 +208,7 @@ fn log_and_image<B: Copies<H> + Drop, H: Drop>(
 }
 
 // The node that a joining node becomes when a part arrives.
+#[tactic(auto, using(crate::proofs::JoiningParts::becomes_none))]
 fn with_part<B: Copies<H> + Drop, H: Drop>(
     mut joining: Joining<H>,
     alloc: Global,
@@ -209,6 +218,7 @@ fn with_part<B: Copies<H> + Drop, H: Drop>(
         → CopiesAs B.state B.copied drives C.parts C.part_count C.assemble
         → IsJoining C drives joining x
         → calls.GetsPart C (message_at drives bytes.now) x result.0 (IsNode B.state B.machine C drives result.1) }
+    ensures pages { alone_board result.1 ≡ None }
     ensures unchanged { OnErr result.0 (result.1 ≡ seat.Joining joining) }
 {
     clone_state::parts_are_read_again();

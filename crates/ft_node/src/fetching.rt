@@ -1,10 +1,10 @@
 //! A sector that the log does not carry: which one a replaying node waits for, and its bytes.
-ghost use Rattle.std.specs.Prelude.{◌≡◌, ℕ, OnErr};
+ghost use Rattle.std.specs.Prelude.{◌≡◌, ℕ, OnErr, OnOk};
 ghost use Rattle.pair_protocol.specs.Copying.{Copying};
 ghost use Rattle.pair_protocol.specs.Node as protocol;
 ghost use Rattle.replayer.specs.Replaying.{place_of};
 ghost use Rattle.ft_node.specs.Calls as calls;
-ghost use Rattle.ft_node.specs.Seats.{IsNode, MayFetch};
+ghost use Rattle.ft_node.specs.Seats.{IsNode, MayFetch, PagesStay};
 
 use crate::node::Node;
 use clone_state::Copies;
@@ -33,6 +33,7 @@ impl<B: Copies<H> + Drop, H: Drop> Node<B, H> {
         ensures answer { (C : Copying B.State) (drives : ℕ) (x : protocol.Node B.State) → IsNode B.state B.machine C drives self.old x
             → calls.Fetches B.machine (place_of read.now) read.now.number read.now.bytes x result
             (IsNode B.state B.machine C drives self.new) }
+        ensures pages { OnOk result (PagesStay B.stale self.old self.new) }
         ensures unchanged { OnErr result (self.new ≡ self.old) }
     {
         match self {

@@ -1,5 +1,5 @@
 //! A node, in whatever role.
-ghost use Rattle.std.specs.Prelude.{◌≡◌, ◌<◌, ℕ, Some, None, [], IfErr, IfOk, OnErr};
+ghost use Rattle.std.specs.Prelude.{◌≡◌, ◌<◌, ℕ, Some, None, [], IfErr, IfOk, OnErr, OnOk};
 ghost use Rattle.clone_state.specs.Assembly.{nothing_gathered};
 ghost use Rattle.clone_state.specs.Parts.{part_count};
 ghost use Rattle.i8080_words.specs.declared.refusal.Fault.TheVariants.{WrongRole};
@@ -9,7 +9,8 @@ ghost use Rattle.pair_protocol.specs.Node as protocol;
 ghost use Rattle.pair_protocol.specs.Node.{halts};
 ghost use Rattle.ft_node.specs.Calls as calls;
 ghost use Rattle.ft_node.specs.Roles.{IsHalted, count_of};
-ghost use Rattle.ft_node.specs.Seats.{IsNode, IsRole, MayRun, board_of};
+ghost use Rattle.ft_node.specs.Pages.{PagesGoOn, StepsWrite};
+ghost use Rattle.ft_node.specs.Seats.{IsNode, IsRole, MayRun, PagesStay, alone_board, board_of};
 
 use crate::alone::Alone;
 use crate::backup::Backup;
@@ -76,7 +77,8 @@ impl<B: Copies<H> + Drop, H: Drop> Node<B, H> {
     ) -> Node<B, H>
         requires generation { 0 < generation }
         requires unused { assembly ≡ nothing_gathered generation assembly.drives (part_count assembly.drives) }
-        ensures { let drives = assembly.drives in
+        ensures pages { alone_board result ≡ None }
+        ensures node { let drives = assembly.drives in
             (C : Copying B.State) (x : protocol.Node B.State) → C.part_count ≡ part_count drives
             → calls.Joins C generation count reads x → IsNode B.state B.machine C drives result x }
     {
@@ -89,6 +91,8 @@ impl<B: Copies<H> + Drop, H: Drop> Node<B, H> {
         requires few { MayRun B.state B.machine self.old }
         ensures answer { (C : Copying B.State) (drives : ℕ) (x : protocol.Node B.State) → IsNode B.state B.machine C drives self.old x
             → calls.Steps B.machine turns x result (IsNode B.state B.machine C drives self.new) }
+        ensures pages { IfOk result (λ ran. PagesGoOn B.stale (StepsWrite B.state B.machine B.writes B.stale ran.steps)
+            (alone_board self.old) (alone_board self.new)) }
         ensures unchanged { OnErr result (self.new ≡ self.old) }
     {
         match self {
@@ -102,6 +106,7 @@ impl<B: Copies<H> + Drop, H: Drop> Node<B, H> {
     pub fn stop(&mut self) -> R<()>
         ensures answer { (C : Copying B.State) (drives : ℕ) (x : protocol.Node B.State) → IsNode B.state B.machine C drives self.old x
             → calls.Stops x result (IsNode B.state B.machine C drives self.new) }
+        ensures pages { OnOk result (PagesStay B.stale self.old self.new) }
         ensures unchanged { OnErr result (self.new ≡ self.old) }
     {
         if let Node::Halted(_) = self {
@@ -170,7 +175,8 @@ impl<B: Copies<H> + Drop, H: Drop> Node<B, H> {
 
     // Halts the node.
     pub(crate) fn halt(&mut self)
-        ensures { (C : Copying B.State) (drives : ℕ) (x : protocol.Node B.State) → IsNode B.state B.machine C drives self.old x
+        ensures pages { PagesStay B.stale self.old self.new }
+        ensures node { (C : Copying B.State) (drives : ℕ) (x : protocol.Node B.State) → IsNode B.state B.machine C drives self.old x
             → IsNode B.state B.machine C drives self.new (halts x) }
     {
         *self = Node::Halted(self.halted());

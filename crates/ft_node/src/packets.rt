@@ -1,11 +1,11 @@
 //! The packets of the log, and what a node does with them: it replays, releases and tells its terminals.
-ghost use Rattle.std.specs.Prelude.{◌≡◌, ◌<◌, ℕ, IfOk, IfSome, OnErr};
+ghost use Rattle.std.specs.Prelude.{◌≡◌, ◌<◌, ℕ, IfOk, IfSome, OnErr, OnOk};
 ghost use Rattle.event_callbacks.specs.declared.devices.TheConstants.{PORTS};
 ghost use Rattle.log_channel.specs.Packet.{packet_at};
 ghost use Rattle.pair_protocol.specs.Copying.{Copying};
 ghost use Rattle.pair_protocol.specs.Node as protocol;
 ghost use Rattle.ft_node.specs.Calls as calls;
-ghost use Rattle.ft_node.specs.Seats.{IsNode, MayHold, MayReplay};
+ghost use Rattle.ft_node.specs.Seats.{IsNode, MayHold, MayReplay, PagesStay};
 
 use crate::node::Node;
 use clone_state::Copies;
@@ -45,6 +45,7 @@ impl<B: Copies<H> + Drop, H: Drop> Node<B, H> {
         requires { MayHold self.old entry }
         ensures answer { (C : Copying B.State) (drives : ℕ) (x : protocol.Node B.State) → IsNode B.state B.machine C drives self.old x
             → calls.Holds entry x result (IsNode B.state B.machine C drives self.new) }
+        ensures pages { OnOk result (PagesStay B.stale self.old self.new) }
         ensures unchanged { OnErr result (self.new ≡ self.old) }
     {
         match self {
@@ -82,6 +83,7 @@ impl<B: Copies<H> + Drop, H: Drop> Node<B, H> {
     pub fn on_ack(&mut self, bytes: &[u8]) -> R<u64>
         ensures answer { (C : Copying B.State) (drives : ℕ) (x : protocol.Node B.State) → IsNode B.state B.machine C drives self.old x
             → calls.DeliversAcknowledgement (packet_at bytes.now) x result (IsNode B.state B.machine C drives self.new) }
+        ensures pages { OnOk result (PagesStay B.stale self.old self.new) }
         ensures unchanged { OnErr result (self.new ≡ self.old) }
     {
         match self {
@@ -95,6 +97,7 @@ impl<B: Copies<H> + Drop, H: Drop> Node<B, H> {
         requires on_trace { MayReplay B.state B.machine self.old }
         ensures answer { (C : Copying B.State) (drives : ℕ) (x : protocol.Node B.State) → IsNode B.state B.machine C drives self.old x
             → calls.Replays B.machine turns x result (IsNode B.state B.machine C drives self.new) }
+        ensures pages { OnOk result (PagesStay B.stale self.old self.new) }
         ensures unchanged { OnErr result (self.new ≡ self.old) }
     {
         match self {

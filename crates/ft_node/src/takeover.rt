@@ -1,12 +1,13 @@
 //! A node that takes over: it asks the arbiter, drains if it was a backup, and is alone.
-ghost use Rattle.std.specs.Prelude.{◌≡◌, ◌≢◌, ℕ, true, length, IfErr, OnErr};
+ghost use Rattle.std.specs.Prelude.{◌≡◌, ◌≢◌, ◌<◌, ℕ, None, true, length, IfErr, IfSome, OnErr, OnOk};
+ghost use Rattle.guest_lockstep.specs.Pages.{every_page};
 ghost use Rattle.i8080_words.specs.declared.refusal.Fault.TheVariants.{Lost};
 ghost use Rattle.pair_protocol.specs.Copying.{Copying};
 ghost use Rattle.pair_protocol.specs.Node as protocol;
 ghost use Rattle.pair_protocol.specs.Node.{goes_live, wins};
 ghost use Rattle.ft_node.specs.Calls as calls;
 ghost use Rattle.ft_node.specs.Roles.{IsFollower};
-ghost use Rattle.ft_node.specs.Seats.{IsNode, MayReplay};
+ghost use Rattle.ft_node.specs.Seats.{IsNode, MayReplay, PagesStay, alone_board};
 
 use crate::alone::Alone;
 use crate::node::Node;
@@ -15,7 +16,7 @@ use crate::winner::Winner;
 use arbiter_core::{Arbiter, Won};
 use clone_state::Copies;
 use go_live::Draining;
-use guest_lockstep::ReplayEnd;
+use guest_lockstep::{Reads, ReplayEnd};
 use i8080_words::{Fault, R};
 use std::mem;
 
@@ -26,6 +27,7 @@ impl<B: Copies<H> + Drop, H: Drop> Node<B, H> {
     pub fn suspect(&mut self, id: u64, arbiter: &mut Arbiter) -> R<Won>
         ensures answer { (C : Copying B.State) (drives : ℕ) (x : protocol.Node B.State) → IsNode B.state B.machine C drives self.old x
             → calls.Suspects arbiter.old id x result arbiter.new (IsNode B.state B.machine C drives self.new) }
+        ensures pages { OnOk result (PagesStay B.stale self.old self.new) }
         ensures unchanged { IfErr result (λ fault. fault ≢ Lost → self.new ≡ self.old) }
         ensures arbiter { OnErr result (arbiter.new ≡ arbiter.old) }
     {
@@ -58,6 +60,7 @@ impl<B: Copies<H> + Drop, H: Drop> Node<B, H> {
         requires on_trace { MayReplay B.state B.machine self.old }
         ensures answer { (C : Copying B.State) (drives : ℕ) (x : protocol.Node B.State) → IsNode B.state B.machine C drives self.old x
             → calls.Drains B.machine turns x result (IsNode B.state B.machine C drives self.new) }
+        ensures pages { OnOk result (PagesStay B.stale self.old self.new) }
         ensures unchanged { OnErr result (self.new ≡ self.old) }
     {
         let Node::Draining(winner) = self else {
@@ -75,16 +78,18 @@ impl<B: Copies<H> + Drop, H: Drop> Node<B, H> {
 
     // The node has won: a primary is alone, a backup drains.
     fn win(&mut self)
-        ensures { (C : Copying B.State) (drives : ℕ) (x : protocol.Node B.State) → x.running ≡ true → IsNode B.state B.machine C drives self.old x
+        ensures pages { PagesStay B.stale self.old self.new }
+        ensures node { (C : Copying B.State) (drives : ℕ) (x : protocol.Node B.State) → x.running ≡ true → IsNode B.state B.machine C drives self.old x
             → IsNode B.state B.machine C drives self.new (wins x) }
     {
         let halted = self.halted();
         *self = match mem::replace(self, Node::Halted(halted)) {
-            Node::Primary(primary) => Node::Alone(Alone {
-                generation: primary.sender.generation(),
-                reads: primary.recorder.reads(),
-                board: primary.recorder.into_board(),
-            }),
+            Node::Primary(primary) => {
+                let generation = primary.sender.generation();
+                let reads = primary.recorder.reads();
+                let board = primary.recorder.into_board();
+                Node::Alone(gone_live::<B, H>(board, generation, reads))
+            }
             Node::Backup(backup) => Node::Draining(Winner {
                 reads: backup.reads,
                 draining: Draining::begin(backup.replayer, backup.receiver),
@@ -95,7 +100,9 @@ impl<B: Copies<H> + Drop, H: Drop> Node<B, H> {
 
     // A node that has drained is alone.
     fn finish(&mut self)
-        ensures { (C : Copying B.State) (drives : ℕ) (y : protocol.Node B.State) → y.role ≡ protocol.Draining → y.replayed ≡ length y.held
+        requires draining { alone_board self.old ≡ None }
+        ensures pages { PagesStay B.stale self.old self.new }
+        ensures node { (C : Copying B.State) (drives : ℕ) (y : protocol.Node B.State) → y.role ≡ protocol.Draining → y.replayed ≡ length y.held
             → IsNode B.state B.machine C drives self.old y → IsNode B.state B.machine C drives self.new (goes_live y) }
     {
         let halted = self.halted();
@@ -107,9 +114,26 @@ impl<B: Copies<H> + Drop, H: Drop> Node<B, H> {
     }
 }
 
+// A node that is alone from now on: no page of its guest is copied early yet.
+fn gone_live<B: Copies<H> + Drop, H: Drop>(mut board: B, generation: u32, reads: Reads) -> Alone<B>
+    requires { 0 < generation }
+    ensures state { B.state result.board ≡ B.state board }
+    ensures pages { B.stale result.board ≡ every_page }
+    ensures generation { result.generation ≡ generation }
+    ensures reads { result.reads ≡ reads }
+{
+    board.forget();
+    Alone {
+        board,
+        generation,
+        reads,
+    }
+}
+
 // The alone node that a drained node becomes.
 fn alone<B: Copies<H> + Drop, H: Drop>(winner: Winner<B>) -> Node<B, H>
-    ensures { (C : Copying B.State) (drives : ℕ) (y : protocol.Node B.State) → y.replayed ≡ length y.held
+    ensures pages { IfSome (alone_board result) (λ board. B.stale board ≡ every_page) }
+    ensures node { (C : Copying B.State) (drives : ℕ) (y : protocol.Node B.State) → y.replayed ≡ length y.held
         → IsFollower protocol.Draining winner.reads (B.state winner.draining.replayer.board)
         winner.draining.replayer.fetched winner.draining.receiver y
         → IsNode B.state B.machine C drives result (goes_live y) }
@@ -117,11 +141,7 @@ fn alone<B: Copies<H> + Drop, H: Drop>(winner: Winner<B>) -> Node<B, H>
     let Winner { draining, reads } = winner;
     let generation = draining.receiver().generation();
     match draining.finish() {
-        Ok(board) => Node::Alone(Alone {
-            board,
-            generation,
-            reads,
-        }),
+        Ok(board) => Node::Alone(gone_live::<B, H>(board, generation, reads)),
         Err((draining, _)) => Node::Draining(Winner { draining, reads }),
     }
 }

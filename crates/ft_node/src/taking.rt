@@ -11,7 +11,7 @@ ghost use Rattle.pair_protocol.specs.Node as protocol;
 ghost use Rattle.pair_protocol.specs.Refusals as refusals;
 ghost use Rattle.ft_node.specs.Calls as calls;
 ghost use Rattle.ft_node.specs.Due.{refused_by};
-ghost use Rattle.ft_node.specs.Seats.{IsNode, MayAccept, room_of};
+ghost use Rattle.ft_node.specs.Seats.{IsNode, MayAccept, PagesStay, room_of};
 
 use crate::due;
 use crate::node::Node;
@@ -70,7 +70,8 @@ impl<B: Copies<H> + Drop, H: Drop> Node<B, H> {
     /// Takes an input that nothing refuses. Allocates no memory.
     pub fn accept(&mut self, input: Input)
         requires { MayAccept B.state B.machine self.old input }
-        ensures { (C : Copying B.State) (drives : ℕ) (x : protocol.Node B.State) → IsNode B.state B.machine C drives self.old x
+        ensures pages { PagesStay B.stale self.old self.new }
+        ensures node { (C : Copying B.State) (drives : ℕ) (x : protocol.Node B.State) → IsNode B.state B.machine C drives self.old x
             → calls.Makes x (Took B.machine input) (IsNode B.state B.machine C drives self.new) }
     {
         match self {

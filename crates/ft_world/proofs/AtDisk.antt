@@ -121,7 +121,7 @@ disk_put M drives rs puts write met d at =
 pub brings_write : (o : Option Message) (q : Option world.Message) (write : SectorWrite) → Agree IsMessage o q →
     option_and_then write_of o ≡ Some write → q ≡ Some (world.Released (operation.Write write))
 brings_write (Some (message.Write v)) (Some (world.Released x)) write a e =
-    ap (λ y. Some (world.Released y)) (a ∙ ap operation.Write (same_some v write _ refl e))
+    ap (λ y. Some (world.Released y)) (a ∙ ap operation.Write (same_some v.value write _ refl e))
 brings_write (Some (message.Write v)) q write a e = absurd a
 brings_write (Some (message.Byte p n b)) q write a e = (cc)
 brings_write (Some (message.Log bytes)) q write a e = (cc)

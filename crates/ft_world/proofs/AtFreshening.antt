@@ -1,8 +1,8 @@
 -- Pages of an alone node's machine are copied early: the node of the protocol stays as it is, and so does the world. The
 -- reply says how many pages are still stale.
 use Rattle.guest_parts.specs.Guest.{Guest}
-use Rattle.std.proofs.Common.{◌≡◌, ◌∙◌, ℕ, Err, List, Ok, Result, Some, ap, refl, sym}
-use Rattle.std.specs.Prelude.{slice_get, slice_set}
+use Rattle.std.proofs.Common.{◌≡◌, ◌∙◌, ℕ, Bool, Err, List, Ok, Result, Some, ap, refl}
+use Rattle.std.specs.Prelude.{slice_get}
 use Rattle.guest_lockstep.specs.Machine.{Machine}
 use Rattle.i8080_words.specs.declared.refusal.Fault.{Fault}
 use Rattle.shared_disk.specs.declared.store.Record.{Record}
@@ -80,7 +80,7 @@ freshens_applies state copied M records old c n pages left hosts h a =
 
 -- ---- the reply
 
-pub tells_stale : {B H : Type 0} (stale : B → ℕ) (n pages left : ℕ) (old new : List (Host B H)) (before after : Station B H) →
+pub tells_stale : {B H : Type 0} (stale : B → ℕ → Bool) (n pages left : ℕ) (old new : List (Host B H)) (before after : Station B H) →
     slice_get old n ≡ Some (host.Node before) → WithStation old n after new →
     AreFreshened stale pages left before.node after.node → HostFreshened stale n pages left old new
 tells_stale stale n pages left old new before after there with are = record {

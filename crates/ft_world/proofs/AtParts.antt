@@ -224,7 +224,8 @@ module _ {B H D S : Type 0} (state : B → S) (copied : B → Guest) (M : Machin
       → Applies state copied M records c (event.PartComes m n) (Err fault) (record old { hosts = hosts })
   part_refused n fault hosts at =
       node_refused h (event.PartComes m n) fault hosts (ap (λ q. at_part (slice_get c.world.nodes n) q) b.message)
-      (λ last. tt) refl at
+      (λ last. record { generation = b.generation; index = b.index; part = b.part; message = b.message; last = last })
+      refl at
 
   pub part_applies : (n : ℕ) (came : PartCame) (r : Reply) (hosts : List (Host B H)) → reply_of r ≡ calls.reply_of came
       → AtIt n (Ok came) hosts

@@ -1,7 +1,7 @@
 -- Events at a terminal: a byte is typed there, a byte arrives, or the terminal is told how many keys are covered. The
 -- screen of a port has what the arrivals of the terminal gave, so one more byte leaves both alike.
 use Rattle.guest_parts.specs.Guest.{Guest}
-use Rattle.std.proofs.Common.{◌≡◌, ◌+◌, ◌<◌, ◌≤◌, [], ◌∷◌, ◌++◌, ◌∙◌, Bool, Err, List, None, Ok, Some, ap, arith, cond, false, inl, inr, length, refl, subst, sym, true, ℕ}
+use Rattle.std.proofs.Common.{◌≡◌, ◌+◌, ◌<◌, ◌≤◌, [], ◌∷◌, ◌++◌, ◌∙◌, Bool, Err, List, None, Ok, Some, ap, arith, cond, eqb-true, false, inl, inr, length, refl, subst, sym, true, ℕ}
 use Rattle.std.specs.Option.{option_and_then}
 use Rattle.std.specs.Prelude.{Option, Result, nat_le, nat_lt, slice_get, slice_set, ◌==◌}
 use Rattle.std.proofs.lemmas.Bool.{le-leb, le-ltb, lt-leb}
@@ -244,13 +244,16 @@ arrives_applies state copied M records old c m port number byte (Ok r) screens b
     (with_screens state copied M records h.drives old c screens (with_arrival c.world port a).terminals h.parts
     (subst (λ us. AreTerminals screens us) (sym same)
     (subst (λ l. AreTerminals l ts) (sym after) h.parts.terminals)))
-arrives_applies state copied M records old c m port number byte (Err fault) screens brings h (is, same) =
+arrives_applies state copied M records old c m port number byte (Err fault) screens brings h (is, low, next, same) =
+    let s = screen_in old.terminals port in
+    let i = screen_is old.terminals c.world.terminals port h.parts.terminals low in
+    let there = released (slice_get old.messages m) (slice_get c.world.messages m) port number byte
+    (h.parts.messages.each m) brings in
+    let n = eqb-true number (length s.accepted + 1) next in
+    let l : length s.accepted ≡ length (accepted c.world port) = ap length i.accepted in
     needs_memory state copied M records old (record old { terminals = screens }) c (event.Arrive m) fault h
-    (ap (λ l. record old { terminals = l }) same)
-    (ap byte_refusal
-    (released (slice_get old.messages m) (slice_get c.world.messages m) port number byte
-    (h.parts.messages.each m) brings))
-    tt is
+    (ap (λ l. record old { terminals = l }) same) (ap byte_refusal there)
+    (record { port = port; number = number; byte = byte; message = there; next = omega (arith, n, l) }) is
 
 pub arrives_unknown : {B H D S : Type 0} (state : B → S) (copied : B → Guest) (M : Machine S) (records : D → List Record)
     (old : Running B H D) (c : Course S) (m : ℕ) → option_and_then byte_of (slice_get old.messages m) ≡ None →

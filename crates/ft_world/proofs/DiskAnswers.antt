@@ -114,9 +114,10 @@ brings_read : (o : Option Message) (q : Option world.Message) (read : SectorRead
     option_and_then sector_of o ≡ Some read →
     q ≡ Some (world.SectorRead (read_address read) read.number read.bytes)
 brings_read (Some (message.Sector r)) (Some (world.SectorRead address number bytes)) read (at, k, bs, drive, sector) e =
-    ap (λ z. Some (world.SectorRead z number bytes)) at ∙ ap (λ z. Some (world.SectorRead (read_address r) z bytes)) k
-    ∙ ap (λ z. Some (world.SectorRead (read_address r) r.number z)) bs
-    ∙ ap (λ (v : SectorRead). Some (world.SectorRead (read_address v) v.number v.bytes)) (same_some r read _ refl e)
+    let here = r.value in
+    ap (λ z. Some (world.SectorRead z number bytes)) at ∙ ap (λ z. Some (world.SectorRead (read_address here) z bytes)) k
+    ∙ ap (λ z. Some (world.SectorRead (read_address here) here.number z)) bs
+    ∙ ap (λ (v : SectorRead). Some (world.SectorRead (read_address v) v.number v.bytes)) (same_some here read _ refl e)
 brings_read (Some (message.Sector r)) q read a e = absurd a
 brings_read (Some (message.Byte p n b)) q read a e = (cc)
 brings_read (Some (message.Log bytes)) q read a e = (cc)

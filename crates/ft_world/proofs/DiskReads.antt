@@ -37,7 +37,7 @@ use Rattle.ft_world.specs.Devices.{GetsSector}
 use Rattle.ft_world.specs.Running.{Running}
 use Rattle.ft_world.specs.Shows.{AreMessages, IsDisk}
 use Rattle.ft_world.specs.Standing.{Course, machine_of}
-use Rattle.ft_world.specs.Words.{IsMessage, event_of, reply_of}
+use Rattle.ft_world.specs.Words.{IsRead, event_of, reply_of}
 use Rattle.pair_events.specs.declared.event.Event.{Event}
 use Rattle.pair_events.specs.declared.event.Event.TheVariants as event
 use Rattle.ft_world.specs.declared.message.Message.{Message}
@@ -184,15 +184,11 @@ disk_answers state copied M records old c e address (Ok r) ms disk h there free 
     let met = h.parts.disk.there address there in
     let kept = h.parts.disk.kept address met.0 met.1 in
     let place = place_within h.drives address h.machine.drives_within there in
-    let message_is : IsMessage (message.Sector (read_of address met.0))
-    (sent.SectorRead address (sector_record N c.world.puts address).number
-    (sector_record N c.world.puts address).bytes) =
+    let now = sector_record N c.world.puts address in
+    let read_at_place : IsRead address now.number now.bytes (read_of address met.0) =
     (refl, sym kept.0, sym kept.1, place.0, place.1) in
-    let message_at = subst
-    (λ read. IsMessage (message.Sector read)
-    (sent.SectorRead address (sector_record N c.world.puts address).number
-    (sector_record N c.world.puts address).bytes))
-    (read_is (records old.disk) address met.0 read met.1 is_read) message_is in
+    let message_at = subst (λ (v : SectorRead). IsRead address now.number now.bytes v)
+    (read_is (records old.disk) address met.0 read.value met.1 is_read) read_at_place in
     applies state copied M records old c e (Ok r) (with_read N c.world address)
     (record old { messages = ms; disk = disk }) h
     (Accepts free (does (reply_of r) (ap reply_of said ∙ ap protocol.MessageIs h.parts.messages.count)))

@@ -4,10 +4,12 @@ use Rattle.std.proofs.Common.{◌≡◌, [], ◌∷◌, ◌++◌, ◌∙◌, Err
 use Rattle.std.specs.Prelude.{max, OnErr, OnOk, Result, slice_get, ◌⊎◌}
 use Rattle.guest_lockstep.specs.Machine.{Machine}
 use Rattle.shared_disk.specs.declared.store.Record.{Record}
-use Rattle.pair_protocol.specs.Change.{After, HostComes}
+use Rattle.pair_protocol.specs.Change.{After, HostComes, Stays, Then}
+use Rattle.pair_protocol.specs.Grows.{Grows}
 use Rattle.pair_protocol.specs.Node.{Node, spare}
 use Rattle.pair_protocol.specs.Settled.{highest, is_backup}
 use Rattle.pair_protocol.specs.World.{with_host}
+use Rattle.pair_protocol.proofs.Promises.Growth.{changes_grow}
 use Rattle.pair_protocol.proofs.Traces.Lists.{same_some}
 use Rattle.ft_world.specs.Applies.{Shows, ShowsSome}
 use Rattle.ft_world.specs.Running.{Running}
@@ -57,6 +59,14 @@ host_comes state copied M records old c resources h = record {
     backup = backup_push c.world.nodes (spare (machine_of M c)) old.generation old.backup refl h.parts.backup;
   };
 }
+
+pub host_grows : {B H D S : Type 0} (state : B → S) (copied : B → Guest) (M : Machine S) (records : D → List Record)
+    (old : Running B H D) (c : Course S) → Shows state copied M records old c →
+    Grows (machine_of M c) c.world (with_host (machine_of M c) c.world)
+host_grows state copied M records old c h =
+    let N = machine_of M c in
+    changes_grow N c.copying h.machine.lawful h.machine.copies c.world (with_host N c.world) h.reached
+    (Then HostComes Stays)
 
 pub hosts_go_on : {B H D S E : Type 0} (state : B → S) (copied : B → Guest) (M : Machine S) (records : D → List Record)
     (old new : Running B H D) (answer : Result ℕ E) → ShowsSome state copied M records old →

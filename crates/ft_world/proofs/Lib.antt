@@ -26,6 +26,7 @@ pub mod Released
 pub mod AtDisk
 pub mod Reading
 pub mod Hosting
+pub mod Surviving
 pub mod DiskReads
 pub mod Refusing
 pub mod Settling
@@ -39,3 +40,4 @@ pub mod CopiedStations
 pub mod AtParts
 pub mod SpareHosts
 pub mod Pairing
+pub mod CopiedPages

@@ -186,7 +186,7 @@ module _ {B H D S : Type 0} (state : B → S) (copied : B → Guest) (M : Machin
             → IsHost state M c.copying h.drives joined (joiner N c.copying x)
         go (host.Spare resources) joined = absurd joined
         go (host.Node station) is_joined =
-            is_joined c.copying h.drives (joiner N c.copying x) h.copies_as.counted o.drives_are
+            is_joined.0 c.copying h.drives (joiner N c.copying x) h.copies_as.counted o.drives_are
             (record {
               role_is = refl;
               up = refl;

@@ -22,11 +22,12 @@ use Rattle.pair_protocol.specs.Refusals.{at_node, fault_if, first_of, no_such, n
 use Rattle.pair_protocol.specs.Row.{Accepts}
 use Rattle.pair_protocol.specs.World as world
 use Rattle.pair_protocol.specs.World.{World, terminal_in, with_told}
+use Rattle.pair_protocol.proofs.Traces.Lists.{same_some}
 use Rattle.ft_world.specs.Applies.{Applies, Shows}
 use Rattle.ft_node.specs.Calls.{Never}
 use Rattle.ft_world.proofs.AtHosts.{AsksNode}
 use Rattle.ft_world.specs.Devices.{no_device, screen_in}
-use Rattle.ft_world.specs.Messages.{Says, released}
+use Rattle.ft_world.specs.Messages.{Releases, operation_of}
 use Rattle.ft_world.specs.Running.{Running}
 use Rattle.ft_world.specs.Shows.{AreTerminals, IsTerminal}
 use Rattle.ft_world.specs.Standing.{Course, machine_of}
@@ -35,7 +36,8 @@ use Rattle.pair_events.specs.declared.event.Event.TheVariants as event
 use Rattle.pair_events.specs.declared.reply.Reply.{Reply}
 use Rattle.pair_events.specs.declared.reply.Reply.TheVariants as reply
 use Rattle.ft_world.specs.declared.message.Message.{Message}
-use Rattle.ft_world.proofs.Applying.{applies, refuses}
+use Rattle.ft_world.specs.declared.message.Message.TheVariants as message
+use Rattle.ft_world.proofs.Applying.{applies, needs_memory, refuses}
 use Rattle.ft_world.proofs.AtOneNode.{asks_refused, elsewhere_of, first_stands, node_asked, second_of}
 use Rattle.ft_world.proofs.AtTerminals.{port_missing, port_there, screen_is, terminals_set, with_screens}
 use Rattle.ft_world.proofs.Sending.{says_applies}
@@ -57,9 +59,10 @@ passes : (o : Option Fault) (done : Unit {0}) → ◌≡◌ {A = Result (Unit {0
 passes None done e = refl
 passes (Some f) done e = absurd (cc)
 
-released_is : (o : Operation) → IsMessage (released o) (world.Released o)
-released_is (operation.Byte port number byte) = refl
-released_is (operation.Write write) = refl
+released_is : (m : Message) (o : Operation) → operation_of m ≡ Some o → IsMessage m (world.Released o)
+released_is (message.Byte port number byte) o e = sym (same_some _ o _ refl e)
+released_is (message.Write write) o e = sym (same_some _ o _ refl e)
+released_is m o e = (cc)
 
 pub releases_nowhere : {B H D S : Type 0} (state : B → S) (copied : B → Guest) (M : Machine S) (records : D → List Record)
     (old : Running B H D) (c : Course S) (n : ℕ) (name : OpId) (fault : Fault) → Shows state copied M records old c →
@@ -94,14 +97,18 @@ pub releases_applies : {B H D S : Type 0} (state : B → S) (copied : B → Gues
     (answer : Result Reply Fault) (ms : List Message) → Shows state copied M records old c →
     ◌≡◌ {A = Result (Unit {0}) Fault} (Ok done) (answered (no_device name)) →
     AsksNode c.world n (release_refusal M name) Never (HasOutstanding M name) (Ok o) →
-    Says old.messages (released o) answer ms →
+    Releases old.messages o answer ms →
     Applies state copied M records c (event.Release n name) answer (record old { messages = ms })
-releases_applies state copied M records old c n name done o answer ms h e a said =
+releases_applies state copied M records old c n name done o (Ok r) ms h e a (m, is, said) =
     let k = node_asked c.world n (release_refusal M name) o a in
-    says_applies state copied M records old c (event.Release n name) (released o) (world.Released o) answer ms h
-    (released_is o) (node_left state copied M records old c n name done h e ∙ k.0) tt
+    says_applies state copied M records old c (event.Release n name) m (world.Released o) (Ok r) ms h
+    (released_is m o is) (node_left state copied M records old c n name done h e ∙ k.0) tt
     (record { o = o; node = k.1; says = record { reply = refl; after = refl } })
     said
+releases_applies state copied M records old c n name done o (Err fault) ms h e a (is, same) =
+    let k = node_asked c.world n (release_refusal M name) o a in
+    needs_memory state copied M records old (record old { messages = ms }) c (event.Release n name) fault h
+    (ap (λ l. record old { messages = l }) same) (node_left state copied M records old c n name done h e ∙ k.0) tt is
 
 -- ---- a terminal is told
 

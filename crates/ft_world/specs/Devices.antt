@@ -1,5 +1,6 @@
 -- What an event does at the terminals, and at the disk with the answer that it sends, over their own lists.
-use Rattle.std.specs.Prelude.{◌≡◌, ℕ, ◌<◌, ◌≤◌, ◌⊎◌, if◌then◌else◌, ◌==◌, ◌||◌, nat_lt, nat_le, Option, Some, None, List, [], ◌∷◌, ◌++◌, length, slice_index_or, slice_set, Result, Ok, Err}
+use Rattle.std.specs.Global.{Box}
+use Rattle.std.specs.Prelude.{◌≡◌, ℕ, IsTrue, ◌<◌, ◌≤◌, ◌⊎◌, if◌then◌else◌, ◌==◌, ◌||◌, nat_lt, nat_le, Option, Some, None, List, [], ◌∷◌, ◌++◌, length, slice_index_or, slice_set, Result, Ok, Err}
 use Rattle.disk_dcdd.specs.Address.{address_of}
 use Rattle.disk_dcdd.specs.declared.address.SectorAddress.{SectorAddress}
 use Rattle.disk_dcdd.specs.declared.sector.SectorWrite.{SectorWrite}
@@ -45,7 +46,8 @@ ArrivesNowhere old port r new = (PORTS ≤ port) × (r ≡ reply.Dropped) × (ne
 
 abbrev pub Arrives : List Screen → ℕ → ℕ → ℕ → Result Reply Fault → List Screen → Type 0
 Arrives old port number byte (Ok r) new = ArrivesAt old port number byte r new ⊎ ArrivesNowhere old port r new
-Arrives old port number byte (Err fault) new = (fault ≡ OutOfMemory) × (new ≡ old)
+Arrives old port number byte (Err fault) new =
+    (fault ≡ OutOfMemory) × (port < PORTS) × IsTrue (comes_next (screen_in old port) number) × (new ≡ old)
 
 -- an operation is a byte for a port that does not exist
 abbrev pub no_device : OpId → Option Fault
@@ -70,7 +72,7 @@ PutsWrite old records write (Err fault) new after =
 abbrev pub GetsSector : List Message → List Record → SectorAddress → Result Reply Fault → List Message → List Record
     → Type 0
 GetsSector old records address (Ok r) new after =
-    (read : SectorRead) × (read_at records address ≡ Some read) × (r ≡ reply.Message (length old))
+    (read : Box SectorRead) × (read_at records address ≡ Some read.value) × (r ≡ reply.Message (length old))
     × (new ≡ old ++ message.Sector read ∷ []) × (after ≡ records)
 GetsSector old records address (Err fault) new after =
     ((fault ≡ OutOfMemory) ⊎ (fault ≡ refusal_at records address)) × (new ≡ old) × (after ≡ records)

@@ -10,6 +10,7 @@ pub mod Freshened
 pub mod Lending
 pub mod Opening
 pub mod Applies
+pub mod Surviving
 pub mod Beginning
 pub mod Chaining
 pub mod Choices

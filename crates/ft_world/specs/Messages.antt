@@ -32,7 +32,7 @@ byte_of (message.Byte port number byte) = Some (port, number, byte)
 byte_of _ = None
 
 abbrev pub write_of : Message → Option SectorWrite
-write_of (message.Write write) = Some write
+write_of (message.Write write) = Some write.value
 write_of _ = None
 
 -- the write that is done, and the sector that was read
@@ -41,19 +41,25 @@ written_of (message.Written number) = Some number
 written_of _ = None
 
 abbrev pub sector_of : Message → Option SectorRead
-sector_of (message.Sector read) = Some read
+sector_of (message.Sector read) = Some read.value
 sector_of _ = None
 
 -- what the message of a number brings
 abbrev pub brought : {A : Type 0} → (Message → Option A) → List Message → ℕ → Option A
 brought kind messages m = option_and_then kind (slice_get messages m)
 
--- an operation goes to its device as this message
-abbrev pub released : Operation → Message
-released (operation.Byte port number byte) = message.Byte port number byte
-released (operation.Write write) = message.Write write
+-- the operation that a message releases to its device
+abbrev pub operation_of : Message → Option Operation
+operation_of (message.Byte port number byte) = Some (operation.Byte port number byte)
+operation_of (message.Write write) = Some (operation.Write write.value)
+operation_of _ = None
 
 -- a message is sent, and its number is the reply
 abbrev pub Says : List Message → Message → Result Reply Fault → List Message → Type 0
 Says old m (Ok r) new = (r ≡ reply.Message (length old)) × (new ≡ old ++ m ∷ [])
 Says old m (Err fault) new = (fault ≡ OutOfMemory) × (new ≡ old)
+
+-- an operation is released by a message, whose number is the reply
+abbrev pub Releases : List Message → Operation → Result Reply Fault → List Message → Type 0
+Releases old o (Ok r) new = (m : Message) × (operation_of m ≡ Some o) × Says old m (Ok r) new
+Releases old o (Err fault) new = (fault ≡ OutOfMemory) × (new ≡ old)

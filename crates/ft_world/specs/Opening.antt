@@ -9,6 +9,7 @@ use Rattle.pair_protocol.specs.Copying.{Copying}
 use Rattle.pair_protocol.specs.Node.{Joining, Node, begun}
 use Rattle.pair_protocol.specs.Settled.{list_of}
 use Rattle.ft_node.specs.Calls.{Joins}
+use Rattle.ft_node.specs.Seats.{alone_board}
 use Rattle.ft_world.specs.declared.host.Host.{Host}
 use Rattle.ft_world.specs.declared.host.Host.TheVariants as host
 use Rattle.ft_world.specs.declared.opening.Opening.{Opening}
@@ -43,7 +44,7 @@ IsJoined {B} {H} {S} state M opening station =
     → IsStation state M C drives station x
 
 abbrev pub HasJoined : {B H S : Type 0} → (B → S) → Machine S → Opening → Host B H → Type 0
-HasJoined state M opening (host.Node station) = IsJoined state M opening station
+HasJoined state M opening (host.Node station) = IsJoined state M opening station × (alone_board station.node ≡ None)
 HasJoined state M opening (host.Spare resources) = ⊥
 
 -- the host of a number has joined so, and the others are as they were

@@ -1,5 +1,5 @@
 -- Events, replies and messages in the protocol's words.
-use Rattle.std.specs.Prelude.{◌≡◌, ℕ, ◌<◌, ◌^◌, Option, Some, unwrap_or, Result, Ok, Err}
+use Rattle.std.specs.Prelude.{◌≡◌, ℕ, ◌<◌, ◌^◌, List, Option, Some, unwrap_or, Result, Ok, Err}
 use Rattle.clone_state.specs.Image.{part_bytes}
 use Rattle.disk_dcdd.specs.declared.address.SectorAddress.{SectorAddress}
 use Rattle.disk_dcdd.specs.declared.controller.TheConstants.{DRIVES}
@@ -74,6 +74,11 @@ answer_of (Err fault) = protocol.Refused fault
 abbrev pub read_address : SectorRead → SectorAddress
 read_address r = record { drive = r.drive; track = r.track; sector = r.sector }
 
+-- what a sector has, with where and by which write
+abbrev pub IsRead : SectorAddress → ℕ → List ℕ → SectorRead → Type 0
+IsRead address number bytes r =
+    (address ≡ read_address r) × (number ≡ r.number) × (bytes ≡ r.bytes) × (r.drive < DRIVES) × (r.sector < SECTORS)
+
 -- a message is this one of the protocol: a packet or a part of an image, by its bytes; an acknowledgement without a
 -- report reports 0 as replayed, and the generation of a part is from 1 to 2^32 - 1
 abbrev pub IsMessage : Message → sent.Message → Type 0
@@ -85,8 +90,7 @@ IsMessage (message.Ack bytes) (sent.Acknowledgement generation held replayed) =
 IsMessage (message.Part bytes) (sent.ImagePart generation index part) =
     (bytes.items ≡ part_bytes generation index part) × (0 < generation) × (generation < 2 ^ 32)
 IsMessage (message.Byte port number byte) (sent.Released o) = o ≡ operation.Byte port number byte
-IsMessage (message.Write write) (sent.Released o) = o ≡ operation.Write write
+IsMessage (message.Write write) (sent.Released o) = o ≡ operation.Write write.value
 IsMessage (message.Written number) (sent.WriteDone done) = done ≡ number
-IsMessage (message.Sector r) (sent.SectorRead address number bytes) =
-    (address ≡ read_address r) × (number ≡ r.number) × (bytes ≡ r.bytes) × (r.drive < DRIVES) × (r.sector < SECTORS)
+IsMessage (message.Sector r) (sent.SectorRead address number bytes) = IsRead address number bytes r.value
 IsMessage _ _ = ⊥

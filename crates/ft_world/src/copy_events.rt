@@ -1,9 +1,9 @@
 //! The events of a generation that begins with a copied machine.
-ghost use Rattle.std.specs.Prelude.{◌≡◌, OnErr};
+ghost use Rattle.std.specs.Prelude.{◌≡◌, OnErr, OnOk};
 ghost use Rattle.ft_world.specs.Applies.{Happens, ShowsSome};
 ghost use Rattle.ft_node.specs.Calls.{reply_of as came_as};
 ghost use Rattle.ft_world.specs.Pairs.{running_of};
-ghost use Rattle.ft_world.specs.Freshened.{TellsStale};
+ghost use Rattle.ft_world.specs.Freshened.{Freshens, PagesKeep, TellsStale};
 ghost use Rattle.ft_world.specs.Words.{reply_of};
 ghost use Rattle.ft_world.specs.Staying.{SpareHostsStay, SparesAfter};
 ghost use Rattle.pair_events.specs.declared.event.Event.TheVariants as happens;
@@ -26,6 +26,7 @@ impl<B: Copies<H> + Drop, D: SectorStore, H: Drop> Pair<B, D, H> {
             (running_of self.new) }
         ensures disk { self.new.disk ≡ self.old.disk }
         ensures unchanged { OnErr result (running_of self.new ≡ running_of self.old) }
+        ensures pages { OnOk result (PagesKeep B.stale self.old.hosts.items self.new.hosts.items) }
         ensures spares { SparesAfter (happens.BeginPair node host) result self.old.hosts.items self.new.hosts.items }
     {
         hosts::check_pair(&self.hosts, node, host)?;
@@ -39,11 +40,13 @@ impl<B: Copies<H> + Drop, D: SectorStore, H: Drop> Pair<B, D, H> {
     }
 
     /// A primary sends a part of its image.
+    #[tactic(auto, using(crate::proofs::CopiedPages::pages_kept_on))]
     pub(crate) fn send_part(&mut self, alloc: Global, node: u64, index: u64) -> R<Reply>
         ensures row { Happens B.state B.copied B.machine D.records (running_of self.old) (happens.SendPart node index) result
             (running_of self.new) }
         ensures disk { self.new.disk ≡ self.old.disk }
         ensures unchanged { OnErr result (running_of self.new ≡ running_of self.old) }
+        ensures pages { OnOk result (PagesKeep B.stale self.old.hosts.items self.new.hosts.items) }
         ensures spares { SpareHostsStay self.old.hosts.items self.new.hosts.items }
     {
         let station = hosts::station(&self.hosts, node)?;
@@ -57,6 +60,7 @@ impl<B: Copies<H> + Drop, D: SectorStore, H: Drop> Pair<B, D, H> {
             (running_of self.new) }
         ensures disk { self.new.disk ≡ self.old.disk }
         ensures unchanged { OnErr result (running_of self.new ≡ running_of self.old) }
+        ensures pages { OnOk result (PagesKeep B.stale self.old.hosts.items self.new.hosts.items) }
         ensures spares { SpareHostsStay self.old.hosts.items self.new.hosts.items }
     {
         let Some(bytes) = messages::part_in(&self.messages, message) else {
@@ -74,6 +78,7 @@ impl<B: Copies<H> + Drop, D: SectorStore, H: Drop> Pair<B, D, H> {
         ensures stale { TellsStale B.stale (happens.Freshen node pages) result self.old.hosts.items self.new.hosts.items }
         ensures disk { self.new.disk ≡ self.old.disk }
         ensures unchanged { OnErr result (running_of self.new ≡ running_of self.old) }
+        ensures pages { Freshens B.stale node pages result self.old.hosts.items self.new.hosts.items }
         ensures spares { SpareHostsStay self.old.hosts.items self.new.hosts.items }
     {
         let station = hosts::station_mut(&mut self.hosts, node)?;

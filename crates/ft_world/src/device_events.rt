@@ -1,12 +1,12 @@
 //! The events at terminals and at the disk, and the answers that nodes get.
-ghost use Rattle.std.specs.Prelude.{◌≡◌, ◌+◌, IfErr, OnErr};
+ghost use Rattle.std.specs.Prelude.{◌≡◌, ◌+◌, IfErr, OnErr, OnOk};
 ghost use Rattle.shared_disk.specs.Records.{faults_in};
 ghost use Rattle.ft_world.specs.Applies.{Happens, ShowsSome};
+ghost use Rattle.ft_world.specs.Freshened.{PagesKeep};
 ghost use Rattle.ft_world.specs.Pairs.{running_of};
 ghost use Rattle.ft_world.specs.Staying.{SpareHostsStay, Stays};
 ghost use Rattle.pair_events.specs.declared.event.Event.TheVariants as happens;
 
-use crate::message::Message;
 use crate::pair::Pair;
 use crate::{devices, hosts, messages};
 use clone_state::Copies;
@@ -15,39 +15,46 @@ use event_callbacks::{OpId, PORTS};
 use i8080_words::{Fault, R};
 use pair_events::Reply;
 use shared_disk::SectorStore;
+use std::alloc::Global;
 
 impl<B: Copies<H> + Drop, D: SectorStore, H: Drop> Pair<B, D, H> {
     /// A byte is typed at the terminal of a port.
+    #[tactic(auto, using(crate::proofs::CopiedPages::pages_kept_on))]
     pub(crate) fn type_byte(&mut self, port: u8, byte: u8) -> R<Reply>
         ensures row { Happens B.state B.copied B.machine D.records (running_of self.old) (happens.TypeByte port byte) result
             (running_of self.new) }
         ensures disk { self.new.disk ≡ self.old.disk }
         ensures unchanged { OnErr result (running_of self.new ≡ running_of self.old) }
+        ensures pages { OnOk result (PagesKeep B.stale self.old.hosts.items self.new.hosts.items) }
         ensures spares { SpareHostsStay self.old.hosts.items self.new.hosts.items }
     {
         devices::type_byte(&mut self.terminals, port, byte)
     }
 
     /// A node sends an outstanding operation to its device.
-    pub(crate) fn release(&mut self, node: u64, id: OpId) -> R<Reply>
+    #[tactic(auto, using(crate::proofs::CopiedPages::pages_kept_on))]
+    pub(crate) fn release(&mut self, alloc: Global, node: u64, id: OpId) -> R<Reply>
         ensures row { Happens B.state B.copied B.machine D.records (running_of self.old) (happens.Release node id) result
             (running_of self.new) }
         ensures disk { self.new.disk ≡ self.old.disk }
         ensures unchanged { OnErr result (running_of self.new ≡ running_of self.old) }
+        ensures pages { OnOk result (PagesKeep B.stale self.old.hosts.items self.new.hosts.items) }
         ensures spares { SpareHostsStay self.old.hosts.items self.new.hosts.items }
     {
         devices::check_device(id)?;
         let station = hosts::station(&self.hosts, node)?;
         let operation = station.node.release(id)?;
-        messages::say(&mut self.messages, Message::releasing(operation))
+        messages::say_released(alloc, &mut self.messages, operation)
     }
 
     /// A released byte arrives at its terminal.
+    #[tactic(auto, using(crate::proofs::CopiedPages::pages_kept_on))]
     pub(crate) fn arrive(&mut self, message: u64) -> R<Reply>
         ensures row { Happens B.state B.copied B.machine D.records (running_of self.old) (happens.Arrive message) result
             (running_of self.new) }
         ensures disk { self.new.disk ≡ self.old.disk }
         ensures unchanged { OnErr result (running_of self.new ≡ running_of self.old) }
+        ensures pages { OnOk result (PagesKeep B.stale self.old.hosts.items self.new.hosts.items) }
         ensures spares { SpareHostsStay self.old.hosts.items self.new.hosts.items }
     {
         let Some((port, number, byte)) = messages::byte_in(&self.messages, message) else {
@@ -63,6 +70,7 @@ impl<B: Copies<H> + Drop, D: SectorStore, H: Drop> Pair<B, D, H> {
             result (running_of self.new) }
         ensures disk { self.new.disk ≡ self.old.disk }
         ensures unchanged { OnErr result (running_of self.new ≡ running_of self.old) }
+        ensures pages { OnOk result (PagesKeep B.stale self.old.hosts.items self.new.hosts.items) }
         ensures spares { SpareHostsStay self.old.hosts.items self.new.hosts.items }
     {
         devices::check_accepted(&self.terminals, port, number)?;
@@ -72,11 +80,13 @@ impl<B: Copies<H> + Drop, D: SectorStore, H: Drop> Pair<B, D, H> {
     }
 
     /// The terminal of a port is told how many of its keys a node has covered.
+    #[tactic(auto, using(crate::proofs::CopiedPages::pages_kept_on))]
     pub(crate) fn tell(&mut self, node: u64, port: u8) -> R<Reply>
         ensures row { Happens B.state B.copied B.machine D.records (running_of self.old) (happens.Told node port) result
             (running_of self.new) }
         ensures disk { self.new.disk ≡ self.old.disk }
         ensures unchanged { OnErr result (running_of self.new ≡ running_of self.old) }
+        ensures pages { OnOk result (PagesKeep B.stale self.old.hosts.items self.new.hosts.items) }
         ensures spares { SpareHostsStay self.old.hosts.items self.new.hosts.items }
     {
         if port as usize >= PORTS {
@@ -89,6 +99,7 @@ impl<B: Copies<H> + Drop, D: SectorStore, H: Drop> Pair<B, D, H> {
     }
 
     /// A released write arrives at the shared disk.
+    #[tactic(auto, using(crate::proofs::CopiedPages::pages_kept_on))]
     pub(crate) fn put(&mut self, message: u64) -> R<Reply>
         requires shown { ShowsSome B.state B.copied B.machine D.records (running_of self.old) }
         ensures row { Happens B.state B.copied B.machine D.records (running_of self.old) (happens.Put message) result
@@ -96,6 +107,7 @@ impl<B: Copies<H> + Drop, D: SectorStore, H: Drop> Pair<B, D, H> {
         ensures counted { D.failures self.new.disk ≡ D.failures self.old.disk + faults_in result }
         ensures unchanged { IfErr result (λ fault. Stays D.records (happens.Put message) fault (running_of self.old)
             (running_of self.new)) }
+        ensures pages { OnOk result (PagesKeep B.stale self.old.hosts.items self.new.hosts.items) }
         ensures spares { SpareHostsStay self.old.hosts.items self.new.hosts.items }
     {
         let Some(write) = messages::write_in(&self.messages, message) else {
@@ -111,6 +123,7 @@ impl<B: Copies<H> + Drop, D: SectorStore, H: Drop> Pair<B, D, H> {
             (running_of self.new) }
         ensures disk { self.new.disk ≡ self.old.disk }
         ensures unchanged { OnErr result (running_of self.new ≡ running_of self.old) }
+        ensures pages { OnOk result (PagesKeep B.stale self.old.hosts.items self.new.hosts.items) }
         ensures spares { SpareHostsStay self.old.hosts.items self.new.hosts.items }
     {
         let Some(number) = messages::written_in(&self.messages, message) else {
@@ -122,13 +135,15 @@ impl<B: Copies<H> + Drop, D: SectorStore, H: Drop> Pair<B, D, H> {
     }
 
     /// A node reads a sector of its selected drive.
-    pub(crate) fn get(&mut self, node: u64, sector: u8) -> R<Reply>
+    #[tactic(auto, using(crate::proofs::CopiedPages::pages_kept_on))]
+    pub(crate) fn get(&mut self, alloc: Global, node: u64, sector: u8) -> R<Reply>
         requires shown { ShowsSome B.state B.copied B.machine D.records (running_of self.old) }
         ensures row { Happens B.state B.copied B.machine D.records (running_of self.old) (happens.Get node sector) result
             (running_of self.new) }
         ensures counted { D.failures self.new.disk ≡ D.failures self.old.disk + faults_in result }
         ensures unchanged { IfErr result (λ fault. Stays D.records (happens.Get node sector) fault (running_of self.old)
             (running_of self.new)) }
+        ensures pages { OnOk result (PagesKeep B.stale self.old.hosts.items self.new.hosts.items) }
         ensures spares { SpareHostsStay self.old.hosts.items self.new.hosts.items }
     {
         if sector >= SECTORS {
@@ -136,7 +151,7 @@ impl<B: Copies<H> + Drop, D: SectorStore, H: Drop> Pair<B, D, H> {
         }
         let station = hosts::station(&self.hosts, node)?;
         let address = station.node.place(sector)?;
-        devices::get(&mut self.messages, &mut self.disk, address)
+        devices::get(alloc, &mut self.messages, &mut self.disk, address)
     }
 
     /// A sector that was read arrives at a node.
@@ -146,6 +161,7 @@ impl<B: Copies<H> + Drop, D: SectorStore, H: Drop> Pair<B, D, H> {
             (running_of self.new) }
         ensures disk { self.new.disk ≡ self.old.disk }
         ensures unchanged { OnErr result (running_of self.new ≡ running_of self.old) }
+        ensures pages { OnOk result (PagesKeep B.stale self.old.hosts.items self.new.hosts.items) }
         ensures spares { SpareHostsStay self.old.hosts.items self.new.hosts.items }
     {
         let Some(read) = messages::sector_in(&self.messages, message) else {

@@ -8,11 +8,12 @@ ghost use Rattle.terminals.specs.Screen.{after_telling};
 ghost use Rattle.ft_world.specs.Devices as table;
 
 use crate::message::Message;
-use disk_dcdd::{SectorAddress, SectorWrite};
+use disk_dcdd::{SECTOR_BYTES, SectorAddress, SectorWrite};
 use event_callbacks::{OpId, PORTS};
 use i8080_words::{Fault, R};
 use pair_events::Reply;
-use shared_disk::{SectorStore, SharedDisk};
+use shared_disk::{SectorRead, SectorStore, SharedDisk};
+use std::alloc::Global;
 use terminals::Terminal;
 
 /// A byte is typed at the terminal of a port. `Unknown` if there is no such port.
@@ -123,8 +124,20 @@ pub(crate) fn told(terminals: &[Terminal; PORTS], port: u8) -> u64
     terminals[port as usize].told()
 }
 
+// Room for what a sector has.
+fn nothing_read() -> SectorRead {
+    SectorRead {
+        number: 0,
+        drive: 0,
+        track: 0,
+        sector: 0,
+        bytes: [0; SECTOR_BYTES],
+    }
+}
+
 /// A sector is read, and the disk's answer is sent. Room for the answer is reserved before the disk is touched.
 pub(crate) fn get<D: SectorStore>(
+    alloc: Global,
     messages: &mut Vec<Message>,
     disk: &mut SharedDisk<D>,
     address: SectorAddress,
@@ -135,7 +148,8 @@ pub(crate) fn get<D: SectorStore>(
     ensures counted { D.failures disk.new ≡ D.failures disk.old + faults_in result }
 {
     messages.reserve(1)?;
-    let read = disk.get(address)?;
+    let mut read = Box::new(alloc, nothing_read())?;
+    *read = disk.get(address)?;
     let message = messages.len() as u64;
     match messages.push(Message::Sector(read)) {
         Ok(()) => Ok(Reply::Message { message }),

@@ -1,7 +1,8 @@
 //! The events by which a node that replays reads the shared disk.
-ghost use Rattle.std.specs.Prelude.{◌≡◌, ◌+◌, IfErr, OnErr};
+ghost use Rattle.std.specs.Prelude.{◌≡◌, ◌+◌, IfErr, OnErr, OnOk};
 ghost use Rattle.shared_disk.specs.Records.{faults_in};
 ghost use Rattle.ft_world.specs.Applies.{Happens, ShowsSome};
+ghost use Rattle.ft_world.specs.Freshened.{PagesKeep};
 ghost use Rattle.ft_world.specs.Pairs.{running_of};
 ghost use Rattle.ft_world.specs.Staying.{SpareHostsStay, Stays};
 ghost use Rattle.pair_events.specs.declared.event.Event.TheVariants as happens;
@@ -12,21 +13,24 @@ use clone_state::Copies;
 use i8080_words::{Fault, R};
 use pair_events::Reply;
 use shared_disk::SectorStore;
+use std::alloc::Global;
 
 impl<B: Copies<H> + Drop, D: SectorStore, H: Drop> Pair<B, D, H> {
     /// A node that waits for the bytes of a sector asks the disk for it.
-    pub(crate) fn fetch(&mut self, node: u64) -> R<Reply>
+    #[tactic(auto, using(crate::proofs::CopiedPages::pages_kept_on))]
+    pub(crate) fn fetch(&mut self, alloc: Global, node: u64) -> R<Reply>
         requires shown { ShowsSome B.state B.copied B.machine D.records (running_of self.old) }
         ensures row { Happens B.state B.copied B.machine D.records (running_of self.old) (happens.Fetch node) result
             (running_of self.new) }
         ensures counted { D.failures self.new.disk ≡ D.failures self.old.disk + faults_in result }
         ensures unchanged { IfErr result (λ fault. Stays D.records (happens.Fetch node) fault (running_of self.old)
             (running_of self.new)) }
+        ensures pages { OnOk result (PagesKeep B.stale self.old.hosts.items self.new.hosts.items) }
         ensures spares { SpareHostsStay self.old.hosts.items self.new.hosts.items }
     {
         let station = hosts::station(&self.hosts, node)?;
         let address = station.node.wanted()?;
-        devices::get(&mut self.messages, &mut self.disk, address)
+        devices::get(alloc, &mut self.messages, &mut self.disk, address)
     }
 
     /// A sector that was read arrives at a node that waits for its bytes.
@@ -36,6 +40,7 @@ impl<B: Copies<H> + Drop, D: SectorStore, H: Drop> Pair<B, D, H> {
             (running_of self.new) }
         ensures disk { self.new.disk ≡ self.old.disk }
         ensures unchanged { OnErr result (running_of self.new ≡ running_of self.old) }
+        ensures pages { OnOk result (PagesKeep B.stale self.old.hosts.items self.new.hosts.items) }
         ensures spares { SpareHostsStay self.old.hosts.items self.new.hosts.items }
     {
         let Some(read) = messages::sector_in(&self.messages, message) else {

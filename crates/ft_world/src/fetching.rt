@@ -1,9 +1,9 @@
 //! A station receives the bytes of a sector that its log does not carry.
-ghost use Rattle.std.specs.Prelude.{◌≡◌, ℕ, OnErr};
+ghost use Rattle.std.specs.Prelude.{◌≡◌, ℕ, OnErr, OnOk};
 ghost use Rattle.pair_protocol.specs.Copying.{Copying};
 ghost use Rattle.pair_protocol.specs.Node as protocol;
 ghost use Rattle.ft_node.specs.Calls as calls;
-ghost use Rattle.ft_node.specs.Seats.{MayFetch};
+ghost use Rattle.ft_node.specs.Seats.{MayFetch, PagesStay};
 ghost use Rattle.ft_world.specs.Shows.{IsStation};
 ghost use Rattle.ft_world.specs.Words.{read_address};
 
@@ -20,6 +20,7 @@ impl<B: Copies<H> + Drop, H: Drop> Station<B, H> {
             → IsStation B.state B.machine C drives self.old x
             → calls.Fetches B.machine (read_address read.now) read.now.number read.now.bytes x result
             (IsStation B.state B.machine C drives self.new) }
+        ensures pages { OnOk result (PagesStay B.stale self.old.node self.new.node) }
         ensures unchanged { OnErr result (self.new ≡ self.old) }
     {
         self.node.fetched(read)

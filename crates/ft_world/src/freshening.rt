@@ -1,9 +1,10 @@
 //! What happens at a station when pages of its machine are copied early.
-ghost use Rattle.std.specs.Prelude.{◌≡◌, ℕ, IfOk, OnErr};
+ghost use Rattle.std.specs.Prelude.{◌≡◌, ℕ, IfErr, IfOk, OnErr};
+ghost use Rattle.i8080_words.specs.declared.refusal.Fault.TheVariants.{OutOfMemory};
 ghost use Rattle.pair_protocol.specs.Copying.{Copying};
 ghost use Rattle.pair_protocol.specs.Node as protocol;
 ghost use Rattle.ft_node.specs.Calls as calls;
-ghost use Rattle.ft_node.specs.Seats.{AreFreshened};
+ghost use Rattle.ft_node.specs.Seats.{AreFreshened, NoneCopied};
 ghost use Rattle.ft_world.specs.Shows.{IsStation};
 
 use crate::station::Station;
@@ -18,6 +19,7 @@ impl<B: Copies<H> + Drop, H: Drop> Station<B, H> {
             → IsStation B.state B.machine C drives self.old x
             → calls.Freshens x result (IsStation B.state B.machine C drives self.new) }
         ensures stale { IfOk result (λ left. AreFreshened B.stale pages left self.old.node self.new.node) }
+        ensures begins { IfErr result (λ fault. fault ≡ OutOfMemory → NoneCopied B.stale self.old.node) }
         ensures unchanged { OnErr result (self.new ≡ self.old) }
     {
         self.node.freshen(alloc, pages)

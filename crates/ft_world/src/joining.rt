@@ -1,11 +1,12 @@
 //! What happens at a station when a generation begins with a copied machine: a node begins it, another joins it.
-ghost use Rattle.std.specs.Prelude.{◌≡◌, ℕ, length, OnErr};
+ghost use Rattle.std.specs.Prelude.{◌≡◌, ℕ, None, length, OnErr, OnOk};
 ghost use Rattle.clone_state.specs.Copies.{CopiesAs};
 ghost use Rattle.clone_state.specs.Parts.{message_at};
 ghost use Rattle.pair_protocol.specs.Copying.{Copying};
 ghost use Rattle.pair_protocol.specs.Node as protocol;
 ghost use Rattle.pair_protocol.specs.Refusals as refusals;
 ghost use Rattle.ft_node.specs.Calls as calls;
+ghost use Rattle.ft_node.specs.Seats.{PagesStay, alone_board};
 ghost use Rattle.ft_world.specs.Opening.{IsJoined, Opens};
 ghost use Rattle.ft_world.specs.Shows.{IsStation};
 
@@ -27,6 +28,7 @@ impl<B: Copies<H> + Drop, H: Drop> Station<B, H> {
             → calls.Call (refusals.begin_pair_refusal x) calls.Ever
             (λ opening. Opens B.machine drives opening self.old.inputs self.old.count) x result
             (IsStation B.state B.machine C drives self.new) }
+        ensures pages { OnOk result (PagesStay B.stale self.old.node self.new.node) }
         ensures unchanged { OnErr result (self.new ≡ self.old) }
     {
         let NextGeneration {
@@ -48,7 +50,8 @@ impl<B: Copies<H> + Drop, H: Drop> Station<B, H> {
 
     /// The station of a node that joins a generation, with no part of the image yet.
     pub(crate) fn joining(opening: Opening, resources: H) -> Station<B, H>
-        ensures { IsJoined B.state B.machine opening result }
+        ensures joined { IsJoined B.state B.machine opening result }
+        ensures pages { alone_board result.node ≡ None }
     {
         let Opening {
             generation,
@@ -70,6 +73,7 @@ impl<B: Copies<H> + Drop, H: Drop> Station<B, H> {
             → CopiesAs B.state B.copied drives C.parts C.part_count C.assemble
             → IsStation B.state B.machine C drives self.old x
             → calls.GetsPart C (message_at drives bytes.now) x result (IsStation B.state B.machine C drives self.new) }
+        ensures pages { OnOk result (PagesStay B.stale self.old.node self.new.node) }
         ensures unchanged { OnErr result (self.new ≡ self.old) }
     {
         self.node.part(alloc, bytes)

@@ -1,12 +1,16 @@
 //! What nodes and the disk send.
-ghost use Rattle.std.specs.Prelude.{◌≡◌, option_map};
+ghost use Rattle.std.specs.Prelude.{◌≡◌, IfErr, IfOk, Some, option_map};
+ghost use Rattle.i8080_words.specs.declared.refusal.Fault.TheVariants.{OutOfMemory};
 ghost use Rattle.ft_world.specs.Messages as table;
 
 use disk_dcdd::SectorWrite;
 use event_callbacks::Operation;
+use i8080_words::R;
 use shared_disk::SectorRead;
+use std::alloc::Global;
 
-/// A message that was sent. A link loses, repeats and reorders messages, and alters none.
+/// A message that was sent. A link loses, repeats and reorders messages, and alters none. All messages are kept, and most
+/// are short, so the bytes of a sector are kept elsewhere.
 #[derive(Drop)]
 pub enum Message {
     /// The packet of a log entry.
@@ -18,21 +22,22 @@ pub enum Message {
     /// A byte for the terminal of a port, with its number, from 1.
     Byte { port: u8, number: u64, byte: u8 },
     /// A write for the shared disk.
-    Write(SectorWrite),
+    Write(Box<SectorWrite>),
     /// The disk has taken the write of this number.
     Written(u64),
     /// What a sector of the disk has.
-    Sector(SectorRead),
+    Sector(Box<SectorRead>),
 }
 
 impl Message {
     // The message that releases an operation to its device.
-    pub(crate) fn releasing(operation: Operation) -> Message
-        ensures { result ≡ table.released operation }
+    pub(crate) fn releasing(alloc: Global, operation: Operation) -> R<Message>
+        ensures ok { IfOk result (λ message. table.operation_of message ≡ Some operation) }
+        ensures full { IfErr result (λ fault. fault ≡ OutOfMemory) }
     {
         match operation {
-            Operation::Byte { port, number, byte } => Message::Byte { port, number, byte },
-            Operation::Write(write) => Message::Write(write),
+            Operation::Byte { port, number, byte } => Ok(Message::Byte { port, number, byte }),
+            Operation::Write(write) => Ok(Message::Write(Box::new(alloc, write)?)),
         }
     }
 
@@ -81,7 +86,7 @@ impl Message {
         ensures { result ≡ table.write_of self.now }
     {
         match self {
-            Message::Write(write) => Some(*write),
+            Message::Write(write) => Some(**write),
             _ => None,
         }
     }
@@ -101,7 +106,7 @@ impl Message {
         ensures { result ≡ table.sector_of self.now }
     {
         match self {
-            Message::Sector(read) => Some(*read),
+            Message::Sector(read) => Some(**read),
             _ => None,
         }
     }

@@ -4,9 +4,11 @@ ghost use Rattle.ft_world.specs.Messages as table;
 
 use crate::message::Message;
 use disk_dcdd::SectorWrite;
+use event_callbacks::Operation;
 use i8080_words::R;
 use pair_events::Reply;
 use shared_disk::SectorRead;
+use std::alloc::Global;
 
 /// A message is sent; returns its number.
 pub(crate) fn say(messages: &mut Vec<Message>, message: Message) -> R<Reply>
@@ -15,6 +17,18 @@ pub(crate) fn say(messages: &mut Vec<Message>, message: Message) -> R<Reply>
     let number = messages.len() as u64;
     messages.push(message)?;
     Ok(Reply::Message { message: number })
+}
+
+/// An operation is released to its device; returns the number of the message.
+pub(crate) fn say_released(
+    alloc: Global,
+    messages: &mut Vec<Message>,
+    operation: Operation,
+) -> R<Reply>
+    ensures { table.Releases messages.old.items operation result messages.new.items }
+{
+    let message = Message::releasing(alloc, operation)?;
+    say(messages, message)
 }
 
 /// The packet of a log entry that a message brings to a backup.

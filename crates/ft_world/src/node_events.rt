@@ -1,6 +1,8 @@
 //! The events at a node itself.
-ghost use Rattle.std.specs.Prelude.{◌≡◌, IfErr, OnErr};
+ghost use Rattle.std.specs.Prelude.{◌≡◌, IfErr, IfOk, OnErr, OnOk};
+ghost use Rattle.ft_node.specs.Pages.{StepsWrite};
 ghost use Rattle.ft_world.specs.Applies.{Happens, ShowsSome};
+ghost use Rattle.ft_world.specs.Freshened.{PagesChange, PagesKeep, steps_in};
 ghost use Rattle.ft_world.specs.Pairs.{running_of};
 ghost use Rattle.ft_world.specs.Staying.{SpareHostsStay, Stays};
 ghost use Rattle.ft_world.specs.Words.{reply_of};
@@ -26,6 +28,8 @@ impl<B: Copies<H> + Drop, D: SectorStore, H: Drop> Pair<B, D, H> {
             (running_of self.new) }
         ensures disk { self.new.disk ≡ self.old.disk }
         ensures unchanged { OnErr result (running_of self.new ≡ running_of self.old) }
+        ensures pages { IfOk result (λ reply. PagesChange B.stale (StepsWrite B.state B.machine B.writes B.stale (steps_in reply)) node
+            self.old.hosts.items self.new.hosts.items) }
         ensures spares { SpareHostsStay self.old.hosts.items self.new.hosts.items }
     {
         let station = hosts::station_mut(&mut self.hosts, node)?;
@@ -44,6 +48,7 @@ impl<B: Copies<H> + Drop, D: SectorStore, H: Drop> Pair<B, D, H> {
             (running_of self.new) }
         ensures disk { self.new.disk ≡ self.old.disk }
         ensures unchanged { OnErr result (running_of self.new ≡ running_of self.old) }
+        ensures pages { OnOk result (PagesKeep B.stale self.old.hosts.items self.new.hosts.items) }
         ensures spares { SpareHostsStay self.old.hosts.items self.new.hosts.items }
     {
         let byte = devices::key_at(&self.terminals, port, index)?;
@@ -53,11 +58,13 @@ impl<B: Copies<H> + Drop, D: SectorStore, H: Drop> Pair<B, D, H> {
     }
 
     /// A primary sends an entry of its log.
+    #[tactic(auto, using(crate::proofs::CopiedPages::pages_kept_on))]
     pub(crate) fn send(&mut self, alloc: Global, node: u64, index: u64) -> R<Reply>
         ensures row { Happens B.state B.copied B.machine D.records (running_of self.old) (happens.Send node index) result
             (running_of self.new) }
         ensures disk { self.new.disk ≡ self.old.disk }
         ensures unchanged { OnErr result (running_of self.new ≡ running_of self.old) }
+        ensures pages { OnOk result (PagesKeep B.stale self.old.hosts.items self.new.hosts.items) }
         ensures spares { SpareHostsStay self.old.hosts.items self.new.hosts.items }
     {
         let station = hosts::station(&self.hosts, node)?;
@@ -71,6 +78,7 @@ impl<B: Copies<H> + Drop, D: SectorStore, H: Drop> Pair<B, D, H> {
             (running_of self.new) }
         ensures disk { self.new.disk ≡ self.old.disk }
         ensures unchanged { OnErr result (running_of self.new ≡ running_of self.old) }
+        ensures pages { OnOk result (PagesKeep B.stale self.old.hosts.items self.new.hosts.items) }
         ensures spares { SpareHostsStay self.old.hosts.items self.new.hosts.items }
     {
         let Some(packet) = messages::log_in(&self.messages, message) else {
@@ -85,11 +93,13 @@ impl<B: Copies<H> + Drop, D: SectorStore, H: Drop> Pair<B, D, H> {
     }
 
     /// A backup sends an acknowledgement of all that it holds.
+    #[tactic(auto, using(crate::proofs::CopiedPages::pages_kept_on))]
     pub(crate) fn acknowledge(&mut self, alloc: Global, node: u64) -> R<Reply>
         ensures row { Happens B.state B.copied B.machine D.records (running_of self.old) (happens.Acknowledge node) result
             (running_of self.new) }
         ensures disk { self.new.disk ≡ self.old.disk }
         ensures unchanged { OnErr result (running_of self.new ≡ running_of self.old) }
+        ensures pages { OnOk result (PagesKeep B.stale self.old.hosts.items self.new.hosts.items) }
         ensures spares { SpareHostsStay self.old.hosts.items self.new.hosts.items }
     {
         let station = hosts::station(&self.hosts, node)?;
@@ -103,6 +113,7 @@ impl<B: Copies<H> + Drop, D: SectorStore, H: Drop> Pair<B, D, H> {
             (happens.DeliverAcknowledgement message node) result (running_of self.new) }
         ensures disk { self.new.disk ≡ self.old.disk }
         ensures unchanged { OnErr result (running_of self.new ≡ running_of self.old) }
+        ensures pages { OnOk result (PagesKeep B.stale self.old.hosts.items self.new.hosts.items) }
         ensures spares { SpareHostsStay self.old.hosts.items self.new.hosts.items }
     {
         let Some(packet) = messages::ack_in(&self.messages, message) else {
@@ -120,6 +131,7 @@ impl<B: Copies<H> + Drop, D: SectorStore, H: Drop> Pair<B, D, H> {
             (running_of self.new) }
         ensures disk { self.new.disk ≡ self.old.disk }
         ensures unchanged { OnErr result (running_of self.new ≡ running_of self.old) }
+        ensures pages { OnOk result (PagesKeep B.stale self.old.hosts.items self.new.hosts.items) }
         ensures spares { SpareHostsStay self.old.hosts.items self.new.hosts.items }
     {
         let station = hosts::station_mut(&mut self.hosts, node)?;
@@ -138,6 +150,7 @@ impl<B: Copies<H> + Drop, D: SectorStore, H: Drop> Pair<B, D, H> {
         ensures disk { self.new.disk ≡ self.old.disk }
         ensures unchanged { IfErr result (λ fault. Stays D.records (happens.Suspect node) fault (running_of self.old)
             (running_of self.new)) }
+        ensures pages { OnOk result (PagesKeep B.stale self.old.hosts.items self.new.hosts.items) }
         ensures spares { SpareHostsStay self.old.hosts.items self.new.hosts.items }
     {
         let station = hosts::station_mut(&mut self.hosts, node)?;
@@ -152,6 +165,7 @@ impl<B: Copies<H> + Drop, D: SectorStore, H: Drop> Pair<B, D, H> {
             (running_of self.new) }
         ensures disk { self.new.disk ≡ self.old.disk }
         ensures unchanged { OnErr result (running_of self.new ≡ running_of self.old) }
+        ensures pages { OnOk result (PagesKeep B.stale self.old.hosts.items self.new.hosts.items) }
         ensures spares { SpareHostsStay self.old.hosts.items self.new.hosts.items }
     {
         let station = hosts::station_mut(&mut self.hosts, node)?;
@@ -165,6 +179,7 @@ impl<B: Copies<H> + Drop, D: SectorStore, H: Drop> Pair<B, D, H> {
             (running_of self.new) }
         ensures disk { self.new.disk ≡ self.old.disk }
         ensures unchanged { OnErr result (running_of self.new ≡ running_of self.old) }
+        ensures pages { OnOk result (PagesKeep B.stale self.old.hosts.items self.new.hosts.items) }
         ensures spares { SpareHostsStay self.old.hosts.items self.new.hosts.items }
     {
         let station = hosts::station_mut(&mut self.hosts, node)?;

@@ -2,13 +2,14 @@
 ghost use Rattle.std.specs.Prelude.{◌≡◌, ◌+◌, [], ◌∷◌, ◌++◌, length, IfErr, IfOk, OnErr, OnOk};
 ghost use Rattle.i8080_words.specs.declared.refusal.Fault.TheVariants.{OutOfMemory};
 ghost use Rattle.pair_protocol.specs.Copying.{Copying};
+ghost use Rattle.pair_protocol.specs.Grows.{Grows};
 ghost use Rattle.pair_protocol.specs.World.{with_host};
 ghost use Rattle.ft_world.specs.Applies.{Happens, IsFaithful, Runs, Shows, ShowsSome};
 ghost use Rattle.ft_world.specs.Applies.{failures_over, failures_told};
 ghost use Rattle.ft_world.specs.Beginning.{MayBegin, MayBeginSome, beginning};
 ghost use Rattle.ft_world.specs.Chaining.{HaveApplied};
 ghost use Rattle.ft_world.specs.Standing.{Course, machine_of};
-ghost use Rattle.ft_world.specs.Freshened.{TellsStale};
+ghost use Rattle.ft_world.specs.Freshened.{PagesAfter, TellsStale};
 ghost use Rattle.ft_world.specs.Pairs.{running_of};
 ghost use Rattle.ft_world.specs.Staying.{SparesAfter, SparesLeft, Stays};
 ghost use Rattle.ft_world.specs.declared.host.Host.TheVariants as host;
@@ -74,6 +75,7 @@ impl<B: Copies<H> + Drop, D: SectorStore, H: Drop> Pair<B, D, H> {
             (running_of self.new)) }
         ensures spares { SparesAfter event result self.old.hosts.items self.new.hosts.items }
         ensures stale { TellsStale B.stale event result self.old.hosts.items self.new.hosts.items }
+        ensures pages { PagesAfter B.state B.machine B.writes B.stale event result self.old.hosts.items self.new.hosts.items }
     {
         match event {
             Event::Step { node, turns } => self.step(node, turns),
@@ -86,15 +88,15 @@ impl<B: Copies<H> + Drop, D: SectorStore, H: Drop> Pair<B, D, H> {
                 message, node,
             ),
             Event::Replay { node, turns } => self.replay(node, turns),
-            Event::Release { node, id } => self.release(node, id),
+            Event::Release { node, id } => self.release(alloc, node, id),
             Event::Arrive { message } => self.arrive(message),
             Event::TellSent { node, port, number } => self.tell_sent(node, port, number),
             Event::Told { node, port } => self.tell(node, port),
             Event::Put { message } => self.put(message),
             Event::PutReply { message, node } => self.put_reply(message, node),
-            Event::Get { node, sector } => self.get(node, sector),
+            Event::Get { node, sector } => self.get(alloc, node, sector),
             Event::GetReply { message, node } => self.get_reply(message, node),
-            Event::Fetch { node } => self.fetch(node),
+            Event::Fetch { node } => self.fetch(alloc, node),
             Event::Fetched { message, node } => self.fetched(message, node),
             Event::Suspect { node } => self.suspect(node),
             Event::Drain { node, turns } => self.drain(node, turns),
@@ -112,7 +114,7 @@ impl<B: Copies<H> + Drop, D: SectorStore, H: Drop> Pair<B, D, H> {
         ensures ok { IfOk result (λ answers. (c : Course B.State)
             → Shows B.state B.copied B.machine D.records (running_of self.old) c
             → Runs B.state B.copied B.machine D.records c events.now answers.items (running_of self.new)) }
-        ensures each { IfOk result (λ answers. HaveApplied B.state B.copied B.machine D.records D.failures B.stale
+        ensures each { IfOk result (λ answers. HaveApplied B.state B.copied B.machine D.records D.failures B.writes B.stale
             (running_of self.old) events.now answers.items (running_of self.new)) }
         ensures counted { IfOk result (λ answers. D.failures self.new.disk
             ≡ D.failures self.old.disk + failures_over events.now answers.items) }
@@ -139,6 +141,9 @@ impl<B: Copies<H> + Drop, D: SectorStore, H: Drop> Pair<B, D, H> {
         ensures faithful { OnOk result ((c : Course B.State)
             → Shows B.state B.copied B.machine D.records (running_of self.old) c
             → IsFaithful B.machine (record c { world = with_host (machine_of B.machine c) c.world })) }
+        ensures grows { OnOk result ((c : Course B.State)
+            → Shows B.state B.copied B.machine D.records (running_of self.old) c
+            → Grows (machine_of B.machine c) c.world (with_host (machine_of B.machine c) c.world)) }
         ensures others { OnOk result (running_of self.new
             ≡ record (running_of self.old) { hosts = self.old.hosts.items ++ host.Spare resources ∷ [] }) }
         ensures number { IfOk result (λ number. number ≡ length self.old.hosts.items) }

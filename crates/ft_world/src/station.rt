@@ -1,6 +1,6 @@
 //! A node with its list of inputs, and what an event does there.
 ghost use Rattle.pair_protocol.specs.Copying.{Copying};
-ghost use Rattle.std.specs.Prelude.{◌≡◌, ℕ, ◌≢◌, ◌<◌, [], None, IfErr, OnErr};
+ghost use Rattle.std.specs.Prelude.{◌≡◌, ℕ, ◌≢◌, ◌<◌, [], None, IfErr, IfOk, OnErr, OnOk};
 ghost use Rattle.disk_dcdd.specs.declared.controller.TheConstants.{DRIVES};
 ghost use Rattle.disk_dcdd.specs.declared.sector.TheConstants.{SECTORS};
 ghost use Rattle.event_callbacks.specs.declared.devices.TheConstants.{PORTS};
@@ -12,7 +12,8 @@ ghost use Rattle.pair_protocol.specs.Node as protocol;
 ghost use Rattle.pair_protocol.specs.Refusals as refusals;
 ghost use Rattle.ft_node.specs.Calls as calls;
 ghost use Rattle.ft_node.specs.Roles.{count_of};
-ghost use Rattle.ft_node.specs.Seats.{IsNode, MayAccept, MayReplay, MayRun};
+ghost use Rattle.ft_node.specs.Pages.{PagesGoOn, StepsWrite};
+ghost use Rattle.ft_node.specs.Seats.{IsNode, MayAccept, MayReplay, MayRun, PagesStay, alone_board};
 ghost use Rattle.ft_world.specs.Shows.{IsStation, drained_count};
 
 use crate::input_list::Inputs;
@@ -66,6 +67,8 @@ impl<B: Copies<H> + Drop, H: Drop> Station<B, H> {
         requires few { MayRun B.state B.machine self.old.node }
         ensures answer { (C : Copying B.State) (drives : ℕ) (x : protocol.Node B.State) → IsStation B.state B.machine C drives self.old x
             → calls.Steps B.machine turns x result (IsStation B.state B.machine C drives self.new) }
+        ensures pages { IfOk result (λ ran. PagesGoOn B.stale (StepsWrite B.state B.machine B.writes B.stale ran.steps)
+            (alone_board self.old.node) (alone_board self.new.node)) }
         ensures unchanged { OnErr result (self.new ≡ self.old) }
     {
         let ran = self.node.step(turns)?;
@@ -79,6 +82,7 @@ impl<B: Copies<H> + Drop, H: Drop> Station<B, H> {
         ensures answer { (C : Copying B.State) (drives : ℕ) (x : protocol.Node B.State) → IsStation B.state B.machine C drives self.old x
             → calls.Call None calls.Ever (λ done. Took B.machine input) x result
             (IsStation B.state B.machine C drives self.new) }
+        ensures pages { OnOk result (PagesStay B.stale self.old.node self.new.node) }
         ensures unchanged { OnErr result (self.new ≡ self.old) }
     {
         self.inputs.push(self.count, &input)?;
@@ -92,6 +96,7 @@ impl<B: Copies<H> + Drop, H: Drop> Station<B, H> {
         ensures answer { (C : Copying B.State) (drives : ℕ) (x : protocol.Node B.State) → IsStation B.state B.machine C drives self.old x
             → calls.Call (refusals.take_key_refusal B.machine port index x) calls.Ever
             (λ done. Took B.machine (input.Rx port byte)) x result (IsStation B.state B.machine C drives self.new) }
+        ensures pages { OnOk result (PagesStay B.stale self.old.node self.new.node) }
         ensures unchanged { OnErr result (self.new ≡ self.old) }
     {
         self.node.check_key(port, index)?;
@@ -104,6 +109,7 @@ impl<B: Copies<H> + Drop, H: Drop> Station<B, H> {
         ensures answer { (C : Copying B.State) (drives : ℕ) (x : protocol.Node B.State) → IsStation B.state B.machine C drives self.old x
             → calls.Call (refusals.tell_sent_refusal B.machine port number x) calls.Ever
             (λ done. Took B.machine (input.Sent port)) x result (IsStation B.state B.machine C drives self.new) }
+        ensures pages { OnOk result (PagesStay B.stale self.old.node self.new.node) }
         ensures unchanged { OnErr result (self.new ≡ self.old) }
     {
         self.node.check_sent(port, number)?;
@@ -115,6 +121,7 @@ impl<B: Copies<H> + Drop, H: Drop> Station<B, H> {
         ensures answer { (C : Copying B.State) (drives : ℕ) (x : protocol.Node B.State) → IsStation B.state B.machine C drives self.old x
             → calls.Call (refusals.put_reply_refusal B.machine number x) calls.Ever
             (λ done. Took B.machine (input.Written number)) x result (IsStation B.state B.machine C drives self.new) }
+        ensures pages { OnOk result (PagesStay B.stale self.old.node self.new.node) }
         ensures unchanged { OnErr result (self.new ≡ self.old) }
     {
         self.node.check_done(number)?;
@@ -134,6 +141,7 @@ impl<B: Copies<H> + Drop, H: Drop> Station<B, H> {
             → calls.Call (refusals.get_reply_refusal B.machine address number bytes x) calls.Ever
             (λ done. Took B.machine (input.Sector address.drive address.sector number bytes)) x result
             (IsStation B.state B.machine C drives self.new) }
+        ensures pages { OnOk result (PagesStay B.stale self.old.node self.new.node) }
         ensures unchanged { OnErr result (self.new ≡ self.old) }
     {
         self.node.check_under(address, number, bytes)?;
@@ -150,6 +158,7 @@ impl<B: Copies<H> + Drop, H: Drop> Station<B, H> {
     pub(crate) fn deliver_log(&mut self, bytes: &[u8]) -> R<bool>
         ensures answer { (C : Copying B.State) (drives : ℕ) (x : protocol.Node B.State) → IsStation B.state B.machine C drives self.old x
             → calls.DeliversLog NeedsEntry (packet_at bytes.now) x result (IsStation B.state B.machine C drives self.new) }
+        ensures pages { OnOk result (PagesStay B.stale self.old.node self.new.node) }
         ensures unchanged { OnErr result (self.new ≡ self.old) }
     {
         let Some(entry) = self.node.next_entry(bytes)? else {
@@ -173,6 +182,7 @@ impl<B: Copies<H> + Drop, H: Drop> Station<B, H> {
     pub(crate) fn deliver_acknowledgement(&mut self, bytes: &[u8]) -> R<u64>
         ensures answer { (C : Copying B.State) (drives : ℕ) (x : protocol.Node B.State) → IsStation B.state B.machine C drives self.old x
             → calls.DeliversAcknowledgement (packet_at bytes.now) x result (IsStation B.state B.machine C drives self.new) }
+        ensures pages { OnOk result (PagesStay B.stale self.old.node self.new.node) }
         ensures unchanged { OnErr result (self.new ≡ self.old) }
     {
         self.node.on_ack(bytes)
@@ -183,6 +193,7 @@ impl<B: Copies<H> + Drop, H: Drop> Station<B, H> {
         requires on_trace { MayReplay B.state B.machine self.old.node }
         ensures answer { (C : Copying B.State) (drives : ℕ) (x : protocol.Node B.State) → IsStation B.state B.machine C drives self.old x
             → calls.Replays B.machine turns x result (IsStation B.state B.machine C drives self.new) }
+        ensures pages { OnOk result (PagesStay B.stale self.old.node self.new.node) }
         ensures unchanged { OnErr result (self.new ≡ self.old) }
     {
         self.node.replay(turns)
@@ -193,6 +204,7 @@ impl<B: Copies<H> + Drop, H: Drop> Station<B, H> {
         requires on_trace { MayReplay B.state B.machine self.old.node }
         ensures answer { (C : Copying B.State) (drives : ℕ) (x : protocol.Node B.State) → IsStation B.state B.machine C drives self.old x
             → calls.Drains B.machine turns x result (IsStation B.state B.machine C drives self.new) }
+        ensures pages { OnOk result (PagesStay B.stale self.old.node self.new.node) }
         ensures unchanged { OnErr result (self.new ≡ self.old) }
     {
         let drained = self.node.drain(turns)?;
@@ -204,6 +216,7 @@ impl<B: Copies<H> + Drop, H: Drop> Station<B, H> {
     pub(crate) fn stop(&mut self) -> R<()>
         ensures answer { (C : Copying B.State) (drives : ℕ) (x : protocol.Node B.State) → IsStation B.state B.machine C drives self.old x
             → calls.Stops x result (IsStation B.state B.machine C drives self.new) }
+        ensures pages { OnOk result (PagesStay B.stale self.old.node self.new.node) }
         ensures unchanged { OnErr result (self.new ≡ self.old) }
     {
         self.node.stop()
@@ -213,6 +226,7 @@ impl<B: Copies<H> + Drop, H: Drop> Station<B, H> {
     pub(crate) fn suspect(&mut self, id: u64, arbiter: &mut Arbiter) -> R<Won>
         ensures answer { (C : Copying B.State) (drives : ℕ) (x : protocol.Node B.State) → IsStation B.state B.machine C drives self.old x
             → calls.Suspects arbiter.old id x result arbiter.new (IsStation B.state B.machine C drives self.new) }
+        ensures pages { OnOk result (PagesStay B.stale self.old.node self.new.node) }
         ensures beside { self.new ≡ record self.old { node = self.new.node } }
         ensures unchanged { IfErr result (λ fault. fault ≢ Lost → self.new ≡ self.old) }
         ensures arbiter { OnErr result (arbiter.new ≡ arbiter.old) }

@@ -38,6 +38,7 @@ impl<B: Copies<H> + Drop, D: SectorStore, H: Drop> World<B, D, H> {
     ghost use Rattle.disk_dcdd.specs.declared.address.SectorAddress.{SectorAddress};
     ghost use Rattle.i8080_words.specs.declared.refusal.Fault.TheVariants.{OutOfMemory};
     ghost use Rattle.pair_protocol.specs.Copying.{Copying};
+    ghost use Rattle.pair_protocol.specs.Grows.{Grows};
     ghost use Rattle.pair_protocol.specs.World.{accepted, terminal, winner_in, with_host};
     ghost use Rattle.pair_protocol.specs.Settled.{Settled, highest};
     ghost use Rattle.shared_disk.specs.Records.{faults_in, refusal_at};
@@ -45,10 +46,11 @@ impl<B: Copies<H> + Drop, D: SectorStore, H: Drop> World<B, D, H> {
     ghost use Rattle.ft_world.specs.Applies.{failures_over, failures_told};
     ghost use Rattle.ft_world.specs.Beginning.{MayBegin, MayBeginSome, beginning};
     ghost use Rattle.ft_world.specs.Chaining.{HaveApplied};
-    ghost use Rattle.ft_world.specs.Freshened.{TellsStale};
+    ghost use Rattle.ft_world.specs.Freshened.{PagesAfter, TellsStale};
     ghost use Rattle.ft_world.specs.Shows.{Agree, IsStatusAt};
     ghost use Rattle.ft_world.specs.Standing.{Course, machine_of};
     ghost use Rattle.ft_world.specs.Staying.{SparesAfter, SparesLeft, Stays};
+    ghost use Rattle.ft_world.specs.Surviving.{Survives};
     ghost use Rattle.ft_world.specs.Words.{IsMessage};
     ghost use Rattle.ft_world.specs.declared.host.Host.TheVariants as host;
 
@@ -101,13 +103,16 @@ impl<B: Copies<H> + Drop, D: SectorStore, H: Drop> World<B, D, H> {
 
     /// An event happens: the reply, or why it is refused, and the world after it are the event's row, whatever world of
     /// the protocol this one showed. A refused event leaves everything as it was, except that a node that asked the
-    /// arbiter and lost is halted, and that a disk that failed may have counted the failure.
+    /// arbiter and lost is halted, and that a disk that failed may have counted the failure. A whole node that asks the
+    /// arbiter in a generation that nobody has won has won it, unless there is no memory for its request.
     pub fn apply(&mut self, alloc: Global, event: Event) -> R<Reply>
         ensures row { Happens B.state B.copied B.machine D.records self.old event result self.new }
         ensures counted { D.failures self.new.disk ≡ D.failures self.old.disk + failures_told event result }
         ensures unchanged { IfErr result (λ fault. Stays D.records event fault self.old self.new) }
         ensures spares { SparesAfter event result self.old.hosts self.new.hosts }
         ensures stale { TellsStale B.stale event result self.old.hosts self.new.hosts }
+        ensures pages { PagesAfter B.state B.machine B.writes B.stale event result self.old.hosts self.new.hosts }
+        ensures survives { Survives B.state B.copied B.machine D.records self.old event result }
     {
         self.pair.apply(alloc, event)
     }
@@ -117,7 +122,7 @@ impl<B: Copies<H> + Drop, D: SectorStore, H: Drop> World<B, D, H> {
     pub fn run(&mut self, alloc: Global, events: &[Event]) -> R<Vec<R<Reply>>>
         ensures ok { IfOk result (λ answers. (c : Course B.State) → Shows B.state B.copied B.machine D.records self.old c
             → Runs B.state B.copied B.machine D.records c events.now answers.items self.new) }
-        ensures each { IfOk result (λ answers. HaveApplied B.state B.copied B.machine D.records D.failures B.stale
+        ensures each { IfOk result (λ answers. HaveApplied B.state B.copied B.machine D.records D.failures B.writes B.stale
             self.old events.now answers.items self.new) }
         ensures counted { IfOk result (λ answers. D.failures self.new.disk
             ≡ D.failures self.old.disk + failures_over events.now answers.items) }
@@ -135,6 +140,8 @@ impl<B: Copies<H> + Drop, D: SectorStore, H: Drop> World<B, D, H> {
             (record c { world = with_host (machine_of B.machine c) c.world })) }
         ensures faithful { OnOk result ((c : Course B.State) → Shows B.state B.copied B.machine D.records self.old c
             → IsFaithful B.machine (record c { world = with_host (machine_of B.machine c) c.world })) }
+        ensures grows { OnOk result ((c : Course B.State) → Shows B.state B.copied B.machine D.records self.old c
+            → Grows (machine_of B.machine c) c.world (with_host (machine_of B.machine c) c.world)) }
         ensures others { OnOk result (self.new
             ≡ record self.old { hosts = self.old.hosts ++ host.Spare resources ∷ [] }) }
         ensures number { IfOk result (λ number. number ≡ length self.old.hosts) }

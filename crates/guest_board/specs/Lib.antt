@@ -3,6 +3,7 @@ pub mod Guest
 pub mod Wiring
 pub mod Board
 pub mod Stepping
+pub mod Pages
 pub mod Inputs
 pub mod Fields
 pub mod MoveLaws

@@ -1,2 +1,3 @@
 pub mod QuietSteps
+pub mod WrittenPages
 pub mod Booted

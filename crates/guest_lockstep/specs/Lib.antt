@@ -3,3 +3,4 @@ pub mod Lockstep
 pub mod Recorded
 pub mod Outstanding
 pub mod Running
+pub mod Pages

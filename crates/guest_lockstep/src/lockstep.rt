@@ -1,9 +1,10 @@
 //! What the layers of a pair require of a guest, so that they are proved for any guest.
-ghost use Rattle.std.specs.Prelude.{◌≡◌, ◌<◌, ◌≤◌, ℕ, IfSome, OnErr, OnOk, option_copied};
+ghost use Rattle.std.specs.Prelude.{◌≡◌, ◌<◌, ◌≤◌, ℕ, Bool, IfSome, OnErr, OnOk, option_copied};
 ghost use Rattle.guest_lockstep.specs.Machine.{Machine, refusal_of};
 ghost use Rattle.guest_lockstep.specs.Outstanding.{ComesAndGoes};
 ghost use Rattle.guest_lockstep.specs.Recorded.{Counts};
 ghost use Rattle.guest_lockstep.specs.Running.{Quiet};
+ghost use Rattle.guest_lockstep.specs.Pages.{stale_after};
 ghost use Rattle.guest_lockstep.specs.Lockstep.{Executes, Takes, IsInput, IsNumbered, HasRoom};
 ghost use Rattle.disk_dcdd.specs.Completion.{answered};
 ghost use Rattle.disk_dcdd.specs.declared.controller.TheConstants.{DRIVES};
@@ -26,10 +27,17 @@ pub trait Lockstep: Sized {
     // How it moves. Nothing here depends on where this machine boots.
     ghost machine: { Machine State };
 
+    // Which pages of its memory the next step writes, by their numbers.
+    ghost writes: { State → ℕ → Bool };
+
+    // Which pages are to be copied for its image: every page, but those that a draft of the image has as they are now.
+    ghost stale: { Self → ℕ → Bool };
+
     /// Executes one step, and returns the name of its operation. `Spent` if a number is at its greatest, `Idle` if the
     /// guest waits for an interrupt, `OutOfMemory` if an operation could not be kept; each changes nothing.
     fn step(&mut self) -> R<Option<OpId>>
         ensures answer { Executes machine (state self.old) result (state self.new) }
+        ensures pages { OnOk result (stale self.new ≡ stale_after machine writes (stale self.old) (state self.old) 1) }
         ensures unchanged { OnErr result (self.new ≡ self.old) };
 
     /// Whether an input would be taken now: what `take` would return. No input with a write number past the greatest
@@ -44,6 +52,7 @@ pub trait Lockstep: Sized {
         requires input { IsInput input }
         requires room { HasRoom machine (state self.old) input }
         ensures answer { Takes machine (state self.old) input result (state self.new) }
+        ensures pages { stale self.new ≡ stale self.old }
         ensures unchanged { OnErr result (self.new ≡ self.old) };
 
     /// How many steps were executed.
@@ -81,6 +90,7 @@ pub trait Lockstep: Sized {
     fn step_quietly(&mut self, turns: u64) -> u64
         ensures few { result ≤ turns }
         ensures steps { Quiet machine (state self.old) result (state self.new) }
+        ensures pages { stale self.new ≡ stale_after machine writes (stale self.old) (state self.old) result }
         ensures unchanged { result ≡ 0 → self.new ≡ self.old };
 
     /// A law: the machine counts its steps.

@@ -1,14 +1,17 @@
 -- Out of memory is answered only if no refusal applies and the event may need memory.
 use Rattle.std.proofs.Common.{[], ◌∙◌, ◌∷◌, ◌≡◌, ◌≢◌, ◌⊎◌, Bool, List, None, Option, Some, ap, arith, cond, false, inl, inr, not, refl, subst, suc, sym, true, ℕ}
-use Rattle.std.specs.Prelude.{◌<◌, ◌==◌, if◌then◌else◌, is_none, length, slice_get}
+use Rattle.std.specs.Prelude.{◌<◌, ◌==◌, if◌then◌else◌, is_none, length, nat_lt, slice_get}
 use Rattle.pair_protocol.proofs.Words.{Alone, Backup, Copying, Draining, Entry, Joining, LogEntry, Machine, Message, Node, Primary, Spare, World, acts_as, count_of, is_role, winner_in}
+use Rattle.event_callbacks.specs.declared.operations.Operation.TheVariants.{Byte}
+use Rattle.pair_protocol.specs.Node.{Role, gathered, gets_part}
+use Rattle.pair_protocol.specs.World.{ImagePart, Released, accepted}
 use Rattle.guest_lockstep.specs.declared.replay_end.ReplayEnd.{ReplayEnd}
 use Rattle.guest_lockstep.specs.declared.replay_end.ReplayEnd.TheVariants as ended
 use Rattle.i8080_words.specs.declared.refusal.Fault.TheVariants.{Lost, NotWhole, OutOfMemory, Unknown, WrongGeneration, WrongRole}
 use Rattle.i8080_words.specs.declared.refusal.Fault.{Fault}
-use Rattle.pair_protocol.specs.Effects.{AtEnd, AwaitsBytes, IsBehind, NoMemory, NoTurns, OneInput, OneMark, OneRead, OneStep, Replays, NeedsMoves, wanted}
-use Rattle.pair_protocol.specs.Event.{DeliverLog, Drain, Event, New, Old, Refused, Replay, Reply, Step, Suspect}
-use Rattle.pair_protocol.specs.Refusals.{ask_refusal, at_log_entry, at_node, deliver_log_refusal, fault_if, first_of, is_other, refusal, role_refusal, step_refusal, suspect_refusal}
+use Rattle.pair_protocol.specs.Effects.{AtEnd, AwaitsBytes, IsBehind, NoMemory, NoTurns, OneInput, OneMark, OneRead, OneStep, Replays, NeedsMoves, GotPart, Again, Comes, Completes, wanted}
+use Rattle.pair_protocol.specs.Event.{Accepted, Arrive, DeliverLog, Drain, Dropped, Event, New, Old, PartComes, Refused, Replay, Reply, Step, Suspect}
+use Rattle.pair_protocol.specs.Refusals.{ask_refusal, at_log_entry, at_node, at_part, byte_refusal, deliver_log_refusal, fault_if, first_of, is_other, part_comes_refusal, refusal, role_refusal, step_refusal, suspect_refusal}
 use Rattle.pair_protocol.specs.Row.{Accepts, DeviceFails, MayNeedMemory, Refuses, NeedsMemory}
 use Rattle.pair_protocol.specs.Rows.{Does, OfNode, drain_reply}
 use Rattle.pair_protocol.specs.Needing.{NeedsNone}
@@ -44,10 +47,12 @@ none_other is = (cc)
 role_other : (b : Bool) → Other (fault_if b WrongRole)
 role_other b = other_if b WrongRole (λ is. (cc))
 
-log_other : {S : Type 0} (generation : ℕ) (x : Node S) → Other (deliver_log_refusal generation x)
-log_other generation x =
-    other_first (role_refusal (Backup ∷ []) x) (fault_if (not (generation == x.generation)) WrongGeneration ∷ [])
-    (role_other (not (acts_as x (Backup ∷ []))))
+-- a role and a generation are asked for
+member_other : {S : Type 0} (roles : List Role) (generation : ℕ) (x : Node S)
+    → Other (first_of (role_refusal roles x ∷ fault_if (not (generation == x.generation)) WrongGeneration ∷ []))
+member_other roles generation x =
+    other_first (role_refusal roles x) (fault_if (not (generation == x.generation)) WrongGeneration ∷ [])
+    (role_other (not (acts_as x roles)))
     (other_first (fault_if (not (generation == x.generation)) WrongGeneration) []
     (other_if (not (generation == x.generation)) WrongGeneration (λ is. (cc))) none_other)
 
@@ -55,7 +60,7 @@ log_message_other : {S : Type 0} (here : Option (Node S)) (q : Option Message) (
     → q ≡ Some (LogEntry generation index e) → Other (at_log_entry here q)
 log_message_other here q generation index e is =
     subst (λ q. Other (at_log_entry here q)) (sym is)
-    (other_at here (deliver_log_refusal generation) (λ x. log_other generation x))
+    (other_at here (deliver_log_refusal generation) (λ x. member_other (Backup ∷ []) generation x))
 
 ask_other : {S : Type 0} (w : World S) (n : ℕ) (x : Node S) → Other (ask_refusal w n x)
 ask_other w n x =
@@ -147,6 +152,54 @@ other_entries {S} M C w m n generation index e x message there other =
     (held_or_not M C w m n)
     (λ h. other (same_index (slice_get w.messages m) generation h.generation index h.index e h.e message h.message
     ∙ h.next.said ∙ ap (λ (y : Node S). length y.held) (same_some h.next.x x (slice_get w.nodes n) h.next.there there)))
+
+reply_or_not : (taken : Bool) → (if taken then Accepted else Dropped) ≢ Refused OutOfMemory
+reply_or_not true is = (cc)
+reply_or_not false is = (cc)
+
+same_byte : (q : Option Message) (p k b r l c : ℕ) → q ≡ Some (Released (Byte p k b)) → q ≡ Some (Released (Byte r l c))
+    → (p ≡ r) × (k ≡ l)
+same_byte q p k b r l c is also = ((cc), (cc))
+
+pub other_bytes : {S : Type 0} (M : Machine S) (C : Copying S) (w : World S) (m port number byte : ℕ)
+    → slice_get w.messages m ≡ Some (Released (Byte port number byte)) → number ≢ suc (length (accepted w port))
+    → NeedsNone M C w (Arrive m)
+other_bytes M C w m port number byte message other =
+    needs_none M C w (Arrive m) (subst (λ q. Other (byte_refusal q)) (sym message) none_other)
+    (λ r new d is. reply_or_not (nat_lt (length (accepted w d.port)) (length (accepted new d.port))) (sym d.reply ∙ is))
+    (λ h. (let same = same_byte (slice_get w.messages m) port number byte h.port h.number h.byte message h.message in
+    other (same.1 ∙ h.next ∙ ap (λ p. suc (length (accepted w p))) (sym same.0))))
+
+part_message_other : {S : Type 0} (here : Option (Node S)) (q : Option Message) (generation index : ℕ) (part : List ℕ)
+    → q ≡ Some (ImagePart generation index part) → Other (at_part here q)
+part_message_other here q generation index part is =
+    subst (λ q. Other (at_part here q)) (sym is)
+    (other_at here (part_comes_refusal generation) (λ x. member_other (Joining ∷ []) generation x))
+
+got_other : {S : Type 0} {C : Copying S} {index : ℕ} {part : List ℕ} {x y : Node S} {r : Reply}
+    → GotPart C index part x r y → r ≢ Refused OutOfMemory
+got_other (Again before) is = (cc)
+got_other (Comes missing rest) is = (cc)
+got_other (Completes parts s missing all made) is = (cc)
+
+same_part : (q : Option Message) (g i h k : ℕ) (part other : List ℕ) → q ≡ Some (ImagePart g i part)
+    → q ≡ Some (ImagePart h k other) → (i ≡ k) × (part ≡ other)
+same_part q g i h k part other is also = ((cc), (cc))
+
+pub other_parts : {S : Type 0} (M : Machine S) (C : Copying S) (w : World S) (m n generation index : ℕ) (part : List ℕ)
+    (x : Node S) → slice_get w.messages m ≡ Some (ImagePart generation index part) → slice_get w.nodes n ≡ Some x
+    → gathered (gets_part x index part).parts ≡ None → NeedsNone M C w (PartComes m n)
+other_parts {S} M C w m n generation index part x message there lacks =
+    needs_none M C w (PartComes m n)
+    (part_message_other (slice_get w.nodes n) (slice_get w.messages m) generation index part message)
+    (λ r new d is. got_other d.at.done is)
+    (λ h. (let same = same_part (slice_get w.messages m) generation index h.generation h.index part h.part message h.message in
+    let node : h.last.x ≡ x = same_some h.last.x x (slice_get w.nodes n) h.last.there there in
+    let all = ap (λ (y : Node S). gathered (gets_part y h.index h.part).parts) (sym node)
+    ∙ h.last.said.1 in
+    let none = ap (λ k. gathered (gets_part x k h.part).parts) (sym same.0)
+    ∙ ap (λ p. gathered (gets_part x index p).parts) (sym same.1) ∙ lacks in
+    (cc)))
 
 pub winners : {S : Type 0} (M : Machine S) (C : Copying S) (w : World S) (n : ℕ) (x : Node S)
     → slice_get w.nodes n ≡ Some x → winner_in w.winners x.generation ≡ Some n → NeedsNone M C w (Suspect n)

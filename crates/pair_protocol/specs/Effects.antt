@@ -216,3 +216,7 @@ NeedsMoves M turns x = (0 < turns) × IsBehind M x
 -- the index is that of the next entry to hold
 abbrev pub NeedsEntry : {S : Type 0} → ℕ → Node S → Type 0
 NeedsEntry index x = index ≡ length x.held
+
+-- with the part it has all of them
+abbrev pub NeedsPart : {S : Type 0} → ℕ → List ℕ → Node S → Type 0
+NeedsPart index part x = (parts : List (List ℕ)) × (gathered (gets_part x index part).parts ≡ Some parts)

@@ -1,13 +1,14 @@
 -- Which events are never refused as out of memory, and where a replay may stop when memory runs out.
-use Rattle.std.specs.Prelude.{◌≡◌, ◌≢◌, ℕ, ◌<◌, ◌⊎◌, Some, is_none, false, length, slice_get}
+use Rattle.std.specs.Prelude.{◌≡◌, ◌≢◌, ℕ, suc, ◌<◌, ◌⊎◌, Some, None, is_none, false, List, length, slice_get}
+use Rattle.event_callbacks.specs.declared.operations.Operation.TheVariants.{Byte}
 use Rattle.guest_lockstep.specs.Machine.{Machine}
 use Rattle.i8080_words.specs.declared.refusal.Fault.TheVariants.{OutOfMemory}
 use Rattle.log_entry.specs.Entries.{count_of}
 use Rattle.log_entry.specs.declared.entry.Entry.{Entry}
 use Rattle.pair_protocol.specs.Copying.{Copying}
-use Rattle.pair_protocol.specs.Node.{Node}
-use Rattle.pair_protocol.specs.World.{World, LogEntry, winner_in}
-use Rattle.pair_protocol.specs.Event.{Event, Step, DeliverLog, Replay, Suspect, Drain, Reply, Refused}
+use Rattle.pair_protocol.specs.Node.{Node, gathered, gets_part}
+use Rattle.pair_protocol.specs.World.{World, LogEntry, ImagePart, Released, accepted, winner_in}
+use Rattle.pair_protocol.specs.Event.{Event, Step, DeliverLog, Replay, Arrive, Suspect, Drain, PartComes, Reply, Refused}
 use Rattle.pair_protocol.specs.Effects.{IsBehind, Replays, wanted}
 use Rattle.pair_protocol.specs.Row.{Row}
 
@@ -33,6 +34,20 @@ OtherEntriesNeedNone S =
     (M : Machine S) (C : Copying S) (w : World S) (m n generation index : ℕ) (e : Entry) (x : Node S) →
     slice_get w.messages m ≡ Some (LogEntry generation index e) → slice_get w.nodes n ≡ Some x →
     index ≢ length x.held → NeedsNone M C w (DeliverLog m n)
+
+-- a byte that its terminal drops
+abbrev pub OtherBytesNeedNone : (S : Type 0) → Type 0
+OtherBytesNeedNone S =
+    (M : Machine S) (C : Copying S) (w : World S) (m port number byte : ℕ) →
+    slice_get w.messages m ≡ Some (Released (Byte port number byte)) → number ≢ suc (length (accepted w port)) →
+    NeedsNone M C w (Arrive m)
+
+-- a part with which its node still lacks one
+abbrev pub OtherPartsNeedNone : (S : Type 0) → Type 0
+OtherPartsNeedNone S =
+    (M : Machine S) (C : Copying S) (w : World S) (m n generation index : ℕ) (part : List ℕ) (x : Node S) →
+    slice_get w.messages m ≡ Some (ImagePart generation index part) → slice_get w.nodes n ≡ Some x →
+    gathered (gets_part x index part).parts ≡ None → NeedsNone M C w (PartComes m n)
 
 -- a winner that asks again
 abbrev pub WinnersNeedNone : (S : Type 0) → Type 0

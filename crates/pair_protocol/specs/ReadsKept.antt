@@ -14,9 +14,12 @@ pub record StillReplays {S : Type 0} (w : World S) (n : ℕ) (x : Node S) : Type
   pub highest_is : x.generation ≡ highest w.nodes
   pub who : ((x.role ≡ Backup) × (winner_in w.winners x.generation ≡ None)) ⊎ (x.role ≡ Draining)
 
--- for each read that such a node holds and has not replayed, the disk's record of the sector has the read's number; the
--- trace up to the read gives the track
+-- for each read that such a node holds and has not replayed there is a trace up to the read, which gives the track; and the
+-- disk's record of the sector has the read's number
 pub record ReadsKept {S : Type 0} (M : Machine S) (w : World S) : Type 0 where
+  pub trace : (n : ℕ) (x : Node S) → StillReplays w n x → (k count drive sector number : ℕ) →
+      x.replayed ≤ k → slice_get x.held k ≡ Some (Read count drive sector number) →
+      (moves : List Move) × Reach M (x.copy ++ inputs_of (take k x.held)) count moves
   pub kept : (n : ℕ) (x : Node S) → StillReplays w n x → (k count drive sector number : ℕ) →
       x.replayed ≤ k → slice_get x.held k ≡ Some (Read count drive sector number) →
       (moves : List Move) (r : Reach M (x.copy ++ inputs_of (take k x.held)) count moves) →

@@ -2,7 +2,7 @@
 ghost use Rattle.pair_protocol.specs.Examples.{SharesReads, TakesOver, WritesDisk};
 ghost use Rattle.pair_protocol.specs.Joining.{JoiningIsGiven, PartsAreOfMachines};
 ghost use Rattle.pair_protocol.specs.Laws.{ReachedIsFaithful, AloneIsHighest, NodesStand, NeedsNoCopies, ReachedGrows, RowIsChanges, ChangesReach, RunReaches, RunIsFaithful, RunGrows, RunReplies};
-ghost use Rattle.pair_protocol.specs.Needing.{NoTurnsNeedNone, OtherEntriesNeedNone, OtherMovesNeedNone, StopsAtSteps, WinnersNeedNone};
+ghost use Rattle.pair_protocol.specs.Needing.{NoTurnsNeedNone, OtherBytesNeedNone, OtherEntriesNeedNone, OtherMovesNeedNone, OtherPartsNeedNone, StopsAtSteps, WinnersNeedNone};
 ghost use Rattle.pair_protocol.specs.Survival.{NothingRefuses, WholeNodesWin};
 ghost use Rattle.pair_protocol.specs.Traces.{OneTrace, OneEnd, FirstEntries, QuietMoves, QuietEntries};
 
@@ -68,12 +68,15 @@ pub fn every_event_is_answered<S>()
 {}
 
 /// A step, replay or drain of no turns, a replay or drain whose first move is not a step, a log entry that is a repeat or
-/// past a gap, and a winner that asks again are never answered with out of memory. If a replay or drain makes fewer moves
+/// past a gap, a byte that its terminal drops, a part with which its node still lacks one, and a winner that asks again are
+/// never answered with out of memory. If a replay or drain makes fewer moves
 /// than it was asked for, nothing is left, the next move is a step, or the bytes of a sector have not arrived.
 pub fn some_events_need_no_memory<S>()
     ensures no_turns { NoTurnsNeedNone S }
     ensures other_moves { OtherMovesNeedNone S }
     ensures other_entries { OtherEntriesNeedNone S }
+    ensures other_bytes { OtherBytesNeedNone S }
+    ensures other_parts { OtherPartsNeedNone S }
     ensures winners { WinnersNeedNone S }
     ensures stops { StopsAtSteps S }
 {}

@@ -59,6 +59,10 @@ impl<D: SectorStore> SectorStore for FailOnce<D> {
 
     ghost failures = { failures_in D.failures };
 
+    fn has_whole_sectors(&self) {
+        self.store.has_whole_sectors()
+    }
+
     fn read(&mut self, address: SectorAddress) -> R<Record>
         ensures ok { IfOk result (λ found. table.IsAt (D.records self.old.store) address found) }
         ensures refused { IfErr result (λ fault. fault ≡ table.refusal_at (D.records self.old.store) address) }

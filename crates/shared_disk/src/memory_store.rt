@@ -18,16 +18,19 @@ pub struct MemoryStore {
 
 impl Model for MemoryStore {
     ghost use Rattle.std.specs.Prelude.{List};
+    ghost use Rattle.shared_disk.specs.Records.{HasWholeSectors};
     ghost use Rattle.shared_disk.specs.declared.store.Record.{Record};
 
     ghost Value = { List Record };
 
     ghost view = { λ s. s.records.items };
+
+    ghost invariant = { λ s. HasWholeSectors s.records.items };
 }
 
 impl MemoryStore {
     /// A store of this many drives, in which nothing is written yet: zeros under number 0 in each sector.
-    #[tactic(auto, unfolding(crate::specs::Records::unwritten))]
+    #[tactic(auto, unfolding(crate::specs::Records::unwritten), using(crate::proofs::Booting::new_is_whole))]
     pub fn new(alloc: Global, drives: u8) -> R<MemoryStore>
         ensures ok { IfOk result (λ store. store ≡ table.unwritten drives) }
         ensures only_memory { IsOkUnless result OutOfMemory }
@@ -46,7 +49,6 @@ impl MemoryStore {
         ensures drives { IfOk result (λ store. table.HasDrives store drives) }
         ensures unwritten { IfOk result (λ store. table.IsUnwritten store) }
         ensures sectors { IfOk result (λ store. table.IsAtBoot store drives sectors.now) }
-        ensures whole { IfOk result (λ store. table.HasWholeSectors store) }
         ensures on_drives { IfOk result (λ store. table.AreOnDrives drives sectors.now) }
         ensures refused { IfErr result (λ fault. (fault ≡ OutOfMemory)
             ⊎ ((fault ≡ Unknown) × (table.AreOnDrives drives sectors.now → ⊥))) }
@@ -64,25 +66,32 @@ impl MemoryStore {
     pub fn set_boot(&mut self, address: SectorAddress, bytes: [u8; SECTOR_BYTES]) -> R<()>
         ensures answer { result ≡ table.put_answer self.old address }
         ensures after { self.new ≡ table.with_record self.old address (table.boot_record bytes) }
-        ensures whole { table.HasWholeSectors self.old → table.HasWholeSectors self.new }
     {
-        has_all(&bytes);
         self.put(address, Record { number: 0, bytes })
     }
 
     // Puts a record into a sector.
-    #[tactic(auto, using(crate::proofs::RecordsBySector::takes_none))]
     fn put(&mut self, address: SectorAddress, content: Record) -> R<()>
         ensures answer { result ≡ table.put_answer self.old address }
         ensures after { self.new ≡ table.with_record self.old address content }
     {
-        let place = address.index().ok_or(Fault::Unknown)?;
-        if place >= self.records.len() {
-            return Err(Fault::Unknown);
-        }
-        self.records[place] = content;
-        Ok(())
+        has_all(&content.bytes);
+        put_among(&mut self.records, address, content)
     }
+}
+
+// Puts a record into a sector's place among these.
+#[tactic(auto, using(crate::proofs::RecordsBySector::takes_none))]
+fn put_among(records: &mut Vec<Record>, address: SectorAddress, content: Record) -> R<()>
+    ensures answer { result ≡ table.put_answer records.old.items address }
+    ensures after { records.new.items ≡ table.with_record records.old.items address content }
+{
+    let place = address.index().ok_or(Fault::Unknown)?;
+    if place >= records.len() {
+        return Err(Fault::Unknown);
+    }
+    records[place] = content;
+    Ok(())
 }
 
 // The bytes of a sector are as many as their type says.
@@ -94,6 +103,10 @@ impl SectorStore for MemoryStore {
     ghost records = { λ s. s };
 
     ghost failures = { λ s. 0 };
+
+    fn has_whole_sectors(&self) {
+        let _ = &self.records;
+    }
 
     fn read(&mut self, address: SectorAddress) -> R<Record> {
         let place = address.index().ok_or(Fault::Unknown)?;

@@ -22,6 +22,10 @@ pub trait SectorStore: Drop {
     /// How often the device has failed.
     ghost failures: { Self → ℕ };
 
+    /// A law: each record has as many bytes as a sector has.
+    fn has_whole_sectors(&self)
+        ensures { table.HasWholeSectors (records self.now) };
+
     /// The record of a sector.
     fn read(&mut self, address: SectorAddress) -> R<Record>
         ensures ok { IfOk result (λ found. table.IsAt (records self.old) address found) }

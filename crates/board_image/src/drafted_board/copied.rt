@@ -8,11 +8,7 @@ use std::alloc::Global;
 
 impl<T: Completes + Drop, S: Completes + Drop, W: Completes + Drop> Copies<Callbacks<T, S, W>>
     for DraftedBoard<T, S, W> {
-    ghost use Rattle.board_image.specs.DraftedBoard.{stale_on};
-
     ghost copied = { λ d. d.board.guest };
-
-    ghost stale = { stale_on };
 
     fn drives(&self) -> u8 {
         self.board.disk().stands();
@@ -21,6 +17,10 @@ impl<T: Completes + Drop, S: Completes + Drop, W: Completes + Drop> Copies<Callb
 
     fn freshen(&mut self, alloc: Global, pages: u64) -> R<u64> {
         drafting::freshen(alloc, &mut self.draft, &self.board, pages)
+    }
+
+    fn forget(&mut self) {
+        self.draft = None;
     }
 
     fn image(&mut self, alloc: Global, generation: u32) -> R<Image> {

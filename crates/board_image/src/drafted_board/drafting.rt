@@ -3,7 +3,9 @@ ghost use Rattle.std.specs.Prelude.{◌≡◌, ◌<◌, ◌-◌, IfOk, IsOkUnles
 ghost use Rattle.i8080_words.specs.declared.refusal.Fault.TheVariants.{OutOfMemory};
 ghost use Rattle.guest_parts.specs.Parts.{guest_of_parts};
 ghost use Rattle.board_image.specs.DraftedBoard.{AgreesWith, KeepsUpWith, stale_with};
-ghost use Rattle.board_image.specs.Drafts.{KeepsUp};
+ghost use Rattle.guest_lockstep.specs.Pages.{every_page};
+ghost use Rattle.clone_state.specs.Stale.{AreCopied, stale_count};
+ghost use Rattle.board_image.specs.Drafts.{KeepsUp, stale_in};
 
 use crate::draft::Draft;
 use crate::images::{image_of, image_of_draft};
@@ -23,8 +25,10 @@ pub(super) fn freshen<T: Completes, S: Completes, W: Completes>(
 ) -> R<u64>
     requires { KeepsUpWith board.now draft.old }
     ensures keeps_up { KeepsUpWith board.now draft.new }
-    ensures fewer { IfOk result (λ stale. stale ≡ stale_with board.now draft.old - pages) }
-    ensures stale { IfOk result (λ stale. stale ≡ stale_with board.now draft.new) }
+    ensures fewer { IfOk result (λ stale. stale ≡ stale_count (stale_with board.now draft.old) - pages) }
+    ensures stale { IfOk result (λ stale. stale ≡ stale_count (stale_with board.now draft.new)) }
+    ensures lowest { OnOk result (AreCopied pages (stale_with board.now draft.old) (stale_with board.now draft.new)) }
+    ensures begins { OnErr result (draft.old ≡ None) }
     ensures full { IsOkUnless result OutOfMemory }
     ensures unchanged { OnErr result (draft.new ≡ draft.old) }
 {
@@ -45,8 +49,9 @@ fn begin<T: Completes, S: Completes, W: Completes>(
     pages: u64,
 ) -> R<(Draft, u64)>
     ensures keeps_up { IfOk result (λ begun. KeepsUp begun.0 board.now) }
-    ensures fewer { IfOk result (λ begun. begun.1 ≡ stale_with board.now None - pages) }
-    ensures stale { IfOk result (λ begun. begun.1 ≡ stale_with board.now (Some begun.0)) }
+    ensures fewer { IfOk result (λ begun. begun.1 ≡ stale_count every_page - pages) }
+    ensures stale { IfOk result (λ begun. begun.1 ≡ stale_count (stale_in begun.0 board.now)) }
+    ensures lowest { IfOk result (λ begun. AreCopied pages every_page (stale_in begun.0 board.now)) }
     ensures full { IsOkUnless result OutOfMemory }
 {
     let mut draft = Draft::new(alloc)?;

@@ -1,9 +1,12 @@
 //! A board with its draft as the layers of a pair see it: it does what the board does, and the draft keeps up.
-ghost use Rattle.std.specs.Prelude.{◌≡◌, OnErr};
+ghost use Rattle.std.specs.Prelude.{◌≡◌, ◌≤◌, OnErr, OnOk};
 ghost use Rattle.guest_board.specs.Inputs.{some_altair};
 ghost use Rattle.guest_lockstep.specs.Lockstep.{Executes, HasRoom, IsInput, Takes};
-ghost use Rattle.board_image.specs.DraftedBoard.{KeepsUpWith};
-ghost use Rattle.board_image.specs.Drafts.{KeepsUp};
+ghost use Rattle.guest_board.specs.Pages.{writes_page};
+ghost use Rattle.guest_lockstep.specs.Pages.{stale_after};
+ghost use Rattle.guest_lockstep.specs.Running.{Quiet};
+ghost use Rattle.board_image.specs.DraftedBoard.{KeepsUpWith, stale_with};
+ghost use Rattle.board_image.specs.Drafts.{KeepsUp, stale_in};
 
 use super::DraftedBoard;
 use crate::draft::Draft;
@@ -16,6 +19,8 @@ use i8080_words::R;
 impl<T: Completes, S: Completes, W: Completes> Lockstep for DraftedBoard<T, S, W> {
     ghost use Rattle.guest_parts.specs.Guest.{Guest};
     ghost use Rattle.guest_board.specs.Inputs.{some_altair};
+    ghost use Rattle.guest_board.specs.Pages.{writes_page};
+    ghost use Rattle.board_image.specs.DraftedBoard.{stale_on};
     ghost use Rattle.guest_board.specs.MoveLaws.{guests_count, guests_issue_and_complete};
 
     ghost State = { Guest };
@@ -23,6 +28,10 @@ impl<T: Completes, S: Completes, W: Completes> Lockstep for DraftedBoard<T, S, W
     ghost state = { λ d. d.board.guest };
 
     ghost machine = { some_altair };
+
+    ghost writes = { writes_page };
+
+    ghost stale = { stale_on };
 
     ghost counts = { guests_count };
 
@@ -68,13 +77,12 @@ impl<T: Completes, S: Completes, W: Completes> Lockstep for DraftedBoard<T, S, W
         self.board.sector_under(drive, sector)
     }
 
-    // Steps in one go say nothing of the versions of pages, so with a draft no step is made here.
     #[inline(always)]
     fn step_quietly(&mut self, turns: u64) -> u64 {
-        if self.draft.is_some() {
-            return 0;
+        match &self.draft {
+            None => self.board.step_quietly(turns),
+            Some(draft) => quiet_steps_with_draft(&mut self.board, draft, turns),
         }
-        self.board.step_quietly(turns)
     }
 }
 
@@ -87,16 +95,39 @@ fn step_with_draft<T: Completes, S: Completes, W: Completes>(
 ) -> R<Option<OpId>>
     requires { KeepsUp draft.now board.old }
     ensures answer { Executes some_altair board.old.guest result board.new.guest }
+    ensures pages { OnOk result (stale_in draft.now board.new
+        ≡ stale_after some_altair writes_page (stale_in draft.now board.old) board.old.guest 1) }
     ensures unchanged { OnErr result (board.new ≡ board.old) }
     ensures keeps_up { KeepsUp draft.now board.new }
 {
     board.stands();
+    draft.has_room();
     match board.exec() {
         Ok(Executed::Ran(None)) => Ok(None),
         Ok(Executed::Ran(Some(operation))) => Ok(Some(operation.id())),
         Ok(Executed::Accepted) => Ok(None),
         Err(fault) => Err(fault),
     }
+}
+
+// Steps in one go of a board that a draft is of.
+#[inline(never)]
+fn quiet_steps_with_draft<T: Completes, S: Completes, W: Completes>(
+    board: &mut Board<T, S, W>,
+    draft: &Draft,
+    turns: u64,
+) -> u64
+    requires { KeepsUp draft.now board.old }
+    ensures few { result ≤ turns }
+    ensures steps { Quiet some_altair board.old.guest result board.new.guest }
+    ensures pages { stale_in draft.now board.new
+        ≡ stale_after some_altair writes_page (stale_in draft.now board.old) board.old.guest result }
+    ensures unchanged { result ≡ 0 → board.new ≡ board.old }
+    ensures keeps_up { KeepsUp draft.now board.new }
+{
+    board.stands();
+    draft.has_room();
+    board.make_quiet_steps(turns)
 }
 
 // An input of a board that may have a draft.
@@ -109,6 +140,7 @@ fn take_with_draft<T: Completes, S: Completes, W: Completes>(
     requires room { HasRoom some_altair board.old.guest input }
     requires keeps_up { KeepsUpWith board.old draft.now }
     ensures answer { Takes some_altair board.old.guest input result board.new.guest }
+    ensures pages { stale_with board.new draft.now ≡ stale_with board.old draft.now }
     ensures unchanged { OnErr result (board.new ≡ board.old) }
     ensures keeps_up { KeepsUpWith board.new draft.now }
 {

@@ -8,7 +8,9 @@ use i8080_words::R;
 
 impl<T: Completes, S: Completes, W: Completes> Lockstep for Board<T, S, W> {
     ghost use Rattle.guest_parts.specs.Guest.{Guest};
+    ghost use Rattle.guest_lockstep.specs.Pages.{every_page};
     ghost use Rattle.guest_board.specs.Inputs.{some_altair};
+    ghost use Rattle.guest_board.specs.Pages.{writes_page};
     ghost use Rattle.guest_board.specs.MoveLaws.{guests_count, guests_issue_and_complete};
 
     ghost State = { Guest };
@@ -16,6 +18,10 @@ impl<T: Completes, S: Completes, W: Completes> Lockstep for Board<T, S, W> {
     ghost state = { λ board. board.guest };
 
     ghost machine = { some_altair };
+
+    ghost writes = { writes_page };
+
+    ghost stale = { λ board. every_page };
 
     ghost counts = { guests_count };
 

@@ -4,7 +4,7 @@ use Rattle.std.proofs.Common.{[], ◌++◌, ◌+◌, ◌∙◌, ◌∷◌, ◌�
 use Rattle.std.proofs.lemmas.List.{take-append-le}
 use Rattle.std.proofs.lemmas.Option.{slice_get_within}
 use Rattle.std.specs.Prelude.{slice_get}
-use Rattle.pair_protocol.proofs.Words.{Among, Backup, Copying, Do, Draining, IsPrefix, IsUnwritten, IsWritten, Lawful, Machine, Mark, Move, Node, Reach, Recorded, Replaying, Runs, SectorAddress, SectorRecord, SectorWrite, Take, World, Write, address_of, count_of, cut, entries, entry_of, inputs, inputs_of, operations, refusal_of, sector_record, steps, winner_in, Reads}
+use Rattle.pair_protocol.proofs.Words.{Among, Backup, Copying, Do, Draining, IsPrefix, IsUnwritten, IsWritten, Lawful, Machine, Mark, Move, Node, Reach, Recorded, Replaying, Runs, SectorAddress, SectorRecord, SectorWrite, Take, Timed, World, Write, address_of, count_of, cut, entries, entry_of, inputs, inputs_of, operations, refusal_of, sector_record, steps, winner_in, Reads}
 use Rattle.guest_lockstep.specs.Recorded.{Accepts}
 use Rattle.guest_lockstep.specs.declared.input.Input.TheVariants.{Sector}
 use Rattle.log_entry.specs.declared.entry.Entry.TheVariants as entry
@@ -152,12 +152,17 @@ before reads c (Take i ∷ own) (suc k) count drive sector number h =
       within = prefix-cons (Take i) b.front (cut (suc k) own) b.within;
     }
 
+-- a trace leads to a read, and the disk's record of its sector has its number
+record KeepsRead {S : Type 0} (M : Machine S) (w : World S) (list : List Timed) (count drive sector number : ℕ) : Type 0 where
+  moves : List Move
+  trace : Reach M list count moves
+  kept : (sector_record M w.puts (M.address trace.last drive sector)).number ≡ number
+
 reads_kept : {S : Type 0} (M : Machine S) (C : Copying S) (laws : Lawful M) (w : World S) (i : Inv M C w) (n : ℕ)
     (x : Node S) → StillReplays w n x → (k count drive sector number : ℕ) →
     x.replayed ≤ k → slice_get x.held k ≡ Some (entry.Read count drive sector number) →
-    (moves : List Move) (r : Reach M (x.copy ++ inputs_of (take k x.held)) count moves) →
-    (sector_record M w.puts (M.address r.last drive sector)).number ≡ number
-reads_kept {S} M C laws w i n x still k count drive sector number low got moves r =
+    KeepsRead M w (x.copy ++ inputs_of (take k x.held)) count drive sector number
+reads_kept {S} M C laws w i n x still k count drive sector number low got =
     go (acting M C w i n x still.there
     (λ z. by_role (λ q. (cc)) (λ q. (cc)) still.who))
   where
@@ -172,15 +177,17 @@ reads_kept {S} M C laws w i n x still k count drive sector number low got moves 
     l : Line S
     l = o.line
 
-    go : Acting M C w i n x → (sector_record M w.puts (M.address r.last drive sector)).number ≡ number
+    go : Acting M C w i n x → KeepsRead M w (x.copy ++ inputs_of (take k x.held)) count drive sector number
     go (PrimaryActs a p) = absurd (by_role
         (λ q. elim a.is_primary.role [ inl z ↦ (cc) | inr z ↦ (let y = z.0 in (cc)) ])
         (λ q. elim a.is_primary.role [ inl z ↦ (cc) | inr z ↦ (let y = z.0 in (cc)) ]) still.who)
-    go (BackupActs a p) =
-        subst (λ v. (sector_record M w.puts (M.address v drive sector)).number ≡ number) (sym same)
-        (read_is_kept M laws l.base b.front l.mid u.0 w.puts drive sector number b.bytes o.sound.based u.1
-        accepts.1.allowed
-        (put-prefix w.puts (l.base ++ b.front) (l.base ++ l.own) whole o.came.put) written)
+    go (BackupActs a p) = record {
+      moves = l.base ++ b.front;
+      trace = trace;
+      kept = read_is_kept M laws l.base b.front l.mid u.0 w.puts drive sector number b.bytes o.sound.based u.1
+          accepts.1.allowed
+          (put-prefix w.puts (l.base ++ b.front) (l.base ++ l.own) whole o.came.put) written;
+    }
       where
         there : slice_get (entries l.reads (steps l.base) l.own) k ≡ Some (entry.Read count drive sector number)
         there = get-prefix x.held (entries l.reads (steps l.base) l.own) k _ a.is_backup.held got
@@ -264,13 +271,20 @@ reads_kept {S} M C laws w i n x still k count drive sector number low got moves 
           count_is = (let n = steps-append l.base b.front in let c = b.count_is in omega (arith, n, c));
         }
 
-        same : r.last ≡ u.0
-        same = one_end M M.boot r.last u.0 (l.base ++ b.front)
-            (subst (λ zs. Runs M M.boot zs r.last)
-            (one_trace M (x.copy ++ inputs_of (take k x.held)) count moves (l.base ++ b.front) r trace) r.runs) runs
+-- there is no other trace, so whatever trace leads to the read gives the track
+whichever : {S : Type 0} (M : Machine S) (w : World S) (list : List Timed) (count drive sector number : ℕ)
+    → KeepsRead M w list count drive sector number → (moves : List Move) (r : Reach M list count moves)
+    → (sector_record M w.puts (M.address r.last drive sector)).number ≡ number
+whichever M w list count drive sector number k moves r =
+    let same = one_end M M.boot r.last k.trace.last k.moves
+    (subst (λ zs. Runs M M.boot zs r.last) (one_trace M list count moves k.moves r k.trace) r.runs) k.trace.runs in
+    subst (λ v. (sector_record M w.puts (M.address v drive sector)).number ≡ number) (sym same) k.kept
 
 pub reads_are_kept : {S : Type 0} (M : Machine S) (C : Copying S) → Lawful M → (w : World S) → Inv M C w → ReadsKept M w
 reads_are_kept M C laws w i = record {
-  kept = λ n x still k count drive sector number low got moves t.
-      reads_kept M C laws w i n x still k count drive sector number low got moves t;
+  trace = λ n x still k count drive sector number low got.
+      let r = reads_kept M C laws w i n x still k count drive sector number low got in (r.moves, r.trace);
+  kept = λ n x still k count drive sector number low got.
+      whichever M w (x.copy ++ inputs_of (take k x.held)) count drive sector number
+      (reads_kept M C laws w i n x still k count drive sector number low got);
 }

@@ -15,7 +15,7 @@ begin_in-requires g c =
     c.of-backup.result c.args.store c.altairs_are_lawful.ensures c.altairs_stay_on_their_disks.ensures
     c.the_image_copies.ensures (boards_as_guests c.boards_are_copied_as_guests.ensures)
     (setup_is (g.D.SectorStore.records c.args.store) c.args.setup.now c.sizes.ensures.levels
-    (sym c.args.setup.now.memory.ok.0 ∙ c.args.setup.now.whole) c.sizes.ensures.sense c.requires.drives c.requires.whole)
+    (sym c.args.setup.now.memory.ok.0 ∙ c.args.setup.now.whole) c.sizes.ensures.sense c.requires.drives c.has_whole_sectors.ensures)
     c.args.setup.now.few (ap (λ (d : WithDraft). d.board.guest) c.of-primary.ensures ∙ ap (λ (board : OnBoard). board.guest) c.boot_in.ensures)
     (ap (λ (d : WithDraft). d.board.guest) c.of-backup.ensures ∙ ap (λ (board : OnBoard). board.guest) c.boot_in-2.ensures) c.requires.drives c.requires.unwritten in
     record { may = (image_copy c.args.setup.now.drives, may) }
@@ -28,7 +28,7 @@ returns-clause-ok g c =
     c.of-backup.result c.args.store c.altairs_are_lawful.ensures c.altairs_stay_on_their_disks.ensures
     c.the_image_copies.ensures (boards_as_guests c.boards_are_copied_as_guests.ensures)
     (setup_is (g.D.SectorStore.records c.args.store) c.args.setup.now c.sizes.ensures.levels
-    (sym c.args.setup.now.memory.ok.0 ∙ c.args.setup.now.whole) c.sizes.ensures.sense c.requires.drives c.requires.whole)
+    (sym c.args.setup.now.memory.ok.0 ∙ c.args.setup.now.whole) c.sizes.ensures.sense c.requires.drives c.has_whole_sectors.ensures)
     c.args.setup.now.few (ap (λ (d : WithDraft). d.board.guest) c.of-primary.ensures ∙ ap (λ (board : OnBoard). board.guest) c.boot_in.ensures)
     (ap (λ (d : WithDraft). d.board.guest) c.of-backup.ensures ∙ ap (λ (board : OnBoard). board.guest) c.boot_in-2.ensures) c.requires.drives c.requires.unwritten in
     subst
@@ -44,7 +44,7 @@ returns-clause-faithful g c =
     c.of-backup.result c.args.store c.altairs_are_lawful.ensures c.altairs_stay_on_their_disks.ensures
     c.the_image_copies.ensures (boards_as_guests c.boards_are_copied_as_guests.ensures)
     (setup_is (g.D.SectorStore.records c.args.store) c.args.setup.now c.sizes.ensures.levels
-    (sym c.args.setup.now.memory.ok.0 ∙ c.args.setup.now.whole) c.sizes.ensures.sense c.requires.drives c.requires.whole)
+    (sym c.args.setup.now.memory.ok.0 ∙ c.args.setup.now.whole) c.sizes.ensures.sense c.requires.drives c.has_whole_sectors.ensures)
     c.args.setup.now.few (ap (λ (d : WithDraft). d.board.guest) c.of-primary.ensures ∙ ap (λ (board : OnBoard). board.guest) c.boot_in.ensures)
     (ap (λ (d : WithDraft). d.board.guest) c.of-backup.ensures ∙ ap (λ (board : OnBoard). board.guest) c.boot_in-2.ensures) c.requires.drives c.requires.unwritten in
     subst (λ s. IsFaithful some_altair (beginning some_altair C c.args.setup.now.reads s records))

@@ -2,8 +2,8 @@
 use Rattle.ft_node.specs.Roles.{HasImage, IsAlone, IsPrimary}
 use Rattle.ft_node.proofs.node.Node.accept.Goals as goal
 
-pub returns-in-Primary : goal.returns-in-Primary
-returns-in-Primary g c = λ C drives x is.
+pub returns-in-Primary-clause-node : goal.returns-in-Primary-clause-node
+returns-in-Primary-clause-node g c = λ C drives x is.
     let primary = c.in-Primary.primary in
     let p : IsPrimary g.B.Lockstep.machine (HasImage C primary.sender.generation primary.image)
     primary.recorder.reads (g.B.Lockstep.state primary.recorder.board) primary.recorder.log
@@ -11,7 +11,7 @@ returns-in-Primary g c = λ C drives x is.
     rw c.in-Primary.is at is in
     c.accept.ensures C x p
 
-pub returns-in-Alone : goal.returns-in-Alone
-returns-in-Alone g c = λ C drives x is.
+pub returns-in-Alone-clause-node : goal.returns-in-Alone-clause-node
+returns-in-Alone-clause-node g c = λ C drives x is.
     let a : IsAlone c.in-Alone.alone.reads (g.B.Lockstep.state c.in-Alone.alone.board) c.in-Alone.alone.generation x = rw c.in-Alone.is at is in
-    c.accept-in-Alone.ensures x a
+    c.accept-in-Alone.ensures.node x a

@@ -19,7 +19,7 @@ returns-in-End-clause-answer g c = λ C drives x is.
     drained M reads x (state old.replayer.board) (state new.replayer.board) old.replayer.fetched
     new.replayer.fetched old.receiver new.receiver c.args.turns
     c.in_ok-replayed.replayed (IsNode state M C drives c.finish.new.self) f c.in_ok-replayed.ensures.held
-    c.in_ok-replayed.ensures.answers c.in-End.is (λ y role all g. c.finish.ensures C drives y role all
+    c.in_ok-replayed.ensures.answers c.in-End.is (λ y role all g. c.finish.ensures.node C drives y role all
     (subst (λ reads. IsFollower Draining reads (state new.replayer.board) new.replayer.fetched new.receiver y)
     (sym c.in_ok-replayed.ensures.reads) g))
 

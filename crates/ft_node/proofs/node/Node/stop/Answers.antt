@@ -8,6 +8,7 @@ returns g c = record {
   answer = λ C drives x is.
       let Is = IsNode g.B.Lockstep.state g.B.Lockstep.machine C drives c.halt.new.self in
       halting g.B.Lockstep.state g.B.Lockstep.machine C drives c.args.self.now x Is c.in_default.not-Halted is
-      (c.halt.ensures C drives x is);
+      (c.halt.ensures.node C drives x is);
+  pages = c.halt.ensures.pages;
   unchanged = tt;
 }

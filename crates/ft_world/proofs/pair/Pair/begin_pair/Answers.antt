@@ -7,6 +7,7 @@ use Rattle.ft_world.proofs.Applying.{hands_on}
 use Rattle.ft_world.proofs.AtHosts.{at_this_host, no_call}
 use Rattle.ft_world.proofs.Pairing.{alone_keys, alone_parts, begins_applies, refused_by_hosts, refused_by_node}
 use Rattle.ft_world.proofs.SpareHosts.{check_passed, check_refused, pairs, spare_still, spares_after}
+use Rattle.ft_world.proofs.CopiedPages.{pages_joined, pages_keep}
 use Rattle.ft_world.proofs.pair.Pair.begin_pair.Goals as goal
 
 pub returns-in_err-check_pair-clause-row : goal.returns-in_err-check_pair-clause-row
@@ -76,3 +77,12 @@ join-requires g c =
     c.in_ok-check_pair.field-0 c.in_ok-check_pair.ensures in
     spare_still c.args.self.now.hosts.items (c.station_mut.follows.lender c.begin.new.self).items c.args.node c.args.host
     c.begin.new.self free (c.station_mut.follows.holds c.begin.new.self (ap is_ok c.in_ok-station.was))
+
+pub returns-clause-pages : goal.returns-clause-pages
+returns-clause-pages g c =
+    pages_joined g.B.Lockstep.stale g.B.Lockstep.state g.B.Lockstep.machine c.args.self.now.hosts.items
+    (c.station_mut.follows.lender c.begin.new.self).items c.join.new.hosts.items c.args.host c.in_ok-opening.opening
+    (pages_keep g.B.Lockstep.stale c.args.self.now.hosts.items (c.station_mut.follows.lender c.begin.new.self).items c.args.node
+    c.in_ok-station.station.now c.begin.new.self c.in_ok-station.ensures.found
+    (c.station_mut.follows.holds c.begin.new.self (ap is_ok c.in_ok-station.was)) c.in_ok-opening.ensures.pages)
+    c.join.ensures

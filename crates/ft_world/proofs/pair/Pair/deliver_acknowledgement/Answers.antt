@@ -8,6 +8,7 @@ use Rattle.ft_world.specs.Shows.{IsStation}
 use Rattle.ft_world.proofs.Applying.{hands_on}
 use Rattle.ft_world.proofs.AtHosts.{at_host, no_call}
 use Rattle.ft_world.proofs.AtLog.{hears_applies, hears_refused, hears_unknown, spelled_ack}
+use Rattle.ft_world.proofs.CopiedPages.{pages_keep}
 use Rattle.ft_world.proofs.pair.Pair.deliver_acknowledgement.Goals as goal
 
 pub returns-in_default-clause-row : goal.returns-in_default-clause-row
@@ -48,3 +49,9 @@ returns-clause-row g c = λ course h.
     (c.station_mut.follows.holds c.deliver_acknowledgement.new.self (ap is_ok c.in_ok-station.was))
     (λ C drives x is. spelled_ack c.in-Some.packet.now x (Ok c.in_ok-held.held) (IsStation g.B.Lockstep.state g.B.Lockstep.machine C drives c.deliver_acknowledgement.new.self) spelled
     (c.in_ok-held.ensures.answer C drives x is)))
+
+pub returns-clause-pages : goal.returns-clause-pages
+returns-clause-pages g c =
+    pages_keep g.B.Lockstep.stale c.args.self.now.hosts.items (c.station_mut.follows.lender c.deliver_acknowledgement.new.self).items c.args.node
+    c.in_ok-station.station.now c.deliver_acknowledgement.new.self c.in_ok-station.ensures.found
+    (c.station_mut.follows.holds c.deliver_acknowledgement.new.self (ap is_ok c.in_ok-station.was)) c.in_ok-held.ensures.pages

@@ -11,6 +11,7 @@ use Rattle.pair_events.specs.declared.reply.Reply.TheVariants as reply
 use Rattle.ft_world.proofs.Applying.{hands_on}
 use Rattle.ft_world.proofs.AtHosts.{at_host, no_call}
 use Rattle.ft_world.proofs.AtLog.{delivers_applies, delivers_refused, delivers_unknown, spelled_log}
+use Rattle.ft_world.proofs.CopiedPages.{pages_keep}
 use Rattle.ft_world.proofs.pair.Pair.deliver_log.Goals as goal
 
 pub returns-in_default-clause-row : goal.returns-in_default-clause-row
@@ -70,3 +71,15 @@ returns-else-branch-clause-row g c = λ course h.
     (c.station_mut.follows.holds c.deliver_log.new.self (ap is_ok c.in_ok-station.was))
     (λ C drives x is. spelled_log c.in-Some.packet.now x (Ok c.in_ok-deliver_log.field-0) (IsStation g.B.Lockstep.state g.B.Lockstep.machine C drives c.deliver_log.new.self) spelled
     (c.in_ok-deliver_log.ensures.answer C drives x is))))
+
+pub returns-then-branch-clause-pages : goal.returns-then-branch-clause-pages
+returns-then-branch-clause-pages g c =
+    pages_keep g.B.Lockstep.stale c.args.self.now.hosts.items (c.station_mut.follows.lender c.deliver_log.new.self).items c.args.node
+    c.in_ok-station.station.now c.deliver_log.new.self c.in_ok-station.ensures.found
+    (c.station_mut.follows.holds c.deliver_log.new.self (ap is_ok c.in_ok-station.was)) c.in_ok-deliver_log.ensures.pages
+
+pub returns-else-branch-clause-pages : goal.returns-else-branch-clause-pages
+returns-else-branch-clause-pages g c =
+    pages_keep g.B.Lockstep.stale c.args.self.now.hosts.items (c.station_mut.follows.lender c.deliver_log.new.self).items c.args.node
+    c.in_ok-station.station.now c.deliver_log.new.self c.in_ok-station.ensures.found
+    (c.station_mut.follows.holds c.deliver_log.new.self (ap is_ok c.in_ok-station.was)) c.in_ok-deliver_log.ensures.pages

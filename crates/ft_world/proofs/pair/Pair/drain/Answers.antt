@@ -4,6 +4,7 @@ use Rattle.ft_world.specs.Pairs.{running_of}
 use Rattle.ft_world.proofs.Applying.{hands_on}
 use Rattle.ft_world.proofs.AtHosts.{at_host, no_call}
 use Rattle.ft_world.proofs.AtMoves.{drains_applies, drains_refused, station_may_replay}
+use Rattle.ft_world.proofs.CopiedPages.{pages_keep}
 use Rattle.ft_world.proofs.pair.Pair.drain.Goals as goal
 
 pub drain-requires : goal.drain-requires
@@ -37,3 +38,9 @@ returns-clause-row g c = λ course h.
     c.reply_to.ensures h
     (at_host h c.in_ok-station.ensures.found
     (c.station_mut.follows.holds c.drain.new.self (ap is_ok c.in_ok-station.was)) c.in_ok-drained.ensures.answer)
+
+pub returns-clause-pages : goal.returns-clause-pages
+returns-clause-pages g c =
+    pages_keep g.B.Lockstep.stale c.args.self.now.hosts.items (c.station_mut.follows.lender c.drain.new.self).items c.args.node
+    c.in_ok-station.station.now c.drain.new.self c.in_ok-station.ensures.found
+    (c.station_mut.follows.holds c.drain.new.self (ap is_ok c.in_ok-station.was)) c.in_ok-drained.ensures.pages

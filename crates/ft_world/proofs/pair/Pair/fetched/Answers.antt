@@ -7,6 +7,7 @@ use Rattle.ft_world.specs.Pairs.{running_of}
 use Rattle.ft_world.proofs.Applying.{hands_on}
 use Rattle.ft_world.proofs.AtFetching.{fetched_applies, fetched_refused, fetched_unknown, node_may_fetch}
 use Rattle.ft_world.proofs.AtHosts.{at_host, no_call}
+use Rattle.ft_world.proofs.CopiedPages.{pages_keep}
 use Rattle.ft_world.proofs.pair.Pair.fetched.Goals as goal
 
 pub fetched-requires : goal.fetched-requires
@@ -51,3 +52,9 @@ returns-clause-row g c = λ course h.
     c.args.message c.args.node c.in-Some.read brings (c.station_mut.follows.lender c.fetched.new.self).items
     (at_host h c.in_ok-station.ensures.found
     (c.station_mut.follows.holds c.fetched.new.self (ap is_ok c.in_ok-station.was)) c.in_ok-fetched.ensures.answer)
+
+pub returns-clause-pages : goal.returns-clause-pages
+returns-clause-pages g c =
+    pages_keep g.B.Lockstep.stale c.args.self.now.hosts.items (c.station_mut.follows.lender c.fetched.new.self).items c.args.node
+    c.in_ok-station.station.now c.fetched.new.self c.in_ok-station.ensures.found
+    (c.station_mut.follows.holds c.fetched.new.self (ap is_ok c.in_ok-station.was)) c.in_ok-fetched.ensures.pages

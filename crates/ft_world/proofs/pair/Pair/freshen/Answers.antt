@@ -4,6 +4,7 @@ use Rattle.ft_world.specs.Pairs.{running_of}
 use Rattle.ft_world.proofs.Applying.{hands_on}
 use Rattle.ft_world.proofs.AtHosts.{at_host, no_call}
 use Rattle.ft_world.proofs.AtFreshening.{freshens_applies, freshens_refused, tells_stale}
+use Rattle.ft_world.proofs.CopiedPages.{pages_copied}
 use Rattle.ft_world.proofs.pair.Pair.freshen.Goals as goal
 
 pub returns-in_err-station-clause-row : goal.returns-in_err-station-clause-row
@@ -31,7 +32,14 @@ returns-clause-row g c = λ course h.
 
 pub returns-clause-stale : goal.returns-clause-stale
 returns-clause-stale g c =
-    tells_stale g.B.Copies.stale c.args.node c.args.pages c.in_ok-pages.pages c.args.self.now.hosts.items
+    tells_stale g.B.Lockstep.stale c.args.node c.args.pages c.in_ok-pages.pages c.args.self.now.hosts.items
     (c.station_mut.follows.lender c.freshen.new.self).items c.in_ok-station.station.now c.freshen.new.self
     c.in_ok-station.ensures.found (c.station_mut.follows.holds c.freshen.new.self (ap is_ok c.in_ok-station.was))
+    c.in_ok-pages.ensures.stale
+
+pub returns-clause-pages : goal.returns-clause-pages
+returns-clause-pages g c =
+    pages_copied g.B.Lockstep.stale c.args.self.now.hosts.items (c.station_mut.follows.lender c.freshen.new.self).items c.args.node
+    c.in_ok-station.station.now c.freshen.new.self c.in_ok-station.ensures.found
+    (c.station_mut.follows.holds c.freshen.new.self (ap is_ok c.in_ok-station.was)) c.args.pages c.in_ok-pages.pages
     c.in_ok-pages.ensures.stale

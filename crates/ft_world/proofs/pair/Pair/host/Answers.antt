@@ -6,7 +6,7 @@ use Rattle.ft_world.specs.Pairs.{running_of}
 use Rattle.ft_world.specs.Standing.{machine_of}
 use Rattle.ft_world.specs.declared.host.Host.TheVariants as host
 use Rattle.ft_world.proofs.Applying.{shown_is_faithful}
-use Rattle.ft_world.proofs.Hosting.{host_comes}
+use Rattle.ft_world.proofs.Hosting.{host_comes, host_grows}
 use Rattle.ft_world.proofs.pair.Pair.host.Goals as goal
 
 pub returns-clause-ok : goal.returns-clause-ok
@@ -27,6 +27,11 @@ returns-clause-faithful g c = λ course h.
     (record course { world = with_host (machine_of g.B.Lockstep.machine course) course.world })
     (host_comes g.B.Lockstep.state g.B.Copies.copied g.B.Lockstep.machine g.D.SectorStore.records (running_of c.args.self.now) course
     c.args.resources h)
+
+pub returns-clause-grows : goal.returns-clause-grows
+returns-clause-grows g c = λ course h.
+    host_grows g.B.Lockstep.state g.B.Copies.copied g.B.Lockstep.machine g.D.SectorStore.records (running_of c.args.self.now)
+    course h
 
 pub returns-clause-others : goal.returns-clause-others
 returns-clause-others g c =

@@ -8,6 +8,7 @@ use Rattle.ft_world.specs.Shows.{IsStation}
 use Rattle.ft_world.proofs.Applying.{hands_on}
 use Rattle.ft_world.proofs.AtHosts.{at_this_host, no_call}
 use Rattle.ft_world.proofs.AtParts.{as_row, brings_part, part_applies, part_refused, part_unknown}
+use Rattle.ft_world.proofs.CopiedPages.{pages_keep}
 use Rattle.ft_world.proofs.pair.Pair.part_comes.Goals as goal
 
 pub returns-in_default-clause-row : goal.returns-in_default-clause-row
@@ -58,3 +59,9 @@ returns-clause-row g c = λ course h.
     (running_of c.args.self.now) course h c.args.message c.in-Some.bytes.now b c.args.node x there
     (Ok c.in_ok-part.part) (IsStation g.B.Lockstep.state g.B.Lockstep.machine course.copying h.drives c.part.new.self)
     (c.in_ok-part.ensures.answer course.copying h.drives x h.copies_as is)))
+
+pub returns-clause-pages : goal.returns-clause-pages
+returns-clause-pages g c =
+    pages_keep g.B.Lockstep.stale c.args.self.now.hosts.items (c.station_mut.follows.lender c.part.new.self).items c.args.node
+    c.in_ok-station.station.now c.part.new.self c.in_ok-station.ensures.found
+    (c.station_mut.follows.holds c.part.new.self (ap is_ok c.in_ok-station.was)) c.in_ok-part.ensures.pages

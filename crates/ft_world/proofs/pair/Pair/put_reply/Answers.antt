@@ -7,6 +7,7 @@ use Rattle.ft_world.specs.Pairs.{running_of}
 use Rattle.ft_world.proofs.Applying.{hands_on}
 use Rattle.ft_world.proofs.AtHosts.{at_host, no_call}
 use Rattle.ft_world.proofs.DiskAnswers.{done_applies, done_refused, done_unknown}
+use Rattle.ft_world.proofs.CopiedPages.{pages_keep}
 use Rattle.ft_world.proofs.pair.Pair.put_reply.Goals as goal
 
 pub returns-in_default-clause-row : goal.returns-in_default-clause-row
@@ -42,3 +43,9 @@ returns-clause-row g c = λ course h.
     c.args.message c.args.node c.in-Some.number (c.station_mut.follows.lender c.put_reply.new.self).items brings h
     (at_host h c.in_ok-station.ensures.found
     (c.station_mut.follows.holds c.put_reply.new.self (ap is_ok c.in_ok-station.was)) c.in_ok-put_reply.ensures.answer)
+
+pub returns-clause-pages : goal.returns-clause-pages
+returns-clause-pages g c =
+    pages_keep g.B.Lockstep.stale c.args.self.now.hosts.items (c.station_mut.follows.lender c.put_reply.new.self).items c.args.node
+    c.in_ok-station.station.now c.put_reply.new.self c.in_ok-station.ensures.found
+    (c.station_mut.follows.holds c.put_reply.new.self (ap is_ok c.in_ok-station.was)) c.in_ok-put_reply.ensures.pages

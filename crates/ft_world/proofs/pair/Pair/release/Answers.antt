@@ -1,6 +1,4 @@
 -- The device does not exist, or there is no such node, or it refuses, or the operation is sent.
-use Rattle.std.proofs.Common.{subst}
-use Rattle.ft_world.specs.Messages.{Says}
 use Rattle.ft_world.specs.Pairs.{running_of}
 use Rattle.ft_world.proofs.Applying.{hands_on}
 use Rattle.ft_world.proofs.AtHosts.{asks_nobody, asks_node}
@@ -33,8 +31,6 @@ returns-in_err-operation-clause-row g c = λ course h.
 pub returns-clause-row : goal.returns-clause-row
 returns-clause-row g c = λ course h.
     releases_applies g.B.Lockstep.state g.B.Copies.copied g.B.Lockstep.machine g.D.SectorStore.records (running_of c.args.self.now)
-    course c.args.node c.args.id c.in_ok-check_device.field-0 c.in_ok-operation.operation c.say.result
-    c.say.new.messages.items h c.in_ok-check_device.ensures
-    (asks_node h c.in_ok-station.ensures.found c.in_ok-operation.ensures)
-    (subst (λ m. Says c.args.self.now.messages.items m c.say.result c.say.new.messages.items) c.releasing.ensures
-    c.say.ensures)
+    course c.args.node c.args.id c.in_ok-check_device.field-0 c.in_ok-operation.operation c.say_released.result
+    c.say_released.new.messages.items h c.in_ok-check_device.ensures
+    (asks_node h c.in_ok-station.ensures.found c.in_ok-operation.ensures) c.say_released.ensures

@@ -4,6 +4,7 @@ use Rattle.ft_world.specs.Pairs.{running_of}
 use Rattle.ft_world.proofs.Applying.{hands_on}
 use Rattle.ft_world.proofs.AtHosts.{at_host, no_call}
 use Rattle.ft_world.proofs.AtMoves.{replays_applies, replays_refused, station_may_replay}
+use Rattle.ft_world.proofs.CopiedPages.{pages_keep}
 use Rattle.ft_world.proofs.pair.Pair.replay.Goals as goal
 
 pub replay-requires : goal.replay-requires
@@ -38,3 +39,9 @@ returns-clause-row g c = λ course h.
     course c.args.node c.args.turns c.in_ok-replayed.replayed (c.station_mut.follows.lender c.replay.new.self).items h
     (at_host h c.in_ok-station.ensures.found
     (c.station_mut.follows.holds c.replay.new.self (ap is_ok c.in_ok-station.was)) c.in_ok-replayed.ensures.answer)
+
+pub returns-clause-pages : goal.returns-clause-pages
+returns-clause-pages g c =
+    pages_keep g.B.Lockstep.stale c.args.self.now.hosts.items (c.station_mut.follows.lender c.replay.new.self).items c.args.node
+    c.in_ok-station.station.now c.replay.new.self c.in_ok-station.ensures.found
+    (c.station_mut.follows.holds c.replay.new.self (ap is_ok c.in_ok-station.was)) c.in_ok-replayed.ensures.pages

@@ -24,7 +24,7 @@ loop-event-init g c = record {
       h);
   each = subst
       (λ answers. HaveApplied g.B.Lockstep.state g.B.Copies.copied g.B.Lockstep.machine g.D.SectorStore.records
-      g.D.SectorStore.failures g.B.Copies.stale (running_of c.args.self.now) [] answers (running_of c.args.self.now))
+      g.D.SectorStore.failures g.B.Lockstep.writes g.B.Lockstep.stale (running_of c.args.self.now) [] answers (running_of c.args.self.now))
       (sym c.in_ok-answers.ensures.items) Nothing;
   counted = omega arith;
   spares = left_here c.args.self.now.hosts.items;
@@ -45,7 +45,7 @@ loop-event-preserved g c = record {
       c.apply-answer.result h c.loop-event-test.true
       c.in-Ok.ensures.items (c.loop-event.invariant.runs course h) c.apply-answer.ensures.row;
   each = applied_on g.B.Lockstep.state g.B.Copies.copied g.B.Lockstep.machine g.D.SectorStore.records
-      g.D.SectorStore.failures g.B.Copies.stale (running_of c.args.self.now) (running_of c.loop-event.self)
+      g.D.SectorStore.failures g.B.Lockstep.writes g.B.Lockstep.stale (running_of c.args.self.now) (running_of c.loop-event.self)
       (running_of c.apply-answer.new.self) c.args.events.now c.loop-event.event-index (event.Step 0 0)
       c.loop-event.answers.items c.push.new.self.items c.apply-answer.result c.loop-event-test.true c.in-Ok.ensures.items
       c.loop-event.invariant.each (record {
@@ -54,6 +54,7 @@ loop-event-preserved g c = record {
         unchanged = c.apply-answer.ensures.unchanged;
         spares = c.apply-answer.ensures.spares;
         told_stale = c.apply-answer.ensures.stale;
+        pages = c.apply-answer.ensures.pages;
       });
   counted = counts_on c.args.events.now c.loop-event.event-index (event.Step 0 0) c.loop-event.answers.items
       c.push.new.self.items c.apply-answer.result (g.D.SectorStore.failures c.args.self.now.disk)
@@ -79,7 +80,7 @@ pub returns-clause-each : goal.returns-clause-each
 returns-clause-each g c =
     subst
     (λ events. HaveApplied g.B.Lockstep.state g.B.Copies.copied g.B.Lockstep.machine g.D.SectorStore.records
-    g.D.SectorStore.failures g.B.Copies.stale (running_of c.args.self.now) events c.loop-event.answers.items
+    g.D.SectorStore.failures g.B.Lockstep.writes g.B.Lockstep.stale (running_of c.args.self.now) events c.loop-event.answers.items
     (running_of c.loop-event.self))
     (take_all c.loop-event.event-index c.args.events.now c.loop-event-test.false) c.loop-event.invariant.each
 

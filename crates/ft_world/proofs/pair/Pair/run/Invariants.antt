@@ -16,7 +16,7 @@ invariant-loop-event g l = record {
       → Runs g.B.Lockstep.state g.B.Copies.copied g.B.Lockstep.machine g.D.SectorStore.records c (take l.event-index l.fn.events)
       l.answers.items (running_of l.self);
   each : HaveApplied g.B.Lockstep.state g.B.Copies.copied g.B.Lockstep.machine g.D.SectorStore.records
-      g.D.SectorStore.failures g.B.Copies.stale (running_of l.fn.self) (take l.event-index l.fn.events) l.answers.items
+      g.D.SectorStore.failures g.B.Lockstep.writes g.B.Lockstep.stale (running_of l.fn.self) (take l.event-index l.fn.events) l.answers.items
       (running_of l.self);
   counted : g.D.SectorStore.failures l.self.disk
       ≡ g.D.SectorStore.failures l.fn.self.disk + failures_over (take l.event-index l.fn.events) l.answers.items;

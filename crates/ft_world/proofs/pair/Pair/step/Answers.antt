@@ -5,6 +5,8 @@ use Rattle.ft_world.proofs.Applying.{hands_on}
 use Rattle.ft_world.proofs.AtHosts.{at_host, no_call}
 use Rattle.ft_world.proofs.AtMoves.{steps_applies, steps_refused}
 use Rattle.ft_world.proofs.Standing.{station_may_run}
+use Rattle.ft_node.specs.Pages.{StepsWrite}
+use Rattle.ft_world.proofs.CopiedPages.{pages_change}
 use Rattle.ft_world.proofs.pair.Pair.step.Goals as goal
 
 pub step-requires : goal.step-requires
@@ -37,3 +39,11 @@ returns-clause-row g c = λ course h.
     c.args.node c.args.turns c.in_ok-ran.ran (c.station_mut.follows.lender c.step.new.self).items h
     (at_host h c.in_ok-station.ensures.found
     (c.station_mut.follows.holds c.step.new.self (ap is_ok c.in_ok-station.was)) c.in_ok-ran.ensures.answer)
+
+pub returns-clause-pages : goal.returns-clause-pages
+returns-clause-pages g c =
+    pages_change g.B.Lockstep.stale c.args.self.now.hosts.items (c.station_mut.follows.lender c.step.new.self).items c.args.node
+    c.in_ok-station.station.now c.step.new.self c.in_ok-station.ensures.found
+    (c.station_mut.follows.holds c.step.new.self (ap is_ok c.in_ok-station.was))
+    (StepsWrite g.B.Lockstep.state g.B.Lockstep.machine g.B.Lockstep.writes g.B.Lockstep.stale c.in_ok-ran.ran.steps)
+    c.in_ok-ran.ensures.pages

@@ -4,6 +4,7 @@ use Rattle.ft_world.specs.Pairs.{running_of}
 use Rattle.ft_world.proofs.Applying.{hands_on}
 use Rattle.ft_world.proofs.AtHosts.{at_host, no_call}
 use Rattle.ft_world.proofs.AtMoves.{stops_applies, stops_refused}
+use Rattle.ft_world.proofs.CopiedPages.{pages_keep}
 use Rattle.ft_world.proofs.pair.Pair.stop.Goals as goal
 
 pub returns-in_err-station-clause-row : goal.returns-in_err-station-clause-row
@@ -28,3 +29,9 @@ returns-clause-row g c = λ course h.
     c.args.node (c.station_mut.follows.lender c.stop.new.self).items h
     (at_host h c.in_ok-station.ensures.found
     (c.station_mut.follows.holds c.stop.new.self (ap is_ok c.in_ok-station.was)) c.in_ok-stop.ensures.answer)
+
+pub returns-clause-pages : goal.returns-clause-pages
+returns-clause-pages g c =
+    pages_keep g.B.Lockstep.stale c.args.self.now.hosts.items (c.station_mut.follows.lender c.stop.new.self).items c.args.node
+    c.in_ok-station.station.now c.stop.new.self c.in_ok-station.ensures.found
+    (c.station_mut.follows.holds c.stop.new.self (ap is_ok c.in_ok-station.was)) c.in_ok-stop.ensures.pages

@@ -5,6 +5,7 @@ use Rattle.ft_world.proofs.Applying.{hands_on}
 use Rattle.ft_world.proofs.AtHosts.{no_host, same_hosts, suspects_host}
 use Rattle.ft_world.proofs.Refusing.{suspect_stays}
 use Rattle.ft_world.proofs.Contesting.{suspects_applies, suspects_refused}
+use Rattle.ft_world.proofs.CopiedPages.{pages_keep}
 use Rattle.ft_world.proofs.pair.Pair.suspect.Goals as goal
 
 pub returns-in_err-station-clause-row : goal.returns-in_err-station-clause-row
@@ -42,3 +43,9 @@ returns-in_err-suspect-clause-unchanged g c =
     c.in_ok-station.ensures.found (c.station_mut.follows.holds c.suspect.new.self (ap is_ok c.in_ok-station.was))
     c.in_err-suspect.ensures.answer c.in_err-suspect.ensures.beside c.in_err-suspect.ensures.unchanged
     c.in_err-suspect.ensures.arbiter c.from_residual-in_err-suspect.ensures.1
+
+pub returns-clause-pages : goal.returns-clause-pages
+returns-clause-pages g c =
+    pages_keep g.B.Lockstep.stale c.args.self.now.hosts.items (c.station_mut.follows.lender c.suspect.new.self).items c.args.node
+    c.in_ok-station.station.now c.suspect.new.self c.in_ok-station.ensures.found
+    (c.station_mut.follows.holds c.suspect.new.self (ap is_ok c.in_ok-station.was)) c.in_ok-suspect.ensures.pages

@@ -4,6 +4,7 @@ use Rattle.ft_world.specs.Pairs.{running_of}
 use Rattle.ft_world.proofs.Applying.{hands_on}
 use Rattle.ft_world.proofs.AtHosts.{at_host, no_call}
 use Rattle.ft_world.proofs.AtInputs.{sent_applies, sent_refused, sent_unknown}
+use Rattle.ft_world.proofs.CopiedPages.{pages_keep}
 use Rattle.ft_world.proofs.pair.Pair.tell_sent.Goals as goal
 
 pub returns-in_err-check_accepted-clause-row : goal.returns-in_err-check_accepted-clause-row
@@ -37,3 +38,9 @@ returns-clause-row g c = λ course h.
     c.in_ok-check_accepted.ensures.answer
     (at_host h c.in_ok-station.ensures.found
     (c.station_mut.follows.holds c.tell_sent.new.self (ap is_ok c.in_ok-station.was)) c.in_ok-tell_sent.ensures.answer)
+
+pub returns-clause-pages : goal.returns-clause-pages
+returns-clause-pages g c =
+    pages_keep g.B.Lockstep.stale c.args.self.now.hosts.items (c.station_mut.follows.lender c.tell_sent.new.self).items c.args.node
+    c.in_ok-station.station.now c.tell_sent.new.self c.in_ok-station.ensures.found
+    (c.station_mut.follows.holds c.tell_sent.new.self (ap is_ok c.in_ok-station.was)) c.in_ok-tell_sent.ensures.pages

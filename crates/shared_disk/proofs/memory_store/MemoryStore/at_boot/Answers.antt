@@ -5,14 +5,13 @@ use Rattle.std.proofs.lemmas.List.Elements.{All-more}
 use Rattle.disk_dcdd.specs.Address.{address_of, has_sector}
 use Rattle.disk_dcdd.specs.declared.sector.SectorWrite.{SectorWrite}
 use Rattle.shared_disk.specs.Records as table
-use Rattle.shared_disk.proofs.Booting.{new_is_whole, next_put, nothing_put, taken_there}
+use Rattle.shared_disk.proofs.Booting.{next_put, nothing_put, taken_there}
 use Rattle.shared_disk.proofs.memory_store.MemoryStore.at_boot.Goals as goal
 
 pub loop-sector-init : goal.loop-sector-init
 loop-sector-init c = record {
   stand = subst (λ store. table.IsAtBoot store c.args.drives []) (sym c.in_ok-store.ensures.ok)
       (nothing_put c.args.drives);
-  whole = subst table.HasWholeSectors (sym c.in_ok-store.ensures.ok) (new_is_whole c.args.drives);
   on_drives = λ k d within. absurd (omega arith);
 }
 
@@ -28,7 +27,6 @@ loop-sector-preserved c =
           c.args.drives (take (i + 1) sectors)) (sym c.address.ensures)
           (next_put c.loop-sector.store c.args.drives sectors i other c.loop-sector-test.true
           c.loop-sector.invariant.stand));
-      whole = c.set_boot.ensures.whole c.loop-sector.invariant.whole;
       on_drives = All-more (λ (w : SectorWrite). IsTrue (has_sector c.args.drives (address_of w))) sectors i other
           c.loop-sector-test.true c.loop-sector.invariant.on_drives
           (subst (λ address. IsTrue (has_sector c.args.drives address)) c.address.ensures

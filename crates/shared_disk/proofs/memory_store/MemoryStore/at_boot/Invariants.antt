@@ -6,6 +6,5 @@ use Rattle.shared_disk.proofs.memory_store.MemoryStore.at_boot.Given as goal
 abbrev pub invariant-loop-sector : goal.invariant-loop-sector
 invariant-loop-sector l = record {
   stand : table.IsAtBoot l.store l.drives (take l.sector-index l.sectors);
-  whole : table.HasWholeSectors l.store;
   on_drives : table.AreOnDrives l.drives (take l.sector-index l.sectors);
 }
