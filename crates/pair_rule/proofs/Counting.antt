@@ -1,5 +1,5 @@
 -- Each swap at the boxes between primary and disk is counted in what the seat knows.
-use Rattle.std.proofs.Common.{◌≡◌, ◌≢◌, ℕ, ◌+◌, ◌<◌, ◌≤◌, List, [], ◌∷◌, ◌++◌, length, get_or, set, sym, refl, ap, ◌∙◌, arith, length-append}
+use Rattle.std.proofs.Common.{◌≡◌, ◌≢◌, ℕ, ◌+◌, ◌<◌, List, [], ◌∷◌, length, set, sym, ap, ◌∙◌, arith, length-append}
 use Rattle.atomic_table.proofs.Lists.{set_here, set_else}
 use Rattle.event_callbacks.specs.declared.operations.Operation.TheVariants.{Byte, Write}
 use Rattle.pair_rule.specs.declared.mailbox.Mailbox.{Mailbox}
