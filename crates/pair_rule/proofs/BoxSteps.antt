@@ -148,7 +148,7 @@ module _ (g : ℕ) (s : Table) (r : Rule g s) (id : ℕ) (v : SeatView) (at : ge
         (y (side_at core.empties (box_index b))) t z core refl ne e)
         (subst (λ z. Facts g (set r.boxes (box_index b) z) (swapped s.homes hand x (slot_of word)) (emptied b q word core))
         (sym (is ∙ ap (λ (z : Side). empty_word (z.number + 1) hand) sides))
-        (empty_facts g r.boxes s.homes core f b hand q x (sym o.hand ∙ hands) (sym o.has_slot ∙ has_slot) l k
+        (empty_facts g r.boxes s.homes core f b hand q x (sym o.hand ∙ hands) (sym o.has_slot ∙ has_slot) l k fit
         (plain.Goes f.ran (plain.Empties b q (asks_same (emptier b) v.core.known core.known o.known asks) fit)) box))
         (Some q) box.3.2
         (λ small c e. let same = one_box b c (let w : 5 + box_index b ≡ 5 + box_index c = e in omega arith) in (

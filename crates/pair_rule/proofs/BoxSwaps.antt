@@ -20,6 +20,7 @@ use Rattle.pair_rule.proofs.Slots as slots
 use Rattle.pair_rule.proofs.Slots.{swapped, given, box_stays, slot_full, slot_empty, set_both, at_or}
 use Rattle.pair_rule.proofs.SlotSwaps.{laid_swap, box_else, apart, inside}
 use Rattle.pair_rule.proofs.Parts.{Local, nothing, one_seat, one_box, few_boxes}
+use Rattle.pair_rule.proofs.Counting.{empty_counted, fill_counted, found_counted}
 
 abbrev pub Table : Type 0
 Table = State (Option Payload) SeatView
@@ -240,6 +241,7 @@ module _ (g : ℕ) (boxes : List ℕ) (homes : Homes) (c : Core) (f : Facts g bo
             (λ (t : (box_index j ≢ box_index b) × (get_elem? c.fills (box_index j) ≡ some z)). last_fits z.last (Fits j c.known)
             (Fits j (after_fill b q c.known)) (k.fits j) (f.fitting j z t.1))
             (at_set c.fills (box_index b) (box_index j) y z e);
+        counted = fill_counted c.fills c.empties c.known f.counted f.sized.fills b q y refl fit;
         stands = k.stands;
         ran = ran;
       }
@@ -251,11 +253,12 @@ module _ (g : ℕ) (boxes : List ℕ) (homes : Homes) (c : Core) (f : Facts g bo
   -- what an emptying leaves: of a full box, and of an empty one
   pub empty_facts : (q : Payload) (x : Option Payload) → get_elem? c.hands (seat_index (emptier b)) ≡ some hand
       → get_elem? c.has_slot (seat_index (emptier b)) ≡ some true
-      → Local (emptier b) (after_empty b q) → Keeps (after_empty b q) c.known → PlainRun (after_empty b q c.known)
+      → Local (emptier b) (after_empty b q) → Keeps (after_empty b q) c.known → Fits b c.known q
+      → PlainRun (after_empty b q c.known)
       → Boxed here homes (side_at c.fills (box_index b)) (side_at c.empties (box_index b)) true
       → Facts g (set boxes (box_index b) (empty_word ((side_at c.empties (box_index b)).number + 1) hand))
       (swapped homes hand x (slot_of here)) (emptied b q here c)
-  empty_facts q x at has_slot l k ran full = let n : ℕ = (side_at c.empties (box_index b)).number + 1 in let new : ℕ =
+  empty_facts q x at has_slot l k fit ran full = let n : ℕ = (side_at c.empties (box_index b)).number + 1 in let new : ℕ =
       empty_word n hand in
       let near : hand < 16 = (let z = small (emptier b) at in omega arith) in let is : slot_of new ≡ hand =
       slot_empty n hand near in
@@ -268,6 +271,8 @@ module _ (g : ℕ) (boxes : List ℕ) (homes : Homes) (c : Core) (f : Facts g bo
             (slots.empties here homes (swapped homes hand x (slot_of here)) (side_at c.fills (box_index b))
             (side_at c.empties (box_index b)) hand x (Some q) near (in_box (emptier b) x at new is) full);
         fitting = fits_on (after_empty b q) k;
+        counted = empty_counted c.fills c.empties c.known f.counted f.sized.empties b q y
+            (let a = full.0 in let m = full.1 in omega (arith, a, m)) fit;
         stands = k.stands;
         ran = ran;
       }
@@ -290,6 +295,7 @@ module _ (g : ℕ) (boxes : List ℕ) (homes : Homes) (c : Core) (f : Facts g bo
             (side_at c.empties (box_index b)) hand x (side_at c.empties (box_index b)).last near
             (in_box (emptier b) x at new is) none);
         fitting = f.fitting;
+        counted = found_counted c.fills c.empties c.known f.counted f.sized.empties b y refl;
         stands = f.stands;
         ran = f.ran;
       }

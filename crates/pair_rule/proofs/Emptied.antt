@@ -1,5 +1,5 @@
 -- What held still holds after boxes are emptied.
-use Rattle.std.proofs.Common.{[], ◌∷◌, ◌++◌, length, refl, Some}
+use Rattle.std.proofs.Common.{◌+◌, [], ◌∷◌, ◌++◌, length, refl, Some}
 use Rattle.event_callbacks.specs.declared.operations.Operation.{Operation}
 use Rattle.pair_protocol.specs.Lawful.{Among}
 use Rattle.pair_rule.specs.declared.mailbox.Mailbox.{Mailbox}
@@ -84,7 +84,7 @@ module _ (k : Knowledge) (s : Stands k) where
   }
 
   taken_has : (r : DiskRequest) → IsAsked k.primary.released r
-      → Keeps (λ k. record k { disk = record k.disk { taken = Some r } }) k
+      → Keeps (λ k. record k { disk = record k.disk { taken = Some r; takes = k.disk.takes + 1 } }) k
   taken_has r i = record {
     stands = record {
       log = s.log;

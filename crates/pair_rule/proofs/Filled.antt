@@ -1,7 +1,8 @@
 -- What each step does to what is known: who may make it, and that what held still holds.
-use Rattle.std.proofs.Common.{◌≡◌, ℕ, List, [], ◌∷◌, ◌++◌, sym, refl, ap, ◌∙◌, subst, inl, inr, ⊎_elim, Option, Some, None}
+use Rattle.std.proofs.Common.{◌≡◌, ℕ, ◌+◌, List, [], ◌∷◌, ◌++◌, sym, refl, ap, ◌∙◌, subst, inl, inr, ⊎_elim, Option, Some, None}
 use lib.ListN.{get_elem?}
 use Rattle.atomic_table.proofs.Lists.{at_longer}
+use Rattle.disk_dcdd.specs.declared.address.SectorAddress.{SectorAddress}
 use Rattle.disk_dcdd.specs.declared.sector.SectorWrite.{SectorWrite}
 use Rattle.event_callbacks.specs.declared.operations.Operation.{Operation}
 use Rattle.event_callbacks.specs.declared.operations.Operation.TheVariants.{Byte, Write}
@@ -112,7 +113,7 @@ local_empty Bytes1 (Out o) = on_terminal (λ t. record t { hand1 = Some o })
 local_empty Bytes1 (Log p) = nothing _
 local_empty Bytes1 (Request r) = nothing _
 local_empty Bytes1 (Answer a) = nothing _
-local_empty Requests (Request r) = on_disk (λ d. record d { taken = Some r })
+local_empty Requests (Request r) = on_disk (λ d. record d { taken = Some r; takes = d.takes + 1 })
 local_empty Requests (Log p) = nothing _
 local_empty Requests (Out o) = nothing _
 local_empty Requests (Answer a) = nothing _
@@ -133,9 +134,16 @@ port_more port counted released more hand arrivals p = record {
 
 module _ (k : Knowledge) (s : Stands k) where
   -- the primary released more
-  released : (more : List Operation) (calls : List PrimaryCall)
-      → Stands (record k { primary = record k.primary { released = k.primary.released ++ more; calls = calls } })
-  released more calls = record {
+  released : (more : List Operation) (asked : ℕ) (calls : List PrimaryCall)
+      → Stands (record k {
+        primary =
+            record k.primary {
+              released = k.primary.released ++ more;
+              asked = asked;
+              calls = calls;
+            };
+      })
+  released more asked calls = record {
     log = s.log;
     decided = s.decided;
     port0 = port_more 0 k.primary.counted0 k.primary.released more k.terminal.hand0 k.terminal.arrivals0 s.port0;
@@ -168,7 +176,7 @@ module _ (k : Knowledge) (s : Stands k) where
 
   release_keeps : (o : Operation) → Keeps (λ k. record k { primary = with_release o k.primary }) k
   release_keeps o = record {
-    stands = released (o ∷ []) (with_release o k.primary).calls;
+    stands = released (o ∷ []) (with_release o k.primary).asked (with_release o k.primary).calls;
     words = refl;
     fits = λ b x f. refit b x (released_fits (o ∷ []) b x f);
   }
@@ -177,6 +185,14 @@ module _ (k : Knowledge) (s : Stands k) where
           → Fits b (record k { primary = record k.primary { released = k.primary.released ++ o ∷ [] } }) x
           → Fits b (record k { primary = with_release o k.primary }) x
       refit b x f = f
+
+  -- it asked for a sector
+  asks_keeps : (a : SectorAddress) → Keeps (after_fill Requests (Request (ask.Read a))) k
+  asks_keeps a = record {
+    stands = record { log = s.log; decided = s.decided; port0 = s.port0; port1 = s.port1; disk = s.disk };
+    words = refl;
+    fits = λ b x f. f;
+  }
 
   -- the disk answered
   abbrev answered : DiskAnswer → Knowledge
@@ -239,7 +255,7 @@ module _ (k : Knowledge) (s : Stands k) where
   fill_keeps Bytes1 (Request r) can = absurd can
   fill_keeps Bytes1 (Answer a) can = absurd can
   fill_keeps Requests (Request (ask.Write w)) can = (release_keeps (Write w), among_last (Write w) k.primary.released)
-  fill_keeps Requests (Request (ask.Read a)) can = (keeps_all k s, tt)
+  fill_keeps Requests (Request (ask.Read a)) can = (asks_keeps a, tt)
   fill_keeps Requests (Log p) can = absurd can
   fill_keeps Requests (Out o) can = absurd can
   fill_keeps Requests (Answer a) can = absurd can

@@ -139,6 +139,7 @@ opens g = let v : SeatView = first_view g in record {
         )) z.2;
     fitting = λ b f e. let z = box0 b in subst (λ (x : Side). WhereSome x.last (Fits b (first_known g)))
         (some-injective new_side f (sym z.1 ∙ e)) tt;
+    counted = record { asked_is = refl; taken = le_refl 0; given_is = refl; came = le_refl 0 };
     stands = first_stands g;
     ran = Opens g;
   };

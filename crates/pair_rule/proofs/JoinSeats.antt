@@ -1,5 +1,5 @@
 -- Seats are joined into the primary's, and what is known at the end is of one moment.
-use Rattle.std.proofs.Common.{◌≡◌, ◌≢◌, ℕ, eqb, Bool, true, false, List, ◌++◌, length, set, sym, refl, ap, ◌∙◌, subst, ⊎_elim, arith, length-set, eq-eqb, ne_eqb, Option}
+use Rattle.std.proofs.Common.{◌≡◌, ◌≢◌, ℕ, ◌≤◌, eqb, Bool, true, false, List, ◌++◌, length, set, sym, refl, ap, ◌∙◌, subst, ⊎_elim, arith, length-set, eq-eqb, ne_eqb, Option}
 use mathlib.Core.Option.{some, some-injective}
 use mathlib.Core.Logic.{dite}
 use native.Mathlib.Decide.{ℕ_discrete}
@@ -13,14 +13,14 @@ use Rattle.pair_rule.specs.declared.view.Side.{Side}
 use Rattle.pair_rule.specs.declared.view.Knowledge.{Knowledge}
 use Rattle.pair_rule.specs.declared.view.Core.{Core}
 use Rattle.pair_rule.specs.declared.view.SeatView.{SeatView}
-use Rattle.pair_rule.specs.Boxes.{box_index, Who, Primary, Link, Backup, Terminal, Disk, seat_index, filler, emptier}
+use Rattle.pair_rule.specs.Boxes.{Boxed, Homes, box_index, Who, Primary, Link, Backup, Terminal, Disk, seat_index, filler, emptier, is_full}
 use Rattle.pair_rule.specs.Knowledge.{words_of, Stands}
 use Rattle.pair_rule.specs.Histories.{PlainRun}
-use Rattle.pair_rule.specs.Rules.{SamePart, Sized, Same, Has, has, Rule, new_side}
+use Rattle.pair_rule.specs.Rules.{Facts, SamePart, Sized, Same, Has, has, Rule, new_side}
 use Rattle.pair_rule.specs.Kinds.{side_at, which, mixed, know_of, part_of, with_part, spent_view}
 use Rattle.pair_rule.proofs.Slots.{at_or}
 use Rattle.pair_rule.proofs.Parts.{one_seat, few_boxes, few_seats, set_there}
-use Rattle.pair_rule.proofs.BoxSwaps.{Table}
+use Rattle.pair_rule.proofs.BoxSwaps.{Table, box, here as box_word}
 use Rattle.pair_rule.proofs.BoxSteps.{own}
 use Rattle.pair_rule.proofs.SplitSeats.{no_true, nobody_has}
 
@@ -210,11 +210,29 @@ joins g id v i w s leads lacks mine single st r here apart there =
       facts = r.facts;
     }
 
+-- who empties a box has met no more swaps than who fills it has made
+met_low : (word : ℕ) (homes : Homes) (f e : Side) (full : Bool) → Boxed word homes f e full → e.met ≤ f.number
+met_low word homes f e true box = (let less = box.1 in omega (arith, less))
+met_low word homes f e false box = (let same = box.1 in omega (arith, same))
+
+module _ (g : ℕ) (boxes : List ℕ) (homes : Homes) (c : Core) (f : Facts g boxes homes c) where
+  met : (b : Mailbox) → (side_at c.empties (box_index b)).met ≤ (side_at c.fills (box_index b)).number
+  met b = met_low (box_word g boxes homes c f b 0) homes (side_at c.fills (box_index b)) (side_at c.empties (box_index b))
+      (is_full (box_word g boxes homes c f b 0)) (box g boxes homes c f b 0)
+
+  -- so no more was taken than was there
+  all_taken : c.known.disk.takes ≤ c.known.primary.asked
+  all_taken = (let t = f.counted.taken in let a = f.counted.asked_is in let m = met Requests in omega (arith, t, a, m))
+
+  all_came : length c.known.primary.answers ≤ length c.known.disk.given
+  all_came = (let t = f.counted.came in let a = f.counted.given_is in let m = met Answers in omega (arith, t, a, m))
+
 -- the last words, and what a seat that has every part knows, are those of one moment: the words are those that it gives
 pub settles : (g id : ℕ) (v : SeatView) (ws : List ℕ) (xs : List (Option Payload)) → has v Primary → has v Backup → has v Terminal
     → has v Disk → Final (Seen (Rule g) id v) ws xs
     → (k : Knowledge) × Stands k × PlainRun k × (k.primary ≡ v.core.known.primary) × (k.backup ≡ v.core.known.backup) ×
     (k.terminal ≡ v.core.known.terminal) × (k.disk ≡ v.core.known.disk) × ((boxes : List ℕ) × (ws ≡ words_of k ++ boxes))
+    × (k.disk.takes ≤ k.primary.asked) × (length k.primary.answers ≤ length k.disk.given)
 settles g id v ws xs p b t d f = let st : Table = f.0 in let r : Rule g st = f.1.0 in let at = f.1.1 in (
   r.core.known,
   r.facts.stands,
@@ -224,4 +242,6 @@ settles g id v ws xs p b t d f = let st : Table = f.0 in let r : Rule g st = f.1
   sym ((r.seats Terminal).only id v at t).1.known,
   sym ((r.seats Disk).only id v at d).1.known,
   (r.boxes, sym f.2 ∙ r.words),
+  all_taken g r.boxes st.homes r.core r.facts,
+  all_came g r.boxes st.homes r.core r.facts,
 )

@@ -18,7 +18,7 @@ use Rattle.pair_rule.specs.Boxes.{Homes, Who, Primary, Backup, Terminal}
 use Rattle.pair_rule.specs.Knowledge.{last_or, words_of, winner_of, Fits, Stands, appended, with_entry, saw, held, winner_after, primary_asked, backup_asked, arrives, byte_arrived, saw_count, accepted_after, accepted_with}
 use Rattle.pair_rule.specs.Histories.{MayAppend, PlainRun, PlainStep}
 use Rattle.pair_rule.specs.Histories as plain
-use Rattle.pair_rule.specs.Rules.{SamePart, Same, has, Facts, Moment, Rule}
+use Rattle.pair_rule.specs.Rules.{CountedBy, SamePart, Same, has, Facts, Moment, Rule}
 use Rattle.pair_rule.proofs.Histories.{asks_same, may_append}
 use Rattle.pair_rule.specs.Kinds.{Mine, with_known, with_core, appends, sees, holds_entries, contests_primary, contests_backup, counts, sees_count, counts_at, sees_count_at}
 use Rattle.pair_rule.proofs.Parts.{Local, on_primary, on_backup, on_terminal, steps}
@@ -58,15 +58,17 @@ knows_rest n t turn l c d ne e = record {
 
 knows_facts : (g : ℕ) (boxes : List ℕ) (homes : Homes) (c : Core) (turn : Knowledge → Knowledge)
     → ((turn c.known).generation ≡ c.known.generation) → Stands (turn c.known)
-    → ((b : Mailbox) (x : Payload) → Fits b c.known x → Fits b (turn c.known) x) → PlainRun (turn c.known)
+    → ((b : Mailbox) (x : Payload) → Fits b c.known x → Fits b (turn c.known) x)
+    → CountedBy c.fills c.empties (turn c.known) → PlainRun (turn c.known)
     → Facts g boxes homes c → Facts g boxes homes (with_known turn c)
-knows_facts g boxes homes c turn same stands fits ran f = record {
+knows_facts g boxes homes c turn same stands fits counted ran f = record {
   generation = same ∙ f.generation;
   sized = record { hands = f.sized.hands; has_slot = f.sized.has_slot; fills = f.sized.fills; empties = f.sized.empties };
   six = f.six;
   laid = f.laid;
   boxed = f.boxed;
   fitting = λ b z e. last_fits z.last (Fits b c.known) (Fits b (turn c.known)) (fits b) (f.fitting b z e);
+  counted = counted;
   stands = stands;
   ran = ran;
 }
@@ -87,11 +89,12 @@ module _ (g : ℕ) (s : Table) (r : Rule g s) (id : ℕ) (me : Mine) (at : get_e
   }
 
   word_goes : (n : Who) (i : ℕ) (f : ℕ → ℕ) (told : ℕ → Mine → Type 0) (turn : Knowledge → Knowledge) → has me.0 n → Local n turn
-      → Stands (turn k) → ((b : Mailbox) (x : Payload) → Fits b k x → Fits b (turn k) x) → PlainStep k (turn k)
+      → Stands (turn k) → ((b : Mailbox) (x : Payload) → Fits b k x → Fits b (turn k) x)
+      → CountedBy r.core.fills r.core.empties (turn k) → PlainStep k (turn k)
       → set words i (f (get_or words i 0)) ≡ words_of (turn k) ++ r.boxes
       → told (get_or words i 0) (with_core me.0 (with_known turn me.0.core), me.1)
       → Goes g s.words s.homes s.views i id me f told
-  word_goes n i f told turn mine l stands fits step change tells = subst (λ x. Goes g x s.homes s.views i id me f told) (sym r.words) (
+  word_goes n i f told turn mine l stands fits counted step change tells = subst (λ x. Goes g x s.homes s.views i id me f told) (sym r.words) (
     with_core me.0 (with_known turn me.0.core),
     keeps,
     tt,
@@ -103,7 +106,8 @@ module _ (g : ℕ) (s : Table) (r : Rule g s) (id : ℕ) (me : Mine) (at : get_e
       seats = λ t. steps s.views r.core (with_known turn r.core) n t r.at id me.0 (with_known turn me.0.core) r.seats at mine
           (knows_both n t turn l me.0.core r.core (own g s r id me.0 at n mine).known)
           (λ z ne e. knows_rest n t turn l z r.core ne e);
-      facts = knows_facts g r.boxes s.homes r.core turn (l.generation k) stands fits (plain.Goes r.facts.ran step) r.facts;
+      facts = knows_facts g r.boxes s.homes r.core turn (l.generation k) stands fits counted (plain.Goes r.facts.ran step)
+          r.facts;
     },
     tells,
   )
@@ -118,7 +122,7 @@ append_allowed g n id me h p mine holds few may s r deep at _ =
     let count : (length k.primary.list + 1) % 2 ^ 64 ≡ length (k.primary.list ++ p.entry ∷ []) =
     omega (arith, length-append k.primary.list (p.entry ∷ [])) in
     word_goes g s r id me at Primary 0 (λ x. (x + 1) % 2 ^ 64) (appends me) (appended p.entry) mine
-    (on_primary (with_entry p.entry)) st.0 st.1 (plain.Appends p.entry (may_append me.0.core.known k same may))
+    (on_primary (with_entry p.entry)) st.0 st.1 r.facts.counted (plain.Appends p.entry (may_append me.0.core.known k same may))
     (λ i. count i ∷ last_or 0 k.backup.held_values ∷ winner_of k.primary.winner k.backup.winner
     ∷ accepted_after 0 k.terminal.arrivals0 ∷ accepted_after 0 k.terminal.arrivals1 ∷ r.boxes)
     (sym long, refl, λ y q has'. ap (λ (z : Payload). append_as z) (same_load me.1 h y (Log p) (Log q) holds has'))
@@ -134,7 +138,7 @@ see_allowed g n id me none mine s r deep at _ =
     let long : length me.0.core.known.primary.list ≡ length k.primary.list = ap (λ (z : PrimaryView). length z.list) same in
     let seen : me.0.core.known.primary.seen ≡ k.primary.seen = ap (λ (z : PrimaryView). z.seen) same in
     word_goes g s r id me at Primary 1 (λ x. x) (sees me) (saw (last_or 0 k.backup.held_values)) mine
-    (on_primary (λ z. record z { seen = last_or 0 k.backup.held_values })) st.0 st.1
+    (on_primary (λ z. record z { seen = last_or 0 k.backup.held_values })) st.0 st.1 r.facts.counted
     (plain.Sees (asks_same Primary me.0.core.known k same none)) refl (
       refl,
       (let b = r.facts.stands.log.behind in omega arith),
@@ -153,7 +157,7 @@ hold_allowed g n id me x none mine is s r deep at _ =
     let more : max (last_or 0 k.backup.held_values) x ≡ last_or 0 (k.backup.held_values ++ length k.backup.list ∷ []) =
     (let e = hold_word k r.facts.stands in omega arith) in
     word_goes g s r id me at Backup 1 (λ y. max y x) (holds_entries me) held mine
-    (on_backup (λ z. record z { held_values = z.held_values ++ length z.list ∷ [] })) st.0 st.1
+    (on_backup (λ z. record z { held_values = z.held_values ++ length z.list ∷ [] })) st.0 st.1 r.facts.counted
     (plain.Holds (asks_same Backup me.0.core.known k same none))
     (λ i. length k.primary.list ∷ more i ∷ winner_of k.primary.winner k.backup.winner ∷ accepted_after 0 k.terminal.arrivals0
     ∷ accepted_after 0 k.terminal.arrivals1 ∷ r.boxes)
@@ -166,7 +170,7 @@ contest_primary_allowed g n id me none mine s r deep at _ =
     (own g s r id me.0 at Primary mine).known in let st = primary_asks k r.facts.stands in let w : ℕ =
     winner_of k.primary.winner k.backup.winner in
     word_goes g s r id me at Primary 2 (λ x. either (eqb x 0) 1 x) (contests_primary me) (primary_asked w) mine
-    (on_primary (λ z. record z { winner = winner_after 1 w })) st.0.0 st.0.1
+    (on_primary (λ z. record z { winner = winner_after 1 w })) st.0.0 st.0.1 r.facts.counted
     (plain.PrimaryAsks (asks_same Primary me.0.core.known k same none))
     (λ i. length k.primary.list ∷ last_or 0 k.backup.held_values ∷ sym st.1 i ∷ accepted_after 0 k.terminal.arrivals0
     ∷ accepted_after 0 k.terminal.arrivals1 ∷ r.boxes)
@@ -179,7 +183,7 @@ contest_backup_allowed g n id me none mine s r deep at _ =
     (own g s r id me.0 at Backup mine).known in let st = backup_asks k r.facts.stands in let w : ℕ =
     winner_of k.primary.winner k.backup.winner in
     word_goes g s r id me at Backup 2 (λ x. either (eqb x 0) 2 x) (contests_backup me) (backup_asked w) mine
-    (on_backup (λ z. record z { winner = winner_after 2 w })) st.0.0 st.0.1
+    (on_backup (λ z. record z { winner = winner_after 2 w })) st.0.0 st.0.1 r.facts.counted
     (plain.BackupAsks (asks_same Backup me.0.core.known k same none))
     (λ i. length k.primary.list ∷ last_or 0 k.backup.held_values ∷ sym st.1 i ∷ accepted_after 0 k.terminal.arrivals0
     ∷ accepted_after 0 k.terminal.arrivals1 ∷ r.boxes)
@@ -197,7 +201,7 @@ count_allowed g n id me zero x two mine is s r deep at _ =
     let more : max (accepted_after 0 k.terminal.arrivals0) x ≡ accepted_with 0 k =
     (let low = fewer_arrived k.terminal.hand0 k.terminal.arrivals0 in omega arith) in
     word_goes g s r id me at Terminal 3 (λ y. max y x) (counts 0 me) (byte_arrived 0) mine
-    (on_terminal (λ z. record z { arrivals0 = arrives z.hand0 z.arrivals0 })) st.0 st.1 (plain.Counts 0 two)
+    (on_terminal (λ z. record z { arrivals0 = arrives z.hand0 z.arrivals0 })) st.0 st.1 r.facts.counted (plain.Counts 0 two)
     (λ i. length k.primary.list ∷ last_or 0 k.backup.held_values ∷ winner_of k.primary.winner k.backup.winner ∷ more i
     ∷ accepted_after 0 k.terminal.arrivals1 ∷ r.boxes)
     (refl, refl)
@@ -211,7 +215,7 @@ count_allowed g n id me (suc zero) x two mine is s r deep at _ =
     let more : max (accepted_after 0 k.terminal.arrivals1) x ≡ accepted_with 1 k =
     (let low = fewer_arrived k.terminal.hand1 k.terminal.arrivals1 in omega arith) in
     word_goes g s r id me at Terminal 4 (λ y. max y x) (counts 1 me) (byte_arrived 1) mine
-    (on_terminal (λ z. record z { arrivals1 = arrives z.hand1 z.arrivals1 })) st.0 st.1 (plain.Counts 1 two)
+    (on_terminal (λ z. record z { arrivals1 = arrives z.hand1 z.arrivals1 })) st.0 st.1 r.facts.counted (plain.Counts 1 two)
     (λ i. length k.primary.list ∷ last_or 0 k.backup.held_values ∷ winner_of k.primary.winner k.backup.winner
     ∷ accepted_after 0 k.terminal.arrivals0 ∷ more i ∷ r.boxes)
     (refl, refl)
@@ -225,7 +229,7 @@ sees_count_allowed g n id me zero two none mine s r deep at _ =
     (own g s r id me.0 at Primary mine).known in let st = count_stays k r.facts.stands 0 in
     let was : me.0.core.known.primary.counted0 ≡ k.primary.counted0 = ap (λ (z : PrimaryView). z.counted0) same in
     word_goes g s r id me at Primary 3 (λ y. y) (sees_count 0 me) (saw_count 0 (accepted_after 0 k.terminal.arrivals0)) mine
-    (on_primary (λ z. record z { counted0 = accepted_after 0 k.terminal.arrivals0 })) st.0 st.1
+    (on_primary (λ z. record z { counted0 = accepted_after 0 k.terminal.arrivals0 })) st.0 st.1 r.facts.counted
     (plain.SeesCount 0 two (asks_same Primary me.0.core.known k same none)) refl
     (refl, (let b = r.facts.stands.port0.accepted in omega arith), (k, moment g s r id me at Primary mine, refl), refl)
 sees_count_allowed g n id me (suc zero) two none mine s r deep at _ =
@@ -233,7 +237,7 @@ sees_count_allowed g n id me (suc zero) two none mine s r deep at _ =
     (own g s r id me.0 at Primary mine).known in let st = count_stays k r.facts.stands 1 in
     let was : me.0.core.known.primary.counted1 ≡ k.primary.counted1 = ap (λ (z : PrimaryView). z.counted1) same in
     word_goes g s r id me at Primary 4 (λ y. y) (sees_count 1 me) (saw_count 1 (accepted_after 0 k.terminal.arrivals1)) mine
-    (on_primary (λ z. record z { counted1 = accepted_after 0 k.terminal.arrivals1 })) st.0 st.1
+    (on_primary (λ z. record z { counted1 = accepted_after 0 k.terminal.arrivals1 })) st.0 st.1 r.facts.counted
     (plain.SeesCount 1 two (asks_same Primary me.0.core.known k same none)) refl
     (refl, (let b = r.facts.stands.port1.accepted in omega arith), (k, moment g s r id me at Primary mine, refl), refl)
 sees_count_allowed g n id me (suc (suc port)) two none mine s r deep at _ = absurd (omega arith)

@@ -15,11 +15,22 @@ use Rattle.pair_rule.specs.Knowledge.{CanFill, Fits, Replies, accepted_at, after
 abbrev pub first_known : ℕ → Knowledge
 first_known g = record {
   generation = g;
-  primary = record { list = []; seen = 0; winner = 0; counted0 = 0; counted1 = 0; released = []; answers = []; calls = [] };
+  primary =
+      record {
+        list = [];
+        seen = 0;
+        winner = 0;
+        counted0 = 0;
+        counted1 = 0;
+        released = [];
+        asked = 0;
+        answers = [];
+        calls = [];
+      };
   link = None;
   backup = record { list = []; held_values = []; winner = 0 };
   terminal = record { arrivals0 = []; arrivals1 = []; hand0 = None; hand1 = None };
-  disk = record { taken = None; puts = []; given = [] };
+  disk = record { taken = None; takes = 0; puts = []; given = [] };
 }
 
 -- a seat that has asked the arbiter makes no further step

@@ -14,15 +14,12 @@ use Rattle.pair_rule.specs.Boxes.{box_index, Who, Primary, Link, Backup, Termina
 use Rattle.pair_rule.specs.declared.payload.Packet.{Packet}
 use Rattle.pair_rule.specs.declared.payload.Payload.TheVariants.{Log}
 use Rattle.pair_rule.specs.Knowledge.{Fits, accepted_at, last_or, winner_of, after_fill, after_empty, appended, saw, held, primary_asked, backup_asked, byte_arrived, saw_count}
-use Rattle.pair_rule.specs.Rules.{Moment, new_side, first_view}
+pub use Rattle.pair_rule.specs.Rules.{side_at}
+use Rattle.pair_rule.specs.Rules.{Moment, first_view}
 
 -- what a step finds and leaves with its seat: a view, and the slots that it holds
 abbrev pub Mine : Type 0
 Mine = Me (Option Payload) SeatView
-
--- the side of a box, in the list of all
-abbrev pub side_at : List Side → ℕ → Side
-side_at sides b = slice_index_or sides b new_side
 
 -- the core after a box was filled in which this word was found
 abbrev pub filled : Mailbox → Payload → ℕ → Core → Core

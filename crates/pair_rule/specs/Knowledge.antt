@@ -180,15 +180,24 @@ with_entry e p = record p {
   calls = Appended p.list p.counted0 p.counted1 p.answers e ∷ p.calls;
 }
 
+-- how often the disk was asked, after a release: a write is released by a request
+abbrev pub asked_after : Operation → ℕ → ℕ
+asked_after (Byte port number byte) n = n
+asked_after (Write w) n = n + 1
+
 abbrev pub with_release : Operation → PrimaryView → PrimaryView
-with_release o p = record p { released = p.released ++ o ∷ []; calls = Released p.list p.seen o ∷ p.calls }
+with_release o p = record p {
+  released = p.released ++ o ∷ [];
+  asked = asked_after o p.asked;
+  calls = Released p.list p.seen o ∷ p.calls;
+}
 
 abbrev pub calls_by : DiskRequest → PrimaryView → List PrimaryCall
 calls_by (ask.Write w) p = Released p.list p.seen (Write w) ∷ p.calls
 calls_by (ask.Read a) p = p.calls
 
 abbrev pub with_request : DiskRequest → PrimaryView → PrimaryView
-with_request r p = record p { released = released_by p.released r; calls = calls_by r p }
+with_request r p = record p { released = released_by p.released r; asked = p.asked + 1; calls = calls_by r p }
 
 -- what the seat that fills a box knows then
 abbrev pub after_fill : Mailbox → Payload → Knowledge → Knowledge
@@ -209,7 +218,7 @@ after_empty Outbox (Log p) k = record k { link = Some p }
 after_empty Inbox (Log p) k = record k { backup = record k.backup { list = grown k.backup.list p } }
 after_empty Bytes0 (Out o) k = record k { terminal = record k.terminal { hand0 = Some o } }
 after_empty Bytes1 (Out o) k = record k { terminal = record k.terminal { hand1 = Some o } }
-after_empty Requests (Request r) k = record k { disk = record k.disk { taken = Some r } }
+after_empty Requests (Request r) k = record k { disk = record k.disk { taken = Some r; takes = k.disk.takes + 1 } }
 after_empty Answers (Answer a) k = record k { primary = record k.primary { answers = k.primary.answers ++ a ∷ [] } }
 after_empty _ _ k = k
 

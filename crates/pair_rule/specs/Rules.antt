@@ -1,9 +1,10 @@
 -- The rule of the table.
-use Rattle.std.specs.Prelude.{◌≡◌, ℕ, true, false, List, [], ◌∷◌, ◌++◌, length, Option, None}
+use Rattle.std.specs.Prelude.{◌≡◌, ℕ, ◌≤◌, true, false, List, [], ◌∷◌, ◌++◌, length, slice_index_or, Option, None}
 use mathlib.Core.Option.{some}
 use lib.ListN.{get_elem?}
 use Rattle.atomic_table.specs.Table.{State}
 use Rattle.pair_rule.specs.declared.mailbox.Mailbox.{Mailbox}
+use Rattle.pair_rule.specs.declared.mailbox.Mailbox.TheVariants.{Requests, Answers}
 use Rattle.pair_rule.specs.declared.payload.Payload.{Payload}
 use Rattle.pair_rule.specs.declared.view.Side.{Side}
 use Rattle.pair_rule.specs.declared.view.Knowledge.{Knowledge}
@@ -54,6 +55,27 @@ pub record Has (views : List SeatView) (core : Core) (s : Who) (at : ℕ) : Type
   pub here : (v : SeatView) × (get_elem? views at ≡ some v) × has v s
   pub only : (j : ℕ) (v : SeatView) → get_elem? views j ≡ some v → has v s → (j ≡ at) × Same s v.core core
 
+-- a side before any swap
+abbrev pub new_side : Side
+new_side = side 0 0 None
+
+-- the side of a box, in the list of all
+abbrev pub side_at : List Side → ℕ → Side
+side_at sides b = slice_index_or sides b new_side
+
+-- the primary has swapped once for each request, and the disk once for each answer; who takes them has met no fewer swaps
+-- than it has taken
+pub record Counted (fills empties : List Side) (asked takes given answers : ℕ) : Type 0 where
+  pub asked_is : (side_at fills (box_index Requests)).number ≡ asked
+  pub taken : takes ≤ (side_at empties (box_index Requests)).met
+  pub given_is : (side_at fills (box_index Answers)).number ≡ given
+  pub came : answers ≤ (side_at empties (box_index Answers)).met
+
+-- so it is by what is known
+abbrev pub CountedBy : List Side → List Side → Knowledge → Type 0
+CountedBy fills empties k =
+    Counted fills empties k.primary.asked k.disk.takes (length k.disk.given) (length k.primary.answers)
+
 -- the rule without the seats: over words, slots and the core
 pub record Facts (g : ℕ) (boxes : List ℕ) (homes : Homes) (c : Core) : Type 0 where
   pub generation : c.known.generation ≡ g
@@ -62,6 +84,7 @@ pub record Facts (g : ℕ) (boxes : List ℕ) (homes : Homes) (c : Core) : Type 
   pub laid : Laid boxes c.hands c.has_slot homes
   pub boxed : Boxes boxes homes c.fills c.empties
   pub fitting : (b : Mailbox) (f : Side) → get_elem? c.fills (box_index b) ≡ some f → WhereSome f.last (Fits b c.known)
+  pub counted : CountedBy c.fills c.empties c.known
   pub stands : Stands c.known
   pub ran : PlainRun c.known
 
@@ -73,10 +96,6 @@ pub record Rule (g : ℕ) (s : State (Option Payload) SeatView) : Type 0 where
   pub at : Who → ℕ
   pub seats : (n : Who) → Has s.views core n (at n)
   pub facts : Facts g boxes s.homes core
-
--- a side before any swap
-abbrev pub new_side : Side
-new_side = side 0 0 None
 
 -- the core at the start, and the view that has all of it
 abbrev pub first_core : ℕ → Core

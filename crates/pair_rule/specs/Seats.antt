@@ -173,7 +173,8 @@ Empties b None old new =
     ((r : ℕ) × (new ≡ found_empty b r old)) × (swaps_at new.empties b ≡ swaps_at old.empties b + 1)
     × (met_at new.empties b ≡ met_at old.empties b)
 
--- the words, and what the seats know, are those of one moment, to which the steps of the table led
+-- the words, and what the seats know, are those of one moment, to which the steps of the table led; the disk has taken no
+-- more requests than were made, and the primary no more answers than were given
 pub record Settled (primary : PrimaryView) (backup : BackupView) (terminal : TerminalView) (disk : DiskView)
     (tail held winner : ℕ) : Type 0 where
   pub known : Knowledge
@@ -186,3 +187,5 @@ pub record Settled (primary : PrimaryView) (backup : BackupView) (terminal : Ter
   pub tail_is : tail ≡ length primary.list
   pub held_is : held ≡ last_or 0 backup.held_values
   pub winner_is : winner ≡ winner_of primary.winner backup.winner
+  pub taken : known.disk.takes ≤ known.primary.asked
+  pub came : length known.primary.answers ≤ length known.disk.given

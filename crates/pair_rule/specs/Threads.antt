@@ -50,6 +50,7 @@ knew list seen counted0 counted1 answers = record (first_known 0) {
     counted0 = counted0;
     counted1 = counted1;
     released = [];
+    asked = 0;
     answers = answers;
     calls = [];
   };

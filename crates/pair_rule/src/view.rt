@@ -35,7 +35,7 @@ pub enum PrimaryCall {
     },
 }
 
-/// What the primary knows, and its calls that promise something, the last one first.
+/// What the primary knows, how often it has asked the disk, and its calls that promise something, the last one first.
 pub struct PrimaryView {
     pub list: LinkedList<Entry>,
     pub seen: u64,
@@ -43,6 +43,7 @@ pub struct PrimaryView {
     pub counted0: u64,
     pub counted1: u64,
     pub released: LinkedList<Operation>,
+    pub asked: u64,
     pub answers: LinkedList<DiskAnswer>,
     pub calls: LinkedList<PrimaryCall>,
 }
@@ -62,9 +63,11 @@ pub struct TerminalView {
     pub hand1: Option<Operation>,
 }
 
-/// What the disk knows: the request that was taken last, the writes that it answered, and all its answers.
+/// What the disk knows: the request that was taken last, how many it has taken, the writes that it answered, and all its
+/// answers.
 pub struct DiskView {
     pub taken: Option<DiskRequest>,
+    pub takes: u64,
     pub puts: LinkedList<SectorWrite>,
     pub given: LinkedList<DiskAnswer>,
 }

@@ -1,7 +1,7 @@
 -- How a generation ends, by who goes on alone. The guests run as the machine that boots where they began; if nobody has
 -- asked to go on alone, the primary has seen all its entries acknowledged, so the backup has them all; whoever the table
 -- names as the winner has won.
-use Rattle.std.proofs.Common.{◌≡◌, ◌⊎◌, inl, inr, ℕ, zero, suc, ◌<◌, ◌≤◌, Bool, true, false, List, [], ◌∷◌, ◌++◌, length, map, take, Option, Some, None, refl, sym, ap, subst, ◌∙◌, arith, length-append, append-nil, vec_len, Vec, Global}
+use Rattle.std.proofs.Common.{◌≡◌, ◌⊎◌, inl, inr, ℕ, zero, suc, ◌+◌, ◌<◌, ◌≤◌, Bool, true, false, cond, List, [], ◌∷◌, ◌++◌, length, map, take, Option, Some, None, refl, sym, ap, subst, ◌∙◌, arith, length-append, append-nil, vec_len, Vec, Global}
 use Rattle.std.specs.Prelude.{Result, Ok, Err, IsOk, OnOk}
 use Rattle.std.proofs.Math.Seq.{take-length}
 use Rattle.std.proofs.lemmas.Bool.{false≢true}
@@ -134,7 +134,7 @@ module _ {B S : Type 0} (state : B → S) (N : Machine S) (counts : Counts N) (l
     (terminal : TerminalView) (disk : DiskView) (tail held winner : ℕ)
     (settled : Settled p.seat.core.known.primary b.seat.core.known.backup terminal disk tail held winner)
     (records : List Record) (leads : WorkerLeads state N boot p) (at : IsAt state N boot b.guest)
-    (store : IsStore (bytes_in first) records disk) (contested : Bool) (rests : contested ≡ false → IsAtRest p)
+    (store : IsStore (bytes_in first) records disk) (contested : Bool) (rests : contested ≡ false → IsAtRest state N p)
     (repeated : (contested ≡ false) ⊎ (b.seat.core.known.backup.winner ≡ 2) → b.guest.replayed ≡ vec_len b.guest.list) where
   abbrev M : Machine S
   M = booted_from N boot (bytes_in first)
@@ -163,7 +163,7 @@ module _ {B S : Type 0} (state : B → S) (N : Machine S) (counts : Counts N) (l
   less1 : p.port1.accepted ≤ primary.counted1
   less1 = (let a = p.accepted.1 in let b = p.saw_counted.1 in omega (arith, a, b))
 
-  seen : IsAtRest p → primary.seen ≡ length primary.list
+  seen : IsAtRest state N p → primary.seen ≡ length primary.list
   seen rest = sym p.saw ∙ rest.acknowledged ∙ ap length p.same
 
   -- the primary is alone
@@ -188,7 +188,7 @@ module _ {B S : Type 0} (state : B → S) (N : Machine S) (counts : Counts N) (l
       (state b.guest.board) (repeats all)
 
   -- nobody is
-  both_well : IsAtRest p → b.guest.replayed ≡ vec_len b.guest.list
+  both_well : IsAtRest state N p → b.guest.replayed ≡ vec_len b.guest.list
       → EndsWell M p.port0.typed.items p.port1.typed.items primary.list screens records (state p.guest.board)
       (state b.guest.board)
   both_well rest all = well M lawful (Counts-booted N boot (bytes_in first) counts)
@@ -196,7 +196,7 @@ module _ {B S : Type 0} (state : B → S) (N : Machine S) (counts : Counts N) (l
       p.guest.waiting p.guest.given.items (state p.guest.board) known p.port0.typed.items p.port1.typed.items
       p.port0.taken p.port1.taken p.port0.accepted p.port1.accepted leads.2 less0 less1 records store
       rest.none_waits rest.none (seen rest) (rest.all0 ∙ how_long p.port0.typed) (rest.all1 ∙ how_long p.port1.typed)
-      (leads.1 rest.idle) (state b.guest.board) (repeats all)
+      (leads.1 rest.idle) rest.no_sector (state b.guest.board) (repeats all)
 
   by_winner : (goes : Option Who) → goes ≡ winner_named winner → (goes ≡ None → contested ≡ false)
       → EndsBy M p.port0.typed.items p.port1.typed.items goes primary.list backup.list held screens records
@@ -237,6 +237,19 @@ module _ {B S : Type 0} (state : B → S) (N : Machine S) (counts : Counts N) (l
       (state p.guest.board) (state b.guest.board)) (sym p.same)
       (subst (λ l. EndsBy M p.port0.typed.items p.port1.typed.items goes primary.list l held screens records
       (state p.guest.board) (state b.guest.board)) (sym b.same) (by_winner goes is quiet))
+
+-- ---- what was asked of the disk
+
+-- a primary that asks nothing has all answers
+pub all_came : {B : Type 0} (p : PrimaryWorker B) → p.asked ≡ false
+    → p.seat.core.known.primary.asked ≤ length p.seat.core.known.primary.answers
+all_came p none = few p.asked none p.requests
+  where
+    few : (asked : Bool) → asked ≡ false
+        → p.seat.core.known.primary.asked ≤ length p.seat.core.known.primary.answers + cond asked 1 0
+        → p.seat.core.known.primary.asked ≤ length p.seat.core.known.primary.answers
+    few false is le = (let l = le in omega (arith, l))
+    few true is le = absurd cc
 
 -- ---- what the workers are taken apart into
 

@@ -36,7 +36,7 @@ use Rattle.pair_rule.specs.Knowledge.{HasWrite, IsReplied, StartsWith, read_at}
 use Rattle.pair_rule.specs.Seats.{Settled}
 use Rattle.pair_rule.specs.Shown.{arrival_of}
 use Rattle.pair_rule.proofs.ShownGuards.{all_in}
-use Rattle.pair_threads.specs.Ending.{EndsAlone, EndsWell, IsTraceOf, IsWhereItLeads}
+use Rattle.pair_threads.specs.Ending.{EndsAlone, EndsWell, IsTraceOf, IsWhereItLeads, NoSectorIsDue}
 use Rattle.pair_threads.specs.Leading.{Leads, Says, by_port, with_waiting}
 use Rattle.pair_threads.specs.Repeating.{Repeats}
 use Rattle.pair_threads.specs.Stores.{IsFirst, IsStore}
@@ -256,13 +256,14 @@ module _ {S : Type 0} (M : Machine S) (lawful : Lawful M) (counts : Counts M) (l
         (ap (acceptances port) (sym (inputs_of-entries Logged 0 leads.moves) ∙ ap inputs_of are) ∙ said) less le
 
   pub well : waiting ≡ None → names ≡ [] → primary.seen ≡ length primary.list → n0 ≡ length typed0 → n1 ≡ length typed1
-      → step_refusal M s ≡ Some Idle → (t : S) → Repeats M M.boot backup.list false t
+      → step_refusal M s ≡ Some Idle → NoSectorIsDue M s → (t : S) → Repeats M M.boot backup.list false t
       → EndsWell M typed0 typed1 primary.list screens records s t
-  well none_waits none seen is0 is1 idle t repeats = record {
+  well none_waits none seen is0 is1 idle no_sector t repeats = record {
     trace = leads.moves;
     is = all_of_it M lawful leads.moves s runs owned primary.list (are ∙ whole none_waits none);
     idle = idle;
     none = free none_waits none;
+    no_sector = no_sector;
     keys0 = all_keys 0 n0 typed0 all primary.list (whole none_waits none) (says.keys_are 0) is0;
     keys1 = all_keys 1 n1 typed1 all primary.list (whole none_waits none) (says.keys_are 1) is1;
     outputs = (

@@ -18,7 +18,7 @@ use Rattle.guest_lockstep.specs.declared.running.StopReason.TheVariants as reaso
 use Rattle.guest_lockstep.specs.declared.running.Stopped.{Stopped}
 use Rattle.guest_lockstep.specs.declared.reads.Reads.TheVariants.{Logged}
 use Rattle.i8080_words.specs.declared.refusal.Fault.{Fault}
-use Rattle.i8080_words.specs.declared.refusal.Fault.TheVariants.{Idle}
+use Rattle.i8080_words.specs.declared.refusal.Fault.TheVariants.{Idle, OutOfMemory}
 use Rattle.guest_lockstep.specs.declared.input.Input.{Input}
 use Rattle.guest_lockstep.specs.declared.input.Input.TheVariants as input
 use Rattle.guest_trace.specs.Reach.{operations, steps}
@@ -290,6 +290,18 @@ idles_there M s t turns _ (AllTurns q) is = absurd cc
 idles_there M s t turns _ (Gives lt q allowed made) is = absurd cc
 idles_there M s t turns _ (IsRefused lt q) is =
     fault_idles (step_refusal M t) (let e : fault_of (step_refusal M t) ≡ Idle = cc in e)
+
+-- a guest that was refused a step is out of memory, or refuses it itself
+fault_is : (o : Option Fault) (fault : Fault) → fault_of o ≡ fault → (fault ≡ OutOfMemory) ⊎ (o ≡ Some fault)
+fault_is None fault is = inl (sym is)
+fault_is (Some f) fault is = inr (ap Some is)
+
+pub refused_there : {S : Type 0} (M : Machine S) (s t : S) (turns : ℕ) (r : Stopped) (fault : Fault) → RunsOn M s turns r t
+    → r.reason ≡ reason.Refused fault → (fault ≡ OutOfMemory) ⊎ (step_refusal M t ≡ Some fault)
+refused_there M s t turns _ fault (AllTurns q) is = absurd cc
+refused_there M s t turns _ fault (Gives lt q allowed made) is = absurd cc
+refused_there M s t turns _ fault (IsRefused lt q) is =
+    fault_is (step_refusal M t) fault (let e : fault_of (step_refusal M t) ≡ fault = cc in e)
 
 -- ---- an entry of a list, by its index
 

@@ -8,6 +8,7 @@ pub mod Views
 pub mod KeptCalls
 pub mod Ports
 pub mod OneMoment
+pub mod Due
 pub mod AtRest
 pub mod Delivered
 pub mod FirstEntries

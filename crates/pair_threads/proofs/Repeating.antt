@@ -1,16 +1,21 @@
 -- The guest of a backup's worker: entries that arrive leave what it has repeated as it was; steps towards an entry keep it,
 -- and the entry's own move adds the entry.
-use Rattle.std.proofs.Common.{◌≡◌, ℕ, suc, ◌+◌, ◌<◌, ◌≤◌, Bool, true, false, Ok, List, [], ◌∷◌, ◌++◌, length, take, get_or, refl, sym, ap, subst, ◌∙◌, arith}
+use Rattle.std.proofs.Common.{◌≡◌, ◌⊎◌, inl, inr, ℕ, zero, suc, ◌+◌, ◌<◌, ◌≤◌, Bool, true, false, Option, Some, None, Ok, Err, List, [], ◌∷◌, ◌++◌, length, take, get_or, refl, sym, ap, subst, ◌∙◌, arith}
+use Rattle.std.specs.Prelude.{is_some, slice_get}
 use Rattle.std.proofs.Math.Seq.{take-suc}
 use Rattle.std.proofs.lemmas.List.{take-append-le}
+use Rattle.guest_lockstep.specs.Lockstep.{StepsUnless, step_refusal}
 use Rattle.guest_lockstep.specs.Machine.{Machine}
 use Rattle.guest_lockstep.specs.Recorded.{Counts}
+use Rattle.i8080_words.specs.declared.refusal.Fault.{Fault}
+use Rattle.i8080_words.specs.declared.refusal.Fault.TheVariants.{OutOfMemory}
 use Rattle.log_entry.specs.Entries.{count_of, last_count}
 use Rattle.log_entry.specs.declared.entry.Entry.{Entry}
 use Rattle.replayer.specs.Following.{Follows, Reaches}
 use Rattle.replayer.specs.declared.following.Followed.TheVariants.{Stepped}
 use Rattle.replayer.proofs.FollowedEntries.{following_is_recording}
-use Rattle.pair_threads.specs.Repeating.{Repeats}
+use Rattle.pair_threads.specs.Repeating.{IsStuck, Repeats}
+use Rattle.pair_threads.specs.declared.repeater.Repeater.{Repeater}
 
 last_more : (count : ℕ) (list : List Entry) (e : Entry) → last_count count (list ++ e ∷ []) ≡ count_of e
 last_more count [] e = refl
@@ -47,3 +52,19 @@ pub one_more : (list : List Entry) (replayed : ℕ) (e : Entry) → replayed < l
 one_more list replayed e within is =
     let next : replayed + 1 ≡ suc replayed = omega arith in
     ap (λ n. take n list) next ∙ take-suc list replayed e within ∙ ap (λ z. take replayed list ++ z ∷ []) (sym is)
+
+-- the entry at an index
+pub entry_at : (list : List Entry) (i : ℕ) (e : Entry) → i < length list → e ≡ get_or list i e → slice_get list i ≡ Some e
+entry_at [] i e within is = absurd (omega (arith, within))
+entry_at (x ∷ list) zero e within is = ap Some (sym is)
+entry_at (x ∷ list) (suc i) e within is = entry_at list i e (let w = within in omega (arith, w)) is
+
+-- a guest that is refused a step is out of memory, or stuck
+pub refused_there : {B S : Type 0} (state : B → S) (M : Machine S) (r : Repeater B) (e : Entry) (turns : ℕ) (fault : Fault) (t : S)
+    → Follows M (state r.board) e turns (Err fault) t → (fault ≡ OutOfMemory) ⊎ IsStuck state M r
+refused_there state M r e turns fault t follows = go (step_refusal M (state r.board)) refl follows.2
+  where
+    go : (o : Option Fault) → step_refusal M (state r.board) ≡ o
+        → StepsUnless M (state r.board) o (Err fault) (state r.board) → (fault ≡ OutOfMemory) ⊎ IsStuck state M r
+    go None is unless = inl unless.0
+    go (Some other) is unless = inr (inr (ap is_some is))

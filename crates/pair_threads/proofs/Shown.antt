@@ -1,6 +1,6 @@
 -- What the workers end with is what steps of the threads led to: the table has its steps, and each worker kept what its calls
 -- promise.
-use Rattle.std.proofs.Common.{◌≡◌, ◌≤◌, ℕ, List, [], ◌∷◌, map, take, Option, refl, sym, ap, subst, ◌∙◌}
+use Rattle.std.proofs.Common.{◌≡◌, ◌≤◌, ℕ, List, [], ◌∷◌, length, map, take, Option, None, refl, sym, ap, subst, ◌∙◌, arith}
 use Rattle.guest_lockstep.specs.Machine.{Machine, booted_from}
 use Rattle.guest_lockstep.specs.declared.reads.Reads.TheVariants.{Logged}
 use Rattle.guest_lockstep.proofs.Booted.{Recorded-booted}
@@ -28,7 +28,7 @@ use Rattle.pair_rule.proofs.Threads.{runs_shown}
 use Rattle.pair_threads.specs.declared.backup.BackupWorker.{BackupWorker}
 use Rattle.pair_threads.specs.declared.gate.Who.{Who}
 use Rattle.pair_threads.specs.declared.primary.PrimaryWorker.{PrimaryWorker}
-use Rattle.pair_threads.specs.Ending.{winner_named}
+use Rattle.pair_threads.specs.Ending.{NoneUnderWay, winner_named}
 use Rattle.pair_threads.specs.Leading.{with_waiting}
 use Rattle.pair_threads.specs.Primary.{WorkerKeeps, WorkerLeads}
 use Rattle.pair_threads.specs.Repeating.{IsAt}
@@ -44,6 +44,9 @@ module _ {B S : Type 0} (state : B → S) (N : Machine S) (boot : S)
     (at : IsAt state N boot b.guest) (store : IsStore (bytes_in first) records disk) where
   abbrev M : Machine S
   M = booted_from N boot (bytes_in first)
+
+  abbrev primary : PrimaryView
+  primary = p.seat.core.known.primary
 
   abbrev screens : List (List ℕ)
   screens = accepted_after 0 (map arrival_of terminal.arrivals0) ∷ accepted_after 0 (map arrival_of terminal.arrivals1) ∷ []
@@ -68,10 +71,26 @@ module _ {B S : Type 0} (state : B → S) (N : Machine S) (boot : S)
   there : IsStore (bytes_in first) records settled.known.disk
   there = subst (IsStore (bytes_in first) records) (sym settled.disk_is) store
 
+  -- what was asked was answered, if the disk has answered what it took, and its answers came
+  under_way : primary.asked ≤ length primary.answers → length disk.given ≤ disk.takes → NoneUnderWay settled.known
+  under_way few served =
+      let asked : settled.known.primary.asked ≤ length settled.known.primary.answers =
+      subst (λ (v : PrimaryView). v.asked ≤ length v.answers) (sym settled.primary_is) few in
+      let given : length settled.known.disk.given ≤ settled.known.disk.takes =
+      subst (λ (d : DiskView). length d.given ≤ d.takes) (sym settled.disk_is) served in
+      let taken = settled.taken in
+      let came = settled.came in
+      record {
+        taken = omega (arith, asked, given, taken, came);
+        answered = omega (arith, asked, given, taken, came);
+        came = omega (arith, asked, given, taken, came);
+      }
+
   pub of_run : (goes : Option Who) → goes ≡ winner_named winner
+      → (goes ≡ None → primary.asked ≤ length primary.answers) → length disk.given ≤ disk.takes
       → IsOfRun M p.port0.typed.items p.port1.typed.items goes p.list.items b.guest.list.items held screens records
       (state p.guest.board) (state b.guest.board)
-  of_run goes is = record {
+  of_run goes is rests served = record {
     known = settled.known;
     run = ran;
     shown = λ C may copies. runs_shown (λ M C w new e r row. row_changes M C w new e r row)
@@ -99,6 +118,7 @@ module _ {B S : Type 0} (state : B → S) (N : Machine S) (boot : S)
       recorded = Recorded-booted N boot (bytes_in first) boot (state b.guest.board) at.ran.moves at.ran.runs;
       entries_are = ap (λ c. entries Logged c at.ran.moves) (sym zero_at) ∙ at.ran.entries_are;
     };
+    quiet = λ none. under_way (rests none) served;
   }
 
 -- so of what the workers are taken apart into

@@ -1,5 +1,5 @@
 -- What each call of its seat leaves of a primary's view, and that its guest still leads under it.
-use Rattle.std.proofs.Common.{◌≡◌, ℕ, zero, suc, ◌≤◌, inl, inr, List, [], ◌∷◌, ◌++◌, length, Some, None, refl, sym, ap, subst, ◌∙◌, arith, eqb, true, Option}
+use Rattle.std.proofs.Common.{◌≡◌, ℕ, zero, suc, ◌+◌, ◌≤◌, inl, inr, List, [], ◌∷◌, ◌++◌, length, Some, None, refl, sym, ap, subst, ◌∙◌, arith, eqb, true, Option}
 use Rattle.std.specs.Prelude.{◌-◌, IsSome, slice_get}
 use Rattle.std.specs.Option.{option_eq}
 use Rattle.disk_dcdd.specs.declared.address.SectorAddress.{SectorAddress}
@@ -73,7 +73,7 @@ module _ (old new : Core) where
   emitted (suc port) o f = ap (λ (c : Core). c.known.primary) f.0.1
 
   pub asked_read : (a : SectorAddress) → Fills Requests (Request (ask.Read a)) old new
-      → new.known.primary ≡ old.known.primary
+      → new.known.primary ≡ record old.known.primary { asked = old.known.primary.asked + 1 }
   asked_read a f = ap (λ (c : Core). c.known.primary) f.0.1
 
   pub asked_write : (w : SectorWrite) → Fills Requests (Request (ask.Write w)) old new
@@ -148,6 +148,9 @@ module _ {B S : Type 0} (state : B → S) (M : Machine S) (boot : S) (view : Pri
 
   pub counts_at1 : (n : ℕ) → IsLeading state M boot (record view { counted1 = n }) taken accepted guest
   counts_at1 n = same_leads (record view { counted1 = n }) refl refl refl refl
+
+  pub asks_disk : (n : ℕ) → IsLeading state M boot (record view { asked = n }) taken accepted guest
+  asks_disk n = same_leads (record view { asked = n }) refl refl refl refl
 
   pub asks_alone : (n : ℕ) → IsLeading state M boot (record view { winner = n }) taken accepted guest
   asks_alone n = same_leads (record view { winner = n }) refl refl refl refl
@@ -289,8 +292,11 @@ module _ {B S : Type 0} (state : B → S) (M : Machine S) (counts : Counts M) (l
       counts laws (id.Write w.number) (Write w) may.0 may.1 (sym old.saw ∙ may.2 ∙ ap length old.same))
       (λ boot leads kept. release_promised state M counts old boot leads kept (Write w) may.0 may.1 may.2)
   asks (ask.Read a) may fills =
-      works_on state M old seat old.seat.core.known.primary table (asked_read old.seat.core seat.core a fills) refl
-      (λ boot taken accepted leads. leads) (λ boot leads kept. kept)
+      works_on state M old seat
+      (record old.seat.core.known.primary { asked = old.seat.core.known.primary.asked + 1 }) table
+      (asked_read old.seat.core seat.core a fills) refl
+      (λ boot taken accepted leads. asks_disk state M boot old.seat.core.known.primary taken accepted old.guest leads
+      counts laws (old.seat.core.known.primary.asked + 1)) (λ boot leads kept. kept)
 
 -- ---- what a worker is to the one that began
 

@@ -1,6 +1,12 @@
 -- What the workers choose: what comes next, how much of it, and when.
-use Rattle.std.specs.Prelude.{◌≡◌, ℕ, zero, suc, ◌+◌, ◌-◌, ◌/◌, ◌%◌, ◌^◌, ◌==◌, ◌||◌, nat_lt, nat_le, min, Bool, true, false, if◌then◌else◌, Option, Some, None, is_some, option_and_then, Result, Ok, Err, vec_len, length}
+use Rattle.std.specs.Prelude.{◌≡◌, ℕ, zero, suc, ◌+◌, ◌-◌, ◌/◌, ◌%◌, ◌^◌, ◌==◌, ◌||◌, nat_lt, nat_le, min, Bool, true, false, if◌then◌else◌, Option, Some, None, is_some, option_and_then, Result, Ok, Err, List, vec_len, length}
+use Rattle.std.specs.List.{find}
 use Rattle.disk_dcdd.specs.declared.address.SectorAddress.{SectorAddress}
+use Rattle.disk_dcdd.specs.declared.sector.SectorWrite.{SectorWrite}
+use Rattle.event_callbacks.specs.declared.operations.OpId.{OpId}
+use Rattle.event_callbacks.specs.declared.operations.OpId.TheVariants as id
+use Rattle.event_callbacks.specs.declared.operations.Operation.{Operation}
+use Rattle.event_callbacks.specs.declared.operations.Operation.TheVariants.{Byte, Write}
 use Rattle.guest_lockstep.specs.Machine.{Machine, sector_refusal}
 use Rattle.i8080_words.specs.declared.refusal.Fault.{Fault}
 use Rattle.i8080_words.specs.declared.refusal.Fault.TheVariants.{OutOfMemory, SectorBusy, StaleRead, Stalled}
@@ -9,6 +15,8 @@ use Rattle.pair_threads.specs.declared.chore.Chore.TheVariants.{See, Emit, Count
 use Rattle.pair_threads.specs.declared.gate.Who.{Who}
 use Rattle.pair_threads.specs.declared.gate.Who.TheVariants.{Primary, Backup}
 use Rattle.pair_threads.specs.declared.primary.PrimaryWorker.{PrimaryWorker}
+use Rattle.pair_threads.specs.declared.worker.Turn.{Turn}
+use Rattle.pair_threads.specs.declared.worker.Turn.TheVariants.{Moved, Looks, Waits}
 
 -- the rotation of a primary's chores
 abbrev pub next_chore : Chore → Chore
@@ -22,6 +30,18 @@ next_chore Answer = Complete
 next_chore Complete = Post
 next_chore Post = Run
 next_chore Run = See
+
+-- what a turn is after a chore that changed something or nothing: after nothing a primary looks for something else at once;
+-- but after twenty such turns in a row, which are two rotations, it waits after the last chore of each
+abbrev pub turn_after : Bool → ℕ → Chore → Turn
+turn_after true fruitless chore = Moved
+turn_after false fruitless Run = if nat_le 20 fruitless then Waits else Looks
+turn_after false fruitless chore = Looks
+
+-- how many turns have then changed nothing in a row
+abbrev pub fruitless_after : Bool → ℕ → ℕ
+fruitless_after true fruitless = 0
+fruitless_after false fruitless = if nat_lt fruitless 20 then fruitless + 1 else fruitless
 
 -- a track has 32 sectors, one after another
 abbrev pub next_sector : ℕ → ℕ
@@ -39,6 +59,18 @@ abbrev pub due_sector : {S : Type 0} → Machine S → S → ℕ → Option (Sec
 due_sector M s sector =
     option_and_then (λ drive. due_by (sector_refusal M s (M.address s drive sector) 0) (M.address s drive sector)) (M.selected s)
 
+-- the oldest write, by the names of the operations in order
+abbrev pub is_write : OpId → Bool
+is_write (id.Write number) = true
+is_write (id.Byte port number) = false
+
+abbrev pub written : Operation → Option SectorWrite
+written (Write w) = Some w
+written (Byte port number byte) = None
+
+abbrev pub due_write : {S : Type 0} → Machine S → S → List OpId → Option SectorWrite
+due_write M s names = option_and_then written (option_and_then (M.find s) (find is_write names))
+
 -- how many operations of a guest are in flight, with what was asked of the disk
 abbrev pub in_flight : {B : Type 0} → PrimaryWorker B → ℕ
 in_flight w = vec_len w.guest.given + (if w.asked || is_some w.answer then 1 else 0)
@@ -47,6 +79,10 @@ in_flight w = vec_len w.guest.given + (if w.asked || is_some w.answer then 1 els
 abbrev pub steps_by : ℕ → ℕ → ℕ
 steps_by steps zero = steps
 steps_by steps (suc n) = min (2000 / suc n) steps
+
+-- how many bytes of a port it has seen accepted
+abbrev pub counted_of : {B : Type 0} → ℕ → PrimaryWorker B → ℕ
+counted_of port w = if port == 0 then w.counted0 else w.counted1
 
 -- the entry that is posted next: after the last one, or the first that is not acknowledged if all were posted
 abbrev pub post_next : ℕ → ℕ → ℕ → ℕ

@@ -1,6 +1,6 @@
 -- How a generation on threads ends: the trace of one machine that never fails, on the inputs of a list, is what the guests
 -- have done, what the terminals have accepted, and what the disk holds.
-use Rattle.std.specs.Prelude.{◌≡◌, ◌⊎◌, ℕ, zero, suc, ◌+◌, length, List, [], ◌∷◌, Option, Some, None, IsSome}
+use Rattle.std.specs.Prelude.{◌≡◌, ◌⊎◌, ℕ, zero, suc, ◌+◌, ◌<◌, false, length, List, [], ◌∷◌, Option, Some, None, IsSome}
 use Rattle.disk_dcdd.specs.declared.address.SectorAddress.{SectorAddress}
 use Rattle.event_callbacks.specs.declared.operations.OpId.{OpId}
 use Rattle.guest_lockstep.specs.Lockstep.{step_refusal}
@@ -12,6 +12,7 @@ use Rattle.i8080_words.specs.declared.refusal.Fault.TheVariants.{Idle, OutOfMemo
 use Rattle.log_entry.specs.Entries.{entries, inputs_of, last_count}
 use Rattle.log_entry.specs.declared.entry.Entry.{Entry}
 use Rattle.pair_protocol.specs.Faithful.{IsAllBut, IsPrefix, MayHave}
+use Rattle.pair_rule.specs.declared.view.Knowledge.{Knowledge}
 use Rattle.pair_threads.specs.declared.gate.Who.{Who}
 use Rattle.pair_threads.specs.declared.gate.Who.TheVariants.{Primary, Backup}
 use Rattle.shared_disk.specs.Records.{record_at}
@@ -44,6 +45,17 @@ pub record IsTraceOf {S : Type 0} (M : Machine S) (list : List Entry) (count : �
   pub ends : reach.last ≡ s
   pub entries_are : entries Logged 0 trace ≡ list
 
+-- no sector is due: none of the track that the selected drive's head is at may come
+abbrev pub NoSectorIsDue : {S : Type 0} → Machine S → S → Type 0
+NoSectorIsDue M s =
+    (drive sector : ℕ) → M.selected s ≡ Some drive → sector < 32 → M.ready s (M.address s drive sector) ≡ false
+
+-- nothing is under way between primary and disk: each request that was made was taken and answered, and each answer came
+pub record NoneUnderWay (k : Knowledge) : Type 0 where
+  pub taken : k.disk.takes ≡ k.primary.asked
+  pub answered : length k.disk.given ≡ k.disk.takes
+  pub came : length k.primary.answers ≡ length k.disk.given
+
 -- each screen, from that of this port on
 abbrev pub EachScreen : (ℕ → List ℕ → Type 0) → ℕ → List (List ℕ) → Type 0
 EachScreen Fits port [] = Unit {0}
@@ -62,15 +74,16 @@ pub record Keeps {S : Type 0} (M : Machine S) (list : List Entry) (screens : Lis
   pub outputs : EachScreen (λ port screen. IsAllBut M.window_size screen (output port trace)) 0 screens
   pub disk : EachSector (MayHave M trace s) records
 
--- nobody went on alone: the primary's guest is where the trace of its list leads, idles, has nothing outstanding and has
--- taken all keys; the terminals have accepted its output; the disk is the machine's own; and the backup's guest is where
--- the trace leads up to the last entry
+-- nobody went on alone: the primary's guest is where the trace of its list leads, idles, has nothing outstanding, waits for
+-- no sector and has taken all keys; the terminals have accepted its output; the disk is the machine's own; and the backup's
+-- guest is where the trace leads up to the last entry
 pub record EndsWell {S : Type 0} (M : Machine S) (typed0 typed1 : List ℕ) (list : List Entry)
     (screens : List (List ℕ)) (records : List Record) (primary backup : S) : Type 0 where
   pub trace : List Move
   pub is : IsTraceOf M list (M.count primary) trace primary
   pub idle : step_refusal M primary ≡ Some Idle
   pub none : (name : OpId) → M.find primary name ≡ None
+  pub no_sector : NoSectorIsDue M primary
   pub keys0 : keys 0 (inputs_of list) ≡ typed0
   pub keys1 : keys 1 (inputs_of list) ≡ typed1
   pub outputs : EachScreen (λ port screen. screen ≡ output port trace) 0 screens

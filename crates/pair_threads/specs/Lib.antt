@@ -1,11 +1,13 @@
 pub mod Turns
 pub mod Choosing
+pub mod Patience
+pub mod BackupTurns
 pub mod Served
 pub mod Fates
 pub mod Screens
 pub mod Stores
 pub mod Repeating
 pub mod Leading
-pub mod Primary
 pub mod Ending
+pub mod Primary
 pub mod Shown

@@ -1,5 +1,5 @@
 -- A primary's worker: what it keeps from turn to turn, what it may ask of the disk, and when it is at rest.
-use Rattle.std.specs.Prelude.{◌≡◌, ℕ, true, List, [], length, take, vec_len, Some, None}
+use Rattle.std.specs.Prelude.{◌≡◌, ◌⊎◌, ℕ, Bool, true, false, List, [], length, take, vec_len, Some, None}
 use Rattle.event_callbacks.specs.declared.operations.OpId.TheVariants as id
 use Rattle.event_callbacks.specs.declared.operations.Operation.TheVariants.{Write}
 use Rattle.disk_dcdd.specs.declared.address.SectorAddress.{SectorAddress}
@@ -9,8 +9,13 @@ use Rattle.pair_rule.specs.Knowledge.{AllAre}
 use Rattle.pair_rule.specs.Threads.{CallKept}
 use Rattle.pair_rule.specs.declared.payload.DiskRequest.{DiskRequest}
 use Rattle.pair_rule.specs.declared.payload.DiskRequest.TheVariants as ask
+use Rattle.pair_threads.specs.declared.chore.Chore.TheVariants.{Run}
 use Rattle.pair_threads.specs.declared.primary.PrimaryWorker.{PrimaryWorker}
 use Rattle.pair_threads.specs.declared.port_inputs.PortInputs.{PortInputs}
+use Rattle.pair_threads.specs.declared.worker.Turn.{Turn}
+use Rattle.pair_threads.specs.declared.worker.Turn.TheVariants.{Ends}
+use Rattle.pair_threads.specs.Choosing.{fruitless_after, next_chore, turn_after}
+use Rattle.pair_threads.specs.Ending.{NoSectorIsDue}
 use Rattle.pair_threads.specs.Leading.{IsLeading, by_port}
 
 -- the keys of a port that were taken
@@ -47,11 +52,23 @@ MayAsk state M w (ask.Write write) =
     × (w.seen ≡ length w.list.items)
 MayAsk state M w (ask.Read address) = Unit {0}
 
--- its guest idles with all keys taken, nothing is outstanding, and all entries are acknowledged
-pub record IsAtRest {B : Type 0} (w : PrimaryWorker B) : Type 0 where
+-- what a turn of it was in which it did a chore: it is at its end and does none after the last one of a rotation, or the next
+-- chore is due, and how many turns changed nothing in a row is counted on
+abbrev pub HasDone : {B : Type 0} → PrimaryWorker B → PrimaryWorker B → Turn → Type 0
+HasDone old new turn =
+    ((turn ≡ Ends) × (old.chore ≡ Run) × (new.chore ≡ Run))
+    ⊎ ((moved : Bool) × (turn ≡ turn_after moved old.fruitless old.chore) × (new.chore ≡ next_chore old.chore)
+    × (new.fruitless ≡ fruitless_after moved old.fruitless))
+
+-- its guest idles with all keys taken and no sector due, nothing is outstanding, the disk is not asked, all that it
+-- answered is taken, and all entries are acknowledged
+pub record IsAtRest {B S : Type 0} (state : B → S) (M : Machine S) (w : PrimaryWorker B) : Type 0 where
   pub idle : w.guest.idle ≡ true
   pub none : w.guest.given.items ≡ []
   pub none_waits : w.guest.waiting ≡ None
   pub all0 : w.port0.taken ≡ vec_len w.port0.typed
   pub all1 : w.port1.taken ≡ vec_len w.port1.typed
   pub acknowledged : w.seen ≡ length w.list.items
+  pub asks_nothing : w.asked ≡ false
+  pub all_answers : w.answer ≡ None
+  pub no_sector : NoSectorIsDue M (state w.guest.board)

@@ -1,10 +1,12 @@
 -- How far the guest of a backup's worker is.
-use Rattle.std.specs.Prelude.{◌≡◌, Bool, false, List, take}
+use Rattle.std.specs.Prelude.{◌≡◌, ◌⊎◌, ℕ, ◌==◌, Bool, false, List, take, vec_len, slice_get, Some, IsSome, Ok}
+use Rattle.guest_lockstep.specs.Lockstep.{step_refusal}
 use Rattle.guest_lockstep.specs.Machine.{Machine}
 use Rattle.log_entry.specs.Entries.{last_count}
 use Rattle.log_entry.specs.declared.entry.Entry.{Entry}
 use Rattle.pair_threads.specs.declared.repeater.Repeater.{Repeater}
-use Rattle.replayer.specs.Following.{Ran}
+use Rattle.replayer.specs.Following.{Follows, Ran, Reaches}
+use Rattle.replayer.specs.declared.following.Followed.{Followed}
 
 -- from its boot the guest has made a recorded run with these entries, and it is at the last of them unless it is between
 -- two
@@ -19,3 +21,19 @@ IsAt state M boot r = Repeats M boot (take r.replayed r.list.items) r.between (s
 -- and it stays so
 abbrev pub GoesOn : {B S : Type 0} → (B → S) → Machine S → Repeater B → Repeater B → Type 0
 GoesOn {B} {S} state M old new = (boot : S) → IsAt state M boot old → IsAt state M boot new
+
+-- it has repeated its whole list
+abbrev pub has_all : {B : Type 0} → Repeater B → Bool
+has_all r = r.replayed == vec_len r.list
+
+-- it follows its next entry, with as many steps as it may make; without one it stays as it was
+abbrev pub FollowsFor : {B S : Type 0} → (B → S) → Machine S → ℕ → Repeater B → Repeater B → Type 0
+FollowsFor state M steps old new =
+    (new ≡ old) ⊎ ((e : Entry) × (slice_get old.list.items old.replayed ≡ Some e)
+    × ((followed : Followed) × Follows M (state old.board) e steps (Ok followed) (state new.board)))
+
+-- it can never reach its next entry, or its guest refuses a step
+abbrev pub IsStuck : {B S : Type 0} → (B → S) → Machine S → Repeater B → Type 0
+IsStuck {B} {S} state M r =
+    ((e : Entry) × (slice_get r.list.items r.replayed ≡ Some e) × ((u : S) → Reaches M (state r.board) e u → ⊥))
+    ⊎ IsSome (step_refusal M (state r.board))

@@ -1,6 +1,6 @@
 -- How a generation ends is what steps of its threads lead to, each of which kept its promise: so it is shown by a world of
 -- the protocol that is reached from the opening and is faithful.
-use Rattle.std.specs.Prelude.{◌≡◌, ◌≤◌, ℕ, List, [], ◌∷◌, length, take, Option}
+use Rattle.std.specs.Prelude.{◌≡◌, ◌≤◌, ℕ, List, [], ◌∷◌, length, take, Option, None}
 use Rattle.guest_lockstep.specs.Machine.{Machine, Move}
 use Rattle.guest_lockstep.specs.Recorded.{Recorded}
 use Rattle.guest_lockstep.specs.declared.reads.Reads.TheVariants.{Logged}
@@ -12,7 +12,7 @@ use Rattle.pair_rule.specs.Knowledge.{last_or, winner_of}
 use Rattle.pair_rule.specs.Law.{Runnable}
 use Rattle.pair_rule.specs.Threads.{IsShown, ThreadRun, bytes_accepted}
 use Rattle.pair_threads.specs.declared.gate.Who.{Who}
-use Rattle.pair_threads.specs.Ending.{winner_named}
+use Rattle.pair_threads.specs.Ending.{NoneUnderWay, winner_named}
 use Rattle.pair_threads.specs.Leading.{with_waiting}
 use Rattle.pair_threads.specs.Stores.{IsDiskOf}
 use Rattle.shared_disk.specs.declared.store.Record.{Record}
@@ -25,7 +25,7 @@ pub record HasMade {S : Type 0} (M : Machine S) (list : List Entry) (s : S) : Ty
 
 -- what steps of the threads led to: the lists, what is acknowledged, who goes on alone, what the terminals have accepted, and
 -- the disk; the primary's guest has made the run of its list, or has one more entry that waits; the backup's has replayed
--- the first of its own
+-- the first of its own; and if nobody goes on alone, nothing is under way between primary and disk
 pub record IsOfRun {S : Type 0} (M : Machine S) (typed0 typed1 : List ℕ) (winner : Option Who) (primary backup : List Entry)
     (held : ℕ) (screens : List (List ℕ)) (records : List Record) (s t : S) : Type 0 where
   pub known : Knowledge
@@ -41,3 +41,4 @@ pub record IsOfRun {S : Type 0} (M : Machine S) (typed0 typed1 : List ℕ) (winn
   pub primary_at : HasMade M (with_waiting primary waiting) s
   pub replayed : ℕ
   pub backup_at : HasMade M (take replayed backup) t
+  pub quiet : winner ≡ None → NoneUnderWay known

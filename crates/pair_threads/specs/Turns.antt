@@ -1,5 +1,8 @@
 -- What a turn of a worker leaves.
-use Rattle.std.specs.Prelude.{Result, Ok, Err}
+use Rattle.std.specs.Prelude.{◌≡◌, ◌≢◌, ◌↔◌, ℕ, Option, Some, Result, Ok, Err}
+use Rattle.guest_lockstep.specs.Machine.{Machine}
+use Rattle.guest_lockstep.specs.Running.{RunsOn}
+use Rattle.guest_lockstep.specs.declared.running.Stopped.{Stopped}
 use Rattle.i8080_words.specs.declared.refusal.Fault.{Fault}
 use Rattle.pair_threads.specs.declared.worker.Turn.{Turn}
 use Rattle.pair_threads.specs.declared.worker.Turn.TheVariants.{Moved, Looks, Waits, Ends}
@@ -11,3 +14,11 @@ Leaves (Ok Looks) ready ended = ready
 Leaves (Ok Waits) ready ended = ready
 Leaves (Ok Ends) ready ended = ended
 Leaves (Err fault) ready ended = Unit {0}
+
+-- who has not asked to go on alone asks in the turn at which it is planned to, and in no other
+abbrev pub AsksAt : Option ℕ → ℕ → ℕ → ℕ → Type 0
+AsksAt contests_at number before after = before ≡ 0 → ((after ≢ 0) ↔ (contests_at ≡ Some number))
+
+-- a guest runs by itself, as many steps as it may make
+abbrev pub RunsFor : {S : Type 0} → Machine S → S → ℕ → S → Type 0
+RunsFor M s steps t = (stopped : Stopped) × RunsOn M s steps stopped t

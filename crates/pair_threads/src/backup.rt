@@ -1,8 +1,16 @@
 //! The backup's worker: it takes packets, acknowledges its list, repeats its entries, and may go on alone.
-ghost use Rattle.std.specs.Prelude.{◌≡◌, ◌<◌, ◌≤◌, cond, [], false, true, vec_len, IsTrue, OnOk};
+ghost use Rattle.std.specs.Prelude.{◌≡◌, ◌≢◌, ◌<◌, ◌≤◌, cond, if◌then◌else◌, min, [], false, true, length, vec_len, is_some, option_map, Option, IfErr, IfOk, IsTrue, OnOk};
+ghost use Rattle.pair_rule.specs.declared.mailbox.Mailbox.TheVariants.{Inbox};
+ghost use Rattle.pair_rule.specs.declared.payload.Packet.{Packet};
+ghost use Rattle.pair_rule.specs.declared.payload.Payload.TheVariants.{Log};
 ghost use Rattle.pair_rule.specs.declared.view.Core.{Core};
-ghost use Rattle.pair_threads.specs.Repeating.{GoesOn, IsAt};
+ghost use Rattle.pair_rule.specs.Seats.{Empties};
+ghost use Rattle.pair_threads.specs.BackupTurns.{IsTurnOf, next_chore, turn_of_take};
+ghost use Rattle.pair_threads.specs.Ending.{IsEnding};
+ghost use Rattle.pair_threads.specs.Repeating.{FollowsFor, GoesOn, IsAt, has_all};
 ghost use Rattle.pair_threads.specs.Turns.{Leaves};
+ghost use Rattle.pair_threads.specs.declared.backup.Chore.TheVariants as task;
+ghost use Rattle.pair_threads.specs.declared.worker.Turn.TheVariants as turn;
 
 use crate::plan::Plan;
 use crate::repeater::Repeater;
@@ -66,9 +74,13 @@ impl<B: Lockstep> BackupWorker<B> {
         requires before { self.old.seat.core.known.backup.winner ≡ 0 }
         ensures table { self.new.seat.table ≡ self.old.seat.table }
         ensures before { self.new.seat.core.known.backup.winner ≡ 0 }
-        ensures same { (self.new.plan ≡ self.old.plan) × (self.new.won ≡ self.old.won) }
+        ensures same { (self.new.plan ≡ self.old.plan) × (self.new.won ≡ self.old.won) × (self.new.chore ≡ self.old.chore) }
         ensures goes_on { OnOk result (GoesOn B.state B.machine self.old.guest self.new.guest) }
         ensures leaves { Leaves result (Unit {0}) ⊥ }
+        ensures turn { IfOk result (λ turn. (found : Option Packet)
+            × Empties Inbox (option_map Log found) self.old.seat.core self.new.seat.core
+            × (turn ≡ turn_of_take (is_some found) (has_all self.new.guest))) }
+        ensures refused { IfErr result IsEnding }
     {
         if !self.seat.has_swaps_left() {
             return Err(Fault::Stalled);
@@ -95,7 +107,9 @@ impl<B: Lockstep> BackupWorker<B> {
         requires before { self.old.seat.core.known.backup.winner ≡ 0 }
         ensures table { self.new.seat.table ≡ self.old.seat.table }
         ensures before { self.new.seat.core.known.backup.winner ≡ 0 }
-        ensures same { (self.new.plan ≡ self.old.plan) × (self.new.won ≡ self.old.won) × (self.new.guest ≡ self.old.guest) }
+        ensures same { (self.new.plan ≡ self.old.plan) × (self.new.won ≡ self.old.won) × (self.new.guest ≡ self.old.guest)
+            × (self.new.chore ≡ self.old.chore) × (self.new.stride ≡ self.old.stride) }
+        ensures held { self.new.held ≡ length self.new.guest.list.items }
     {
         if self.held != self.guest.list.len() as u64 {
             self.held = self.seat.hold(fabric);
@@ -111,6 +125,7 @@ impl<B: Lockstep> BackupWorker<B> {
         ensures same { (self.new.plan ≡ self.old.plan) × (self.new.guest ≡ self.old.guest) }
         ensures leaves { Leaves (Ok result) (self.new.seat.core.known.backup.winner ≡ cond self.new.won 2 0)
             (self.new.seat.core.known.backup.winner ≡ 1) }
+        ensures asked { self.new.seat.core.known.backup.winner ≢ 0 }
     {
         if self.seat.contest(fabric).is_err() {
             return Turn::Ends;
@@ -125,6 +140,8 @@ impl<B: Lockstep> BackupWorker<B> {
         ensures same { (self.new.plan ≡ self.old.plan) × (self.new.won ≡ self.old.won) }
         ensures goes_on { OnOk result (GoesOn B.state B.machine self.old.guest self.new.guest) }
         ensures leaves { Leaves result (Unit {0}) (self.new.guest.replayed ≡ vec_len self.new.guest.list) }
+        ensures steps { OnOk result (FollowsFor B.state B.machine self.old.plan.steps self.old.guest self.new.guest) }
+        ensures refused { IfErr result IsEnding }
     {
         if self.guest.has_replayed_all() {
             return Ok(Turn::Ends);
@@ -136,7 +153,8 @@ impl<B: Lockstep> BackupWorker<B> {
     // `Moved` if anything is left to repeat, and otherwise `nothing`.
     fn pace(&self, nothing: Turn) -> Turn
         requires { Leaves (Ok nothing) (Unit {0}) ⊥ }
-        ensures { Leaves (Ok result) (Unit {0}) ⊥ }
+        ensures leaves { Leaves (Ok result) (Unit {0}) ⊥ }
+        ensures turn { result ≡ (if has_all self.now.guest then nothing else turn.Moved) }
     {
         if self.guest.has_replayed_all() {
             nothing
@@ -154,6 +172,11 @@ impl<B: Lockstep> BackupWorker<B> {
         ensures same { (self.new.plan ≡ self.old.plan) × (self.new.won ≡ self.old.won) }
         ensures goes_on { OnOk result (GoesOn B.state B.machine self.old.guest self.new.guest) }
         ensures leaves { Leaves result (Unit {0}) ⊥ }
+        ensures next { OnOk result (self.new.chore ≡ next_chore self.old.chore) }
+        ensures turn { IfOk result (λ turn. IsTurnOf self.old.chore (has_all self.new.guest) turn) }
+        ensures steps { self.old.chore ≡ task.Replay → OnOk result (FollowsFor B.state B.machine
+            (min self.old.plan.steps self.old.stride) self.old.guest self.new.guest) }
+        ensures refused { IfErr result IsEnding }
     {
         match self.chore {
             Chore::Take => {
@@ -175,9 +198,10 @@ impl<B: Lockstep> BackupWorker<B> {
 }
 
 impl<B: Lockstep> Worker for BackupWorker<B> {
-    ghost use Rattle.std.specs.Prelude.{◌≡◌, ◌⊎◌, cond, false, vec_len};
+    ghost use Rattle.std.specs.Prelude.{◌≡◌, ◌⊎◌, ◌&&◌, ◌||◌, not, cond, false, vec_len};
     ghost use Rattle.pair_threads.specs.Ending.{HasAsked};
-    ghost use Rattle.pair_threads.specs.Repeating.{IsAt};
+    ghost use Rattle.pair_threads.specs.Repeating.{IsAt, has_all};
+    ghost use Rattle.pair_threads.specs.Turns.{AsksAt};
 
     ghost table = { λ w. w.seat.table };
 
@@ -188,6 +212,11 @@ impl<B: Lockstep> Worker for BackupWorker<B> {
 
     ghost ended = { λ w. (w.plan.contested ≡ false) ⊎ (w.seat.core.known.backup.winner ≡ 2)
         → w.guest.replayed ≡ vec_len w.guest.list };
+
+    ghost asks = { λ old number new.
+        AsksAt old.plan.contests_at number old.seat.core.known.backup.winner new.seat.core.known.backup.winner };
+
+    ghost ends_by = { λ w told. not w.won && told.primary_ended && (w.plan.contested || has_all w.guest) };
 
     fn turn(&mut self, fabric: &Fabric, number: u64) -> R<Turn> {
         if self.won {

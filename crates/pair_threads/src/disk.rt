@@ -1,5 +1,5 @@
 //! The disk's worker: it serves one request after another.
-ghost use Rattle.std.specs.Prelude.{◌≡◌, Some, IsTrue, IfOk, OnErr, OnOk};
+ghost use Rattle.std.specs.Prelude.{◌≡◌, ◌+◌, ◌≤◌, cond, [], length, is_some, Some, IsTrue, IfOk, OnErr, OnOk};
 ghost use Rattle.pair_rule.specs.declared.payload.DiskRequest.{DiskRequest};
 ghost use Rattle.pair_threads.specs.Stores.{Serves};
 
@@ -17,10 +17,13 @@ pub(crate) struct DiskWorker<D: SectorStore> {
     // The request that was taken and not answered yet.
     request: Option<DiskRequest>,
     ghost taken: { (r : DiskRequest) → request ≡ Some r → seat.core.known.disk.taken ≡ Some r },
+    ghost requests: { length seat.core.known.disk.given + cond (is_some request) 1 0 ≤ seat.core.known.disk.takes },
 }
 
 impl<D: SectorStore> DiskWorker<D> {
+    /// A disk that was asked for nothing yet.
     pub(crate) fn new(seat: DiskSeat, disk: SharedDisk<D>) -> DiskWorker<D>
+        requires { seat.core.known.disk.given ≡ [] }
         ensures seat { result.seat ≡ seat }
         ensures disk { result.disk ≡ disk }
     {
@@ -47,7 +50,7 @@ fn answer<D: SectorStore>(disk: &mut SharedDisk<D>, request: &DiskRequest) -> R<
 }
 
 impl<D: SectorStore> Worker for DiskWorker<D> {
-    ghost use Rattle.std.specs.Prelude.{ℕ, List};
+    ghost use Rattle.std.specs.Prelude.{ℕ, List, ◌&&◌};
     ghost use Rattle.disk_dcdd.specs.declared.address.SectorAddress.{SectorAddress};
     ghost use Rattle.pair_threads.specs.Stores.{IsStore, bytes_in};
 
@@ -58,6 +61,10 @@ impl<D: SectorStore> Worker for DiskWorker<D> {
     ghost came = { λ first w. IsStore (bytes_in (D.records first.disk)) (D.records w.disk) w.seat.core.known.disk };
 
     ghost ended = { λ w. Unit {0} };
+
+    ghost asks = { λ old number new. Unit {0} };
+
+    ghost ends_by = { λ w told. told.primary_ended && told.backup_ended };
 
     // A request that the disk fails is tried again in the next turn.
     fn turn(&mut self, fabric: &Fabric, _number: u64) -> R<Turn> {

@@ -74,6 +74,8 @@ fn fate_of(fates: &[Fate], packet: usize) -> Fate
 }
 
 impl Worker for LinkWorker {
+    ghost use Rattle.std.specs.Prelude.{◌&&◌};
+
     ghost table = { λ w. w.seat.table };
 
     ghost ready = { λ w. Unit {0} };
@@ -81,6 +83,10 @@ impl Worker for LinkWorker {
     ghost came = { λ first w. Unit {0} };
 
     ghost ended = { λ w. Unit {0} };
+
+    ghost asks = { λ old number new. Unit {0} };
+
+    ghost ends_by = { λ w told. told.primary_ended && told.backup_ended };
 
     fn turn(&mut self, fabric: &Fabric, _number: u64) -> R<Turn> {
         if !self.seat.has_swaps_left() {

@@ -1,11 +1,12 @@
 //! How a worker makes progress: the turns that it has left, how it waits, and when it gives up.
-ghost use Rattle.std.specs.Prelude.{◌≡◌, ◌<◌, ◌-◌};
+ghost use Rattle.std.specs.Prelude.{◌≡◌, ◌↔◌, ◌<◌, ◌-◌, is_some, unwrap_or, IsTrue, None, Some};
 ghost use Rattle.pair_threads.specs.Choosing.{left_after_waiting};
+ghost use Rattle.pair_threads.specs.Patience.{HasSeen, WaitsOn, is_noted, quiet_for, quiet_since};
 
 use crate::gate::Who;
 use crate::rest::Rest;
 use crate::signals::Signals;
-use std::time::{Clock, Duration, Instant};
+use std::time::{Clock, Instant};
 
 // A run is given up after this many seconds without progress of any worker.
 const PATIENCE: u64 = 10;
@@ -29,7 +30,7 @@ pub(crate) struct Pace {
 impl Pace {
     /// A worker that begins with this many turns.
     pub(crate) fn new(turns: u64) -> Pace
-        ensures { result.left ≡ turns }
+        ensures { result ≡ record { left = turns; waiting = None; sleeps = 0; quiet = None; moves = 0 } }
     {
         Pace {
             left: turns,
@@ -43,9 +44,9 @@ impl Pace {
     /// It has made progress.
     pub(crate) fn moves(&mut self, signals: &Signals, who: Who)
         requires { 0 < self.old.left }
-        ensures { self.new.left ≡ self.old.left - 1 }
+        ensures { self.new ≡ record self.old { left = self.old.left - 1; waiting = None; sleeps = 0 } }
     {
-        if self.waiting.is_some() || self.left % NOTED == 0 {
+        if self.is_noted() {
             signals.moves(who);
         }
         self.waiting = None;
@@ -53,22 +54,37 @@ impl Pace {
         self.left -= 1;
     }
 
+    // Whether it says so this time.
+    fn is_noted(&self) -> bool
+        ensures { result ≡ is_noted (is_some self.now.waiting) self.now.left }
+    {
+        self.waiting.is_some() || self.left % NOTED == 0
+    }
+
     /// It has found nothing in a turn. This uses up one of its turns only if somebody is planned to ask at a turn.
     pub(crate) fn looks(&mut self, contested: bool)
-        ensures { self.new.left ≡ left_after_waiting contested self.old.left }
+        ensures { self.new ≡ record self.old { left = left_after_waiting contested self.old.left } }
     {
         if contested {
             self.left = self.left.saturating_sub(1);
         }
     }
 
-    /// It has found nothing in a whole rotation, and lets the others run. False if the run is given up, after ten seconds
-    /// without progress of any worker; never if somebody is planned to ask at a turn.
-    pub(crate) fn waits<C: Clock>(&mut self, clock: &C, signals: &Signals, contested: bool) -> bool
-        ensures { self.new.left ≡ left_after_waiting contested self.old.left }
+    /// It has found nothing in a whole rotation, and lets the others run. False if the run is given up: after ten seconds
+    /// without progress of any worker, though never if somebody is planned to ask at a turn; and if there is no time.
+    pub(crate) fn waits<C: Clock>(
+        &mut self,
+        clock: &C,
+        now: Option<Instant>,
+        signals: &Signals,
+        contested: bool,
+    ) -> bool
+        ensures left { self.new.left ≡ left_after_waiting contested self.old.left }
+        ensures seen { HasSeen now self.old self.new }
+        ensures goes_on { WaitsOn contested now self.new.quiet result }
     {
         self.looks(contested);
-        let Ok(now) = Instant::now(clock) else {
+        let Some(now) = now else {
             return false;
         };
         self.rest_at(now, signals.is_held_up()).take(clock);
@@ -77,7 +93,8 @@ impl Pace {
 
     // How it waits at this moment.
     fn rest_at(&mut self, now: Instant, held_up: bool) -> Rest
-        ensures { self.new.left ≡ self.old.left }
+        ensures since { self.new.waiting ≡ Some (unwrap_or self.old.waiting now) }
+        ensures same { (self.new.left ≡ self.old.left) × (self.new.quiet ≡ self.old.quiet) × (self.new.moves ≡ self.old.moves) }
     {
         let began = self.waiting.unwrap_or(now);
         self.waiting = Some(began);
@@ -91,12 +108,14 @@ impl Pace {
 
     // Whether any worker has made progress in the ten seconds before this moment, as last seen.
     fn is_patient(&mut self, now: Instant, moves: u64) -> bool
-        ensures { self.new.left ≡ self.old.left }
+        ensures seen { self.new ≡ record self.old {
+          quiet = quiet_since now moves self.old.quiet self.old.moves;
+          moves = moves;
+        } }
+        ensures patient { IsTrue result ↔ (quiet_for now self.new.quiet < 10_000_000_000) }
     {
         match self.quiet {
-            Some(quiet) if self.moves == moves => {
-                now.duration_since(quiet) < Duration::from_secs(PATIENCE)
-            }
+            Some(quiet) if self.moves == moves => now.duration_since(quiet).as_secs() < PATIENCE,
             _ => {
                 self.moves = moves;
                 self.quiet = Some(now);

@@ -1,5 +1,5 @@
 //! The primary's worker: it runs its guest, logs, and gives away what the backup has acknowledged.
-ghost use Rattle.std.specs.Prelude.{◌≡◌, ◌-◌, ◌<◌, ◌≤◌, Some, length, slice_get};
+ghost use Rattle.std.specs.Prelude.{◌≡◌, ◌+◌, ◌-◌, ◌<◌, ◌≤◌, cond, Some, length, slice_get};
 ghost use Rattle.disk_dcdd.specs.declared.sector.TheConstants.{SECTORS};
 ghost use Rattle.pair_rule.specs.declared.payload.DiskAnswer.{DiskAnswer};
 
@@ -32,7 +32,7 @@ pub(crate) struct PrimaryWorker<B> {
     // How many entries were posted once, and which byte of each port was given last.
     posted: u64,
     emitted: [u64; 2],
-    // Whether the disk was asked and has not answered, and what it answered and the guest has not taken.
+    // Whether the disk was asked and its answer has not come, and what it answered and the guest has not taken.
     asked: bool,
     answer: Option<DiskAnswer>,
     // The next sector to read.
@@ -52,4 +52,6 @@ pub(crate) struct PrimaryWorker<B> {
     ghost there: { sector < SECTORS },
     ghost answered: { (a : DiskAnswer) → answer ≡ Some a
         → slice_get seat.core.known.primary.answers (length seat.core.known.primary.answers - 1) ≡ Some a },
+    ghost requests: { seat.core.known.primary.asked
+        ≤ length seat.core.known.primary.answers + cond asked 1 0 },
 }

@@ -159,7 +159,7 @@ fn conclude<B: Lockstep + Drop, D: SectorStore>(
 ) -> R<GenerationEnd<B, D>>
     requires tables { (primary.seat.table ≡ fabric) × (backup.seat.table ≡ fabric) × (terminal.seat.table ≡ fabric)
         × (disk.seat.table ≡ fabric) }
-    requires rests { contested ≡ false → IsAtRest primary }
+    requires rests { contested ≡ false → IsAtRest B.state B.machine primary }
     requires plans { (primary.plan.contested ≡ contested) × (backup.plan.contested ≡ contested) }
     requires asked { HasAsked primary.plan.contests_at primary.seat.core.known.primary.winner
         × HasAsked backup.plan.contests_at backup.seat.core.known.backup.winner }
@@ -222,7 +222,8 @@ fn finish<B: Lockstep + Drop, D: SectorStore>(
     five: AllServed<B, D>,
     contested: bool,
 ) -> R<GenerationEnd<B, D>>
-    requires primary { (five.primary.0.seat.table ≡ fabric) × OnOk five.primary.1 (contested ≡ false → IsAtRest five.primary.0) }
+    requires primary { (five.primary.0.seat.table ≡ fabric)
+        × OnOk five.primary.1 (contested ≡ false → IsAtRest B.state B.machine five.primary.0) }
     requires primary_asked { OnOk five.primary.1 ((five.primary.0.plan.contested ≡ contested)
         × HasAsked five.primary.0.plan.contests_at five.primary.0.seat.core.known.primary.winner) }
     requires backup_asked { OnOk five.backup.1 ((five.backup.0.plan.contested ≡ contested)
@@ -273,7 +274,7 @@ fn finish<B: Lockstep + Drop, D: SectorStore>(
 
 /// Runs one generation, a worker for each of the five seats on its own thread, with at most this many turns for the primary and
 /// for the backup. If nobody is planned to go on alone, it ends well when the guest idles, all keys are taken, nothing is
-/// outstanding, and all entries are acknowledged and repeated. Otherwise it ends when it is decided who goes on alone; a backup
+/// outstanding, under way or due, and all entries are acknowledged and repeated. Otherwise it ends when it is decided who goes on alone; a backup
 /// that does has repeated its list. `Stalled` if it ends in no such way, `OutOfMemory` if memory or a thread is refused.
 #[tactic(auto, using(crate::proofs::Beginning::nothing_yet, crate::proofs::Serving::first_disk))]
 pub fn run_generation<

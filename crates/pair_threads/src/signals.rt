@@ -1,4 +1,6 @@
 //! What the workers tell each other besides the table. No contract rests on it.
+ghost use Rattle.std.specs.Prelude.{◌≡◌, nat_le};
+ghost use Rattle.pair_threads.specs.Patience.{is_progress};
 
 use crate::gate::Who;
 use std::sync::atomic::{AtomicBool, AtomicU64, Ordering};
@@ -45,7 +47,7 @@ impl Signals {
 
     /// Whether all have begun.
     pub fn have_all_begun(&self) -> bool {
-        self.begun.load(Ordering::SeqCst) >= WORKERS
+        are_all(self.begun.load(Ordering::SeqCst))
     }
 
     /// Which of the nodes are at their ends.
@@ -87,7 +89,7 @@ impl Signals {
 
     /// A worker has made progress. The link does not count: it moves even when it loses one packet again and again.
     pub fn moves(&self, who: Who) {
-        if who != Who::Link {
+        if is_progress(who) {
             let _ = self.moves.fetch_add(1, Ordering::SeqCst);
         }
     }
@@ -95,5 +97,22 @@ impl Signals {
     /// How often workers have said that they made progress.
     pub fn moved(&self) -> u64 {
         self.moves.load(Ordering::SeqCst)
+    }
+}
+
+// Whether so many workers are all.
+fn are_all(begun: u64) -> bool
+    ensures { result ≡ nat_le 5 begun }
+{
+    begun >= WORKERS
+}
+
+// Whether what a worker does is progress.
+fn is_progress(who: Who) -> bool
+    ensures { result ≡ is_progress who }
+{
+    match who {
+        Who::Link => false,
+        Who::Primary | Who::Backup | Who::Terminal | Who::Disk => true,
     }
 }

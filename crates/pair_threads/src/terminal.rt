@@ -1,8 +1,9 @@
 //! The worker of the two terminals: it takes bytes, counts them, and keeps those that are accepted.
-ghost use Rattle.std.specs.Prelude.{◌≡◌, ◌++◌, ◌<◌, [], length, vec_len, vec_capacity, IsTrue, None, Some, OnOk, true, false, not};
+ghost use Rattle.std.specs.Prelude.{◌≡◌, ◌++◌, ◌<◌, [], length, vec_len, vec_capacity, IfErr, IsTrue, None, Some, OnOk, true, false, not};
 ghost use Rattle.pair_rule.specs.declared.payload.PortByte.{PortByte};
 ghost use Rattle.pair_rule.specs.Threads.{bytes_accepted};
 ghost use Rattle.pair_threads.specs.declared.worker.Turn.TheVariants as turn;
+ghost use Rattle.pair_threads.specs.Ending.{IsEnding};
 ghost use Rattle.pair_threads.specs.Screens.{HasInHand, next_byte};
 
 use crate::signals::Told;
@@ -57,6 +58,7 @@ impl TerminalWorker {
         requires hand { self.old.hand ≡ Some byte }
         ensures table { self.new.seat.table ≡ self.old.seat.table }
         ensures next { OnOk result (self.new.second ≡ not self.old.second) }
+        ensures refused { IfErr result IsEnding }
     {
         if self.second {
             self.count1(fabric, byte)
@@ -72,6 +74,7 @@ impl TerminalWorker {
         requires first { self.old.second ≡ false }
         ensures table { self.new.seat.table ≡ self.old.seat.table }
         ensures next { OnOk result (self.new.second ≡ true) }
+        ensures refused { IfErr result IsEnding }
     {
         self.accepted0.reserve(1)?;
         self.seat.count(fabric, 0);
@@ -88,6 +91,7 @@ impl TerminalWorker {
         requires second { self.old.second ≡ true }
         ensures table { self.new.seat.table ≡ self.old.seat.table }
         ensures next { OnOk result (self.new.second ≡ false) }
+        ensures refused { IfErr result IsEnding }
     {
         self.accepted1.reserve(1)?;
         self.seat.count(fabric, 1);
@@ -104,6 +108,7 @@ impl TerminalWorker {
         ensures table { self.new.seat.table ≡ self.old.seat.table }
         ensures next { result ≡ Ok turn.Waits → self.new.second ≡ not self.old.second }
         ensures same { result ≡ Ok turn.Moved → self.new.second ≡ self.old.second }
+        ensures refused { IfErr result IsEnding }
     {
         if !self.seat.has_swaps_left() {
             return Err(Fault::Stalled);
@@ -119,6 +124,8 @@ impl TerminalWorker {
 }
 
 impl Worker for TerminalWorker {
+    ghost use Rattle.std.specs.Prelude.{◌&&◌};
+
     ghost table = { λ w. w.seat.table };
 
     ghost ready = { λ w. Unit {0} };
@@ -126,6 +133,10 @@ impl Worker for TerminalWorker {
     ghost came = { λ first w. Unit {0} };
 
     ghost ended = { λ w. Unit {0} };
+
+    ghost asks = { λ old number new. Unit {0} };
+
+    ghost ends_by = { λ w told. told.primary_ended && told.backup_ended };
 
     fn turn(&mut self, fabric: &Fabric, _number: u64) -> R<Turn> {
         match self.hand {

@@ -1,6 +1,7 @@
 //! What all workers have in common, and the loop that serves each of them.
-ghost use Rattle.std.specs.Prelude.{◌≡◌, IsTrue, OnOk};
+ghost use Rattle.std.specs.Prelude.{◌≡◌, IfErr, IsTrue, OnOk};
 ghost use Rattle.pair_threads.specs.Choosing.{turns_of};
+ghost use Rattle.pair_threads.specs.Ending.{IsEnding};
 ghost use Rattle.pair_threads.specs.Turns.{Leaves};
 
 use crate::gate::{Gate, Who};
@@ -8,7 +9,7 @@ use crate::pace::Pace;
 use crate::signals::{Signals, Told};
 use i8080_words::{Fault, R};
 use pair_rule::{Fabric, MOST_SWAPS};
-use std::time::Clock;
+use std::time::{Clock, Instant};
 
 /// The result of a turn.
 #[derive(Clone, Copy, PartialEq, Eq)]
@@ -25,7 +26,9 @@ pub(crate) enum Turn {
 
 /// A seat with all that its thread keeps besides it.
 pub(crate) trait Worker {
+    ghost use Rattle.std.specs.Prelude.{ℕ, Bool};
     ghost use Rattle.atomic_table.specs.Seated.{TableId};
+    ghost use Rattle.pair_threads.specs.declared.signals.Told.{Told};
 
     // The table of its seat.
     ghost table: { Self → TableId };
@@ -39,6 +42,12 @@ pub(crate) trait Worker {
     // What holds of a worker that is at its end.
     ghost ended: { Self → Type 0 };
 
+    // What a turn of this number is to a worker that may ask to go on alone.
+    ghost asks: { Self → ℕ → Self → Type 0 };
+
+    // Whether it is at its end by what it was told.
+    ghost ends_by: { Self → Told → Bool };
+
     /// Makes at most one call of its seat, or lets its guest move. Refused if the run can no longer end well:
     /// `OutOfMemory`, and `Stalled` otherwise.
     fn turn(&mut self, fabric: &Fabric, number: u64) -> R<Turn>
@@ -46,12 +55,15 @@ pub(crate) trait Worker {
         requires ready { ready self.old }
         ensures table { table self.new ≡ table self.old }
         ensures came { (first : Self) → came first self.old → OnOk result (came first self.new) }
-        ensures leaves { Leaves result (ready self.new) (ended self.new) };
+        ensures leaves { Leaves result (ready self.new) (ended self.new) }
+        ensures asks { OnOk result (asks self.old number self.new) }
+        ensures refused { IfErr result IsEnding };
 
     /// Whether it is at its end by what it was told.
     fn may_end(&self, told: Told) -> bool
         requires ready { ready self.now }
-        ensures ended { IsTrue result → ended self.now };
+        ensures ended { IsTrue result → ended self.now }
+        ensures told { result ≡ ends_by self.now told };
 
     /// Whether its guest makes progress only if the other workers do.
     fn is_held_up(&self) -> bool;
@@ -65,7 +77,8 @@ fn all_begin<C: Clock>(clock: &C, signals: &Signals) -> bool {
         if signals.have_all_begun() || signals.has_failed() {
             return true;
         }
-        if !pace.waits(clock, signals, false) {
+        let now = Instant::now(clock).ok();
+        if !pace.waits(clock, now, signals, false) {
             return false;
         }
     }
@@ -101,6 +114,7 @@ pub(crate) fn serve<C: Clock, W: Worker, G: Gate>(
     ensures table { W.table result.0 ≡ fabric.now }
     ensures came { OnOk result.1 (W.came worker result.0) }
     ensures ended { OnOk result.1 (W.ended result.0) }
+    ensures refused { IfErr result.1 IsEnding }
 {
     signals.begins();
     if !all_begin(clock, signals) {
@@ -130,7 +144,8 @@ pub(crate) fn serve<C: Clock, W: Worker, G: Gate>(
             Ok(Turn::Moved) => pace.moves(signals, who),
             Ok(Turn::Looks) => pace.looks(contested),
             Ok(Turn::Waits) => {
-                if !pace.waits(clock, signals, contested) {
+                let now = Instant::now(clock).ok();
+                if !pace.waits(clock, now, signals, contested) {
                     break;
                 }
             }

@@ -1,11 +1,14 @@
 //! The chores of a primary's worker at its guest, the link and the terminals.
-ghost use Rattle.std.specs.Prelude.{◌≡◌, ◌⊎◌, ◌≢◌, ◌+◌, ◌<◌, ◌≤◌, false, true, nat_lt, if◌then◌else◌, IfSome, IsTrue, None, OnOk, Some, length};
+ghost use Rattle.std.specs.Prelude.{◌≡◌, ◌⊎◌, ◌≢◌, ◌+◌, ◌<◌, ◌≤◌, ◌↔◌, false, true, nat_lt, if◌then◌else◌, IfErr, IfSome, IsSome, IsTrue, None, OnOk, Some, length};
 ghost use Rattle.event_callbacks.specs.declared.devices.TheConstants.{PORTS};
 ghost use Rattle.event_callbacks.specs.declared.operations.OpId.TheVariants as id;
 ghost use Rattle.event_callbacks.specs.declared.operations.Operation.TheVariants.{Byte};
+ghost use Rattle.guest_lockstep.specs.Lockstep.{step_refusal};
+ghost use Rattle.i8080_words.specs.declared.refusal.Fault.TheVariants.{OutOfMemory, Stalled};
 ghost use Rattle.pair_rule.specs.Seats.{HasSwapsLeft};
-ghost use Rattle.pair_threads.specs.Choosing.{in_flight, post_next, steps_by};
+ghost use Rattle.pair_threads.specs.Choosing.{counted_of, in_flight, post_next, steps_by};
 ghost use Rattle.pair_threads.specs.Primary.{IsAtRest, Works};
+ghost use Rattle.pair_threads.specs.Turns.{RunsFor};
 
 use super::PrimaryWorker;
 use guest_lockstep::Lockstep;
@@ -31,6 +34,7 @@ impl<B: Lockstep> PrimaryWorker<B> {
         ensures works { Works B.state B.machine self.old self.new }
         ensures next { let first = post_next self.old.next self.old.seen (length self.old.list.items) in
             self.new.next ≡ (if nat_lt first (length self.old.list.items) then first + 1 else first) }
+        ensures first { IsTrue result ↔ (self.new.posted ≢ self.old.posted) }
     {
         let length = self.list.len() as u64;
         if self.next < self.seen || self.next >= length {
@@ -53,6 +57,7 @@ impl<B: Lockstep> PrimaryWorker<B> {
         requires before { self.old.seat.core.known.primary.winner ≡ 0 }
         ensures works { Works B.state B.machine self.old self.new }
         ensures room { self.new.full ≡ false }
+        ensures changed { IsTrue result ↔ (self.new.seen ≢ self.old.seen) }
     {
         let before = self.seen;
         self.seen = self.seat.see(fabric);
@@ -65,6 +70,11 @@ impl<B: Lockstep> PrimaryWorker<B> {
     pub(super) fn run(&mut self) -> R<bool>
         ensures works { OnOk result (Works B.state B.machine self.old self.new) }
         ensures seat { self.new.seat ≡ self.old.seat }
+        ensures steps { OnOk result ((self.old.guest.waiting ≢ None)
+            ⊎ RunsFor B.machine (B.state self.old.guest.board) (steps_by self.old.plan.steps (in_flight self.old))
+            (B.state self.new.guest.board)) }
+        ensures refused { IfErr result (λ fault. (fault ≡ OutOfMemory)
+            ⊎ ((fault ≡ Stalled) × IsSome (step_refusal B.machine (B.state self.new.guest.board)))) }
         ensures polls { result ≡ Ok true → (length self.new.guest.given.items ≤ 1) ⊎ (self.new.guest.waiting ≢ None) }
     {
         if self.guest.waiting.is_some() {
@@ -104,15 +114,25 @@ impl<B: Lockstep> PrimaryWorker<B> {
         ensures next { result ≡ true
             → self.new.key_count ≡ B.machine.count (B.state self.old.guest.board) + 300 }
     {
-        let count = self.guest.board.count();
-        if count < self.key_count || !self.may_take_new() {
+        if !self.has_had_time() {
             return false;
         }
+        if !self.may_take_new() {
+            return false;
+        }
+        let count = self.guest.board.count();
         let moved = self.next_key(port);
         if moved {
             self.key_count = count.saturating_add(KEY_STEPS);
         }
         moved
+    }
+
+    // Whether the guest has had time for the key before.
+    fn has_had_time(&self) -> bool
+        ensures { IsTrue result ↔ (self.now.key_count ≤ B.machine.count (B.state self.now.guest.board)) }
+    {
+        self.guest.board.count() >= self.key_count
     }
 
     // Takes the next key of a port.
@@ -175,7 +195,8 @@ impl<B: Lockstep> PrimaryWorker<B> {
     // The first byte of a port that its terminal has not accepted, as last seen, if the guest has given it.
     fn due_byte(&self, port: u8) -> Option<(u64, u8)>
         requires { port < PORTS }
-        ensures { IfSome result (λ b. B.machine.find (B.state self.now.guest.board) (id.Byte port b.0) ≡ Some (Byte port b.0 b.1)) }
+        ensures there { IfSome result (λ b. B.machine.find (B.state self.now.guest.board) (id.Byte port b.0) ≡ Some (Byte port b.0 b.1)) }
+        ensures next { IfSome result (λ b. b.0 ≡ counted_of port self.now + 1) }
     {
         let number = self.counted(port).checked_add(1)?;
         let byte = self.guest.byte(port, number)?;
@@ -199,7 +220,9 @@ impl<B: Lockstep> PrimaryWorker<B> {
     }
 
     // How many bytes of a port are accepted, as last seen.
-    fn counted(&self, port: u8) -> u64 {
+    fn counted(&self, port: u8) -> u64
+        ensures { result ≡ counted_of port self.now }
+    {
         if port == 0 {
             self.counted0
         } else {
@@ -229,6 +252,7 @@ impl<B: Lockstep> PrimaryWorker<B> {
         requires table { self.old.seat.table ≡ fabric.now }
         requires before { self.old.seat.core.known.primary.winner ≡ 0 }
         ensures works { Works B.state B.machine self.old self.new }
+        ensures changed { IsTrue result ↔ (self.new.counted0 ≢ self.old.counted0) }
     {
         let before = self.counted0;
         self.counted0 = self.seat.counted(fabric, 0);
@@ -240,6 +264,7 @@ impl<B: Lockstep> PrimaryWorker<B> {
         requires table { self.old.seat.table ≡ fabric.now }
         requires before { self.old.seat.core.known.primary.winner ≡ 0 }
         ensures works { Works B.state B.machine self.old self.new }
+        ensures changed { IsTrue result ↔ (self.new.counted1 ≢ self.old.counted1) }
     {
         let before = self.counted1;
         self.counted1 = self.seat.counted(fabric, 1);
@@ -302,7 +327,7 @@ impl<B: Lockstep> PrimaryWorker<B> {
     // Whether a run in which nobody is planned to go on alone is at its end: the guest idles with all keys taken, nothing
     // is outstanding, in flight or due, and all is acknowledged.
     pub(super) fn is_at_its_end(&self) -> bool
-        ensures { IsTrue result → IsAtRest self.now }
+        ensures { IsTrue result ↔ ((self.now.plan.contested ≡ false) × IsAtRest B.state B.machine self.now) }
     {
         !self.plan.contested
             && self.is_covered()
@@ -312,6 +337,6 @@ impl<B: Lockstep> PrimaryWorker<B> {
             && self.port0.is_taken()
             && self.port1.is_taken()
             && self.guest.idle
-            && self.due_sector().is_none()
+            && self.no_sector_is_due()
     }
 }

@@ -1,10 +1,14 @@
 //! The chores of a primary's worker at the disk.
-ghost use Rattle.std.specs.Prelude.{◌≡◌, ◌<◌, Some, IfSome};
+ghost use Rattle.std.specs.Prelude.{◌≡◌, ◌≢◌, ◌<◌, ◌↔◌, Some, IfSome, IsTrue};
+ghost use Rattle.disk_dcdd.specs.declared.controller.TheConstants.{DRIVES};
+ghost use Rattle.disk_dcdd.specs.declared.sector.TheConstants.{SECTORS};
 ghost use Rattle.event_callbacks.specs.declared.operations.OpId.TheVariants as id;
 ghost use Rattle.event_callbacks.specs.declared.operations.Operation.TheVariants.{Write};
 ghost use Rattle.pair_rule.specs.Seats.{HasSwapsLeft};
-ghost use Rattle.pair_threads.specs.Choosing.{due_sector, next_sector};
+ghost use Rattle.pair_threads.specs.Choosing.{due_sector, due_write, is_write, next_sector};
+ghost use Rattle.pair_threads.specs.Ending.{NoSectorIsDue};
 ghost use Rattle.pair_threads.specs.Primary.{MayAsk, Works};
+ghost use Rattle.std.specs.List.{find};
 
 use super::PrimaryWorker;
 use disk_dcdd::{SECTOR_BYTES, SECTORS, SectorAddress, SectorWrite};
@@ -33,25 +37,56 @@ impl<B: Lockstep> PrimaryWorker<B> {
         }
     }
 
-    // The oldest write that is not done.
-    fn due_write(&self) -> Option<SectorWrite>
-        ensures { IfSome result (λ w. B.machine.find (B.state self.now.guest.board) (id.Write w.number) ≡ Some (Write w)) }
+    // Whether none of the track that the selected drive's head is at may come.
+    pub(super) fn no_sector_is_due(&self) -> bool
+        ensures { IsTrue result ↔ NoSectorIsDue B.machine (B.state self.now.guest.board) }
     {
-        for id in self.guest.given.iter() {
-            if let OpId::Write(_) = id {
-                return match self.guest.board.outstanding(*id) {
-                    Some(Operation::Write(write)) => Some(*write),
-                    _ => None,
-                };
+        let Some(drive) = self.guest.board.selected() else {
+            return true;
+        };
+        for sector in 0..SECTORS {
+            if self.may_come(drive, sector) {
+                return false;
             }
         }
-        None
+        true
+    }
+
+    // Whether this sector may come, or might if no write of it were outstanding.
+    fn may_come(&self, drive: u8, sector: u8) -> bool
+        requires drive { drive < DRIVES }
+        requires sector { sector < SECTORS }
+        ensures { result ≡ B.machine.ready (B.state self.now.guest.board)
+            (B.machine.address (B.state self.now.guest.board) drive sector) }
+    {
+        let input = Input::Sector {
+            drive,
+            sector,
+            number: 0,
+            bytes: [0; SECTOR_BYTES],
+        };
+        match self.guest.board.check(&input) {
+            Err(Fault::NotDue) => false,
+            _ => true,
+        }
+    }
+
+    // The oldest write that is not done.
+    fn due_write(&self) -> Option<SectorWrite>
+        ensures there { IfSome result (λ w. B.machine.find (B.state self.now.guest.board) (id.Write w.number) ≡ Some (Write w)) }
+        ensures oldest { result ≡ due_write B.machine (B.state self.now.guest.board) self.now.guest.given.items }
+    {
+        let id = first_write(&self.guest.given)?;
+        match self.guest.board.outstanding(id) {
+            Some(Operation::Write(write)) => Some(*write),
+            _ => None,
+        }
     }
 
     // The next request to the disk: the oldest write, or the sector that is due.
     fn due_request(&mut self) -> Option<DiskRequest>
         ensures works { Works B.state B.machine self.old self.new }
-        ensures seat { self.new.seat ≡ self.old.seat }
+        ensures same { (self.new.seat ≡ self.old.seat) × (self.new.asked ≡ self.old.asked) }
         ensures may { IfSome result (MayAsk B.state B.machine self.new) }
     {
         if let Some(write) = self.due_write() {
@@ -77,7 +112,8 @@ impl<B: Lockstep> PrimaryWorker<B> {
     fn pass_sector(&mut self)
         ensures works { Works B.state B.machine self.old self.new }
         ensures next { self.new.sector ≡ next_sector self.old.sector }
-        ensures same { (self.new.seat ≡ self.old.seat) × (self.new.guest ≡ self.old.guest) × (self.new.list ≡ self.old.list) }
+        ensures same { (self.new.seat ≡ self.old.seat) × (self.new.guest ≡ self.old.guest) × (self.new.list ≡ self.old.list)
+            × (self.new.asked ≡ self.old.asked) }
     {
         self.sector = (self.sector + 1) % SECTORS;
     }
@@ -88,6 +124,7 @@ impl<B: Lockstep> PrimaryWorker<B> {
         requires before { self.old.seat.core.known.primary.winner ≡ 0 }
         requires swaps { HasSwapsLeft self.old.seat.core }
         ensures works { Works B.state B.machine self.old self.new }
+        ensures asked { IsTrue result ↔ (self.new.asked ≢ self.old.asked) }
     {
         if self.asked || self.answer.is_some() {
             return false;
@@ -108,6 +145,7 @@ impl<B: Lockstep> PrimaryWorker<B> {
         requires before { self.old.seat.core.known.primary.winner ≡ 0 }
         requires swaps { HasSwapsLeft self.old.seat.core }
         ensures works { Works B.state B.machine self.old self.new }
+        ensures came { IsTrue result ↔ (self.new.asked ≢ self.old.asked) }
     {
         if !self.asked {
             return false;
@@ -142,5 +180,22 @@ impl<B: Lockstep> PrimaryWorker<B> {
                 true
             }
         }
+    }
+}
+
+// The first write among these names.
+fn first_write(names: &[OpId]) -> Option<OpId>
+    ensures { result ≡ find is_write names.now }
+{
+    names.iter().copied().find(|id| is_write(*id))
+}
+
+// Whether the operation of this name is a write.
+fn is_write(id: OpId) -> bool
+    ensures { result ≡ is_write id }
+{
+    match id {
+        OpId::Write(_) => true,
+        OpId::Byte(..) => false,
     }
 }

@@ -1,9 +1,11 @@
 //! The turns of a primary's worker: it appends the entry that waits, and otherwise does its chores in rotation.
-ghost use Rattle.std.specs.Prelude.{◌≡◌, ◌↔◌, [], length, None, Some, true, IsTrue, OnOk};
+ghost use Rattle.std.specs.Prelude.{◌≡◌, ◌⊎◌, ◌↔◌, [], length, None, Some, true, IfErr, IfOk, IsTrue, OnOk};
 ghost use Rattle.pair_threads.specs.declared.worker.Turn.TheVariants as turn;
 ghost use Rattle.event_callbacks.specs.declared.operations.OpId.{OpId};
 ghost use Rattle.pair_rule.specs.Seats.{HasSwapsLeft};
-ghost use Rattle.pair_threads.specs.Primary.{IsAtRest, WorkerKeeps, WorkerLeads, Works};
+ghost use Rattle.pair_threads.specs.Choosing.{fruitless_after, turn_after};
+ghost use Rattle.pair_threads.specs.Ending.{IsEnding};
+ghost use Rattle.pair_threads.specs.Primary.{HasDone, IsAtRest, WorkerKeeps, WorkerLeads, Works};
 ghost use Rattle.pair_threads.specs.Turns.{Leaves};
 
 use super::PrimaryWorker;
@@ -30,7 +32,7 @@ impl<B: Lockstep> PrimaryWorker<B> {
     ) -> PrimaryWorker<B>
         requires list { seat.core.known.primary.list ≡ [] }
         requires blank { (seat.core.known.primary.seen ≡ 0) × (seat.core.known.primary.released ≡ [])
-            × (seat.core.known.primary.calls ≡ []) }
+            × (seat.core.known.primary.calls ≡ []) × (seat.core.known.primary.asked ≡ 0) }
         requires uncounted { (seat.core.known.primary.counted0 ≡ 0) × (seat.core.known.primary.counted1 ≡ 0) }
         requires none { (name : OpId) → B.machine.find (B.state board) name ≡ None }
         ensures seat { result.seat ≡ seat }
@@ -73,6 +75,7 @@ impl<B: Lockstep> PrimaryWorker<B> {
         ensures table { self.new.seat.table ≡ self.old.seat.table }
         ensures goes_on { Leaves result (Unit {0}) ⊥ }
         ensures full { result ≡ Ok turn.Waits → self.new.full ≡ true }
+        ensures refused { IfErr result IsEnding }
     {
         self.list.reserve(1)?;
         match self.seat.append(fabric, entry) {
@@ -98,7 +101,8 @@ impl<B: Lockstep> PrimaryWorker<B> {
 
     // Whether its guest may take a new input: nothing that it gave waits for an acknowledgement.
     pub(super) fn may_take_new(&self) -> bool
-        ensures { IsTrue result → self.now.guest.waiting ≡ None }
+        ensures { IsTrue result ↔ ((self.now.guest.waiting ≡ None)
+            × ((self.now.guest.given.items ≡ []) ⊎ (self.now.seen ≡ length self.now.list.items))) }
     {
         self.guest.waiting.is_none() && (self.guest.given.is_empty() || self.is_covered())
     }
@@ -115,6 +119,7 @@ impl<B: Lockstep> PrimaryWorker<B> {
         requires swaps { HasSwapsLeft self.old.seat.core }
         ensures works { OnOk result (Works B.state B.machine self.old self.new) }
         ensures table { self.new.seat.table ≡ self.old.seat.table }
+        ensures refused { IfErr result IsEnding }
     {
         let port = if self.second { 1 } else { 0 };
         match self.chore {
@@ -141,29 +146,51 @@ impl<B: Lockstep> PrimaryWorker<B> {
         requires swaps { HasSwapsLeft self.old.seat.core }
         ensures works { OnOk result (Works B.state B.machine self.old self.new) }
         ensures table { self.new.seat.table ≡ self.old.seat.table }
-        ensures leaves { Leaves result (Unit {0}) (IsAtRest self.new) }
+        ensures leaves { Leaves result (Unit {0}) (IsAtRest B.state B.machine self.new) }
+        ensures turn { IfOk result (λ turn. HasDone self.old self.new turn) }
+        ensures refused { IfErr result IsEnding }
     {
-        if self.chore == Chore::Run && self.is_at_its_end() {
+        let (chore, fruitless) = (self.chore, self.fruitless);
+        if chore == Chore::Run && self.is_at_its_end() {
             return Ok(Turn::Ends);
         }
         let moved = self.attempt(fabric)?;
-        self.chore = self.chore.next();
-        if moved {
-            self.fruitless = 0;
-            return Ok(Turn::Moved);
-        }
-        if self.fruitless < ROTATION {
-            self.fruitless += 1;
-        } else if self.chore == Chore::See {
-            return Ok(Turn::Waits);
-        }
-        Ok(Turn::Looks)
+        self.chore = chore.next();
+        self.fruitless = fruitless_after(moved, fruitless);
+        Ok(turn_after(moved, fruitless, chore))
+    }
+}
+
+// What a turn is after a chore, by how many before it changed nothing in a row.
+fn turn_after(moved: bool, fruitless: u8, chore: Chore) -> Turn
+    ensures { result ≡ turn_after moved fruitless chore }
+{
+    if moved {
+        return Turn::Moved;
+    }
+    match chore {
+        Chore::Run if fruitless >= ROTATION => Turn::Waits,
+        _ => Turn::Looks,
+    }
+}
+
+// How many turns have then changed nothing in a row; they are counted up to a rotation.
+fn fruitless_after(moved: bool, fruitless: u8) -> u8
+    ensures { result ≡ fruitless_after moved fruitless }
+{
+    if moved {
+        0
+    } else if fruitless < ROTATION {
+        fruitless + 1
+    } else {
+        fruitless
     }
 }
 
 impl<B: Lockstep> Worker for PrimaryWorker<B> {
-    ghost use Rattle.std.specs.Prelude.{◌≡◌, false};
+    ghost use Rattle.std.specs.Prelude.{◌≡◌, ◌&&◌, false};
     ghost use Rattle.pair_threads.specs.Ending.{HasAsked};
+    ghost use Rattle.pair_threads.specs.Turns.{AsksAt};
     ghost use Rattle.pair_threads.specs.Primary.{IsAtRest, WorkerKeeps, WorkerLeads};
 
     ghost table = { λ w. w.seat.table };
@@ -175,7 +202,12 @@ impl<B: Lockstep> Worker for PrimaryWorker<B> {
         × WorkerLeads B.state B.machine (B.state first.guest.board) w
         × WorkerKeeps B.machine (B.state first.guest.board) w };
 
-    ghost ended = { λ w. w.plan.contested ≡ false → IsAtRest w };
+    ghost ended = { λ w. w.plan.contested ≡ false → IsAtRest B.state B.machine w };
+
+    ghost asks = { λ old number new.
+        AsksAt old.plan.contests_at number old.seat.core.known.primary.winner new.seat.core.known.primary.winner };
+
+    ghost ends_by = { λ w told. w.plan.contested && told.backup_ended };
 
     fn turn(&mut self, fabric: &Fabric, number: u64) -> R<Turn> {
         if !self.seat.has_swaps_left() {

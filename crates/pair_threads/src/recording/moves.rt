@@ -4,13 +4,15 @@ ghost use Rattle.event_callbacks.specs.declared.devices.TheConstants.{PORTS};
 ghost use Rattle.event_callbacks.specs.declared.operations.OpId.{OpId};
 ghost use Rattle.event_callbacks.specs.declared.operations.OpId.TheVariants as id;
 ghost use Rattle.event_callbacks.specs.declared.operations.Operation.TheVariants.{Byte};
-ghost use Rattle.guest_lockstep.specs.Lockstep.{HasRoom, IsInput};
+ghost use Rattle.guest_lockstep.specs.Lockstep.{HasRoom, IsInput, step_refusal};
 ghost use Rattle.guest_lockstep.specs.Outstanding.{completed_by};
 ghost use Rattle.guest_lockstep.specs.declared.input.Input.TheVariants as input;
 ghost use Rattle.pair_rule.specs.declared.payload.DiskAnswer.TheVariants.{Read, Written};
 ghost use Rattle.pair_rule.specs.Knowledge.{read_at};
 ghost use Rattle.pair_threads.specs.Leading.{HeardOn, LeadsOn, TakesOn};
-ghost use Rattle.std.specs.Prelude.{IfSome};
+ghost use Rattle.pair_threads.specs.Turns.{RunsFor};
+ghost use Rattle.i8080_words.specs.declared.refusal.Fault.TheVariants.{OutOfMemory};
+ghost use Rattle.std.specs.Prelude.{IfErr, IfSome};
 
 use super::Recording;
 use disk_dcdd::{DRIVES, SECTORS, SectorAddress};
@@ -37,10 +39,13 @@ impl<B: Lockstep> Recording<B> {
 
     /// Executes at most `steps` steps, up to the first that gives an operation, whose mark then waits. Returns whether it
     /// has made any. `OutOfMemory`, and `Spent` if a number is at its greatest.
-    #[tactic(auto, using(crate::proofs::Leading::made_all, crate::proofs::Leading::stopped_there, crate::proofs::Leading::gave_one, crate::proofs::Leading::idles_there, crate::proofs::Telling::says_mark))]
+    #[tactic(auto, using(crate::proofs::Leading::made_all, crate::proofs::Leading::stopped_there, crate::proofs::Leading::gave_one, crate::proofs::Leading::idles_there, crate::proofs::Leading::refused_there, crate::proofs::Telling::says_mark))]
     pub(crate) fn run(&mut self, steps: u64) -> R<bool>
         requires free { self.old.waiting ≡ None }
         ensures onward { OnOk result (LeadsOn B.state B.machine self.old self.new) }
+        ensures steps { OnOk result (RunsFor B.machine (B.state self.old.board) steps (B.state self.new.board)) }
+        ensures refused { IfErr result (λ fault. (fault ≡ OutOfMemory)
+            ⊎ (step_refusal B.machine (B.state self.new.board) ≡ Some fault)) }
     {
         self.given.reserve(1)?;
         self.idle = false;

@@ -1,6 +1,7 @@
 //! How a backup's guest repeats the entries of its list.
-ghost use Rattle.std.specs.Prelude.{◌≡◌, ◌<◌, ◌↔◌, ◌++◌, [], ◌∷◌, vec_len, vec_capacity, IsTrue, OnOk};
-ghost use Rattle.pair_threads.specs.Repeating.{GoesOn, IsAt};
+ghost use Rattle.std.specs.Prelude.{◌≡◌, ◌⊎◌, ◌<◌, ◌↔◌, ◌++◌, [], ◌∷◌, vec_len, vec_capacity, IfErr, IsTrue, OnOk};
+ghost use Rattle.i8080_words.specs.declared.refusal.Fault.TheVariants.{OutOfMemory, Stalled};
+ghost use Rattle.pair_threads.specs.Repeating.{FollowsFor, GoesOn, IsAt, IsStuck, has_all};
 
 use super::Repeater;
 use guest_lockstep::Lockstep;
@@ -26,7 +27,8 @@ impl<B: Lockstep> Repeater<B> {
 
     /// Whether it has repeated the whole list.
     pub(crate) fn has_replayed_all(&self) -> bool
-        ensures { IsTrue result ↔ (self.now.replayed ≡ vec_len self.now.list) }
+        ensures all { IsTrue result ↔ (self.now.replayed ≡ vec_len self.now.list) }
+        ensures is { result ≡ has_all self.now }
     {
         self.replayed == self.list.len()
     }
@@ -44,6 +46,9 @@ impl<B: Lockstep> Repeater<B> {
     pub(crate) fn replay(&mut self, steps: u64) -> R<()>
         ensures list { self.new.list ≡ self.old.list }
         ensures goes_on { OnOk result (GoesOn B.state B.machine self.old self.new) }
+        ensures steps { OnOk result (FollowsFor B.state B.machine steps self.old self.new) }
+        ensures refused { IfErr result (λ fault. (fault ≡ OutOfMemory)
+            ⊎ ((fault ≡ Stalled) × IsStuck B.state B.machine self.old)) }
     {
         if self.replayed >= self.list.len() {
             return Ok(());

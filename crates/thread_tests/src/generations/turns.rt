@@ -16,6 +16,26 @@ fn workers_hear_who_is_at_its_end(rt: HostRuntime) {
     assert!(rt; !signals.has_failed());
 }
 
+// That the link, the terminals or the disk are at their ends is nobody's business.
+static OTHERS: [Who; 3] = [Who::Link, Who::Terminal, Who::Disk];
+
+#[test]
+fn workers_do_not_hear_of_other_ends(rt: HostRuntime) {
+    let signals = Signals::new();
+    for who in &OTHERS {
+        signals.ends(*who);
+    }
+    let told = signals.told();
+    assert!(rt; !told.primary_ended && !told.backup_ended);
+}
+
+#[test]
+fn workers_hear_that_the_run_has_failed(rt: HostRuntime) {
+    let signals = Signals::new();
+    signals.fails();
+    assert!(rt; signals.has_failed());
+}
+
 #[test]
 fn workers_hear_whether_the_guest_is_held_up(rt: HostRuntime) {
     let signals = Signals::new();

@@ -22,4 +22,6 @@ returns c = let p = c.requires.parts in let z = settles _ _ _ _ _ p.0 p.1 p.2 p.
       (λ (k : BackupView). last_or 0 k.held_values) z.4;
   winner_is = some-injective _ _ (sym c.word-winner.ensures ∙ ap (λ (l : List ℕ). get_elem? l 2) z.7.1) ∙
       (λ i. winner_of (z.3 i).winner (z.4 i).winner);
+  taken = z.8;
+  came = z.9;
 }

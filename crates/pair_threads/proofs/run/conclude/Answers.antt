@@ -1,5 +1,5 @@
 -- What the workers are taken apart into, and who goes on alone.
-use Rattle.std.proofs.Common.{ap, sym, ◌∙◌, not, Vec, Global}
+use Rattle.std.proofs.Common.{ap, sym, ◌∙◌, not, Vec, Global, arith}
 use Rattle.std.proofs.lemmas.Bool.{false≢true}
 use Rattle.std.specs.Option.{is_some}
 use Rattle.log_entry.specs.declared.entry.Entry.{Entry}
@@ -7,7 +7,7 @@ use Rattle.pair_rule.specs.Seats.{Seat}
 use Rattle.guest_lockstep.specs.Machine.{booted_from}
 use Rattle.pair_threads.specs.Shown.{IsOfRun}
 use Rattle.pair_threads.specs.Stores.{bytes_in}
-use Rattle.pair_threads.proofs.Ending.{ends, ends_so, settled_so}
+use Rattle.pair_threads.proofs.Ending.{all_came, ends, ends_so, settled_so}
 use Rattle.pair_threads.proofs.Shown.{all_so, of_run}
 use Rattle.pair_threads.proofs.run.conclude.Goals as goal
 use Rattle.pair_threads.proofs.run.conclude.Goals.{else-contested-via-then-contested+else-is_none, else-contested-via-else-contested}
@@ -57,4 +57,10 @@ returns-clause-ran g c = λ boot first typed0 typed1 lawful leads kept at store.
     (ap g.B.Lockstep.state parts.boards.1)
     (of_run g.B.Lockstep.state g.B.Lockstep.machine boot first lawful p b c.args.terminal.seat.core.known.terminal
     c.args.disk.seat.core.known.disk closed.tail closed.held closed.winner settled (g.D.SectorStore.records c.args.disk.disk)
-    leads.2 kept at store goes c.winner_of-winner.ensures)
+    leads.2 kept at store goes c.winner_of-winner.ensures
+    (λ none. all_came p (c.requires.rests (elim c.else-contested.branch [
+      | else-contested-via-then-contested+else-is_none w ↦
+          absurd (false≢true (sym (ap is_some none) ∙ w.is_none.ensures ∙ ap not w.if-is_none.false))
+      | else-contested-via-else-contested w ↦ w.if-contested.false
+    ])).asks_nothing)
+    (let few = c.args.disk.requests in omega (arith, few)))

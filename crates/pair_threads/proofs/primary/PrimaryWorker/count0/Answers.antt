@@ -4,16 +4,13 @@ use Rattle.pair_rule.specs.declared.view.Core.{Core}
 use Rattle.pair_threads.proofs.Views.{counts_at0, works_on}
 use Rattle.pair_threads.proofs.primary.PrimaryWorker.count0.Goals as goal
 
-pub returns : goal.returns
-returns g c =
+pub returns-clause-works : goal.returns-clause-works
+returns-clause-works g c =
     let M = g.B.Lockstep.machine in
     let old = c.args.self.now in
     let view = old.seat.core.known.primary in
-    record {
-      works =
-          works_on g.B.Lockstep.state M old c.counted-self.new.self (record view { counted0 = c.counted-self.result })
-          c.counted-self.ensures.same (ap (λ (k : Core). k.known.primary) c.counted-self.ensures.view) refl
-          (λ boot taken accepted leads. counts_at0 g.B.Lockstep.state M boot view taken accepted old.guest leads
-          g.met.B.Lockstep.counts g.met.B.Lockstep.operations c.counted-self.result)
-          (λ boot leads kept. kept);
-    }
+    works_on g.B.Lockstep.state M old c.counted-self.new.self (record view { counted0 = c.counted-self.result })
+    c.counted-self.ensures.same (ap (λ (k : Core). k.known.primary) c.counted-self.ensures.view) refl
+    (λ boot taken accepted leads. counts_at0 g.B.Lockstep.state M boot view taken accepted old.guest leads
+    g.met.B.Lockstep.counts g.met.B.Lockstep.operations c.counted-self.result)
+    (λ boot leads kept. kept)
