@@ -1,6 +1,8 @@
 //! The command line.
-ghost use Rattle.std.specs.Prelude.{◌≡◌, IfErr, true};
+ghost use Rattle.std.specs.Prelude.{◌≡◌, IfErr, IfOk, map, true};
+ghost use Rattle.clap.specs.Words.{found_of, one_text};
 ghost use Rattle.command_ending.specs.Statuses.{is_of_command_line};
+ghost use Rattle.command_line.specs.Orders.{Asks, IsGiven, IsOrdered, fate_of, values_of};
 
 use crate::live_order::LiveOrder;
 use clap::builder::ValueParser;
@@ -127,6 +129,13 @@ static ASKS: [(&str, &str); 2] = [
 
 fn parse(alloc: Global, arguments: &[String]) -> Result<Request, Error> {
     let matches = pair_command(alloc)?.try_get_matches_from(arguments)?;
+    request_in(alloc, &matches)
+}
+
+// What is asked for by what was found in the words.
+fn request_in(alloc: Global, matches: &ArgMatches<'_>) -> Result<Request, Error>
+    ensures { IfOk result (λ request. Asks matches.now request) }
+{
     match matches.subcommand() {
         Some(("check", _)) => Ok(Request::Check),
         Some(("picture", _)) => Ok(Request::Picture),
@@ -187,23 +196,44 @@ fn turn<'a>(alloc: Global, name: &'a str, least: u64) -> Arg<'a> {
 }
 
 // What the words after `live` say.
-fn live_order(alloc: Global, matches: &ArgMatches<'_>) -> Result<LiveOrder, Error> {
-    let mut link = Vec::new(alloc);
-    if let Some(words) = matches.get_strs("link") {
-        for word in words {
-            link.push(fate_of(word))?;
-        }
-    }
+#[tactic(auto, using(crate::proofs::Orders::given_or))]
+fn live_order(alloc: Global, matches: &ArgMatches<'_>) -> Result<LiveOrder, Error>
+    ensures { IfOk result (λ order. IsOrdered (found_of matches.now) order) }
+{
+    let turns = number(matches, "turns").unwrap_or(TURNS);
+    let primary_asks = number(matches, "primary-asks");
+    let backup_asks = number(matches, "backup-asks");
+    let link = fates_of(alloc, matches.get_strs("link").unwrap_or(&[]))?;
     Ok(LiveOrder {
-        turns: matches.get_one("turns").unwrap_or(TURNS),
-        primary_asks: matches.get_one("primary-asks"),
-        backup_asks: matches.get_one("backup-asks"),
+        turns,
+        primary_asks,
+        backup_asks,
         link,
     })
 }
 
+// The number that an option was given, if it was.
+fn number(matches: &ArgMatches<'_>, option: &str) -> Option<u64>
+    ensures { IsGiven (one_text (found_of matches.now) option.now) result }
+{
+    matches.get_one(option)
+}
+
+// The fates of packets, by their names.
+fn fates_of(alloc: Global, words: &[&str]) -> Result<Vec<Fate>, AllocError>
+    ensures { IfOk result (λ fates. fates.items ≡ map fate_of (map (λ word. word.now) words.now)) }
+{
+    let mut fates = Vec::new(alloc);
+    for word in words {
+        fates.push(fate_of(word))?;
+    }
+    Ok(fates)
+}
+
 // The fate of a packet, by its name.
-fn fate_of(word: &str) -> Fate {
+fn fate_of(word: &str) -> Fate
+    ensures { result ≡ fate_of word.now }
+{
     match word {
         "drop" => Fate::Drop,
         "twice" => Fate::Twice,

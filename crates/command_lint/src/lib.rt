@@ -4,6 +4,5 @@
 mod lint;
 mod named;
 mod reason;
-mod taking;
 
 pub use lint::run_lint;

@@ -8,9 +8,8 @@ ghost use Rattle.script_language.specs.Meaning as meaning;
 
 use crate::named::{Named, WellFormed};
 use crate::reason::{Reason, reason_of};
-use crate::taking::{Taking, first_line, text_of};
 use command_ending::{Failure, Report};
-use script_language::{SCRIPT_BYTES, ScriptError, parse, read_script};
+use script_language::{Draft, SCRIPT_BYTES, ScriptError, first_line, parse, read_script, text_of};
 use std::alloc::{AllocError, Global};
 use std::io::{Read, Write};
 
@@ -82,53 +81,46 @@ fn name_all<W: Write + Drop>(
         (handed (W.contents writer.old) report.old) (handed (W.contents writer.new) report.new) }
 {
     let drives = drives_of(alloc, bytes)?;
-    let mut taking = Taking::new(alloc)?;
-    let (line, rest) = line_at(alloc, &mut taking, bytes, first)?;
+    let mut draft = Draft::new(alloc)?;
+    let (line, rest) = line_at(alloc, &mut draft, bytes, first)?;
     let reason = if is_too_large(bytes, rest) {
         Reason::Size
     } else {
-        reason_of(text_of(line), taking.has_begun, drives)
+        reason_of(text_of(line), draft.has_begun(), drives)
     };
     name(alloc, first, &reason, report, writer)?;
     name_others(
-        alloc,
-        &mut taking,
-        bytes,
-        rest,
-        first,
-        drives,
-        report,
-        writer,
+        alloc, &mut draft, bytes, rest, first, drives, report, writer,
     )
 }
 
 // How many drives are attached in the end.
-fn drives_of(alloc: Global, bytes: &[u8]) -> Result<u8, AllocError> {
-    let mut taking = Taking::new(alloc)?;
-    let mut rest = bytes;
-    for number in 1..u64::MAX {
-        if rest.is_empty() {
-            break;
-        }
-        let (line, after) = first_line(rest);
-        taking.take(alloc, number, text_of(line))?;
-        rest = after;
-    }
-    Ok(taking.drives())
+fn drives_of(alloc: Global, bytes: &[u8]) -> Result<u8, AllocError>
+    ensures { IfOk result (λ drives. drives ≡ (meaning.said_in bytes.now).boot.drives) }
+{
+    let mut draft = Draft::new(alloc)?;
+    draft.read(alloc, bytes)?;
+    Ok(draft.drives())
 }
 
 // Takes the lines before the one of this number. That one, and what is after it.
 fn line_at<'a>(
     alloc: Global,
-    taking: &mut Taking,
+    draft: &mut Draft,
     bytes: &'a [u8],
     wanted: u64,
 ) -> Result<(&'a [u8], &'a [u8]), AllocError> {
     let mut rest = bytes;
     for number in 1..wanted {
+        if rest.is_empty() {
+            break;
+        }
         let (line, after) = first_line(rest);
-        taking.take(alloc, number, text_of(line))?;
+        draft.take(alloc, number, text_of(line))?;
         rest = after;
+    }
+    if rest.is_empty() {
+        return Ok((rest, rest));
     }
     Ok(first_line(rest))
 }
@@ -143,7 +135,7 @@ fn is_too_large(bytes: &[u8], after: &[u8]) -> bool {
 #[tactic(auto, using(crate::proofs::Linting::writes_none, crate::proofs::Linting::writes_more, crate::proofs::Linting::writes_until))]
 fn name_others<W: Write + Drop>(
     alloc: Global,
-    taking: &mut Taking,
+    draft: &mut Draft,
     bytes: &[u8],
     left: &[u8],
     first: u64,
@@ -161,7 +153,7 @@ fn name_others<W: Write + Drop>(
         }
         let (line, after) = first_line(rest);
         let is_last = is_too_large(bytes, after);
-        name_if_bad(alloc, taking, number, line, is_last, drives, report, writer)?;
+        name_if_bad(alloc, draft, number, line, is_last, drives, report, writer)?;
         rest = after;
     }
     Ok(())
@@ -171,7 +163,7 @@ fn name_others<W: Write + Drop>(
 #[tactic(auto, using(crate::proofs::Linting::writes_none, crate::proofs::Linting::writes_name))]
 fn name_if_bad<W: Write + Drop>(
     alloc: Global,
-    taking: &mut Taking,
+    draft: &mut Draft,
     number: u64,
     line: &[u8],
     is_too_large: bool,
@@ -183,7 +175,7 @@ fn name_if_bad<W: Write + Drop>(
     ensures { WritesUntil result
         (handed (W.contents writer.old) report.old) (handed (W.contents writer.new) report.new) }
 {
-    match reason_if_bad(alloc, taking, number, line, is_too_large, drives)? {
+    match reason_if_bad(alloc, draft, number, line, is_too_large, drives)? {
         Some(reason) => name(alloc, number, &reason, report, writer),
         None => Ok(()),
     }
@@ -192,7 +184,7 @@ fn name_if_bad<W: Write + Drop>(
 // Takes a line, unless it is bad: then why.
 fn reason_if_bad<'a>(
     alloc: Global,
-    taking: &mut Taking,
+    draft: &mut Draft,
     number: u64,
     line: &'a [u8],
     is_too_large: bool,
@@ -204,11 +196,11 @@ fn reason_if_bad<'a>(
         return Ok(Some(Reason::Size));
     }
     let text = text_of(line);
-    let is_taken = taking.take(alloc, number, text)?;
-    if is_taken && !taking.is_astray(number, drives) {
+    let is_taken = draft.take(alloc, number, text)?;
+    if is_taken && !draft.is_astray(number, drives) {
         return Ok(None);
     }
-    Ok(Some(reason_of(text, taking.has_begun, drives)))
+    Ok(Some(reason_of(text, draft.has_begun(), drives)))
 }
 
 // Names a line.

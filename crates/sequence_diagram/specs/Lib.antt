@@ -1,3 +1,4 @@
 pub mod Arrows
 pub mod Geometry
 pub mod Messages
+pub mod Places

@@ -1,4 +1,6 @@
 //! The columns of a diagram, from left to right: terminals, nodes, the arbiter and the disk, those that take part.
+ghost use Rattle.std.specs.Prelude.{◌≡◌};
+ghost use Rattle.sequence_diagram.specs.Places.{column_of, is_place};
 
 use crate::moment::Moment;
 use crate::place::Place;
@@ -56,11 +58,31 @@ impl Columns {
     }
 
     /// The column of a place, from 0; the first if it has none.
-    pub fn column(&self, place: Place) -> usize {
-        self.places
-            .iter()
-            .position(|other| *other == place)
-            .unwrap_or(0)
+    pub fn column(&self, place: Place) -> usize
+        ensures { result ≡ column_of self.now.places.items place }
+    {
+        let mut rest = self.places.as_slice();
+        let mut column = 0usize;
+        'places: while let [other, after @ ..] = rest {
+            if is_place(*other, place) {
+                return column;
+            }
+            rest = after;
+            column = column.saturating_add(1);
+        }
+        0
+    }
+}
+
+// Whether two places are the same.
+fn is_place(place: Place, other: Place) -> bool
+    ensures { result ≡ is_place place other }
+{
+    match (place, other) {
+        (Place::Terminal(port), Place::Terminal(other)) => port == other,
+        (Place::Node(node), Place::Node(other)) => node == other,
+        (Place::Arbiter, Place::Arbiter) | (Place::Disk, Place::Disk) => true,
+        _ => false,
     }
 }
 

@@ -1,4 +1,6 @@
 //! What passes between two places at once, without a message: keys, what a terminal has accepted, questions to the arbiter.
+ghost use Rattle.std.specs.Prelude.{◌≡◌};
+ghost use Rattle.sequence_diagram.specs.Places.{exchange_of};
 
 use crate::moment::Moment;
 use crate::place::Place;
@@ -13,7 +15,9 @@ pub struct Exchange {
 }
 
 /// The exchange that an event is, if it was not refused; a refusal by the arbiter is also an answer.
-pub fn exchange_of(moment: &Moment) -> Option<Exchange> {
+pub fn exchange_of(moment: &Moment) -> Option<Exchange>
+    ensures { result ≡ exchange_of moment.now }
+{
     match (moment.event, moment.answer) {
         (Event::Suspect { node }, Ok(_) | Err(Fault::Lost)) => Some(Exchange {
             from: Place::Node(node),

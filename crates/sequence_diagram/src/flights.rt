@@ -1,4 +1,6 @@
 //! The way of a message from place to place, and the parts of a copy, which share a line.
+ghost use Rattle.std.specs.Prelude.{◌≡◌};
+ghost use Rattle.sequence_diagram.specs.Places.{HasFlight, is_other};
 
 use crate::arrows::{arrow_to, departure_from};
 use crate::lines::Lines;
@@ -17,7 +19,10 @@ pub struct Flight {
 }
 
 /// The way of the message that an event has brought.
-pub fn flight_to(moments: &[Moment], place: usize) -> Option<Flight> {
+#[tactic(auto, using(crate::proofs::Flying::not_here, crate::proofs::Flying::not_there, crate::proofs::Flying::not_sent))]
+pub fn flight_to(moments: &[Moment], place: usize) -> Option<Flight>
+    ensures { HasFlight moments.now place result }
+{
     let moment = moments.get(place)?;
     let arrow = arrow_to(moments, place)?;
     let sent = moments.get(arrow.sent)?;
@@ -26,8 +31,18 @@ pub fn flight_to(moments: &[Moment], place: usize) -> Option<Flight> {
         from: sender_of(sent.event),
         to: receiver_of(sent, moment.event),
         sent: arrow.sent,
-        is_again: departure.came != Some(place),
+        is_again: is_other(departure.came, place),
     })
+}
+
+// Whether the first event that brought a message is not this one.
+fn is_other(came: Option<usize>, place: usize) -> bool
+    ensures { result ≡ is_other came place }
+{
+    match came {
+        Some(came) => came != place,
+        None => true,
+    }
 }
 
 /// Parts of a copy on one line: how many were sent and how many arrived, the way of the first that arrived, and whether the

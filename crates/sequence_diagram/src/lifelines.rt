@@ -1,4 +1,6 @@
 //! The columns as they are drawn: their heads, and each node's line in the style of its role.
+ghost use Rattle.std.specs.Prelude.{◌≡◌};
+ghost use Rattle.sequence_diagram.specs.Places.{first_role};
 
 use crate::columns::Columns;
 use crate::drawing::{Drawing, Side};
@@ -13,7 +15,9 @@ use std::alloc::AllocError;
 const HEAD: u64 = 62;
 
 /// The role of a node before anything happens: nodes 0 and 1 are the first pair, and the others are spare hosts.
-pub fn first_role(node: u64) -> Option<Role> {
+pub fn first_role(node: u64) -> Option<Role>
+    ensures { result ≡ first_role node }
+{
     match node {
         0 => Some(Role::Primary),
         1 => Some(Role::Backup),

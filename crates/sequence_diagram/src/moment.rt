@@ -1,6 +1,7 @@
 //! What is told of a run: its events, what was answered to each, and what is seen of the pair after it.
 ghost use Rattle.std.specs.Prelude.{◌≡◌};
 ghost use Rattle.sequence_diagram.specs.Messages.{brought_by, delivered_by, sent_by};
+ghost use Rattle.sequence_diagram.specs.Places.{look_role, role_told};
 
 use disk_dcdd::SectorAddress;
 use guest_trace::Bare;
@@ -85,18 +86,25 @@ impl Moment {
     }
 
     /// The role of a node after the event, if the event tells it.
-    pub fn role_of(&self, node: u64) -> Option<Role> {
-        if let (Event::BeginPair { host, .. }, Ok(_)) = (self.event, self.answer) {
-            if host == node {
-                return Some(Role::Joining);
-            }
+    pub fn role_of(&self, node: u64) -> Option<Role>
+        ensures { result ≡ role_told node self.now }
+    {
+        match (self.event, self.answer) {
+            (Event::BeginPair { host, .. }, Ok(_)) if host == node => Some(Role::Joining),
+            _ => look_role(node, self.look),
         }
-        let look = self.look?;
-        if look.node == node {
-            return Some(look.role);
-        }
-        None
     }
+}
+
+// The role that a node shows of itself.
+fn look_role(node: u64, look: Option<Look>) -> Option<Role>
+    ensures { result ≡ look_role node look }
+{
+    let look = look?;
+    if look.node == node {
+        return Some(look.role);
+    }
+    None
 }
 
 /// The message that an event delivers.

@@ -1,4 +1,6 @@
 //! Where things happen: at a terminal, at a node, at the arbiter or at the disk.
+ghost use Rattle.std.specs.Prelude.{◌≡◌};
+ghost use Rattle.sequence_diagram.specs.Places.{change_node_of, later_node_of, node_of, node_or_terminal, place_of, receiver_by, sender_of};
 
 use crate::arrows::arrow_to;
 use crate::moment::{Cargo, Moment};
@@ -27,7 +29,9 @@ impl fmt::Display for Place {
 }
 
 /// The node at which an event happens, if it happens at one.
-pub fn node_of(event: Event) -> Option<u64> {
+pub fn node_of(event: Event) -> Option<u64>
+    ensures { result ≡ node_of event }
+{
     match event {
         Event::Step { node, .. }
         | Event::TakeKey { node, .. }
@@ -41,7 +45,9 @@ pub fn node_of(event: Event) -> Option<u64> {
     }
 }
 
-fn later_node_of(event: Event) -> Option<u64> {
+fn later_node_of(event: Event) -> Option<u64>
+    ensures { result ≡ later_node_of event }
+{
     match event {
         Event::TellSent { node, .. }
         | Event::Told { node, .. }
@@ -54,7 +60,9 @@ fn later_node_of(event: Event) -> Option<u64> {
     }
 }
 
-fn change_node_of(event: Event) -> Option<u64> {
+fn change_node_of(event: Event) -> Option<u64>
+    ensures { result ≡ change_node_of event }
+{
     match event {
         Event::Suspect { node }
         | Event::Drain { node, .. }
@@ -68,7 +76,9 @@ fn change_node_of(event: Event) -> Option<u64> {
 }
 
 /// Where the message that an event sent leaves.
-pub fn sender_of(event: Event) -> Place {
+pub fn sender_of(event: Event) -> Place
+    ensures { result ≡ sender_of event }
+{
     match event {
         Event::Send { node, .. }
         | Event::Acknowledge { node }
@@ -79,26 +89,34 @@ pub fn sender_of(event: Event) -> Place {
 }
 
 /// Where the message that the first event sent and the second one brings arrives.
-pub fn receiver_of(sent: &Moment, event: Event) -> Place {
+pub fn receiver_of(sent: &Moment, event: Event) -> Place
+    ensures { result ≡ receiver_by event sent.now.cargo }
+{
     match (event, sent.cargo) {
         (Event::Put { .. }, _) => Place::Disk,
         (Event::Arrive { .. }, Some(Cargo::Byte { port, .. })) => Place::Terminal(port),
-        (other, _) => match node_of(other) {
-            Some(node) => Place::Node(node),
-            None => Place::Terminal(0),
-        },
+        (other, _) => node_or_terminal(node_of(other)),
+    }
+}
+
+// A node, or the terminal of port 0 if there is none.
+fn node_or_terminal(node: Option<u64>) -> Place
+    ensures { result ≡ node_or_terminal node }
+{
+    match node {
+        Some(node) => Place::Node(node),
+        None => Place::Terminal(0),
     }
 }
 
 /// Where an event happens that neither sends nor brings a message.
-pub fn place_of(event: Event) -> Place {
-    if let Event::TypeByte { port, .. } = event {
-        return Place::Terminal(port);
-    }
-    match (event, node_of(event)) {
-        (_, Some(node)) => Place::Node(node),
-        (Event::Put { .. }, None) => Place::Disk,
-        (_, None) => Place::Terminal(0),
+pub fn place_of(event: Event) -> Place
+    ensures { result ≡ place_of event }
+{
+    match event {
+        Event::TypeByte { port, .. } => Place::Terminal(port),
+        Event::Put { .. } => Place::Disk,
+        other => node_or_terminal(node_of(other)),
     }
 }
 
