@@ -3,7 +3,7 @@ ghost use Rattle.std.specs.Prelude.{◌≡◌, ◌≤◌, IfErr, IfOk, IfSome};
 ghost use Rattle.event_callbacks.specs.declared.devices.TheConstants.{SENT, SECTOR, WRITTEN};
 ghost use Rattle.event_callbacks.specs.Keeping.{Keeps};
 ghost use Rattle.command_shell.specs.Sessions.{Answers};
-ghost use Rattle.pair_shell.specs.Sessions.{is_ended};
+ghost use Rattle.shell_book.specs.Outcomes.{is_ended};
 ghost use Rattle.command_ending.specs.declared.failure.Failure.TheVariants as failure;
 
 use command_ending::Failure;

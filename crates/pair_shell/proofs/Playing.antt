@@ -117,7 +117,7 @@ module _ {B H S : Type 0} (state : B → S) (copied : B → Guest) (M : Machine 
       (subst (λ n. LinePlays state copied M Boots None tape n) (sym is) (booted, (boots, plays)))
 
   line_nothing : (before : Option (Running B H Disk)) → LinePlays state copied M Boots before [] before
-  line_nothing None = tt
+  line_nothing None = refl
   line_nothing (Some old) = plays_nothing state copied M old old [] refl refl
 
   -- a line that makes nothing happen

@@ -7,10 +7,11 @@ use Rattle.pair_events.specs.declared.event.Event.{Event}
 use Rattle.pair_events.specs.declared.reply.Reply.{Reply}
 use Rattle.shell_language.specs.declared.line.ShellLine.{ShellLine}
 use Rattle.shell_opening.specs.Openings.{SetsUp, SetsUpSaid}
-use Rattle.pair_shell.specs.Sessions.{Ends, EndsSaid, HeedsSaid, IsHeeded, trace_after}
+use Rattle.pair_shell.specs.Sessions.{HeedsSaid, IsHeeded, is_quit, trace_after}
+use Rattle.shell_book.specs.Outcomes.{is_ended}
 use Rattle.shell_book.specs.declared.outcome.Outcome.{Outcome}
 use Rattle.shell_book.specs.Tapes.{Begins, IsAnswered, Traces, event_lines, played, told_text, trace_text}
-use Rattle.shell_book.specs.Texts.{Adds, AddsSome}
+use Rattle.shell_book.specs.Texts.{AddsLine, AddsSome, mark}
 use Rattle.shell_opening.specs.declared.opening.Opening.{Opening}
 use Rattle.shell_book.specs.declared.printing.Printed.{Printed}
 use Rattle.shell_book.specs.declared.tape.Played.{Played}
@@ -56,13 +57,13 @@ answered_traced happened answer tape traced old new alone traces is = record {
 
 -- it was answered alone
 pub answered : (happened : Event) (answer : Result Reply Fault) (tape : List Played) (old new : Printed)
-    → tape ≡ played happened answer ∷ [] → old.is_traced ≡ false
-    → Adds (answer_line answer ++ (10 ∷ [])) old new
+    → tape ≡ played happened answer ∷ [] → old.is_traced ≡ false → AddsLine (answer_line answer) old new
     → IsAnswered happened tape old.is_traced (string_bytes old.text) (string_bytes new.text)
 answered happened answer tape old new alone is adds = record {
   answer = answer;
   alone = alone;
-  told = adds.0 ∙ ap (λ b. string_bytes old.text ++ told_text b (played happened answer)) (sym is);
+  told = adds.0 ∙ ap (λ b. string_bytes old.text ++ (mark b ++ answer_line answer ++ (10 ∷ []))) is
+      ∙ ap (λ b. string_bytes old.text ++ told_text b (played happened answer)) (sym is);
 }
 
 -- an event that was traced comes first
@@ -89,10 +90,13 @@ pub heeds_said : (line : ShellLine) (said : Option ShellLine) (tape : List Playe
     → Some line ≡ said → IsHeeded line tape traced [] text → HeedsSaid said tape traced [] text
 heeds_said line said tape traced text is heeded = subst (λ s. HeedsSaid s tape traced [] text) is heeded
 
--- so is that it ends the session
-pub ends_said : (line : ShellLine) (said : Option ShellLine) (told : Outcome) → Some line ≡ said → Ends line told
-    → EndsSaid said told
-ends_said line said told is ends = subst (λ s. EndsSaid s told) is ends
+-- so is whether the session ends with it
+pub ends_said : (line : ShellLine) (said : Option ShellLine) (told : Outcome) → Some line ≡ said
+    → is_ended told ≡ is_quit (Some line) → is_ended told ≡ is_quit said
+ends_said line said told is ends = ends ∙ ap is_quit is
+
+pub ends_not : (said : Option ShellLine) (told : Outcome) → None ≡ said → is_ended told ≡ false → is_ended told ≡ is_quit said
+ends_not said told is ends = ends ∙ ap is_quit is
 
 -- so is what it changes in the setup
 pub sets_up_said : (line : ShellLine) (said : Option ShellLine) (old new : Opening) → Some line ≡ said → SetsUp line old new

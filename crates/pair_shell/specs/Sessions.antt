@@ -1,5 +1,5 @@
 -- What a line does to a session.
-use Rattle.std.specs.Prelude.{◌≡◌, ℕ, zero, suc, Bool, true, false, List, Option, Some, None, slice_set}
+use Rattle.std.specs.Prelude.{◌≡◌, ℕ, zero, suc, Bool, true, false, List, [], Option, Some, None, slice_set}
 use Rattle.altair_copies.specs.Copies.{image_copy}
 use Rattle.guest_parts.specs.Guest.{Guest}
 use Rattle.guest_board.specs.Guest.{guest_at_boot}
@@ -16,8 +16,6 @@ use Rattle.shell_book.specs.Tapes.{IsAnswered}
 use Rattle.pair_shell.specs.declared.notes.Notes.{Notes}
 use Rattle.shell_opening.specs.declared.opening.Opening.{Opening}
 use Rattle.shell_book.specs.declared.tape.Played.{Played}
-use Rattle.shell_book.specs.declared.outcome.Outcome.{Outcome}
-use Rattle.shell_book.specs.declared.outcome.Outcome.TheVariants as outcome
 
 -- a pair has just booted as a session's setup says
 abbrev pub BootsBy : {B H : Type 0} → (B → Guest) → Opening → Running B H Disk → Type 0
@@ -25,14 +23,14 @@ BootsBy state opening v = IsBooted state state some_altair (image_copy opening.s
     opening.setup.guest.reads (guest_at_boot opening.setup.guest) opening.setup.guest.drives opening.setup.hosts opening.sectors.items v
 
 -- A pair that has booted plays the tape of the line. One that boots at this line does so as its setup says, and then
--- plays the tape.
+-- plays the tape; if none boots, nothing is played.
 abbrev pub LinePlays : {B H S : Type 0} → (B → S) → (B → Guest) → Machine S → (Running B H Disk → Type 0)
     → Option (Running B H Disk) → List Played → Option (Running B H Disk) → Type 0
 LinePlays state copied M Boots (Some old) tape (Some new) = Plays state copied M old tape new
 LinePlays {B = B} {H = H} state copied M Boots None tape (Some new) =
     (booted : Running B H Disk) × (Boots booted × Plays state copied M booted tape new)
 LinePlays state copied M Boots (Some old) tape None = ⊥
-LinePlays state copied M Boots None tape None = Unit {0}
+LinePlays state copied M Boots None tape None = tape ≡ []
 
 -- the same of a pair of Altairs, of which each board shows its guest
 abbrev pub AltairsPlay : {B H : Type 0} → (B → Guest) → Opening → Option (Running B H Disk) → List Played
@@ -54,20 +52,10 @@ abbrev pub trace_after : Option ShellLine → Bool → Bool
 trace_after (Some (shell.Trace is_on)) is_traced = is_on
 trace_after _ is_traced = is_traced
 
--- `quit` ends the session
-abbrev pub Ends : ShellLine → Outcome → Type 0
-Ends shell.Quit told = told ≡ outcome.Ended
-Ends _ told = Unit {0}
-
--- the same of a text that says some line
-abbrev pub EndsSaid : Option ShellLine → Outcome → Type 0
-EndsSaid (Some line) told = Ends line told
-EndsSaid None told = Unit {0}
-
--- what became of a line was that
-abbrev pub is_ended : Outcome → Bool
-is_ended outcome.Ended = true
-is_ended _ = false
+-- a line is `quit`
+abbrev pub is_quit : Option ShellLine → Bool
+is_quit (Some shell.Quit) = true
+is_quit _ = false
 
 -- so many bytes of a terminal were shown
 abbrev pub shown_at : List ℕ → ℕ → ℕ → List ℕ

@@ -26,10 +26,11 @@ impl<T: Completes + Drop + Copy, S: Completes + Drop + Copy, W: Completes + Drop
     S,
     W,
 > {
-    ghost use Rattle.std.specs.Prelude.{◌≡◌, [], true, IfOk, None, Some, string_bytes};
+    ghost use Rattle.std.specs.Prelude.{◌≡◌, [], true, false, IfOk, None, Some, string_bytes};
     ghost use Rattle.shell_language.specs.Saying.{said};
     ghost use Rattle.shell_opening.specs.Openings.{IsSame, SetsUp, SetsUpSaid};
-    ghost use Rattle.pair_shell.specs.Sessions.{AltairsPlay, Ends, EndsSaid, HeedsSaid, IsAsBefore, IsHeeded, trace_after};
+    ghost use Rattle.pair_shell.specs.Sessions.{AltairsPlay, HeedsSaid, IsAsBefore, IsHeeded, is_quit, trace_after};
+    ghost use Rattle.shell_book.specs.Outcomes.{is_ended};
     ghost use Rattle.shell_book.specs.Tapes.{Begins, trace_text};
     ghost use Rattle.shell_book.specs.declared.outcome.Outcome.TheVariants as outcome;
 
@@ -46,7 +47,7 @@ impl<T: Completes + Drop + Copy, S: Completes + Drop + Copy, W: Completes + Drop
     /// Answers a line, which is without its LF and a CR before that. What it makes happen is on the tape, event by event,
     /// each with its answer; a trace says it line by line. A line that is wrong changes nothing. One that is an event of the
     /// script language makes that event alone, and is answered as a script is.
-    #[tactic(auto, using(crate::proofs::Playing::line_plays, crate::proofs::Playing::line_boots, crate::proofs::Playing::line_plays_nothing, crate::proofs::Tracing::begins_nothing, crate::proofs::Tracing::heeds_said, crate::proofs::Tracing::ends_said, crate::proofs::Tracing::sets_up_said, crate::proofs::Tracing::switches, crate::proofs::Tracing::switches_not))]
+    #[tactic(auto, using(crate::proofs::Playing::line_plays, crate::proofs::Playing::line_boots, crate::proofs::Playing::line_plays_nothing, crate::proofs::Tracing::begins_nothing, crate::proofs::Tracing::heeds_said, crate::proofs::Tracing::ends_said, crate::proofs::Tracing::ends_not, crate::proofs::Tracing::sets_up_said, crate::proofs::Tracing::switches, crate::proofs::Tracing::switches_not))]
     pub fn answer(
         &mut self,
         alloc: Global,
@@ -70,7 +71,7 @@ impl<T: Completes + Drop + Copy, S: Completes + Drop + Copy, W: Completes + Drop
         ensures switched { self.new.is_traced ≡ trace_after (said text.now) self.old.is_traced }
         ensures refused { IfOk result (λ told. told.0 ≡ outcome.Refused → IsAsBefore self.old.opening self.new.opening
             self.old.world self.new.world self.old.notes self.new.notes self.old.is_traced self.new.is_traced) }
-        ensures ended { IfOk result (λ told. EndsSaid (said text.now) told.0) }
+        ensures ended { IfOk result (λ told. is_ended told.0 ≡ is_quit (said text.now)) }
     {
         self.notes.tape.clear();
         let mut printed = Printed::new(alloc, self.is_traced);
@@ -109,7 +110,7 @@ impl<T: Completes + Drop + Copy, S: Completes + Drop + Copy, W: Completes + Drop
         ensures switched { self.new.is_traced ≡ trace_after (Some line.entry) self.old.is_traced }
         ensures refused { IfOk result (λ told. told ≡ outcome.Refused → IsAsBefore self.old.opening self.new.opening
             self.old.world self.new.world self.old.notes self.new.notes self.old.is_traced self.new.is_traced) }
-        ensures ended { IfOk result (λ told. Ends line.entry told) }
+        ensures ended { IfOk result (λ told. is_ended told ≡ is_quit (Some line.entry)) }
     {
         match line {
             ShellLine::Empty => Ok(Outcome::Done),
@@ -159,6 +160,7 @@ impl<T: Completes + Drop + Copy, S: Completes + Drop + Copy, W: Completes + Drop
         ensures heeded { IfOk result (λ told. told ≡ outcome.Done → IsHeeded line.entry self.new.notes.tape.items
             printed.old.is_traced (string_bytes printed.old.text) (string_bytes printed.new.text)) }
         ensures opening { self.new.opening ≡ self.old.opening }
+        ensures goes_on { IfOk result (λ told. is_ended told ≡ false) }
         ensures switched { self.new.is_traced ≡ self.old.is_traced }
         ensures refused { IfOk result (λ told. told ≡ outcome.Refused → IsAsBefore self.old.opening self.new.opening
             self.old.world self.new.world self.old.notes self.new.notes self.old.is_traced self.new.is_traced) }

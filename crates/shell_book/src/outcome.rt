@@ -1,5 +1,6 @@
 //! What becomes of a line.
-ghost use Rattle.std.specs.Prelude.{◌≡◌, IfOk};
+ghost use Rattle.std.specs.Prelude.{◌≡◌, false, IfOk};
+ghost use Rattle.shell_book.specs.Outcomes.{is_ended};
 ghost use Rattle.shell_book.specs.declared.outcome.Outcome.TheVariants as outcome;
 
 use crate::printing::Printed;
@@ -19,7 +20,8 @@ pub enum Outcome {
 
 /// Tells what is wrong.
 pub fn refuse(mistake: Mistake<'_>, printed: &mut Printed) -> Result<Outcome, AllocError>
-    ensures { IfOk result (λ told. told ≡ outcome.Refused) }
+    ensures refused { IfOk result (λ told. told ≡ outcome.Refused) }
+    ensures goes_on { IfOk result (λ told. is_ended told ≡ false) }
 {
     printed.line(&format_args!("? {mistake}"))?;
     Ok(Outcome::Refused)

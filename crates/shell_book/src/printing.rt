@@ -1,7 +1,7 @@
 //! What the shell prints: lines, which are the comments of a script while events are traced.
-ghost use Rattle.std.specs.Prelude.{◌≡◌, [], false, IfOk, string_bytes};
+ghost use Rattle.std.specs.Prelude.{◌≡◌, ◌∷◌, [], IfOk, IfSome, codes, string_bytes};
 ghost use Rattle.shell_book.specs.Tapes.{Traces, event_lines};
-ghost use Rattle.shell_book.specs.Texts.{Adds, AddsShown, AddsSome};
+ghost use Rattle.shell_book.specs.Texts.{Adds, AddsShown, AddsSome, AddsWords, mark};
 
 use crate::tape::Played;
 use shell_language::Spelled;
@@ -12,8 +12,8 @@ use std::fmt;
 #[derive(Drop)]
 pub struct Printed {
     text: String,
-    // The last line alone.
-    line: String,
+    // The last piece of a line alone.
+    piece: String,
     is_traced: bool,
 }
 
@@ -25,7 +25,7 @@ impl Printed {
     {
         Printed {
             text: String::new(alloc),
-            line: String::new(alloc),
+            piece: String::new(alloc),
             is_traced,
         }
     }
@@ -46,16 +46,62 @@ impl Printed {
     }
 
     /// A line with this text; a comment of the script that is printed, if one is.
+    #[tactic(auto, using(crate::proofs::Adding::adds_line, crate::proofs::Adding::adds_shown))]
     pub fn line<D: fmt::Display>(&mut self, text: &D) -> Result<(), AllocError>
         ensures some { IfOk result (λ _. AddsSome self.old self.new) }
-        ensures alone { IfOk result (λ _. self.old.is_traced ≡ false → AddsShown (D.output text.now) self.old self.new) }
+        ensures shown { IfOk result (λ _. AddsShown (D.output text.now) self.old self.new) }
     {
-        self.line.clear();
-        writeln!(self.line, "{text}")?;
+        self.begin()?;
+        self.add(text)?;
+        self.end()?;
+        Ok(())
+    }
+
+    /// A line with words between two texts.
+    #[tactic(auto, using(crate::proofs::Adding::adds_line, crate::proofs::Adding::adds_more))]
+    pub fn around<D: fmt::Display, X: fmt::Display, E: fmt::Display>(
+        &mut self,
+        front: &D,
+        words: &X,
+        back: &E,
+    ) -> Result<(), AllocError>
+        ensures some { IfOk result (λ _. AddsSome self.old self.new) }
+        ensures shown { IfOk result (λ _. AddsWords (D.output front.now) (E.output back.now) self.old self.new) }
+    {
+        self.begin()?;
+        self.add(front)?;
+        self.add(words)?;
+        self.add(back)?;
+        self.end()?;
+        Ok(())
+    }
+
+    // Begins a line.
+    #[tactic(auto, using(crate::proofs::Adding::adds_none))]
+    fn begin(&mut self) -> Result<(), AllocError>
+        ensures { IfOk result (λ _. Adds (mark self.old.is_traced) self.old self.new) }
+    {
         if self.is_traced {
             self.text.push_str("# ")?;
         }
-        self.text.push_str(&self.line)
+        Ok(())
+    }
+
+    // Goes on with a line.
+    fn add<D: fmt::Display>(&mut self, text: &D) -> Result<(), AllocError>
+        ensures some { IfOk result (λ _. AddsSome self.old self.new) }
+        ensures shown { IfOk result (λ _. IfSome (D.output text.now) (λ t. Adds t self.old self.new)) }
+    {
+        self.piece.clear();
+        write!(self.piece, "{text}")?;
+        self.text.push_str(&self.piece)
+    }
+
+    // Ends a line.
+    fn end(&mut self) -> Result<(), AllocError>
+        ensures { IfOk result (λ _. Adds (10 ∷ []) self.old self.new) }
+    {
+        self.text.push_str("\n")
     }
 
     /// A line of a script, if one is printed.

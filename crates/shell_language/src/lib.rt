@@ -1,8 +1,8 @@
 //! The lines of the shell: those of the script language, and those that a person needs besides.
 #![tactic(auto)]
 
+mod faults;
 mod form;
-mod in_words;
 mod kind;
 mod line;
 mod loading;
@@ -13,8 +13,8 @@ mod quoted;
 mod reading;
 mod spelled;
 
+pub use faults::refusals;
 pub use form::{Form, forms, mistake_in};
-pub use in_words::{InWords, refusals};
 pub use kind::Kind;
 pub use line::{Loss, ShellLine, Stretch, Turns};
 pub use loading::{Record, RecordMistake, read_record};

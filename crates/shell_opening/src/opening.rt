@@ -21,6 +21,8 @@ pub struct Opening {
 
 impl Opening {
     ghost use Rattle.script_language.specs.Booting.{boot_of, memory_from};
+    ghost use Rattle.std.specs.Prelude.{false};
+    ghost use Rattle.shell_book.specs.Outcomes.{is_ended};
     ghost use Rattle.shell_opening.specs.Openings.{IsSame, SetsUp};
 
     /// The setup if no line says otherwise.
@@ -41,6 +43,7 @@ impl Opening {
     ) -> Result<Outcome, AllocError>
         ensures refused { IfOk result (λ told. told ≡ outcome.Refused → IsSame self.old self.new) }
         ensures done { IfOk result (λ told. told ≡ outcome.Done → SetsUp line.entry self.old self.new) }
+        ensures goes_on { IfOk result (λ told. is_ended told ≡ false) }
     {
         match line {
             ShellLine::Setup { keyword, mut words } => {
@@ -65,6 +68,7 @@ impl Opening {
         ensures refused { IfOk result (λ told. told ≡ outcome.Refused → IsSame self.old self.new) }
         ensures done { IfOk result (λ told. told ≡ outcome.Done
             → SetsUp (shell.Setup keyword words.old) self.old self.new) }
+        ensures goes_on { IfOk result (λ told. is_ended told ≡ false) }
     {
         if !self.setup.take(alloc, 1, keyword, words)? {
             return refuse(mistake_in(text), printed);
@@ -84,6 +88,7 @@ impl Opening {
         ensures refused { IfOk result (λ told. told ≡ outcome.Refused → IsSame self.old self.new) }
         ensures done { IfOk result (λ told. told ≡ outcome.Done
             → SetsUp (shell.SetSector address words.old) self.old self.new) }
+        ensures goes_on { IfOk result (λ told. is_ended told ≡ false) }
     {
         let Some(bytes) = words.bytes(alloc)? else {
             return refuse(mistake_in(text), printed);
@@ -99,6 +104,7 @@ impl Opening {
         ensures refused { IfOk result (λ told. told ≡ outcome.Refused → IsSame self.old self.new) }
         ensures done { IfOk result (λ told. told ≡ outcome.Done
             → SetsUp (shell.Load loaded.now) self.old self.new) }
+        ensures goes_on { IfOk result (λ told. is_ended told ≡ false) }
     {
         let address = loaded.address();
         let bytes = loaded.bytes();

@@ -1,54 +1,59 @@
 //! What is told after a day of the refusals that hold something up.
-ghost use Rattle.std.specs.Prelude.{IfOk};
-ghost use Rattle.shell_book.specs.Texts.{AddsSome};
+ghost use Rattle.std.specs.Prelude.{IfOk, Some};
+ghost use Rattle.shell_book.specs.HeldUp.{meeting_of};
+ghost use Rattle.shell_book.specs.Texts.{AddsSome, Prints};
+ghost use Rattle.shell_picture.specs.HeldUp.{held_if, held_rows, named_last, output_text};
 
 use i8080_words::Fault;
 use pair_events::Event;
 use shell_book::{Book, Meeting, Played, Printed, Waiting, holds_up, meeting_of};
-use shell_language::{InWords, Spelled, refusals};
+use shell_language::{Spelled, refusals};
 use std::alloc::AllocError;
 use std::fmt;
 
 /// A line for each refusal that the events of a tape met and that holds something up after them.
-#[tactic(auto, using(shell_book::proofs::Adding::adds_none, shell_book::proofs::Adding::adds_more))]
+#[tactic(auto, using(shell_book::proofs::Adding::prints_some))]
 pub fn print_held_up(tape: &[Played], book: &Book, printed: &mut Printed) -> Result<(), AllocError>
-    ensures { IfOk result (λ _. AddsSome printed.old printed.new) }
+    ensures some { IfOk result (λ _. AddsSome printed.old printed.new) }
+    ensures told { IfOk result (λ _. Prints (held_rows tape.now book.now) printed.old printed.new) }
 {
     for fault in refusals() {
-        print_one(*fault, tape, book, printed)?;
+        print_if(*fault, meeting_of(*fault, tape), book, printed)?;
     }
     Ok(())
 }
 
-// The line of a refusal, if it holds something up.
-#[tactic(auto, using(shell_book::proofs::Adding::adds_none))]
-fn print_one(
+// The line of a refusal of which so much was met, if it holds something up.
+#[tactic(auto, using(shell_book::proofs::Adding::prints_none, shell_book::proofs::Adding::prints_one))]
+fn print_if(
     fault: Fault,
-    tape: &[Played],
+    met: Meeting,
     book: &Book,
     printed: &mut Printed,
 ) -> Result<(), AllocError>
-    ensures { IfOk result (λ _. AddsSome printed.old printed.new) }
+    ensures { IfOk result (λ _. Prints (held_if fault met book.now) printed.old printed.new) }
 {
-    let meeting = meeting_of(fault, tape);
     let waiting = book.waiting();
-    if !holds_up(fault, meeting, waiting) {
+    if !holds_up(fault, met, waiting) {
         return Ok(());
     }
-    let Meeting { times, last } = meeting;
-    match (fault, last) {
-        (Fault::NotCovered, _) => printed.line(&format_args!(
-            "  {}: {}; {} of {} entries are acknowledged",
-            Output(waiting),
-            InWords(fault),
-            book.held,
-            book.logged
-        )),
-        (_, last) => printed.line(&format_args!(
-            "  {times} events{}: {}",
-            Last(last),
-            InWords(fault)
-        )),
+    let number = fault.number();
+    match fault {
+        Fault::NotCovered => {
+            let front = format_args!("  {}: refused {number}, ", Output(waiting));
+            let back = format_args!(
+                "; {} of {} entries are acknowledged",
+                book.held, book.logged
+            );
+            printed.around(&front, &fault, &back)?;
+            Ok(())
+        }
+        _ => {
+            let Meeting { times, last } = met;
+            let front = format_args!("  {times} events{}: refused {number}, ", Last(last));
+            printed.around(&front, &fault, &"")?;
+            Ok(())
+        }
     }
 }
 
@@ -57,6 +62,8 @@ fn print_one(
 struct Output(Waiting);
 
 impl fmt::Display for Output {
+    ghost output = { λ output. Some (output_text output.0) };
+
     fn fmt<W: fmt::Write>(&self, f: &mut fmt::Formatter<W>) -> fmt::Result {
         let Waiting { bytes, writes } = self.0;
         match (bytes, writes) {
@@ -72,6 +79,8 @@ impl fmt::Display for Output {
 struct Last(Option<Event>);
 
 impl fmt::Display for Last {
+    ghost output = { λ last. Some (named_last last.0) };
+
     fn fmt<W: fmt::Write>(&self, f: &mut fmt::Formatter<W>) -> fmt::Result {
         match self.0 {
             Some(event) => write!(f, ", the last `{}`", Spelled(event)),

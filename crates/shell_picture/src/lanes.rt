@@ -1,4 +1,6 @@
 //! The columns of a picture in text.
+ghost use Rattle.std.specs.Prelude.{◌≡◌};
+ghost use Rattle.shell_picture.specs.Pictures.{IsDrawn, arrow_between, arrow_mark, comes_from_left, goes_right, is_waiting, mark_text, rest_mark, role_in};
 
 use pair_events::Role;
 use sequence_diagram::{
@@ -30,114 +32,148 @@ impl fmt::Display for Head<'_> {
     }
 }
 
-/// The columns beside an event: an arrow to where it happens from where it came, or a mark there.
+/// What is drawn in the columns: an arrow from one to another; or a mark in one, where a message leaves, or where
+/// something happens that neither sends nor brings one.
+#[derive(Clone, Copy)]
+pub enum Stroke {
+    Arrow { from: usize, to: usize },
+    Leaves { at: usize },
+    Happens { at: usize },
+}
+
+/// What is drawn of an event.
+#[tactic(auto, using(crate::proofs::Drawing::draws_nothing, crate::proofs::Drawing::draws_exchange, crate::proofs::Drawing::draws_flight, crate::proofs::Drawing::draws_mark))]
+pub fn stroke_of(moments: &[Moment], columns: &Columns, event: usize) -> Option<Stroke>
+    ensures { IsDrawn moments.now columns.now.places.items event result }
+{
+    let moment = moments.get(event)?;
+    if let Some(exchange) = exchange_of(moment) {
+        return Some(arrow(columns, exchange.from, exchange.to));
+    }
+    if let Some(flight) = flight_to(moments, event) {
+        return Some(arrow(columns, flight.from, flight.to));
+    }
+    if departure_from(moments, event).is_some() {
+        let at = columns.column(sender_of(moment.event));
+        return Some(Stroke::Leaves { at });
+    }
+    let at = columns.column(place_of(moment.event));
+    Some(Stroke::Happens { at })
+}
+
+fn arrow(columns: &Columns, from: Place, to: Place) -> Stroke
+    ensures { result ≡ arrow_between columns.now.places.items from to }
+{
+    Stroke::Arrow {
+        from: columns.column(from),
+        to: columns.column(to),
+    }
+}
+
+/// The columns beside an event.
 #[derive(Clone, Copy)]
 pub struct Lanes<'a> {
-    pub moments: &'a [Moment],
+    pub stroke: Option<Stroke>,
     pub columns: &'a Columns,
     pub roles: &'a [Option<Role>],
-    pub waits: &'a [Wait],
-    pub event: usize,
-}
-
-// What is drawn in the columns: an arrow from one to another, or a mark in one.
-#[derive(Clone, Copy)]
-enum Stroke {
-    Arrow { from: usize, to: usize },
-    Mark { at: usize, mark: &'static str },
-}
-
-impl Lanes<'_> {
-    fn stroke(&self) -> Option<Stroke> {
-        let moment = self.moments.get(self.event)?;
-        if let Some(exchange) = exchange_of(moment) {
-            return Some(self.arrow(exchange.from, exchange.to));
-        }
-        if let Some(flight) = flight_to(self.moments, self.event) {
-            return Some(self.arrow(flight.from, flight.to));
-        }
-        if departure_from(self.moments, self.event).is_some() {
-            return Some(Stroke::Mark {
-                at: self.columns.column(sender_of(moment.event)),
-                mark: "o",
-            });
-        }
-        Some(Stroke::Mark {
-            at: self.columns.column(place_of(moment.event)),
-            mark: "*",
-        })
-    }
-
-    fn arrow(&self, from: Place, to: Place) -> Stroke {
-        Stroke::Arrow {
-            from: self.columns.column(from),
-            to: self.columns.column(to),
-        }
-    }
-
-    // The line of a column where nothing is drawn: of a node by its role, and by whether its output waits.
-    fn rest(&self, column: usize) -> &'static str {
-        let role = match self.roles.get(column) {
-            Some(role) => *role,
-            None => None,
-        };
-        match role {
-            None | Some(Role::Halted) => " ",
-            Some(Role::Backup) => ":",
-            Some(Role::Joining) => ".",
-            Some(Role::Primary) if self.is_waiting(column) => "#",
-            Some(_) => "|",
-        }
-    }
-
-    // Whether output of the node of a column waits after the event.
-    fn is_waiting(&self, column: usize) -> bool {
-        match self.waits.get(self.event) {
-            Some(wait) => {
-                wait.operations > 0 && self.columns.column(Place::Node(wait.node)) == column
-            }
-            None => false,
-        }
-    }
+    pub wait: Option<Wait>,
 }
 
 impl fmt::Display for Lanes<'_> {
     fn fmt<W: fmt::Write>(&self, f: &mut fmt::Formatter<W>) -> fmt::Result {
-        let stroke = self.stroke();
         for column in 0..self.columns.places.len() {
-            let (before, mark, after) = cell(stroke, column, self.rest(column));
+            let before = comes_from_left(self.stroke, column);
             f.write_str(if before { "---" } else { "   " })?;
-            f.write_str(mark)?;
+            let rest = rest_mark(
+                role_in(self.roles, column),
+                is_waiting(self.columns, self.wait, column),
+            );
+            f.write_str(mark_text(self.stroke, column, rest))?;
+            let after = goes_right(self.stroke, column);
             f.write_str(if after { "--------" } else { "        " })?;
         }
         Ok(())
     }
 }
 
-// Of a column: whether an arrow comes from its left, what is in its middle, and whether an arrow goes on to its right.
-fn cell(stroke: Option<Stroke>, column: usize, rest: &'static str) -> (bool, &'static str, bool) {
+// The role of a column; other places than nodes have none.
+fn role_in(roles: &[Option<Role>], column: usize) -> Option<Role>
+    ensures { result ≡ role_in roles.now column }
+{
+    match roles.get(column) {
+        Some(role) => *role,
+        None => None,
+    }
+}
+
+// The line of a column where nothing is drawn: of a node by its role, and of a primary by whether its output waits.
+fn rest_mark(role: Option<Role>, waits: bool) -> &'static str
+    ensures { result.now ≡ rest_mark role waits }
+{
+    match role {
+        None | Some(Role::Halted) => " ",
+        Some(Role::Backup) => ":",
+        Some(Role::Joining) => ".",
+        Some(Role::Primary) if waits => "#",
+        Some(_) => "|",
+    }
+}
+
+// Whether output of the node of a column waits.
+fn is_waiting(columns: &Columns, wait: Option<Wait>, column: usize) -> bool
+    ensures { result ≡ is_waiting columns.now.places.items wait column }
+{
+    match wait {
+        Some(wait) => wait.operations > 0 && columns.column(Place::Node(wait.node)) == column,
+        None => false,
+    }
+}
+
+// What is in the middle of a column.
+fn mark_text(stroke: Option<Stroke>, column: usize, rest: &'static str) -> &'static str
+    ensures { result.now ≡ mark_text stroke column rest.now }
+{
     match stroke {
-        Some(Stroke::Arrow { from, to }) => {
-            let left = from.min(to);
-            let right = from.max(to);
-            let mark = if column == to && from < to {
-                ">"
-            } else if column == to && to < from {
-                "<"
-            } else if column == from {
-                "o"
-            } else if left < column && column < right {
-                "-"
-            } else {
-                rest
-            };
-            (
-                left < column && column <= right,
-                mark,
-                left <= column && column < right,
-            )
-        }
-        Some(Stroke::Mark { at, mark }) if at == column => (false, mark, false),
-        _ => (false, rest, false),
+        Some(Stroke::Arrow { from, to }) => arrow_mark(from, to, column, rest),
+        Some(Stroke::Leaves { at }) if at == column => "o",
+        Some(Stroke::Happens { at }) if at == column => "*",
+        _ => rest,
+    }
+}
+
+// The same of an arrow: its head, where it begins, what it crosses, or the column's own line.
+fn arrow_mark(from: usize, to: usize, column: usize, rest: &'static str) -> &'static str
+    ensures { result.now ≡ arrow_mark from to column rest.now }
+{
+    if column == to && from < to {
+        ">"
+    } else if column == to && to < from {
+        "<"
+    } else if column == from {
+        "o"
+    } else if from.min(to) < column && column < from.max(to) {
+        "-"
+    } else {
+        rest
+    }
+}
+
+// Whether an arrow comes to a column from its left.
+fn comes_from_left(stroke: Option<Stroke>, column: usize) -> bool
+    ensures { result ≡ comes_from_left stroke column }
+{
+    match stroke {
+        Some(Stroke::Arrow { from, to }) => from.min(to) < column && column <= from.max(to),
+        _ => false,
+    }
+}
+
+// Whether an arrow goes on to the right of a column.
+fn goes_right(stroke: Option<Stroke>, column: usize) -> bool
+    ensures { result ≡ goes_right stroke column }
+{
+    match stroke {
+        Some(Stroke::Arrow { from, to }) => from.min(to) <= column && column < from.max(to),
+        _ => false,
     }
 }

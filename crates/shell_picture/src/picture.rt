@@ -1,6 +1,8 @@
 //! Events as a diagram in text: a column for each place that takes part, a line for each event, and its words after that.
+ghost use Rattle.std.specs.Prelude.{◌≡◌};
+ghost use Rattle.shell_picture.specs.Pictures.{end_shown, first_shown};
 
-use crate::lanes::{Head, Lanes};
+use crate::lanes::{Head, Lanes, stroke_of};
 use crate::words::Words;
 use pair_events::Role;
 use sequence_diagram::{Columns, Moment, Place, Wait, first_role, waits_of};
@@ -20,24 +22,38 @@ pub fn print_picture(
 ) -> Result<(), AllocError> {
     let columns = Columns::of(alloc, past)?;
     let waits = waits_of(alloc, past)?;
-    let end = past.len();
-    let (first, last) = match stretch {
-        Some(Stretch { first, last }) => (
-            first as usize,
-            (last as usize).saturating_add(1).min(end),
-        ),
-        None => (end.saturating_sub(EVENTS), end),
-    };
+    let first = first_shown(stretch, past.len());
+    let end = end_shown(stretch, past.len());
     let mut roles = Vec::new(alloc);
     for place in columns.places.as_slice() {
         roles.push(role_before(past, *place, first))?;
     }
     printed.line(&Head { columns: &columns })?;
-    for event in first..last {
+    for event in first..end {
         update(&mut roles, &columns, past, event);
         print_event(past, &columns, &roles, &waits, event, printed)?;
     }
     Ok(())
+}
+
+// The first event that is shown.
+fn first_shown(stretch: Option<Stretch>, count: usize) -> usize
+    ensures { result ≡ first_shown stretch count }
+{
+    match stretch {
+        Some(stretch) => stretch.first as usize,
+        None => count.saturating_sub(EVENTS),
+    }
+}
+
+// The event after the last that is shown.
+fn end_shown(stretch: Option<Stretch>, count: usize) -> usize
+    ensures { result ≡ end_shown stretch count }
+{
+    match stretch {
+        Some(stretch) => (stretch.last as usize).saturating_add(1).min(count),
+        None => count,
+    }
 }
 
 // Prints an event, of all that have happened.
@@ -49,12 +65,13 @@ fn print_event<'a>(
     event: usize,
     printed: &mut Printed,
 ) -> Result<(), AllocError> {
+    let stroke = stroke_of(moments, columns, event);
+    let wait = waits.get(event).copied();
     let lanes = Lanes {
-        moments,
+        stroke,
         columns,
         roles,
-        waits,
-        event,
+        wait,
     };
     let words = Words {
         moments,

@@ -1,9 +1,8 @@
-//! The refusals that an event may meet, and how a person reads one.
+//! The refusals that an event may meet.
 ghost use Rattle.std.specs.Prelude.{◌≡◌};
 ghost use Rattle.shell_language.specs.Refusals.{refusals};
 
 use i8080_words::Fault;
-use std::fmt;
 
 // All of them, by their numbers.
 static REFUSALS: [Fault; 18] = [
@@ -32,14 +31,4 @@ pub fn refusals() -> &'static [Fault]
     ensures { result.now ≡ refusals }
 {
     &REFUSALS
-}
-
-/// A refusal that prints as its number and its words.
-#[derive(Clone, Copy)]
-pub struct InWords(pub Fault);
-
-impl fmt::Display for InWords {
-    fn fmt<W: fmt::Write>(&self, f: &mut fmt::Formatter<W>) -> fmt::Result {
-        write!(f, "refused {}, {}", self.0.number(), self.0)
-    }
 }

@@ -1,0 +1,52 @@
+-- What lines answer that are not events.
+use Rattle.std.specs.Prelude.{ℕ, zero, suc, ◌-◌, ◌==◌, if◌then◌else◌, List, [], ◌∷◌, ◌++◌, Option, Some, None, Result, Ok, Err, codes}
+use Rattle.std.specs.Fmt.{decimal}
+use Rattle.i8080_words.specs.Refusals.{number_of}
+use Rattle.i8080_words.specs.declared.refusal.Fault.{Fault}
+use Rattle.pair_events.specs.Printed.{reply_text}
+use Rattle.pair_events.specs.declared.reply.Reply.{Reply}
+use Rattle.pair_events.specs.declared.reply.Reply.TheVariants.{Message}
+use Rattle.shell_book.specs.Notes.{next}
+use Rattle.shell_book.specs.Texts.{Row, Text, Words}
+use Rattle.shell_book.specs.declared.tape.Played.{Played}
+use Rattle.shell_picture.specs.declared.answers.Sum.{Sum}
+
+-- a refusal that only the shell tells: its number, and its words after that
+abbrev pub refused_text : Fault → List ℕ
+refused_text fault = codes "refused " ++ (decimal (number_of fault) ++ codes ", ")
+
+abbrev pub refused : Fault → Row
+refused fault = Words (refused_text fault) []
+
+-- `last`, by how many messages there are: they are numbered from 0
+abbrev pub message_text : ℕ → List ℕ
+message_text count = if count == 0 then codes "no message" else reply_text (Message (count - 1))
+
+-- how many events of a tape happened, how many were refused, and the last answer
+abbrev pub counted : Result Reply Fault → Sum → Sum
+counted (Ok reply) sum = record { happened = next sum.happened; refused = sum.refused; last = Some (Ok reply) }
+counted (Err fault) sum = record { happened = sum.happened; refused = next sum.refused; last = Some (Err fault) }
+
+abbrev pub sum_from : Sum → List Played → Sum
+sum_from sum [] = sum
+sum_from sum (played ∷ tape) = sum_from (counted played.answer sum) tape
+
+abbrev pub sum_of : List Played → Sum
+sum_of tape = sum_from (record { happened = 0; refused = 0; last = None }) tape
+
+-- how many were refused, if any
+abbrev pub others_text : ℕ → List ℕ
+others_text zero = []
+others_text (suc before) = codes "; " ++ decimal (suc before) ++ codes " refused"
+
+-- `K done, the last: ANSWER; J refused`
+abbrev pub done_text : ℕ → List ℕ → List ℕ
+done_text happened answer = decimal happened ++ (codes " done, the last: " ++ answer)
+
+abbrev pub sum_by : Option (Result Reply Fault) → ℕ → ℕ → Row
+sum_by None happened others = Text (codes "nothing to do")
+sum_by (Some (Ok reply)) happened others = Text (done_text happened (reply_text reply ++ others_text others))
+sum_by (Some (Err fault)) happened others = Words (done_text happened (refused_text fault)) (others_text others)
+
+abbrev pub sum_row : List Played → Row
+sum_row tape = sum_by (sum_of tape).last (sum_of tape).happened (sum_of tape).refused
