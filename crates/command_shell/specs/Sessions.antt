@@ -1,6 +1,9 @@
 -- What the shell writes.
-use Rattle.std.specs.Prelude.{ℕ, Option, List, Result, MatchResult}
+use Rattle.std.specs.Prelude.{ℕ, ◌==◌, ◌-◌, ◌||◌, nat_lt, Bool, false, if◌then◌else◌, Option, List, [], ◌∷◌, ◌++◌, length, take, bytes_eq, Result, MatchResult}
 use Rattle.std.specs.Io.KnownBytes.{Appends}
+use Rattle.pair_shell.specs.Sessions.{is_quit}
+use Rattle.script_language.specs.Text.{end_of}
+use Rattle.shell_language.specs.Saying.{said}
 use Rattle.command_ending.specs.declared.failure.Failure.{Failure}
 use Rattle.command_ending.specs.declared.failure.Failure.TheVariants.{OutOfMemory, InputOrOutput}
 
@@ -17,3 +20,29 @@ AnswersTo _ old new = ⊥
 -- a session that has ended like this
 abbrev pub Answers : {A : Type 0} → Result A Failure → Option (List ℕ) → Option (List ℕ) → Type 0
 Answers result old new = MatchResult result (λ _. Writes old new) (λ failure. AnswersTo failure old new)
+
+-- a line without its CR, which is 13
+abbrev pub without_cr : List ℕ → List ℕ
+without_cr line = if bytes_eq (end_of 1 line) (13 ∷ []) then take (length line - 1) line else line
+
+-- it is `quit`
+abbrev pub is_quit_line : List ℕ → Bool
+is_quit_line line = is_quit (said (without_cr line))
+
+-- what is kept of a line with one more byte: no more than 65,538 bytes, which is too many for a line; 10 ends a line
+abbrev pub after_byte : List ℕ → ℕ → List ℕ
+after_byte line byte = if byte == 10 then [] else (if nat_lt (length line) 65538 then line ++ byte ∷ [] else line)
+
+-- a byte ends a line that is `quit`
+abbrev pub byte_ends : List ℕ → ℕ → Bool
+byte_ends line byte = if byte == 10 then is_quit_line line else false
+
+-- one of some bytes does, after what was kept of a line
+abbrev pub ends_in : List ℕ → List ℕ → Bool
+ends_in line [] = false
+ends_in line (byte ∷ bytes) = byte_ends line byte || ends_in (after_byte line byte) bytes
+
+-- what is kept after them
+abbrev pub kept_in : List ℕ → List ℕ → List ℕ
+kept_in line [] = line
+kept_in line (byte ∷ bytes) = kept_in (after_byte line byte) bytes

@@ -1,8 +1,8 @@
 //! The shell over a reader and a writer: each line is answered before more is read.
-ghost use Rattle.std.specs.Prelude.{◌≡◌, ◌≤◌, IfErr, IfOk, IfSome};
+ghost use Rattle.std.specs.Prelude.{◌≡◌, ◌≤◌, IfErr, IfOk, IfSome, false};
 ghost use Rattle.event_callbacks.specs.declared.devices.TheConstants.{SENT, SECTOR, WRITTEN};
 ghost use Rattle.event_callbacks.specs.Keeping.{Keeps};
-ghost use Rattle.command_shell.specs.Sessions.{Answers};
+ghost use Rattle.command_shell.specs.Sessions.{Answers, after_byte, byte_ends, ends_in, is_quit_line, kept_in, without_cr};
 ghost use Rattle.shell_book.specs.Outcomes.{is_ended};
 ghost use Rattle.command_ending.specs.declared.failure.Failure.TheVariants as failure;
 
@@ -20,7 +20,7 @@ const BLOCK_BYTES: usize = 4096;
 const KEPT_BYTES: usize = LINE_BYTES + 2;
 
 /// Answers the lines of a reader, up to its end, by a session whose completions are these closures.
-#[tactic(auto, using(crate::proofs::Sessions::writes_none, crate::proofs::Sessions::writes_more, crate::proofs::Sessions::answers_then, crate::proofs::Sessions::answers_until))]
+#[tactic(auto, using(crate::proofs::Sessions::writes_none, crate::proofs::Sessions::writes_more, crate::proofs::Sessions::answers_until))]
 pub fn run_shell<
     T: Completes + Drop + Copy,
     S: Completes + Drop + Copy,
@@ -65,33 +65,8 @@ pub fn run_shell<
     if line.is_empty() {
         return Ok(());
     }
-    answer_last(alloc, &mut session, &line, writer, sent, sector, written)
-}
-
-// Answers the last line of the reader, which has no end.
-fn answer_last<
-    T: Completes + Drop + Copy,
-    S: Completes + Drop + Copy,
-    W: Completes + Drop + Copy,
-    O: Write + Drop,
->(
-    alloc: Global,
-    session: &mut Session<T, S, W>,
-    line: &[u8],
-    writer: &mut O,
-    sent: T,
-    sector: S,
-    written: W,
-) -> Result<(), Failure>
-    requires sent { Keeps (T.may sent) (T.gives sent) SENT }
-    requires sector { Keeps (S.may sector) (S.gives sector) SECTOR }
-    requires written { Keeps (W.may written) (W.gives written) WRITTEN }
-    ensures { Answers result (O.contents writer.old) (O.contents writer.new) }
-{
-    match answer(alloc, session, line, writer, sent, sector, written) {
-        Ok(_) => Ok(()),
-        Err(failure) => Err(failure),
-    }
+    answer(alloc, &mut session, &line, writer, sent, sector, written)?;
+    Ok(())
 }
 
 // Whether the session has ended with a line.
@@ -119,7 +94,7 @@ fn read_block<R: Read + Drop>(
 
 // Answers the lines that end in a block, up to one with which the session ends, and keeps what comes after them. What it
 // returns became of the last of them.
-#[tactic(auto, using(crate::proofs::Sessions::writes_none, crate::proofs::Sessions::writes_more, crate::proofs::Sessions::answers_until))]
+#[tactic(auto, using(crate::proofs::Sessions::writes_none, crate::proofs::Sessions::writes_more, crate::proofs::Sessions::answers_until, crate::proofs::Sessions::ends_here, crate::proofs::Sessions::ends_later, crate::proofs::Sessions::keeps_later))]
 fn take_block<
     T: Completes + Drop + Copy,
     S: Completes + Drop + Copy,
@@ -138,13 +113,17 @@ fn take_block<
     requires sent { Keeps (T.may sent) (T.gives sent) SENT }
     requires sector { Keeps (S.may sector) (S.gives sector) SECTOR }
     requires written { Keeps (W.may written) (W.gives written) WRITTEN }
-    ensures { Answers result (O.contents writer.old) (O.contents writer.new) }
+    ensures written { Answers result (O.contents writer.old) (O.contents writer.new) }
+    ensures ended { IfOk result (λ told. is_ended told ≡ ends_in line.old.items block.now) }
+    ensures kept { IfOk result (λ told. is_ended told ≡ false → line.new.items ≡ kept_in line.old.items block.now) }
 {
-    for byte in block {
+    let mut rest = block;
+    'bytes: while let Some((byte, after)) = rest.split_first() {
         let outcome = take_byte(alloc, session, line, *byte, writer, sent, sector, written)?;
         if has_ended(outcome) {
             return Ok(Outcome::Ended);
         }
+        rest = after;
     }
     Ok(Outcome::Done)
 }
@@ -169,12 +148,14 @@ fn take_byte<
     requires sent { Keeps (T.may sent) (T.gives sent) SENT }
     requires sector { Keeps (S.may sector) (S.gives sector) SECTOR }
     requires written { Keeps (W.may written) (W.gives written) WRITTEN }
-    ensures { Answers result (O.contents writer.old) (O.contents writer.new) }
+    ensures written { Answers result (O.contents writer.old) (O.contents writer.new) }
+    ensures ended { IfOk result (λ told. is_ended told ≡ byte_ends line.old.items byte) }
+    ensures kept { IfOk result (λ _. line.new.items ≡ after_byte line.old.items byte) }
 {
     if byte == b'\n' {
-        let answered = answer(alloc, session, line, writer, sent, sector, written);
+        let outcome = answer(alloc, session, line, writer, sent, sector, written)?;
         line.clear();
-        return answered;
+        return Ok(outcome);
     }
     if line.len() < KEPT_BYTES {
         line.push(byte)?;
@@ -200,11 +181,18 @@ fn answer<
     requires sent { Keeps (T.may sent) (T.gives sent) SENT }
     requires sector { Keeps (S.may sector) (S.gives sector) SECTOR }
     requires written { Keeps (W.may written) (W.gives written) WRITTEN }
-    ensures { Answers result (O.contents writer.old) (O.contents writer.new) }
+    ensures written { Answers result (O.contents writer.old) (O.contents writer.new) }
+    ensures ended { IfOk result (λ told. is_ended told ≡ is_quit_line line.now) }
 {
-    let text = line.strip_suffix(b"\r").unwrap_or(line);
-    let (outcome, answered) = session.answer(alloc, sent, sector, written, text)?;
+    let (outcome, answered) = session.answer(alloc, sent, sector, written, without_cr(line))?;
     writer.write_all(answered.as_bytes())?;
     writer.flush()?;
     Ok(outcome)
+}
+
+// A line without its CR.
+fn without_cr(line: &[u8]) -> &[u8]
+    ensures { result.now ≡ without_cr line.now }
+{
+    line.strip_suffix(b"\r").unwrap_or(line)
 }

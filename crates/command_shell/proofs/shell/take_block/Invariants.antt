@@ -1,6 +1,14 @@
--- The answers so far were written one after another.
-use Rattle.command_shell.specs.Sessions.{Writes}
+-- The answers so far were written one after another, and what the bytes that are left do, all of them do.
+use Rattle.std.proofs.Common.{◌≡◌, length}
+use Rattle.command_shell.specs.Sessions.{Writes, ends_in, kept_in}
 use Rattle.command_shell.proofs.shell.take_block.Given as goal
 
-abbrev pub invariant-loop-byte : goal.invariant-loop-byte
-invariant-loop-byte g l = Writes (g.O.Write.contents l.fn.writer) (g.O.Write.contents l.writer)
+abbrev pub invariant-bytes : goal.invariant-bytes
+invariant-bytes g l = record {
+  written : Writes (g.O.Write.contents l.fn.writer) (g.O.Write.contents l.writer);
+  ends : ends_in l.line.items l.rest ≡ ends_in l.fn.line.items l.fn.block;
+  keeps : kept_in l.line.items l.rest ≡ kept_in l.fn.line.items l.fn.block;
+}
+
+abbrev pub decreases-bytes : goal.decreases-bytes
+decreases-bytes g l = length l.rest
