@@ -19,7 +19,7 @@ impl Lines {
 }
 
 /// Each event has a line of its own, with two exceptions: consecutive parts of a copy share one line, and so does a message
-/// that arrives right after it was sent.
+/// that arrives right after it was sent, unless it is answered there.
 pub fn lines_of(alloc: Global, moments: &[Moment]) -> Result<Lines, AllocError> {
     let mut of = Vec::new(alloc);
     let mut count = 0usize;
@@ -47,7 +47,10 @@ fn is_joined(moments: &[Moment], first: usize, place: usize, moment: &Moment) ->
     }
     match (begin.sends(), moment.brings()) {
         (Some(sent), Some(brought)) => {
-            place == first.saturating_add(1) && sent == brought && begin.brings().is_none()
+            place == first.saturating_add(1)
+                && sent == brought
+                && begin.brings().is_none()
+                && moment.sends().is_none()
         }
         _ => false,
     }

@@ -22,6 +22,9 @@ const NEAR: u64 = 12;
 
 const FAR: u64 = 18;
 
+// How much lower a label is that would be on the arrow that ends there.
+const BELOW: u64 = 19;
+
 // How wide a digit is in a count.
 const DIGIT: u64 = 8;
 
@@ -54,7 +57,9 @@ pub fn draw_texts(
     if departure_from(moments, place).is_some() {
         let from = sender_of(moment.event);
         let aim = aim_of(moments, place).unwrap_or(Place::Arbiter);
-        return draw_label(drawing, (plan.x(from), plan.x(aim)), y, &Carried(*moment));
+        let lower = if flight.is_some() { BELOW } else { 0 };
+        let way = (plan.x(from), plan.x(aim));
+        return draw_label(drawing, way, y.saturating_add(lower), &Carried(*moment));
     }
     if flight.is_some() {
         return Ok(());
