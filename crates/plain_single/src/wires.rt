@@ -139,12 +139,12 @@ impl Wires {
     {
         match number {
             FIRST_CONTROL => self.first.control(byte),
-            FIRST_BYTES => self.first.send(byte)?,
+            FIRST_BYTES => return self.first.send(byte),
             SECOND_CONTROL => self.second.control(byte),
-            SECOND_BYTES => self.second.send(byte)?,
+            SECOND_BYTES => return self.second.send(byte),
             DISK_SELECT => self.drives.select(byte),
             DISK_CONTROL => self.drives.command(byte),
-            DISK_BYTES => self.fill(byte)?,
+            DISK_BYTES => return self.fill(byte),
             _ => {}
         }
         Ok(())
