@@ -1,5 +1,5 @@
 -- How many bytes a value that is read takes: no fewer and no more than these.
-use Rattle.std.proofs.Common.{◌≡◌, ℕ, zero, suc, ◌+◌, ◌*◌, ◌^◌, ◌≤◌, Bool, true, false, cond, ltb, eqb, List, [], ◌∷◌, length, take, drop, Some, None, refl, ap, subst, length-drop, arith}
+use Rattle.std.proofs.Common.{◌≡◌, ℕ, zero, suc, ◌+◌, ◌*◌, ◌^◌, ◌<◌, ◌≤◌, Bool, true, false, cond, ltb, eqb, List, [], ◌∷◌, length, take, drop, Option, Some, None, refl, ap, subst, length-drop, arith}
 use Rattle.std.specs.Int.{w64, from_be_bytes}
 use Rattle.std.proofs.lemmas.Bool.{eqb-true}
 use Rattle.std.proofs.lemmas.Bool.Decides.{nat_tests}
@@ -321,3 +321,29 @@ table_size payload xs e =
     let low = t.least payload r.0 r.1 in
     let high = t.most payload r.0 r.1 in
     omega arith
+
+-- ---- too few bytes
+
+-- bytes that are fewer than a value takes begin with none
+too_few : {A : Type 0} (c : Codec A) (low high : ℕ) → Takes c low high → (bytes : List ℕ) → length bytes < low
+    → c.read bytes ≡ None
+too_few {A} c low high h bytes few = go (c.read bytes) refl
+  where
+    go : (o : Option (A × List ℕ)) → c.read bytes ≡ o → c.read bytes ≡ None
+    go None e = e
+    go (Some r) e = let least = h.least bytes r e in absurd (omega arith)
+
+pub no_registers : (bytes : List ℕ) → length bytes < 8 → registers.read bytes ≡ None
+no_registers = too_few registers 8 8 registers_takes
+
+pub no_port : (bytes : List ℕ) → length bytes < 20 → port.read bytes ≡ None
+no_port = too_few port 20 20 port_takes
+
+pub no_port_01 : (bytes : List ℕ) → length bytes < 5 → port_01.read bytes ≡ None
+no_port_01 = too_few port_01 5 5 port_01_takes
+
+pub no_drives : (bytes : List ℕ) → length bytes < 8 → drives.read bytes ≡ None
+no_drives = too_few drives 8 8 drives_takes
+
+pub no_current : (bytes : List ℕ) → length bytes < 142 → current.read bytes ≡ None
+no_current = too_few current 142 142 current_takes

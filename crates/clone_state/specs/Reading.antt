@@ -1,14 +1,15 @@
 -- What the fields that are read together say, in the order of their bytes.
-use Rattle.std.specs.Prelude.{◌≡◌, ℕ, ◌<◌, ◌^◌, Bool, true, if◌then◌else◌, List, map, Option, Some, None}
+use Rattle.std.specs.Prelude.{◌≡◌, ℕ, ◌<◌, ◌^◌, ◌==◌, ◌&&◌, Bool, true, if◌then◌else◌, List, map, Option, Some, None}
 use Rattle.std.specs.List.{zip}
 use Rattle.i8080_words.specs.declared.registers.Interrupts.{Interrupts}
 use Rattle.i8080_words.specs.declared.registers.Processor.{Processor}
 use Rattle.disk_dcdd.specs.Drive.{Drives}
 use Rattle.disk_dcdd.specs.Sector.{place_of}
+use Rattle.disk_dcdd.specs.declared.sector.CurrentSector.{CurrentSector}
 use Rattle.disk_dcdd.specs.declared.sector.SectorWrite.{SectorWrite}
 use Rattle.clone_state.specs.Checkpoint.{FirstPart}
 use Rattle.clone_state.specs.Codec.{Codec}
-use Rattle.clone_state.specs.FirstPart.{Registers, PortImage, ControllerFields, DeviceFields, FirstImage, first_of_image, port, port_01}
+use Rattle.clone_state.specs.FirstPart.{Registers, PortImage, ControllerFields, CurrentImage, DeviceFields, FirstImage, current_of, first_of_image, is_bit, is_current, port, port_01, some_below}
 use Rattle.clone_state.specs.Parts.{PartMessage}
 use Rattle.clone_state.specs.Possible.{is_controller, is_possible}
 use Rattle.clone_state.specs.declared.reading.controller.ControllerFields as controller
@@ -59,6 +60,17 @@ abbrev pub ports_of : ports.Ports → List PortImage
 ports_of p = zip p.ports p.windows
 
 -- ---- the controller and its writes
+
+-- the sector under the head, from the bytes before those of the sector
+abbrev pub current_fields : ℕ → ℕ → ℕ → ℕ → ℕ → List ℕ → CurrentImage
+current_fields present sector shown read filled bytes =
+    (present == 1, (sector, (shown == 1, (read, (some_below filled, bytes)))))
+
+-- if they say one, or that there is none
+abbrev pub current_in : ℕ → ℕ → ℕ → ℕ → ℕ → List ℕ → Option (Option CurrentSector)
+current_in present sector shown read filled bytes =
+    let r = current_fields present sector shown read filled bytes in
+    if is_bit present && is_bit shown && is_current r then Some (current_of r) else None
 
 abbrev pub writes_in : List Outstanding → List SectorWrite
 writes_in writes = map (λ (w : Outstanding). w.write) writes

@@ -1,6 +1,7 @@
 //! The replies to events, and what a node is; each prints in the words of a script's output.
 
-ghost use Rattle.std.specs.Prelude.{Some};
+ghost use Rattle.std.specs.Prelude.{Some, codes};
+ghost use Rattle.pair_events.specs.declared.reply.Reply.TheVariants as reply;
 ghost use Rattle.std.specs.Fmt.{WritesOnOk, decimal};
 ghost use Rattle.pair_events.specs.Printed.{moved_text, reply_text, role_text, why_text, ◌␣◌};
 
@@ -112,8 +113,8 @@ impl fmt::Display for Why {
     fn fmt<W: fmt::Write>(&self, f: &mut fmt::Formatter<W>) -> fmt::Result {
         match self.0 {
             StopReason::Turns => f.write_str("turns"),
-            StopReason::Operation(OpId::Byte(port, number)) => write!(f, "byte {port} {number}"),
-            StopReason::Operation(OpId::Write(number)) => write!(f, "write {number}"),
+            StopReason::Operation(OpId::Byte(port, number)) => write_byte_name(f, port, number),
+            StopReason::Operation(OpId::Write(number)) => write_number(f, "write", number),
             StopReason::Refused(Fault::Idle) => f.write_str("idle"),
             StopReason::Refused(Fault::Spent) => f.write_str("spent"),
             StopReason::Refused(_) => f.write_str("memory"),
@@ -121,14 +122,19 @@ impl fmt::Display for Why {
     }
 }
 
+// The name of a byte.
+fn write_byte_name<W: fmt::Write>(f: &mut fmt::Formatter<W>, port: u8, number: u64) -> fmt::Result
+    ensures { WritesOnOk W.write_str_gives f.old result (codes "byte" ␣ decimal port ␣ decimal number) f.new }
+{
+    write!(f, "byte {port} {number}")
+}
+
 impl fmt::Display for Reply {
     ghost output = { λ reply. Some (reply_text reply) };
 
     fn fmt<W: fmt::Write>(&self, f: &mut fmt::Formatter<W>) -> fmt::Result {
         match self {
-            Reply::Ran { steps, count, why } => {
-                write!(f, "ran {steps} count {count} {}", Why(*why))
-            }
+            Reply::Ran { steps, count, why } => write_ran(f, *steps, *count, *why),
             Reply::Typed { index } => write_number(f, "typed", *index),
             Reply::Taken => f.write_str("taken"),
             Reply::Message { message } => write_number(f, "message", *message),
@@ -136,7 +142,7 @@ impl fmt::Display for Reply {
             Reply::Old => f.write_str("old"),
             Reply::Held { held } => write_number(f, "held", *held),
             Reply::Moved { moves, why } => write_moved(f, *moves, *why),
-            Reply::MovedAlone { moves } => write!(f, "moved {moves} alone"),
+            Reply::MovedAlone { moves } => write_moved_and(f, *moves, "alone"),
             Reply::Accepted => f.write_str("accepted"),
             Reply::Dropped => f.write_str("dropped"),
             Reply::Told { keys } => write_number(f, "told", *keys),
@@ -151,19 +157,42 @@ impl fmt::Display for Reply {
     }
 }
 
+// Steps that were executed, the count after them, and why no more were.
+fn write_ran<W: fmt::Write>(
+    f: &mut fmt::Formatter<W>,
+    steps: u64,
+    count: u64,
+    why: StopReason,
+) -> fmt::Result
+    ensures { WritesOnOk W.write_str_gives f.old result (reply_text (reply.Ran steps count why)) f.new }
+{
+    write!(f, "ran {steps} count {count} {}", Why(why))
+}
+
 // Moves that were made, and why no more were.
 fn write_moved<W: fmt::Write>(f: &mut fmt::Formatter<W>, moves: u64, why: ReplayEnd) -> fmt::Result
     ensures { WritesOnOk W.write_str_gives f.old result (moved_text moves why) f.new }
 {
     match why {
         ReplayEnd::Turns | ReplayEnd::Memory => write_number(f, "moved", moves),
-        ReplayEnd::End => write!(f, "moved {moves} end"),
-        ReplayEnd::Wait => write!(f, "moved {moves} wait"),
+        ReplayEnd::End => write_moved_and(f, moves, "end"),
+        ReplayEnd::Wait => write_moved_and(f, moves, "wait"),
     }
 }
 
+// Moves that were made, and a word.
+fn write_moved_and<W: fmt::Write>(f: &mut fmt::Formatter<W>, moves: u64, word: &str) -> fmt::Result
+    ensures { WritesOnOk W.write_str_gives f.old result (codes "moved" ␣ decimal moves ␣ word.now) f.new }
+{
+    write!(f, "moved {moves} {word}")
+}
+
 // A word and a number.
-fn write_number<W: fmt::Write>(f: &mut fmt::Formatter<W>, word: &str, number: u64) -> fmt::Result
+pub(crate) fn write_number<W: fmt::Write>(
+    f: &mut fmt::Formatter<W>,
+    word: &str,
+    number: u64,
+) -> fmt::Result
     ensures { WritesOnOk W.write_str_gives f.old result (word.now ␣ decimal number) f.new }
 {
     write!(f, "{word} {number}")

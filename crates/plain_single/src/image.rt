@@ -44,7 +44,6 @@ impl DiskImage {
     }
 
     // A disk of zeros.
-    #[tactic(auto, using(crate::proofs::Zeros::one_more, crate::proofs::Zeros::at_each_address), unfolding(crate::specs::Image::zero_sector))]
     fn zeros(alloc: Global) -> R<Self>
         ensures ok { IfOk result (λ image. (a : SectorAddress) → sector_at image.sectors.items a ≡ zero_sector) }
         ensures only_memory { IfErr result (λ fault. fault ≡ OutOfMemory) }

@@ -11,16 +11,6 @@ use crate::executor::{called, effect};
 use crate::wires::Wires;
 use i8080_words::{AddressRegister, Interrupts, Op, Processor, R, Regs, decode, length};
 
-/// The level that is accepted, if any.
-pub(crate) fn heard(interrupts: Interrupts, line: Option<u8>) -> Option<u8>
-    ensures { result ≡ steps.heard interrupts line }
-{
-    match interrupts {
-        Interrupts::On => line,
-        Interrupts::Off | Interrupts::Soon => None,
-    }
-}
-
 /// Accepts a request of level n, from 0 to 7, as RST n.
 pub(crate) fn accept(level: u8, processor: &mut Processor, wires: &mut Wires)
     requires { level < 8 }
@@ -73,7 +63,7 @@ fn execute(op: Op, processor: &mut Processor, wires: &mut Wires) -> R<()>
 {
     carry_out(op, &mut processor.regs, wires)?;
     processor.interrupts = interrupts_after(op, processor.interrupts);
-    processor.halted = matches!(op, Op::Hlt);
+    processor.halted = is_halt(op);
     Ok(())
 }
 
@@ -114,4 +104,11 @@ fn interrupts_after(op: Op, interrupts: Interrupts) -> Interrupts
             Interrupts::Soon | Interrupts::On => Interrupts::On,
         },
     }
+}
+
+// HLT halts.
+fn is_halt(op: Op) -> bool
+    ensures { result ≡ steps.is_halt op }
+{
+    matches!(op, Op::Hlt)
 }

@@ -1,5 +1,5 @@
 //! What the processor is wired to: memory, two serial ports and the drives, by port number.
-ghost use Rattle.std.specs.Prelude.{◌≡◌, false, IfOk, IfErr};
+ghost use Rattle.std.specs.Prelude.{◌≡◌, ◌<◌, ℕ, false, IfOk, IfErr, IfSome, slice_index};
 ghost use Rattle.i8080_words.specs.Effects.{after_accesses};
 ghost use Rattle.i8080_words.specs.Effects.Access.{Input, Output};
 ghost use Rattle.guest_board.specs.Ports.{port_byte, after_access};
@@ -89,7 +89,8 @@ impl Wires {
 
     /// The interrupt line: the level of the first device that asks, of port 0, port 1 and the disk.
     pub(crate) fn line(&self, levels: [u8; 3]) -> Option<u8>
-        ensures { result ≡ guest.line_of (devices_of (behind_of self.now)) levels }
+        ensures value { result ≡ guest.line_of (devices_of (behind_of self.now)) levels }
+        ensures range { ((device : ℕ) → slice_index levels device < 8) → IfSome result (λ level. level < 8) }
     {
         let [first, second, disk] = levels;
         if self.first.asks() {
@@ -139,12 +140,12 @@ impl Wires {
     {
         match number {
             FIRST_CONTROL => self.first.control(byte),
-            FIRST_BYTES => self.first.send(byte)?,
+            FIRST_BYTES => return self.first.send(byte),
             SECOND_CONTROL => self.second.control(byte),
-            SECOND_BYTES => self.second.send(byte)?,
+            SECOND_BYTES => return self.second.send(byte),
             DISK_SELECT => self.drives.select(byte),
             DISK_CONTROL => self.drives.command(byte),
-            DISK_BYTES => self.fill(byte)?,
+            DISK_BYTES => return self.fill(byte),
             _ => {}
         }
         Ok(())

@@ -1,12 +1,13 @@
 //! The controller and the outstanding writes, as bytes are read for them.
-ghost use Rattle.std.specs.Prelude.{◌≡◌, ◌≤◌, ◌++◌, option_map, length, map};
+ghost use Rattle.std.specs.Prelude.{◌≡◌, ◌≤◌, ◌++◌, ◌==◌, ◌&&◌, not, is_none, option_map, length, map};
 ghost use Rattle.disk_dcdd.specs.Sector.{place_of};
 ghost use Rattle.disk_dcdd.specs.declared.controller.TheConstants.{OUTSTANDING};
 ghost use Rattle.clone_state.specs.Codec.{read_each};
 ghost use Rattle.clone_state.specs.FirstPart as grammar;
-ghost use Rattle.clone_state.specs.Reading.{controller_of, writes_in};
+ghost use Rattle.clone_state.specs.Possible as possible;
+ghost use Rattle.clone_state.specs.Reading.{controller_of, current_in, writes_in};
 
-use super::values::{are_zeros, byte_at, maybe_at, truth_at};
+use super::values::{are_zeros, byte_at, is_truth, maybe_of};
 use arrayvec::ArrayVec;
 use disk_dcdd::{CurrentSector, DRIVES, Drive, OUTSTANDING, Place, SECTOR_BYTES, SectorWrite};
 use log_entry::number_at;
@@ -42,13 +43,17 @@ pub(super) struct ControllerFields {
     pub(super) writes: ArrayVec<Outstanding, OUTSTANDING>,
 }
 
-#[tactic(auto, unfolding(crate::specs::FirstPart::controller, crate::specs::Codec::both, crate::specs::Codec::number))]
+#[tactic(auto, unfolding(crate::specs::FirstPart::controller, crate::specs::FirstPart::maybe, crate::specs::FirstPart::truth, crate::specs::Codec::both, crate::specs::Codec::by, crate::specs::Codec::only, crate::specs::Codec::one, crate::specs::Codec::number))]
 pub(super) fn controller_at(bytes: &[u8]) -> Option<(ControllerFields, &[u8])>
     ensures { option_map (λ found. (controller_of found.0, found.1.now)) result ≡ grammar.controller.read bytes.now }
 {
     let (issued, rest) = number_at(bytes)?;
-    let (selected, rest) = maybe_at(rest)?;
-    let (interrupts, rest) = truth_at(rest)?;
+    let [selected, interrupts, rest @ ..] = rest else {
+        return None;
+    };
+    if !is_truth(*interrupts) {
+        return None;
+    }
     let (drives, rest) = drives_at(rest)?;
     let Some((current, rest)) = current_at(rest) else {
         return None;
@@ -58,8 +63,8 @@ pub(super) fn controller_at(bytes: &[u8]) -> Option<(ControllerFields, &[u8])>
     };
     let fields = ControllerFields {
         issued,
-        selected,
-        interrupts,
+        selected: maybe_of(*selected),
+        interrupts: *interrupts == 1,
         drives,
         current,
         writes,
@@ -68,58 +73,103 @@ pub(super) fn controller_at(bytes: &[u8]) -> Option<(ControllerFields, &[u8])>
 }
 
 // The four tracks, and then whether the four heads are loaded.
-#[tactic(auto, unfolding(crate::specs::FirstPart::drives, crate::specs::Codec::both, crate::specs::Codec::by, crate::specs::Codec::times))]
+#[tactic(auto, unfolding(crate::specs::FirstPart::drives, crate::specs::FirstPart::truth, crate::specs::Codec::both, crate::specs::Codec::by, crate::specs::Codec::only, crate::specs::Codec::one, crate::specs::Codec::times))]
 fn drives_at(bytes: &[u8]) -> Option<([Drive; DRIVES], &[u8])>
     ensures { option_map (λ found. (found.0, found.1.now)) result ≡ grammar.drives.read bytes.now }
 {
-    let (first, rest) = byte_at(bytes)?;
-    let (second, rest) = byte_at(rest)?;
-    let (third, rest) = byte_at(rest)?;
-    let (fourth, rest) = byte_at(rest)?;
-    let (first_loaded, rest) = truth_at(rest)?;
-    let (second_loaded, rest) = truth_at(rest)?;
-    let (third_loaded, rest) = truth_at(rest)?;
-    let (fourth_loaded, rest) = truth_at(rest)?;
+    let [
+        first,
+        second,
+        third,
+        fourth,
+        first_head,
+        second_head,
+        third_head,
+        fourth_head,
+        rest @ ..,
+    ] = bytes
+    else {
+        return None;
+    };
+    if !are_truths(*first_head, *second_head, *third_head, *fourth_head) {
+        return None;
+    }
     let drives = [
-        drive(first, first_loaded),
-        drive(second, second_loaded),
-        drive(third, third_loaded),
-        drive(fourth, fourth_loaded),
+        drive(*first, *first_head),
+        drive(*second, *second_head),
+        drive(*third, *third_head),
+        drive(*fourth, *fourth_head),
     ];
     Some((drives, rest))
 }
 
-fn drive(track: u8, loaded: bool) -> Drive
-    ensures { result ≡ record { track = track; loaded = loaded } }
+fn are_truths(first: u8, second: u8, third: u8, fourth: u8) -> bool
+    ensures { result ≡ (grammar.is_bit first && grammar.is_bit second && grammar.is_bit third && grammar.is_bit fourth) }
 {
-    Drive { track, loaded }
+    is_truth(first) && is_truth(second) && is_truth(third) && is_truth(fourth)
+}
+
+fn drive(track: u8, head: u8) -> Drive
+    ensures { result ≡ record { track = track; loaded = head == 1 } }
+{
+    Drive {
+        track,
+        loaded: head == 1,
+    }
 }
 
 // The sector under the head, if there is one.
-#[tactic(auto, unfolding(crate::specs::FirstPart::current, crate::specs::Codec::both, crate::specs::Codec::by, crate::specs::Codec::only, crate::specs::Codec::bytes))]
+#[tactic(auto, unfolding(crate::specs::FirstPart::current, crate::specs::FirstPart::maybe, crate::specs::FirstPart::truth, crate::specs::Codec::both, crate::specs::Codec::by, crate::specs::Codec::only, crate::specs::Codec::one, crate::specs::Codec::bytes))]
 fn current_at(bytes: &[u8]) -> Option<(Option<CurrentSector>, &[u8])>
     ensures { option_map (λ found. (found.0, found.1.now)) result ≡ grammar.current.read bytes.now }
 {
-    let (present, rest) = truth_at(bytes)?;
-    let (sector, rest) = byte_at(rest)?;
-    let (shown, rest) = truth_at(rest)?;
-    let (read, rest) = byte_at(rest)?;
-    let (filled, rest) = maybe_at(rest)?;
+    let [present, sector, shown, read, filled, rest @ ..] = bytes else {
+        return None;
+    };
     let (bytes, rest) = rest.split_first_chunk::<SECTOR_BYTES>()?;
-    if present {
-        let current = CurrentSector {
-            sector,
-            bytes: *bytes,
-            read,
-            shown,
-            filled,
-        };
-        return Some((Some(current), rest));
-    }
-    if sector != 0 || shown || read != 0 || filled.is_some() || !are_zeros(bytes) {
+    let Some(current) = current_with(*present, *sector, *shown, *read, *filled, bytes) else {
+        return None;
+    };
+    Some((current, rest))
+}
+
+// The sector that these fields say, if they say one, or that there is none.
+fn current_with(
+    present: u8,
+    sector: u8,
+    shown: u8,
+    read: u8,
+    filled: u8,
+    bytes: &[u8; SECTOR_BYTES],
+) -> Option<Option<CurrentSector>>
+    ensures { result ≡ current_in present sector shown read filled bytes.now }
+{
+    if !is_truth(present) || !is_truth(shown) {
         return None;
     }
-    Some((None, rest))
+    let current = CurrentSector {
+        sector,
+        bytes: *bytes,
+        read,
+        shown: shown == 1,
+        filled: maybe_of(filled),
+    };
+    if present == 1 {
+        return Some(Some(current));
+    }
+    is_blank(&current).then_some(None)
+}
+
+// Whether this stands for no sector.
+fn is_blank(current: &CurrentSector) -> bool
+    ensures { result ≡ (current.now.sector == 0 && not current.now.shown && current.now.read == 0
+        && is_none current.now.filled && possible.are_zeros current.now.bytes) }
+{
+    current.sector == 0
+        && !current.shown
+        && current.read == 0
+        && current.filled.is_none()
+        && are_zeros(&current.bytes)
 }
 
 // How many writes are outstanding, and each of them.
@@ -152,20 +202,20 @@ fn each_write_at(count: u8, bytes: &[u8]) -> Option<(ArrayVec<Outstanding, OUTST
     Some((writes, rest))
 }
 
-#[tactic(auto, unfolding(crate::specs::FirstPart::write, crate::specs::Codec::both, crate::specs::Codec::by, crate::specs::Codec::bytes, crate::specs::Codec::number))]
+#[tactic(auto, unfolding(crate::specs::FirstPart::write, crate::specs::Codec::both, crate::specs::Codec::by, crate::specs::Codec::one, crate::specs::Codec::bytes, crate::specs::Codec::number))]
 fn write_at(bytes: &[u8]) -> Option<(SectorWrite, &[u8])>
     ensures { option_map (λ found. (found.0, found.1.now)) result ≡ grammar.write.read bytes.now }
 {
     let (number, rest) = number_at(bytes)?;
-    let (drive, rest) = byte_at(rest)?;
-    let (track, rest) = byte_at(rest)?;
-    let (sector, rest) = byte_at(rest)?;
+    let [drive, track, sector, rest @ ..] = rest else {
+        return None;
+    };
     let (bytes, rest) = rest.split_first_chunk::<SECTOR_BYTES>()?;
     let write = SectorWrite {
         number,
-        drive,
-        track,
-        sector,
+        drive: *drive,
+        track: *track,
+        sector: *sector,
         bytes: *bytes,
     };
     Some((write, rest))

@@ -14,7 +14,7 @@ ghost use Rattle.clone_state.specs.Reading.{controller_in, controller_of, device
 use super::controller::{ControllerFields, Outstanding, controller_at, places_of};
 use super::ports::{Ports, Version, ports_at};
 use super::processor::processor_at;
-use super::values::{byte_at, two_numbers_at};
+use super::values::two_numbers_at;
 use crate::spelling::has_all;
 use arrayvec::ArrayVec;
 use disk_dcdd::{Controller, ControllerImage, CurrentSector, OUTSTANDING};
@@ -114,14 +114,14 @@ fn versioned_at(version: Version, bytes: &[u8]) -> Option<(FirstPart, &[u8])>
     Some((part, rest))
 }
 
-#[tactic(auto, unfolding(crate::specs::FirstPart::fields, crate::specs::Codec::both, crate::specs::Codec::bytes, crate::specs::Codec::number))]
+#[tactic(auto, unfolding(crate::specs::FirstPart::fields, crate::specs::Codec::both, crate::specs::Codec::bytes, crate::specs::Codec::number, crate::specs::Codec::one))]
 fn fields_at(version: Version, bytes: &[u8]) -> Option<(Fields, &[u8])>
     ensures { option_map (λ found. (fields_of found.0, found.1.now)) result
         ≡ (grammar.fields (port_in version)).read bytes.now }
 {
-    let (attached, rest) = byte_at(bytes)?;
-    let (levels, rest) = rest.split_first_chunk::<3>()?;
-    let (sense, rest) = byte_at(rest)?;
+    let [attached, first, second, third, sense, rest @ ..] = bytes else {
+        return None;
+    };
     let (count, rest) = number_at(rest)?;
     let Some((processor, rest)) = processor_at(rest) else {
         return None;
@@ -130,9 +130,9 @@ fn fields_at(version: Version, bytes: &[u8]) -> Option<(Fields, &[u8])>
         return None;
     };
     let fields = Fields {
-        attached,
-        levels: *levels,
-        sense,
+        attached: *attached,
+        levels: [*first, *second, *third],
+        sense: *sense,
         count,
         processor,
         devices,

@@ -1,12 +1,14 @@
 //! The serial ports, as bytes are read for them in either version.
-ghost use Rattle.std.specs.Prelude.{◌≡◌, ◌∷◌, [], option_map};
+ghost use Rattle.std.specs.Prelude.{◌≡◌, ◌∷◌, [], Some, None, if◌then◌else◌, option_map};
 ghost use Rattle.clone_state.specs.Codec.{times};
 ghost use Rattle.clone_state.specs.FirstPart as grammar;
+ghost use Rattle.clone_state.specs.Possible as possible;
 ghost use Rattle.clone_state.specs.Reading as table;
+ghost use Rattle.serial_2sio.specs.Port as serial;
 
-use super::values::{are_zeros, byte_at, receiver_at, truth_at};
+use super::values::{are_zeros, receiver_of};
 use event_callbacks::PORTS;
-use serial_2sio::{Acia, WINDOW};
+use serial_2sio::{Acia, Receiver, WINDOW};
 
 /// The version of a first part.
 #[derive(Clone, Copy)]
@@ -66,46 +68,65 @@ fn port_at(version: Version, bytes: &[u8]) -> Option<(PortImage, &[u8])>
     }
 }
 
-#[tactic(auto, unfolding(crate::specs::FirstPart::port, crate::specs::Codec::both, crate::specs::Codec::by, crate::specs::Codec::only, crate::specs::Codec::bytes))]
+#[tactic(auto, unfolding(crate::specs::FirstPart::port, crate::specs::FirstPart::receiver, crate::specs::Codec::both, crate::specs::Codec::by, crate::specs::Codec::only, crate::specs::Codec::one, crate::specs::Codec::bytes))]
 fn port_02_at(bytes: &[u8]) -> Option<(PortImage, &[u8])>
     ensures { option_map (λ found. (table.port_of found.0, found.1.now)) result ≡ grammar.port.read bytes.now }
 {
-    let (control, rest) = byte_at(bytes)?;
-    let (data, rest) = byte_at(rest)?;
-    let Some((receiver, rest)) = receiver_at(rest) else {
+    let [control, data, receiver, unaccepted, rest @ ..] = bytes else {
         return None;
     };
-    let (unaccepted, rest) = byte_at(rest)?;
     let (window, rest) = rest.split_first_chunk::<16>()?;
-    let Ok(port) = Acia::rebuild(control, data, receiver, unaccepted) else {
+    let Some(receiver) = receiver_of(*receiver) else {
+        return None;
+    };
+    let Some(port) = port_with(*control, *data, receiver, *unaccepted, window) else {
+        return None;
+    };
+    Some((port, rest))
+}
+
+// The port, and the places of its window, if only the first places have bytes.
+fn port_with(
+    control: u8,
+    received: u8,
+    receiver: Receiver,
+    unaccepted: u8,
+    window: &[u8; WINDOW as usize],
+) -> Option<PortImage>
+    ensures { option_map table.port_of result ≡ (if possible.is_window unaccepted window.now
+        then Some (serial.port_with control received receiver unaccepted, window.now) else None) }
+{
+    let Ok(port) = Acia::rebuild(control, received, receiver, unaccepted) else {
         return None;
     };
     if !are_zeros(&window[unaccepted as usize..]) {
         return None;
     }
     let window = *window;
-    Some((PortImage { port, window }, rest))
+    Some(PortImage { port, window })
 }
 
 // A port with TDRE 0 has one unaccepted byte, any other none.
-#[tactic(auto, unfolding(crate::specs::FirstPart::port_01, crate::specs::Codec::both, crate::specs::Codec::by, crate::specs::Codec::only))]
+#[tactic(auto, unfolding(crate::specs::FirstPart::port_01, crate::specs::FirstPart::receiver, crate::specs::FirstPart::truth, crate::specs::Codec::both, crate::specs::Codec::by, crate::specs::Codec::only, crate::specs::Codec::one))]
 fn port_01_at(bytes: &[u8]) -> Option<(PortImage, &[u8])>
     ensures { option_map (λ found. (table.port_of found.0, found.1.now)) result ≡ grammar.port_01.read bytes.now }
 {
-    let (control, rest) = byte_at(bytes)?;
-    let (data, rest) = byte_at(rest)?;
-    let Some((receiver, rest)) = receiver_at(rest) else {
+    let [control, data, receiver, ready, byte, rest @ ..] = bytes else {
         return None;
     };
-    let (ready, rest) = truth_at(rest)?;
-    let (byte, rest) = byte_at(rest)?;
-    if ready && byte != 0 {
+    let Some(receiver) = receiver_of(*receiver) else {
+        return None;
+    };
+    if *ready > 1 {
         return None;
     }
-    let Ok(port) = Acia::rebuild(control, data, receiver, u8::from(!ready)) else {
+    if *ready == 1 && *byte != 0 {
+        return None;
+    }
+    let Ok(port) = Acia::rebuild(*control, *data, receiver, 1 - *ready) else {
         return None;
     };
-    let window = window_of_one(byte);
+    let window = window_of_one(*byte);
     Some((PortImage { port, window }, rest))
 }
 

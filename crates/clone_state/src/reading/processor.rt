@@ -3,8 +3,8 @@ ghost use Rattle.std.specs.Prelude.{◌≡◌, option_map};
 ghost use Rattle.clone_state.specs.FirstPart as grammar;
 ghost use Rattle.clone_state.specs.Reading.{processor_with, registers_of};
 
-use super::values::{byte_at, flags_at, interrupts_at, truth_at, word_at};
-use i8080_words::{AddressRegister, Flags, Interrupts, Processor, Regs};
+use super::values::{interrupts_of, is_flag_byte, is_truth, word_at};
+use i8080_words::{AddressRegister, Flags, Interrupts, Processor, Regs, of_psw};
 
 // The registers but SP and PC, in the order of their bytes.
 #[derive(Clone, Copy)]
@@ -19,34 +19,30 @@ struct Registers {
     l: u8,
 }
 
-#[tactic(auto, unfolding(crate::specs::FirstPart::registers, crate::specs::Codec::both))]
+#[tactic(auto, unfolding(crate::specs::FirstPart::registers, crate::specs::FirstPart::flags, crate::specs::Codec::both, crate::specs::Codec::by, crate::specs::Codec::only, crate::specs::Codec::one))]
 fn registers_at(bytes: &[u8]) -> Option<(Registers, &[u8])>
     ensures { option_map (λ found. (registers_of found.0, found.1.now)) result ≡ grammar.registers.read bytes.now }
 {
-    let (a, rest) = byte_at(bytes)?;
-    let Some((flags, rest)) = flags_at(rest) else {
+    let [a, flags, b, c, d, e, h, l, rest @ ..] = bytes else {
         return None;
     };
-    let (b, rest) = byte_at(rest)?;
-    let (c, rest) = byte_at(rest)?;
-    let (d, rest) = byte_at(rest)?;
-    let (e, rest) = byte_at(rest)?;
-    let (h, rest) = byte_at(rest)?;
-    let (l, rest) = byte_at(rest)?;
+    if !is_flag_byte(*flags) {
+        return None;
+    }
     let registers = Registers {
-        a,
-        flags,
-        b,
-        c,
-        d,
-        e,
-        h,
-        l,
+        a: *a,
+        flags: of_psw(*flags),
+        b: *b,
+        c: *c,
+        d: *d,
+        e: *e,
+        h: *h,
+        l: *l,
     };
     Some((registers, rest))
 }
 
-#[tactic(auto, unfolding(crate::specs::FirstPart::processor, crate::specs::Codec::both, crate::specs::Codec::by))]
+#[tactic(auto, unfolding(crate::specs::FirstPart::processor, crate::specs::FirstPart::interrupts, crate::specs::FirstPart::truth, crate::specs::Codec::both, crate::specs::Codec::by, crate::specs::Codec::only, crate::specs::Codec::one))]
 pub(super) fn processor_at(bytes: &[u8]) -> Option<(Processor, &[u8])>
     ensures { option_map (λ found. (found.0, found.1.now)) result ≡ grammar.processor.read bytes.now }
 {
@@ -55,11 +51,19 @@ pub(super) fn processor_at(bytes: &[u8]) -> Option<(Processor, &[u8])>
     };
     let (sp, rest) = word_at(rest)?;
     let (pc, rest) = word_at(rest)?;
-    let Some((interrupts, rest)) = interrupts_at(rest) else {
+    let [interrupts, halted, rest @ ..] = rest else {
         return None;
     };
-    let (halted, rest) = truth_at(rest)?;
-    Some((processor_of(registers, sp, pc, interrupts, halted), rest))
+    let Some(interrupts) = interrupts_of(*interrupts) else {
+        return None;
+    };
+    if !is_truth(*halted) {
+        return None;
+    }
+    Some((
+        processor_of(registers, sp, pc, interrupts, *halted == 1),
+        rest,
+    ))
 }
 
 // The processor with these registers.

@@ -1,11 +1,11 @@
-//! Small values as bytes are read for them: each with the bytes after it, or `None` if the bytes begin with no such value.
-ghost use Rattle.std.specs.Prelude.{◌≡◌, ◌∷◌, [], option_map};
+//! Small values as bytes are read for them. One that is found by itself comes with the bytes after it.
+ghost use Rattle.std.specs.Prelude.{◌≡◌, ◌∷◌, [], Some, None, if◌then◌else◌, option_map};
 ghost use Rattle.std.specs.List.{list_all};
 ghost use Rattle.clone_state.specs.Codec.{one, number};
 ghost use Rattle.clone_state.specs.FirstPart as grammar;
 ghost use Rattle.clone_state.specs.Possible as possible;
 
-use i8080_words::{Flags, Interrupts, of_psw};
+use i8080_words::Interrupts;
 use log_entry::number_at;
 use serial_2sio::Receiver;
 
@@ -31,24 +31,18 @@ pub(super) fn word_at(bytes: &[u8]) -> Option<(u16, &[u8])>
     Some((u16::from(high) * 256 + u16::from(low), rest))
 }
 
-#[tactic(auto, unfolding(crate::specs::FirstPart::truth, crate::specs::Codec::only, crate::specs::Codec::by, crate::specs::Codec::one))]
-pub(super) fn truth_at(bytes: &[u8]) -> Option<(bool, &[u8])>
-    ensures { option_map (λ found. (found.0, found.1.now)) result ≡ grammar.truth.read bytes.now }
+// Whether a byte says that something holds, or that it does not.
+pub(super) fn is_truth(byte: u8) -> bool
+    ensures { result ≡ grammar.is_bit byte }
 {
-    let (byte, rest) = byte_at(bytes)?;
-    if byte > 1 {
-        return None;
-    }
-    Some((byte == 1, rest))
+    byte < 2
 }
 
-#[tactic(auto, unfolding(crate::specs::FirstPart::maybe, crate::specs::Codec::by, crate::specs::Codec::one))]
-pub(super) fn maybe_at(bytes: &[u8]) -> Option<(Option<u8>, &[u8])>
-    ensures { option_map (λ found. (found.0, found.1.now)) result ≡ grammar.maybe.read bytes.now }
+// The number that a byte says, if it says one.
+pub(super) fn maybe_of(byte: u8) -> Option<u8>
+    ensures { result ≡ grammar.some_below byte }
 {
-    let (byte, rest) = byte_at(bytes)?;
-    let value = if byte == NONE { None } else { Some(byte) };
-    Some((value, rest))
+    if byte == NONE { None } else { Some(byte) }
 }
 
 #[tactic(auto, unfolding(crate::specs::FirstPart::two_numbers, crate::specs::Codec::times, crate::specs::Codec::number))]
@@ -68,46 +62,31 @@ pub(super) fn are_zeros(bytes: &[u8]) -> bool
 }
 
 // Bits 5 and 3 of a flag byte are 0, and bit 1 is 1.
-fn is_flag_byte(byte: u8) -> bool
+pub(super) fn is_flag_byte(byte: u8) -> bool
     ensures { result ≡ grammar.is_flag_byte byte }
 {
     byte / 32 % 2 == 0 && byte / 8 % 2 == 0 && byte / 2 % 2 == 1
 }
 
-#[tactic(auto, unfolding(crate::specs::FirstPart::flags, crate::specs::Codec::only, crate::specs::Codec::by, crate::specs::Codec::one))]
-pub(super) fn flags_at(bytes: &[u8]) -> Option<(Flags, &[u8])>
-    ensures { option_map (λ found. (found.0, found.1.now)) result ≡ grammar.flags.read bytes.now }
+pub(super) fn interrupts_of(byte: u8) -> Option<Interrupts>
+    ensures { result ≡ (if grammar.is_interrupts byte then Some (grammar.interrupts_of byte) else None) }
 {
-    let (byte, rest) = byte_at(bytes)?;
-    if !is_flag_byte(byte) {
-        return None;
-    }
-    Some((of_psw(byte), rest))
-}
-
-#[tactic(auto, unfolding(crate::specs::FirstPart::interrupts, crate::specs::Codec::only, crate::specs::Codec::by, crate::specs::Codec::one))]
-pub(super) fn interrupts_at(bytes: &[u8]) -> Option<(Interrupts, &[u8])>
-    ensures { option_map (λ found. (found.0, found.1.now)) result ≡ grammar.interrupts.read bytes.now }
-{
-    let (byte, rest) = byte_at(bytes)?;
     match byte {
-        0 => Some((Interrupts::Off, rest)),
-        1 => Some((Interrupts::Soon, rest)),
-        2 => Some((Interrupts::On, rest)),
+        0 => Some(Interrupts::Off),
+        1 => Some(Interrupts::Soon),
+        2 => Some(Interrupts::On),
         _ => None,
     }
 }
 
-#[tactic(auto, unfolding(crate::specs::FirstPart::receiver, crate::specs::Codec::only, crate::specs::Codec::by, crate::specs::Codec::one))]
-pub(super) fn receiver_at(bytes: &[u8]) -> Option<(Receiver, &[u8])>
-    ensures { option_map (λ found. (found.0, found.1.now)) result ≡ grammar.receiver.read bytes.now }
+pub(super) fn receiver_of(byte: u8) -> Option<Receiver>
+    ensures { result ≡ (if grammar.is_receiver byte then Some (grammar.receiver_of byte) else None) }
 {
-    let (byte, rest) = byte_at(bytes)?;
     match byte {
-        0 => Some((Receiver::Empty, rest)),
-        1 => Some((Receiver::Full, rest)),
-        2 => Some((Receiver::FullLost, rest)),
-        3 => Some((Receiver::Over, rest)),
+        0 => Some(Receiver::Empty),
+        1 => Some(Receiver::Full),
+        2 => Some(Receiver::FullLost),
+        3 => Some(Receiver::Over),
         _ => None,
     }
 }

@@ -1,0 +1,6 @@
+use Rattle.std.proofs.Common.{sym}
+use Rattle.clone_state.proofs.ReadSizes.{no_registers}
+use Rattle.clone_state.proofs.reading.processor.registers_at.Goals as goal
+
+pub returns-in_default : goal.returns-in_default
+returns-in_default c = sym (no_registers c.args.bytes.now c.in_default.len_below)
