@@ -1,4 +1,4 @@
--- Each event's method says what the event does; these leave the disk and the copied pages as they were.
+-- Each event's method says what the event does; most leave the disk and the copied pages as they were.
 use Rattle.ft_world.proofs.PlainEvents.{not_counted, refused_so}
 use Rattle.ft_world.proofs.pair.Pair.apply.Goals as goal
 
@@ -216,4 +216,88 @@ returns-in-PartComes g c =
       spares = rw c.in-PartComes.is made.spares;
       stale = rw c.in-PartComes.is tt;
       pages = rw c.in-PartComes.is made.pages;
+    }
+
+pub returns-in-Step : goal.returns-in-Step
+returns-in-Step g c =
+    let made = c.step.ensures in
+    record {
+      row = rw c.in-Step.is made.row;
+      counted = rw c.in-Step.is (not_counted g.D.SectorStore.failures c.args.self.now.disk c.step.new.self.disk made.disk);
+      unchanged = rw c.in-Step.is (refused_so c.step.result _ made.unchanged);
+      spares = rw c.in-Step.is made.spares;
+      stale = rw c.in-Step.is tt;
+      pages = rw c.in-Step.is made.pages;
+    }
+
+pub returns-in-Suspect : goal.returns-in-Suspect
+returns-in-Suspect g c =
+    let made = c.suspect.ensures in
+    record {
+      row = rw c.in-Suspect.is made.row;
+      counted = rw c.in-Suspect.is (not_counted g.D.SectorStore.failures c.args.self.now.disk c.suspect.new.self.disk made.disk);
+      unchanged = rw c.in-Suspect.is made.unchanged;
+      spares = rw c.in-Suspect.is made.spares;
+      stale = rw c.in-Suspect.is tt;
+      pages = rw c.in-Suspect.is made.pages;
+    }
+
+pub returns-in-Put : goal.returns-in-Put
+returns-in-Put g c =
+    let made = c.put.ensures in
+    record {
+      row = rw c.in-Put.is made.row;
+      counted = rw c.in-Put.is made.counted;
+      unchanged = rw c.in-Put.is made.unchanged;
+      spares = rw c.in-Put.is made.spares;
+      stale = rw c.in-Put.is tt;
+      pages = rw c.in-Put.is made.pages;
+    }
+
+pub returns-in-Get : goal.returns-in-Get
+returns-in-Get g c =
+    let made = c.get.ensures in
+    record {
+      row = rw c.in-Get.is made.row;
+      counted = rw c.in-Get.is made.counted;
+      unchanged = rw c.in-Get.is made.unchanged;
+      spares = rw c.in-Get.is made.spares;
+      stale = rw c.in-Get.is tt;
+      pages = rw c.in-Get.is made.pages;
+    }
+
+pub returns-in-Fetch : goal.returns-in-Fetch
+returns-in-Fetch g c =
+    let made = c.fetch.ensures in
+    record {
+      row = rw c.in-Fetch.is made.row;
+      counted = rw c.in-Fetch.is made.counted;
+      unchanged = rw c.in-Fetch.is made.unchanged;
+      spares = rw c.in-Fetch.is made.spares;
+      stale = rw c.in-Fetch.is tt;
+      pages = rw c.in-Fetch.is made.pages;
+    }
+
+pub returns-in-BeginPair : goal.returns-in-BeginPair
+returns-in-BeginPair g c =
+    let made = c.begin_pair.ensures in
+    record {
+      row = rw c.in-BeginPair.is made.row;
+      counted = rw c.in-BeginPair.is (not_counted g.D.SectorStore.failures c.args.self.now.disk c.begin_pair.new.self.disk made.disk);
+      unchanged = rw c.in-BeginPair.is (refused_so c.begin_pair.result _ made.unchanged);
+      spares = rw c.in-BeginPair.is made.spares;
+      stale = rw c.in-BeginPair.is tt;
+      pages = rw c.in-BeginPair.is made.pages;
+    }
+
+pub returns-in-Freshen : goal.returns-in-Freshen
+returns-in-Freshen g c =
+    let made = c.freshen.ensures in
+    record {
+      row = rw c.in-Freshen.is made.row;
+      counted = rw c.in-Freshen.is (not_counted g.D.SectorStore.failures c.args.self.now.disk c.freshen.new.self.disk made.disk);
+      unchanged = rw c.in-Freshen.is (refused_so c.freshen.result _ made.unchanged);
+      spares = rw c.in-Freshen.is made.spares;
+      stale = rw c.in-Freshen.is made.stale;
+      pages = rw c.in-Freshen.is made.pages;
     }
