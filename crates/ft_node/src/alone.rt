@@ -66,8 +66,10 @@ impl<B: Lockstep> Alone<B> {
             → IsAlone self.now.reads (B.state self.now.board) self.now.generation x
             → calls.Releases B.machine id x result }
     {
-        let operation = self.board.outstanding(id).ok_or(Fault::NotDue)?;
-        Ok(*operation)
+        match self.board.outstanding(id) {
+            Some(operation) => Ok(*operation),
+            None => Err(Fault::NotDue),
+        }
     }
 
     /// How many keys of a port are covered: all that the guest has taken.

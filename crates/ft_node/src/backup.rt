@@ -88,7 +88,9 @@ impl<B: Lockstep> Backup<B> {
             self.now.receiver x
             → calls.Wanted B.machine x result }
     {
-        let (drive, sector, _) = self.replayer.wanted(&self.receiver).ok_or(Fault::NotDue)?;
+        let Some((drive, sector, _)) = self.replayer.wanted(&self.receiver) else {
+            return Err(Fault::NotDue);
+        };
         Ok(self.replayer.board().sector_under(drive, sector))
     }
 

@@ -29,7 +29,6 @@ use guest_lockstep::Reads;
 use i8080_words::{Fault, R};
 use log_buffer::LogBuffer;
 use std::alloc::Global;
-use std::mem;
 
 impl<B: Copies<H> + Drop, H: Drop> Node<B, H> {
     /// The generation that an alone node may begin, for a machine with its drives, and with a log that carries sectors as
@@ -60,15 +59,14 @@ impl<B: Copies<H> + Drop, H: Drop> Node<B, H> {
         ensures pages { OnOk result (PagesStay B.stale self.old self.new) }
         ensures unchanged { OnErr result (self.new ≡ self.old) }
     {
-        let halted = self.halted();
-        match mem::replace(self, Node::Halted(halted)) {
+        match self.take_out() {
             Node::Alone(alone) => {
                 let (result, node) = begun(alloc, alone);
-                *self = node;
+                self.become_node(node);
                 result
             }
             other => {
-                *self = other;
+                self.become_node(other);
                 Err(Fault::WrongRole)
             }
         }
@@ -113,15 +111,14 @@ impl<B: Copies<H> + Drop, H: Drop> Node<B, H> {
         ensures pages { OnOk result (PagesStay B.stale self.old self.new) }
         ensures unchanged { OnErr result (self.new ≡ self.old) }
     {
-        let halted = self.halted();
-        match mem::replace(self, Node::Halted(halted)) {
+        match self.take_out() {
             Node::Joining(joining) => {
                 let (result, node) = with_part(joining, alloc, bytes);
-                *self = node;
+                self.become_node(node);
                 result
             }
             other => {
-                *self = other;
+                self.become_node(other);
                 Err(Fault::WrongRole)
             }
         }

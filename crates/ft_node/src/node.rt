@@ -29,6 +29,7 @@ use log_channel::Receiver;
 use pair_events::Role;
 use replayer::Replayer;
 use std::alloc::Global;
+use std::mem;
 
 /// A node of a pair, by its role. A call in which the role has no part is refused with `WrongRole`, `packet` and
 /// `send_part` with `Unknown`. A refused call leaves the node as it was, except that a node that asked the arbiter and
@@ -179,7 +180,23 @@ impl<B: Copies<H> + Drop, H: Drop> Node<B, H> {
         ensures node { (C : Copying B.State) (drives : ℕ) (x : protocol.Node B.State) → IsNode B.state B.machine C drives self.old x
             → IsNode B.state B.machine C drives self.new (halts x) }
     {
-        *self = Node::Halted(self.halted());
+        let halted = self.halted();
+        self.become_node(Node::Halted(halted));
+    }
+
+    // The node becomes another one.
+    pub(crate) fn become_node(&mut self, node: Node<B, H>)
+        ensures { self.new ≡ node }
+    {
+        *self = node;
+    }
+
+    // Takes the node out of its place, where a halted one is left.
+    pub(crate) fn take_out(&mut self) -> Node<B, H>
+        ensures { result ≡ self.old }
+    {
+        let halted = self.halted();
+        mem::replace(self, Node::Halted(halted))
     }
 
     // The node as it would be if it halted now.

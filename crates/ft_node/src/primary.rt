@@ -155,7 +155,9 @@ impl<B: Lockstep + Drop> Primary<B> {
             self.now.coverage x
             → calls.Releases B.machine id x result }
     {
-        let operation = self.recorder.board().outstanding(id).ok_or(Fault::NotDue)?;
+        let Some(operation) = self.recorder.board().outstanding(id) else {
+            return Err(Fault::NotDue);
+        };
         self.coverage.release(operation)?;
         Ok(*operation)
     }

@@ -18,7 +18,6 @@ use clone_state::Copies;
 use go_live::Draining;
 use guest_lockstep::{Reads, ReplayEnd};
 use i8080_words::{Fault, R};
-use std::mem;
 
 impl<B: Copies<H> + Drop, H: Drop> Node<B, H> {
     /// Asks the arbiter for the generation: the first node to ask has won, and is alone, or drains first if it was a
@@ -82,8 +81,7 @@ impl<B: Copies<H> + Drop, H: Drop> Node<B, H> {
         ensures node { (C : Copying B.State) (drives : ℕ) (x : protocol.Node B.State) → x.running ≡ true → IsNode B.state B.machine C drives self.old x
             → IsNode B.state B.machine C drives self.new (wins x) }
     {
-        let halted = self.halted();
-        *self = match mem::replace(self, Node::Halted(halted)) {
+        let node = match self.take_out() {
             Node::Primary(primary) => {
                 let generation = primary.sender.generation();
                 let reads = primary.recorder.reads();
@@ -96,6 +94,7 @@ impl<B: Copies<H> + Drop, H: Drop> Node<B, H> {
             }),
             other => other,
         };
+        self.become_node(node);
     }
 
     // A node that has drained is alone.
@@ -105,12 +104,11 @@ impl<B: Copies<H> + Drop, H: Drop> Node<B, H> {
         ensures node { (C : Copying B.State) (drives : ℕ) (y : protocol.Node B.State) → y.role ≡ protocol.Draining → y.replayed ≡ length y.held
             → IsNode B.state B.machine C drives self.old y → IsNode B.state B.machine C drives self.new (goes_live y) }
     {
-        let halted = self.halted();
-        let node = mem::replace(self, Node::Halted(halted));
-        *self = match node {
+        let node = match self.take_out() {
             Node::Draining(winner) => alone(winner),
             other => other,
         };
+        self.become_node(node);
     }
 }
 

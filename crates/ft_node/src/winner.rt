@@ -45,7 +45,9 @@ impl<B: Lockstep> Winner<B> {
             self.now.draining.replayer.fetched self.now.draining.receiver x
             → calls.Wanted B.machine x result }
     {
-        let (drive, sector, _) = self.draining.wanted().ok_or(Fault::NotDue)?;
+        let Some((drive, sector, _)) = self.draining.wanted() else {
+            return Err(Fault::NotDue);
+        };
         Ok(self.draining.board().sector_under(drive, sector))
     }
 

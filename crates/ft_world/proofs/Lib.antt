@@ -41,3 +41,4 @@ pub mod AtParts
 pub mod SpareHosts
 pub mod Pairing
 pub mod CopiedPages
+pub mod PlainEvents

@@ -22,7 +22,7 @@ use std::alloc::Global;
 pub type Altairs<T, S, W> = altair_pair::Altairs<T, S, W, Disk>;
 
 /// A pair of this setup, with its spare hosts. `Unknown` if a sector is on a drive that is not attached.
-#[tactic(auto, using(crate::proofs::Booting::booted_pair, crate::proofs::Booting::booted_host))]
+#[tactic(auto, using(crate::proofs::Booting::booted_host))]
 pub fn boot<T: Completes + Drop + Copy, S: Completes + Drop + Copy, W: Completes + Drop + Copy>(
     alloc: Global,
     setup: &ScriptSetup,
@@ -40,20 +40,41 @@ pub fn boot<T: Completes + Drop + Copy, S: Completes + Drop + Copy, W: Completes
     ensures refused { IfErr result (λ fault. (fault ≡ OutOfMemory)
         ⊎ ((fault ≡ Unknown) × (AreOnDrives setup.now.guest.drives sectors.now → ⊥))) }
 {
-    let records = MemoryStore::at_boot(alloc, setup.guest.drives, sectors)?;
-    let disk = FailOnce::new(records, setup.failing_access);
-    let primary = Callbacks::of(sent, sector, written);
-    let backup = Callbacks::of(sent, sector, written);
-    let mut world = match boot_pair(alloc, &setup.guest, disk, primary, backup) {
-        Ok(world) => world,
-        Err((_, _, _, fault)) => return Err(fault),
-    };
+    let mut world = boot_two(alloc, setup, sectors, sent, sector, written)?;
     'hosts: for _number in 2..setup.hosts {
         if let Err((_, fault)) = world.host(Callbacks::of(sent, sector, written)) {
             return Err(fault);
         }
     }
     Ok(world)
+}
+
+// A pair of this setup, with no spare host.
+fn boot_two<T: Completes + Drop + Copy, S: Completes + Drop + Copy, W: Completes + Drop + Copy>(
+    alloc: Global,
+    setup: &ScriptSetup,
+    sectors: &[SectorWrite],
+    sent: T,
+    sector: S,
+    written: W,
+) -> R<Altairs<T, S, W>>
+    requires sent { Keeps (T.may sent) (T.gives sent) SENT }
+    requires sector { Keeps (S.may sector) (S.gives sector) SECTOR }
+    requires written { Keeps (W.may written) (W.gives written) WRITTEN }
+    ensures booted { IfOk result (λ world. IsBooted (λ d. d.board.guest) (λ d. d.board.guest) some_altair
+        (image_copy setup.now.guest.drives) setup.now.guest.reads (guest_at_boot setup.now.guest)
+        setup.now.guest.drives 2 sectors.now world) }
+    ensures refused { IfErr result (λ fault. (fault ≡ OutOfMemory)
+        ⊎ ((fault ≡ Unknown) × (AreOnDrives setup.now.guest.drives sectors.now → ⊥))) }
+{
+    let records = MemoryStore::at_boot(alloc, setup.guest.drives, sectors)?;
+    let disk = FailOnce::new(records, setup.failing_access);
+    let primary = Callbacks::of(sent, sector, written);
+    let backup = Callbacks::of(sent, sector, written);
+    match boot_pair(alloc, &setup.guest, disk, primary, backup) {
+        Ok(world) => Ok(world),
+        Err((_, _, _, fault)) => Err(fault),
+    }
 }
 
 /// The sectors at boot, as writes that come before every write of a guest.

@@ -12,9 +12,10 @@ use Rattle.i8080_words.specs.declared.refusal.Fault.TheVariants.{OutOfMemory}
 use Rattle.log_entry.specs.Entries.{count_of, last_count}
 use Rattle.log_entry.specs.declared.entry.Entry.{Entry}
 use Rattle.replayer.specs.Following.{Follows, Reaches}
-use Rattle.replayer.specs.declared.following.Followed.TheVariants.{Stepped}
+use Rattle.replayer.specs.declared.following.Followed.{Followed}
+use Rattle.replayer.specs.declared.following.Followed.TheVariants.{Differs, Stepped}
 use Rattle.replayer.proofs.FollowedEntries.{following_is_recording}
-use Rattle.pair_threads.specs.Repeating.{IsStuck, Repeats}
+use Rattle.pair_threads.specs.Repeating.{FollowsFor, IsStuck, Repeats}
 use Rattle.pair_threads.specs.declared.repeater.Repeater.{Repeater}
 
 last_more : (count : ℕ) (list : List Entry) (e : Entry) → last_count count (list ++ e ∷ []) ≡ count_of e
@@ -58,6 +59,19 @@ pub entry_at : (list : List Entry) (i : ℕ) (e : Entry) → i < length list →
 entry_at [] i e within is = absurd (omega (arith, within))
 entry_at (x ∷ list) zero e within is = ap Some (sym is)
 entry_at (x ∷ list) (suc i) e within is = entry_at list i e (let w = within in omega (arith, w)) is
+
+-- the next entry is followed
+pub follows_on : {B S : Type 0} (state : B → S) (M : Machine S) (steps : ℕ) (old new : Repeater B) (e : Entry)
+    (followed : Followed) → old.replayed < length old.list.items → e ≡ get_or old.list.items old.replayed e
+    → Follows M (state old.board) e steps (Ok followed) (state new.board) → FollowsFor state M steps old new
+follows_on state M steps old new e followed within is follows =
+    inr (e, entry_at old.list.items old.replayed e within is, (followed, follows))
+
+-- an entry from which the guest strays can never be reached
+pub strayed_there : {B S : Type 0} (state : B → S) (M : Machine S) (r : Repeater B) (e : Entry) (turns : ℕ) (t : S)
+    → r.replayed < length r.list.items → e ≡ get_or r.list.items r.replayed e
+    → Follows M (state r.board) e turns (Ok Differs) t → IsStuck state M r
+strayed_there state M r e turns t within is follows = inl (e, entry_at r.list.items r.replayed e within is, follows.1)
 
 -- a guest that is refused a step is out of memory, or stuck
 pub refused_there : {B S : Type 0} (state : B → S) (M : Machine S) (r : Repeater B) (e : Entry) (turns : ℕ) (fault : Fault) (t : S)

@@ -1,6 +1,6 @@
 -- The disk's worker. A write that arrives replaces the record of its sector if its number is greater, as the writes
 -- answered do one after another; so a sector that is read has what they left, and if none has, what it booted with.
-use Rattle.std.proofs.Common.{◌≡◌, ℕ, ◌<◌, ◌⊎◌, Bool, true, false, cond, List, [], ◌∷◌, ◌++◌, Some, None, Option, IsSome, inl, inr, refl, sym, ap, subst, ◌∙◌, arith}
+use Rattle.std.proofs.Common.{◌≡◌, ℕ, ◌<◌, ◌⊎◌, Bool, true, false, cond, List, [], ◌∷◌, ◌++◌, Some, None, Option, Ok, IsSome, inl, inr, refl, sym, ap, subst, ◌∙◌, arith}
 use Rattle.std.proofs.lemmas.Bool.{ltb-true}
 use Rattle.std.specs.Prelude.{nat_lt}
 use Rattle.std.specs.Option.{option_map, option_map_or}
@@ -11,20 +11,23 @@ use Rattle.shared_disk.specs.Arrivals.{after_meeting, after_put, read_at, read_o
 use Rattle.shared_disk.specs.Records.{IsThere, IsUnwritten, record_at, with_record}
 use Rattle.shared_disk.specs.declared.disk.SectorRead.{SectorRead}
 use Rattle.shared_disk.specs.declared.store.Record.{Record}
+use Rattle.pair_threads.specs.Turns.{Leaves}
+use Rattle.pair_threads.specs.declared.worker.Turn.{Turn}
+use Rattle.pair_threads.specs.declared.worker.Turn.TheVariants.{Moved, Looks, Waits, Ends}
 use Rattle.shared_disk.proofs.RecordsBySector.{is_other, is_same, record_at-with_other, record_at-with_same}
 use Rattle.pair_protocol.specs.World.{SectorRecord, latest, record_after}
 use Rattle.pair_protocol.proofs.Traces.Lists.{same_some}
 use Rattle.pair_protocol.proofs.Promises.OneMore.{latest-one}
-use Rattle.pair_rule.specs.declared.mailbox.Mailbox.TheVariants.{Answers}
+use Rattle.pair_rule.specs.declared.mailbox.Mailbox.TheVariants.{Answers, Requests}
 use Rattle.pair_rule.specs.declared.payload.DiskAnswer.{DiskAnswer}
 use Rattle.pair_rule.specs.declared.payload.DiskAnswer.TheVariants as answer
 use Rattle.pair_rule.specs.declared.payload.DiskRequest.{DiskRequest}
 use Rattle.pair_rule.specs.declared.payload.DiskRequest.TheVariants as ask
-use Rattle.pair_rule.specs.declared.payload.Payload.TheVariants.{Answer}
+use Rattle.pair_rule.specs.declared.payload.Payload.TheVariants.{Answer, Request}
 use Rattle.pair_rule.specs.declared.view.Core.{Core}
 use Rattle.pair_rule.specs.declared.view.DiskView.{DiskView}
 use Rattle.pair_rule.specs.Knowledge.{AllAre, put_by}
-use Rattle.pair_rule.specs.Seats.{Fills, Replies}
+use Rattle.pair_rule.specs.Seats.{Empties, Fills, Replies}
 use Rattle.pair_rule.proofs.Filled.{all_more}
 use Rattle.pair_threads.specs.Stores.{Has, IsDiskOf, IsFirst, IsStore, Serves, at_boot, bytes_in}
 
@@ -200,6 +203,13 @@ read old new address r is same boots view taken disk = go (record_at old address
 
 -- ---- the worker's turn
 
+-- a worker that is ready and may end has left what it should, whatever its turn was
+pub goes_on : (turn : Turn) → (ready ended : Type 0) → ready → ended → Leaves (Ok turn) ready ended
+goes_on Moved ready ended is end = is
+goes_on Looks ready ended is end = is
+goes_on Waits ready ended is end = is
+goes_on Ends ready ended is end = end
+
 -- an answer is given
 pub replied : (boots : SectorAddress → List ℕ) (old new : List Record) (request : DiskRequest) (a : DiskAnswer)
     (core after : Core) → Serves old request a new → core.known.disk.taken ≡ Some request
@@ -210,6 +220,22 @@ replied boots old new request a core after serves taken fills store =
       kept = served.2;
       firsts = all_more core.known.disk.given a (IsFirst boots) store.firsts served.1;
     }
+
+-- a request is taken, or none is there
+pub took : (boots : SectorAddress → List ℕ) (records : List Record) (found : Option DiskRequest) (core after : Core)
+    → Empties Requests (option_map Request found) core after → IsStore boots records core.known.disk
+    → IsStore boots records after.known.disk
+took boots records None core after empties store =
+    subst (λ (c : Core). IsStore boots records c.known.disk) (sym empties.0.1)
+    (record { kept = store.kept; firsts = store.firsts })
+took boots records (Some request) core after empties store =
+    subst (λ (c : Core). IsStore boots records c.known.disk) (sym empties.1.1)
+    (record { kept = store.kept; firsts = store.firsts })
+
+-- the disk fails a request
+pub failed : (boots : SectorAddress → List ℕ) (old new : List Record) (view : DiskView) → new ≡ old
+    → IsStore boots old view → IsStore boots new view
+failed boots old new view same store = subst (λ records. IsStore boots records view) (sym same) store
 
 -- ---- the beginning
 

@@ -1,9 +1,14 @@
--- What the turns of a backup are that has not asked to go on alone.
-use Rattle.std.specs.Prelude.{◌≡◌, ◌⊎◌, ◌||◌, not, Bool, false, if◌then◌else◌}
+-- What the turns of a backup are.
+use Rattle.std.specs.Prelude.{◌≡◌, ◌≢◌, ◌⊎◌, ◌||◌, not, ℕ, Bool, true, false, if◌then◌else◌, Option, Some, is_some, option_map}
+use Rattle.pair_rule.specs.declared.mailbox.Mailbox.TheVariants.{Inbox}
+use Rattle.pair_rule.specs.declared.payload.Packet.{Packet}
+use Rattle.pair_rule.specs.declared.payload.Payload.TheVariants.{Log}
+use Rattle.pair_rule.specs.declared.view.Core.{Core}
+use Rattle.pair_rule.specs.Seats.{Empties}
 use Rattle.pair_threads.specs.declared.backup.Chore.{Chore}
 use Rattle.pair_threads.specs.declared.backup.Chore.TheVariants.{Take, Hold, Replay}
 use Rattle.pair_threads.specs.declared.worker.Turn.{Turn}
-use Rattle.pair_threads.specs.declared.worker.Turn.TheVariants.{Moved, Looks, Waits}
+use Rattle.pair_threads.specs.declared.worker.Turn.TheVariants.{Moved, Looks, Waits, Ends}
 
 -- it takes, acknowledges and repeats, in rotation
 abbrev pub next_chore : Chore → Chore
@@ -19,8 +24,23 @@ turn_of_take found all = if found || not all then Moved else Waits
 abbrev pub turn_of_others : Bool → Turn
 turn_of_others all = if all then Looks else Moved
 
--- a turn by its chore, and by whether it has then repeated all
-abbrev pub IsTurnOf : Chore → Bool → Turn → Type 0
-IsTurnOf Take all turn = (turn ≡ Moved) ⊎ (turn ≡ turn_of_take false all)
-IsTurnOf Hold all turn = turn ≡ turn_of_others all
-IsTurnOf Replay all turn = turn ≡ turn_of_others all
+-- a turn by its chore, by what was found in the box, and by whether it has then repeated all
+abbrev pub IsTurnOf : Chore → Core → Core → Bool → Turn → Type 0
+IsTurnOf Take old new all turn =
+    (found : Option Packet) × Empties Inbox (option_map Log found) old new × (turn ≡ turn_of_take (is_some found) all)
+IsTurnOf Hold old new all turn = turn ≡ turn_of_others all
+IsTurnOf Replay old new all turn = turn ≡ turn_of_others all
+
+-- a turn in which it asks to go on alone: it moves if it has won, and is at its end if it has lost
+abbrev pub turn_of_asking : Bool → Turn
+turn_of_asking won = if won then Moved else Ends
+
+-- a turn after it has won: it repeats what it still holds, and is at its end if that is nothing
+abbrev pub turn_of_draining : Bool → Turn
+turn_of_draining all = if all then Ends else Moved
+
+-- a turn of this number: by whether it had won, and whether it was planned to ask in it
+abbrev pub IsTurn : Bool → Option ℕ → ℕ → Bool → Bool → Type 0 → Turn → Type 0
+IsTurn true contests_at number all won follows turn = turn ≡ turn_of_draining all
+IsTurn false contests_at number all won follows turn =
+    ((contests_at ≡ Some number) × (turn ≡ turn_of_asking won)) ⊎ ((contests_at ≢ Some number) × follows)

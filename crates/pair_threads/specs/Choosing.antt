@@ -1,5 +1,5 @@
 -- What the workers choose: what comes next, how much of it, and when.
-use Rattle.std.specs.Prelude.{◌≡◌, ℕ, zero, suc, ◌+◌, ◌-◌, ◌/◌, ◌%◌, ◌^◌, ◌==◌, ◌||◌, nat_lt, nat_le, min, Bool, true, false, if◌then◌else◌, Option, Some, None, is_some, option_and_then, Result, Ok, Err, List, vec_len, length}
+use Rattle.std.specs.Prelude.{◌≡◌, ℕ, zero, suc, ◌+◌, ◌-◌, ◌/◌, ◌%◌, ◌^◌, ◌==◌, ◌||◌, ◌&&◌, not, nat_lt, nat_le, min, Bool, true, false, if◌then◌else◌, Option, Some, None, is_some, is_none, option_map, option_and_then, Result, Ok, Err, List, vec_len, length}
 use Rattle.std.specs.List.{find}
 use Rattle.disk_dcdd.specs.declared.address.SectorAddress.{SectorAddress}
 use Rattle.disk_dcdd.specs.declared.sector.SectorWrite.{SectorWrite}
@@ -10,6 +10,7 @@ use Rattle.event_callbacks.specs.declared.operations.Operation.TheVariants.{Byte
 use Rattle.guest_lockstep.specs.Machine.{Machine, sector_refusal}
 use Rattle.i8080_words.specs.declared.refusal.Fault.{Fault}
 use Rattle.i8080_words.specs.declared.refusal.Fault.TheVariants.{OutOfMemory, SectorBusy, StaleRead, Stalled}
+use Rattle.log_entry.specs.declared.entry.Entry.{Entry}
 use Rattle.pair_threads.specs.declared.chore.Chore.{Chore}
 use Rattle.pair_threads.specs.declared.chore.Chore.TheVariants.{See, Emit, Count, Accept, Key, Ask, Answer, Complete, Post, Run}
 use Rattle.pair_threads.specs.declared.gate.Who.{Who}
@@ -83,6 +84,43 @@ steps_by steps (suc n) = min (2000 / suc n) steps
 -- how many bytes of a port it has seen accepted
 abbrev pub counted_of : {B : Type 0} → ℕ → PrimaryWorker B → ℕ
 counted_of port w = if port == 0 then w.counted0 else w.counted1
+
+-- the entry to append: the one that waits, unless the log was found full
+abbrev pub to_append : {B : Type 0} → PrimaryWorker B → Option Entry
+to_append w = if w.full then None else w.guest.waiting
+
+-- whether all that its guest did is in the list, and acknowledged
+abbrev pub is_covered : {B : Type 0} → PrimaryWorker B → Bool
+is_covered w = is_none w.guest.waiting && (w.seen == length w.list.items)
+
+-- an outstanding byte, by its port and its number
+abbrev pub byte_of : Operation → Option ℕ
+byte_of (Byte port number byte) = Some byte
+byte_of (Write w) = None
+
+abbrev pub byte_at : {S : Type 0} → Machine S → S → ℕ → ℕ → Option ℕ
+byte_at M s port number = option_and_then byte_of (M.find s (id.Byte port number))
+
+-- the byte to be given next at a port, with its number: the one after those seen accepted, if it is outstanding; after the
+-- greatest number there is none
+abbrev pub due_byte : {S : Type 0} → Machine S → S → ℕ → ℕ → Option (ℕ × ℕ)
+due_byte M s port counted =
+    if nat_lt (counted + 1) (2 ^ 64) then option_map (λ byte. (counted + 1, byte)) (byte_at M s port (counted + 1)) else None
+
+-- a byte of a port may be given if one is due, and all that the guest did is acknowledged
+abbrev pub may_emit : {B S : Type 0} → Machine S → S → ℕ → PrimaryWorker B → Bool
+may_emit M s port w = is_covered w && is_some (due_byte M s port (counted_of port w))
+
+-- of how many accepted bytes of a port its guest was told
+abbrev pub accepted_of : {B : Type 0} → ℕ → PrimaryWorker B → ℕ
+accepted_of port w = if port == 0 then w.port0.accepted else w.port1.accepted
+
+-- the acceptance of a byte is taken at once: only while an entry waits for the list, while a byte of the port may be given,
+-- if no more bytes were seen accepted than the guest was told of, or if the guest has sent none
+abbrev pub may_accept : {B S : Type 0} → Machine S → S → ℕ → PrimaryWorker B → Bool
+may_accept M s port w =
+    is_none w.guest.waiting && not (may_emit M s port w)
+    && (nat_lt (accepted_of port w) (counted_of port w) && is_some (M.due_byte s port))
 
 -- the entry that is posted next: after the last one, or the first that is not acknowledged if all were posted
 abbrev pub post_next : ℕ → ℕ → ℕ → ℕ

@@ -1,9 +1,10 @@
 -- A primary's worker: what it keeps from turn to turn, what it may ask of the disk, and when it is at rest.
-use Rattle.std.specs.Prelude.{◌≡◌, ◌⊎◌, ℕ, Bool, true, false, List, [], length, take, vec_len, Some, None}
+use Rattle.std.specs.Prelude.{◌≡◌, ◌≢◌, ◌⊎◌, ℕ, Bool, true, false, List, [], length, take, vec_len, Option, Some, None}
 use Rattle.event_callbacks.specs.declared.operations.OpId.TheVariants as id
 use Rattle.event_callbacks.specs.declared.operations.Operation.TheVariants.{Write}
 use Rattle.disk_dcdd.specs.declared.address.SectorAddress.{SectorAddress}
 use Rattle.guest_lockstep.specs.Machine.{Machine, booted_from}
+use Rattle.log_entry.specs.declared.entry.Entry.{Entry}
 use Rattle.pair_rule.specs.declared.view.PrimaryCall.{PrimaryCall}
 use Rattle.pair_rule.specs.Knowledge.{AllAre}
 use Rattle.pair_rule.specs.Threads.{CallKept}
@@ -13,8 +14,8 @@ use Rattle.pair_threads.specs.declared.chore.Chore.TheVariants.{Run}
 use Rattle.pair_threads.specs.declared.primary.PrimaryWorker.{PrimaryWorker}
 use Rattle.pair_threads.specs.declared.port_inputs.PortInputs.{PortInputs}
 use Rattle.pair_threads.specs.declared.worker.Turn.{Turn}
-use Rattle.pair_threads.specs.declared.worker.Turn.TheVariants.{Ends}
-use Rattle.pair_threads.specs.Choosing.{fruitless_after, next_chore, turn_after}
+use Rattle.pair_threads.specs.declared.worker.Turn.TheVariants.{Ends, Moved, Waits}
+use Rattle.pair_threads.specs.Choosing.{fruitless_after, next_chore, to_append, turn_after}
 use Rattle.pair_threads.specs.Ending.{NoSectorIsDue}
 use Rattle.pair_threads.specs.Leading.{IsLeading, by_port}
 
@@ -59,6 +60,22 @@ HasDone old new turn =
     ((turn ≡ Ends) × (old.chore ≡ Run) × (new.chore ≡ Run))
     ⊎ ((moved : Bool) × (turn ≡ turn_after moved old.fruitless old.chore) × (new.chore ≡ next_chore old.chore)
     × (new.fruitless ≡ fruitless_after moved old.fruitless))
+
+-- what a turn of it was in which it appended the entry that waits, or found the log full
+abbrev pub HasAppended : {B : Type 0} → PrimaryWorker B → PrimaryWorker B → Turn → Type 0
+HasAppended old new turn =
+    ((turn ≡ Moved) × (new.guest.waiting ≡ None)) ⊎ ((turn ≡ Waits) × (new.full ≡ true))
+
+-- what a turn of it was that did not ask to go on alone: there was an entry to append, or it did a chore
+abbrev pub DoesNext : {B : Type 0} → Option Entry → PrimaryWorker B → PrimaryWorker B → Turn → Type 0
+DoesNext (Some e) old new turn = HasAppended old new turn
+DoesNext None old new turn = HasDone old new turn
+
+-- what a turn of this number was: in the turn in which it asks to go on alone it is at its end
+abbrev pub HasHadTurn : {B : Type 0} → PrimaryWorker B → ℕ → PrimaryWorker B → Turn → Type 0
+HasHadTurn old number new turn =
+    ((old.plan.contests_at ≡ Some number) × (turn ≡ Ends))
+    ⊎ ((old.plan.contests_at ≢ Some number) × DoesNext (to_append old) old new turn)
 
 -- its guest idles with all keys taken and no sector due, nothing is outstanding, the disk is not asked, all that it
 -- answered is taken, and all entries are acknowledged

@@ -1,5 +1,5 @@
 -- What a turn of a worker leaves.
-use Rattle.std.specs.Prelude.{◌≡◌, ◌≢◌, ◌↔◌, ℕ, Option, Some, Result, Ok, Err}
+use Rattle.std.specs.Prelude.{◌≡◌, ◌≢◌, ◌↔◌, ◌||◌, ℕ, Bool, true, false, if◌then◌else◌, Option, Some, Result, Ok, Err}
 use Rattle.guest_lockstep.specs.Machine.{Machine}
 use Rattle.guest_lockstep.specs.Running.{RunsOn}
 use Rattle.guest_lockstep.specs.declared.running.Stopped.{Stopped}
@@ -14,6 +14,15 @@ Leaves (Ok Looks) ready ended = ready
 Leaves (Ok Waits) ready ended = ready
 Leaves (Ok Ends) ready ended = ended
 Leaves (Err fault) ready ended = Unit {0}
+
+-- a turn of the link or the terminals: it waits if it had nothing in hand, and has found nothing
+abbrev pub turn_by : Bool → Bool → Turn
+turn_by had has = if had || has then Moved else Waits
+
+-- a turn of the disk: it waits if it has found no request, or if the disk fails the one that it has
+abbrev pub disk_turn : Bool → Bool → Turn
+disk_turn false has = if has then Moved else Waits
+disk_turn true has = if has then Waits else Moved
 
 -- who has not asked to go on alone asks in the turn at which it is planned to, and in no other
 abbrev pub AsksAt : Option ℕ → ℕ → ℕ → ℕ → Type 0

@@ -5,7 +5,7 @@ ghost use Rattle.pair_rule.specs.declared.payload.Packet.{Packet};
 ghost use Rattle.pair_rule.specs.declared.payload.Payload.TheVariants.{Log};
 ghost use Rattle.pair_rule.specs.declared.view.Core.{Core};
 ghost use Rattle.pair_rule.specs.Seats.{Empties};
-ghost use Rattle.pair_threads.specs.BackupTurns.{IsTurnOf, next_chore, turn_of_take};
+ghost use Rattle.pair_threads.specs.BackupTurns.{IsTurnOf, next_chore, turn_of_asking, turn_of_draining, turn_of_take};
 ghost use Rattle.pair_threads.specs.Ending.{IsEnding};
 ghost use Rattle.pair_threads.specs.Repeating.{FollowsFor, GoesOn, IsAt, has_all};
 ghost use Rattle.pair_threads.specs.Turns.{Leaves};
@@ -31,6 +31,19 @@ enum Chore {
     Take,
     Hold,
     Replay,
+}
+
+impl Chore {
+    // The chore after this one in the rotation.
+    fn next(self) -> Chore
+        ensures { result ≡ next_chore self }
+    {
+        match self {
+            Chore::Take => Chore::Hold,
+            Chore::Hold => Chore::Replay,
+            Chore::Replay => Chore::Take,
+        }
+    }
 }
 
 /// The backup's seat, and its guest with the list that it took.
@@ -126,6 +139,7 @@ impl<B: Lockstep> BackupWorker<B> {
         ensures leaves { Leaves (Ok result) (self.new.seat.core.known.backup.winner ≡ cond self.new.won 2 0)
             (self.new.seat.core.known.backup.winner ≡ 1) }
         ensures asked { self.new.seat.core.known.backup.winner ≢ 0 }
+        ensures turn { result ≡ turn_of_asking self.new.won }
     {
         if self.seat.contest(fabric).is_err() {
             return Turn::Ends;
@@ -141,6 +155,7 @@ impl<B: Lockstep> BackupWorker<B> {
         ensures goes_on { OnOk result (GoesOn B.state B.machine self.old.guest self.new.guest) }
         ensures leaves { Leaves result (Unit {0}) (self.new.guest.replayed ≡ vec_len self.new.guest.list) }
         ensures steps { OnOk result (FollowsFor B.state B.machine self.old.plan.steps self.old.guest self.new.guest) }
+        ensures turn { IfOk result (λ turn. turn ≡ turn_of_draining (has_all self.old.guest)) }
         ensures refused { IfErr result IsEnding }
     {
         if self.guest.has_replayed_all() {
@@ -173,23 +188,21 @@ impl<B: Lockstep> BackupWorker<B> {
         ensures goes_on { OnOk result (GoesOn B.state B.machine self.old.guest self.new.guest) }
         ensures leaves { Leaves result (Unit {0}) ⊥ }
         ensures next { OnOk result (self.new.chore ≡ next_chore self.old.chore) }
-        ensures turn { IfOk result (λ turn. IsTurnOf self.old.chore (has_all self.new.guest) turn) }
+        ensures turn { IfOk result
+            (IsTurnOf self.old.chore self.old.seat.core self.new.seat.core (has_all self.new.guest)) }
         ensures steps { self.old.chore ≡ task.Replay → OnOk result (FollowsFor B.state B.machine
             (min self.old.plan.steps self.old.stride) self.old.guest self.new.guest) }
         ensures refused { IfErr result IsEnding }
     {
-        match self.chore {
-            Chore::Take => {
-                self.chore = Chore::Hold;
-                self.take(fabric)
-            }
+        let chore = self.chore;
+        self.chore = chore.next();
+        match chore {
+            Chore::Take => self.take(fabric),
             Chore::Hold => {
-                self.chore = Chore::Replay;
                 self.hold(fabric);
                 Ok(self.pace(Turn::Looks))
             }
             Chore::Replay => {
-                self.chore = Chore::Take;
                 self.guest.replay(self.plan.steps.min(self.stride))?;
                 Ok(self.pace(Turn::Looks))
             }
@@ -201,6 +214,7 @@ impl<B: Lockstep> Worker for BackupWorker<B> {
     ghost use Rattle.std.specs.Prelude.{◌≡◌, ◌⊎◌, ◌&&◌, ◌||◌, not, cond, false, vec_len};
     ghost use Rattle.pair_threads.specs.Ending.{HasAsked};
     ghost use Rattle.pair_threads.specs.Repeating.{IsAt, has_all};
+    ghost use Rattle.pair_threads.specs.BackupTurns.{IsTurn, IsTurnOf};
     ghost use Rattle.pair_threads.specs.Turns.{AsksAt};
 
     ghost table = { λ w. w.seat.table };
@@ -216,7 +230,12 @@ impl<B: Lockstep> Worker for BackupWorker<B> {
     ghost asks = { λ old number new.
         AsksAt old.plan.contests_at number old.seat.core.known.backup.winner new.seat.core.known.backup.winner };
 
+    ghost turned = { λ old number new turn. IsTurn old.won old.plan.contests_at number (has_all old.guest) new.won
+        (IsTurnOf old.chore old.seat.core new.seat.core (has_all new.guest) turn) turn };
+
     ghost ends_by = { λ w told. not w.won && told.primary_ended && (w.plan.contested || has_all w.guest) };
+
+    ghost needs_others = { λ w. false };
 
     fn turn(&mut self, fabric: &Fabric, number: u64) -> R<Turn> {
         if self.won {

@@ -1,7 +1,10 @@
 //! The disk's worker: it serves one request after another.
-ghost use Rattle.std.specs.Prelude.{◌≡◌, ◌+◌, ◌≤◌, cond, [], length, is_some, Some, IsTrue, IfOk, OnErr, OnOk};
+ghost use Rattle.std.specs.Prelude.{◌≡◌, ◌+◌, ◌≤◌, ℕ, List, cond, [], length, false, is_some, None, Some, true, IsTrue, IfOk, OnErr, OnOk};
 ghost use Rattle.pair_rule.specs.declared.payload.DiskRequest.{DiskRequest};
-ghost use Rattle.pair_threads.specs.Stores.{Serves};
+ghost use Rattle.disk_dcdd.specs.declared.address.SectorAddress.{SectorAddress};
+ghost use Rattle.pair_rule.specs.Seats.{HasSwapsLeft};
+ghost use Rattle.pair_threads.specs.Stores.{IsStore, Serves};
+ghost use Rattle.pair_threads.specs.Turns.{disk_turn};
 
 use crate::signals::Told;
 use crate::worker::{Turn, Worker};
@@ -33,6 +36,45 @@ impl<D: SectorStore> DiskWorker<D> {
             request: None,
         }
     }
+
+    // Takes the next request.
+    fn take(&mut self, fabric: &Fabric) -> Turn
+        requires table { self.old.seat.table ≡ fabric.now }
+        requires swaps { HasSwapsLeft self.old.seat.core }
+        requires none { self.old.request ≡ None }
+        ensures table { self.new.seat.table ≡ self.old.seat.table }
+        ensures store { (boots : SectorAddress → List ℕ)
+            → IsStore boots (D.records self.old.disk) self.old.seat.core.known.disk
+            → IsStore boots (D.records self.new.disk) self.new.seat.core.known.disk }
+        ensures turn { result ≡ disk_turn false (is_some self.new.request) }
+    {
+        self.request = self.seat.take_request(fabric);
+        match self.request {
+            Some(_) => Turn::Moved,
+            None => Turn::Waits,
+        }
+    }
+
+    // Serves its request and answers it. If the disk fails it, it is tried again in the next turn.
+    fn serve(&mut self, fabric: &Fabric, request: DiskRequest) -> Turn
+        requires table { self.old.seat.table ≡ fabric.now }
+        requires swaps { HasSwapsLeft self.old.seat.core }
+        requires has { self.old.request ≡ Some request }
+        requires store { (boots : SectorAddress → List ℕ)
+            × IsStore boots (D.records self.old.disk) self.old.seat.core.known.disk }
+        ensures table { self.new.seat.table ≡ self.old.seat.table }
+        ensures store { (boots : SectorAddress → List ℕ)
+            → IsStore boots (D.records self.old.disk) self.old.seat.core.known.disk
+            → IsStore boots (D.records self.new.disk) self.new.seat.core.known.disk }
+        ensures turn { result ≡ disk_turn true (is_some self.new.request) }
+    {
+        let Ok(answer) = answer(&mut self.disk, &request) else {
+            return Turn::Waits;
+        };
+        self.seat.reply(fabric, answer);
+        self.request = None;
+        Turn::Moved
+    }
 }
 
 // What the disk does about a request, and its answer. If it fails, nothing has changed.
@@ -50,9 +92,10 @@ fn answer<D: SectorStore>(disk: &mut SharedDisk<D>, request: &DiskRequest) -> R<
 }
 
 impl<D: SectorStore> Worker for DiskWorker<D> {
-    ghost use Rattle.std.specs.Prelude.{ℕ, List, ◌&&◌};
+    ghost use Rattle.std.specs.Prelude.{ℕ, List, ◌≡◌, ◌&&◌, is_some, false};
     ghost use Rattle.disk_dcdd.specs.declared.address.SectorAddress.{SectorAddress};
     ghost use Rattle.pair_threads.specs.Stores.{IsStore, bytes_in};
+    ghost use Rattle.pair_threads.specs.Turns.{disk_turn};
 
     ghost table = { λ w. w.seat.table };
 
@@ -64,26 +107,20 @@ impl<D: SectorStore> Worker for DiskWorker<D> {
 
     ghost asks = { λ old number new. Unit {0} };
 
+    ghost turned = { λ old number new turn. turn ≡ disk_turn (is_some old.request) (is_some new.request) };
+
     ghost ends_by = { λ w told. told.primary_ended && told.backup_ended };
 
-    // A request that the disk fails is tried again in the next turn.
+    ghost needs_others = { λ w. false };
+
     fn turn(&mut self, fabric: &Fabric, _number: u64) -> R<Turn> {
         if !self.seat.has_swaps_left() {
             return Err(Fault::Stalled);
         }
-        let Some(request) = self.request else {
-            self.request = self.seat.take_request(fabric);
-            return Ok(match self.request {
-                Some(_) => Turn::Moved,
-                None => Turn::Waits,
-            });
-        };
-        let Ok(answer) = answer(&mut self.disk, &request) else {
-            return Ok(Turn::Waits);
-        };
-        self.seat.reply(fabric, answer);
-        self.request = None;
-        Ok(Turn::Moved)
+        match self.request {
+            Some(request) => Ok(self.serve(fabric, request)),
+            None => Ok(self.take(fabric)),
+        }
     }
 
     fn may_end(&self, told: Told) -> bool {

@@ -23,6 +23,50 @@ pub(crate) struct Five<P, L, B, T, D> {
 /// A worker after its turns, and its result.
 pub(crate) type Served<W> = (W, R<()>);
 
+// Runs two workers, each on its own thread.
+fn serve_both<
+    P: Worker + Send + Drop,
+    Q: Worker + Send + Drop,
+    G: Gate + Sync,
+    H: Threads + Clock + Sync,
+>(
+    rt: &H,
+    first: P,
+    first_who: Who,
+    second: Q,
+    second_who: Who,
+    fabric: &Fabric,
+    gate: &G,
+    signals: &Signals,
+    turns: u64,
+    contested: bool,
+) -> (Served<P>, Served<Q>)
+    requires first { MayBegin P.table P.ready P.came fabric.now first }
+    requires second { MayBegin Q.table Q.ready Q.came fabric.now second }
+    ensures first { HasServed P.table P.came P.ended fabric.now first result.0 }
+    ensures second { HasServed Q.table Q.came Q.ended fabric.now second result.1 }
+{
+    join(
+        rt,
+        move || -> (P, R<()>)
+            requires { MayBegin P.table P.ready P.came fabric.now first }
+            ensures { HasServed P.table P.came P.ended fabric.entry.now first result }
+        {
+            serve(
+                rt, first, first_who, fabric, gate, signals, turns, contested,
+            )
+        },
+        move || -> (Q, R<()>)
+            requires { MayBegin Q.table Q.ready Q.came fabric.now second }
+            ensures { HasServed Q.table Q.came Q.ended fabric.entry.now second result }
+        {
+            serve(
+                rt, second, second_who, fabric, gate, signals, turns, contested,
+            )
+        },
+    )
+}
+
 /// Runs the five workers, each on its own thread, with at most this many turns for the primary and for the backup.
 /// `contested` says whether one of them is planned to ask at a turn.
 pub(crate) fn work<
@@ -61,106 +105,44 @@ pub(crate) fn work<
     } = five;
     let told = Signals::new();
     let signals = &told;
-    let (primary, (backup, (link, (terminal, disk)))) = join(
+    let ((primary, backup), ((link, terminal), disk)) = join(
         rt,
-        move || -> (P, R<()>)
-            requires { MayBegin P.table P.ready P.came fabric.now primary }
-            ensures { HasServed P.table P.came P.ended fabric.entry.now primary result }
+        move || -> ((P, R<()>), (B, R<()>))
+            requires { MayBegin P.table P.ready P.came fabric.now primary
+                × MayBegin B.table B.ready B.came fabric.now backup × IsSync H.row }
+            ensures { HasServed P.table P.came P.ended fabric.entry.now primary result.0
+                × HasServed B.table B.came B.ended fabric.entry.now backup result.1 }
         {
-            serve(
-                rt,
-                primary,
-                Who::Primary,
-                fabric,
-                gate,
-                signals,
-                turns,
-                contested,
+            let (lead, follow) = (Who::Primary, Who::Backup);
+            serve_both(
+                rt, primary, lead, backup, follow, fabric, gate, signals, turns, contested,
             )
         },
-        move || -> ((B, R<()>), ((L, R<()>), ((T, R<()>), (D, R<()>))))
-            requires { MayBegin B.table B.ready B.came fabric.now backup
-                × MayBegin L.table L.ready L.came fabric.now link
+        move || -> (((L, R<()>), (T, R<()>)), (D, R<()>))
+            requires { MayBegin L.table L.ready L.came fabric.now link
                 × MayBegin T.table T.ready T.came fabric.now terminal
                 × MayBegin D.table D.ready D.came fabric.now disk × IsSync H.row }
-            ensures { HasServed B.table B.came B.ended fabric.entry.now backup result.0
-                × HasServed L.table L.came L.ended fabric.entry.now link result.1.0
-                × HasServed T.table T.came T.ended fabric.entry.now terminal result.1.1.0
-                × HasServed D.table D.came D.ended fabric.entry.now disk result.1.1.1 }
+            ensures { HasServed L.table L.came L.ended fabric.entry.now link result.0.0
+                × HasServed T.table T.came T.ended fabric.entry.now terminal result.0.1
+                × HasServed D.table D.came D.ended fabric.entry.now disk result.1 }
         {
             join(
                 rt,
-                move || -> (B, R<()>)
-                    requires { MayBegin B.table B.ready B.came fabric.now backup }
-                    ensures { HasServed B.table B.came B.ended fabric.entry.now backup result }
-                {
-                    serve(
-                        rt,
-                        backup,
-                        Who::Backup,
-                        fabric,
-                        gate,
-                        signals,
-                        turns,
-                        contested,
-                    )
-                },
-                move || -> ((L, R<()>), ((T, R<()>), (D, R<()>)))
+                move || -> ((L, R<()>), (T, R<()>))
                     requires { MayBegin L.table L.ready L.came fabric.now link
-                        × MayBegin T.table T.ready T.came fabric.now terminal
-                        × MayBegin D.table D.ready D.came fabric.now disk × IsSync H.row }
+                        × MayBegin T.table T.ready T.came fabric.now terminal × IsSync H.row }
                     ensures { HasServed L.table L.came L.ended fabric.entry.now link result.0
-                        × HasServed T.table T.came T.ended fabric.entry.now terminal result.1.0
-                        × HasServed D.table D.came D.ended fabric.entry.now disk result.1.1 }
+                        × HasServed T.table T.came T.ended fabric.entry.now terminal result.1 }
                 {
-                    join(
-                        rt,
-                        move || -> (L, R<()>)
-                            requires { MayBegin L.table L.ready L.came fabric.now link }
-                            ensures { HasServed L.table L.came L.ended fabric.entry.now link result }
-                        { serve(rt, link, Who::Link, fabric, gate, signals, turns, contested) },
-                        move || -> ((T, R<()>), (D, R<()>))
-                            requires { MayBegin T.table T.ready T.came fabric.now terminal
-                                × MayBegin D.table D.ready D.came fabric.now disk × IsSync H.row }
-                            ensures { HasServed T.table T.came T.ended fabric.entry.now terminal result.0
-                                × HasServed D.table D.came D.ended fabric.entry.now disk result.1 }
-                        {
-                            join(
-                                rt,
-                                move || -> (T, R<()>)
-                                    requires { MayBegin T.table T.ready T.came fabric.now terminal }
-                                    ensures { HasServed T.table T.came T.ended fabric.entry.now terminal result }
-                                {
-                                    serve(
-                                        rt,
-                                        terminal,
-                                        Who::Terminal,
-                                        fabric,
-                                        gate,
-                                        signals,
-                                        turns,
-                                        contested,
-                                    )
-                                },
-                                move || -> (D, R<()>)
-                                    requires { MayBegin D.table D.ready D.came fabric.now disk }
-                                    ensures { HasServed D.table D.came D.ended fabric.entry.now disk result }
-                                {
-                                    serve(
-                                        rt,
-                                        disk,
-                                        Who::Disk,
-                                        fabric,
-                                        gate,
-                                        signals,
-                                        turns,
-                                        contested,
-                                    )
-                                },
-                            )
-                        },
+                    let (carry, show) = (Who::Link, Who::Terminal);
+                    serve_both(
+                        rt, link, carry, terminal, show, fabric, gate, signals, turns, contested,
                     )
                 },
+                move || -> (D, R<()>)
+                    requires { MayBegin D.table D.ready D.came fabric.now disk }
+                    ensures { HasServed D.table D.came D.ended fabric.entry.now disk result }
+                { serve(rt, disk, Who::Disk, fabric, gate, signals, turns, contested) },
             )
         },
     );

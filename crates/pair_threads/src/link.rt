@@ -74,7 +74,8 @@ fn fate_of(fates: &[Fate], packet: usize) -> Fate
 }
 
 impl Worker for LinkWorker {
-    ghost use Rattle.std.specs.Prelude.{◌&&◌};
+    ghost use Rattle.std.specs.Prelude.{◌≡◌, ◌&&◌, is_some, false};
+    ghost use Rattle.pair_threads.specs.Turns.{turn_by};
 
     ghost table = { λ w. w.seat.table };
 
@@ -86,7 +87,11 @@ impl Worker for LinkWorker {
 
     ghost asks = { λ old number new. Unit {0} };
 
+    ghost turned = { λ old number new turn. turn ≡ turn_by (is_some old.fate) (is_some new.fate) };
+
     ghost ends_by = { λ w told. told.primary_ended && told.backup_ended };
+
+    ghost needs_others = { λ w. false };
 
     fn turn(&mut self, fabric: &Fabric, _number: u64) -> R<Turn> {
         if !self.seat.has_swaps_left() {

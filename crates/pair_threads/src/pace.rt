@@ -1,11 +1,12 @@
 //! How a worker makes progress: the turns that it has left, how it waits, and when it gives up.
 ghost use Rattle.std.specs.Prelude.{◌≡◌, ◌↔◌, ◌<◌, ◌-◌, is_some, unwrap_or, IsTrue, None, Some};
 ghost use Rattle.pair_threads.specs.Choosing.{left_after_waiting};
-ghost use Rattle.pair_threads.specs.Patience.{HasSeen, WaitsOn, is_noted, quiet_for, quiet_since};
+ghost use Rattle.pair_threads.specs.Patience.{HasSeen, PacedBy, WaitsOn, is_noted, quiet_for, quiet_since};
 
 use crate::gate::Who;
 use crate::rest::Rest;
 use crate::signals::Signals;
+use crate::worker::Turn;
 use std::time::{Clock, Instant};
 
 // A run is given up after this many seconds without progress of any worker.
@@ -41,8 +42,37 @@ impl Pace {
         }
     }
 
-    /// It has made progress.
-    pub(crate) fn moves(&mut self, signals: &Signals, who: Who)
+    /// Goes on after a turn; returns whether it has another one, which it has not at its end or if it gives the run up.
+    pub(crate) fn goes_on<C: Clock>(
+        &mut self,
+        clock: &C,
+        signals: &Signals,
+        who: Who,
+        contested: bool,
+        turn: Turn,
+    ) -> bool
+        requires { 0 < self.old.left }
+        ensures { PacedBy turn contested self.old self.new result }
+    {
+        match turn {
+            Turn::Moved => {
+                self.moves(signals, who);
+                true
+            }
+            Turn::Looks => {
+                self.looks(contested);
+                true
+            }
+            Turn::Waits => {
+                let now = Instant::now(clock).ok();
+                self.waits(clock, now, signals, contested)
+            }
+            Turn::Ends => false,
+        }
+    }
+
+    // It has made progress.
+    fn moves(&mut self, signals: &Signals, who: Who)
         requires { 0 < self.old.left }
         ensures { self.new ≡ record self.old { left = self.old.left - 1; waiting = None; sleeps = 0 } }
     {
@@ -61,8 +91,8 @@ impl Pace {
         self.waiting.is_some() || self.left % NOTED == 0
     }
 
-    /// It has found nothing in a turn. This uses up one of its turns only if somebody is planned to ask at a turn.
-    pub(crate) fn looks(&mut self, contested: bool)
+    // It has found nothing in a turn. This uses up one of its turns only if somebody is planned to ask at a turn.
+    fn looks(&mut self, contested: bool)
         ensures { self.new ≡ record self.old { left = left_after_waiting contested self.old.left } }
     {
         if contested {

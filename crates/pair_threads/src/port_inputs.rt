@@ -1,5 +1,5 @@
 //! What a primary's guest has taken of what arrived at one port.
-ghost use Rattle.std.specs.Prelude.{◌≡◌, ◌≤◌, ◌<◌, ◌↔◌, [], vec_len, IsTrue, slice_get};
+ghost use Rattle.std.specs.Prelude.{◌≡◌, ◌≤◌, ◌<◌, ◌↔◌, ◌==◌, [], vec_len, IsTrue, slice_get};
 
 /// The bytes that are typed at a port, and how many of them and of the acceptances the guest has taken.
 #[derive(Drop)]
@@ -31,7 +31,8 @@ impl PortInputs {
 
     /// Whether all are taken.
     pub(crate) fn is_taken(&self) -> bool
-        ensures { IsTrue result ↔ (self.now.taken ≡ vec_len self.now.typed) }
+        ensures all { IsTrue result ↔ (self.now.taken ≡ vec_len self.now.typed) }
+        ensures is { result ≡ (self.now.taken == vec_len self.now.typed) }
     {
         self.taken == self.typed.len()
     }

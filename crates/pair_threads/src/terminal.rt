@@ -1,10 +1,11 @@
 //! The worker of the two terminals: it takes bytes, counts them, and keeps those that are accepted.
-ghost use Rattle.std.specs.Prelude.{◌≡◌, ◌++◌, ◌<◌, [], length, vec_len, vec_capacity, IfErr, IsTrue, None, Some, OnOk, true, false, not};
+ghost use Rattle.std.specs.Prelude.{◌≡◌, ◌++◌, ◌<◌, [], length, vec_len, vec_capacity, is_some, IfErr, IfOk, IsTrue, None, Some, OnOk, true, false, not};
 ghost use Rattle.pair_rule.specs.declared.payload.PortByte.{PortByte};
 ghost use Rattle.pair_rule.specs.Threads.{bytes_accepted};
 ghost use Rattle.pair_threads.specs.declared.worker.Turn.TheVariants as turn;
 ghost use Rattle.pair_threads.specs.Ending.{IsEnding};
 ghost use Rattle.pair_threads.specs.Screens.{HasInHand, next_byte};
+ghost use Rattle.pair_threads.specs.Turns.{turn_by};
 
 use crate::signals::Told;
 use crate::worker::{Turn, Worker};
@@ -108,6 +109,7 @@ impl TerminalWorker {
         ensures table { self.new.seat.table ≡ self.old.seat.table }
         ensures next { result ≡ Ok turn.Waits → self.new.second ≡ not self.old.second }
         ensures same { result ≡ Ok turn.Moved → self.new.second ≡ self.old.second }
+        ensures turn { IfOk result (λ turn. turn ≡ turn_by false (is_some self.new.hand)) }
         ensures refused { IfErr result IsEnding }
     {
         if !self.seat.has_swaps_left() {
@@ -124,7 +126,8 @@ impl TerminalWorker {
 }
 
 impl Worker for TerminalWorker {
-    ghost use Rattle.std.specs.Prelude.{◌&&◌};
+    ghost use Rattle.std.specs.Prelude.{◌≡◌, ◌&&◌, is_some, false};
+    ghost use Rattle.pair_threads.specs.Turns.{turn_by};
 
     ghost table = { λ w. w.seat.table };
 
@@ -136,7 +139,11 @@ impl Worker for TerminalWorker {
 
     ghost asks = { λ old number new. Unit {0} };
 
+    ghost turned = { λ old number new turn. turn ≡ turn_by (is_some old.hand) (is_some new.hand) };
+
     ghost ends_by = { λ w told. told.primary_ended && told.backup_ended };
+
+    ghost needs_others = { λ w. false };
 
     fn turn(&mut self, fabric: &Fabric, _number: u64) -> R<Turn> {
         match self.hand {

@@ -1,5 +1,5 @@
 //! What all workers have in common, and the loop that serves each of them.
-ghost use Rattle.std.specs.Prelude.{◌≡◌, IfErr, IsTrue, OnOk};
+ghost use Rattle.std.specs.Prelude.{◌≡◌, IfErr, IfOk, IsTrue, OnOk};
 ghost use Rattle.pair_threads.specs.Choosing.{turns_of};
 ghost use Rattle.pair_threads.specs.Ending.{IsEnding};
 ghost use Rattle.pair_threads.specs.Turns.{Leaves};
@@ -29,6 +29,7 @@ pub(crate) trait Worker {
     ghost use Rattle.std.specs.Prelude.{ℕ, Bool};
     ghost use Rattle.atomic_table.specs.Seated.{TableId};
     ghost use Rattle.pair_threads.specs.declared.signals.Told.{Told};
+    ghost use Rattle.pair_threads.specs.declared.worker.Turn.{Turn};
 
     // The table of its seat.
     ghost table: { Self → TableId };
@@ -45,8 +46,14 @@ pub(crate) trait Worker {
     // What a turn of this number is to a worker that may ask to go on alone.
     ghost asks: { Self → ℕ → Self → Type 0 };
 
+    // What it has done in a turn of this number that was such a turn.
+    ghost turned: { Self → ℕ → Self → Turn → Type 0 };
+
     // Whether it is at its end by what it was told.
     ghost ends_by: { Self → Told → Bool };
+
+    // Whether its guest makes progress only if the other workers do.
+    ghost needs_others: { Self → Bool };
 
     /// Makes at most one call of its seat, or lets its guest move. Refused if the run can no longer end well:
     /// `OutOfMemory`, and `Stalled` otherwise.
@@ -57,6 +64,7 @@ pub(crate) trait Worker {
         ensures came { (first : Self) → came first self.old → OnOk result (came first self.new) }
         ensures leaves { Leaves result (ready self.new) (ended self.new) }
         ensures asks { OnOk result (asks self.old number self.new) }
+        ensures turned { IfOk result (turned self.old number self.new) }
         ensures refused { IfErr result IsEnding };
 
     /// Whether it is at its end by what it was told.
@@ -66,7 +74,8 @@ pub(crate) trait Worker {
         ensures told { result ≡ ends_by self.now told };
 
     /// Whether its guest makes progress only if the other workers do.
-    fn is_held_up(&self) -> bool;
+    fn is_held_up(&self) -> bool
+        ensures { result ≡ needs_others self.now };
 }
 
 // Waits until all workers have begun, or one has failed, for ten seconds at most. If no thread can be made for one of them,
@@ -141,17 +150,14 @@ pub(crate) fn serve<C: Clock, W: Worker, G: Gate>(
             signals.holds_up(held_up);
         }
         match turn {
-            Ok(Turn::Moved) => pace.moves(signals, who),
-            Ok(Turn::Looks) => pace.looks(contested),
-            Ok(Turn::Waits) => {
-                let now = Instant::now(clock).ok();
-                if !pace.waits(clock, now, signals, contested) {
-                    break;
-                }
-            }
             Ok(Turn::Ends) => {
                 signals.ends(who);
                 return (worker, Ok(()));
+            }
+            Ok(turn) => {
+                if !pace.goes_on(clock, signals, who, contested, turn) {
+                    break;
+                }
             }
             Err(fault) => {
                 signals.fails();

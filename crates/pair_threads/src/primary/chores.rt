@@ -1,12 +1,13 @@
 //! The chores of a primary's worker at its guest, the link and the terminals.
-ghost use Rattle.std.specs.Prelude.{◌≡◌, ◌⊎◌, ◌≢◌, ◌+◌, ◌<◌, ◌≤◌, ◌↔◌, false, true, nat_lt, if◌then◌else◌, IfErr, IfSome, IsSome, IsTrue, None, OnOk, Some, length};
+ghost use Rattle.std.specs.Prelude.{◌≡◌, ◌⊎◌, ◌≢◌, ◌+◌, ◌<◌, ◌≤◌, ◌↔◌, ◌&&◌, cond, false, true, nat_lt, if◌then◌else◌, is_some, IfErr, IfSome, IsSome, IsTrue, None, OnOk, Some, length};
 ghost use Rattle.event_callbacks.specs.declared.devices.TheConstants.{PORTS};
 ghost use Rattle.event_callbacks.specs.declared.operations.OpId.TheVariants as id;
 ghost use Rattle.event_callbacks.specs.declared.operations.Operation.TheVariants.{Byte};
 ghost use Rattle.guest_lockstep.specs.Lockstep.{step_refusal};
 ghost use Rattle.i8080_words.specs.declared.refusal.Fault.TheVariants.{OutOfMemory, Stalled};
 ghost use Rattle.pair_rule.specs.Seats.{HasSwapsLeft};
-ghost use Rattle.pair_threads.specs.Choosing.{counted_of, in_flight, post_next, steps_by};
+ghost use Rattle.pair_threads.specs.Choosing.{accepted_of, counted_of, due_byte, in_flight, may_accept, may_emit, post_next, steps_by};
+ghost use Rattle.pair_threads.specs.Patience.{guest_is_held_up};
 ghost use Rattle.pair_threads.specs.Primary.{IsAtRest, Works};
 ghost use Rattle.pair_threads.specs.Turns.{RunsFor};
 
@@ -76,6 +77,8 @@ impl<B: Lockstep> PrimaryWorker<B> {
         ensures refused { IfErr result (λ fault. (fault ≡ OutOfMemory)
             ⊎ ((fault ≡ Stalled) × IsSome (step_refusal B.machine (B.state self.new.guest.board)))) }
         ensures polls { result ≡ Ok true → (length self.new.guest.given.items ≤ 1) ⊎ (self.new.guest.waiting ≢ None) }
+        ensures held_up { OnOk result (self.new.held_up
+            ≡ (if is_some self.old.guest.waiting then self.old.held_up else guest_is_held_up self.new.guest)) }
     {
         if self.guest.waiting.is_some() {
             return Ok(false);
@@ -87,11 +90,19 @@ impl<B: Lockstep> PrimaryWorker<B> {
                     self.key_count = 0;
                 }
                 self.held_up = self.guest.is_held_up();
-                Ok(moved && (self.guest.given.len() <= 1 || self.guest.waiting.is_some()))
+                Ok(self.is_change(moved))
             }
             Err(Fault::OutOfMemory) => Err(Fault::OutOfMemory),
             Err(_) => Err(Fault::Stalled),
         }
+    }
+
+    // Whether a run in which the guest moved, or did not, is a change: it has given a new operation, or at most one is
+    // outstanding.
+    fn is_change(&self, moved: bool) -> bool
+        ensures { IsTrue result → (length self.now.guest.given.items ≤ 1) ⊎ (self.now.guest.waiting ≢ None) }
+    {
+        moved && (self.guest.given.len() <= 1 || self.guest.waiting.is_some())
     }
 
     // How many steps the guest may make in this turn: the fewer, the more of what it gave or asked is in flight.
@@ -196,7 +207,7 @@ impl<B: Lockstep> PrimaryWorker<B> {
     fn due_byte(&self, port: u8) -> Option<(u64, u8)>
         requires { port < PORTS }
         ensures there { IfSome result (λ b. B.machine.find (B.state self.now.guest.board) (id.Byte port b.0) ≡ Some (Byte port b.0 b.1)) }
-        ensures next { IfSome result (λ b. b.0 ≡ counted_of port self.now + 1) }
+        ensures is { result ≡ due_byte B.machine (B.state self.now.guest.board) port (counted_of port self.now) }
     {
         let number = self.counted(port).checked_add(1)?;
         let byte = self.guest.byte(port, number)?;
@@ -276,8 +287,13 @@ impl<B: Lockstep> PrimaryWorker<B> {
     pub(super) fn accept(&mut self, port: u8) -> bool
         requires port { port < PORTS }
         ensures works { Works B.state B.machine self.old self.new }
+        ensures taken { result ≡ may_accept B.machine (B.state self.old.guest.board) port self.old }
+        ensures told { accepted_of port self.new ≡ accepted_of port self.old + cond result 1 0 }
     {
-        if self.guest.waiting.is_some() || self.may_emit(port) {
+        if self.guest.waiting.is_some() {
+            return false;
+        }
+        if self.may_emit(port) {
             return false;
         }
         if port == 0 {
@@ -290,6 +306,7 @@ impl<B: Lockstep> PrimaryWorker<B> {
     // Whether a byte of a port may be given.
     fn may_emit(&self, port: u8) -> bool
         requires { port < PORTS }
+        ensures { result ≡ may_emit B.machine (B.state self.now.guest.board) port self.now }
     {
         self.is_covered() && self.due_byte(port).is_some()
     }
@@ -298,6 +315,9 @@ impl<B: Lockstep> PrimaryWorker<B> {
     fn accept0(&mut self) -> bool
         requires free { self.old.guest.waiting ≡ None }
         ensures works { Works B.state B.machine self.old self.new }
+        ensures taken { result ≡ (nat_lt self.old.port0.accepted self.old.counted0
+            && is_some (B.machine.due_byte (B.state self.old.guest.board) 0)) }
+        ensures told { self.new.port0.accepted ≡ self.old.port0.accepted + cond result 1 0 }
     {
         if self.port0.accepted >= self.counted0 {
             return false;
@@ -313,6 +333,9 @@ impl<B: Lockstep> PrimaryWorker<B> {
     fn accept1(&mut self) -> bool
         requires free { self.old.guest.waiting ≡ None }
         ensures works { Works B.state B.machine self.old self.new }
+        ensures taken { result ≡ (nat_lt self.old.port1.accepted self.old.counted1
+            && is_some (B.machine.due_byte (B.state self.old.guest.board) 1)) }
+        ensures told { self.new.port1.accepted ≡ self.old.port1.accepted + cond result 1 0 }
     {
         if self.port1.accepted >= self.counted1 {
             return false;

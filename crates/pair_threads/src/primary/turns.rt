@@ -1,11 +1,10 @@
 //! The turns of a primary's worker: it appends the entry that waits, and otherwise does its chores in rotation.
-ghost use Rattle.std.specs.Prelude.{◌≡◌, ◌⊎◌, ◌↔◌, [], length, None, Some, true, IfErr, IfOk, IsTrue, OnOk};
-ghost use Rattle.pair_threads.specs.declared.worker.Turn.TheVariants as turn;
+ghost use Rattle.std.specs.Prelude.{◌≡◌, ◌⊎◌, ◌↔◌, [], length, None, Some, IfErr, IfOk, IfSome, IsTrue, OnOk};
 ghost use Rattle.event_callbacks.specs.declared.operations.OpId.{OpId};
 ghost use Rattle.pair_rule.specs.Seats.{HasSwapsLeft};
-ghost use Rattle.pair_threads.specs.Choosing.{fruitless_after, turn_after};
+ghost use Rattle.pair_threads.specs.Choosing.{fruitless_after, is_covered, to_append, turn_after};
 ghost use Rattle.pair_threads.specs.Ending.{IsEnding};
-ghost use Rattle.pair_threads.specs.Primary.{HasDone, IsAtRest, WorkerKeeps, WorkerLeads, Works};
+ghost use Rattle.pair_threads.specs.Primary.{HasAppended, HasDone, IsAtRest, WorkerKeeps, WorkerLeads, Works};
 ghost use Rattle.pair_threads.specs.Turns.{Leaves};
 
 use super::PrimaryWorker;
@@ -74,7 +73,7 @@ impl<B: Lockstep> PrimaryWorker<B> {
         ensures works { OnOk result (Works B.state B.machine self.old self.new) }
         ensures table { self.new.seat.table ≡ self.old.seat.table }
         ensures goes_on { Leaves result (Unit {0}) ⊥ }
-        ensures full { result ≡ Ok turn.Waits → self.new.full ≡ true }
+        ensures turn { IfOk result (HasAppended self.old self.new) }
         ensures refused { IfErr result IsEnding }
     {
         self.list.reserve(1)?;
@@ -92,9 +91,21 @@ impl<B: Lockstep> PrimaryWorker<B> {
         }
     }
 
+    // The entry to append.
+    fn to_append(&self) -> Option<Entry>
+        ensures is { result ≡ to_append self.now }
+        ensures waits { IfSome result (λ entry. self.now.guest.waiting ≡ Some entry) }
+    {
+        if self.full {
+            return None;
+        }
+        self.guest.waiting
+    }
+
     // Whether all that its guest did is in the list, and acknowledged.
     pub(super) fn is_covered(&self) -> bool
-        ensures { IsTrue result ↔ ((self.now.guest.waiting ≡ None) × (self.now.seen ≡ length self.now.list.items)) }
+        ensures all { IsTrue result ↔ ((self.now.guest.waiting ≡ None) × (self.now.seen ≡ length self.now.list.items)) }
+        ensures is { result ≡ is_covered self.now }
     {
         self.guest.waiting.is_none() && self.seen == self.list.len() as u64
     }
@@ -191,7 +202,8 @@ impl<B: Lockstep> Worker for PrimaryWorker<B> {
     ghost use Rattle.std.specs.Prelude.{◌≡◌, ◌&&◌, false};
     ghost use Rattle.pair_threads.specs.Ending.{HasAsked};
     ghost use Rattle.pair_threads.specs.Turns.{AsksAt};
-    ghost use Rattle.pair_threads.specs.Primary.{IsAtRest, WorkerKeeps, WorkerLeads};
+    ghost use Rattle.pair_threads.specs.Patience.{is_held_up};
+    ghost use Rattle.pair_threads.specs.Primary.{HasHadTurn, IsAtRest, WorkerKeeps, WorkerLeads};
 
     ghost table = { λ w. w.seat.table };
 
@@ -207,7 +219,11 @@ impl<B: Lockstep> Worker for PrimaryWorker<B> {
     ghost asks = { λ old number new.
         AsksAt old.plan.contests_at number old.seat.core.known.primary.winner new.seat.core.known.primary.winner };
 
+    ghost turned = { λ old number new turn. HasHadTurn old number new turn };
+
     ghost ends_by = { λ w told. w.plan.contested && told.backup_ended };
+
+    ghost needs_others = { λ w. is_held_up w };
 
     fn turn(&mut self, fabric: &Fabric, number: u64) -> R<Turn> {
         if !self.seat.has_swaps_left() {
@@ -217,9 +233,9 @@ impl<B: Lockstep> Worker for PrimaryWorker<B> {
             let _ = self.seat.contest(fabric);
             return Ok(Turn::Ends);
         }
-        match self.guest.waiting {
-            Some(entry) if !self.full => self.append(fabric, entry),
-            _ => self.work(fabric),
+        match self.to_append() {
+            Some(entry) => self.append(fabric, entry),
+            None => self.work(fabric),
         }
     }
 

@@ -1,15 +1,18 @@
 //! How a primary's guest moves.
-ghost use Rattle.std.specs.Prelude.{◌≡◌, ◌≢◌, ◌<◌, ◌↔◌, ◌⊎◌, [], None, Some, true, false, length, Contains, IsTrue, OnOk};
+ghost use Rattle.std.specs.Prelude.{◌≡◌, ◌≢◌, ◌<◌, ◌↔◌, ◌⊎◌, [], None, Some, true, false, is_none, is_some, Contains, OnOk};
 ghost use Rattle.event_callbacks.specs.declared.devices.TheConstants.{PORTS};
 ghost use Rattle.event_callbacks.specs.declared.operations.OpId.{OpId};
 ghost use Rattle.event_callbacks.specs.declared.operations.OpId.TheVariants as id;
 ghost use Rattle.event_callbacks.specs.declared.operations.Operation.TheVariants.{Byte};
 ghost use Rattle.guest_lockstep.specs.Lockstep.{HasRoom, IsInput, step_refusal};
+ghost use Rattle.guest_lockstep.specs.Machine.{refusal_of};
 ghost use Rattle.guest_lockstep.specs.Outstanding.{completed_by};
 ghost use Rattle.guest_lockstep.specs.declared.input.Input.TheVariants as input;
 ghost use Rattle.pair_rule.specs.declared.payload.DiskAnswer.TheVariants.{Read, Written};
 ghost use Rattle.pair_rule.specs.Knowledge.{read_at};
+ghost use Rattle.pair_threads.specs.Choosing.{byte_at};
 ghost use Rattle.pair_threads.specs.Leading.{HeardOn, LeadsOn, TakesOn};
+ghost use Rattle.pair_threads.specs.Patience.{guest_is_held_up};
 ghost use Rattle.pair_threads.specs.Turns.{RunsFor};
 ghost use Rattle.i8080_words.specs.declared.refusal.Fault.TheVariants.{OutOfMemory};
 ghost use Rattle.std.specs.Prelude.{IfErr, IfSome};
@@ -75,6 +78,7 @@ impl<B: Lockstep> Recording<B> {
         requires room { HasRoom B.machine (B.state self.old.board) input }
         ensures refused { result ≡ false → self.new ≡ self.old }
         ensures onward { result ≡ true → TakesOn B.state B.machine input self.old self.new }
+        ensures taken { result ≡ is_none (refusal_of B.machine (B.state self.old.board) input) }
         ensures gone { result ≡ true → (id : OpId) → completed_by B.machine (B.state self.old.board) input ≡ Some id
             → B.machine.find (B.state self.new.board) id ≡ None }
     {
@@ -113,6 +117,7 @@ impl<B: Lockstep> Recording<B> {
         requires free { self.old.waiting ≡ None }
         requires port { port < PORTS }
         ensures refused { result ≡ false → self.new ≡ self.old }
+        ensures taken { result ≡ is_some (B.machine.due_byte (B.state self.old.board) port) }
         ensures onward { result ≡ true → TakesOn B.state B.machine (input.Sent port) self.old self.new }
     {
         let Some(number) = self.board.due_byte(port) else {
@@ -161,7 +166,7 @@ impl<B: Lockstep> Recording<B> {
 
     /// Whether only others can help it make progress: it idles, has just given an operation, or has several outstanding.
     pub(crate) fn is_held_up(&self) -> bool
-        ensures { IsTrue result ↔ ((self.now.idle ≡ true) ⊎ ((self.now.waiting ≢ None) ⊎ (1 < length self.now.given.items))) }
+        ensures { result ≡ guest_is_held_up self.now }
     {
         self.idle || self.waiting.is_some() || self.given.len() > 1
     }
@@ -169,7 +174,8 @@ impl<B: Lockstep> Recording<B> {
     /// The byte of this number that was given at a port, if it is outstanding.
     pub(crate) fn byte(&self, port: u8, number: u64) -> Option<u8>
         requires { port < PORTS }
-        ensures { IfSome result (λ byte. B.machine.find (B.state self.now.board) (id.Byte port number) ≡ Some (Byte port number byte)) }
+        ensures there { IfSome result (λ byte. B.machine.find (B.state self.now.board) (id.Byte port number) ≡ Some (Byte port number byte)) }
+        ensures is { result ≡ byte_at B.machine (B.state self.now.board) port number }
     {
         match self.board.outstanding(OpId::Byte(port, number)) {
             Some(Operation::Byte { byte, .. }) => Some(*byte),

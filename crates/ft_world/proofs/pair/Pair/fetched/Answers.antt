@@ -1,5 +1,5 @@
 -- The message is of another kind, or there is no such node, or it refuses, or it keeps the bytes.
-use Rattle.std.proofs.Common.{◌≡◌, None, Some, ap, is_ok}
+use Rattle.std.proofs.Common.{◌≡◌, None, Some, ap, is_ok, sym}
 use Rattle.std.specs.Option.{option_and_then}
 use Rattle.std.specs.Prelude.{slice_get}
 use Rattle.ft_world.specs.Messages.{sector_of}
@@ -13,7 +13,7 @@ use Rattle.ft_world.proofs.pair.Pair.fetched.Goals as goal
 pub fetched-requires : goal.fetched-requires
 fetched-requires g c =
     let some = c.requires.shown in
-    let brings : option_and_then sector_of (slice_get c.args.self.now.messages.items c.args.message) ≡ Some c.in-Some.read = (cc) in
+    let brings : option_and_then sector_of (slice_get c.args.self.now.messages.items c.args.message) ≡ Some c.in-Some.read = sym c.in-Some.ensures in
     record {
       on_trace = node_may_fetch g.B.Lockstep.state g.B.Copies.copied g.B.Lockstep.machine g.D.SectorStore.records (running_of c.args.self.now)
           some.course some.shows c.args.message c.args.node c.in-Some.read brings c.in_ok-station.station.now
@@ -22,13 +22,13 @@ fetched-requires g c =
 
 pub returns-in_default-clause-row : goal.returns-in_default-clause-row
 returns-in_default-clause-row g c = λ course h.
-    let brings : option_and_then sector_of (slice_get c.args.self.now.messages.items c.args.message) ≡ None = (cc) in
+    let brings : option_and_then sector_of (slice_get c.args.self.now.messages.items c.args.message) ≡ None = sym c.in_default.ensures in
     fetched_unknown g.B.Lockstep.state g.B.Copies.copied g.B.Lockstep.machine g.D.SectorStore.records (running_of c.args.self.now) course h
     c.args.message c.args.node brings
 
 pub returns-in_err-station-clause-row : goal.returns-in_err-station-clause-row
 returns-in_err-station-clause-row g c = λ course h.
-    let brings : option_and_then sector_of (slice_get c.args.self.now.messages.items c.args.message) ≡ Some c.in-Some.read = (cc) in
+    let brings : option_and_then sector_of (slice_get c.args.self.now.messages.items c.args.message) ≡ Some c.in-Some.read = sym c.in-Some.ensures in
     hands_on c.from_residual.result c.in_err-station.field-0.0 c.from_residual.ensures.1
     (fetched_refused g.B.Lockstep.state g.B.Copies.copied g.B.Lockstep.machine g.D.SectorStore.records (running_of c.args.self.now) course h
     c.args.message c.args.node c.in-Some.read brings c.in_err-station.field-0.0 c.station_mut.follows.lender-at-none.items
@@ -37,7 +37,7 @@ returns-in_err-station-clause-row g c = λ course h.
 
 pub returns-in_err-fetched-clause-row : goal.returns-in_err-fetched-clause-row
 returns-in_err-fetched-clause-row g c = λ course h.
-    let brings : option_and_then sector_of (slice_get c.args.self.now.messages.items c.args.message) ≡ Some c.in-Some.read = (cc) in
+    let brings : option_and_then sector_of (slice_get c.args.self.now.messages.items c.args.message) ≡ Some c.in-Some.read = sym c.in-Some.ensures in
     hands_on c.from_residual-in_err-fetched.result c.in_err-fetched.field-0.0 c.from_residual-in_err-fetched.ensures.1
     (fetched_refused g.B.Lockstep.state g.B.Copies.copied g.B.Lockstep.machine g.D.SectorStore.records (running_of c.args.self.now) course h
     c.args.message c.args.node c.in-Some.read brings c.in_err-fetched.field-0.0
@@ -47,7 +47,7 @@ returns-in_err-fetched-clause-row g c = λ course h.
 
 pub returns-clause-row : goal.returns-clause-row
 returns-clause-row g c = λ course h.
-    let brings : option_and_then sector_of (slice_get c.args.self.now.messages.items c.args.message) ≡ Some c.in-Some.read = (cc) in
+    let brings : option_and_then sector_of (slice_get c.args.self.now.messages.items c.args.message) ≡ Some c.in-Some.read = sym c.in-Some.ensures in
     fetched_applies g.B.Lockstep.state g.B.Copies.copied g.B.Lockstep.machine g.D.SectorStore.records (running_of c.args.self.now) course h
     c.args.message c.args.node c.in-Some.read brings (c.station_mut.follows.lender c.fetched.new.self).items
     (at_host h c.in_ok-station.ensures.found

@@ -1,5 +1,5 @@
 -- The message is of another kind, or there is no such node, or it refuses, or it takes the completion of the write.
-use Rattle.std.proofs.Common.{◌≡◌, None, Some, ap, is_ok}
+use Rattle.std.proofs.Common.{◌≡◌, None, Some, ap, is_ok, sym}
 use Rattle.std.specs.Option.{option_and_then}
 use Rattle.std.specs.Prelude.{slice_get}
 use Rattle.ft_world.specs.Messages.{written_of}
@@ -12,13 +12,13 @@ use Rattle.ft_world.proofs.pair.Pair.put_reply.Goals as goal
 
 pub returns-in_default-clause-row : goal.returns-in_default-clause-row
 returns-in_default-clause-row g c = λ course h.
-    let brings : option_and_then written_of (slice_get c.args.self.now.messages.items c.args.message) ≡ None = (cc) in
+    let brings : option_and_then written_of (slice_get c.args.self.now.messages.items c.args.message) ≡ None = sym c.in_default.ensures in
     done_unknown g.B.Lockstep.state g.B.Copies.copied g.B.Lockstep.machine g.D.SectorStore.records (running_of c.args.self.now) course
     c.args.message c.args.node brings h
 
 pub returns-in_err-station-clause-row : goal.returns-in_err-station-clause-row
 returns-in_err-station-clause-row g c = λ course h.
-    let brings : option_and_then written_of (slice_get c.args.self.now.messages.items c.args.message) ≡ Some c.in-Some.number = (cc) in
+    let brings : option_and_then written_of (slice_get c.args.self.now.messages.items c.args.message) ≡ Some c.in-Some.number = sym c.in-Some.ensures in
     hands_on c.from_residual.result c.in_err-station.field-0.0 c.from_residual.ensures.1
     (done_refused g.B.Lockstep.state g.B.Copies.copied g.B.Lockstep.machine g.D.SectorStore.records (running_of c.args.self.now) course
     c.args.message c.args.node c.in-Some.number c.in_err-station.field-0.0 c.station_mut.follows.lender-at-none.items
@@ -28,7 +28,7 @@ returns-in_err-station-clause-row g c = λ course h.
 
 pub returns-in_err-put_reply-clause-row : goal.returns-in_err-put_reply-clause-row
 returns-in_err-put_reply-clause-row g c = λ course h.
-    let brings : option_and_then written_of (slice_get c.args.self.now.messages.items c.args.message) ≡ Some c.in-Some.number = (cc) in
+    let brings : option_and_then written_of (slice_get c.args.self.now.messages.items c.args.message) ≡ Some c.in-Some.number = sym c.in-Some.ensures in
     hands_on c.from_residual-in_err-put_reply.result c.in_err-put_reply.field-0.0 c.from_residual-in_err-put_reply.ensures.1
     (done_refused g.B.Lockstep.state g.B.Copies.copied g.B.Lockstep.machine g.D.SectorStore.records (running_of c.args.self.now) course
     c.args.message c.args.node c.in-Some.number c.in_err-put_reply.field-0.0
@@ -38,7 +38,7 @@ returns-in_err-put_reply-clause-row g c = λ course h.
 
 pub returns-clause-row : goal.returns-clause-row
 returns-clause-row g c = λ course h.
-    let brings : option_and_then written_of (slice_get c.args.self.now.messages.items c.args.message) ≡ Some c.in-Some.number = (cc) in
+    let brings : option_and_then written_of (slice_get c.args.self.now.messages.items c.args.message) ≡ Some c.in-Some.number = sym c.in-Some.ensures in
     done_applies g.B.Lockstep.state g.B.Copies.copied g.B.Lockstep.machine g.D.SectorStore.records (running_of c.args.self.now) course
     c.args.message c.args.node c.in-Some.number (c.station_mut.follows.lender c.put_reply.new.self).items brings h
     (at_host h c.in_ok-station.ensures.found

@@ -1,19 +1,17 @@
--- The disk's worker answers the request that it took.
-use Rattle.pair_threads.specs.Stores.{bytes_in}
-use Rattle.pair_threads.proofs.Serving.{replied}
+-- A request is served, or the next one is taken; neither ends the worker.
+use Rattle.pair_threads.proofs.Serving.{goes_on}
 use Rattle.pair_threads.proofs.disk.DiskWorkerWorker.turn.Goals as goal
 
-pub returns-clause-came : goal.returns-clause-came
-returns-clause-came g c = λ first store.
-    replied (bytes_in (g.D.SectorStore.records first.disk)) (g.D.SectorStore.records c.args.self.now.disk)
-    (g.D.SectorStore.records c.answer.new.disk) c.in-Some.request c.in-Ok.answer c.args.self.now.seat.core
-    c.reply.new.self.core c.in-Ok.ensures.serves (c.args.self.now.taken c.in-Some.request c.in-Some.is)
-    c.reply.ensures.replied store
+pub returns-in-Some-clause-came : goal.returns-in-Some-clause-came
+returns-in-Some-clause-came g c = λ first store. c.serve.ensures.store _ store
 
-pub returns-clause-leaves : goal.returns-clause-leaves
-returns-clause-leaves g c = (
-  c.requires.ready.0,
-  replied c.requires.ready.0 (g.D.SectorStore.records c.args.self.now.disk) (g.D.SectorStore.records c.answer.new.disk)
-      c.in-Some.request c.in-Ok.answer c.args.self.now.seat.core c.reply.new.self.core c.in-Ok.ensures.serves
-      (c.args.self.now.taken c.in-Some.request c.in-Some.is) c.reply.ensures.replied c.requires.ready.1,
-)
+pub returns-in-None-clause-came : goal.returns-in-None-clause-came
+returns-in-None-clause-came g c = λ first store. c.take.ensures.store _ store
+
+pub returns-in-Some-clause-leaves : goal.returns-in-Some-clause-leaves
+returns-in-Some-clause-leaves g c = goes_on c.serve.result _ _
+    (c.requires.ready.0, c.serve.ensures.store c.requires.ready.0 c.requires.ready.1) tt
+
+pub returns-in-None-clause-leaves : goal.returns-in-None-clause-leaves
+returns-in-None-clause-leaves g c = goes_on c.take.result _ _
+    (c.requires.ready.0, c.take.ensures.store c.requires.ready.0 c.requires.ready.1) tt

@@ -2,7 +2,8 @@
 use Rattle.std.proofs.Common.{◌<◌, Ok, false, length, take, subst, sym, ap, ◌∙◌, arith}
 use Rattle.replayer.specs.Following.{Follows}
 use Rattle.pair_threads.specs.Repeating.{Repeats}
-use Rattle.pair_threads.proofs.Repeating.{one_more, reaches, steps_on}
+use Rattle.replayer.specs.declared.following.Followed.TheVariants.{Done, Stepped}
+use Rattle.pair_threads.proofs.Repeating.{follows_on, one_more, reaches, steps_on}
 use Rattle.pair_threads.proofs.repeater.Repeater.replay.Goals as goal
 
 pub returns-in-Ok-Stepped-clause-goes_on : goal.returns-in-Ok-Stepped-clause-goes_on
@@ -25,3 +26,22 @@ returns-in-Ok-Done-clause-goes_on g c = λ boot at.
     c.index.result.now (g.B.Lockstep.state c.follow.new.board) at
     (subst (λ r. Follows g.B.Lockstep.machine (g.B.Lockstep.state c.args.self.now.board) c.index.result.now c.args.steps r
     (g.B.Lockstep.state c.follow.new.board)) (c.in-Ok-Done.is ∙ ap Ok c.in-Ok-Done.field-0-is) c.follow.ensures.answer))
+
+pub returns-in-Ok-Stepped-clause-steps : goal.returns-in-Ok-Stepped-clause-steps
+returns-in-Ok-Stepped-clause-steps g c =
+    let within : c.args.self.now.replayed < length c.args.self.now.list.items =
+    (let a = c.if-self-len.false in let b = c.len.ensures in omega arith) in
+    follows_on g.B.Lockstep.state g.B.Lockstep.machine c.args.steps c.args.self.now _ c.index.result.now
+    (Stepped c.in-Ok-Stepped.field-0-0) within c.index.ensures
+    (subst (λ r. Follows g.B.Lockstep.machine (g.B.Lockstep.state c.args.self.now.board) c.index.result.now c.args.steps r
+    (g.B.Lockstep.state c.follow.new.board)) (c.in-Ok-Stepped.is ∙ ap Ok c.in-Ok-Stepped.field-0-is)
+    c.follow.ensures.answer)
+
+pub returns-in-Ok-Done-clause-steps : goal.returns-in-Ok-Done-clause-steps
+returns-in-Ok-Done-clause-steps g c =
+    let within : c.args.self.now.replayed < length c.args.self.now.list.items =
+    (let a = c.if-self-len.false in let b = c.len.ensures in omega arith) in
+    follows_on g.B.Lockstep.state g.B.Lockstep.machine c.args.steps c.args.self.now _ c.index.result.now Done within
+    c.index.ensures
+    (subst (λ r. Follows g.B.Lockstep.machine (g.B.Lockstep.state c.args.self.now.board) c.index.result.now c.args.steps r
+    (g.B.Lockstep.state c.follow.new.board)) (c.in-Ok-Done.is ∙ ap Ok c.in-Ok-Done.field-0-is) c.follow.ensures.answer)

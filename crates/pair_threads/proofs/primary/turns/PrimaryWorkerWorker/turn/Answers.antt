@@ -10,8 +10,8 @@ returns-in-Some-clause-came g c = λ first came.
     on_ok c.append.result (came_on g.B.Lockstep.state g.B.Lockstep.machine first c.args.self.now c.append.new.self came)
     c.append.ensures.works
 
-pub returns-in_default-clause-came : goal.returns-in_default-clause-came
-returns-in_default-clause-came g c = λ first came.
+pub returns-in-None-clause-came : goal.returns-in-None-clause-came
+returns-in-None-clause-came g c = λ first came.
     on_ok c.work.result (came_on g.B.Lockstep.state g.B.Lockstep.machine first c.args.self.now c.work.new.self came)
     c.work.ensures.works
 
