@@ -55,8 +55,8 @@ pub(super) struct Outcome {
     pub(super) write: u64,
 }
 
-// How a pair has ended.
-fn outcome_of<B: Lockstep + Drop>(end: &mut GenerationEnd<B, Store>) -> R<Outcome> {
+// What has come of a pair that is kept.
+fn look_at<B: Lockstep + Drop>(end: &mut GenerationEnd<B, Store>) -> R<Outcome> {
     let sector = end.disk.get(SectorAddress {
         drive: 0,
         track: 0,
@@ -73,6 +73,11 @@ fn outcome_of<B: Lockstep + Drop>(end: &mut GenerationEnd<B, Store>) -> R<Outcom
         accepted: [first.len(), second.len()],
         write: sector.number,
     })
+}
+
+// What has come of a pair.
+fn outcome_of<B: Lockstep + Drop>(mut end: GenerationEnd<B, Store>) -> R<Outcome> {
+    look_at(&mut end)
 }
 
 // A guest with one drive, whose memory begins with this program.
@@ -163,7 +168,7 @@ fn run_with<
     let backup = boot(alloc, setup, Callbacks::of(sent, sector, written))?;
     let workers = workers_of(alloc, case, primary, backup)?;
     match run_generation(rt, alloc, workers, gate, case.turns) {
-        Ok(mut end) => outcome_of(&mut end),
+        Ok(end) => outcome_of(end),
         Err(fault) => Err(fault),
     }
 }
