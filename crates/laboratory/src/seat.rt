@@ -26,8 +26,8 @@ fn run_threads<H: Threads + Sync>(rt: &H, alloc: Global, entries: u64) -> Result
     Ok(fabric.close(seats).held)
 }
 
-// How many entries are held in the end.
-fn held_after<H: Threads + Wait + Sync>(
+// What was acknowledged last: how many entries are held, or over channels and rings the index of a packet.
+fn last_of<H: Threads + Wait + Sync>(
     rt: &H,
     alloc: Global,
     what: &str,
@@ -46,14 +46,14 @@ fn held_after<H: Threads + Wait + Sync>(
     }
 }
 
-/// Makes so many rounds of what this word names, and prints how many entries are held in the end.
+/// Makes so many rounds of what this word names, and prints what was acknowledged last.
 pub fn run<H: Threads + Wait + Sync + Print>(
     rt: &H,
     alloc: Global,
     what: &str,
     rounds: u64,
 ) -> Result<()> {
-    let held = held_after(rt, alloc, what, rounds)?;
-    println!(rt; "{rounds} rounds: {held} held")?;
+    let last = last_of(rt, alloc, what, rounds)?;
+    println!(rt; "{rounds} rounds: {last} acknowledged last")?;
     Ok(())
 }
