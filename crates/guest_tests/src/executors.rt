@@ -38,7 +38,7 @@ static COMMANDS: [u8; 16] = [
     0x01, 0x01, 0x01, 0x02, 0x03, 0x04, 0x04, 0x04, 0x05, 0x08, 0x0c, 0x10, 0x14, 0x20, 0x30, 0x80,
 ];
 
-// What a board was given and what it gave.
+// What a board was given and what it gave, and its memory at the end.
 #[derive(Drop)]
 struct Course {
     inputs: Vec<Timed>,
@@ -46,6 +46,28 @@ struct Course {
     second: Vec<u8>,
     writes: Vec<SectorWrite>,
     done: Vec<SectorWrite>,
+    memory: Vec<u8>,
+}
+
+impl Course {
+    // Nothing yet.
+    fn new(alloc: Global) -> Course {
+        Course {
+            inputs: Vec::new(alloc),
+            first: Vec::new(alloc),
+            second: Vec::new(alloc),
+            writes: Vec::new(alloc),
+            done: Vec::new(alloc),
+            memory: Vec::new(alloc),
+        }
+    }
+}
+
+// How many steps a board executed, and its processor then.
+#[derive(Clone, Copy)]
+struct Reached {
+    count: u64,
+    processor: Processor,
 }
 
 // A memory of random bytes, many of which reach a port and few of which halt.
@@ -230,8 +252,8 @@ fn note(course: &mut Course, given: Option<&Operation>) -> R<()> {
     Ok(())
 }
 
-// Whether counts never fall, from this one on.
-fn never_fall(from: u64, inputs: &[Timed]) -> bool
+/// Whether counts never fall, from this one on.
+pub(crate) fn never_fall(from: u64, inputs: &[Timed]) -> bool
     ensures { IsTrue result → NeverFall from inputs.now }
 {
     match inputs {
@@ -240,36 +262,13 @@ fn never_fall(from: u64, inputs: &[Timed]) -> bool
     }
 }
 
-// The bytes of a board's memory.
-fn memory_of<T: Completes, S: Completes, W: Completes>(
-    alloc: Global,
-    board: &Board<T, S, W>,
-) -> R<Vec<u8>> {
-    let mut memory = Vec::with_capacity(alloc, 65536)?;
-    for page in 0..=255 {
-        memory.extend_from_slice(board.page(page))?;
-    }
-    Ok(memory)
-}
-
-// What a board showed at the end of a random program: what it was given and gave, how many steps it executed, its
-// processor, and its memory.
-#[derive(Drop)]
-struct Shown {
-    course: Course,
-    count: u64,
-    processor: Processor,
-    memory: Vec<u8>,
-}
-
 // Whether the single machine, after the board's inputs, shows what the board showed and gave.
-fn is_alike(single: &Single, shown: &Shown) -> bool {
-    let course = &shown.course;
-    *single.processor() == shown.processor
+fn is_alike(single: &Single, course: &Course, reached: Reached) -> bool {
+    *single.processor() == reached.processor
         && single.outputs(0) == course.first.as_slice()
         && single.outputs(1) == course.second.as_slice()
         && single.writes() == course.writes.as_slice()
-        && has_memory(single, &shown.memory)
+        && has_memory(single, &course.memory)
         && has_images(single, &course.done)
 }
 
@@ -299,25 +298,21 @@ fn setup_of(alloc: Global, random: &mut Pcg32, program: u64) -> R<Setup> {
     })
 }
 
-// Runs a board on random inputs.
+// Runs a board on random inputs, and keeps its memory.
 fn run_board<T: Completes, S: Completes, W: Completes>(
-    alloc: Global,
     board: &mut Board<T, S, W>,
+    course: &mut Course,
     random: &mut Pcg32,
-) -> R<Course> {
-    let mut course = Course {
-        inputs: Vec::new(alloc),
-        first: Vec::new(alloc),
-        second: Vec::new(alloc),
-        writes: Vec::new(alloc),
-        done: Vec::new(alloc),
-    };
+) -> R<()> {
     for _ in 0..INPUTS {
         let steps = u64::from(random.next_word() % 100);
-        advance(board, &mut course, steps)?;
-        offer(board, &mut course, random)?;
+        advance(board, course, steps)?;
+        offer(board, course, random)?;
     }
-    Ok(course)
+    for page in 0..=255 {
+        course.memory.extend_from_slice(board.page(page))?;
+    }
+    Ok(())
 }
 
 // How much a number of programs did: how many steps they executed, how many inputs they took, how many writes were done,
@@ -340,76 +335,68 @@ impl Totals {
     }
 }
 
-// Runs a random program on a board with these closures.
-fn run_on_board<T: Completes + Drop, S: Completes + Drop, W: Completes + Drop>(
-    alloc: Global,
-    setup: &Setup,
-    random: &mut Pcg32,
-    callbacks: Callbacks<T, S, W>,
-) -> R<Shown> {
-    let mut board = match Board::boot(alloc, setup, callbacks) {
-        Ok(board) => board,
-        Err((_, fault)) => return Err(fault),
-    };
-    show_run(alloc, &mut board, random)
-}
-
-fn show_run<T: Completes, S: Completes, W: Completes>(
-    alloc: Global,
-    board: &mut Board<T, S, W>,
-    random: &mut Pcg32,
-) -> R<Shown> {
-    let course = run_board(alloc, board, random)?;
-    let memory = memory_of(alloc, board)?;
-    Ok(Shown {
-        course,
-        count: board.count(),
-        processor: *board.processor(),
-        memory,
-    })
-}
-
-// Runs a random program on a board with these closures.
+// Runs a random program on a board with these closures as completions.
 fn run_with<T: Completes + Drop, S: Completes + Drop, W: Completes + Drop>(
     alloc: Global,
     setup: &Setup,
+    course: &mut Course,
     random: &mut Pcg32,
     sent: T,
     sector: S,
     written: W,
-) -> R<Shown>
+) -> R<Reached>
     requires sent { Keeps (T.may sent) (T.gives sent) SENT }
     requires sector { Keeps (S.may sector) (S.gives sector) SECTOR }
     requires written { Keeps (W.may written) (W.gives written) WRITTEN }
 {
-    run_on_board(alloc, setup, random, Callbacks::of(sent, sector, written))
+    match Board::boot(alloc, setup, Callbacks::of(sent, sector, written)) {
+        Ok(mut board) => reach(&mut board, course, random),
+        Err((_, fault)) => Err(fault),
+    }
 }
 
-// Whether the single machine does with the same inputs what a board with this setup showed.
-fn agrees(alloc: Global, setup: &Setup, shown: &Shown) -> R<bool> {
-    let inputs = shown.course.inputs.as_slice();
+fn reach<T: Completes, S: Completes, W: Completes>(
+    board: &mut Board<T, S, W>,
+    course: &mut Course,
+    random: &mut Pcg32,
+) -> R<Reached> {
+    run_board(board, course, random)?;
+    Ok(Reached {
+        count: board.count(),
+        processor: *board.processor(),
+    })
+}
+
+// Whether the single machine does with the same inputs what a board with this setup did.
+fn agrees(alloc: Global, setup: &Setup, course: &Course, reached: Reached) -> R<bool> {
+    let inputs = course.inputs.as_slice();
     if !never_fall(0, inputs) {
         return Ok(false);
     }
     let single = Single::boot(alloc, setup, &[])?;
-    let single = single.run(alloc, inputs, shown.count)?;
-    Ok(is_alike(&single, shown))
+    let single = single.run(alloc, inputs, reached.count)?;
+    Ok(is_alike(&single, course, reached))
 }
 
 // Runs a random program on a board, and then on the single machine, which must do the same.
 fn run_program(rt: &(impl Abort + AllocGlobal), program: u64, totals: &mut Totals) -> R<()> {
     let mut random = Pcg32::new(program, 54);
     let setup = setup_of(rt.alloc(), &mut random, program)?;
-    let shown = run_with(
+    let mut course = Course::new(rt.alloc());
+    let reached = run_with(
         rt.alloc(),
         &setup,
+        &mut course,
         &mut random,
         plain_completions::sent,
         plain_completions::sector,
         plain_completions::written,
     )?;
-    assert!(rt; agrees(rt.alloc(), &setup, &shown)?, "program {program}");
-    totals.add(shown.count, &shown.course);
+    assert!(rt;
+        agrees(rt.alloc(), &setup, &course, reached)?,
+        "program {program}"
+    );
+    totals.add(reached.count, &course);
     Ok(())
 }
 

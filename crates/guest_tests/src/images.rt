@@ -83,24 +83,32 @@ pub(crate) fn complete(parts: &mut BoardParts, number: u64) {
     }
 }
 
-// In version 02 it is a repeat. If it is taken back, it may come again.
-#[test]
-fn a_first_part_in_version_01_is_read(rt: HostRuntime) -> Result<(), Fail> {
-    let first = first_part(rt.alloc())?;
-    let old = in_version_01(rt.alloc(), &first)?;
+// A first part comes once; in version 02 it is a repeat. If it is taken back, it may come again.
+fn expect_once(rt: &(impl Abort + AllocGlobal), old: &[u8], first: &[u8]) -> R<()> {
     let mut assembly = Assembly::new(rt.alloc(), 2, 1)?;
-    for is_new in [true, false] {
-        assert!(rt; assembly.part(&old) == Ok(is_new));
-    }
-    assert!(rt; assembly.part(&first) == Ok(false));
-    assembly.forget(&first);
-    assert!(rt; assembly.part(&old) == Ok(true));
-    let parts = board_parts(&rt, &old)?;
+    assert!(rt; assembly.part(old) == Ok(true));
+    assert!(rt; assembly.part(old) == Ok(false));
+    assert!(rt; assembly.part(first) == Ok(false));
+    assembly.forget(first);
+    assert!(rt; assembly.part(old) == Ok(true));
+    Ok(())
+}
+
+// What that part says: port 0 waits for 48 to be accepted, and port 1 is ready.
+fn expect_said(rt: &impl Abort, parts: &BoardParts) {
     let [ready, waiting] = [parts.devices.ports[1], parts.devices.ports[0]];
     assert!(rt; (ready.unaccepted(), waiting.unaccepted()) == (0, 1));
     assert!(rt; parts.unaccepted[0][0] == 0x48);
     assert!(rt; parts.count == 9 && parts.issued == [3, 0]);
     assert!(rt; parts.devices.disk.issued() == 5);
+}
+
+#[test]
+fn a_first_part_in_version_01_is_read(rt: HostRuntime) -> Result<(), Fail> {
+    let first = first_part(rt.alloc())?;
+    let old = in_version_01(rt.alloc(), &first)?;
+    expect_once(&rt, &old, &first)?;
+    expect_said(&rt, &board_parts(&rt, &old)?);
     Ok(())
 }
 

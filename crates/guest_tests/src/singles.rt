@@ -1,11 +1,11 @@
 //! Programs on the machine alone: output, keys, a sector written and read, and each refusal.
 ghost use Rattle.std.specs.Prelude.{◌≡◌, IfOk};
-ghost use Rattle.plain_single.specs.Reaching.{NeverFall};
 
 mod folds;
 mod states;
 mod walks;
 
+use crate::executors::never_fall;
 use disk_dcdd::{SECTOR_BYTES, SectorAddress, SectorWrite};
 use guest_board::Setup;
 use guest_lockstep::Reads;
@@ -50,105 +50,124 @@ fn booted(alloc: Global, program: &[u8], sectors: &[SectorWrite]) -> R<Single>
     Single::boot(alloc, &setup, sectors)
 }
 
-#[test]
-fn a_byte_goes_out_and_a_key_is_taken(rt: HostRuntime) -> Result<(), Fail> {
-    let single = booted(rt.alloc(), &HELLO, &[])?;
-    let run = single.run(rt.alloc(), &[], 6)?;
+// The byte was sent, in six steps.
+fn expect_hello(rt: &impl Abort, run: &Single) {
     assert!(rt; run.outputs(0) == [0x48].as_slice());
     assert!(rt; run.outputs(1) == [].as_slice());
     assert!(rt; run.count() == 6);
-    let inputs = [
-        Timed {
-            count: 3,
-            input: Bare::Rx(0, 0x41),
-        },
-        Timed {
-            count: 6,
-            input: Bare::Sent(0),
-        },
-    ];
-    let run = single.run(rt.alloc(), &inputs, 6)?;
-    assert!(rt; run.outputs(0) == [0x48].as_slice());
-    Ok(())
 }
 
 #[test]
-fn a_sector_is_written_and_read_again(rt: HostRuntime) -> Result<(), Fail> {
-    let at_boot = SectorWrite {
-        number: 0,
-        drive: 0,
-        track: 0,
-        sector: 0,
-        bytes: [0x11; SECTOR_BYTES],
+fn a_byte_goes_out_and_a_key_is_taken(rt: HostRuntime) -> Result<(), Fail> {
+    let single = booted(rt.alloc(), &HELLO, &[])?;
+    expect_hello(&rt, &single.run(rt.alloc(), &[], 6)?);
+    let key = Timed {
+        count: 3,
+        input: Bare::Rx(0, 0x41),
     };
-    let single = booted(rt.alloc(), &WRITE_A_SECTOR, &[at_boot])?;
-    assert!(rt; single.image(FIRST_SECTOR) == [0x11; SECTOR_BYTES]);
-    let inputs = [
-        Timed {
-            count: 10,
-            input: Bare::Sector(0, 0),
-        },
-        Timed {
-            count: 973,
-            input: Bare::Written(1),
-        },
-    ];
-    let run = single.run(rt.alloc(), &inputs, 973)?;
+    expect_hello(&rt, &single.run(rt.alloc(), &[key, DUE], 6)?);
+    Ok(())
+}
+
+// What the sector has at boot.
+const AT_BOOT: SectorWrite = SectorWrite {
+    number: 0,
+    drive: 0,
+    track: 0,
+    sector: 0,
+    bytes: [0x11; SECTOR_BYTES],
+};
+
+const UNDER_HEAD: Timed = Timed {
+    count: 10,
+    input: Bare::Sector(0, 0),
+};
+
+// The sector is written, and all is done.
+fn expect_written(rt: &impl Abort, run: &Single) {
     let write = SectorWrite {
         number: 1,
         bytes: [0xe5; SECTOR_BYTES],
-        ..at_boot
+        ..AT_BOOT
     };
     assert!(rt; run.writes() == [write].as_slice());
     assert!(rt; run.image(FIRST_SECTOR) == [0xe5; SECTOR_BYTES]);
     assert!(rt; run.count() == 973);
-    let busy = [
-        inputs[0],
-        Timed {
-            count: 973,
-            input: Bare::Sector(0, 0),
-        },
-    ];
-    assert!(rt; refusal(&rt, &single, &busy, 973) == Fault::SectorBusy);
+}
+
+#[test]
+fn a_sector_is_written_and_read_again(rt: HostRuntime) -> Result<(), Fail> {
+    let single = booted(rt.alloc(), &WRITE_A_SECTOR, &[AT_BOOT])?;
+    assert!(rt; single.image(FIRST_SECTOR) == [0x11; SECTOR_BYTES]);
+    let done = Timed {
+        count: 973,
+        input: Bare::Written(1),
+    };
+    expect_written(&rt, &single.run(rt.alloc(), &[UNDER_HEAD, done], 973)?);
+    let again = Timed {
+        count: 973,
+        input: Bare::Sector(0, 0),
+    };
+    expect_refused(&rt, &single, &[UNDER_HEAD, again], 973, Fault::SectorBusy);
     Ok(())
 }
 
-// The refusal of a run.
-fn refusal(rt: &HostRuntime, single: &Single, inputs: &[Timed], count: u64) -> Fault
-    requires boot { single.now.count ≡ 0 }
-    requires rising { NeverFall 0 inputs.now }
+// A run of a machine at boot is refused.
+fn expect_refused(
+    rt: &(impl Abort + AllocGlobal),
+    single: &Single,
+    inputs: &[Timed],
+    count: u64,
+    fault: Fault,
+)
+    requires { single.now.count ≡ 0 }
 {
-    match single.run(rt.alloc(), inputs, count) {
+    assert!(rt; never_fall(0, inputs));
+    let refused = match single.run(rt.alloc(), inputs, count) {
         Ok(_) => Fault::Malformed,
         Err(fault) => fault,
-    }
+    };
+    assert!(rt; refused == fault);
 }
+
+const DUE: Timed = Timed {
+    count: 6,
+    input: Bare::Sent(0),
+};
+
+const EARLY: Timed = Timed {
+    count: 5,
+    input: Bare::Sent(0),
+};
+
+const NOWHERE: Timed = Timed {
+    count: 5,
+    input: Bare::Rx(2, 0x41),
+};
+
+const LATE: Timed = Timed {
+    count: 7,
+    input: Bare::Rx(0, 0x41),
+};
+
+// A count that no machine reaches.
+const PAST: u64 = 1 << 62;
+
+// Inputs of a run up to a count, and its refusal.
+static REFUSED: [(&[Timed], u64, Fault); 6] = [
+    (&[], 8, Fault::Idle),
+    (&[DUE, LATE], 6, Fault::Idle),
+    (&[EARLY], PAST, Fault::NotDue),
+    (&[NOWHERE], 6, Fault::NotDue),
+    (&[DUE, DUE], 6, Fault::NotDue),
+    (&[DUE, LATE], PAST, Fault::Spent),
+];
 
 #[test]
 fn runs_are_refused_in_one_order(rt: HostRuntime) -> Result<(), Fail> {
     let single = booted(rt.alloc(), &HELLO, &[])?;
-    let due = Timed {
-        count: 6,
-        input: Bare::Sent(0),
-    };
-    let early = Timed {
-        count: 5,
-        input: Bare::Sent(0),
-    };
-    let nowhere = Timed {
-        count: 5,
-        input: Bare::Rx(2, 0x41),
-    };
-    let late = Timed {
-        count: 7,
-        input: Bare::Rx(0, 0x41),
-    };
-    let past = 1 << 62;
-    assert!(rt; refusal(&rt, &single, &[], 8) == Fault::Idle);
-    assert!(rt; refusal(&rt, &single, &[due, late], 6) == Fault::Idle);
-    assert!(rt; refusal(&rt, &single, &[early], past) == Fault::NotDue);
-    assert!(rt; refusal(&rt, &single, &[nowhere], 6) == Fault::NotDue);
-    assert!(rt; refusal(&rt, &single, &[due, due], 6) == Fault::NotDue);
-    assert!(rt; refusal(&rt, &single, &[due, late], past) == Fault::Spent);
+    for (inputs, count, fault) in &REFUSED {
+        expect_refused(&rt, &single, inputs, *count, *fault);
+    }
     Ok(())
 }

@@ -4,7 +4,7 @@ ghost use Rattle.event_callbacks.specs.Keeping.{Keeps};
 
 use crate::boards::boot;
 use event_callbacks::{Callbacks, Completes, OpId, plain_completions};
-use guest_board::Setup;
+use guest_board::{Board, Setup};
 use guest_lockstep::{Input, Lockstep, StopReason};
 use i8080_words::{Fault, R, Regs};
 use std::alloc::Global;
@@ -47,7 +47,15 @@ fn run_with<T: Completes + Drop, S: Completes + Drop, W: Completes + Drop>(
     requires written { Keeps (W.may written) (W.gives written) WRITTEN }
 {
     let mut board = boot(alloc, setup, Callbacks::of(sent, sector, written))?;
-    let bytes = go_on(&mut board, steps)?;
+    run_on(&mut board, steps)
+}
+
+// Runs a guest on this board.
+fn run_on<T: Completes, S: Completes, W: Completes>(
+    board: &mut Board<T, S, W>,
+    steps: u64,
+) -> R<Alone> {
+    let bytes = go_on(board, steps)?;
     Ok(Alone {
         regs: board.processor().regs,
         steps: board.count(),

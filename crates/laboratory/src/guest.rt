@@ -49,6 +49,49 @@ fn run_single(alloc: Global, setup: &Setup, steps: u64) -> R<Regs> {
     Ok(single.processor().regs)
 }
 
+// The registers that the program reaches on this executor.
+fn regs_on(alloc: Global, executor: &str, setup: Setup, steps: u64) -> Result<Regs> {
+    match executor {
+        "processor" => Ok(run_processor(setup, steps)),
+        "board" => Ok(alone::run(alloc, &setup, steps)?.regs),
+        "single" => Ok(run_single(alloc, &setup, steps)?),
+        _ => bail!("no executor {executor}"),
+    }
+}
+
+// Runs a program for this many steps on an executor, and prints the registers that it reaches.
+fn execute<H: Print>(
+    rt: &H,
+    alloc: Global,
+    executor: &str,
+    setup: Setup,
+    steps: u64,
+) -> Result<()> {
+    let regs = regs_on(alloc, executor, setup, steps)?;
+    println!(rt;
+        "{steps} steps: A {:02X}, BC {:02X}{:02X}, PC {:04X}",
+        regs.a,
+        regs.b,
+        regs.c,
+        regs.pc.get()
+    )?;
+    Ok(())
+}
+
+// Makes this of a board this many times, and prints how much it was in all.
+fn make<H: Print>(
+    rt: &H,
+    alloc: Global,
+    setup: &Setup,
+    what: &str,
+    made: Made,
+    times: u64,
+) -> Result<()> {
+    let all = copies::make(alloc, setup, made, times)?;
+    println!(rt; "{times} times {what}: {all}")?;
+    Ok(())
+}
+
 /// Runs the program of these words for this many steps on an executor, and prints the registers that it reaches; or makes
 /// something of a board this many times.
 pub fn run<H: Print>(
@@ -59,23 +102,8 @@ pub fn run<H: Print>(
     words: &[String],
 ) -> Result<()> {
     let setup = setup_of(alloc, &program_of(alloc, words)?)?;
-    if let Some(made) = Made::of(what) {
-        let all = copies::make(alloc, &setup, made, number)?;
-        println!(rt; "{number} times {what}: {all}")?;
-        return Ok(());
+    match Made::of(what) {
+        Some(made) => make(rt, alloc, &setup, what, made, number),
+        None => execute(rt, alloc, what, setup, number),
     }
-    let regs = match what {
-        "processor" => run_processor(setup, number),
-        "board" => alone::run(alloc, &setup, number)?.regs,
-        "single" => run_single(alloc, &setup, number)?,
-        _ => bail!("no executor {what}"),
-    };
-    println!(rt;
-        "{number} steps: A {:02X}, BC {:02X}{:02X}, PC {:04X}",
-        regs.a,
-        regs.b,
-        regs.c,
-        regs.pc.get()
-    )?;
-    Ok(())
 }

@@ -36,7 +36,7 @@ fn make_run<H: Threads + Sync + Clock>(
     let case = case_of(alloc, &mut Chance::new(seed, number))?;
     match pair::run(rt, alloc, &case, &case.gate) {
         Ok(_) if case.stalls => Err(Difference::Said("it came to an end in too few turns")),
-        Ok(end) => compare(alloc, &case, end),
+        Ok(mut end) => compare(alloc, &case, &mut end),
         Err(Fault::Stalled) if case.stalls => Ok(()),
         Err(fault) => Err(Difference::Failed(fault)),
     }

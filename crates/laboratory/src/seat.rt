@@ -6,52 +6,54 @@ mod steps;
 mod threads;
 
 use anyhow::{Result, bail};
-use pair_rule::{Closed, Fabric};
+use pair_rule::Fabric;
 use std::alloc::Global;
 use std::sync::Wait;
 use std::thread::Threads;
 use steps::Work;
 
-// Rounds of all seats on one thread.
-fn run_steps(alloc: Global, work: Work, rounds: u64) -> Result<Closed> {
+// Rounds of all seats on one thread. Returns how many entries are held.
+fn run_steps(alloc: Global, work: Work, rounds: u64) -> Result<u64> {
     let (fabric, mut seats) = Fabric::open(alloc, 1)?;
     steps::run(&fabric, &mut seats, work, rounds);
-    Ok(fabric.close(seats))
+    Ok(fabric.close(seats).held)
 }
 
-// Entries through the seats on three threads.
-fn run_threads<H: Threads + Sync>(rt: &H, alloc: Global, entries: u64) -> Result<Closed> {
+// Entries through the seats on three threads. Returns how many are held.
+fn run_threads<H: Threads + Sync>(rt: &H, alloc: Global, entries: u64) -> Result<u64> {
     let (fabric, seats) = Fabric::open(alloc, 1)?;
     let seats = threads::run(rt, &fabric, seats, entries);
-    Ok(fabric.close(seats))
+    Ok(fabric.close(seats).held)
 }
 
-/// Makes so many rounds of what this word names, and prints what came of them.
+// What was acknowledged last: how many entries are held, or over channels and rings the index of a packet.
+fn last_of<H: Threads + Wait + Sync>(
+    rt: &H,
+    alloc: Global,
+    what: &str,
+    rounds: u64,
+) -> Result<u64> {
+    if let Some(work) = Work::of(what) {
+        return run_steps(alloc, work, rounds);
+    }
+    match what {
+        "threads" => run_threads(rt, alloc, rounds),
+        "channel" => Ok(channels::run(rt, alloc, rounds)?),
+        "channel_threads" => Ok(channels::run_threads(rt, alloc, rounds)?),
+        "ring" => Ok(rings::run(alloc, rounds)?),
+        "ring_threads" => Ok(rings::run_threads(rt, alloc, rounds)?),
+        _ => bail!("no seats work at {what}"),
+    }
+}
+
+/// Makes so many rounds of what this word names, and prints what was acknowledged last.
 pub fn run<H: Threads + Wait + Sync + Print>(
     rt: &H,
     alloc: Global,
     what: &str,
     rounds: u64,
 ) -> Result<()> {
-    let closed = match Work::of(what) {
-        Some(work) => Some(run_steps(alloc, work, rounds)?),
-        None if what == "threads" => Some(run_threads(rt, alloc, rounds)?),
-        None => None,
-    };
-    if let Some(closed) = closed {
-        println!(rt;
-            "{rounds} rounds: {} entries, {} held",
-            closed.tail, closed.held
-        )?;
-        return Ok(());
-    }
-    let seen = match what {
-        "channel" => channels::run(rt, alloc, rounds)?,
-        "channel_threads" => channels::run_threads(rt, alloc, rounds)?,
-        "ring" => rings::run(alloc, rounds)?,
-        "ring_threads" => rings::run_threads(rt, alloc, rounds)?,
-        _ => bail!("no seats work at {what}"),
-    };
-    println!(rt; "{rounds} rounds: {seen} seen last")?;
+    let last = last_of(rt, alloc, what, rounds)?;
+    println!(rt; "{rounds} rounds: {last} acknowledged last")?;
     Ok(())
 }

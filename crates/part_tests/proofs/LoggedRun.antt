@@ -2,6 +2,7 @@
 -- which the run began, they are the next entries of that run.
 use Rattle.std.proofs.Common.{◌≡◌, ℕ, ◌-◌, Bool, false, cond, List, [], ◌∷◌, ◌++◌, drop, Option, Some, None, Result, Ok, Err, refl, sym, ap, subst, ◌∙◌, arith, nat_lt}
 use Rattle.std.specs.List.{slice_get}
+use Rattle.std.specs.Result.{OnOk}
 use Rattle.std.proofs.lemmas.Bool.{le-ltb}
 use Rattle.std.proofs.lemmas.List.{append-nil, take-append-drop}
 use Rattle.guest_lockstep.specs.Machine.{Machine, Move, Take}
@@ -119,3 +120,8 @@ repeats M reads start s t before new sent r at_start empty logged same holds =
     (subst (λ s. Logged M reads s (log 0 []) t new) at_start
     (subst (λ before. Logged M reads s before t new) empty logged))
     (subst (λ (l : Log). HoldsFirst l.entries [] r) same holds)
+
+-- whatever comes of a call, a fact holds if it gives a value
+pub when_ok : {T E P : Type 0} (r : Result T E) → P → OnOk r P
+when_ok (Ok _) p = p
+when_ok (Err _) _ = tt

@@ -1,5 +1,5 @@
 //! A board repeats what another one recorded, with closures of different types.
-ghost use Rattle.std.specs.Prelude.{◌≡◌, [], IsTrue, List, None, OnOk, Some};
+ghost use Rattle.std.specs.Prelude.{◌≡◌, [], IfOk, IsTrue, List, None, OnOk, Some};
 ghost use Rattle.event_callbacks.specs.Completions.{is_due, done_of};
 ghost use Rattle.event_callbacks.specs.Keeping.{Keeps, kind_of};
 ghost use Rattle.event_callbacks.specs.declared.devices.TheConstants.{SECTOR, SENT, WRITTEN};
@@ -225,46 +225,87 @@ fn deliver_all(rt: &(impl Abort + AllocGlobal), log: &LogBuffer, receiver: &mut 
     Ok(())
 }
 
+// A guest of this setup at boot, with these callbacks.
+fn boot<T: Completes + Drop, S: Completes + Drop, W: Completes + Drop>(
+    alloc: Global,
+    setup: &Setup,
+    callbacks: Callbacks<T, S, W>,
+) -> R<Board<T, S, W>>
+    ensures { IfOk result (λ board. board.guest ≡ guest_at_boot setup.now) }
+{
+    match Board::boot(alloc, setup, callbacks) {
+        Ok(board) => Ok(board),
+        Err((_, fault)) => Err(fault),
+    }
+}
+
+// All is done to the guest of a recorder, and its log arrives at the receiver.
+fn record_all<T: Completes, S: Completes, W: Completes>(
+    rt: &(impl Abort + AllocGlobal),
+    recorder: &mut Recorder<Board<T, S, W>>,
+    receiver: &mut Receiver,
+) -> R<Shown>
+    requires reads { recorder.old.reads ≡ Logged }
+    requires log { recorder.old.log ≡ record { first = 0; entries = [] } }
+    requires receiver { receiver.old ≡ record { generation = 1; held = 0; entries = [] } }
+    ensures { OnOk result (IsOnTrace some_altair recorder.old.board.guest receiver.new.entries None) }
+{
+    make_all(rt, recorder);
+    deliver_all(rt, recorder.log(), receiver)?;
+    assert!(rt; receiver.held() == 8 && recorder.log().next() == 8);
+    show(rt.alloc(), recorder.board())
+}
+
 // A board with these closures is recorded, and its log arrives at the receiver.
 fn record_on<T: Completes + Drop, S: Completes + Drop, W: Completes + Drop>(
     rt: &(impl Abort + AllocGlobal),
     setup: &Setup,
     receiver: &mut Receiver,
-    callbacks: Callbacks<T, S, W>,
-) -> R<Board<T, S, W>>
-    requires { receiver.old ≡ record { generation = 1; held = 0; entries = [] } }
+    sent: T,
+    sector: S,
+    written: W,
+) -> R<Shown>
+    requires sent { Keeps (T.may sent) (T.gives sent) SENT }
+    requires sector { Keeps (S.may sector) (S.gives sector) SECTOR }
+    requires written { Keeps (W.may written) (W.gives written) WRITTEN }
+    requires receiver { receiver.old ≡ record { generation = 1; held = 0; entries = [] } }
     ensures { OnOk result (IsOnTrace some_altair (guest_at_boot setup.now) receiver.new.entries None) }
 {
-    let board = match Board::boot(rt.alloc(), setup, callbacks) {
-        Ok(board) => board,
-        Err((_, fault)) => return Err(fault),
-    };
-    let mut recorder = Recorder::new(board, LogBuffer::new(rt.alloc(), 0)?, Reads::Logged);
-    make_all(rt, &mut recorder);
-    deliver_all(rt, recorder.log(), receiver)?;
-    assert!(rt; receiver.held() == 8);
-    assert!(rt; recorder.log().next() == 8);
-    Ok(recorder.into_board())
+    let log = LogBuffer::new(rt.alloc(), 0)?;
+    let board = boot(rt.alloc(), setup, Callbacks::of(sent, sector, written))?;
+    record_all(rt, &mut Recorder::new(board, log, Reads::Logged), receiver)
 }
 
-// A board with these closures repeats all that is held, a few moves first.
+// A replayer repeats all that is held, a few moves first.
+fn replay_all<T: Completes, S: Completes, W: Completes>(
+    rt: &(impl Abort + AllocGlobal),
+    replayer: &mut Replayer<Board<T, S, W>>,
+    receiver: &mut Receiver,
+) -> R<Shown>
+    requires { IsOnTrace some_altair replayer.old.board.guest receiver.old.entries replayer.old.fetched }
+{
+    assert!(rt; replayer.replay(receiver, 18) == came(18, ReplayEnd::Turns));
+    assert!(rt; replayer.board().count() == 15);
+    assert!(rt; replayer.replay(receiver, 9999) == came(985, ReplayEnd::End));
+    show(rt.alloc(), replayer.board())
+}
+
+// A board with these closures repeats all that is held.
 fn replay_on<T: Completes + Drop, S: Completes + Drop, W: Completes + Drop>(
     rt: &(impl Abort + AllocGlobal),
     setup: &Setup,
     receiver: &mut Receiver,
-    callbacks: Callbacks<T, S, W>,
-) -> R<Board<T, S, W>>
-    requires { IsOnTrace some_altair (guest_at_boot setup.now) receiver.old.entries None }
+    sent: T,
+    sector: S,
+    written: W,
+) -> R<Shown>
+    requires sent { Keeps (T.may sent) (T.gives sent) SENT }
+    requires sector { Keeps (S.may sector) (S.gives sector) SECTOR }
+    requires written { Keeps (W.may written) (W.gives written) WRITTEN }
+    requires trace { IsOnTrace some_altair (guest_at_boot setup.now) receiver.old.entries None }
 {
-    let board = match Board::boot(rt.alloc(), setup, callbacks) {
-        Ok(board) => board,
-        Err((_, fault)) => return Err(fault),
-    };
-    let mut replayer = Replayer::new(board);
-    assert!(rt; replayer.replay(receiver, 18) == came(18, ReplayEnd::Turns));
-    assert!(rt; replayer.board().count() == 15);
-    assert!(rt; replayer.replay(receiver, 9999) == came(985, ReplayEnd::End));
-    Ok(replayer.into_board())
+    let board = boot(rt.alloc(), setup, Callbacks::of(sent, sector, written))?;
+    replay_all(rt, &mut Replayer::new(board), receiver)
 }
 
 // What a board shows: its processor, its memory, its count, the keys that were taken, how many bytes of each port are
@@ -283,14 +324,23 @@ struct Shown {
     given: [Option<Operation>; 3],
 }
 
-fn show<T: Completes, S: Completes, W: Completes>(
+// The bytes of a board's memory.
+fn memory_of<T: Completes, S: Completes, W: Completes>(
     alloc: Global,
     board: &Board<T, S, W>,
-) -> R<Shown> {
+) -> R<Vec<u8>> {
     let mut memory = Vec::with_capacity(alloc, BYTES)?;
     for page in 0..=255 {
         memory.extend_from_slice(board.page(page))?;
     }
+    Ok(memory)
+}
+
+fn show<T: Completes, S: Completes, W: Completes>(
+    alloc: Global,
+    board: &Board<T, S, W>,
+) -> R<Shown> {
+    let memory = memory_of(alloc, board)?;
     Ok(Shown {
         processor: *board.processor(),
         memory,
@@ -318,46 +368,13 @@ fn expect_end(rt: &impl Abort, shown: &Shown) {
     assert!(rt; shown.given == [None, Some(SECOND), None]);
 }
 
-// A board with the first three closures is recorded, and one with the others repeats it.
-fn repeat<
-    T: Completes + Drop,
-    S: Completes + Drop,
-    W: Completes + Drop,
-    U: Completes + Drop,
-    V: Completes + Drop,
-    X: Completes + Drop,
->(rt: &(impl Abort + AllocGlobal), recording: (T, S, W), repeating: (U, V, X)) -> R<()>
-    requires sent { Keeps (T.may recording.0) (T.gives recording.0) SENT }
-    requires sector { Keeps (S.may recording.1) (S.gives recording.1) SECTOR }
-    requires written { Keeps (W.may recording.2) (W.gives recording.2) WRITTEN }
-    requires other_sent { Keeps (U.may repeating.0) (U.gives repeating.0) SENT }
-    requires other_sector { Keeps (V.may repeating.1) (V.gives repeating.1) SECTOR }
-    requires other_written { Keeps (X.may repeating.2) (X.gives repeating.2) WRITTEN }
-{
-    let setup = setup(rt.alloc())?;
-    let mut receiver = Receiver::new(rt.alloc(), 1);
-    let (sent, sector, written) = recording;
-    let recorded = record_on(
-        rt,
-        &setup,
-        &mut receiver,
-        Callbacks::of(sent, sector, written),
-    )?;
-    let (sent, sector, written) = repeating;
-    let replayed = replay_on(
-        rt,
-        &setup,
-        &mut receiver,
-        Callbacks::of(sent, sector, written),
-    )?;
-    let recorded = show(rt.alloc(), &recorded)?;
-    let replayed = show(rt.alloc(), &replayed)?;
-    expect_end(rt, &recorded);
-    expect_end(rt, &replayed);
+// Both show the same.
+fn expect_alike(rt: &impl Abort, recorded: &Shown, replayed: &Shown) {
+    expect_end(rt, recorded);
+    expect_end(rt, replayed);
     assert!(rt; recorded.processor == replayed.processor);
     assert!(rt; recorded.memory == replayed.memory);
     assert!(rt; recorded.status == replayed.status);
-    Ok(())
 }
 
 // Completes on a copy of the devices.
@@ -391,25 +408,32 @@ fn written_apart(devices: Devices, done: Done) -> Devices
 
 #[test]
 fn a_board_repeats_what_a_board_with_other_closures_recorded(rt: HostRuntime) -> R<()> {
-    let name = 3u8;
-    repeat(
+    let setup = setup(rt.alloc())?;
+    let mut receiver = Receiver::new(rt.alloc(), 1);
+    let recorded = record_on(
         &rt,
-        (
-            plain_completions::sent,
-            plain_completions::sector,
-            plain_completions::written,
-        ),
-        (
-            sent_on_a_copy,
-            move |devices: Devices, done: Done| -> Devices
-                requires kind { kind_of done ≡ SECTOR }
-                requires due { IsTrue (is_due devices done) }
-                ensures { result ≡ done_of devices done }
-            {
-                let _name = name;
-                plain_completions::sector(devices, done)
-            },
-            written_apart,
-        ),
-    )
+        &setup,
+        &mut receiver,
+        plain_completions::sent,
+        plain_completions::sector,
+        plain_completions::written,
+    )?;
+    let name = 3u8;
+    let replayed = replay_on(
+        &rt,
+        &setup,
+        &mut receiver,
+        sent_on_a_copy,
+        move |devices: Devices, done: Done| -> Devices
+            requires kind { kind_of done ≡ SECTOR }
+            requires due { IsTrue (is_due devices done) }
+            ensures { result ≡ done_of devices done }
+        {
+            let _name = name;
+            plain_completions::sector(devices, done)
+        },
+        written_apart,
+    )?;
+    expect_alike(&rt, &recorded, &replayed);
+    Ok(())
 }

@@ -180,28 +180,34 @@ fn a_refused_access_is_not_counted(rt: HostRuntime) -> R<()> {
     Ok(())
 }
 
+// A store whose fourth access fails, over one whose access of this number does.
+fn failing_twice(rt: &impl AllocGlobal, access: u64) -> R<FailOnce<FailOnce<MemoryStore>>> {
+    let below = FailOnce::new(MemoryStore::new(rt.alloc(), 1)?, access);
+    Ok(FailOnce::new(below, 4))
+}
+
+const CONTENT: Record = Record {
+    number: 1,
+    bytes: [0x01; SECTOR_BYTES],
+};
+
+// Of a read, a write and a read those fail that are said here. Two of them were counted; the third one is counted now, and
+// the fourth one fails.
+fn expect_accesses<D: SectorStore>(rt: &impl Abort, store: &mut D, failing: [bool; 3]) {
+    let [first, second, third] = failing;
+    assert!(rt; store.read(FIVE).is_err() == first);
+    assert!(rt; store.write(FIVE, CONTENT).is_err() == second);
+    assert!(rt; store.read(FIVE).is_err() == third);
+    assert!(rt; store.write(FIVE, CONTENT) == Ok(()));
+    assert!(rt; store.write(FIVE, CONTENT) == Err(Fault::DeviceFault));
+    assert!(rt; store.read(FIVE) == Ok(CONTENT));
+}
+
 // The store underneath sees each access once; the one that it refuses is not counted above.
 #[test]
 fn a_store_may_fail_over_one_that_fails(rt: HostRuntime) -> R<()> {
-    let content = Record {
-        number: 1,
-        bytes: [0x01; SECTOR_BYTES],
-    };
-    for (access, failing) in [
-        (1, [true, false, false]),
-        (2, [false, true, false]),
-        (3, [false, false, true]),
-    ] {
-        let below = FailOnce::new(MemoryStore::new(rt.alloc(), 1)?, access);
-        let mut store = FailOnce::new(below, 4);
-        let [first, second, third] = failing;
-        assert!(rt; store.read(FIVE).is_err() == first);
-        assert!(rt; store.write(FIVE, content).is_err() == second);
-        assert!(rt; store.read(FIVE).is_err() == third);
-        // Two of these were counted; the third one is counted now, and the fourth one fails.
-        assert!(rt; store.write(FIVE, content) == Ok(()));
-        assert!(rt; store.write(FIVE, content) == Err(Fault::DeviceFault));
-        assert!(rt; store.read(FIVE) == Ok(content));
-    }
+    expect_accesses(&rt, &mut failing_twice(&rt, 1)?, [true, false, false]);
+    expect_accesses(&rt, &mut failing_twice(&rt, 2)?, [false, true, false]);
+    expect_accesses(&rt, &mut failing_twice(&rt, 3)?, [false, false, true]);
     Ok(())
 }

@@ -24,11 +24,10 @@ fn came(steps: u64, reason: StopReason) -> R<Stopped> {
     Ok(Stopped { steps, reason })
 }
 
-#[test]
-fn a_full_log_takes_nothing_until_an_entry_is_dropped(rt: HostRuntime) -> R<()> {
-    let mut recorder = Recorder::new(Echo::new(1), LogBuffer::new(rt.alloc(), 0)?, Reads::Logged);
+// Logs as many keys as a log holds.
+fn fill(rt: &impl Abort, recorder: &mut Recorder<Echo>) {
     for index in 0..256 {
-        let entry = offer(&rt, &mut recorder, Input::Rx(0, index as u8));
+        let entry = offer(rt, recorder, Input::Rx(0, index as u8));
         assert!(rt; entry == Ok(index));
     }
     let last = Entry::Rx {
@@ -37,9 +36,19 @@ fn a_full_log_takes_nothing_until_an_entry_is_dropped(rt: HostRuntime) -> R<()> 
         byte: 255,
     };
     assert!(rt; recorder.log().get(255) == Some(&last));
-    assert!(rt; offer(&rt, &mut recorder, Input::Rx(0, 0)) == Err(Fault::LogFull));
+}
+
+fn expect_full(rt: &impl Abort, recorder: &mut Recorder<Echo>) {
+    assert!(rt; offer(rt, recorder, Input::Rx(0, 0)) == Err(Fault::LogFull));
     assert!(rt; recorder.advance(1) == Err(Fault::LogFull));
     assert!(rt; recorder.advance(0) == came(0, StopReason::Turns));
+}
+
+#[test]
+fn a_full_log_takes_nothing_until_an_entry_is_dropped(rt: HostRuntime) -> R<()> {
+    let mut recorder = Recorder::new(Echo::new(1), LogBuffer::new(rt.alloc(), 0)?, Reads::Logged);
+    fill(&rt, &mut recorder);
+    expect_full(&rt, &mut recorder);
     let log = recorder.log_mut();
     assert!(rt; log.next() == 256);
     log.drop_to(1);

@@ -1,9 +1,12 @@
 //! Scripts that are too long, input and output that fail, and what the help says.
-use crate::runs::{Ending, WELL, expect, run_on};
+use crate::runs::{Ending, WELL, end_of, expect, expect_ran, run_on};
 use command_ending::{Failure, Report};
 use pair_check::Verdict;
 use std::io::{self, ErrorKind, Read, Write};
+use std::process::Abort;
 use std::test::Fail;
+use std::thread::Threads;
+use std::time::Clock;
 
 #[test]
 fn a_script_has_at_most_1_048_576_bytes(rt: HostRuntime) -> Result<(), Fail> {
@@ -65,11 +68,24 @@ const FAILED: Ending<'static> = (5, "input or output failed");
 
 #[test]
 fn input_that_fails_comes_before_bad_lines(rt: HostRuntime) -> Result<(), Fail> {
-    let mut printed = Vec::new(rt.alloc());
     let mut reader = FailingReader { given: false };
-    let (status, text) = run_on(&rt, &["script"], &mut reader, &mut printed)?;
-    assert!(rt; (status, text.as_str()) == FAILED);
-    assert!(rt; printed.is_empty());
+    let ran = run_on(&rt, &["script"], &mut reader)?;
+    expect_ran(&rt, &ran, "", FAILED);
+    Ok(())
+}
+
+// A command whose output fails after these many bytes, or when it is flushed, ends like this.
+fn expect_failed(
+    rt: &(impl Abort + AllocGlobal + Threads + Clock + Sync),
+    command: &str,
+    room: usize,
+    flushes: bool,
+    ending: Ending<'_>,
+) -> Result<(), Fail> {
+    let mut reader: &[u8] = b"send 0 0";
+    let mut writer = FailingWriter { room, flushes };
+    let (status, said) = end_of(rt, &[command], &mut reader, &mut writer)?;
+    assert!(rt; (status, said.as_str()) == ending, "{command} {room}");
     Ok(())
 }
 
@@ -82,48 +98,72 @@ fn output_fails_at_its_end_too(rt: HostRuntime) -> Result<(), Fail> {
         (11, false, FAILED),
         (11, true, WELL),
     ] {
-        for command in ["script", "shell"] {
-            let mut reader: &[u8] = b"send 0 0";
-            let mut writer = FailingWriter { room, flushes };
-            let (status, text) = run_on(&rt, &[command], &mut reader, &mut writer)?;
-            assert!(rt; (status, text.as_str()) == ending, "{command} {room}");
-        }
+        expect_failed(&rt, "script", room, flushes, ending)?;
+        expect_failed(&rt, "shell", room, flushes, ending)?;
     }
     Ok(())
 }
 
-// `help` prints on standard output, with a line end, what an option `--help` says on standard error.
+// These words print on standard output, with a line end, what the others say on standard error.
+fn expect_help(
+    rt: &(impl Abort + AllocGlobal + Threads + Clock + Sync),
+    words: &[&str],
+    asked: &[&str],
+) -> Result<(), Fail> {
+    let mut reader: &[u8] = b"stop 0";
+    let help = run_on(rt, words, &mut reader)?;
+    let said = run_on(rt, asked, &mut reader)?.said;
+    assert!(rt; help.status == 0 && help.said.is_empty());
+    assert!(rt; help.printed.strip_suffix(b"\n") == Some(said.as_bytes()));
+    Ok(())
+}
+
 #[test]
 fn help_is_printed(rt: HostRuntime) -> Result<(), Fail> {
-    for (words, asked) in [
-        (["help"].as_slice(), ["--help"].as_slice()),
-        (["help", "live"].as_slice(), ["live", "--help"].as_slice()),
-    ] {
-        let mut reader: &[u8] = b"stop 0";
-        let mut printed = Vec::new(rt.alloc());
-        let (status, text) = run_on(&rt, words, &mut reader, &mut printed)?;
-        assert_eq!(rt; (status, text.as_str()), WELL);
-        let (_, said) = run_on(&rt, asked, &mut reader, &mut Vec::new(rt.alloc()))?;
-        let printed = String::from_utf8_lossy(rt.alloc(), &printed)?;
-        assert!(rt; printed.as_str().strip_suffix("\n") == Some(said.as_str()));
-    }
-    Ok(())
+    expect_help(&rt, &["help"], &["--help"])?;
+    expect_help(&rt, &["help", "live"], &["live", "--help"])
 }
 
-// The script in the help is taken as it is, from the line after its first to the one before its last.
+// The script in the help, from the line after its first to the one before its last.
+fn example_of(help: &str) -> Option<&str> {
+    let (_, example) = help.split_once("\n./pair script << END\n")?;
+    let (script, _) = example.split_once("\nEND\n")?;
+    Some(script)
+}
+
 #[test]
 fn the_example_of_the_help_runs_as_it_is(rt: HostRuntime) -> Result<(), Fail> {
     let mut reader: &[u8] = b"";
-    let mut printed = Vec::new(rt.alloc());
-    let (_, text) = run_on(&rt, &["--help"], &mut reader, &mut printed)?;
-    let (_, example) = text
-        .as_str()
-        .split_once("\n./pair script << END\n")
-        .ok_or("no example")?;
-    let (script, _) = example.split_once("\nEND\n").ok_or("no end")?;
+    let help = run_on(&rt, &["--help"], &mut reader)?;
+    let script = example_of(help.said.as_str()).ok_or("no example")?;
     let output =
         "ran 6 count 6 byte 0 1\nmessage 0\nnew\nmessage 1\nheld 1\nmessage 2\naccepted\nport 0: 48\n";
     expect(&rt, "script", script.as_bytes(), output, WELL)
+}
+
+// This line is written at once, and then so many bytes are written in all.
+fn expect_written(
+    rt: &impl Abort,
+    report: &mut Report,
+    printed: &mut Vec<u8>,
+    text: &str,
+    written: usize,
+) {
+    assert!(rt; report.line(printed, &text).is_ok());
+    assert!(rt; printed.len() == written);
+}
+
+// Before so many turns as many bytes are written in all; a line after that waits.
+fn expect_waiting(
+    rt: &impl Abort,
+    report: &mut Report,
+    printed: &mut Vec<u8>,
+    turns: u64,
+    written: usize,
+) {
+    assert!(rt; report.before_turns(printed, turns).is_ok());
+    assert!(rt; printed.len() == written);
+    assert!(rt; report.line(printed, &"x").is_ok());
 }
 
 // A line is written as soon as it is there. After 65,536 bytes lines wait, while guests make at most 10,000 turns.
@@ -132,17 +172,10 @@ fn lines_wait_only_after_many(rt: HostRuntime) -> Result<(), Fail> {
     let mut report = Report::new(rt.alloc());
     let mut printed: Vec<u8> = Vec::new(rt.alloc());
     let long = "x".repeat(rt.alloc(), 65_533)?;
-    for (text, written) in [("x", 2), (long.as_str(), 65_536)] {
-        let line = report.line(&mut printed, &text);
-        assert!(rt; line.is_ok());
-        assert!(rt; printed.len() == written);
-    }
+    expect_written(&rt, &mut report, &mut printed, "x", 2);
+    expect_written(&rt, &mut report, &mut printed, long.as_str(), 65_536);
     for (turns, written) in [(9_999, 0), (1, 0), (1, 4), (10_000, 4), (1_000_000, 8)] {
-        let before = report.before_turns(&mut printed, turns);
-        assert!(rt; before.is_ok());
-        assert!(rt; printed.len() == 65_536 + written);
-        let line = report.line(&mut printed, &"x");
-        assert!(rt; line.is_ok());
+        expect_waiting(&rt, &mut report, &mut printed, turns, 65_536 + written);
     }
     Ok(())
 }
@@ -152,9 +185,16 @@ fn lines_wait_only_after_many(rt: HostRuntime) -> Result<(), Fail> {
 fn a_difference_is_told_on_standard_output(rt: HostRuntime) -> Result<(), Fail> {
     let verdict = format!(in rt.alloc(); "{}", Verdict::Differs)?;
     assert!(rt; verdict.as_str() == "differs");
-    let (status, text) = Failure::Differs.ending(rt.alloc());
-    assert!(rt; (status, text.as_str()) == (7, ""));
-    let (status, text) = Failure::OutOfMemory.ending(rt.alloc());
-    assert!(rt; (status, text.as_str()) == (4, "out of memory"));
     Ok(())
+}
+
+fn expect_ending(rt: &(impl Abort + AllocGlobal), failure: Failure, ending: Ending<'_>) {
+    let (status, text) = failure.ending(rt.alloc());
+    assert!(rt; (status, text.as_str()) == ending);
+}
+
+#[test]
+fn a_difference_and_want_of_memory_have_their_statuses(rt: HostRuntime) {
+    expect_ending(&rt, Failure::Differs, (7, ""));
+    expect_ending(&rt, Failure::OutOfMemory, (4, "out of memory"));
 }

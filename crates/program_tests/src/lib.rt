@@ -1,15 +1,11 @@
-//! Tests of the program, over its public items: what no file of tests/transcripts can say, and each event once, to have memory
-//! refused in it. A crate of their own, so that the program is proved once.
+//! Tests of the program, over its public items: what no file of tests/transcripts can say. A crate of their own, so that the
+//! program is proved once.
 #![tactic(auto)]
 
 #[cfg(test)]
 mod endings;
 #[cfg(test)]
-mod events;
-#[cfg(test)]
 mod lints;
-#[cfg(test)]
-mod pictures;
 #[cfg(test)]
 mod runs;
 #[cfg(test)]

@@ -14,6 +14,14 @@ pub type Ending<'a> = (u8, &'a str);
 /// Nothing has failed.
 pub const WELL: Ending<'static> = (0, "");
 
+/// What a run has printed, its status, and its text for standard error.
+#[derive(Drop)]
+pub struct Ran {
+    pub printed: Vec<u8>,
+    pub status: u8,
+    pub said: String,
+}
+
 // The program's path, and these words after it.
 fn command_line(alloc: Global, words: &[&str]) -> Result<Vec<String>, AllocError> {
     let mut arguments = Vec::new(alloc);
@@ -25,7 +33,7 @@ fn command_line(alloc: Global, words: &[&str]) -> Result<Vec<String>, AllocError
 }
 
 /// The status and the text of the program on these words.
-pub fn run_on<R: Read + Drop, W: Write + Drop>(
+pub fn end_of<R: Read + Drop, W: Write + Drop>(
     rt: &(impl AllocGlobal + Threads + Clock + Sync),
     words: &[&str],
     reader: &mut R,
@@ -34,6 +42,27 @@ pub fn run_on<R: Read + Drop, W: Write + Drop>(
     let arguments = command_line(rt.alloc(), words)?;
     let (status, text) = run_program(rt, rt.alloc(), &arguments, reader, writer);
     Ok((status, String::from_str(rt.alloc(), text.as_str())?))
+}
+
+/// The program on these words.
+pub fn run_on<R: Read + Drop>(
+    rt: &(impl AllocGlobal + Threads + Clock + Sync),
+    words: &[&str],
+    reader: &mut R,
+) -> Result<Ran, Fail> {
+    let mut printed = Vec::new(rt.alloc());
+    let (status, said) = end_of(rt, words, reader, &mut printed)?;
+    Ok(Ran {
+        printed,
+        status,
+        said,
+    })
+}
+
+/// The run has printed this, and ended like this.
+pub fn expect_ran(rt: &impl Abort, ran: &Ran, output: &str, ending: Ending<'_>) {
+    assert_eq!(rt; (ran.status, ran.said.as_str()), ending);
+    assert!(rt; ran.printed.as_slice() == output.as_bytes());
 }
 
 /// A command on this script prints this, and ends like this.
@@ -45,10 +74,7 @@ pub fn expect(
     ending: Ending<'_>,
 ) -> Result<(), Fail> {
     let mut reader = script;
-    let mut printed = Vec::new(rt.alloc());
-    let (status, text) = run_on(rt, &[command], &mut reader, &mut printed)?;
-    let printed = String::from_utf8_lossy(rt.alloc(), &printed)?;
-    assert_eq!(rt; printed.as_str(), output, "{command}");
-    assert_eq!(rt; (status, text.as_str()), ending, "{command}");
+    let ran = run_on(rt, &[command], &mut reader)?;
+    expect_ran(rt, &ran, output, ending);
     Ok(())
 }

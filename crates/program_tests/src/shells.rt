@@ -1,5 +1,5 @@
 //! Sessions of the shell whose input fails, or has long lines, and a session that is a script.
-use crate::runs::{WELL, expect, run_on};
+use crate::runs::{WELL, expect, expect_ran, run_on};
 use shell_language::forms;
 use std::io::{self, ErrorKind, Read};
 use std::test::Fail;
@@ -28,11 +28,9 @@ fn nothing_is_read_after_the_end(rt: HostRuntime) -> Result<(), Fail> {
     let mut reader = Typist {
         texts: &[b"stop 0\nqu", b"it\r\nnode 0\n", b"node 0\n"],
     };
-    let mut printed = Vec::new(rt.alloc());
-    let (status, _) = run_on(&rt, &["shell"], &mut reader, &mut printed)?;
-    assert_eq!(rt; status, 0);
-    assert_eq!(rt; printed.as_slice(), b"stopped\n".as_slice());
-    assert_eq!(rt; reader.texts.len(), 1);
+    let ran = run_on(&rt, &["shell"], &mut reader)?;
+    expect_ran(&rt, &ran, "stopped\n", WELL);
+    assert!(rt; reader.texts.len() == 1);
     Ok(())
 }
 
@@ -42,10 +40,9 @@ fn lines_are_answered_before_more_is_read(rt: HostRuntime) -> Result<(), Fail> {
     let mut reader = Typist {
         texts: &[b"sto", b"p 0\nnode 0", b"\r\nnode", b" 1"],
     };
-    let mut printed = Vec::new(rt.alloc());
-    let (status, _) = run_on(&rt, &["shell"], &mut reader, &mut printed)?;
-    assert_eq!(rt; status, 5);
-    assert_eq!(rt; printed.as_slice(), b"stopped\nhalted\n".as_slice());
+    let ran = run_on(&rt, &["shell"], &mut reader)?;
+    let failed = (5, "input or output failed");
+    expect_ran(&rt, &ran, "stopped\nhalted\n", failed);
     Ok(())
 }
 
@@ -76,9 +73,8 @@ nonsense
 #[test]
 fn a_traced_session_is_a_script(rt: HostRuntime) -> Result<(), Fail> {
     let mut session = TRACED;
-    let mut script = Vec::new(rt.alloc());
-    run_on(&rt, &["shell"], &mut session, &mut script)?;
-    expect(&rt, "check", &script, "same 40\n", WELL)
+    let ran = run_on(&rt, &["shell"], &mut session)?;
+    expect(&rt, "check", &ran.printed, "same 40\n", WELL)
 }
 
 // A line is taken with 65,536 bytes, and told with one more.
@@ -94,9 +90,8 @@ fn long_lines_are_told(rt: HostRuntime) -> Result<(), Fail> {
 #[test]
 fn help_has_a_line_for_each_form(rt: HostRuntime) -> Result<(), Fail> {
     let mut reader: &[u8] = b"help";
-    let mut printed = Vec::new(rt.alloc());
-    run_on(&rt, &["shell"], &mut reader, &mut printed)?;
-    let printed = String::from_utf8_lossy(rt.alloc(), &printed)?;
-    assert_eq!(rt; printed.as_str().lines().count(), forms().len());
+    let ran = run_on(&rt, &["shell"], &mut reader)?;
+    let lines = ran.printed.iter().filter(|byte| **byte == b'\n').count();
+    assert!(rt; lines == forms().len());
     Ok(())
 }

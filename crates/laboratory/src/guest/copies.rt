@@ -1,13 +1,14 @@
 //! What copies of a board take: drafts, images, and boards that are made of the parts of an image.
 ghost use Rattle.event_callbacks.specs.declared.devices.TheConstants.{SENT, SECTOR, WRITTEN};
 ghost use Rattle.event_callbacks.specs.Keeping.{Keeps};
+ghost use Rattle.board_image.specs.Drafts.{Agrees};
 
 use crate::boards::boot;
 use board_image::{Draft, board_of, drafts_keep_up, image_of, image_of_draft};
-use clone_state::Assembly;
+use clone_state::{Assembly, Image};
 use event_callbacks::{Callbacks, Completes, plain_completions};
 use guest_board::{Board, Setup};
-use i8080_words::{Fault, R};
+use i8080_words::{Fault, Processor, R};
 use std::alloc::Global;
 
 // How many pages a draft has.
@@ -75,17 +76,43 @@ fn make_with<T: Completes + Drop + Copy, S: Completes + Drop + Copy, W: Complete
     requires written { Keeps (W.may written) (W.gives written) WRITTEN }
 {
     let board = boot(alloc, setup, Callbacks::of(sent, sector, written))?;
+    make_all(alloc, &board, made, times, sent, sector, written)
+}
+
+// Makes it of a board whose copies have these closures as completions.
+fn make_all<T: Completes + Drop + Copy, S: Completes + Drop + Copy, W: Completes + Drop + Copy>(
+    alloc: Global,
+    board: &Board<T, S, W>,
+    made: Made,
+    times: u64,
+    sent: T,
+    sector: S,
+    written: W,
+) -> R<u64>
+    requires sent { Keeps (T.may sent) (T.gives sent) SENT }
+    requires sector { Keeps (S.may sector) (S.gives sector) SECTOR }
+    requires written { Keeps (W.may written) (W.gives written) WRITTEN }
+{
     let mut all = 0u64;
     for _ in 0..times {
         let many = match made {
-            Made::Draft(stale) => draft(alloc, &board, stale, false)?,
-            Made::Drafted(stale) => draft(alloc, &board, stale, true)?,
-            Made::Image => u64::from(image_of(alloc, &board, GENERATION)?.parts()),
-            Made::Copy => copy(alloc, &board, Callbacks::of(sent, sector, written))?,
+            Made::Draft(stale) => draft(alloc, board, stale, false),
+            Made::Drafted(stale) => draft(alloc, board, stale, true),
+            Made::Image => image(alloc, board),
+            Made::Copy => copy(alloc, board, Callbacks::of(sent, sector, written)),
         };
-        all = all.wrapping_add(many);
+        all = all.wrapping_add(many?);
     }
     Ok(all)
+}
+
+// Makes an image, and returns how many parts it has.
+fn image<T: Completes, S: Completes, W: Completes>(
+    alloc: Global,
+    board: &Board<T, S, W>,
+) -> R<u64> {
+    let image = image_of(alloc, board, GENERATION)?;
+    Ok(u64::from(image.parts()))
 }
 
 // Makes a draft, and its image if it is to have one. Returns how many parts that has, or how many pages of the draft are stale.
@@ -98,12 +125,24 @@ fn draft<T: Completes, S: Completes, W: Completes>(
     drafts_keep_up();
     let mut draft = Draft::new(alloc)?;
     let stale = draft.freshen(board, PAGES.saturating_sub(stale));
-    if !is_finished {
-        return Ok(stale);
+    if is_finished {
+        finish(alloc, draft, board)
+    } else {
+        Ok(stale)
     }
+}
+
+// Makes the image of a draft, and returns how many parts it has.
+fn finish<T: Completes, S: Completes, W: Completes>(
+    alloc: Global,
+    draft: Draft,
+    board: &Board<T, S, W>,
+) -> R<u64>
+    requires { Agrees draft board.now }
+{
     match image_of_draft(alloc, draft, board, GENERATION) {
         Ok(image) => Ok(u64::from(image.parts())),
-        Err((_draft, fault)) => Err(fault),
+        Err((_, fault)) => Err(fault),
     }
 }
 
@@ -113,16 +152,43 @@ fn copy<T: Completes + Drop, S: Completes + Drop, W: Completes + Drop>(
     board: &Board<T, S, W>,
     callbacks: Callbacks<T, S, W>,
 ) -> R<u64> {
-    let image = image_of(alloc, board, GENERATION)?;
+    let (assembly, parts) = gather(alloc, board)?;
+    let copied = processor_of(alloc, assembly, callbacks)?;
+    if copied == *board.processor() {
+        Ok(parts)
+    } else {
+        Err(Fault::Malformed)
+    }
+}
+
+// All parts of the image of a board, each as its message, and how many they are.
+fn gather<T: Completes, S: Completes, W: Completes>(
+    alloc: Global,
+    board: &Board<T, S, W>,
+) -> R<(Assembly, u64)> {
     board.disk().stands();
     let mut assembly = Assembly::new(alloc, GENERATION, board.disk().attached())?;
+    let image = image_of(alloc, board, GENERATION)?;
     for index in 0..image.parts() {
-        let part = image.part(alloc, index)?;
-        assembly.part(&part)?;
+        send(alloc, &image, index, &mut assembly)?;
     }
+    Ok((assembly, u64::from(image.parts())))
+}
+
+// A part of an image comes as its message.
+fn send(alloc: Global, image: &Image, index: u16, assembly: &mut Assembly) -> R<bool> {
+    let part = image.part(alloc, index)?;
+    assembly.part(&part)
+}
+
+// The processor of the board that these parts make.
+fn processor_of<T: Completes + Drop, S: Completes + Drop, W: Completes + Drop>(
+    alloc: Global,
+    assembly: Assembly,
+    callbacks: Callbacks<T, S, W>,
+) -> R<Processor> {
     match board_of(alloc, assembly, callbacks) {
-        Ok(copy) if copy.processor() == board.processor() => Ok(u64::from(image.parts())),
-        Ok(_) => Err(Fault::Malformed),
-        Err((_assembly, _callbacks, fault)) => Err(fault),
+        Ok(copy) => Ok(*copy.processor()),
+        Err((_, _, fault)) => Err(fault),
     }
 }

@@ -4,36 +4,35 @@ use super::case::Case;
 use super::difference::Difference;
 use super::machine::{Machine, Reached, has_keys};
 use super::pair::PairEnd;
+use log_entry::Entry;
 use pair_threads::Who;
 use std::alloc::Global;
 
+// The list of the one that goes on alone, or of the primary if nobody does.
+fn list_of(end: &PairEnd) -> &[Entry] {
+    match end.winner {
+        None | Some(Who::Primary) => &end.primary,
+        Some(_) => &end.backup,
+    }
+}
+
 /// Compares the end of a pair with one machine. If nobody goes on alone, both have all.
-pub fn compare(alloc: Global, case: &Case, end: PairEnd) -> Result<(), Difference> {
-    is_as_asked(case, &end)?;
-    let PairEnd {
-        steps,
-        primary,
-        backup,
-        winner,
-        accepted,
-        mut disk,
-        ..
-    } = end;
-    let (list, reached) = match winner {
-        None => (primary, Reached::All),
-        Some(Who::Primary) => (primary, Reached::Last),
-        Some(_) => (backup, Reached::Last),
+pub fn compare(alloc: Global, case: &Case, end: &mut PairEnd) -> Result<(), Difference> {
+    is_as_asked(case, end)?;
+    let reached = match end.winner {
+        None => Reached::All,
+        Some(_) => Reached::Last,
     };
+    let list = list_of(end);
     let count = match reached {
-        Reached::All => steps,
+        Reached::All => end.steps,
         Reached::Last => list.last().map_or(0, |entry| entry.count()),
     };
     let [first, second] = &case.typed;
-    has_keys(alloc, &list, 0, first, reached)?;
-    has_keys(alloc, &list, 1, second, reached)?;
-    let machine = Machine::follow(alloc, case, &list, count)?;
-    machine.has_printed(&accepted, reached)?;
-    machine.has_disk(&mut disk, reached)
+    has_keys(alloc, list, 0, first, reached)?;
+    has_keys(alloc, list, 1, second, reached)?;
+    let machine = Machine::follow(alloc, case, list, count)?;
+    machine.has(&end.accepted, &mut end.disk, reached)
 }
 
 // Whether only one who asked to goes on alone, and the lists and acknowledgements are those of both, or of one who may not have all.

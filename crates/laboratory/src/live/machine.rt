@@ -102,8 +102,19 @@ impl Machine {
         }
     }
 
-    /// Whether the terminals have accepted what the machine has sent, or all but the end of it.
-    pub fn has_printed(&self, accepted: &[Vec<u8>; 2], reached: Reached) -> Result<(), Difference> {
+    /// Whether the terminals and the disk have what the machine has, as far as a pair has come.
+    pub fn has(
+        &self,
+        accepted: &[Vec<u8>; 2],
+        disk: &mut SharedDisk<MemoryStore>,
+        reached: Reached,
+    ) -> Result<(), Difference> {
+        self.has_printed(accepted, reached)?;
+        self.has_disk(disk, reached)
+    }
+
+    // Whether the terminals have accepted what the machine has sent, or all but the end of it.
+    fn has_printed(&self, accepted: &[Vec<u8>; 2], reached: Reached) -> Result<(), Difference> {
         let [first, second] = accepted;
         let window = match reached {
             Reached::All => 0,
@@ -113,8 +124,8 @@ impl Machine {
         has_output(&self.single, 1, second, window)
     }
 
-    /// Whether each sector has what the machine's disk has, or what an outstanding write brings.
-    pub fn has_disk(
+    // Whether each sector has what the machine's disk has, or what an outstanding write brings.
+    fn has_disk(
         &self,
         disk: &mut SharedDisk<MemoryStore>,
         reached: Reached,

@@ -12,7 +12,7 @@ use event_callbacks::{Callbacks, Completes, plain_completions};
 use guest_lockstep::Lockstep;
 use i8080_words::R;
 use log_entry::Entry;
-use pair_threads::{Gate, GenerationEnd, Who, Workers, run_generation};
+use pair_threads::{Fate, Gate, GenerationEnd, Who, Workers, run_generation};
 use shared_disk::{MemoryStore, SharedDisk};
 use std::alloc::Global;
 use std::thread::Threads;
@@ -66,19 +66,62 @@ fn run_with<
     requires written { Keeps (W.may written) (W.gives written) WRITTEN }
 {
     altairs_are_lawful();
+    let primary = boot(alloc, &case.setup, Callbacks::of(sent, sector, written))?;
+    let backup = boot(alloc, &case.setup, Callbacks::of(sent, sector, written))?;
+    let workers = workers_of(alloc, case, primary, backup)?;
+    match run_generation(rt, alloc, workers, gate, case.turns) {
+        Ok(end) => Ok(without_boards(end)),
+        Err(fault) => Err(fault),
+    }
+}
+
+// What a pair begins with besides its guests.
+#[derive(Drop)]
+struct Given {
+    disk: SharedDisk<MemoryStore>,
+    typed0: Vec<u8>,
+    typed1: Vec<u8>,
+    fates: Vec<Fate>,
+}
+
+fn given_of(alloc: Global, case: &Case) -> R<Given>
+    ensures { IfOk result (λ given. IsUnwritten given.disk) }
+{
     let [first, second] = &case.typed;
-    let workers = Workers {
-        primary: boot(alloc, &case.setup, Callbacks::of(sent, sector, written))?,
-        backup: boot(alloc, &case.setup, Callbacks::of(sent, sector, written))?,
-        disk: disk_of(alloc, case.setup.drives, &case.sectors)?,
-        typed0: Vec::from_slice(alloc, first)?,
-        typed1: Vec::from_slice(alloc, second)?,
-        fates: Vec::from_slice(alloc, &case.fates)?,
+    let typed0 = Vec::from_slice(alloc, first)?;
+    let typed1 = Vec::from_slice(alloc, second)?;
+    let fates = Vec::from_slice(alloc, &case.fates)?;
+    let disk = disk_of(alloc, case.setup.drives, &case.sectors)?;
+    Ok(Given {
+        disk,
+        typed0,
+        typed1,
+        fates,
+    })
+}
+
+// The workers of these guests.
+fn workers_of<B: Lockstep + Drop>(
+    alloc: Global,
+    case: &Case,
+    primary: B,
+    backup: B,
+) -> R<Workers<B, MemoryStore>>
+    ensures guests { IfOk result (λ workers. (workers.primary ≡ primary) × (workers.backup ≡ backup)) }
+    ensures unwritten { IfOk result (λ workers. IsUnwritten workers.disk) }
+{
+    let given = given_of(alloc, case)?;
+    Ok(Workers {
+        primary,
+        backup,
+        disk: given.disk,
+        typed0: given.typed0,
+        typed1: given.typed1,
+        fates: given.fates,
         primary_contests: case.primary_contests,
         backup_contests: case.backup_contests,
         steps: case.steps,
-    };
-    Ok(without_boards(run_generation(rt, alloc, workers, gate, case.turns)?))
+    })
 }
 
 // Lets the boards go.

@@ -8,12 +8,39 @@ use std::alloc::{AllocError, Global};
 use std::sync::Wait;
 use std::thread::{self, Threads};
 
-type To<T> = Sender<T, Global>;
-
-type From<T> = Receiver<T, Global>;
-
 // What each channel may hold.
 const PLACES: usize = 1;
+
+// Both ends of a channel.
+#[derive(Drop)]
+struct Channel<T: Drop> {
+    to: Sender<T, Global>,
+    from: Receiver<T, Global>,
+}
+
+fn make_channel<T: Drop>(alloc: Global) -> Result<Channel<T>, AllocError> {
+    let (to, from) = bounded(alloc, PLACES)?;
+    Ok(Channel { to, from })
+}
+
+// The channels from the primary to the link, from there to the backup, and of acknowledgements.
+#[derive(Drop)]
+struct Channels {
+    outbox: Channel<Packet>,
+    inbox: Channel<Packet>,
+    acks: Channel<u64>,
+}
+
+fn make_channels(alloc: Global) -> Result<Channels, AllocError> {
+    let outbox = make_channel(alloc)?;
+    let inbox = make_channel(alloc)?;
+    let acks = make_channel(alloc)?;
+    Ok(Channels {
+        outbox,
+        inbox,
+        acks,
+    })
+}
 
 /// The packet of an entry.
 pub fn packet(index: u64) -> Packet {
@@ -25,43 +52,34 @@ pub fn packet(index: u64) -> Packet {
 }
 
 // One packet through two channels, and its acknowledgement through a third, on one thread.
-fn round<R: Wait>(
-    rt: &R,
-    outbox: (&To<Packet>, &From<Packet>),
-    inbox: (&To<Packet>, &From<Packet>),
-    acks: (&To<u64>, &From<u64>),
-    index: u64,
-) -> u64 {
-    let _ = outbox.0.send(rt, packet(index));
-    if let Ok(packet) = outbox.1.recv(rt) {
-        let _ = inbox.0.send(rt, packet);
+fn round<R: Wait>(rt: &R, channels: &Channels, index: u64) -> u64 {
+    let _ = channels.outbox.to.send(rt, packet(index));
+    if let Ok(packet) = channels.outbox.from.recv(rt) {
+        let _ = channels.inbox.to.send(rt, packet);
     }
-    if let Ok(packet) = inbox.1.recv(rt) {
-        let _ = acks.0.send(rt, packet.index);
+    if let Ok(packet) = channels.inbox.from.recv(rt) {
+        let _ = channels.acks.to.send(rt, packet.index);
     }
-    acks.1.recv(rt).unwrap_or(0)
+    channels.acks.from.recv(rt).unwrap_or(0)
 }
 
 /// Rounds on one thread. Returns the index of the last acknowledgement.
 pub fn run<R: Wait>(rt: &R, alloc: Global, rounds: u64) -> Result<u64, AllocError> {
-    let (to_link, from_primary) = bounded(alloc, PLACES)?;
-    let (to_backup, from_link) = bounded(alloc, PLACES)?;
-    let (to_primary, from_backup) = bounded(alloc, PLACES)?;
+    let channels = make_channels(alloc)?;
     let mut seen = 0;
     for index in 0..rounds {
-        seen = round(
-            rt,
-            (&to_link, &from_primary),
-            (&to_backup, &from_link),
-            (&to_primary, &from_backup),
-            index,
-        );
+        seen = round(rt, &channels, index);
     }
     Ok(seen)
 }
 
 // Sends packets, each after the one before was acknowledged.
-fn lead<R: Wait>(rt: &R, to: To<Packet>, acks: From<u64>, entries: u64) -> u64 {
+fn lead<R: Wait>(
+    rt: &R,
+    to: Sender<Packet, Global>,
+    acks: Receiver<u64, Global>,
+    entries: u64,
+) -> u64 {
     let mut seen = 0;
     for index in 0..entries {
         if to.send(rt, packet(index)).is_err() {
@@ -76,7 +94,7 @@ fn lead<R: Wait>(rt: &R, to: To<Packet>, acks: From<u64>, entries: u64) -> u64 {
 }
 
 // Carries packets until the primary is gone.
-fn carry<R: Wait>(rt: &R, from: From<Packet>, to: To<Packet>) {
+fn carry<R: Wait>(rt: &R, from: Receiver<Packet, Global>, to: Sender<Packet, Global>) {
     for _ in rt.forever() {
         let Ok(packet) = from.recv(rt) else {
             break;
@@ -88,7 +106,7 @@ fn carry<R: Wait>(rt: &R, from: From<Packet>, to: To<Packet>) {
 }
 
 // Acknowledges packets until the link is gone.
-fn follow<R: Wait>(rt: &R, from: From<Packet>, acks: To<u64>) {
+fn follow<R: Wait>(rt: &R, from: Receiver<Packet, Global>, acks: Sender<u64, Global>) {
     for _ in rt.forever() {
         let Ok(packet) = from.recv(rt) else {
             break;
@@ -105,9 +123,14 @@ pub fn run_threads<R: Threads + Wait + Sync>(
     alloc: Global,
     entries: u64,
 ) -> Result<u64, AllocError> {
-    let (to_link, from_primary) = bounded(alloc, PLACES)?;
-    let (to_backup, from_link) = bounded(alloc, PLACES)?;
-    let (to_primary, from_backup) = bounded(alloc, PLACES)?;
+    let Channels {
+        outbox,
+        inbox,
+        acks,
+    } = make_channels(alloc)?;
+    let (to_link, from_primary) = (outbox.to, outbox.from);
+    let (to_backup, from_link) = (inbox.to, inbox.from);
+    let (to_primary, from_backup) = (acks.to, acks.from);
     let (seen, _) = thread::join(
         rt,
         move || -> u64 { lead(rt, to_link, from_backup, entries) },

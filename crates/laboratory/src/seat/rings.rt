@@ -25,31 +25,43 @@ fn make_ring<T: Drop>(alloc: Global) -> Result<Ring<T>, AllocError> {
     Ok(Ring { to, from })
 }
 
+// The rings from the primary to the link, from there to the backup, and of acknowledgements.
+#[derive(Drop)]
+struct Rings {
+    outbox: Ring<Packet>,
+    inbox: Ring<Packet>,
+    acks: Ring<u64>,
+}
+
+fn make_rings(alloc: Global) -> Result<Rings, AllocError> {
+    let outbox = make_ring(alloc)?;
+    let inbox = make_ring(alloc)?;
+    let acks = make_ring(alloc)?;
+    Ok(Rings {
+        outbox,
+        inbox,
+        acks,
+    })
+}
+
 // One packet through two rings, and its acknowledgement through a third, on one thread.
-fn round(
-    outbox: &mut Ring<Packet>,
-    inbox: &mut Ring<Packet>,
-    acks: &mut Ring<u64>,
-    index: u64,
-) -> u64 {
-    let _ = outbox.to.push(packet(index));
-    if let Ok(packet) = outbox.from.pop() {
-        let _ = inbox.to.push(packet);
+fn round(rings: &mut Rings, index: u64) -> u64 {
+    let _ = rings.outbox.to.push(packet(index));
+    if let Ok(packet) = rings.outbox.from.pop() {
+        let _ = rings.inbox.to.push(packet);
     }
-    if let Ok(packet) = inbox.from.pop() {
-        let _ = acks.to.push(packet.index);
+    if let Ok(packet) = rings.inbox.from.pop() {
+        let _ = rings.acks.to.push(packet.index);
     }
-    acks.from.pop().unwrap_or(0)
+    rings.acks.from.pop().unwrap_or(0)
 }
 
 /// Rounds on one thread. Returns the index of the last acknowledgement.
 pub fn run(alloc: Global, rounds: u64) -> Result<u64, AllocError> {
-    let mut outbox = make_ring(alloc)?;
-    let mut inbox = make_ring(alloc)?;
-    let mut acks = make_ring(alloc)?;
+    let mut rings = make_rings(alloc)?;
     let mut seen = 0;
     for index in 0..rounds {
-        seen = round(&mut outbox, &mut inbox, &mut acks, index);
+        seen = round(&mut rings, index);
     }
     Ok(seen)
 }
@@ -105,9 +117,11 @@ pub fn run_threads<R: Threads + Sync>(
     alloc: Global,
     entries: u64,
 ) -> Result<u64, AllocError> {
-    let outbox = make_ring(alloc)?;
-    let inbox = make_ring(alloc)?;
-    let acks = make_ring(alloc)?;
+    let Rings {
+        outbox,
+        inbox,
+        acks,
+    } = make_rings(alloc)?;
     let (to_link, from_primary) = (outbox.to, outbox.from);
     let (to_backup, from_link) = (inbox.to, inbox.from);
     let (to_primary, from_backup) = (acks.to, acks.from);

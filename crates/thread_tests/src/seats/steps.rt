@@ -32,6 +32,17 @@ pub(super) fn write() -> SectorWrite {
     }
 }
 
+// What is read there before it was ever written.
+pub(super) fn read() -> SectorRead {
+    SectorRead {
+        number: 0,
+        drive: 0,
+        track: 2,
+        sector: 5,
+        bytes: [0xe5; 137],
+    }
+}
+
 // ---- the primary
 
 pub(super) fn append(fabric: &Fabric, seat: &mut PrimarySeat) -> Option<u64>

@@ -1,9 +1,7 @@
 //! Seats on threads of their own.
 ghost use Rattle.std.specs.Prelude.{◌≡◌};
 
-use super::steps::{
-    answer, append, ask, carry, emit, mark, post, post_once, serve, show, take, write,
-};
+use super::steps::{answer, append, ask, carry, emit, mark, post, serve, show, take, write};
 use pair_rule::{
     BackupSeat, DiskAnswer, DiskRequest, DiskSeat, Fabric, FiveSeats, LinkSeat, Packet, PortByte,
     PrimarySeat, TerminalSeat,
@@ -11,31 +9,12 @@ use pair_rule::{
 use std::test::Fail;
 use std::thread;
 
-// Appends one entry and posts it.
-fn give(fabric: &Fabric, mut seat: PrimarySeat) -> PrimarySeat
-    requires ready { (seat.table ≡ fabric.now) × (seat.core.known.primary.winner ≡ 0) }
-    ensures ready { result.table ≡ fabric.now }
-{
-    if let Some(index) = append(fabric, &mut seat) {
-        post_once(fabric, &mut seat, index);
-    }
-    seat
-}
-
 fn carry_one(fabric: &Fabric, mut seat: LinkSeat) -> LinkSeat
     requires ready { seat.table ≡ fabric.now }
     ensures ready { result.table ≡ fabric.now }
 {
     carry(fabric, &mut seat);
     seat
-}
-
-fn take_one(fabric: &Fabric, mut seat: BackupSeat) -> (BackupSeat, Option<Packet>)
-    requires ready { (seat.table ≡ fabric.now) × (seat.core.known.backup.winner ≡ 0) }
-    ensures ready { result.0.table ≡ fabric.now }
-{
-    let packet = take(fabric, &mut seat);
-    (seat, packet)
 }
 
 // What a primary has seen at the end: entries acknowledged, bytes counted, and the disk's answer.
@@ -66,13 +45,13 @@ fn lead(fabric: &Fabric, mut seat: PrimarySeat) -> (PrimarySeat, Seen)
     (seat, seen)
 }
 
-fn follow(fabric: &Fabric, mut seat: BackupSeat) -> BackupSeat
+fn follow(fabric: &Fabric, mut seat: BackupSeat) -> (BackupSeat, Option<Packet>)
     requires ready { (seat.table ≡ fabric.now) × (seat.core.known.backup.winner ≡ 0) }
-    ensures ready { result.table ≡ fabric.now }
+    ensures ready { result.0.table ≡ fabric.now }
 {
-    take(fabric, &mut seat);
+    let packet = take(fabric, &mut seat);
     seat.hold(fabric);
-    seat
+    (seat, packet)
 }
 
 fn show_one(fabric: &Fabric, mut seat: TerminalSeat) -> (TerminalSeat, Option<PortByte>)
@@ -91,9 +70,10 @@ fn serve_one(fabric: &Fabric, mut seat: DiskSeat) -> DiskSeat
     seat
 }
 
-// Three threads hold the seats of primary, link and backup: a packet crosses.
+// Five threads hold the seats: an entry goes to the backup in its packet, and its acknowledgement back, a byte to the terminal and its
+// number back, a write to the disk and its answer back.
 #[test]
-fn a_packet_crosses(rt: HostRuntime) -> Result<(), Fail> {
+fn all_goes_there_and_back(rt: HostRuntime) -> Result<(), Fail> {
     let (fabric, seats) = Fabric::open(rt.alloc(), 7)?;
     let FiveSeats {
         primary,
@@ -104,61 +84,7 @@ fn a_packet_crosses(rt: HostRuntime) -> Result<(), Fail> {
     } = seats;
     let shared = &fabric;
     let host = &rt;
-    let (primary, (link, (backup, got))) = thread::join(
-        host,
-        move || -> PrimarySeat
-            requires { (primary.table ≡ shared.now) × (primary.core.known.primary.winner ≡ 0) }
-            ensures { result.table ≡ shared.entry.now }
-        { give(shared, primary) },
-        move || -> (LinkSeat, (BackupSeat, Option<Packet>))
-            requires { (link.table ≡ shared.now) × (backup.table ≡ shared.now) × (backup.core.known.backup.winner ≡ 0) }
-            ensures { (result.0.table ≡ shared.entry.now) × (result.1.0.table ≡ shared.entry.now) }
-        {
-            thread::join(
-                host,
-                move || -> LinkSeat
-                    requires { link.table ≡ shared.now }
-                    ensures { result.table ≡ shared.entry.now }
-                { carry_one(shared, link) },
-                move || -> (BackupSeat, Option<Packet>)
-                    requires { (backup.table ≡ shared.now) × (backup.core.known.backup.winner ≡ 0) }
-                    ensures { result.0.table ≡ shared.entry.now }
-                { take_one(shared, backup) },
-            )
-        },
-    );
-    let closed = fabric.close(FiveSeats {
-        primary,
-        link,
-        backup,
-        terminal,
-        disk,
-    });
-    let packet = Packet {
-        generation: 7,
-        index: 0,
-        entry: mark(),
-    };
-    assert!(rt; got == Some(packet));
-    assert!(rt; closed.tail == 1 && closed.held == 0 && closed.winner == 0);
-    Ok(())
-}
-
-// Five threads hold the seats: an entry goes to the backup and its acknowledgement back, a byte to the terminal and its
-// number back, a write to the disk and its answer back.
-#[test]
-fn all_goes_there_and_back(rt: HostRuntime) -> Result<(), Fail> {
-    let (fabric, seats) = Fabric::open(rt.alloc(), 1)?;
-    let FiveSeats {
-        primary,
-        link,
-        backup,
-        terminal,
-        disk,
-    } = seats;
-    let shared = &fabric;
-    let host = &rt;
-    let ((primary, seen), (link, (backup, ((terminal, byte), disk)))) = thread::join(
+    let ((primary, seen), (link, ((backup, packet), ((terminal, byte), disk)))) = thread::join(
         host,
         move || -> (PrimarySeat, Seen)
             requires { (primary.table ≡ shared.now) × (primary.core.known.primary.winner ≡ 0) }
@@ -166,11 +92,14 @@ fn all_goes_there_and_back(rt: HostRuntime) -> Result<(), Fail> {
         { lead(shared, primary) },
         move || -> (
             LinkSeat,
-            (BackupSeat, ((TerminalSeat, Option<PortByte>), DiskSeat)),
+            (
+                (BackupSeat, Option<Packet>),
+                ((TerminalSeat, Option<PortByte>), DiskSeat),
+            ),
         )
             requires { (link.table ≡ shared.now) × (backup.table ≡ shared.now) × (backup.core.known.backup.winner ≡ 0)
                 × (terminal.table ≡ shared.now) × (disk.table ≡ shared.now) }
-            ensures { (result.0.table ≡ shared.entry.now) × (result.1.0.table ≡ shared.entry.now)
+            ensures { (result.0.table ≡ shared.entry.now) × (result.1.0.0.table ≡ shared.entry.now)
                 × (result.1.1.0.0.table ≡ shared.entry.now) × (result.1.1.1.table ≡ shared.entry.now) }
         {
             thread::join(
@@ -179,17 +108,20 @@ fn all_goes_there_and_back(rt: HostRuntime) -> Result<(), Fail> {
                     requires { link.table ≡ shared.now }
                     ensures { result.table ≡ shared.entry.now }
                 { carry_one(shared, link) },
-                move || -> (BackupSeat, ((TerminalSeat, Option<PortByte>), DiskSeat))
+                move || -> (
+                    (BackupSeat, Option<Packet>),
+                    ((TerminalSeat, Option<PortByte>), DiskSeat),
+                )
                     requires { (backup.table ≡ shared.now) × (backup.core.known.backup.winner ≡ 0)
                         × (terminal.table ≡ shared.now) × (disk.table ≡ shared.now) }
-                    ensures { (result.0.table ≡ shared.entry.now) × (result.1.0.0.table ≡ shared.entry.now)
+                    ensures { (result.0.0.table ≡ shared.entry.now) × (result.1.0.0.table ≡ shared.entry.now)
                         × (result.1.1.table ≡ shared.entry.now) }
                 {
                     thread::join(
                         host,
-                        move || -> BackupSeat
+                        move || -> (BackupSeat, Option<Packet>)
                             requires { (backup.table ≡ shared.now) × (backup.core.known.backup.winner ≡ 0) }
-                            ensures { result.table ≡ shared.entry.now }
+                            ensures { result.0.table ≡ shared.entry.now }
                         { follow(shared, backup) },
                         move || -> ((TerminalSeat, Option<PortByte>), DiskSeat)
                             requires { (terminal.table ≡ shared.now) × (disk.table ≡ shared.now) }
@@ -230,6 +162,12 @@ fn all_goes_there_and_back(rt: HostRuntime) -> Result<(), Fail> {
         byte: 0x48,
     };
     assert!(rt; byte == Some(sent));
+    let entry = Packet {
+        generation: 7,
+        index: 0,
+        entry: mark(),
+    };
+    assert!(rt; packet == Some(entry));
     assert!(rt; closed.tail == 1 && closed.held == 1 && closed.winner == 0);
     Ok(())
 }
