@@ -180,6 +180,44 @@ fn lines_wait_only_after_many(rt: HostRuntime) -> Result<(), Fail> {
     Ok(())
 }
 
+// Takes all bytes, and counts how often it is told to write them.
+#[derive(Drop)]
+struct Flushed {
+    count: u64,
+}
+
+impl Write for Flushed {
+    fn write(&mut self, buf: &[u8]) -> io::Result<usize> {
+        Ok(buf.len())
+    }
+
+    fn flush(&mut self) -> io::Result<()> {
+        self.count = self.count.saturating_add(1);
+        Ok(())
+    }
+}
+
+// After 5,958 refusals of eleven bytes lines wait: those of this line, twice, are written once more if no guest runs for long.
+#[test]
+fn lines_are_written_before_a_guest_runs_for_long(rt: HostRuntime) -> Result<(), Fail> {
+    for (line, count) in [
+        ("node 0\n", 5_959),
+        ("step 1 10001\n", 5_961),
+        ("replay 0 10001\n", 5_961),
+        ("drain 0 10001\n", 5_961),
+    ] {
+        let mut script = "send 9 9\n".repeat(rt.alloc(), 5_958)?;
+        for _ in 0..2 {
+            script.push_str(line)?;
+        }
+        let mut reader = script.as_bytes();
+        let mut writer = Flushed { count: 0 };
+        let (status, _) = run_on(&rt, &["script"], &mut reader, &mut writer)?;
+        assert_eq!(rt; (status, writer.count), (0, count), "{line}");
+    }
+    Ok(())
+}
+
 // No script makes a pair differ, so these are looked at separately.
 #[test]
 fn a_difference_is_told_on_standard_output(rt: HostRuntime) -> Result<(), Fail> {

@@ -17,3 +17,12 @@ fn a_script_that_is_too_large_is_named_so(rt: HostRuntime) -> Result<(), Fail> {
     script.push(b'#')?;
     expect(&rt, "lint", &script, TOO_LARGE, (3, "bad script at line 1"))
 }
+
+// A bad script of just 1,048,576 bytes has no such line.
+#[test]
+fn a_script_of_the_greatest_size_is_not_too_large(rt: HostRuntime) -> Result<(), Fail> {
+    let mut script = Vec::from_slice(rt.alloc(), b"stopp 0")?;
+    script.resize(1_048_576, b'\n')?;
+    let told = "line 1: stopp begins no line of a script\n";
+    expect(&rt, "lint", &script, told, (3, "bad script at line 1"))
+}

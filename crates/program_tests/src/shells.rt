@@ -4,7 +4,7 @@ use shell_language::forms;
 use std::io::{self, ErrorKind, Read};
 use std::test::Fail;
 
-// A reader that gives each of these texts at one read, and then fails.
+// A reader that gives each of these texts at one read, and then fails. A read without a text is interrupted.
 #[derive(Drop)]
 struct Typist {
     texts: &'static [&'static [u8]],
@@ -16,6 +16,9 @@ impl Read for Typist {
             return Err(io::Error::from(ErrorKind::BrokenPipe));
         };
         self.texts = later;
+        if text.is_empty() {
+            return Err(io::Error::from(ErrorKind::Interrupted));
+        }
         let count = text.len().min(buf.len());
         buf[..count].copy_from_slice(&text[..count]);
         Ok(count)
@@ -38,7 +41,7 @@ fn nothing_is_read_after_the_end(rt: HostRuntime) -> Result<(), Fail> {
 #[test]
 fn lines_are_answered_before_more_is_read(rt: HostRuntime) -> Result<(), Fail> {
     let mut reader = Typist {
-        texts: &[b"sto", b"p 0\nnode 0", b"\r\nnode", b" 1"],
+        texts: &[b"sto", b"", b"p 0\nnode 0", b"\r\nnode", b" 1"],
     };
     let ran = run_on(&rt, &["shell"], &mut reader)?;
     let failed = (5, "input or output failed");
