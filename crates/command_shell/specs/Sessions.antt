@@ -1,5 +1,6 @@
--- What the shell writes.
-use Rattle.std.specs.Prelude.{ℕ, ◌==◌, ◌-◌, ◌||◌, nat_lt, Bool, false, if◌then◌else◌, Option, List, [], ◌∷◌, ◌++◌, length, take, bytes_eq, Result, MatchResult}
+-- What the shell answers, and what it writes.
+use Rattle.std.specs.Prelude.{◌≡◌, ℕ, ◌==◌, ◌-◌, ◌||◌, nat_lt, Bool, false, if◌then◌else◌, Option, List, [], ◌∷◌, ◌++◌, length, take, bytes_eq, IfSome, Result, MatchResult}
+use Rattle.std.specs.List.{concat}
 use Rattle.std.specs.Io.KnownBytes.{Appends}
 use Rattle.pair_shell.specs.Sessions.{is_quit}
 use Rattle.script_language.specs.Text.{end_of}
@@ -46,3 +47,35 @@ ends_in line (byte ∷ bytes) = byte_ends line byte || ends_in (after_byte line 
 abbrev pub kept_in : List ℕ → List ℕ → List ℕ
 kept_in line [] = line
 kept_in line (byte ∷ bytes) = kept_in (after_byte line byte) bytes
+
+-- the line that a byte ends, if it ends one
+abbrev pub heard_at : List ℕ → ℕ → List (List ℕ)
+heard_at line byte = if byte == 10 then line ∷ [] else []
+
+-- the lines that end among some bytes, up to the first that is `quit`
+abbrev pub heard_in : List ℕ → List ℕ → List (List ℕ)
+heard_in line [] = []
+heard_in line (byte ∷ bytes) = heard_at line byte ++ (if byte_ends line byte then [] else heard_in (after_byte line byte) bytes)
+
+-- what is left at the end of an input is a line, unless it is empty
+abbrev pub last_line : List ℕ → List (List ℕ)
+last_line [] = []
+last_line (byte ∷ line) = (byte ∷ line) ∷ []
+
+-- The lines of an input that are answered: all that end in it, up to the first that is `quit`; and what is left after the
+-- last of them, if none is.
+abbrev pub heard : List ℕ → List (List ℕ)
+heard input = heard_in [] input ++ (if ends_in [] input then [] else last_line (kept_in [] input))
+
+-- each of these lines was answered, in their order, and nothing else was written
+pub record AnswersEach (lines : List (List ℕ)) (old new : Option (List ℕ)) : Type 0 where
+  pub answers : List (List ℕ)
+  pub each : length answers ≡ length lines
+  pub written : Appends old new (concat answers)
+
+-- a session over an input that ended like this; nothing is claimed of the lines if it is not known what a reader has
+abbrev pub HearsAll : Option (List ℕ) → Option (List ℕ) → Option (List ℕ) → Type 0
+HearsAll input old new = Writes old new × IfSome input (λ bytes. AnswersEach (heard bytes) old new)
+
+abbrev pub Hears : Option (List ℕ) → Result (Unit {0}) Failure → Option (List ℕ) → Option (List ℕ) → Type 0
+Hears input result old new = MatchResult result (λ _. HearsAll input old new) (λ failure. AnswersTo failure old new)

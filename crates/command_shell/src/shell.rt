@@ -1,8 +1,9 @@
 //! The shell over a reader and a writer: each line is answered before more is read.
-ghost use Rattle.std.specs.Prelude.{◌≡◌, ◌≤◌, IfErr, IfOk, IfSome, false};
+ghost use Rattle.std.specs.Prelude.{◌≡◌, ◌≤◌, ◌∷◌, [], IfErr, IfOk, IfSome, MatchOption, false, take};
+ghost use Rattle.std.specs.Io.KnownBytes.{Consumes, IsAtEnd};
 ghost use Rattle.event_callbacks.specs.declared.devices.TheConstants.{SENT, SECTOR, WRITTEN};
 ghost use Rattle.event_callbacks.specs.Keeping.{Keeps};
-ghost use Rattle.command_shell.specs.Sessions.{Answers, after_byte, byte_ends, ends_in, is_quit_line, kept_in, without_cr};
+ghost use Rattle.command_shell.specs.Sessions.{Answers, AnswersEach, Hears, after_byte, byte_ends, ends_in, heard_at, heard_in, is_quit_line, kept_in, last_line, without_cr};
 ghost use Rattle.shell_book.specs.Outcomes.{is_ended};
 ghost use Rattle.command_ending.specs.declared.failure.Failure.TheVariants as failure;
 
@@ -19,8 +20,8 @@ const BLOCK_BYTES: usize = 4096;
 // How many bytes of a line are kept: one more than a line may have, and a CR.
 const KEPT_BYTES: usize = LINE_BYTES + 2;
 
-/// Answers the lines of a reader, up to its end, by a session whose completions are these closures.
-#[tactic(auto, using(crate::proofs::Sessions::writes_none, crate::proofs::Sessions::writes_more, crate::proofs::Sessions::answers_until))]
+/// Answers the lines of a reader, up to its end or to a line `quit`, by a session whose completions are these closures.
+#[tactic(auto, using(crate::proofs::Sessions::writes_none))]
 pub fn run_shell<
     T: Completes + Drop + Copy,
     S: Completes + Drop + Copy,
@@ -38,14 +39,14 @@ pub fn run_shell<
     requires sent { Keeps (T.may sent) (T.gives sent) SENT }
     requires sector { Keeps (S.may sector) (S.gives sector) SECTOR }
     requires written { Keeps (W.may written) (W.gives written) WRITTEN }
-    ensures { Answers result (O.contents writer.old) (O.contents writer.new) }
+    ensures { Hears (R.remaining reader.old) result (O.contents writer.old) (O.contents writer.new) }
 {
     let mut session = Session::new(alloc)?;
     let mut line = Vec::new(alloc);
     'blocks: for _ in 0..u64::MAX {
         let mut block = [0; BLOCK_BYTES];
         let Some(count) = read_block(reader, &mut block)? else {
-            break;
+            return answer_last(alloc, &mut session, &line, writer, sent, sector, written);
         };
         let block = &block[..count];
         let outcome = take_block(
@@ -62,11 +63,7 @@ pub fn run_shell<
             return Ok(());
         }
     }
-    if line.is_empty() {
-        return Ok(());
-    }
-    answer(alloc, &mut session, &line, writer, sent, sector, written)?;
-    Ok(())
+    Err(Failure::InputOrOutput)
 }
 
 // Whether the session has ended with a line.
@@ -82,6 +79,9 @@ fn read_block<R: Read + Drop>(
     block: &mut [u8; BLOCK_BYTES],
 ) -> Result<Option<usize>, Failure>
     ensures within { IfOk result (λ count. IfSome count (λ n. n ≤ BLOCK_BYTES)) }
+    ensures bytes { IfOk result (λ count. MatchOption count
+        (Consumes (R.remaining reader.old) (R.remaining reader.new) [] × IsAtEnd (R.remaining reader.new))
+        (λ n. Consumes (R.remaining reader.old) (R.remaining reader.new) (take n block.new))) }
     ensures errors { IfErr result (λ e. e ≡ failure.InputOrOutput) }
 {
     match reader.read(&mut block[..]) {
@@ -114,6 +114,8 @@ fn take_block<
     requires sector { Keeps (S.may sector) (S.gives sector) SECTOR }
     requires written { Keeps (W.may written) (W.gives written) WRITTEN }
     ensures written { Answers result (O.contents writer.old) (O.contents writer.new) }
+    ensures heard { IfOk result (λ _.
+        AnswersEach (heard_in line.old.items block.now) (O.contents writer.old) (O.contents writer.new)) }
     ensures ended { IfOk result (λ told. is_ended told ≡ ends_in line.old.items block.now) }
     ensures kept { IfOk result (λ told. is_ended told ≡ false → line.new.items ≡ kept_in line.old.items block.now) }
 {
@@ -129,7 +131,7 @@ fn take_block<
 }
 
 // Keeps a byte of a line, or answers the line that it ends.
-#[tactic(auto, using(crate::proofs::Sessions::writes_none, crate::proofs::Sessions::answers_until))]
+#[tactic(auto, using(crate::proofs::Sessions::writes_none, crate::proofs::Sessions::answers_until, crate::proofs::Sessions::each_none))]
 fn take_byte<
     T: Completes + Drop + Copy,
     S: Completes + Drop + Copy,
@@ -149,6 +151,8 @@ fn take_byte<
     requires sector { Keeps (S.may sector) (S.gives sector) SECTOR }
     requires written { Keeps (W.may written) (W.gives written) WRITTEN }
     ensures written { Answers result (O.contents writer.old) (O.contents writer.new) }
+    ensures heard { IfOk result (λ _.
+        AnswersEach (heard_at line.old.items byte) (O.contents writer.old) (O.contents writer.new)) }
     ensures ended { IfOk result (λ told. is_ended told ≡ byte_ends line.old.items byte) }
     ensures kept { IfOk result (λ _. line.new.items ≡ after_byte line.old.items byte) }
 {
@@ -163,7 +167,38 @@ fn take_byte<
     Ok(Outcome::Done)
 }
 
+// Answers what is left at the reader's end, if it is a line.
+#[tactic(auto, using(crate::proofs::Sessions::writes_none, crate::proofs::Sessions::each_none))]
+fn answer_last<
+    T: Completes + Drop + Copy,
+    S: Completes + Drop + Copy,
+    W: Completes + Drop + Copy,
+    O: Write + Drop,
+>(
+    alloc: Global,
+    session: &mut Session<T, S, W>,
+    line: &[u8],
+    writer: &mut O,
+    sent: T,
+    sector: S,
+    written: W,
+) -> Result<(), Failure>
+    requires sent { Keeps (T.may sent) (T.gives sent) SENT }
+    requires sector { Keeps (S.may sector) (S.gives sector) SECTOR }
+    requires written { Keeps (W.may written) (W.gives written) WRITTEN }
+    ensures written { Answers result (O.contents writer.old) (O.contents writer.new) }
+    ensures heard { IfOk result (λ _.
+        AnswersEach (last_line line.now) (O.contents writer.old) (O.contents writer.new)) }
+{
+    if line.is_empty() {
+        return Ok(());
+    }
+    answer(alloc, session, line, writer, sent, sector, written)?;
+    Ok(())
+}
+
 // Answers a line, and writes the answer at once.
+#[tactic(auto, using(crate::proofs::Sessions::each_one))]
 fn answer<
     T: Completes + Drop + Copy,
     S: Completes + Drop + Copy,
@@ -182,6 +217,7 @@ fn answer<
     requires sector { Keeps (S.may sector) (S.gives sector) SECTOR }
     requires written { Keeps (W.may written) (W.gives written) WRITTEN }
     ensures written { Answers result (O.contents writer.old) (O.contents writer.new) }
+    ensures heard { IfOk result (λ _. AnswersEach (line.now ∷ []) (O.contents writer.old) (O.contents writer.new)) }
     ensures ended { IfOk result (λ told. is_ended told ≡ is_quit_line line.now) }
 {
     let (outcome, answered) = session.answer(alloc, sent, sector, written, without_cr(line))?;

@@ -6,7 +6,7 @@ use Rattle.command_live.specs.Living.{PrintsLive, typed_in}
 use Rattle.command_script.specs.Drawing.{Draws}
 use Rattle.command_script.specs.Printing.{Prints}
 use Rattle.pair_program.specs.Runs.{IsObeyed, IsRun, Writes}
-use Rattle.command_shell.specs.Sessions.{Answers}
+use Rattle.command_shell.specs.Sessions.{Hears}
 use Rattle.command_ending.specs.Inputs.{BytesSay, Reads}
 use Rattle.command_ending.specs.Statuses.{is_of_command_line}
 use Rattle.command_ending.specs.declared.failure.Failure.{Failure}
@@ -29,7 +29,7 @@ module _ {R W : Type 0} (remaining : R → Option (List ℕ)) (contents : W → 
   by_script order.Check script result read h =
       record { request = request.Check; obeys = record { script = script; read = read; obeyed = h } }
 
-  by_session : (result : Result (Unit {0}) Failure) → Answers result (contents writer) (contents writer')
+  by_session : (result : Result (Unit {0}) Failure) → Hears (remaining reader) result (contents writer) (contents writer')
       → IsObeyed (remaining reader) result (contents writer) (contents writer')
   by_session result h = record { request = request.Shell; obeys = h }
 
@@ -50,7 +50,7 @@ module _ {R W : Type 0} (remaining : R → Option (List ℕ)) (contents : W → 
   is_run order.Check script (Err (failure.BadScript line)) read h = absurd h.1
 
   -- so is what a session answers
-  pub is_session : (result : Result (Unit {0}) Failure) → Answers result (contents writer) (contents writer')
+  pub is_session : (result : Result (Unit {0}) Failure) → Hears (remaining reader) result (contents writer) (contents writer')
       → IsRun remaining contents reader reader' writer writer' result
   is_session (Ok done) h = by_session (Ok done) h
   is_session (Err failure.OutOfMemory) h = by_session (Err failure.OutOfMemory) h

@@ -6,7 +6,7 @@ use Rattle.command_lint.specs.Linting.{Lints}
 use Rattle.command_live.specs.Living.{PrintsLive, typed_in}
 use Rattle.command_script.specs.Drawing.{Draws}
 use Rattle.command_script.specs.Printing.{Prints}
-use Rattle.command_shell.specs.Sessions.{Answers}
+use Rattle.command_shell.specs.Sessions.{Hears}
 use Rattle.command_ending.specs.Inputs.{BytesSay, Meaning, Reads}
 use Rattle.command_ending.specs.Statuses.{EndsAs}
 use Rattle.command_ending.specs.declared.failure.Failure.{Failure}
@@ -42,7 +42,7 @@ Obeys request.Picture remaining result old new = IsOfReader script_of remaining 
 Obeys request.Lint remaining result old new = Lints (BytesSay script_of remaining) result old new
 Obeys (request.Live how) remaining result old new = IsOfReader live_script_of remaining (λ script.
     PrintsLive script.setup (typed_in 0 script.lines.items) (typed_in 1 script.lines.items) how result old new)
-Obeys request.Shell remaining result old new = Answers result old new
+Obeys request.Shell remaining result old new = Hears remaining result old new
 Obeys (request.Help text) remaining result old new = Writes (string_bytes text) result old new
 
 -- some command was obeyed

@@ -2,6 +2,8 @@
 use Rattle.std.proofs.Common.{◌≡◌, ℕ, List, Option, Some, None, ◌∷◌, ◌++◌, [], ap, refl, subst, sym, ◌∙◌, append_assoc, append-nil}
 use Rattle.std.specs.Prelude.{IfSome, string_bytes}
 use Rattle.shell_book.specs.Texts.{Adds, AddsLine, AddsRow, AddsShown, AddsSome, AddsWords, Prints, Row, Says, Text, Words, mark}
+use Rattle.i8080_words.specs.declared.refusal.Fault.{Fault}
+use Rattle.shell_language.specs.Refusals.{refusal_words}
 use Rattle.shell_book.specs.declared.printing.Printed.{Printed}
 
 -- nothing is printed
@@ -31,17 +33,18 @@ pub adds_line : (old begun mid new : Printed) → Adds (mark old.is_traced) old 
 adds_line old begun mid new b t e =
     adds_more old mid new (adds_more old begun mid (mark old.is_traced, b) t) (10 ∷ [], e)
 
--- the same with words between two texts
-pub adds_words : (front back : Option (List ℕ)) (old begun mid later last new : Printed) → Adds (mark old.is_traced) old begun
-    → IfSome front (λ text. Adds text begun mid) → AddsSome mid later → IfSome back (λ text. Adds text later last)
-    → Adds (10 ∷ []) last new → AddsWords front back old new
-adds_words None back old begun mid later last new b f w a e = tt
-adds_words (Some front) None old begun mid later last new b f w a e = tt
-adds_words (Some front) (Some back) old begun mid later last new b f w a e = record {
-  text = front ++ w.0 ++ back;
-  says = (w.0, refl);
-  added = adds_shown (Some (front ++ w.0 ++ back)) old begun last new b
-      (adds_then begun later last (front ++ w.0) back (adds_then begun mid later front w.0 f w.1) a) e;
+-- the same with the words of a refusal between two texts
+pub adds_words : (front : Option (List ℕ)) (fault : Fault) (back : Option (List ℕ)) (old begun mid later last new : Printed)
+    → Adds (mark old.is_traced) old begun → IfSome front (λ text. Adds text begun mid) → Adds (refusal_words fault) mid later
+    → IfSome back (λ text. Adds text later last) → Adds (10 ∷ []) last new → AddsWords front fault back old new
+adds_words None fault back old begun mid later last new b f w a e = tt
+adds_words (Some front) fault None old begun mid later last new b f w a e = tt
+adds_words (Some front) fault (Some back) old begun mid later last new b f w a e = record {
+  text = front ++ refusal_words fault ++ back;
+  says = refl;
+  added = adds_shown (Some (front ++ refusal_words fault ++ back)) old begun last new b
+      (adds_then begun later last (front ++ refusal_words fault) back
+      (adds_then begun mid later front (refusal_words fault) f w) a) e;
 }
 
 -- a line with a text

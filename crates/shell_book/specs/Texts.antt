@@ -1,5 +1,7 @@
 -- What was printed.
 use Rattle.std.specs.Prelude.{◌≡◌, ℕ, Bool, true, false, List, [], ◌∷◌, ◌++◌, Option, IfSome, codes, string_bytes}
+use Rattle.i8080_words.specs.declared.refusal.Fault.{Fault}
+use Rattle.shell_language.specs.Refusals.{refusal_words}
 use Rattle.shell_book.specs.declared.printing.Printed.{Printed}
 
 -- these bytes were printed after the others
@@ -23,14 +25,14 @@ AddsLine text old new = Adds (mark old.is_traced ++ text ++ (10 ∷ [])) old new
 abbrev pub AddsShown : Option (List ℕ) → Printed → Printed → Type 0
 AddsShown shown old new = IfSome shown (λ text. AddsLine text old new)
 
--- What a line says: a text; or a text, words that are the affair of what is shown, and a text after those.
+-- What a line says: a text; or a text, the words of a refusal, and a text after those.
 pub data Row : Type 0 where
   Text : List ℕ → Row
-  Words : List ℕ → List ℕ → Row
+  Words : List ℕ → Fault → List ℕ → Row
 
 abbrev pub Says : Row → List ℕ → Type 0
 Says (Text all) text = text ≡ all
-Says (Words front back) text = (words : List ℕ) × (text ≡ front ++ words ++ back)
+Says (Words front fault back) text = text ≡ front ++ refusal_words fault ++ back
 
 -- a line that says this was printed
 pub record AddsRow (row : Row) (old new : Printed) : Type 0 where
@@ -38,9 +40,9 @@ pub record AddsRow (row : Row) (old new : Printed) : Type 0 where
   pub says : Says row text
   pub added : AddsLine text old new
 
--- so was one with words between two texts, if these are known
-abbrev pub AddsWords : Option (List ℕ) → Option (List ℕ) → Printed → Printed → Type 0
-AddsWords front back old new = IfSome front (λ f. IfSome back (λ b. AddsRow (Words f b) old new))
+-- so was one with the words of a refusal between two texts, if these are known
+abbrev pub AddsWords : Option (List ℕ) → Fault → Option (List ℕ) → Printed → Printed → Type 0
+AddsWords front fault back old new = IfSome front (λ f. IfSome back (λ b. AddsRow (Words f fault b) old new))
 
 -- lines that say this were printed, one after another
 abbrev pub Prints : List Row → Printed → Printed → Type 0

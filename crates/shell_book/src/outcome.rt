@@ -1,6 +1,8 @@
 //! What becomes of a line.
-ghost use Rattle.std.specs.Prelude.{◌≡◌, false, IfOk};
+ghost use Rattle.std.specs.Prelude.{◌≡◌, ◌++◌, codes, false, IfOk};
 ghost use Rattle.shell_book.specs.Outcomes.{is_ended};
+ghost use Rattle.shell_book.specs.Texts.{AddsLine};
+ghost use Rattle.shell_language.specs.Mistakes.{flaw_of, flaw_text};
 ghost use Rattle.shell_book.specs.declared.outcome.Outcome.TheVariants as outcome;
 
 use crate::printing::Printed;
@@ -22,6 +24,7 @@ pub enum Outcome {
 pub fn refuse(mistake: Mistake<'_>, printed: &mut Printed) -> Result<Outcome, AllocError>
     ensures refused { IfOk result (λ told. told ≡ outcome.Refused) }
     ensures goes_on { IfOk result (λ told. is_ended told ≡ false) }
+    ensures told { IfOk result (λ _. AddsLine (codes "? " ++ flaw_text (flaw_of mistake.entry)) printed.old printed.new) }
 {
     printed.line(&format_args!("? {mistake}"))?;
     Ok(Outcome::Refused)

@@ -4,7 +4,8 @@ ghost use Rattle.shell_book.specs.Tapes.{Traces, event_lines};
 ghost use Rattle.shell_book.specs.Texts.{Adds, AddsShown, AddsSome, AddsWords, mark};
 
 use crate::tape::Played;
-use shell_language::Spelled;
+use i8080_words::Fault;
+use shell_language::{Spelled, Worded};
 use std::alloc::{AllocError, Global};
 use std::fmt;
 
@@ -57,20 +58,20 @@ impl Printed {
         Ok(())
     }
 
-    /// A line with words between two texts.
+    /// A line with the words of a refusal between two texts.
     #[tactic(auto, using(crate::proofs::Adding::adds_line, crate::proofs::Adding::adds_more))]
-    pub fn around<D: fmt::Display, X: fmt::Display, E: fmt::Display>(
+    pub fn around<D: fmt::Display, E: fmt::Display>(
         &mut self,
         front: &D,
-        words: &X,
+        fault: Fault,
         back: &E,
     ) -> Result<(), AllocError>
         ensures some { IfOk result (λ _. AddsSome self.old self.new) }
-        ensures shown { IfOk result (λ _. AddsWords (D.output front.now) (E.output back.now) self.old self.new) }
+        ensures shown { IfOk result (λ _. AddsWords (D.output front.now) fault (E.output back.now) self.old self.new) }
     {
         self.begin()?;
         self.add(front)?;
-        self.add(words)?;
+        self.add(&Worded(fault))?;
         self.add(back)?;
         self.end()?;
         Ok(())

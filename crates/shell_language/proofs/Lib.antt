@@ -1,3 +1,4 @@
 pub mod Decoding
 pub mod Filling
+pub mod Mistakes
 pub mod Quoting

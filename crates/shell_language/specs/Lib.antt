@@ -1,6 +1,9 @@
+pub mod Forms
 pub mod Lines
+pub mod Mistakes
 pub mod Quoting
 pub mod Records
 pub mod Refusals
 pub mod Saying
+pub mod Shown
 pub mod Spelling

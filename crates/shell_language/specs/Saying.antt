@@ -12,6 +12,7 @@ use Rattle.script_language.specs.Words.{words_of, whole, bytes_of, ◌>>=◌}
 use Rattle.shell_language.specs.declared.line.ShellLine.{ShellLine}
 use Rattle.shell_language.specs.declared.line.ShellLine.TheVariants as shell
 use Rattle.shell_language.specs.Lines.{address, load_of, own_line}
+use Rattle.shell_language.specs.Shown.{is_printable}
 
 -- an event or a query of a script, as a line of the shell
 abbrev pub as_said : Line → ShellLine
@@ -46,9 +47,6 @@ other_line [] = None
 other_line (byte ∷ text) = if byte == 58 then load_of (byte ∷ text) else own_line (words_of (byte ∷ text)) (byte ∷ text)
 
 -- each byte is a printable character of ASCII, or a space
-abbrev pub is_printable : ℕ → Bool
-is_printable byte = nat_le 32 byte && nat_le byte 126
-
 abbrev pub are_printable : List ℕ → Bool
 are_printable text = list_all is_printable text
 

@@ -1,5 +1,11 @@
 //! The forms of lines: a table of what the shell takes, which `help` prints.
 
+ghost use Rattle.std.specs.Prelude.{◌≡◌, bytes_eq, if◌then◌else◌, map};
+ghost use Rattle.std.specs.Option.{option_map};
+ghost use Rattle.script_language.specs.Words.{words_of};
+ghost use Rattle.shell_language.specs.Forms.{shape_of, shapes, word_of};
+ghost use Rattle.shell_language.specs.Mistakes.{after_last, at, flaw_among, flaw_in, flaw_of, further, last_word, misfit, placed, wrong_byte};
+
 use crate::kind::Kind;
 use crate::kind::Kind::{Address, Byte, Bytes, Exactly, Number, Record, Text, Within};
 use crate::mistake::Mistake;
@@ -85,55 +91,89 @@ static FORMS: [Form; 58] = forms![
 ];
 
 /// All forms, in the order in which `help` prints them. What reads them by this call is proved without the whole table.
-pub fn forms() -> &'static [Form] {
+#[tactic(auto, unfolding(crate::specs::Forms::shapes))]
+pub fn forms() -> &'static [Form]
+    ensures { map shape_of result.now ≡ shapes }
+{
     &FORMS
 }
 
 impl Form {
+    // Of two mistakes the one at the later place: this one, and that of the words after the first for this form, if the first
+    // is its own.
+    fn further<'a>(
+        &'static self,
+        first: &[u8],
+        words: &Words<'a>,
+        furthest: (usize, Mistake<'a>),
+    ) -> (usize, Mistake<'a>)
+        ensures { at result ≡ (if bytes_eq self.now.word.now first.now
+            then further (shape_of self.now) (misfit words.now (shape_of self.now)) (at furthest.entry)
+            else at furthest.entry) }
+    {
+        if self.word.as_bytes() != first {
+            return furthest;
+        }
+        match self.first_wrong(&mut words.again()) {
+            Some(found) if furthest.0 < found.0 => found,
+            Some(_) => furthest,
+            None if furthest.0 == 0 => (0, Mistake::Range { form: self }),
+            None => furthest,
+        }
+    }
+
     // The first word after the form's own that does not fit, by its place in the line, from 1; none if all do.
-    fn first_wrong<'a>(&'static self, text: &'a [u8]) -> Option<(usize, Mistake<'a>)> {
-        let mut words = Words::of(text);
-        let _ = words.next();
+    fn first_wrong<'a>(&'static self, words: &mut Words<'a>) -> Option<(usize, Mistake<'a>)>
+        ensures { placed result ≡ misfit words.old (shape_of self.now) }
+    {
+        let form = self;
         let mut place = 2usize;
-        for kind in self.kinds {
+        let mut rest = self.kinds;
+        'kinds: while let [kind, after @ ..] = rest {
+            let kind = *kind;
             let Some(word) = words.next() else {
-                return Some((
-                    place,
-                    Mistake::Missing {
-                        place,
-                        form: self,
-                        kind: *kind,
-                    },
-                ));
+                return Some((place, Mistake::Missing { place, form, kind }));
             };
             if !kind.fits(word) {
-                return Some((
+                let mistake = Mistake::Wrong {
                     place,
-                    Mistake::Wrong {
-                        place,
-                        word,
-                        form: self,
-                        kind: *kind,
-                    },
-                ));
+                    word,
+                    form,
+                    kind,
+                };
+                return Some((place, mistake));
             }
             place = place.saturating_add(1);
+            rest = after;
         }
-        match self.kinds.last() {
-            Some(Kind::Bytes) => self.wrong_byte(&mut words, place),
+        self.after_last(words, place)
+    }
+
+    // What is wrong with the words after the last kind.
+    fn after_last<'a>(
+        &'static self,
+        words: &mut Words<'a>,
+        place: usize,
+    ) -> Option<(usize, Mistake<'a>)>
+        ensures { placed result ≡ after_last (shape_of self.now) (last_word (shape_of self.now)) place words.old }
+    {
+        match self.last_kind() {
+            Some(Kind::Bytes) => self.wrong_byte(words, place),
             Some(Kind::Text) => Some((place, Mistake::Text { form: self })),
             _ => {
+                let form = self;
                 let word = words.next()?;
-                Some((
-                    place,
-                    Mistake::OneTooMany {
-                        place,
-                        word,
-                        form: self,
-                    },
-                ))
+                Some((place, Mistake::OneTooMany { place, word, form }))
             }
         }
+    }
+
+    /// What the last word of such a line has to be; none if it has one word alone.
+    #[tactic(auto, using(crate::proofs::Mistakes::last_word_is))]
+    pub fn last_kind(&self) -> Option<Kind>
+        ensures { option_map word_of result ≡ last_word (shape_of self.now) }
+    {
+        self.kinds.last().copied()
     }
 
     // The first of the words that are left that is no byte.
@@ -141,19 +181,21 @@ impl Form {
         &'static self,
         words: &mut Words<'a>,
         first: usize,
-    ) -> Option<(usize, Mistake<'a>)> {
+    ) -> Option<(usize, Mistake<'a>)>
+        ensures { placed result ≡ wrong_byte (shape_of self.now) first words.old }
+    {
+        let form = self;
+        let kind = Kind::Byte;
         let mut place = first;
         'bytes: while let Some(word) = words.next() {
-            if !Kind::Byte.fits(word) {
-                return Some((
+            if !kind.fits(word) {
+                let mistake = Mistake::Wrong {
                     place,
-                    Mistake::Wrong {
-                        place,
-                        word,
-                        form: self,
-                        kind: Kind::Byte,
-                    },
-                ));
+                    word,
+                    form,
+                    kind,
+                };
+                return Some((place, mistake));
             }
             place = place.saturating_add(1);
         }
@@ -163,20 +205,26 @@ impl Form {
 
 /// What is wrong with a line that has no meaning: its first word is none of the forms', or a word does not fit the form
 /// that the line follows the furthest.
-pub fn mistake_in(text: &[u8]) -> Mistake<'_> {
-    let Some(first) = Words::of(text).next() else {
+#[tactic(auto, using(crate::proofs::Mistakes::among_all))]
+pub fn mistake_in(text: &[u8]) -> Mistake<'_>
+    ensures { flaw_of result ≡ flaw_in (words_of text.now) }
+{
+    let mut words = Words::of(text);
+    let Some(first) = words.next() else {
         return Mistake::Blank;
     };
-    let mut furthest = (0, Mistake::Unknown { word: first });
-    for form in forms() {
-        if form.word.as_bytes() == first {
-            match form.first_wrong(text) {
-                Some((place, mistake)) if place > furthest.0 => furthest = (place, mistake),
-                Some(_) => {}
-                None if furthest.0 == 0 => furthest = (0, Mistake::Range { form }),
-                None => {}
-            }
-        }
+    mistake_among(forms(), first, &words)
+}
+
+// The same for these forms, by the first word and those after it.
+fn mistake_among<'a>(forms: &'static [Form], first: &'a [u8], words: &Words<'a>) -> Mistake<'a>
+    ensures { flaw_of result ≡ flaw_among (map shape_of forms.now) first.now words.now }
+{
+    let mut furthest = (0usize, Mistake::Unknown { word: first });
+    let mut rest = forms;
+    'forms: while let [form, after @ ..] = rest {
+        furthest = form.further(first, words, furthest);
+        rest = after;
     }
     furthest.1
 }

@@ -1,5 +1,9 @@
 //! The kinds of words in a line.
 
+ghost use Rattle.std.specs.Prelude.{◌≡◌, Some};
+ghost use Rattle.shell_language.specs.Forms.{word_of};
+ghost use Rattle.shell_language.specs.Mistakes.{fits, word_text};
+
 use script_language::Words;
 use std::fmt;
 
@@ -26,7 +30,9 @@ pub enum Kind {
 
 impl Kind {
     /// Whether a word is of this kind.
-    pub(crate) fn fits(self, word: &[u8]) -> bool {
+    pub(crate) fn fits(self, word: &[u8]) -> bool
+        ensures { result ≡ fits (word_of self) word.now }
+    {
         let mut one = Words::of(word);
         match self {
             Kind::Number => one.number().is_some(),
@@ -34,13 +40,15 @@ impl Kind {
             Kind::Byte | Kind::Bytes => one.byte().is_some(),
             Kind::Address => one.address().is_some(),
             Kind::Exactly(text) => word == text.as_bytes(),
-            Kind::Text => word.starts_with(b"\""),
-            Kind::Record => word.starts_with(b":"),
+            Kind::Text => matches!(word, [b'"', ..]),
+            Kind::Record => matches!(word, [b':', ..]),
         }
     }
 }
 
 impl fmt::Display for Kind {
+    ghost output = { λ kind. Some (word_text (word_of kind)) };
+
     fn fmt<W: fmt::Write>(&self, f: &mut fmt::Formatter<W>) -> fmt::Result {
         match self {
             Kind::Number => f.write_str("a number below 18446744073709551616"),

@@ -11,14 +11,16 @@ mod own;
 mod own_lines;
 mod quoted;
 mod reading;
+mod shown;
 mod spelled;
 
-pub use faults::refusals;
+pub use faults::{Worded, refusals};
 pub use form::{Form, forms, mistake_in};
 pub use kind::Kind;
 pub use line::{Loss, ShellLine, Stretch, Turns};
 pub use loading::{Record, RecordMistake, read_record};
-pub use mistake::{LINE_BYTES, Mistake, Shown};
+pub use mistake::{LINE_BYTES, Mistake};
 pub use quoted::Quoted;
 pub use reading::read_line;
+pub use shown::{Address, Hexadecimal, Printable, Shown};
 pub use spelled::Spelled;

@@ -1,9 +1,14 @@
 //! Records of Intel HEX, a line each.
-ghost use Rattle.std.specs.Prelude.{◌≡◌, ◌+◌, ◌/◌, ◌%◌, ◌≤◌, Some, None, if◌then◌else◌, length, sum, take};
+ghost use Rattle.std.specs.Prelude.{◌≡◌, ◌+◌, ◌++◌, ◌/◌, ◌%◌, ◌≤◌, Some, None, if◌then◌else◌, length, sum, take};
 ghost use Rattle.std.specs.Result.{result_ok};
 ghost use Rattle.hex.specs.Hex.{decode_of};
+ghost use Rattle.std.specs.Fmt.{WritesOnOk};
+ghost use Rattle.pair_events.specs.Printed.{byte_text};
+ghost use Rattle.shell_language.specs.Mistakes.{record_text};
+ghost use Rattle.shell_language.specs.declared.loading.RecordMistake.TheVariants as mistake;
 ghost use Rattle.shell_language.specs.Records.{Loaded, by_type, extended, start, record_by, record_in, record_of};
 
+use crate::shown::{Address, Hexadecimal};
 use std::fmt;
 use std::marker::Model;
 
@@ -55,37 +60,74 @@ pub enum RecordMistake {
 }
 
 impl fmt::Display for RecordMistake {
+    ghost output = { λ mistake. Some (record_text mistake) };
+
     fn fmt<W: fmt::Write>(&self, f: &mut fmt::Formatter<W>) -> fmt::Result {
-        match self {
-            RecordMistake::Digits => write!(
-                f,
-                "a record of Intel HEX is a colon and then pairs of hexadecimal digits: `:LLAAAATTDD..CC`"
+        match *self {
+            RecordMistake::Digits => f.write_str(
+                "a record of Intel HEX is a colon and then pairs of hexadecimal digits: `:LLAAAATTDD..CC`",
             ),
-            RecordMistake::Length { said, there } => write!(
+            RecordMistake::Length { said, there } => write_length(f, said, there),
+            RecordMistake::Sum { wanted, there } => write_sum(f, wanted, there),
+            RecordMistake::Type(kind) => write_between(
                 f,
-                "the record says that it has {said} bytes of data, and has {there}: `:LLAAAATTDD..CC`"
+                "the record is of type ",
+                kind,
+                ": a type from 00, data, to 05 is expected",
             ),
-            RecordMistake::Sum { wanted, there } => write!(
+            RecordMistake::Size { kind, wanted } => write_size(f, kind, wanted),
+            RecordMistake::Extended { kind } => write_between(
                 f,
-                "the record's sum is wrong: it ends with {there:02X}, and {wanted:02X} is expected"
-            ),
-            RecordMistake::Type(kind) => write!(
-                f,
-                "the record is of type {kind:02X}: a type from 00, data, to 05 is expected"
-            ),
-            RecordMistake::Size { kind, wanted } => write!(
-                f,
-                "a record of type {kind:02X} has {wanted} bytes of data"
-            ),
-            RecordMistake::Extended { kind } => write!(
-                f,
-                "the record of type {kind:02X} puts what follows past FFFF: 0000 is expected, as memory has 64K"
+                "the record of type ",
+                kind,
+                " puts what follows past FFFF: 0000 is expected, as memory has 64K",
             ),
             RecordMistake::Past(address) => {
-                write!(f, "the record's bytes from {address:04X} on go past FFFF")
+                let address = Address(address);
+                write!(f, "the record's bytes from {address} on go past FFFF")
             }
         }
     }
+}
+
+fn write_length<W: fmt::Write>(f: &mut fmt::Formatter<W>, said: u8, there: usize) -> fmt::Result
+    ensures { WritesOnOk W.write_str_gives f.old result (record_text (mistake.Length said there)) f.new }
+{
+    write!(
+        f,
+        "the record says that it has {said} bytes of data, and has {there}: `:LLAAAATTDD..CC`"
+    )
+}
+
+fn write_sum<W: fmt::Write>(f: &mut fmt::Formatter<W>, wanted: u8, there: u8) -> fmt::Result
+    ensures { WritesOnOk W.write_str_gives f.old result (record_text (mistake.Sum wanted there)) f.new }
+{
+    let wanted = Hexadecimal(wanted);
+    let there = Hexadecimal(there);
+    write!(
+        f,
+        "the record's sum is wrong: it ends with {there}, and {wanted} is expected"
+    )
+}
+
+fn write_size<W: fmt::Write>(f: &mut fmt::Formatter<W>, kind: u8, wanted: u8) -> fmt::Result
+    ensures { WritesOnOk W.write_str_gives f.old result (record_text (mistake.Size kind wanted)) f.new }
+{
+    let kind = Hexadecimal(kind);
+    write!(f, "a record of type {kind} has {wanted} bytes of data")
+}
+
+// A byte between two texts.
+fn write_between<W: fmt::Write>(
+    f: &mut fmt::Formatter<W>,
+    front: &str,
+    byte: u8,
+    back: &str,
+) -> fmt::Result
+    ensures { WritesOnOk W.write_str_gives f.old result (front.now ++ (byte_text byte ++ back.now)) f.new }
+{
+    let byte = Hexadecimal(byte);
+    write!(f, "{front}{byte}{back}")
 }
 
 impl Record {

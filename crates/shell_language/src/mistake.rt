@@ -1,15 +1,25 @@
 //! What is wrong with a line, in the words that the shell prints after `? `.
 
+ghost use Rattle.std.specs.Prelude.{◌++◌, Some};
+ghost use Rattle.std.specs.Fmt.{WritesOnOk};
+ghost use Rattle.shell_language.specs.Forms.{shape_of, word_of};
+ghost use Rattle.shell_language.specs.Mistakes.{Detached, Late, Misfit, Missing, OneTooMany, Unprintable, flaw_of, flaw_text, usage_text};
+
 use crate::form::Form;
 use crate::kind::Kind;
 use crate::loading::RecordMistake;
+use crate::shown::{Hexadecimal, Shown};
 use std::fmt;
 
 /// How many bytes a line may have, without its end.
 pub const LINE_BYTES: usize = 65_536;
 
-// How many bytes of a word are shown.
-const SHOWN_BYTES: usize = 24;
+// A text that does not end, or has a backslash before another character.
+const TEXT: &str =
+    "the text ends with a quote, and a backslash is followed by r, n, a quote or a backslash";
+
+// Bytes past the end of memory, or too many for a sector.
+const RANGE: &str = "memory ends at FFFF, and a sector has 137 bytes";
 
 /// What is wrong with a line. Words are counted from 1.
 #[derive(Clone, Copy)]
@@ -68,98 +78,132 @@ pub enum Mistake<'a> {
     },
 }
 
-/// The first bytes of a word; what is not printable is shown as a dot.
-#[derive(Clone, Copy)]
-pub struct Shown<'a>(pub &'a [u8]);
-
-impl fmt::Display for Shown<'_> {
-    fn fmt<W: fmt::Write>(&self, f: &mut fmt::Formatter<W>) -> fmt::Result {
-        for byte in self.0.iter().take(SHOWN_BYTES) {
-            let shown = if (0x20..0x7f).contains(byte) {
-                *byte
-            } else {
-                b'.'
-            };
-            write!(f, "{}", char::from(shown))?;
-        }
-        if self.0.len() > SHOWN_BYTES {
-            write!(f, "...")?;
-        }
-        Ok(())
-    }
-}
-
 impl fmt::Display for Mistake<'_> {
+    ghost output = { λ mistake. Some (flaw_text (flaw_of mistake)) };
+
     fn fmt<W: fmt::Write>(&self, f: &mut fmt::Formatter<W>) -> fmt::Result {
-        match self {
+        match *self {
             Mistake::TooLong => write!(f, "the line has more than {LINE_BYTES} bytes"),
-            Mistake::Unprintable { place, byte } => write!(
-                f,
-                "byte {place} of the line is {byte:02X}: a line is printable ASCII"
-            ),
-            Mistake::Blank => write!(f, "the line has spaces alone; `help` lists the lines"),
+            Mistake::Unprintable { place, byte } => write_unprintable(f, place, byte),
+            Mistake::Blank => f.write_str("the line has spaces alone; `help` lists the lines"),
             Mistake::Unknown { word } => {
                 write!(f, "{} begins no line; `help` lists the lines", Shown(word))
             }
+            Mistake::Missing { place, form, kind } => write_missing(f, place, form, kind),
+            Mistake::Wrong {
+                place,
+                word,
+                form,
+                kind,
+            } => write_wrong(f, place, word, form, kind),
+            Mistake::OneTooMany { place, word, form } => write_too_many(f, place, word, form),
+            Mistake::Text { form } => write_words(f, TEXT, form),
+            Mistake::Range { form } => write_words(f, RANGE, form),
             Mistake::Record(mistake) => write!(f, "{mistake}"),
-            Mistake::Late { .. } | Mistake::Detached { .. } => write_setup(f, self),
-            _ => write_misfit(f, self),
+            Mistake::Late { line } => write_late(f, line),
+            Mistake::Detached {
+                drive,
+                track,
+                sector,
+            } => write_detached(f, drive, track, sector),
         }
     }
 }
 
-// A line of the setup that comes too late or too early.
-fn write_setup<W: fmt::Write>(f: &mut fmt::Formatter<W>, mistake: &Mistake<'_>) -> fmt::Result {
-    match mistake {
-        Mistake::Late { line } => write!(
-            f,
-            "{} is a line of the setup, and the pair has booted: it boots at the first event or query",
-            Shown(line)
-        ),
-        Mistake::Detached {
-            drive,
-            track,
-            sector,
-        } => write!(
-            f,
-            "sector {drive} {track} {sector} is on a drive that is not attached; `drives N` comes first"
-        ),
-        _ => Ok(()),
-    }
+fn write_unprintable<W: fmt::Write>(
+    f: &mut fmt::Formatter<W>,
+    place: usize,
+    byte: u8,
+) -> fmt::Result
+    ensures { WritesOnOk W.write_str_gives f.old result (flaw_text (Unprintable place byte)) f.new }
+{
+    let byte = Hexadecimal(byte);
+    write!(
+        f,
+        "byte {place} of the line is {byte}: a line is printable ASCII"
+    )
 }
 
-// A line that does not fit its form, and how lines of that form are written.
-fn write_misfit<W: fmt::Write>(f: &mut fmt::Formatter<W>, mistake: &Mistake<'_>) -> fmt::Result {
-    let form = match mistake {
-        Mistake::Missing { place, form, kind } => {
-            write!(f, "word {place} is missing: {kind}")?;
-            form
-        }
-        Mistake::Wrong {
-            place,
-            word,
-            form,
-            kind,
-        } => {
-            write!(f, "word {place} is {}: {kind} is expected", Shown(word))?;
-            form
-        }
-        Mistake::OneTooMany { place, word, form } => {
-            write!(f, "word {place}, {}, is one too many", Shown(word))?;
-            form
-        }
-        Mistake::Text { form } => {
-            write!(
-                f,
-                "the text ends with a quote, and a backslash is followed by r, n, a quote or a backslash"
-            )?;
-            form
-        }
-        Mistake::Range { form } => {
-            write!(f, "memory ends at FFFF, and a sector has 137 bytes")?;
-            form
-        }
-        _ => return Ok(()),
-    };
-    write!(f, "; the line is `{}`", form.usage)
+fn write_missing<W: fmt::Write>(
+    f: &mut fmt::Formatter<W>,
+    place: usize,
+    form: &Form,
+    kind: Kind,
+) -> fmt::Result
+    ensures { WritesOnOk W.write_str_gives f.old result
+        (flaw_text (Missing place (shape_of form.now) (word_of kind))) f.new }
+{
+    let usage = form.usage;
+    write!(f, "word {place} is missing: {kind}; the line is `{usage}`")
+}
+
+fn write_wrong<W: fmt::Write>(
+    f: &mut fmt::Formatter<W>,
+    place: usize,
+    word: &[u8],
+    form: &Form,
+    kind: Kind,
+) -> fmt::Result
+    ensures { WritesOnOk W.write_str_gives f.old result
+        (flaw_text (Misfit place word.now (shape_of form.now) (word_of kind))) f.new }
+{
+    let word = Shown(word);
+    write!(f, "word {place} is {word}: {kind} is expected")?;
+    write_usage(f, form)
+}
+
+fn write_too_many<W: fmt::Write>(
+    f: &mut fmt::Formatter<W>,
+    place: usize,
+    word: &[u8],
+    form: &Form,
+) -> fmt::Result
+    ensures { WritesOnOk W.write_str_gives f.old result
+        (flaw_text (OneTooMany place word.now (shape_of form.now))) f.new }
+{
+    let word = Shown(word);
+    write!(f, "word {place}, {word}, is one too many")?;
+    write_usage(f, form)
+}
+
+// Words, and how lines of this form are written.
+fn write_words<W: fmt::Write>(f: &mut fmt::Formatter<W>, words: &str, form: &Form) -> fmt::Result
+    ensures { WritesOnOk W.write_str_gives f.old result (words.now ++ usage_text (shape_of form.now)) f.new }
+{
+    f.write_str(words)?;
+    write_usage(f, form)
+}
+
+// How lines of this form are written.
+fn write_usage<W: fmt::Write>(f: &mut fmt::Formatter<W>, form: &Form) -> fmt::Result
+    ensures { WritesOnOk W.write_str_gives f.old result (usage_text (shape_of form.now)) f.new }
+{
+    let usage = form.usage;
+    write!(f, "; the line is `{usage}`")
+}
+
+// A line of the setup that comes too late.
+fn write_late<W: fmt::Write>(f: &mut fmt::Formatter<W>, line: &[u8]) -> fmt::Result
+    ensures { WritesOnOk W.write_str_gives f.old result (flaw_text (Late line.now)) f.new }
+{
+    write!(
+        f,
+        "{} is a line of the setup, and the pair has booted: it boots at the first event or query",
+        Shown(line)
+    )
+}
+
+// A sector that comes too early.
+fn write_detached<W: fmt::Write>(
+    f: &mut fmt::Formatter<W>,
+    drive: u8,
+    track: u8,
+    sector: u8,
+) -> fmt::Result
+    ensures { WritesOnOk W.write_str_gives f.old result (flaw_text (Detached drive track sector)) f.new }
+{
+    write!(
+        f,
+        "sector {drive} {track} {sector} is on a drive that is not attached; `drives N` comes first"
+    )
 }

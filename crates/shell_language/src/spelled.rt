@@ -1,9 +1,10 @@
 //! Events as the lines of a script.
 ghost use Rattle.std.specs.Prelude.{Some};
 ghost use Rattle.std.specs.Fmt.{WritesOnOk, decimal};
-ghost use Rattle.pair_events.specs.Printed.{byte_text, ◌␣◌};
+ghost use Rattle.pair_events.specs.Printed.{◌␣◌};
 ghost use Rattle.shell_language.specs.Spelling.{change_text, effect_text, event_text};
 
+use crate::shown::Hexadecimal;
 use event_callbacks::OpId;
 use pair_events::Event;
 use std::fmt;
@@ -11,24 +12,6 @@ use std::fmt;
 /// An event that prints as the line of a script that says it.
 #[derive(Clone, Copy)]
 pub struct Spelled(pub Event);
-
-// A byte that prints as two hexadecimal digits.
-#[derive(Clone, Copy)]
-struct Hexadecimal(u8);
-
-impl fmt::Display for Hexadecimal {
-    ghost output = { λ byte. Some (byte_text byte.0) };
-
-    fn fmt<W: fmt::Write>(&self, f: &mut fmt::Formatter<W>) -> fmt::Result {
-        write_byte(f, self.0)
-    }
-}
-
-fn write_byte<W: fmt::Write>(f: &mut fmt::Formatter<W>, byte: u8) -> fmt::Result
-    ensures { WritesOnOk W.write_str_gives f.old result (byte_text byte) f.new }
-{
-    write!(f, "{byte:02X}")
-}
 
 // The name of an operation, as a script has it.
 #[derive(Clone, Copy)]

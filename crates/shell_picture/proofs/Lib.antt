@@ -1,2 +1,4 @@
 pub mod Drawing
+pub mod Listing
+pub mod Screens
 pub mod Telling

@@ -20,15 +20,15 @@ use Rattle.shell_book.specs.Notes.{waiting_in}
 use Rattle.shell_book.specs.declared.book.Book.{Book}
 use Rattle.shell_book.specs.declared.book.Waiting.{Waiting}
 use Rattle.shell_book.specs.declared.held_up.Meeting.{Meeting}
-use Rattle.shell_picture.specs.HeldUp.{held_if, held_of, held_row, named_last}
+use Rattle.shell_picture.specs.HeldUp.{covered_text, held_if, held_of, held_row, named_last, output_text}
 use Rattle.shell_picture.specs.Answers.{done_text, message_text, others_text, refused, refused_text, sum_by, sum_of, sum_row}
 use Rattle.shell_picture.specs.declared.answers.Sum.{Sum}
 
 -- a refusal, by its number
 pub tells_refused : (fault : Fault) (number : ℕ) (old new : Printed) → number ≡ number_of fault
-    → AddsRow (Words (codes "refused " ++ (decimal number ++ codes ", ")) []) old new → Prints (refused fault ∷ []) old new
+    → AddsRow (Words (codes "refused " ++ (decimal number ++ codes ", ")) fault []) old new → Prints (refused fault ∷ []) old new
 tells_refused fault number old new is h = prints_one (refused fault) old new
-    (subst (λ k. AddsRow (Words (codes "refused " ++ (decimal k ++ codes ", ")) []) old new) is h)
+    (subst (λ k. AddsRow (Words (codes "refused " ++ (decimal k ++ codes ", ")) fault []) old new) is h)
 
 -- the last message, or that there is none
 pub tells_none : (messages count : ℕ) (old new : Printed) → messages ≡ count → messages ≡ 0
@@ -62,11 +62,11 @@ tells_done tape sum reply old new is so h = prints_one (sum_row tape) old new
 
 pub tells_refusal : (tape : List Played) (sum : Sum) (fault : Fault) (number : ℕ) (old new : Printed) → sum ≡ sum_of tape
     → sum.last ≡ Some (Err fault) → number ≡ number_of fault
-    → AddsRow (Words (decimal sum.happened ++ (codes " done, the last: refused " ++ (decimal number ++ codes ", ")))
+    → AddsRow (Words (decimal sum.happened ++ (codes " done, the last: refused " ++ (decimal number ++ codes ", "))) fault
     (others_text sum.refused)) old new → Prints (sum_row tape ∷ []) old new
 tells_refusal tape sum fault number old new is so counts h = prints_one (sum_row tape) old new
     (subst (λ r. AddsRow r old new) (sym (by_sum tape sum (Some (Err fault)) is so))
-    (subst (λ k. AddsRow (Words (decimal sum.happened ++ (codes " done, the last: refused " ++ (decimal k ++ codes ", ")))
+    (subst (λ k. AddsRow (Words (decimal sum.happened ++ (codes " done, the last: refused " ++ (decimal k ++ codes ", "))) fault
     (others_text sum.refused)) old new) counts h))
 
 -- some lines for each of a list
@@ -80,7 +80,7 @@ tells_some_more rows all i d old mid new less h more =
 
 -- the line of a refusal that holds something up, other than that output is not covered
 other_row : (fault : Fault) (met : Meeting) (book : Book) → (fault ≡ refusal.NotCovered → ⊥) → held_row fault met book
-    ≡ Words (codes "  " ++ (decimal met.times ++ (codes " events" ++ (named_last met.last ++ (codes ": " ++ refused_text fault))))) []
+    ≡ Words (codes "  " ++ (decimal met.times ++ (codes " events" ++ (named_last met.last ++ (codes ": " ++ refused_text fault))))) fault []
 other_row refusal.OutOfMemory met book not = refl
 other_row refusal.Spent met book not = refl
 other_row refusal.LogFull met book not = refl
@@ -104,13 +104,32 @@ other_row refusal.NotCovered met book not = absurd (not refl)
 pub tells_held : (fault : Fault) (met : Meeting) (book : Book) (waiting : Waiting) (number : ℕ) (old new : Printed)
     → waiting ≡ waiting_in book → holds_up fault met waiting ≡ true → number ≡ number_of fault → (fault ≡ refusal.NotCovered → ⊥)
     → AddsRow (Words (codes "  " ++ (decimal met.times ++ (codes " events" ++ (named_last met.last
-    ++ (codes ": refused " ++ (decimal number ++ codes ", ")))))) []) old new → Prints (held_if fault met book) old new
+    ++ (codes ": refused " ++ (decimal number ++ codes ", ")))))) fault []) old new → Prints (held_if fault met book) old new
 tells_held fault met book waiting number old new is holds counts not h =
     subst (λ b. Prints (if b then held_row fault met book ∷ [] else []) old new)
     (sym (ap (holds_up fault met) (sym is) ∙ holds))
     (prints_one (held_row fault met book) old new (subst (λ r. AddsRow r old new) (sym (other_row fault met book not))
     (subst (λ k. AddsRow (Words (codes "  " ++ (decimal met.times ++ (codes " events" ++ (named_last met.last
-    ++ (codes ": refused " ++ (decimal k ++ codes ", ")))))) []) old new) counts h)))
+    ++ (codes ": refused " ++ (decimal k ++ codes ", ")))))) fault []) old new) counts h)))
+
+-- that of output that is not covered
+uncovered_row : (fault : Fault) (met : Meeting) (book : Book) → fault ≡ refusal.NotCovered → held_row fault met book
+    ≡ Words (codes "  " ++ (output_text (waiting_in book) ++ (codes ": " ++ refused_text fault))) fault (covered_text book)
+uncovered_row fault met book is = subst (λ (f : Fault). held_row f met book
+    ≡ Words (codes "  " ++ (output_text (waiting_in book) ++ (codes ": " ++ refused_text f))) f (covered_text book)) (sym is) refl
+
+pub tells_uncovered : (fault : Fault) (met : Meeting) (book : Book) (waiting : Waiting) (number : ℕ) (old new : Printed)
+    → fault ≡ refusal.NotCovered → waiting ≡ waiting_in book → holds_up fault met waiting ≡ true → number ≡ number_of fault
+    → AddsRow (Words (codes "  " ++ (output_text waiting ++ (codes ": refused " ++ (decimal number ++ codes ", ")))) fault
+    (covered_text book)) old new → Prints (held_if fault met book) old new
+tells_uncovered fault met book waiting number old new not is holds counts h =
+    subst (λ b. Prints (if b then held_row fault met book ∷ [] else []) old new)
+    (sym (ap (holds_up fault met) (sym is) ∙ holds))
+    (prints_one (held_row fault met book) old new (subst (λ r. AddsRow r old new) (sym (uncovered_row fault met book not))
+    (subst (λ (w : Waiting). AddsRow (Words (codes "  " ++ (output_text w
+    ++ (codes ": refused " ++ (decimal (number_of fault) ++ codes ", ")))) fault (covered_text book)) old new) is
+    (subst (λ (k : ℕ). AddsRow (Words (codes "  " ++ (output_text waiting
+    ++ (codes ": refused " ++ (decimal k ++ codes ", ")))) fault (covered_text book)) old new) counts h))))
 
 -- what is told of one refusal more
 pub tells_held_more : (tape : List Played) (book : Book) (all : List Fault) (i : ℕ) (d : Fault) (met : Meeting)

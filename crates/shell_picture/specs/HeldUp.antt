@@ -38,9 +38,9 @@ covered_text book =
 -- the line of a refusal: what waits if output is not covered, otherwise how many events were refused
 abbrev pub held_row : Fault → Meeting → Book → Row
 held_row NotCovered met book =
-    Words (codes "  " ++ (output_text (waiting_in book) ++ (codes ": " ++ refused_text NotCovered))) (covered_text book)
+    Words (codes "  " ++ (output_text (waiting_in book) ++ (codes ": " ++ refused_text NotCovered))) NotCovered (covered_text book)
 held_row fault met book =
-    Words (codes "  " ++ (decimal met.times ++ (codes " events" ++ (named_last met.last ++ (codes ": " ++ refused_text fault))))) []
+    Words (codes "  " ++ (decimal met.times ++ (codes " events" ++ (named_last met.last ++ (codes ": " ++ refused_text fault))))) fault []
 
 abbrev pub held_if : Fault → Meeting → Book → List Row
 held_if fault met book = if holds_up fault met (waiting_in book) then held_row fault met book ∷ [] else []

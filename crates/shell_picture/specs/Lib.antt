@@ -1,3 +1,4 @@
 pub mod Answers
 pub mod HeldUp
 pub mod Pictures
+pub mod Screens

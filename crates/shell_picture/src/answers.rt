@@ -1,13 +1,16 @@
 //! What lines that are not events answer.
 ghost use Rattle.std.specs.Prelude.{◌≡◌, ◌∷◌, [], IfOk, Some, drop, length};
 ghost use Rattle.shell_book.specs.Texts.{AddsSome, Prints, Text};
-ghost use Rattle.shell_picture.specs.Answers.{counted, message_text, others_text, refused, sum_of, sum_row};
+ghost use Rattle.shell_picture.specs.Screens.{line_rows, screen_rows};
+ghost use Rattle.shell_picture.specs.Answers.{counted, help_rows, message_text, others_text, refusal_rows, refused, sum_of, sum_row};
 
-use crate::screen::{Dump, ScreenLine};
+use crate::lists::{FormLine, RefusalLine};
+use crate::screen::{Dump, ScreenHead, ScreenLine};
 use disk_dcdd::SectorAddress;
 use event_callbacks::PORTS;
 use i8080_words::{Fault, R};
 use pair_events::Reply;
+use script_language::first_line;
 use shared_disk::SectorRead;
 use shell_book::{Book, Played, Printed};
 use shell_language::{forms, refusals};
@@ -19,25 +22,42 @@ pub fn print_refusal(fault: Fault, printed: &mut Printed) -> Result<(), AllocErr
     ensures some { IfOk result (λ _. AddsSome printed.old printed.new) }
     ensures told { IfOk result (λ _. Prints (refused fault ∷ []) printed.old printed.new) }
 {
-    printed.around(&format_args!("refused {}, ", fault.number()), &fault, &"")?;
+    printed.around(&format_args!("refused {}, ", fault.number()), fault, &"")?;
     Ok(())
 }
 
 /// What the terminal of a port has accepted, as text: all of it, or what came after its first so many bytes.
+#[tactic(auto, using(crate::proofs::Screens::screen_shown, crate::proofs::Screens::screen_refused))]
 pub fn print_screen(
     port: u8,
     bytes: &[u8],
     seen: Option<usize>,
     printed: &mut Printed,
-) -> Result<(), AllocError> {
+) -> Result<(), AllocError>
+    ensures { IfOk result (λ _. Prints (screen_rows port bytes.now seen) printed.old printed.new) }
+{
     if usize::from(port) >= PORTS {
         return print_refusal(Fault::Unknown, printed);
     }
     let shown = after(bytes, seen.unwrap_or(0));
-    let new = if seen.is_some() { "new " } else { "" };
-    printed.line(&format_args!("screen {port}: {} {new}bytes", shown.len()))?;
-    for line in shown.split_inclusive(|byte| *byte == b'\n') {
+    let head = ScreenHead {
+        port,
+        count: shown.len(),
+        is_new: seen.is_some(),
+    };
+    printed.line(&head)?;
+    print_lines(shown, printed)
+}
+
+// The lines of what a terminal shows.
+fn print_lines(text: &[u8], printed: &mut Printed) -> Result<(), AllocError>
+    ensures { IfOk result (λ _. Prints (line_rows text.now) printed.old printed.new) }
+{
+    let mut rest = text;
+    'lines: while !rest.is_empty() {
+        let (line, after) = first_line(rest);
         printed.line(&ScreenLine(line))?;
+        rest = after;
     }
     Ok(())
 }
@@ -93,17 +113,23 @@ pub fn print_last(book: &Book, printed: &mut Printed) -> Result<(), AllocError>
 }
 
 /// All forms of lines.
-pub fn print_help(printed: &mut Printed) -> Result<(), AllocError> {
+#[tactic(auto, using(shell_book::proofs::Adding::prints_none))]
+pub fn print_help(printed: &mut Printed) -> Result<(), AllocError>
+    ensures { IfOk result (λ _. Prints help_rows printed.old printed.new) }
+{
     for form in forms() {
-        printed.line(&format_args!("{:<24}{}", form.usage, form.meaning))?;
+        printed.line(&FormLine(form))?;
     }
     Ok(())
 }
 
 /// All refusals of events.
-pub fn print_refusals(printed: &mut Printed) -> Result<(), AllocError> {
+#[tactic(auto, using(shell_book::proofs::Adding::prints_none))]
+pub fn print_refusals(printed: &mut Printed) -> Result<(), AllocError>
+    ensures { IfOk result (λ _. Prints refusal_rows printed.old printed.new) }
+{
     for fault in refusals() {
-        printed.line(&format_args!("{:<4}{fault}", fault.number()))?;
+        printed.line(&RefusalLine(*fault))?;
     }
     Ok(())
 }
@@ -132,7 +158,7 @@ pub fn print_sum(tape: &[Played], printed: &mut Printed) -> Result<(), AllocErro
         Some(Err(fault)) => {
             let number = fault.number();
             let front = format_args!("{happened} done, the last: refused {number}, ");
-            printed.around(&front, &fault, &others)?;
+            printed.around(&front, fault, &others)?;
             Ok(())
         }
     }

@@ -45,13 +45,13 @@ fn print_if(
                 "; {} of {} entries are acknowledged",
                 book.held, book.logged
             );
-            printed.around(&front, &fault, &back)?;
+            printed.around(&front, fault, &back)?;
             Ok(())
         }
         _ => {
             let Meeting { times, last } = met;
             let front = format_args!("  {times} events{}: refused {number}, ", Last(last));
-            printed.around(&front, &fault, &"")?;
+            printed.around(&front, fault, &"")?;
             Ok(())
         }
     }

@@ -4,6 +4,7 @@
 mod answers;
 mod held_up;
 mod lanes;
+mod lists;
 mod picture;
 mod screen;
 mod words;

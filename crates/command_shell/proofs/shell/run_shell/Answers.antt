@@ -1,9 +1,27 @@
--- The answers to a block come after the others; a failure leaves those that were written.
-use Rattle.command_shell.proofs.Sessions.{answers_until, writes_more}
+-- A block comes after what was read; a failure leaves the answers that were written.
+use Rattle.std.proofs.Common.{◌≡◌, sym, ◌∙◌, take, false, true, rules}
+use Rattle.command_shell.specs.Sessions.{ends_in}
+use Rattle.command_shell.proofs.Sessions.{fails_after, hears_last, hears_quit, none_read, read_more, some_read, writes_more}
 use Rattle.command_shell.proofs.shell.run_shell.Goals as goal
 
 pub blocks-2-preserved : goal.blocks-2-preserved
-blocks-2-preserved g c = writes_more _ _ _ c.blocks-2.invariant c.in_ok-outcome.ensures.written
+blocks-2-preserved g c =
+    let old = g.O.Write.contents c.args.writer.now in
+    let mid = g.O.Write.contents c.blocks-2.writer in
+    let new = g.O.Write.contents c.take_block.new.writer in
+    let first = g.R.Read.remaining c.args.reader.now in
+    let now = g.R.Read.remaining c.blocks-2.reader in
+    let after = g.R.Read.remaining c.read_block.new.reader in
+    let room = c.read_block.new.block in
+    let block = take c.in-Some.count room in
+    let line = c.blocks-2.line.items in
+    let not : ends_in line block ≡ false = sym c.in_ok-outcome.ensures.ended ∙ sym c.if-has_ended.ensures in
+    record {
+      written = writes_more old mid new c.blocks-2.invariant.written c.in_ok-outcome.ensures.written;
+      heard = read_more first now after line old mid new c.blocks-2.invariant.heard block
+          (some_read now after room c.in_ok-count.field-0 c.in-Some.count c.in-Some.is c.in_ok-count.ensures.bytes)
+          c.take_block.new.line.items not (c.in_ok-outcome.ensures.kept (sym c.if-has_ended.ensures)) c.in_ok-outcome.ensures.heard;
+    }
 
 pub returns-in_err-outcome : goal.returns-in_err-outcome
 returns-in_err-outcome g c =
@@ -12,19 +30,33 @@ returns-in_err-outcome g c =
     let old = g.O.Write.contents c.args.writer.now in
     let mid = g.O.Write.contents c.blocks-2.writer in
     let new = g.O.Write.contents c.take_block.new.writer in
-    answers_until r.result e old mid new r.ensures.1 c.blocks-2.invariant c.in_err-outcome.ensures.written
+    fails_after (g.R.Read.remaining c.args.reader.now) r.result e old mid new r.ensures.1 c.blocks-2.invariant.written
+    c.in_err-outcome.ensures.written
 
-pub returns-in_err-answer : goal.returns-in_err-answer
-returns-in_err-answer g c =
-    let r = c.from_residual-in_err-answer in
-    let e = c.in_err-answer.field-0.0 in
+pub returns-in_default : goal.returns-in_default
+returns-in_default g c =
     let old = g.O.Write.contents c.args.writer.now in
     let mid = g.O.Write.contents c.blocks-2.writer in
-    let new = g.O.Write.contents c.answer.new.writer in
-    answers_until r.result e old mid new r.ensures.1 c.blocks-2.invariant c.in_err-answer.ensures.written
-
-pub returns : goal.returns
-returns g c = writes_more _ _ _ c.blocks-2.invariant c.in_ok-answer.ensures.written
+    let new = g.O.Write.contents c.answer_last.new.writer in
+    let first = g.R.Read.remaining c.args.reader.now in
+    let now = g.R.Read.remaining c.blocks-2.reader in
+    let after = g.R.Read.remaining c.read_block.new.reader in
+    hears_last first now after c.blocks-2.line.items c.deref.result.now old mid new c.answer_last.result
+    c.blocks-2.invariant.written c.blocks-2.invariant.heard
+    (none_read now after c.read_block.new.block c.in_ok-count.field-0 (search rules) c.in_ok-count.ensures.bytes) c.deref.ensures.value
+    c.answer_last.ensures.written c.answer_last.ensures.heard
 
 pub returns-then-has_ended : goal.returns-then-has_ended
-returns-then-has_ended g c = writes_more _ _ _ c.blocks-2.invariant c.in_ok-outcome.ensures.written
+returns-then-has_ended g c =
+    let old = g.O.Write.contents c.args.writer.now in
+    let mid = g.O.Write.contents c.blocks-2.writer in
+    let new = g.O.Write.contents c.take_block.new.writer in
+    let first = g.R.Read.remaining c.args.reader.now in
+    let now = g.R.Read.remaining c.blocks-2.reader in
+    let after = g.R.Read.remaining c.read_block.new.reader in
+    let room = c.read_block.new.block in
+    let block = take c.in-Some.count room in
+    let ends : ends_in c.blocks-2.line.items block ≡ true = sym c.in_ok-outcome.ensures.ended ∙ sym c.if-has_ended.ensures in
+    hears_quit first now after c.blocks-2.line.items old mid new c.blocks-2.invariant.heard block
+    (some_read now after room c.in_ok-count.field-0 c.in-Some.count c.in-Some.is c.in_ok-count.ensures.bytes) ends
+    c.in_ok-outcome.ensures.heard

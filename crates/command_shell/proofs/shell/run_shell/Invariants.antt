@@ -1,6 +1,11 @@
--- The answers so far were written one after another.
+-- The answers so far were written one after another, to the lines of what was read.
 use Rattle.command_shell.specs.Sessions.{Writes}
+use Rattle.command_shell.proofs.Sessions.{HasRead}
 use Rattle.command_shell.proofs.shell.run_shell.Given as goal
 
 abbrev pub invariant-blocks-2 : goal.invariant-blocks-2
-invariant-blocks-2 g l = Writes (g.O.Write.contents l.fn.writer) (g.O.Write.contents l.writer)
+invariant-blocks-2 g l = record {
+  written : Writes (g.O.Write.contents l.fn.writer) (g.O.Write.contents l.writer);
+  heard : HasRead (g.R.Read.remaining l.fn.reader) (g.R.Read.remaining l.reader) l.line.items (g.O.Write.contents l.fn.writer)
+      (g.O.Write.contents l.writer);
+}
