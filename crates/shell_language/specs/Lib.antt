@@ -1,4 +1,5 @@
 pub mod Lines
+pub mod Looks
 pub mod Quoting
 pub mod Records
 pub mod Refusals
