@@ -1,3 +1,6 @@
 pub mod Answers
+pub mod Assembly
 pub mod HeldUp
+pub mod Listings
+pub mod Machines
 pub mod Pictures

@@ -43,7 +43,7 @@ pub fn print_screen(
 }
 
 // What comes after so many bytes.
-fn after(bytes: &[u8], seen: usize) -> &[u8]
+pub(crate) fn after(bytes: &[u8], seen: usize) -> &[u8]
     ensures { result.now ≡ drop seen bytes.now }
 {
     if seen < bytes.len() {
