@@ -4,5 +4,6 @@ pub mod Roles
 pub mod Pages
 pub mod Seats
 pub mod Due
+pub mod Guests
 pub mod Calls
 pub mod Noting

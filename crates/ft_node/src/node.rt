@@ -1,5 +1,5 @@
 //! A node, in whatever role.
-ghost use Rattle.std.specs.Prelude.{◌≡◌, ◌<◌, ℕ, Some, None, [], IfErr, IfOk, OnErr, OnOk};
+ghost use Rattle.std.specs.Prelude.{◌≡◌, ◌<◌, ℕ, Some, None, [], IfErr, IfOk, OnErr, OnOk, option_map};
 ghost use Rattle.clone_state.specs.Assembly.{nothing_gathered};
 ghost use Rattle.clone_state.specs.Parts.{part_count};
 ghost use Rattle.i8080_words.specs.declared.refusal.Fault.TheVariants.{WrongRole};
@@ -8,6 +8,7 @@ ghost use Rattle.pair_protocol.specs.Copying.{Copying};
 ghost use Rattle.pair_protocol.specs.Node as protocol;
 ghost use Rattle.pair_protocol.specs.Node.{halts};
 ghost use Rattle.ft_node.specs.Calls as calls;
+ghost use Rattle.ft_node.specs.Guests.{shown_machine};
 ghost use Rattle.ft_node.specs.Roles.{IsHalted, count_of};
 ghost use Rattle.ft_node.specs.Pages.{PagesGoOn, StepsWrite};
 ghost use Rattle.ft_node.specs.Seats.{IsNode, IsRole, MayRun, PagesStay, alone_board, board_of};
@@ -159,6 +160,21 @@ impl<B: Copies<H> + Drop, H: Drop> Node<B, H> {
             Node::Draining(winner) => winner.draining.receiver().generation(),
             Node::Alone(alone) => alone.generation,
             Node::Halted(halted) => halted.generation,
+        }
+    }
+
+    /// The guest of a node; none if the node has halted, or if it is still given its machine.
+    pub fn guest(&self) -> Option<&B>
+        ensures { (C : Copying B.State) (drives : ℕ) (x : protocol.Node B.State) → IsNode B.state B.machine C drives self.now x
+            → option_map (λ guest. B.state guest.now) result ≡ shown_machine x }
+    {
+        match self {
+            Node::Primary(primary) => Some(primary.recorder.board()),
+            Node::Backup(backup) => Some(backup.replayer.board()),
+            Node::Joining(_) => None,
+            Node::Draining(winner) => Some(winner.draining.board()),
+            Node::Alone(alone) => Some(&alone.board),
+            Node::Halted(_) => None,
         }
     }
 

@@ -1,4 +1,5 @@
 pub mod Words
+pub mod Guests
 pub mod Standing
 pub mod Running
 pub mod Shows

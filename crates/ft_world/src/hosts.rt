@@ -1,9 +1,10 @@
 //! The hosts of a pair, by their numbers.
 ghost use Rattle.pair_protocol.specs.Copying.{Copying};
-ghost use Rattle.std.specs.Prelude.{◌≡◌, ℕ, IfErr, IfOk, List, Some, slice_get};
+ghost use Rattle.std.specs.Prelude.{◌≡◌, ℕ, IfErr, IfOk, List, Some, option_map, slice_get};
 ghost use Rattle.std.specs.Borrow.{LendsSoOk, sem};
 ghost use Rattle.i8080_words.specs.declared.refusal.Fault.TheVariants.{Unknown};
 ghost use Rattle.pair_protocol.specs.Node as protocol;
+ghost use Rattle.ft_world.specs.Guests.{machine_at};
 ghost use Rattle.ft_world.specs.Lending.{HasNoNode, WithStation, hosts_row};
 ghost use Rattle.ft_world.specs.Opening.{HasSpare, JoinsHosts, host_refusal};
 ghost use Rattle.ft_world.specs.Shows.{AreHosts, IsStatusAt};
@@ -75,6 +76,16 @@ pub(crate) fn status<B: Copies<H> + Drop, H: Drop>(
         generation: station.node.generation(),
         count: station.node.count(),
     })
+}
+
+/// The guest of a node; none if no node has this number, or if it shows no machine.
+pub(crate) fn guest<B: Copies<H> + Drop, H: Drop>(hosts: &Vec<Host<B, H>>, node: u64) -> Option<&B>
+    ensures { (C : Copying B.State) (drives : ℕ) (nodes : List (protocol.Node B.State))
+        → AreHosts B.state B.machine C drives hosts.now.items nodes
+        → option_map (λ guest. B.state guest.now) result ≡ machine_at nodes node }
+{
+    let station = station(hosts, node).ok()?;
+    station.node.guest()
 }
 
 /// The inputs of a node, and the count up to which they settle it; no input and 0 if no node has this number.

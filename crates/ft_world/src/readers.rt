@@ -5,6 +5,7 @@ ghost use Rattle.pair_protocol.specs.World.{accepted, terminal, winner_in};
 ghost use Rattle.pair_protocol.specs.Settled.{Settled};
 ghost use Rattle.shared_disk.specs.Records.{faults_in, refusal_at};
 ghost use Rattle.ft_world.specs.Applies.{IsSectorOf, Shows};
+ghost use Rattle.ft_world.specs.Guests.{machine_at};
 ghost use Rattle.ft_world.specs.Pairs.{running_of};
 ghost use Rattle.ft_world.specs.Shows.{Agree, IsStatusAt};
 ghost use Rattle.ft_world.specs.Standing.{Course, machine_of};
@@ -56,6 +57,14 @@ impl<B: Copies<H> + Drop, D: SectorStore, H: Drop> Pair<B, D, H> {
             → IsStatusAt B.machine (slice_get c.world.nodes node) result }
     {
         hosts::status(&self.hosts, node)
+    }
+
+    /// The guest of a node; none if no node has this number, or if it shows no machine.
+    pub(crate) fn guest(&self, node: u64) -> Option<&B>
+        ensures { (c : Course B.State) → Shows B.state B.copied B.machine D.records (running_of self.now) c
+            → option_map (λ guest. B.state guest.now) result ≡ machine_at c.world.nodes node }
+    {
+        hosts::guest(&self.hosts, node)
     }
 
     /// The message of this number, if it was sent.

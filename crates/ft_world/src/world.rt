@@ -47,6 +47,7 @@ impl<B: Copies<H> + Drop, D: SectorStore, H: Drop> World<B, D, H> {
     ghost use Rattle.ft_world.specs.Beginning.{MayBegin, MayBeginSome, beginning};
     ghost use Rattle.ft_world.specs.Chaining.{HaveApplied};
     ghost use Rattle.ft_world.specs.Freshened.{PagesAfter, TellsStale};
+    ghost use Rattle.ft_world.specs.Guests.{machine_at};
     ghost use Rattle.ft_world.specs.Shows.{Agree, IsStatusAt};
     ghost use Rattle.ft_world.specs.Standing.{Course, machine_of};
     ghost use Rattle.ft_world.specs.Staying.{SparesAfter, SparesLeft, Stays};
@@ -184,6 +185,15 @@ impl<B: Copies<H> + Drop, D: SectorStore, H: Drop> World<B, D, H> {
             → IsStatusAt B.machine (slice_get c.world.nodes node) result }
     {
         self.pair.node(node)
+    }
+
+    /// The guest of a node, with the machine that the world shows there; `None` if no node has this number, if it has
+    /// halted, or if it is still given its machine.
+    pub fn guest(&self, node: u64) -> Option<&B>
+        ensures { (c : Course B.State) → Shows B.state B.copied B.machine D.records self.now c
+            → option_map (λ guest. B.state guest.now) result ≡ machine_at c.world.nodes node }
+    {
+        self.pair.guest(node)
     }
 
     /// The message of this number, if it was sent.

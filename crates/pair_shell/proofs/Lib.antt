@@ -1,3 +1,4 @@
+pub mod Looking
 pub mod Backups
 pub mod Playing
 pub mod Tracing

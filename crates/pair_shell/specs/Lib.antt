@@ -1,3 +1,4 @@
 pub mod Backups
+pub mod Looking
 pub mod Playing
 pub mod Sessions

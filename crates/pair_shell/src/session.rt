@@ -2,6 +2,7 @@
 ghost use Rattle.event_callbacks.specs.declared.devices.TheConstants.{SENT, SECTOR, WRITTEN};
 ghost use Rattle.event_callbacks.specs.Keeping.{Keeps};
 
+use crate::machine::take_line;
 use crate::notes::Notes;
 use event_callbacks::Completes;
 use i8080_words::Fault;
@@ -30,6 +31,7 @@ impl<T: Completes + Drop + Copy, S: Completes + Drop + Copy, W: Completes + Drop
     ghost use Rattle.shell_language.specs.Saying.{said};
     ghost use Rattle.shell_opening.specs.Openings.{IsSame, SetsUp, SetsUpSaid};
     ghost use Rattle.pair_shell.specs.Sessions.{AltairsPlay, HeedsSaid, IsAsBefore, IsHeeded, is_quit, trace_after};
+    ghost use Rattle.pair_shell.specs.Looking.{IsLooked, IsSeenSaid};
     ghost use Rattle.shell_book.specs.Outcomes.{is_ended};
     ghost use Rattle.shell_book.specs.Tapes.{Begins, trace_text};
     ghost use Rattle.shell_book.specs.declared.outcome.Outcome.TheVariants as outcome;
@@ -47,7 +49,7 @@ impl<T: Completes + Drop + Copy, S: Completes + Drop + Copy, W: Completes + Drop
     /// Answers a line, which is without its LF and a CR before that. What it makes happen is on the tape, event by event,
     /// each with its answer; a trace says it line by line. A line that is wrong changes nothing. One that is an event of the
     /// script language makes that event alone, and is answered as a script is.
-    #[tactic(auto, using(crate::proofs::Playing::line_plays, crate::proofs::Playing::line_boots, crate::proofs::Playing::line_plays_nothing, crate::proofs::Tracing::begins_nothing, crate::proofs::Tracing::heeds_said, crate::proofs::Tracing::ends_said, crate::proofs::Tracing::ends_not, crate::proofs::Tracing::sets_up_said, crate::proofs::Tracing::switches, crate::proofs::Tracing::switches_not))]
+    #[tactic(auto, using(crate::proofs::Playing::line_plays, crate::proofs::Playing::line_boots, crate::proofs::Playing::line_plays_nothing, crate::proofs::Tracing::begins_nothing, crate::proofs::Tracing::heeds_said, crate::proofs::Looking::seen_said, crate::proofs::Tracing::ends_said, crate::proofs::Tracing::ends_not, crate::proofs::Tracing::sets_up_said, crate::proofs::Tracing::switches, crate::proofs::Tracing::switches_not))]
     pub fn answer(
         &mut self,
         alloc: Global,
@@ -65,6 +67,8 @@ impl<T: Completes + Drop + Copy, S: Completes + Drop + Copy, W: Completes + Drop
             → Begins (trace_text self.new.notes.tape.items) (string_bytes told.1)) }
         ensures heeded { IfOk result (λ told. told.0 ≡ outcome.Done → HeedsSaid (said text.now)
             self.new.notes.tape.items self.old.is_traced [] (string_bytes told.1)) }
+        ensures seen { IfOk result (λ told. told.0 ≡ outcome.Done → IsSeenSaid (λ d. d.board.guest) (said text.now)
+            self.new.notes.tape.items self.new.world self.old.is_traced (string_bytes told.1)) }
         ensures wrong { said text.now ≡ None → IfOk result (λ told. told.0 ≡ outcome.Refused) }
         ensures set { IfOk result (λ told. told.0 ≡ outcome.Done
             → SetsUpSaid (said text.now) self.old.opening self.new.opening) }
@@ -105,6 +109,8 @@ impl<T: Completes + Drop + Copy, S: Completes + Drop + Copy, W: Completes + Drop
             → Begins (trace_text self.new.notes.tape.items) (string_bytes printed.new.text)) }
         ensures heeded { IfOk result (λ told. told ≡ outcome.Done → IsHeeded line.entry self.new.notes.tape.items
             printed.old.is_traced (string_bytes printed.old.text) (string_bytes printed.new.text)) }
+        ensures looked { IfOk result (λ told. told ≡ outcome.Done → IsLooked (λ d. d.board.guest) line.entry
+            self.new.notes.tape.items self.new.world printed.old printed.new) }
         ensures set { IfOk result (λ told. told ≡ outcome.Done
             → SetsUp line.entry self.old.opening self.new.opening) }
         ensures switched { self.new.is_traced ≡ trace_after (Some line.entry) self.old.is_traced }
@@ -138,7 +144,7 @@ impl<T: Completes + Drop + Copy, S: Completes + Drop + Copy, W: Completes + Drop
     }
 
     // Does what a line says, other than one of the setup; the pair boots if it has not yet.
-    #[tactic(auto, using(crate::proofs::Playing::line_plays, crate::proofs::Playing::line_boots, crate::proofs::Playing::line_plays_nothing, crate::proofs::Tracing::begins_nothing))]
+    #[tactic(auto, using(crate::proofs::Playing::line_plays, crate::proofs::Playing::line_boots, crate::proofs::Playing::line_plays_nothing, crate::proofs::Tracing::begins_nothing, crate::proofs::Looking::looked_in))]
     fn take_event(
         &mut self,
         alloc: Global,
@@ -159,6 +165,8 @@ impl<T: Completes + Drop + Copy, S: Completes + Drop + Copy, W: Completes + Drop
             → Begins (trace_text self.new.notes.tape.items) (string_bytes printed.new.text)) }
         ensures heeded { IfOk result (λ told. told ≡ outcome.Done → IsHeeded line.entry self.new.notes.tape.items
             printed.old.is_traced (string_bytes printed.old.text) (string_bytes printed.new.text)) }
+        ensures looked { IfOk result (λ told. told ≡ outcome.Done → IsLooked (λ d. d.board.guest) line.entry
+            self.new.notes.tape.items self.new.world printed.old printed.new) }
         ensures opening { self.new.opening ≡ self.old.opening }
         ensures goes_on { IfOk result (λ told. is_ended told ≡ false) }
         ensures switched { self.new.is_traced ≡ self.old.is_traced }
@@ -166,7 +174,7 @@ impl<T: Completes + Drop + Copy, S: Completes + Drop + Copy, W: Completes + Drop
             self.old.world self.new.world self.old.notes self.new.notes self.old.is_traced self.new.is_traced) }
     {
         if let Some(world) = &mut self.world {
-            self.notes.take(alloc, &self.opening, world, line, printed)?;
+            take_line(alloc, &mut self.notes, &self.opening, world, line, printed)?;
             return Ok(Outcome::Done);
         }
         let setup = &self.opening.setup;
@@ -176,9 +184,14 @@ impl<T: Completes + Drop + Copy, S: Completes + Drop + Copy, W: Completes + Drop
             Err(Fault::OutOfMemory) => return Err(AllocError),
             Err(_) => return refuse(self.opening.detached(), printed),
         };
-        let taken = self
-            .notes
-            .take(alloc, &self.opening, &mut world, line, printed);
+        let taken = take_line(
+            alloc,
+            &mut self.notes,
+            &self.opening,
+            &mut world,
+            line,
+            printed,
+        );
         self.world = Some(world);
         taken?;
         Ok(Outcome::Done)

@@ -1,5 +1,6 @@
 pub mod Forms
 pub mod Lines
+pub mod Looks
 pub mod Mistakes
 pub mod Quoting
 pub mod Records

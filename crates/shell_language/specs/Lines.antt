@@ -4,11 +4,12 @@ use Rattle.std.specs.List.{position_or_len}
 use Rattle.std.specs.Result.{result_ok}
 use Rattle.disk_dcdd.specs.declared.address.SectorAddress.{SectorAddress}
 use Rattle.script_language.specs.Words.{Reader, words_of, whole, ◌>>=◌}
-use Rattle.script_language.specs.Grammar.{number, small, between, says, bad}
+use Rattle.script_language.specs.Grammar.{number, small, between, says}
 use Rattle.shell_language.specs.declared.line.ShellLine.{ShellLine}
 use Rattle.shell_language.specs.declared.line.ShellLine.TheVariants as shell
 use Rattle.shell_language.specs.declared.own.OwnWord.{OwnWord}
 use Rattle.shell_language.specs.declared.own.OwnWord.TheVariants as own
+use Rattle.shell_language.specs.Looks.{look_of}
 use Rattle.shell_language.specs.Quoting.{text_in}
 use Rattle.shell_language.specs.Records.{record_of}
 
@@ -18,6 +19,7 @@ own_words =
     (codes "load", own.Load) ∷ (codes "send", own.Send) ∷ (codes "log", own.Log)
     ∷ (codes "sendpart", own.SendPart) ∷ (codes "part", own.Part) ∷ (codes "arrive", own.Arrive)
     ∷ (codes "type", own.Type) ∷ (codes "run", own.Run) ∷ (codes "screen", own.Screen) ∷ (codes "sector", own.Sector)
+    ∷ (codes "regs", own.Registers) ∷ (codes "look", own.Memory) ∷ (codes "dis", own.Listing)
     ∷ (codes "last", own.Last) ∷ (codes "check", own.Check) ∷ (codes "picture", own.Picture) ∷ (codes "trace", own.Trace)
     ∷ (codes "help", own.Help) ∷ (codes "quit", own.Quit) ∷ []
 
@@ -82,7 +84,7 @@ shown_of own.Picture = pictured
 shown_of own.Trace = switch
 shown_of own.Help = helped
 shown_of own.Quit = says shell.Quit
-shown_of other = bad
+shown_of other = look_of other
 
 -- All lines that are words; `load` and `type` are none.
 abbrev pub own_of : OwnWord → Reader ShellLine

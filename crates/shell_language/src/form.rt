@@ -29,7 +29,7 @@ macro_rules! forms {
 
 // All forms.
 #[rattlefmt::skip]
-static FORMS: [Form; 58] = forms![
+static FORMS: [Form; 63] = forms![
     ["mem", [Address, Bytes], "mem AAAA HH ..", "setup: these bytes from this address on"],
     ["load", [Record], "load :LLAAAATTDD..CC", "setup: a record of Intel HEX; the word load may be left out"],
     ["drives", [Within(1, 4)], "drives N", "setup: 1 to 4 drives"],
@@ -80,6 +80,11 @@ static FORMS: [Form; 58] = forms![
     ["node", [Number], "node N", "a node's role, generation and count"],
     ["last", [], "last", "the number of the last message"],
     ["sector", [Within(0, 3), Within(0, 76), Within(0, 31)], "sector D T S", "what the disk has there"],
+    ["regs", [Number], "regs N", "the registers of node N's machine, as it is now"],
+    ["look", [Number, Address], "look N AAAA", "16 bytes of its memory from address AAAA on"],
+    ["look", [Number, Address, Within(1, 256)], "look N AAAA K", "K bytes of it"],
+    ["dis", [Number, Address], "dis N AAAA", "8 instructions in it, in Intel's assembly language"],
+    ["dis", [Number, Address, Within(1, 64)], "dis N AAAA K", "K instructions"],
     ["check", [], "check", "compares what is settled with the single machine"],
     ["picture", [], "picture", "the last events as a diagram"],
     ["picture", [Number, Number], "picture A B", "the events from A to B, counted from 0"],

@@ -13,7 +13,7 @@ pub enum Kind {
     /// A decimal number below 2^64.
     Number,
     /// A decimal number from one to another.
-    Within(u8, u8),
+    Within(u16, u16),
     /// A byte, as two hexadecimal digits.
     Byte,
     /// An address, as four hexadecimal digits.
@@ -36,7 +36,10 @@ impl Kind {
         let mut one = Words::of(word);
         match self {
             Kind::Number => one.number().is_some(),
-            Kind::Within(least, greatest) => one.number_within(least, greatest).is_some(),
+            Kind::Within(least, greatest) => match one.number() {
+                Some(number) => u64::from(least) <= number && number <= u64::from(greatest),
+                None => false,
+            },
             Kind::Byte | Kind::Bytes => one.byte().is_some(),
             Kind::Address => one.address().is_some(),
             Kind::Exactly(text) => word == text.as_bytes(),

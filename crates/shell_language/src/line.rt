@@ -1,6 +1,7 @@
 //! What the lines of the shell say.
 
 use crate::loading::Record;
+use crate::look::Look;
 use crate::quoted::Quoted;
 use disk_dcdd::SectorAddress;
 use pair_events::Event;
@@ -81,6 +82,8 @@ pub enum ShellLine<'a> {
     },
     /// What the disk has in a sector.
     Sector(SectorAddress),
+    /// What a node's machine has in its registers, or in its memory.
+    Look(Look),
     /// The number of the last message.
     Last,
     /// Whether the pair has done what one machine does.

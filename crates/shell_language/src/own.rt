@@ -15,6 +15,9 @@ pub enum OwnWord {
     Run,
     Screen,
     Sector,
+    Registers,
+    Memory,
+    Listing,
     Last,
     Check,
     Picture,
@@ -24,7 +27,7 @@ pub enum OwnWord {
 }
 
 // Each with its word.
-static OWN_WORDS: [(&[u8], OwnWord); 16] = [
+static OWN_WORDS: [(&[u8], OwnWord); 19] = [
     (b"load", OwnWord::Load),
     (b"send", OwnWord::Send),
     (b"log", OwnWord::Log),
@@ -35,6 +38,9 @@ static OWN_WORDS: [(&[u8], OwnWord); 16] = [
     (b"run", OwnWord::Run),
     (b"screen", OwnWord::Screen),
     (b"sector", OwnWord::Sector),
+    (b"regs", OwnWord::Registers),
+    (b"look", OwnWord::Memory),
+    (b"dis", OwnWord::Listing),
     (b"last", OwnWord::Last),
     (b"check", OwnWord::Check),
     (b"picture", OwnWord::Picture),

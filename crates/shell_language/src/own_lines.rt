@@ -5,6 +5,7 @@ ghost use Rattle.script_language.specs.Words.{found, whole, words_of};
 ghost use Rattle.shell_language.specs.Lines.{all, address, helped, is_quote, own_of, pictured, port_in, quoted_in, run_by, screen_by, shown_of, switch, typed_in};
 
 use crate::line::{Loss, ShellLine, Stretch, Turns};
+use crate::look::look_line;
 use crate::own::OwnWord;
 use crate::quoted::Quoted;
 use disk_dcdd::SectorAddress;
@@ -69,7 +70,7 @@ fn line_shown<'a>(own: OwnWord, words: &mut Words<'a>) -> Option<ShellLine<'a>>
         OwnWord::Trace => trace(words),
         OwnWord::Help => help(words),
         OwnWord::Quit => Some(ShellLine::Quit),
-        _ => None,
+        other => look_line(other, words),
     }
 }
 

@@ -63,7 +63,7 @@ fn print_lines(text: &[u8], printed: &mut Printed) -> Result<(), AllocError>
 }
 
 // What comes after so many bytes.
-fn after(bytes: &[u8], seen: usize) -> &[u8]
+pub(crate) fn after(bytes: &[u8], seen: usize) -> &[u8]
     ensures { result.now ≡ drop seen bytes.now }
 {
     if seen < bytes.len() {

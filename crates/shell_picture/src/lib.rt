@@ -1,10 +1,14 @@
-//! What the shell shows of a pair: events as a diagram, what a terminal and a sector have, and how a tape has gone.
+//! What the shell shows of a pair: events as a diagram, what a terminal, a sector and a machine have, and how a tape has gone.
 #![tactic(auto)]
 
 mod answers;
+mod assembly;
+mod digits;
 mod held_up;
 mod lanes;
+mod listing;
 mod lists;
+mod machine;
 mod picture;
 mod screen;
 mod words;
@@ -13,4 +17,6 @@ pub use answers::{
     print_help, print_last, print_refusal, print_refusals, print_screen, print_sector, print_sum,
 };
 pub use held_up::print_held_up;
+pub use listing::print_listing;
+pub use machine::{print_memory, print_registers};
 pub use picture::print_picture;

@@ -1,0 +1,81 @@
+-- What is printed of a machine: its registers, bytes of its memory.
+use Rattle.std.specs.Prelude.{ℕ, zero, suc, ◌+◌, ◌/◌, ◌%◌, nat_le, nat_lt, Bool, true, false, ◌&&◌, if◌then◌else◌, List, [], ◌∷◌, ◌++◌, take, drop, length, codes}
+use Rattle.std.specs.Fmt.{decimal}
+use Rattle.std.specs.List.{flat_map}
+use Rattle.i8080_words.specs.Arithmetic.{flag_byte, high_byte, low_byte, wrapped}
+use Rattle.i8080_words.specs.declared.arithmetic.Flags.{Flags}
+use Rattle.i8080_words.specs.declared.registers.Interrupts.{Interrupts}
+use Rattle.i8080_words.specs.declared.registers.Interrupts.TheVariants.{Off, Soon, On}
+use Rattle.i8080_words.specs.declared.registers.Processor.{Processor}
+use Rattle.i8080_words.specs.declared.registers.Regs.{Regs}
+use Rattle.pair_events.specs.Printed.{byte_text, bytes_text}
+use Rattle.shell_book.specs.Texts.{Row, Text}
+
+-- AAAA: an address as four hexadecimal digits
+abbrev pub address_text : ℕ → List ℕ
+address_text address = byte_text (high_byte address) ++ byte_text (low_byte address)
+
+-- bytes as characters; 46 is the dot for one that is not printable
+abbrev pub character_of : ℕ → ℕ
+character_of byte = if nat_le 32 byte && nat_lt byte 127 then byte else 46
+
+abbrev pub characters_text : List ℕ → List ℕ
+characters_text bytes = flat_map (λ (byte : ℕ). character_of byte ∷ []) bytes
+
+-- `A HH F HH B HH C HH D HH E HH H HH L HH SP AAAA PC AAAA`; F is the flags as PUSH PSW has them
+abbrev pub registers_text : Regs → List ℕ
+registers_text r =
+    codes "A " ++ (byte_text r.a ++ (codes " F " ++ (byte_text (flag_byte r.flags) ++ (codes " B " ++ (byte_text r.b
+    ++ (codes " C " ++ (byte_text r.c ++ (codes " D " ++ (byte_text r.d ++ (codes " E " ++ (byte_text r.e ++ (codes " H "
+    ++ (byte_text r.h ++ (codes " L " ++ (byte_text r.l ++ (codes " SP " ++ (address_text r.sp ++ (codes " PC "
+    ++ address_text r.pc))))))))))))))))))
+
+-- a flag that is set is its letter
+abbrev pub letter_text : Bool → List ℕ → List ℕ
+letter_text true letter = letter
+letter_text false letter = codes "-"
+
+-- sign, zero, auxiliary carry, parity and carry
+abbrev pub flags_text : Flags → List ℕ
+flags_text f =
+    letter_text f.s (codes "S")
+    ++ (letter_text f.z (codes "Z") ++ (letter_text f.ac (codes "A") ++ (letter_text f.p (codes "P") ++ letter_text f.cy (codes "C"))))
+
+-- whether a request for an interrupt is accepted; `soon` is after the instruction that follows EI
+abbrev pub interrupts_text : Interrupts → List ℕ
+interrupts_text Off = codes "off"
+interrupts_text Soon = codes "soon"
+interrupts_text On = codes "on"
+
+abbrev pub halt_text : Bool → List ℕ
+halt_text true = codes "halted"
+halt_text false = codes "running"
+
+-- `flags SZAPC interrupts I H count C`
+abbrev pub state_text : Processor → ℕ → List ℕ
+state_text p count =
+    codes "flags " ++ (flags_text p.regs.flags ++ (codes " interrupts " ++ (interrupts_text p.interrupts ++ (codes " "
+    ++ (halt_text p.halted ++ (codes " count " ++ decimal count))))))
+
+-- `regs N`
+abbrev pub register_rows : Processor → ℕ → List Row
+register_rows p count = Text (registers_text p.regs) ∷ Text (state_text p count) ∷ []
+
+-- `AAAA HH ..  |TEXT|`: bytes of memory from an address on
+abbrev pub memory_text : ℕ → List ℕ → List ℕ
+memory_text address bytes =
+    address_text address ++ (codes " " ++ (bytes_text bytes ++ (codes "  |" ++ (characters_text bytes ++ codes "|"))))
+
+-- so many lines of sixteen bytes
+abbrev pub lines_from : ℕ → ℕ → List ℕ → List Row
+lines_from zero address bytes = []
+lines_from (suc lines) address bytes =
+    Text (memory_text address (take 16 bytes)) ∷ lines_from lines (wrapped (address + 16)) (drop 16 bytes)
+
+-- how many lines bytes take
+abbrev pub line_count : List ℕ → ℕ
+line_count bytes = (length bytes + 15) / 16
+
+-- `look N AAAA K`
+abbrev pub memory_rows : ℕ → List ℕ → List Row
+memory_rows from bytes = lines_from (line_count bytes) from bytes

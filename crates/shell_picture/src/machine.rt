@@ -1,0 +1,168 @@
+//! What a machine has in its registers and in its memory.
+ghost use Rattle.std.specs.Prelude.{◌≡◌, IfOk, Some, take};
+ghost use Rattle.shell_book.specs.Texts.{Prints};
+ghost use Rattle.shell_picture.specs.Machines.{flags_text, halt_text, interrupts_text, letter_text, memory_rows, memory_text, register_rows, registers_text, state_text};
+
+use crate::answers::after;
+use crate::digits::{Address, Characters, Hexadecimal, Spaced};
+use i8080_words::{Flags, Interrupts, Processor, Regs, psw};
+use shell_book::Printed;
+use std::alloc::AllocError;
+use std::fmt;
+
+// How many bytes a line has.
+const LINE: usize = 16;
+
+/// The registers of a processor, its flags and its interrupts, and how many steps it has executed.
+pub fn print_registers(
+    processor: &Processor,
+    count: u64,
+    printed: &mut Printed,
+) -> Result<(), AllocError>
+    ensures { IfOk result (λ _. Prints (register_rows processor.now count) printed.old printed.new) }
+{
+    printed.line(&Registers(processor.regs))?;
+    printed.line(&State { processor, count })?;
+    Ok(())
+}
+
+/// Bytes of memory from an address on, sixteen in each line.
+pub fn print_memory(from: u16, bytes: &[u8], printed: &mut Printed) -> Result<(), AllocError>
+    ensures { IfOk result (λ _. Prints (memory_rows from bytes.now) printed.old printed.new) }
+{
+    let mut rest = bytes;
+    let mut address = from;
+    'lines: while !rest.is_empty() {
+        let bytes = before(rest, LINE);
+        printed.line(&MemoryLine { address, bytes })?;
+        address = address.wrapping_add(LINE as u16);
+        rest = after(rest, LINE);
+    }
+    Ok(())
+}
+
+// The first of some bytes, at most so many.
+fn before(bytes: &[u8], count: usize) -> &[u8]
+    ensures { result.now ≡ take count bytes.now }
+{
+    if count < bytes.len() {
+        &bytes[..count]
+    } else {
+        bytes
+    }
+}
+
+// The registers.
+#[derive(Clone, Copy)]
+struct Registers(Regs);
+
+impl fmt::Display for Registers {
+    ghost output = { λ registers. Some (registers_text registers.0) };
+
+    fn fmt<W: fmt::Write>(&self, f: &mut fmt::Formatter<W>) -> fmt::Result {
+        let regs = &self.0;
+        write!(
+            f,
+            "A {} F {} B {} C {} D {} E {} H {} L {} SP {} PC {}",
+            Hexadecimal(regs.a),
+            Hexadecimal(psw(regs.flags)),
+            Hexadecimal(regs.b),
+            Hexadecimal(regs.c),
+            Hexadecimal(regs.d),
+            Hexadecimal(regs.e),
+            Hexadecimal(regs.h),
+            Hexadecimal(regs.l),
+            Address(regs.sp.get()),
+            Address(regs.pc.get())
+        )
+    }
+}
+
+// The rest of a processor, and the count.
+#[derive(Clone, Copy)]
+struct State<'a> {
+    processor: &'a Processor,
+    count: u64,
+}
+
+impl fmt::Display for State<'_> {
+    ghost output = { λ state. Some (state_text state.processor.now state.count) };
+
+    fn fmt<W: fmt::Write>(&self, f: &mut fmt::Formatter<W>) -> fmt::Result {
+        write!(
+            f,
+            "flags {} interrupts {} {} count {}",
+            Letters(self.processor.regs.flags),
+            interrupts(self.processor.interrupts),
+            halt(self.processor.halted),
+            self.count
+        )
+    }
+}
+
+// Whether a request for an interrupt is accepted.
+fn interrupts(interrupts: Interrupts) -> &'static str
+    ensures { result.now ≡ interrupts_text interrupts }
+{
+    match interrupts {
+        Interrupts::Off => "off",
+        Interrupts::Soon => "soon",
+        Interrupts::On => "on",
+    }
+}
+
+// Whether the processor executes instructions.
+fn halt(halted: bool) -> &'static str
+    ensures { result.now ≡ halt_text halted }
+{
+    if halted { "halted" } else { "running" }
+}
+
+// The flags, as letters.
+#[derive(Clone, Copy)]
+struct Letters(Flags);
+
+impl fmt::Display for Letters {
+    ghost output = { λ letters. Some (flags_text letters.0) };
+
+    fn fmt<W: fmt::Write>(&self, f: &mut fmt::Formatter<W>) -> fmt::Result {
+        let Flags { s, z, ac, p, cy } = self.0;
+        write!(
+            f,
+            "{}{}{}{}{}",
+            letter(s, "S"),
+            letter(z, "Z"),
+            letter(ac, "A"),
+            letter(p, "P"),
+            letter(cy, "C")
+        )
+    }
+}
+
+// The letter of a flag that is set.
+fn letter(is_set: bool, letter: &'static str) -> &'static str
+    ensures { result.now ≡ letter_text is_set letter.now }
+{
+    if is_set { letter } else { "-" }
+}
+
+// Bytes of memory from an address on.
+#[derive(Clone, Copy)]
+struct MemoryLine<'a> {
+    address: u16,
+    bytes: &'a [u8],
+}
+
+impl fmt::Display for MemoryLine<'_> {
+    ghost output = { λ line. Some (memory_text line.address line.bytes.now) };
+
+    fn fmt<W: fmt::Write>(&self, f: &mut fmt::Formatter<W>) -> fmt::Result {
+        write!(
+            f,
+            "{} {}  |{}|",
+            Address(self.address),
+            Spaced(self.bytes),
+            Characters(self.bytes)
+        )
+    }
+}
