@@ -6,6 +6,7 @@ use Rattle.disk_dcdd.specs.declared.address.SectorAddress.{SectorAddress}
 use Rattle.event_callbacks.specs.declared.operations.OpId.{OpId}
 use Rattle.event_callbacks.specs.declared.operations.Operation.{Operation}
 use Rattle.guest_lockstep.specs.Machine.{Machine}
+use Rattle.guest_lockstep.specs.declared.input.Input.{Input}
 use Rattle.guest_lockstep.specs.declared.reads.Reads.{Reads}
 use Rattle.guest_lockstep.specs.declared.reads.Reads.TheVariants.{Logged, Shared}
 use Rattle.i8080_words.specs.declared.refusal.Fault.{Fault}
@@ -22,7 +23,7 @@ use Rattle.clone_state.specs.Parts.{PartMessage}
 use Rattle.guest_trace.specs.Reach.{keys}
 use Rattle.pair_protocol.specs.Copying.{Copying}
 use Rattle.pair_protocol.specs.Effects as effect
-use Rattle.pair_protocol.specs.Effects.{Stepped, Took, Held, Heard, Replayed, Drained, Halted, GotPart, HasEntry, HasOutstanding, HasCovered, HasPart, IsUnder, Wants, NeedsMoves}
+use Rattle.pair_protocol.specs.Effects.{Stepped, Took, Held, Heard, Replayed, Drained, Halted, GotPart, HasEntry, HasOutstanding, HasCovered, HasPart, IsUnder, Wants, NeedsMoves, NeedsEntry}
 use Rattle.pair_protocol.specs.Event as event
 use Rattle.pair_protocol.specs.Node.{Node, Role, Primary, Backup, Joining, begun, gathered, gets_part, halts, holds, wins}
 use Rattle.pair_protocol.specs.Refusals as refusals
@@ -109,6 +110,11 @@ abbrev pub Steps : {S : Type 0} → Machine S → ℕ → Node S → Result Ran 
 Steps M turns x result Is =
     Call (refusals.step_refusal M turns x) (λ x. 0 < turns) (SteppedBy M turns) x result Is
 
+-- an input that is taken; it needs no memory
+abbrev pub Takes : {S : Type 0} → Machine S → Input → Option Fault → Node S → Result (Unit {0}) Fault
+    → (Node S → Type 0) → Type 0
+Takes M i refusal x result Is = Call refusal Never (λ done. Took M i) x result Is
+
 -- bytes that spell a packet
 abbrev pub IsSpelled : Packet → Vec ℕ → Type 0
 IsSpelled packet bytes = IsPacket packet × (bytes.items ≡ packet_bytes packet)
@@ -130,6 +136,10 @@ DeliversLog needs (Some (Log generation index e)) x result Is =
     Call (refusals.deliver_log_refusal generation x) (needs index) (Held index e) x result Is
 DeliversLog needs _ x result Is =
     Unless (refusals.first_of (refusals.role_refusal (Backup ∷ []) x ∷ Some Malformed ∷ [])) result (Is x) ⊥
+
+-- the next entry may need memory if another is held and not replayed
+abbrev pub NeedsRoom : {S : Type 0} → ℕ → Node S → Type 0
+NeedsRoom index x = NeedsEntry index x × (x.replayed < length x.held)
 
 -- the entry of a packet that would be held
 abbrev pub Expects : {S : Type 0} → Option Packet → Node S → Result (Option Entry) Fault → Type 0

@@ -54,6 +54,20 @@ impl<B: Copies<H> + Drop, H: Drop> Node<B, H> {
         }
     }
 
+    /// Takes a packet of the log: holds the entry that `next_entry` finds, and returns true; a repeat, or a packet past a
+    /// gap, is false and changes nothing.
+    pub fn on_log(&mut self, bytes: &[u8]) -> R<bool>
+        ensures answer { (C : Copying B.State) (drives : ℕ) (x : protocol.Node B.State) → IsNode B.state B.machine C drives self.old x
+            → calls.DeliversLog calls.NeedsRoom (packet_at bytes.now) x result (IsNode B.state B.machine C drives self.new) }
+        ensures unchanged { OnErr result (self.new ≡ self.old) }
+    {
+        let Some(entry) = self.next_entry(bytes)? else {
+            return Ok(false);
+        };
+        self.hold(entry)?;
+        Ok(true)
+    }
+
     /// The packet by which a backup acknowledges all that it holds; with shared reads it reports how much of it is replayed.
     pub fn ack(&self, alloc: Global) -> R<Vec<u8>>
         ensures { (C : Copying B.State) (drives : ℕ) (x : protocol.Node B.State) → IsNode B.state B.machine C drives self.now x → calls.Acknowledges x result }

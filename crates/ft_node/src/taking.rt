@@ -21,8 +21,7 @@ use guest_lockstep::Input;
 use i8080_words::{Fault, R};
 
 impl<B: Copies<H> + Drop, H: Drop> Node<B, H> {
-    /// Whether the key with an index, from 0, may be taken: returns its refusal, and changes nothing. `WrongNumber` if it is
-    /// not the next one; `LogFull` if the log has no room, `Spent` if no number is left for an entry or a key.
+    /// Whether `key` would take the key with an index: returns its refusal, and changes nothing.
     pub fn check_key(&self, port: u8, index: u64) -> R<()>
         requires { port < PORTS }
         ensures answer { (C : Copying B.State) (drives : ℕ) (x : protocol.Node B.State) → IsNode B.state B.machine C drives self.now x
@@ -32,8 +31,7 @@ impl<B: Copies<H> + Drop, H: Drop> Node<B, H> {
         due::check_key(self.board()?, self.room(), port, index)
     }
 
-    /// Whether the acceptance of the byte with a number may be taken. `NotDue` if no byte of the port waits, `WrongNumber`
-    /// if another one is the oldest.
+    /// Whether `sent` would take the acceptance of a byte: returns its refusal, and changes nothing.
     pub fn check_sent(&self, port: u8, number: u64) -> R<()>
         requires { port < PORTS }
         ensures answer { (C : Copying B.State) (drives : ℕ) (x : protocol.Node B.State) → IsNode B.state B.machine C drives self.now x
@@ -43,7 +41,7 @@ impl<B: Copies<H> + Drop, H: Drop> Node<B, H> {
         due::check_sent(self.board()?, self.room(), port, number)
     }
 
-    /// Whether the completion of a write may be taken. `NotDue` if the write is not outstanding.
+    /// Whether `done` would take the completion of a write: returns its refusal, and changes nothing.
     pub fn check_done(&self, number: u64) -> R<()>
         ensures answer { (C : Copying B.State) (drives : ℕ) (x : protocol.Node B.State) → IsNode B.state B.machine C drives self.now x
             → result ≡ answered (refusals.put_reply_refusal B.machine number x) }
@@ -52,8 +50,7 @@ impl<B: Copies<H> + Drop, H: Drop> Node<B, H> {
         due::check_done(self.board()?, self.room(), number)
     }
 
-    /// Whether a sector that was read may be taken, with the number of the write that brought its bytes. `NotDue` if the
-    /// head is elsewhere by now, `SectorBusy` if a write of the sector is outstanding, `StaleRead` if a later write is done.
+    /// Whether `under` would take a sector: returns its refusal, and changes nothing.
     pub fn check_under(
         &self,
         address: SectorAddress,
@@ -84,6 +81,46 @@ impl<B: Copies<H> + Drop, H: Drop> Node<B, H> {
         }
     }
 
+    /// Takes the key that was typed at an index, from 0. `WrongNumber` if it is not the next one; `LogFull` if the log
+    /// has no room, `Spent` if no number is left for an entry or a key.
+    pub fn key(&mut self, port: u8, index: u64, byte: u8) -> R<()>
+        requires port { port < PORTS }
+        ensures answer { (C : Copying B.State) (drives : ℕ) (x : protocol.Node B.State) → IsNode B.state B.machine C drives self.old x
+            → calls.Takes B.machine (input.Rx port byte) (refusals.take_key_refusal B.machine port index x) x
+            result (IsNode B.state B.machine C drives self.new) }
+        ensures unchanged { OnErr result (self.new ≡ self.old) }
+    {
+        self.check_key(port, index)?;
+        self.accept(Input::Rx(port, byte));
+        Ok(())
+    }
+
+    /// Takes the acceptance of the byte with a number. `NotDue` if no byte of the port waits, `WrongNumber` if another
+    /// one is the oldest.
+    pub fn sent(&mut self, port: u8, number: u64) -> R<()>
+        requires port { port < PORTS }
+        ensures answer { (C : Copying B.State) (drives : ℕ) (x : protocol.Node B.State) → IsNode B.state B.machine C drives self.old x
+            → calls.Takes B.machine (input.Sent port) (refusals.tell_sent_refusal B.machine port number x) x result
+            (IsNode B.state B.machine C drives self.new) }
+        ensures unchanged { OnErr result (self.new ≡ self.old) }
+    {
+        self.check_sent(port, number)?;
+        self.accept(Input::Sent(port));
+        Ok(())
+    }
+
+    /// Takes the completion of a write. `NotDue` if the write is not outstanding.
+    pub fn done(&mut self, number: u64) -> R<()>
+        ensures answer { (C : Copying B.State) (drives : ℕ) (x : protocol.Node B.State) → IsNode B.state B.machine C drives self.old x
+            → calls.Takes B.machine (input.Written number) (refusals.put_reply_refusal B.machine number x) x result
+            (IsNode B.state B.machine C drives self.new) }
+        ensures unchanged { OnErr result (self.new ≡ self.old) }
+    {
+        self.check_done(number)?;
+        self.accept(Input::Written(number));
+        Ok(())
+    }
+
     /// The sector with a number on the track under the head of the selected drive. `NotDue` if no drive is selected.
     pub fn place(&self, sector: u8) -> R<SectorAddress>
         requires { sector < SECTORS }
@@ -91,10 +128,28 @@ impl<B: Copies<H> + Drop, H: Drop> Node<B, H> {
             → calls.Gets B.machine sector x result }
     {
         let board = self.board()?;
-        let Some(drive) = board.selected() else {
-            return Err(Fault::NotDue);
-        };
+        let drive = board.selected().ok_or(Fault::NotDue)?;
         Ok(board.sector_under(drive, sector))
+    }
+
+    /// Takes a sector that was read, with the number of the write that brought its bytes. `NotDue` if the head is
+    /// elsewhere by now, `SectorBusy` if a write of the sector is outstanding, `StaleRead` if a later write is done.
+    pub fn under(&mut self, address: SectorAddress, number: u64, bytes: [u8; SECTOR_BYTES]) -> R<()>
+        requires drive { address.drive < DRIVES }
+        requires sector { address.sector < SECTORS }
+        ensures answer { (C : Copying B.State) (drives : ℕ) (x : protocol.Node B.State) → IsNode B.state B.machine C drives self.old x
+            → calls.Takes B.machine (input.Sector address.drive address.sector number bytes)
+            (refusals.get_reply_refusal B.machine address number bytes x) x result (IsNode B.state B.machine C drives self.new) }
+        ensures unchanged { OnErr result (self.new ≡ self.old) }
+    {
+        self.check_under(address, number, bytes)?;
+        self.accept(Input::Sector {
+            drive: address.drive,
+            sector: address.sector,
+            number,
+            bytes,
+        });
+        Ok(())
     }
 
     // What a primary's log answers to one more entry; no other node has a log.
