@@ -7,7 +7,7 @@ use Rattle.command_live.specs.Living.{PrintsLive, typed_in}
 use Rattle.command_script.specs.Drawing.{Draws}
 use Rattle.command_script.specs.Printing.{Prints}
 use Rattle.command_shell.specs.Sessions.{Hears}
-use Rattle.command_ending.specs.Inputs.{BytesSay, Meaning, Reads}
+use Rattle.command_ending.specs.Inputs.{Meaning, Reads}
 use Rattle.command_ending.specs.Statuses.{EndsAs}
 use Rattle.command_ending.specs.declared.failure.Failure.{Failure}
 use Rattle.command_ending.specs.declared.failure.Failure.TheVariants.{CommandLine, BadScript}
@@ -39,7 +39,7 @@ Obeys request.Script remaining result old new =
 Obeys request.Check remaining result old new =
     IsOfReader script_of remaining (λ script. Prints order.Check script.setup script.lines.items result old new)
 Obeys request.Picture remaining result old new = IsOfReader script_of remaining (λ script. Draws result old new)
-Obeys request.Lint remaining result old new = Lints (BytesSay script_of remaining) result old new
+Obeys request.Lint remaining result old new = Lints remaining result old new
 Obeys (request.Live how) remaining result old new = IsOfReader live_script_of remaining (λ script.
     PrintsLive script.setup (typed_in 0 script.lines.items) (typed_in 1 script.lines.items) how result old new)
 Obeys request.Shell remaining result old new = Hears remaining result old new
