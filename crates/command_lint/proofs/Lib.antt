@@ -1,1 +1,3 @@
+pub mod FirstBad
 pub mod Linting
+pub mod Reasons

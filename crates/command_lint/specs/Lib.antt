@@ -1,1 +1,2 @@
 pub mod Linting
+pub mod Reasons

@@ -1,10 +1,10 @@
 //! A script that is read, and its bad lines named.
-ghost use Rattle.std.specs.Prelude.{◌≡◌, ◌≤◌, IfErr, IfOk};
-ghost use Rattle.command_ending.specs.Inputs.{BytesSay};
+ghost use Rattle.std.specs.Prelude.{◌≡◌, ◌≤◌, ◌∷◌, [], IfErr, IfOk, length};
 ghost use Rattle.command_ending.specs.Reports.{handed};
 ghost use Rattle.command_ending.specs.declared.failure.Failure.TheVariants as failure;
-ghost use Rattle.command_lint.specs.Linting.{IsFirstBad, Lints, NamesAfter, WritesUntil};
+ghost use Rattle.command_lint.specs.Linting.{IsFirstBad, Lints, LintsText, NamesUntil, bad_at, bad_lines, is_bad, line_after, named};
 ghost use Rattle.script_language.specs.Meaning as meaning;
+ghost use Rattle.script_language.specs.Text.{lines_of};
 
 use crate::named::{Named, WellFormed};
 use crate::reason::{Reason, reason_of};
@@ -15,14 +15,12 @@ use std::io::{Read, Write};
 
 /// Reads a script, and names each of its bad lines, or says that it is well formed. `BadScript` if a line is bad: the
 /// first that is named is the one for which every command refuses the script.
-#[tactic(auto, using(crate::proofs::Linting::settled_lints, crate::proofs::Linting::reads_nothing))]
 pub fn run_lint<R: Read + Drop, W: Write + Drop>(
     alloc: Global,
     reader: &mut R,
     writer: &mut W,
 ) -> Result<(), Failure>
-    ensures { Lints (BytesSay meaning.script_of (R.remaining reader.old)) result
-        (W.contents writer.old) (W.contents writer.new) }
+    ensures { Lints (R.remaining reader.old) result (W.contents writer.old) (W.contents writer.new) }
 {
     let bytes = read_script(alloc, reader)?;
     let mut report = Report::new(alloc);
@@ -32,21 +30,21 @@ pub fn run_lint<R: Read + Drop, W: Write + Drop>(
 }
 
 // Names each bad line of these bytes, or says that they are a script.
-#[tactic(auto, using(crate::proofs::Linting::writes_none, crate::proofs::Linting::told, crate::proofs::Linting::lints_until))]
+#[tactic(auto, using(crate::proofs::Linting::names_first, crate::proofs::Linting::lints_until, crate::proofs::Linting::some_none))]
 fn lint<W: Write + Drop>(
     alloc: Global,
     bytes: &[u8],
     report: &mut Report,
     writer: &mut W,
 ) -> Result<(), Failure>
-    ensures { Lints (λ said. meaning.script_of bytes.now ≡ said) result
+    ensures { LintsText bytes.now result
         (handed (W.contents writer.old) report.old) (handed (W.contents writer.new) report.new) }
 {
     let Some(first) = first_bad(alloc, bytes)? else {
         let lines = line_count(bytes);
         return report.line(writer, &WellFormed { lines });
     };
-    name_all(alloc, bytes, first, report, writer)?;
+    name_all(alloc, bytes, report, writer)?;
     Err(Failure::BadScript(first))
 }
 
@@ -64,34 +62,47 @@ fn first_bad(alloc: Global, bytes: &[u8]) -> Result<Option<u64>, Failure>
 }
 
 // How many lines a text has.
-fn line_count(text: &[u8]) -> usize {
-    text.split_inclusive(|byte| *byte == b'\n').count()
+fn line_count(text: &[u8]) -> usize
+    ensures { result ≡ length (lines_of text.now) }
+{
+    let mut rest = text;
+    let mut count = 0usize;
+    'lines: while !rest.is_empty() {
+        let (_, after) = first_line(rest);
+        rest = after;
+        count += 1;
+    }
+    count
 }
 
-// Names the first bad line, and then each bad line after it.
-#[tactic(auto, using(crate::proofs::Linting::writes_none, crate::proofs::Linting::names_until))]
+// Names each bad line. The first without room is the last that is looked at.
+#[tactic(auto, using(crate::proofs::Linting::names_until, crate::proofs::Linting::some_none))]
 fn name_all<W: Write + Drop>(
     alloc: Global,
     bytes: &[u8],
-    first: u64,
     report: &mut Report,
     writer: &mut W,
 ) -> Result<(), Failure>
-    ensures { NamesAfter first result
+    ensures { NamesUntil (bad_lines bytes.now) result
         (handed (W.contents writer.old) report.old) (handed (W.contents writer.new) report.new) }
 {
     let drives = drives_of(alloc, bytes)?;
     let mut draft = Draft::new(alloc)?;
-    let (line, rest) = line_at(alloc, &mut draft, bytes, first)?;
-    let reason = if is_too_large(bytes, rest) {
-        Reason::Size
-    } else {
-        reason_of(text_of(line), draft.has_begun(), drives)
-    };
-    name(alloc, first, &reason, report, writer)?;
-    name_others(
-        alloc, &mut draft, bytes, rest, first, drives, report, writer,
-    )
+    let mut rest = bytes;
+    let mut room = SCRIPT_BYTES;
+    let mut number = 1u64;
+    'lines: while !rest.is_empty() {
+        let (line, after) = first_line(rest);
+        if line.len() > room {
+            return name(number, Reason::Size, report, writer);
+        }
+        let text = text_of(line);
+        name_if_bad(alloc, &mut draft, number, text, drives, report, writer)?;
+        rest = after;
+        room -= line.len();
+        number += 1;
+    }
+    Ok(())
 }
 
 // How many drives are attached in the end.
@@ -103,118 +114,59 @@ fn drives_of(alloc: Global, bytes: &[u8]) -> Result<u8, AllocError>
     Ok(draft.drives())
 }
 
-// Takes the lines before the one of this number. That one, and what is after it.
-fn line_at<'a>(
-    alloc: Global,
-    draft: &mut Draft,
-    bytes: &'a [u8],
-    wanted: u64,
-) -> Result<(&'a [u8], &'a [u8]), AllocError> {
-    let mut rest = bytes;
-    for number in 1..wanted {
-        if rest.is_empty() {
-            break;
-        }
-        let (line, after) = first_line(rest);
-        draft.take(alloc, number, text_of(line))?;
-        rest = after;
-    }
-    if rest.is_empty() {
-        return Ok((rest, rest));
-    }
-    Ok(first_line(rest))
-}
-
-// Whether a line has the byte after the last that a script may have, if this is what comes after it. No more than that
-// one byte was read.
-fn is_too_large(bytes: &[u8], after: &[u8]) -> bool {
-    SCRIPT_BYTES < bytes.len() && after.is_empty()
-}
-
-// Names each bad line of what is left after the first one.
-#[tactic(auto, using(crate::proofs::Linting::writes_none, crate::proofs::Linting::writes_more, crate::proofs::Linting::writes_until))]
-fn name_others<W: Write + Drop>(
-    alloc: Global,
-    draft: &mut Draft,
-    bytes: &[u8],
-    left: &[u8],
-    first: u64,
-    drives: u8,
-    report: &mut Report,
-    writer: &mut W,
-) -> Result<(), Failure>
-    ensures { WritesUntil result
-        (handed (W.contents writer.old) report.old) (handed (W.contents writer.new) report.new) }
-{
-    let mut rest = left;
-    'lines: for number in first.saturating_add(1)..u64::MAX {
-        if rest.is_empty() {
-            break;
-        }
-        let (line, after) = first_line(rest);
-        let is_last = is_too_large(bytes, after);
-        name_if_bad(alloc, draft, number, line, is_last, drives, report, writer)?;
-        rest = after;
-    }
-    Ok(())
-}
-
 // Takes a line, or names it if it is bad.
-#[tactic(auto, using(crate::proofs::Linting::writes_none, crate::proofs::Linting::writes_name))]
+#[tactic(auto, using(crate::proofs::Linting::names_none, crate::proofs::Linting::names_until, crate::proofs::Linting::some_none))]
 fn name_if_bad<W: Write + Drop>(
     alloc: Global,
     draft: &mut Draft,
     number: u64,
-    line: &[u8],
-    is_too_large: bool,
+    text: &[u8],
     drives: u8,
     report: &mut Report,
     writer: &mut W,
 ) -> Result<(), Failure>
     requires { 1 ≤ number }
-    ensures { WritesUntil result
+    ensures named { NamesUntil (bad_at drives number text.now (meaning.said_by draft.old)) result
         (handed (W.contents writer.old) report.old) (handed (W.contents writer.new) report.new) }
+    ensures after { IfOk result (λ _.
+        meaning.said_by draft.new ≡ line_after number text.now (meaning.said_by draft.old)) }
 {
-    match reason_if_bad(alloc, draft, number, line, is_too_large, drives)? {
-        Some(reason) => name(alloc, number, &reason, report, writer),
-        None => Ok(()),
+    if !take_bad(alloc, draft, number, text, drives)? {
+        return Ok(());
     }
+    let reason = reason_of(text, draft.has_begun(), drives);
+    name(number, reason, report, writer)
 }
 
-// Takes a line, unless it is bad: then why.
-fn reason_if_bad<'a>(
+// Takes a line. Whether it is bad.
+fn take_bad(
     alloc: Global,
     draft: &mut Draft,
     number: u64,
-    line: &'a [u8],
-    is_too_large: bool,
+    text: &[u8],
     drives: u8,
-) -> Result<Option<Reason<'a>>, AllocError>
+) -> Result<bool, AllocError>
     requires { 1 ≤ number }
+    ensures bad { IfOk result (λ bad. bad ≡ is_bad drives number (meaning.with_line number text.now (meaning.said_by draft.old))) }
+    ensures after { IfOk result (λ _.
+        meaning.said_by draft.new ≡ line_after number text.now (meaning.said_by draft.old)) }
 {
-    if is_too_large {
-        return Ok(Some(Reason::Size));
+    if !draft.take(alloc, number, text)? {
+        return Ok(true);
     }
-    let text = text_of(line);
-    let is_taken = draft.take(alloc, number, text)?;
-    if is_taken && !draft.is_astray(number, drives) {
-        return Ok(None);
-    }
-    Ok(Some(reason_of(text, draft.has_begun(), drives)))
+    Ok(draft.is_astray(number, drives))
 }
 
 // Names a line.
-#[tactic(auto, using(crate::proofs::Linting::writes_none, crate::proofs::Linting::named))]
+#[tactic(auto, using(crate::proofs::Linting::named_line))]
 fn name<W: Write + Drop>(
-    alloc: Global,
     number: u64,
-    reason: &Reason<'_>,
+    reason: Reason<'_>,
     report: &mut Report,
     writer: &mut W,
 ) -> Result<(), Failure>
-    ensures { NamesAfter number result
+    ensures { NamesUntil (named number reason.entry ∷ []) result
         (handed (W.contents writer.old) report.old) (handed (W.contents writer.new) report.new) }
 {
-    let reason = format!(in alloc; "{reason}")?;
     report.line(writer, &Named { number, reason })
 }

@@ -1,18 +1,19 @@
 //! The lines that `lint` prints.
-ghost use Rattle.std.specs.Prelude.{Some, string_bytes};
-ghost use Rattle.command_lint.specs.Linting.{named_text, told_text};
+ghost use Rattle.std.specs.Prelude.{Some};
+ghost use Rattle.command_lint.specs.Linting.{named, named_text, told_text};
 
+use crate::reason::Reason;
 use std::fmt;
 
 /// A bad line, by its number, and why it is bad.
-#[derive(Drop)]
-pub(crate) struct Named {
+#[derive(Clone, Copy)]
+pub(crate) struct Named<'a> {
     pub(crate) number: u64,
-    pub(crate) reason: String,
+    pub(crate) reason: Reason<'a>,
 }
 
-impl fmt::Display for Named {
-    ghost output = { λ named. Some (named_text named.number (string_bytes named.reason)) };
+impl fmt::Display for Named<'_> {
+    ghost output = { λ line. Some (named_text (named line.number line.reason)) };
 
     fn fmt<W: fmt::Write>(&self, f: &mut fmt::Formatter<W>) -> fmt::Result {
         write!(f, "line {}: {}", self.number, self.reason)

@@ -1,4 +1,10 @@
 //! Why a line of a script is bad, in words: those of the shell for a line that is wrong there too.
+ghost use Rattle.std.specs.Prelude.{◌≡◌, Some, map};
+ghost use Rattle.std.specs.Fmt.{WritesOnOk};
+ghost use Rattle.std.specs.Option.{option_map};
+ghost use Rattle.command_lint.specs.Reasons.{detached_text, form_in, is_own, is_sector, misfit_text, reason_text, record_word, sector_more, sector_text, unknown_text, usage_in, why_bad, why_misfit};
+ghost use Rattle.shell_language.specs.Forms.{shape_of, shapes, word_of};
+ghost use Rattle.shell_language.specs.Mistakes.{flaw_of};
 
 use script_language::{Keyword, SCRIPT_BYTES, Words};
 use shell_language::{Form, Kind, Mistake, Shown, forms, mistake_in};
@@ -39,54 +45,125 @@ const SECTOR_WORDS: usize = 5;
 
 /// Why a line is bad that has this text, if so many drives are attached in the end, and an event or a query came before
 /// it or not.
-pub(crate) fn reason_of(text: &[u8], has_begun: bool, drives: u8) -> Reason<'_> {
+pub(crate) fn reason_of(text: &[u8], has_begun: bool, drives: u8) -> Reason<'_>
+    ensures { reason_text result ≡ why_bad text.now has_begun drives }
+{
     let mut words = Words::of(text);
     let Some(word) = words.next() else {
         return Reason::Spaces;
     };
-    match Keyword::of(word) {
-        None => unknown(word),
-        Some(keyword) if keyword.is_setup() && has_begun => {
-            Reason::Words(Mistake::Late { line: text })
+    let Some(keyword) = Keyword::of(word) else {
+        return unknown(word);
+    };
+    if has_begun {
+        if keyword.is_setup() {
+            return Reason::Words(Mistake::Late { line: text });
         }
-        Some(Keyword::Sector) => in_sector(text, &mut words, drives),
-        Some(_) => in_script(mistake_in(text)),
+    }
+    misfit(keyword, text, &mut words, drives)
+}
+
+// A word that begins no line of a script.
+fn unknown(word: &[u8]) -> Reason<'_>
+    ensures { reason_text result ≡ unknown_text word.now }
+{
+    match usage_of(record_word(word)) {
+        Some(usage) => Reason::OfShell { usage },
+        None => Reason::Unknown { word },
     }
 }
 
-// A word that begins no line of a script. Lines that begin with a colon are records, which the shell takes.
-fn unknown(word: &[u8]) -> Reason<'_> {
-    let shown = match word {
-        [b':', ..] => b"load".as_slice(),
+// Lines that begin with a colon are records, which the shell takes.
+fn record_word(word: &[u8]) -> &[u8]
+    ensures { result.now ≡ record_word word.now }
+{
+    match word {
+        [b':', ..] => b"load",
         _ => word,
-    };
-    for form in forms() {
-        if form.word.as_bytes() == shown {
-            return Reason::OfShell { usage: form.usage };
-        }
     }
-    Reason::Unknown { word }
+}
+
+// How the first form of the shell with this word is written.
+#[tactic(auto, using(crate::proofs::Reasons::usage_of_all))]
+fn usage_of(word: &[u8]) -> Option<&'static str>
+    ensures { option_map (λ usage. usage.now) result ≡ usage_in shapes word.now }
+{
+    usage_among(forms(), word)
+}
+
+// The same of these forms.
+fn usage_among(forms: &'static [Form], word: &[u8]) -> Option<&'static str>
+    ensures { option_map (λ usage. usage.now) result ≡ usage_in (map shape_of forms.now) word.now }
+{
+    let mut rest = forms;
+    'forms: while let [form, after @ ..] = rest {
+        if form.word.as_bytes() == word {
+            return Some(form.usage);
+        }
+        rest = after;
+    }
+    None
+}
+
+// A line that does not fit its form; these are the words after its keyword.
+fn misfit<'a>(keyword: Keyword, text: &'a [u8], words: &mut Words<'a>, drives: u8) -> Reason<'a>
+    ensures { reason_text result ≡ why_misfit keyword text.now words.old drives }
+{
+    if is_sector(keyword) {
+        return in_sector(mistake_in(text), words, drives);
+    }
+    in_script(mistake_in(text))
+}
+
+fn is_sector(keyword: Keyword) -> bool
+    ensures { result ≡ is_sector keyword }
+{
+    matches!(keyword, Keyword::Sector)
 }
 
 // What the shell says of a line, unless the line follows a form that scripts do not have.
-fn in_script(mistake: Mistake<'_>) -> Reason<'_> {
-    let form = match mistake {
-        Mistake::Missing { form, .. } => form,
-        Mistake::Wrong { form, .. } => form,
-        Mistake::OneTooMany { form, .. } => form,
-        Mistake::Text { form } => form,
-        _ => return Reason::Words(mistake),
+fn in_script(mistake: Mistake<'_>) -> Reason<'_>
+    ensures { reason_text result ≡ misfit_text (flaw_of mistake.entry) }
+{
+    let Some(form) = form_in(mistake) else {
+        return Reason::Words(mistake);
     };
-    match form.kinds.last() {
-        Some(Kind::Text) | Some(Kind::Exactly("all")) => Reason::OfShell { usage: form.usage },
-        _ => Reason::Words(mistake),
+    if is_own(form.last_kind()) {
+        return Reason::OfShell { usage: form.usage };
+    }
+    Reason::Words(mistake)
+}
+
+// The form that a line does not fit, if it does not fit one word by word.
+fn form_in(mistake: Mistake<'_>) -> Option<&'static Form>
+    ensures { option_map (λ form. shape_of form.now) result ≡ form_in (flaw_of mistake.entry) }
+{
+    match mistake {
+        Mistake::Missing { form, .. } => Some(form),
+        Mistake::Wrong { form, .. } => Some(form),
+        Mistake::OneTooMany { form, .. } => Some(form),
+        Mistake::Text { form } => Some(form),
+        _ => None,
+    }
+}
+
+// Whether scripts have no lines with this last word.
+fn is_own(last: Option<Kind>) -> bool
+    ensures { result ≡ is_own (option_map word_of last) }
+{
+    match last {
+        Some(Kind::Text) => true,
+        Some(Kind::Exactly(word)) => word == "all",
+        _ => false,
     }
 }
 
 // What is wrong with a sector; these are the words after the first.
-fn in_sector<'a>(text: &'a [u8], words: &mut Words<'a>, drives: u8) -> Reason<'a> {
+fn in_sector<'a>(mistake: Mistake<'a>, words: &mut Words<'a>, drives: u8) -> Reason<'a>
+    ensures { reason_text result ≡ sector_text (flaw_of mistake.entry) words.old drives }
+{
     let form = &SECTOR;
-    match mistake_in(text) {
+    match mistake {
         Mistake::Missing { place, kind, .. } => {
             Reason::Words(Mistake::Missing { place, form, kind })
         }
@@ -95,35 +172,53 @@ fn in_sector<'a>(text: &'a [u8], words: &mut Words<'a>, drives: u8) -> Reason<'a
             word,
             kind,
             ..
-        } if place <= SECTOR_WORDS => Reason::Words(Mistake::Wrong {
-            place,
-            word,
-            form,
-            kind,
-        }),
+        } => {
+            if place > SECTOR_WORDS {
+                return more_words(words, drives);
+            }
+            Reason::Words(Mistake::Wrong {
+                place,
+                word,
+                form,
+                kind,
+            })
+        }
         _ => more_words(words, drives),
     }
 }
 
 // A sector whose first words fit: there is one word more, or its drive is not attached.
-fn more_words<'a>(words: &mut Words<'a>, drives: u8) -> Reason<'a> {
-    let drive = words.next().unwrap_or(&[]);
-    for _ in 2..SECTOR_WORDS {
-        words.next();
-    }
+fn more_words<'a>(words: &mut Words<'a>, drives: u8) -> Reason<'a>
+    ensures { reason_text result ≡ sector_more words.old drives }
+{
+    let Some(drive) = words.next() else {
+        return Reason::Detached { drive: &[], drives };
+    };
+    let detached = Reason::Detached { drive, drives };
+    let Some(_track) = words.next() else {
+        return detached;
+    };
+    let Some(_sector) = words.next() else {
+        return detached;
+    };
+    let Some(_byte) = words.next() else {
+        return detached;
+    };
     match words.next() {
         Some(word) => Reason::Words(Mistake::OneTooMany {
             place: SECTOR_WORDS + 1,
             word,
             form: &SECTOR,
         }),
-        None => Reason::Detached { drive, drives },
+        None => detached,
     }
 }
 
 impl fmt::Display for Reason<'_> {
+    ghost output = { λ reason. Some (reason_text reason) };
+
     fn fmt<W: fmt::Write>(&self, f: &mut fmt::Formatter<W>) -> fmt::Result {
-        match self {
+        match *self {
             Reason::Size => write!(
                 f,
                 "the script has more than {SCRIPT_BYTES} bytes, and the first that is too many is in this line"
@@ -133,12 +228,18 @@ impl fmt::Display for Reason<'_> {
             Reason::OfShell { usage } => {
                 write!(f, "`{usage}` is a line of the shell, and of no script")
             }
-            Reason::Detached { drive, drives } => write!(
-                f,
-                "word 2 is {}: a drive below {drives} is expected; `drives N` attaches more",
-                Shown(drive)
-            ),
+            Reason::Detached { drive, drives } => write_detached(f, drive, drives),
             Reason::Words(mistake) => write!(f, "{mistake}"),
         }
     }
+}
+
+fn write_detached<W: fmt::Write>(f: &mut fmt::Formatter<W>, drive: &[u8], drives: u8) -> fmt::Result
+    ensures { WritesOnOk W.write_str_gives f.old result (detached_text drive.now drives) f.new }
+{
+    let drive = Shown(drive);
+    write!(
+        f,
+        "word 2 is {drive}: a drive below {drives} is expected; `drives N` attaches more"
+    )
 }

@@ -8,7 +8,6 @@ use Rattle.command_script.specs.Drawing.{Draws}
 use Rattle.command_script.specs.Printing.{Prints}
 use Rattle.pair_program.specs.Runs.{IsObeyed, IsRun, Writes}
 use Rattle.command_shell.specs.Sessions.{Hears}
-use Rattle.command_ending.specs.Inputs.{BytesSay}
 use Rattle.command_ending.specs.Statuses.{is_of_command_line}
 use Rattle.command_ending.specs.declared.failure.Failure.{Failure}
 use Rattle.command_ending.specs.declared.failure.Failure.TheVariants as failure
@@ -111,20 +110,20 @@ module _ {R W : Type 0} (remaining : R → Option (List ℕ)) (contents : W → 
   is_picture images drives input result same read h = picture_by images input result
       (subst (λ ds. ReadsInput script_of ds (remaining reader) (Ok input)) same read) h
 
-  by_lint : (result : Result (Unit {0}) Failure) → Lints (BytesSay script_of (remaining reader)) result (contents writer) (contents writer')
+  by_lint : (result : Result (Unit {0}) Failure) → Lints (remaining reader) result (contents writer) (contents writer')
       → IsObeyed (remaining reader) result (contents writer) (contents writer')
   by_lint result h = record { request = request.Lint; obeys = h }
 
   -- so are bad lines that are named
-  pub is_lint : (result : Result (Unit {0}) Failure) → Lints (BytesSay script_of (remaining reader)) result (contents writer) (contents writer')
+  pub is_lint : (result : Result (Unit {0}) Failure) → Lints (remaining reader) result (contents writer) (contents writer')
       → IsRun remaining contents reader reader' writer writer' result
   is_lint (Ok done) h = by_lint (Ok done) h
   is_lint (Err failure.OutOfMemory) h = by_lint (Err failure.OutOfMemory) h
   is_lint (Err failure.InputOrOutput) h = by_lint (Err failure.InputOrOutput) h
   is_lint (Err (failure.BadScript line)) h = inr (by_lint (Err (failure.BadScript line)) h)
-  is_lint (Err failure.Stalled) h = absurd h
-  is_lint (Err failure.Differs) h = absurd h
-  is_lint (Err (failure.CommandLine text)) h = absurd h
+  is_lint (Err failure.Stalled) h = absurd h.lints
+  is_lint (Err failure.Differs) h = absurd h.lints
+  is_lint (Err (failure.CommandLine text)) h = absurd h.lints
 
   by_threads : (order : LiveOrder) (input : Input) (result : Result (Unit {0}) Failure)
       → ReadsInput live_script_of order.images.items (remaining reader) (Ok input)

@@ -7,7 +7,7 @@ use Rattle.command_live.specs.Living.{PrintsLive, typed_in}
 use Rattle.command_script.specs.Drawing.{Draws}
 use Rattle.command_script.specs.Printing.{Prints}
 use Rattle.command_shell.specs.Sessions.{Hears}
-use Rattle.command_ending.specs.Inputs.{BytesSay, Meaning}
+use Rattle.command_ending.specs.Inputs.{Meaning}
 use Rattle.command_ending.specs.Statuses.{EndsAs}
 use Rattle.command_ending.specs.declared.failure.Failure.{Failure}
 use Rattle.command_ending.specs.declared.failure.Failure.TheVariants.{CommandLine, BadScript}
@@ -42,7 +42,7 @@ Obeys (request.Check images) remaining result old new = IsOfReader script_of ima
     Prints order.Check input.script.setup input.sectors.items input.script.lines.items result old new)
 Obeys (request.Picture images) remaining result old new =
     IsOfReader script_of images.items remaining (λ input. Draws result old new)
-Obeys request.Lint remaining result old new = Lints (BytesSay script_of remaining) result old new
+Obeys request.Lint remaining result old new = Lints remaining result old new
 Obeys (request.Live how) remaining result old new = IsOfReader live_script_of how.images.items remaining (λ input.
     PrintsLive input.script.setup input.sectors.items (typed_in 0 input.script.lines.items) (typed_in 1 input.script.lines.items)
     how result old new)
