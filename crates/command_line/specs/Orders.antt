@@ -1,5 +1,5 @@
 -- What a command line asks for, by what clap has found in its words.
-use Rattle.std.specs.Prelude.{◌≡◌, ◌≢◌, ℕ, ◌^◌, ◌<◌, if◌then◌else◌, List, [], Option, Some, None, bytes_eq, codes, map, unwrap_or}
+use Rattle.std.specs.Prelude.{◌≡◌, ◌≢◌, ◌⊎◌, ℕ, ◌^◌, ◌<◌, if◌then◌else◌, List, [], Option, Some, None, bytes_eq, codes, map, unwrap_or}
 use Rattle.std.specs.Option.{option_map, option_map_or}
 use Rattle.std.specs.Str.Parse.{IsNumeral, digits_value, without_leading_plus}
 use Rattle.clap.specs.Words.{matched_of, one_text, raw_values, rows_of, subcommand_name_of, subcommand_rows_of}
@@ -34,22 +34,47 @@ IsGiven (Some text) given = IsNumber text given
 abbrev pub IsGivenOr : ℕ → Option (List ℕ) → ℕ → Type 0
 IsGivenOr default text number = (given : Option ℕ) × (IsGiven text given × (number ≡ unwrap_or given default))
 
--- each option of `live` sets what it says: how many turns, when somebody asks, and these fates in this order
-pub record IsOrdered (found : Found) (order : LiveOrder) : Type 0 where
+-- a drive, by its name; 0 is the fourth
+abbrev pub drive_of : List ℕ → ℕ
+drive_of word =
+    if bytes_eq word (codes "1") then 1 else (if bytes_eq word (codes "2") then 2 else (if bytes_eq word (codes "3") then 3 else 0))
+
+-- the drives that an option names, in their order
+abbrev pub drives_in : Found → List ℕ → List ℕ
+drives_in found option = map drive_of (values_of found option)
+
+-- each option of `live` sets what it says: how many turns, when somebody asks, these fates in this order, and the drives
+-- whose disks are saved; the drives with images are given
+pub record IsOrdered (found : Found) (images : List ℕ) (order : LiveOrder) : Type 0 where
   pub turns : IsGivenOr 1000000 (one_text found (codes "turns")) order.turns
   pub primary_asks : IsGiven (one_text found (codes "primary-asks")) order.primary_asks
   pub backup_asks : IsGiven (one_text found (codes "backup-asks")) order.backup_asks
   pub link : order.link.items ≡ map fate_of (values_of found (codes "link"))
+  pub images_are : order.images.items ≡ images
+  pub saved : order.saved.items ≡ drives_in found (codes "saved")
+
+-- what clap has found after the name of a command, if there is one, has images of these drives
+pub record HasImages (matches : ArgMatches) (found : Found) (images : List ℕ) : Type 0 where
+  pub after : option_map (λ p. p.1) (subcommand_rows_of matches) ≡ Some (rows_of found)
+  pub are : images ≡ drives_in found (codes "images")
+
+-- the command of this name, with the images of these drives
+pub record IsCommand (matches : ArgMatches) (name images : List ℕ) : Type 0 where
+  pub found : Found
+  pub named : subcommand_name_of matches ≡ Some name
+  pub has : HasImages matches found images
 
 -- what clap has found after the word `live` is so much
 pub record IsLive (matches : ArgMatches) (order : LiveOrder) : Type 0 where
   pub found : Found
+  pub images : List ℕ
   pub named : subcommand_name_of matches ≡ Some (codes "live")
-  pub after : option_map (λ p. p.1) (subcommand_rows_of matches) ≡ Some (rows_of found)
-  pub ordered : IsOrdered found order
+  pub has : HasImages matches found images
+  pub ordered : IsOrdered found images order
 
--- the command that is no other one
-pub record IsScript (matches : ArgMatches) : Type 0 where
+-- the command that is no other one, with the images of these drives; none if no command has a name
+pub record IsScript (matches : ArgMatches) (images : List ℕ) : Type 0 where
+  pub has : ((found : Found) × HasImages matches found images) ⊎ ((subcommand_name_of matches ≡ None) × (images ≡ []))
   pub check : subcommand_name_of matches ≢ Some (codes "check")
   pub picture : subcommand_name_of matches ≢ Some (codes "picture")
   pub lint : subcommand_name_of matches ≢ Some (codes "lint")
@@ -58,10 +83,10 @@ pub record IsScript (matches : ArgMatches) : Type 0 where
 
 -- what is asked for is what the command's name says
 abbrev pub Asks : ArgMatches → Request → Type 0
-Asks matches request.Check = subcommand_name_of matches ≡ Some (codes "check")
-Asks matches request.Picture = subcommand_name_of matches ≡ Some (codes "picture")
+Asks matches (request.Check images) = IsCommand matches (codes "check") images.items
+Asks matches (request.Picture images) = IsCommand matches (codes "picture") images.items
 Asks matches request.Lint = subcommand_name_of matches ≡ Some (codes "lint")
 Asks matches request.Shell = subcommand_name_of matches ≡ Some (codes "shell")
 Asks matches (request.Live order) = IsLive matches order
-Asks matches request.Script = IsScript matches
+Asks matches (request.Script images) = IsScript matches images.items
 Asks matches (request.Help text) = ⊥

@@ -1,8 +1,8 @@
 //! The command line.
-ghost use Rattle.std.specs.Prelude.{◌≡◌, IfErr, IfOk, map, true};
+ghost use Rattle.std.specs.Prelude.{◌≡◌, IfErr, IfOk, codes, map, true};
 ghost use Rattle.clap.specs.Words.{found_of, one_text};
 ghost use Rattle.command_ending.specs.Statuses.{is_of_command_line};
-ghost use Rattle.command_line.specs.Orders.{Asks, IsGiven, IsOrdered, fate_of, values_of};
+ghost use Rattle.command_line.specs.Orders.{Asks, IsGiven, IsOrdered, drive_of, drives_in, fate_of, values_of};
 
 use crate::live_order::LiveOrder;
 use clap::builder::ValueParser;
@@ -12,15 +12,15 @@ use command_ending::Failure;
 use pair_threads::Fate;
 use std::alloc::{AllocError, Global};
 
-/// What the command line asks for.
+/// What the command line asks for. A command that runs a script has the numbers of the drives whose images come before it.
 #[derive(Drop)]
 pub enum Request {
     /// To print what each line of a script answers.
-    Script,
+    Script(Vec<u8>),
     /// To compare the pair at the end of a script with a single machine.
-    Check,
+    Check(Vec<u8>),
     /// To draw what happens in a script.
-    Picture,
+    Picture(Vec<u8>),
     /// To name the bad lines of a script.
     Lint,
     /// To run a pair on threads.
@@ -58,6 +58,14 @@ const LIVE_USAGE: &str =
 // The names of the fates of a packet: it is brought, it is lost, it is brought twice.
 static FATES: &[&str] = &["pass", "drop", "twice"];
 
+static DRIVES: &[&str] = &["0", "1", "2", "3"];
+
+const IMAGES: &str =
+    "The drives whose disks come before the script, each as an image of 337568 bytes; ./pair sends them for --disk";
+
+const SAVED: &str =
+    "The drives whose disks are written as images at the end; ./pair keeps them for --save-disk";
+
 // How many turns there are at most, and how many if the command line does not say.
 const MOST_TURNS: u64 = 1_000_000_000;
 
@@ -86,23 +94,27 @@ fn asks_for_help(arguments: &[String]) -> bool {
     }
 }
 
-// The commands without options: their names, what they do, and how they are called.
-static PLAIN_COMMANDS: [(&str, &str, &str); 5] = [
+// The commands that run a script: their names, what they do, and how they are called.
+static SCRIPT_COMMANDS: [(&str, &str, &str); 3] = [
     (
         "script",
         "Runs a script, and prints a line for each event and query",
-        "pair script < FILE (the script comes from standard input)",
+        "pair script [OPTIONS] < FILE (the script comes from standard input)",
     ),
     (
         "check",
         "Runs a script silently, and compares the pair with a single machine",
-        "pair check < FILE (the script comes from standard input)",
+        "pair check [OPTIONS] < FILE (the script comes from standard input)",
     ),
     (
         "picture",
         "Runs a script silently, and draws what happened in it as an SVG picture",
-        "pair picture < FILE > PICTURE.svg (the script comes from standard input)",
+        "pair picture [OPTIONS] < FILE > PICTURE.svg (the script comes from standard input)",
     ),
+];
+
+// The commands without options.
+static PLAIN_COMMANDS: [(&str, &str, &str); 2] = [
     (
         "lint",
         "Names every bad line of a script, and what was expected there; it runs nothing",
@@ -136,29 +148,61 @@ fn parse(alloc: Global, arguments: &[String]) -> Result<Request, Error> {
 fn request_in(alloc: Global, matches: &ArgMatches<'_>) -> Result<Request, Error>
     ensures { IfOk result (λ request. Asks matches.now request) }
 {
-    match matches.subcommand() {
-        Some(("check", _)) => Ok(Request::Check),
-        Some(("picture", _)) => Ok(Request::Picture),
-        Some(("lint", _)) => Ok(Request::Lint),
-        Some(("shell", _)) => Ok(Request::Shell),
-        Some(("live", live)) => Ok(Request::Live(live_order(alloc, live)?)),
-        _ => Ok(Request::Script),
+    let Some((name, found)) = matches.subcommand() else {
+        return Ok(Request::Script(Vec::new(alloc)));
+    };
+    let images = images_in(alloc, found)?;
+    match name {
+        "check" => Ok(Request::Check(images)),
+        "picture" => Ok(Request::Picture(images)),
+        "lint" => Ok(Request::Lint),
+        "shell" => Ok(Request::Shell),
+        "live" => Ok(Request::Live(live_order(alloc, found, images)?)),
+        _ => Ok(Request::Script(images)),
     }
+}
+
+// The drives whose images come before the script.
+fn images_in(alloc: Global, found: &ArgMatches<'_>) -> Result<Vec<u8>, AllocError>
+    ensures { IfOk result (λ drives. drives.items ≡ drives_in (found_of found.now) (codes "images")) }
+{
+    drives_of(alloc, found.get_strs("images").unwrap_or(&[]))
 }
 
 // The program with all its commands.
 fn pair_command<'a>(alloc: Global) -> Result<Command<'a>, AllocError> {
-    let mut pair = Command::new(alloc, "pair")
+    let pair = Command::new(alloc, "pair")
         .bin_name("pair")?
         .version("0.1.0")
         .about("A fault-tolerant pair of Altair 8800s")
         .after_help(EXAMPLE)
         .subcommand_required(true);
+    let pair = with_script_commands(alloc, pair)?;
+    let pair = with_plain_commands(alloc, pair)?;
+    pair.subcommand(live_command(alloc)?)
+}
+
+// The program with its commands that run a script.
+fn with_script_commands<'a>(
+    alloc: Global,
+    program: Command<'a>,
+) -> Result<Command<'a>, AllocError> {
+    let mut pair = program;
+    for (name, about, usage) in SCRIPT_COMMANDS {
+        let command = Command::new(alloc, name).about(about).override_usage(usage);
+        pair = pair.subcommand(command.arg(images(alloc))?)?;
+    }
+    Ok(pair)
+}
+
+// The program with its commands without options.
+fn with_plain_commands<'a>(alloc: Global, program: Command<'a>) -> Result<Command<'a>, AllocError> {
+    let mut pair = program;
     for (name, about, usage) in PLAIN_COMMANDS {
         let command = Command::new(alloc, name).about(about).override_usage(usage);
         pair = pair.subcommand(command)?;
     }
-    pair.subcommand(live_command(alloc)?)
+    Ok(pair)
 }
 
 // The command that runs a pair on threads.
@@ -175,16 +219,38 @@ fn live_command<'a>(alloc: Global) -> Result<Command<'a>, AllocError> {
     for (name, help) in ASKS {
         command = command.arg(turn(alloc, name, 0).help(help))?;
     }
-    command.arg(link(alloc))
+    command
+        .arg(link(alloc))?
+        .arg(images(alloc))?
+        .arg(saved(alloc))
 }
 
 fn link<'a>(alloc: Global) -> Arg<'a> {
-    Arg::new(alloc, "link")
-        .long("link")
-        .value_name("FATES")
+    words(alloc, "link", "FATES", FATES).help(
+        "The fates of the packets, in order; the last is that of all others",
+    )
+}
+
+fn images<'a>(alloc: Global) -> Arg<'a> {
+    words(alloc, "images", "DRIVES", DRIVES).help(IMAGES)
+}
+
+fn saved<'a>(alloc: Global) -> Arg<'a> {
+    words(alloc, "saved", "DRIVES", DRIVES).help(SAVED)
+}
+
+// An option whose values are words of a list, with commas between them.
+fn words<'a>(
+    alloc: Global,
+    name: &'a str,
+    values: &'a str,
+    list: &'static [&'static str],
+) -> Arg<'a> {
+    Arg::new(alloc, name)
+        .long(name)
+        .value_name(values)
         .value_delimiter(',')
-        .value_parser(ValueParser::Names(FATES))
-        .help("The fates of the packets, in order; the last is that of all others")
+        .value_parser(ValueParser::Names(list))
 }
 
 // An option whose value is a number of turns, at least this many.
@@ -197,18 +263,21 @@ fn turn<'a>(alloc: Global, name: &'a str, least: u64) -> Arg<'a> {
 
 // What the words after `live` say.
 #[tactic(auto, using(crate::proofs::Orders::given_or))]
-fn live_order(alloc: Global, matches: &ArgMatches<'_>) -> Result<LiveOrder, Error>
-    ensures { IfOk result (λ order. IsOrdered (found_of matches.now) order) }
+fn live_order(alloc: Global, matches: &ArgMatches<'_>, images: Vec<u8>) -> Result<LiveOrder, Error>
+    ensures { IfOk result (λ order. IsOrdered (found_of matches.now) images.items order) }
 {
     let turns = number(matches, "turns").unwrap_or(TURNS);
     let primary_asks = number(matches, "primary-asks");
     let backup_asks = number(matches, "backup-asks");
     let link = fates_of(alloc, matches.get_strs("link").unwrap_or(&[]))?;
+    let saved = drives_of(alloc, matches.get_strs("saved").unwrap_or(&[]))?;
     Ok(LiveOrder {
         turns,
         primary_asks,
         backup_asks,
         link,
+        images,
+        saved,
     })
 }
 
@@ -238,6 +307,29 @@ fn fate_of(word: &str) -> Fate
         "drop" => Fate::Drop,
         "twice" => Fate::Twice,
         _ => Fate::Pass,
+    }
+}
+
+// Drives, by their names.
+fn drives_of(alloc: Global, words: &[&str]) -> Result<Vec<u8>, AllocError>
+    ensures { IfOk result (λ drives. drives.items ≡ map drive_of (map (λ word. word.now) words.now)) }
+{
+    let mut drives = Vec::new(alloc);
+    for word in words {
+        drives.push(drive_of(word))?;
+    }
+    Ok(drives)
+}
+
+// A drive, by its name.
+fn drive_of(word: &str) -> u8
+    ensures { result ≡ drive_of word.now }
+{
+    match word {
+        "1" => 1,
+        "2" => 2,
+        "3" => 3,
+        _ => 0,
     }
 }
 

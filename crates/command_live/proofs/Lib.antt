@@ -1,1 +1,2 @@
 pub mod Living
+pub mod Places

@@ -1,6 +1,8 @@
 -- What a pair on threads prints is an end of its generation; what is typed at it, line by line.
-use Rattle.std.proofs.Common.{◌≡◌, ℕ, ◌+◌, ◌<◌, zero, suc, Option, Some, None, List, [], ◌∷◌, ◌++◌, Result, Ok, Err, inl, inr, refl, subst, sym, ap, ◌∙◌, length, map, replicate, take, get_or, if◌then◌else◌, append-nil, arith}
+use Rattle.std.proofs.Common.{◌≡◌, ℕ, ◌+◌, ◌<◌, zero, suc, Option, Some, None, List, [], ◌∷◌, ◌++◌, Result, Ok, Err, inl, inr, refl, subst, sym, ap, ◌∙◌, length, replicate, take, get_or, if◌then◌else◌, append-nil, arith}
 use Rattle.std.specs.Prelude.{◌⊎◌, IfErr, OnOk}
+use Rattle.std.specs.Global.{Vec}
+use Rattle.std.specs.Result.{IsErrAnd}
 use Rattle.std.specs.Io.KnownBytes.{Appends, Keeps, append_known}
 use Rattle.std.specs.Option.{option_map_or}
 use Rattle.disk_dcdd.specs.declared.sector.SectorWrite.{SectorWrite}
@@ -10,7 +12,8 @@ use Rattle.guest_board.specs.Guest.{guest_at_boot}
 use Rattle.guest_board.specs.Inputs.{some_altair}
 use Rattle.guest_lockstep.specs.Machine.{booted_from}
 use Rattle.log_entry.specs.declared.entry.Entry.{Entry}
-use Rattle.command_live.specs.Living.{AreBooted, EndsOf, PrintsLive, PrintsNone, end_text, typed_by, typed_in, with_byte}
+use Rattle.command_live.specs.Living.{AreBooted, EndsOf, PrintsLive, PrintsNone, Tells, TellsEnd, end_text, typed_by, typed_in, with_byte}
+use Rattle.command_live.specs.Saving.{images_of}
 use Rattle.command_ending.specs.Reports.{AddsLine}
 use Rattle.command_ending.specs.declared.failure.Failure.{Failure}
 use Rattle.command_ending.specs.declared.failure.Failure.TheVariants as failure
@@ -21,43 +24,73 @@ use Rattle.pair_threads.specs.Stores.{bytes_in}
 use Rattle.pair_threads.specs.declared.gate.Who.{Who}
 use Rattle.shared_disk.specs.Records.{IsAtBoot, boot_record, bytes_after}
 use Rattle.shared_disk.specs.declared.store.Record.{Record}
-use Rattle.script_language.specs.Scripts.{boot_write}
 use Rattle.script_language.specs.declared.line.Line.{Line}
 use Rattle.script_language.specs.declared.setup.ScriptSetup.{ScriptSetup}
 
-module _ (setup : ScriptSetup) (typed0 typed1 : List ℕ) (order : LiveOrder) where
+module _ (setup : ScriptSetup) (given : List SectorWrite) (typed0 typed1 : List ℕ) (order : LiveOrder) where
   -- the end is printed, or it is not
-  pub prints_end : (result : Result (Unit {0}) Failure) (old new : Option (List ℕ)) (first second : List ℕ) (winner : Option Who)
-      → WonBy order.primary_asks order.backup_asks winner → EndsOf setup typed0 typed1 winner (first ∷ second ∷ [])
-      → OnOk result (AddsLine (Some (end_text first second winner)) old new)
-      → (result ≡ Err failure.OutOfMemory → Keeps old new)
-      → IfErr result (λ e. (e ≡ failure.OutOfMemory) ⊎ (e ≡ failure.InputOrOutput))
-      → PrintsLive setup typed0 typed1 order result old new
-  prints_end (Ok done) old new first second winner won ends one kept why =
+  pub tells_end : (old new : Option (List ℕ)) (first second images : List ℕ) (winner : Option Who)
+      → WonBy order.primary_asks order.backup_asks winner
+      → EndsOf setup given typed0 typed1 order.saved.items winner (first ∷ second ∷ []) images
+      → AddsLine (Some (end_text first second winner)) old new
+      → TellsEnd setup given typed0 typed1 order images old new
+  tells_end old new first second images winner won ends one =
       record { first = first; second = second; winner = winner; won = won; ends = ends; printed = one }
-  prints_end (Err e) old new first second winner won ends one kept (inl is) =
-      subst (λ f. PrintsNone f old new) (sym is) (kept (ap (λ f. Err f) is))
-  prints_end (Err e) old new first second winner won ends one kept (inr is) = subst (λ f. PrintsNone f old new) (sym is) tt
+
+  -- a line that is not handed in
+  tells_none : (e : Failure) (old new : Option (List ℕ)) → (e ≡ failure.OutOfMemory → Keeps old new)
+      → (e ≡ failure.OutOfMemory) ⊎ (e ≡ failure.InputOrOutput) → PrintsNone e old new
+  tells_none e old new kept (inl is) = subst (λ f. PrintsNone f old new) (sym is) (kept is)
+  tells_none e old new kept (inr is) = subst (λ f. PrintsNone f old new) (sym is) tt
+
+  pub tells_residual : (result : Result (Vec ℕ) Failure) (told : Result (Unit {0}) Failure) (e : Failure)
+      (old new : Option (List ℕ)) → IsErrAnd result (λ k. k ≡ e) → told ≡ Err e
+      → (told ≡ Err failure.OutOfMemory → Keeps old new)
+      → IfErr told (λ e. (e ≡ failure.OutOfMemory) ⊎ (e ≡ failure.InputOrOutput))
+      → Tells setup given typed0 typed1 order result old new
+  tells_residual (Ok images) told e old new is was kept why = absurd is
+  tells_residual (Err k) told e old new is was kept why =
+      subst (λ f. PrintsNone f old new) (sym is)
+      (tells_none e old new (λ out. kept (was ∙ ap (λ f. Err f) out))
+      (subst (λ r. IfErr r (λ e. (e ≡ failure.OutOfMemory) ⊎ (e ≡ failure.InputOrOutput))) was why))
 
   -- if a report has no lines at first, and all that is handed in is then written, that is what the writer got
-  pub settled_live : (a b c : Option (List ℕ)) (first rest : List ℕ) → first ≡ [] → Appends b c rest
-      → (result : Result (Unit {0}) Failure)
-      → PrintsLive setup typed0 typed1 order result (append_known a first) (append_known b rest)
-      → PrintsLive setup typed0 typed1 order result a c
-  settled_live a b c first rest none q (Ok done) h = record {
-    first = h.first;
-    second = h.second;
-    winner = h.winner;
-    won = h.won;
-    ends = h.ends;
-    printed = settled_line a b c first rest none q (Some (end_text h.first h.second h.winner)) h.printed;
-  }
-  settled_live a b c first rest none q (Err failure.OutOfMemory) h = settled_kept a b c first rest none h q
-  settled_live a b c first rest none q (Err failure.Stalled) h = settled_kept a b c first rest none h q
-  settled_live a b c first rest none q (Err failure.InputOrOutput) h = tt
-  settled_live a b c first rest none q (Err failure.Differs) h = h
-  settled_live a b c first rest none q (Err (failure.CommandLine text)) h = h
-  settled_live a b c first rest none q (Err (failure.BadScript line)) h = h
+  module _ (a b c : Option (List ℕ)) (first rest : List ℕ) (none : first ≡ []) (q : Appends b c rest) where
+    settled_end : (images : List ℕ)
+        → TellsEnd setup given typed0 typed1 order images (append_known a first) (append_known b rest)
+        → TellsEnd setup given typed0 typed1 order images a c
+    settled_end images h = record {
+      first = h.first;
+      second = h.second;
+      winner = h.winner;
+      won = h.won;
+      ends = h.ends;
+      printed = settled_line a b c first rest none q (Some (end_text h.first h.second h.winner)) h.printed;
+    }
+
+    settled_none : (e : Failure) → PrintsNone e (append_known a first) (append_known b rest) → PrintsNone e a c
+    settled_none failure.OutOfMemory h = settled_kept a b c first rest none h q
+    settled_none failure.Stalled h = settled_kept a b c first rest none h q
+    settled_none failure.InputOrOutput h = tt
+    settled_none failure.Differs h = h
+    settled_none (failure.CommandLine text) h = h
+    settled_none (failure.BadScript line) h = h
+
+    -- the images come after it
+    pub settled_live : (d : Option (List ℕ)) (images bytes : List ℕ) (result : Result (Unit {0}) Failure) → bytes ≡ images
+        → OnOk result (Appends c d bytes) → IfErr result (λ e. e ≡ failure.InputOrOutput)
+        → TellsEnd setup given typed0 typed1 order images (append_known a first) (append_known b rest)
+        → PrintsLive setup given typed0 typed1 order result a d
+    settled_live d images bytes (Ok done) are more why h =
+        record { images = images; told = c; tells = settled_end images h; printed = subst (λ l. Appends c d l) are more }
+    settled_live d images bytes (Err e) are more why h = subst (λ f. PrintsNone f a d) (sym why) tt
+
+    -- nothing comes after a failure
+    pub settled_residual : (result : Result (Unit {0}) Failure) (e : Failure) → IsErrAnd result (λ k. k ≡ e)
+        → PrintsNone e (append_known a first) (append_known b rest)
+        → PrintsLive setup given typed0 typed1 order result a c
+    settled_residual (Ok done) e is h = absurd is
+    settled_residual (Err k) e is h = subst (λ f. PrintsNone f a c) (sym is) (settled_none e h)
 
 -- ---- what is typed
 
@@ -96,25 +129,29 @@ module _ (port : ℕ) (lines : List Line) (i : ℕ) (other : Line) (found : Opti
 -- ---- how it ends
 
 -- a store at boot has in each sector what the setup says
-are_booted : (setup : ScriptSetup) (writes : List SectorWrite) (records : List Record)
-    → writes ≡ map boot_write setup.sectors.items → IsAtBoot records setup.guest.drives writes
-    → AreBooted setup (bytes_in records)
-are_booted setup writes records are at address there =
+are_booted : (setup : ScriptSetup) (given writes : List SectorWrite) (records : List Record)
+    → writes ≡ given → IsAtBoot records setup.guest.drives writes
+    → AreBooted setup given (bytes_in records)
+are_booted setup given writes records are at address there =
     ap (λ (r : Option Record). option_map_or (λ (r : Record). r.bytes) r [])
     (at address ∙ ap (λ b. if b then Some (boot_record (bytes_after writes address (replicate SECTOR_BYTES 0))) else None) there)
     ∙ ap (λ l. bytes_after l address (replicate SECTOR_BYTES 0)) are
 
-pub ends_of : (setup : ScriptSetup) (lines : List Line) (boot : Guest) (writes : List SectorWrite) (booted : List Record)
+pub ends_of : (setup : ScriptSetup) (given : List SectorWrite) (lines : List Line) (saved : List ℕ) (boot : Guest)
+    (writes : List SectorWrite) (booted : List Record)
     (typed0 typed1 : List ℕ) (winner : Option Who) (primary backup : List Entry) (held : ℕ) (screens : List (List ℕ))
-    (records : List Record) (s t : Guest) → boot ≡ guest_at_boot setup.guest
-    → writes ≡ map boot_write setup.sectors.items → IsAtBoot booted setup.guest.drives writes
+    (records : List Record) (s t : Guest) (images : List ℕ) → boot ≡ guest_at_boot setup.guest
+    → writes ≡ given → IsAtBoot booted setup.guest.drives writes
     → typed0 ≡ typed_in 0 lines → typed1 ≡ typed_in 1 lines
     → EndsBy (booted_from some_altair boot (bytes_in booted)) typed0 typed1 winner primary backup held screens records s t
-    → EndsOf setup (typed_in 0 lines) (typed_in 1 lines) winner screens
-ends_of setup lines boot writes booted typed0 typed1 winner primary backup held screens records s t at are there is0 is1 ends =
+    → images ≡ images_of records saved
+    → EndsOf setup given (typed_in 0 lines) (typed_in 1 lines) saved winner screens images
+ends_of setup given lines saved boot writes booted typed0 typed1 winner primary backup held screens records s t images at are there
+    is0 is1 ends all =
     record {
       sectors = bytes_in booted;
-      booted = are_booted setup writes booted are there;
+      booted = are_booted setup given writes booted are there;
+      images_are = all;
       primary = primary;
       backup = backup;
       held = held;

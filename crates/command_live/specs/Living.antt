@@ -1,8 +1,10 @@
 -- What a pair on threads prints.
-use Rattle.std.specs.Prelude.{◌≡◌, ℕ, ◌==◌, if◌then◌else◌, IsTrue, Option, Some, None, List, [], ◌∷◌, ◌++◌, Result, MatchResult, codes, map, replicate}
-use Rattle.std.specs.Io.KnownBytes.{Keeps}
+use Rattle.std.specs.Prelude.{◌≡◌, ℕ, ◌==◌, if◌then◌else◌, IsTrue, Option, Some, None, List, [], ◌∷◌, ◌++◌, Result, MatchResult, codes, replicate}
+use Rattle.std.specs.Global.{Vec}
+use Rattle.std.specs.Io.KnownBytes.{Appends, Keeps}
 use Rattle.disk_dcdd.specs.Address.{has_sector}
 use Rattle.disk_dcdd.specs.declared.address.SectorAddress.{SectorAddress}
+use Rattle.disk_dcdd.specs.declared.sector.SectorWrite.{SectorWrite}
 use Rattle.disk_dcdd.specs.declared.sector.TheConstants.{SECTOR_BYTES}
 use Rattle.guest_parts.specs.Guest.{Guest}
 use Rattle.guest_board.specs.Guest.{altair}
@@ -12,11 +14,11 @@ use Rattle.pair_events.specs.declared.event.Event.TheVariants.{TypeByte}
 use Rattle.command_ending.specs.Reports.{AddsLine}
 use Rattle.command_ending.specs.declared.failure.Failure.{Failure}
 use Rattle.command_ending.specs.declared.failure.Failure.TheVariants.{OutOfMemory, InputOrOutput, Stalled}
+use Rattle.command_live.specs.Saving.{images_of}
 use Rattle.command_line.specs.declared.live_order.LiveOrder.{LiveOrder}
 use Rattle.pair_threads.specs.Ending.{EndsBy, WonBy}
 use Rattle.pair_threads.specs.declared.gate.Who.{Who}
 use Rattle.pair_threads.specs.declared.gate.Who.TheVariants.{Primary}
-use Rattle.script_language.specs.Scripts.{boot_write}
 use Rattle.script_language.specs.declared.line.Line.{Line}
 use Rattle.script_language.specs.declared.line.Line.TheVariants.{Event}
 use Rattle.script_language.specs.declared.setup.ScriptSetup.{ScriptSetup}
@@ -46,16 +48,17 @@ winner_text (Some who) = 10 ∷ codes "winner: backup"
 abbrev pub end_text : List ℕ → List ℕ → Option Who → List ℕ
 end_text first second winner = accepted_text 0 first ++ (10 ∷ accepted_text 1 second) ++ winner_text winner
 
--- each sector has the bytes that the setup says, or zeros
-abbrev pub AreBooted : ScriptSetup → (SectorAddress → List ℕ) → Type 0
-AreBooted setup sectors = (address : SectorAddress) → IsTrue (has_sector setup.guest.drives address)
-    → sectors address ≡ bytes_after (map boot_write setup.sectors.items) address (replicate SECTOR_BYTES 0)
+-- each sector has the bytes of the last of these that goes there, or zeros
+abbrev pub AreBooted : ScriptSetup → List SectorWrite → (SectorAddress → List ℕ) → Type 0
+AreBooted setup given sectors = (address : SectorAddress) → IsTrue (has_sector setup.guest.drives address)
+    → sectors address ≡ bytes_after given address (replicate SECTOR_BYTES 0)
 
--- how a generation of the Altair of a setup ends, if these bytes were typed at its ports: who goes on alone, and what its
--- terminals have accepted
-pub record EndsOf (setup : ScriptSetup) (typed0 typed1 : List ℕ) (winner : Option Who) (screens : List (List ℕ)) : Type 0 where
+-- how a generation of the Altair of a setup ends, if its disk had these sectors and these bytes were typed at its ports: who
+-- goes on alone, what its terminals have accepted, and the images of the disks that are saved
+pub record EndsOf (setup : ScriptSetup) (given : List SectorWrite) (typed0 typed1 saved : List ℕ) (winner : Option Who)
+    (screens : List (List ℕ)) (images : List ℕ) : Type 0 where
   pub sectors : SectorAddress → List ℕ
-  pub booted : AreBooted setup sectors
+  pub booted : AreBooted setup given sectors
   pub primary : List Entry
   pub backup : List Entry
   pub held : ℕ
@@ -63,14 +66,16 @@ pub record EndsOf (setup : ScriptSetup) (typed0 typed1 : List ℕ) (winner : Opt
   pub s : Guest
   pub t : Guest
   pub ends : EndsBy (altair setup.guest sectors) typed0 typed1 winner primary backup held screens records s t
+  pub images_are : images ≡ images_of records saved
 
 -- such an end is printed; whoever goes on alone in it was to ask, and if nobody does, nobody was
-pub record PrintsEnd (setup : ScriptSetup) (typed0 typed1 : List ℕ) (order : LiveOrder) (old new : Option (List ℕ)) : Type 0 where
+pub record TellsEnd (setup : ScriptSetup) (given : List SectorWrite) (typed0 typed1 : List ℕ) (order : LiveOrder)
+    (images : List ℕ) (old new : Option (List ℕ)) : Type 0 where
   pub first : List ℕ
   pub second : List ℕ
   pub winner : Option Who
   pub won : WonBy order.primary_asks order.backup_asks winner
-  pub ends : EndsOf setup typed0 typed1 winner (first ∷ second ∷ [])
+  pub ends : EndsOf setup given typed0 typed1 order.saved.items winner (first ∷ second ∷ []) images
   pub printed : AddsLine (Some (end_text first second winner)) old new
 
 -- nothing is printed of a pair that stalls, or for which memory is refused
@@ -80,7 +85,21 @@ PrintsNone Stalled old new = Keeps old new
 PrintsNone InputOrOutput old new = Unit {0}
 PrintsNone failure old new = ⊥
 
-abbrev pub PrintsLive : ScriptSetup → List ℕ → List ℕ → LiveOrder → Result (Unit {0}) Failure → Option (List ℕ)
-    → Option (List ℕ) → Type 0
-PrintsLive setup typed0 typed1 order result old new = MatchResult result
-    (λ done. PrintsEnd setup typed0 typed1 order old new) (λ failure. PrintsNone failure old new)
+-- the end is printed, and these are the images
+abbrev pub Tells : ScriptSetup → List SectorWrite → List ℕ → List ℕ → LiveOrder → Result (Vec ℕ) Failure
+    → Option (List ℕ) → Option (List ℕ) → Type 0
+Tells setup given typed0 typed1 order result old new = MatchResult result
+    (λ images. TellsEnd setup given typed0 typed1 order images.items old new) (λ failure. PrintsNone failure old new)
+
+-- the end is printed, and then its images
+pub record PrintsEnd (setup : ScriptSetup) (given : List SectorWrite) (typed0 typed1 : List ℕ) (order : LiveOrder)
+    (old new : Option (List ℕ)) : Type 0 where
+  pub images : List ℕ
+  pub told : Option (List ℕ)
+  pub tells : TellsEnd setup given typed0 typed1 order images old told
+  pub printed : Appends told new images
+
+abbrev pub PrintsLive : ScriptSetup → List SectorWrite → List ℕ → List ℕ → LiveOrder → Result (Unit {0}) Failure
+    → Option (List ℕ) → Option (List ℕ) → Type 0
+PrintsLive setup given typed0 typed1 order result old new = MatchResult result
+    (λ done. PrintsEnd setup given typed0 typed1 order old new) (λ failure. PrintsNone failure old new)

@@ -1,46 +1,37 @@
-//! A script of a pair on threads that is read, run, and told of.
-ghost use Rattle.command_ending.specs.Inputs.{Reads};
+//! A pair on threads that is run, and told of.
+ghost use Rattle.std.specs.Prelude.{◌≡◌, IfErr, OnOk};
+ghost use Rattle.std.specs.Io.KnownBytes.{Appends};
+ghost use Rattle.command_ending.specs.declared.failure.Failure.TheVariants as failure;
 ghost use Rattle.command_live.specs.Living.{PrintsLive, typed_in};
-ghost use Rattle.script_language.specs.Live as live_meaning;
 
 use crate::live;
 use command_ending::{Failure, Report};
+use command_input::Input;
 use command_line::LiveOrder;
 use event_callbacks::plain_completions;
-use script_language::{Script, parse_live, read_script};
 use std::alloc::Global;
-use std::io::{Read, Write};
+use std::io::Write;
 use std::thread::Threads;
 use std::time::Clock;
 
-/// The whole script of the reader, for a pair on threads.
-#[tactic(auto, using(command_ending::proofs::Inputs::reads_script, command_ending::proofs::Inputs::reads_no_script, command_ending::proofs::Inputs::reads_nothing))]
-pub fn live_script_of<R: Read + Drop>(alloc: Global, reader: &mut R) -> Result<Script, Failure>
-    ensures { Reads live_meaning.live_script_of (R.remaining reader.old) result }
-{
-    let bytes = read_script(alloc, reader)?;
-    let script = parse_live(alloc, &bytes)?;
-    Ok(script)
-}
-
-/// Runs a pair on threads, and writes what it prints.
-#[tactic(auto, using(crate::proofs::Living::settled_live))]
+/// Runs a pair on threads, and writes what it prints and the images of the disks that are saved.
+#[tactic(auto, using(crate::proofs::Living::settled_live, crate::proofs::Living::settled_residual))]
 pub fn run_live<H: Threads + Clock + Sync, W: Write + Drop>(
     rt: &H,
     alloc: Global,
     order: LiveOrder,
-    script: &Script,
+    input: &Input,
     writer: &mut W,
 ) -> Result<(), Failure>
-    ensures { PrintsLive script.now.setup (typed_in 0 script.now.lines.items) (typed_in 1 script.now.lines.items) order result
-        (W.contents writer.old) (W.contents writer.new) }
+    ensures { PrintsLive input.now.script.setup input.now.sectors.items (typed_in 0 input.now.script.lines.items)
+        (typed_in 1 input.now.script.lines.items) order result (W.contents writer.old) (W.contents writer.new) }
 {
     let mut printed = Report::new(alloc);
     let ended = live::run(
         rt,
         alloc,
         order,
-        script,
+        input,
         &mut printed,
         writer,
         plain_completions::sent,
@@ -48,5 +39,16 @@ pub fn run_live<H: Threads + Clock + Sync, W: Write + Drop>(
         plain_completions::written,
     );
     printed.flush(writer)?;
-    ended
+    let images = ended?;
+    write_images(&images, writer)
+}
+
+// Writes the images of disks, whole.
+fn write_images<W: Write + Drop>(images: &[u8], writer: &mut W) -> Result<(), Failure>
+    ensures written { OnOk result (Appends (W.contents writer.old) (W.contents writer.new) images.now) }
+    ensures errors { IfErr result (λ e. e ≡ failure.InputOrOutput) }
+{
+    writer.write_all(images)?;
+    writer.flush()?;
+    Ok(())
 }

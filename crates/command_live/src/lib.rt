@@ -3,5 +3,6 @@
 
 mod command;
 mod live;
+mod saving;
 
-pub use command::{live_script_of, run_live};
+pub use command::run_live;

@@ -4,18 +4,19 @@ ghost use Rattle.event_callbacks.specs.declared.devices.TheConstants.{SENT, SECT
 ghost use Rattle.event_callbacks.specs.Keeping.{Keeps};
 ghost use Rattle.guest_board.specs.Guest.{guest_at_boot};
 ghost use Rattle.command_ending.specs.Reports.{handed};
-ghost use Rattle.command_live.specs.Living.{EndsOf, PrintsLive, end_text, typed_by, typed_in};
+ghost use Rattle.command_live.specs.Living.{EndsOf, Tells, end_text, typed_by, typed_in};
 ghost use Rattle.command_ending.specs.declared.failure.Failure.TheVariants as failure;
 ghost use Rattle.pair_threads.specs.Ending.{WonBy};
 
+use crate::saving::images_of;
 use altair_laws::altairs_are_lawful;
 use command_ending::{Failure, Report};
+use command_input::Input;
 use command_line::LiveOrder;
 use event_callbacks::{Callbacks, Completes};
 use guest_board::{Board, Setup};
 use i8080_words::{Fault, R};
 use pair_events::{Answer, Event};
-use pair_setup::writes_of;
 use pair_threads::{GenerationEnd, OpenGate, Who, Workers, run_generation};
 use script_language::{Line, Script};
 use shared_disk::{MemoryStore, SharedDisk};
@@ -61,8 +62,9 @@ impl fmt::Display for EndText<'_> {
 }
 
 /// Boots a pair whose completions are these closures, runs it on threads until it is at its end, and prints what its
-/// terminals have accepted. Nothing is printed of a pair that stalls.
-#[tactic(auto, using(crate::proofs::Living::prints_end))]
+/// terminals have accepted. Nothing is printed of a pair that stalls. What is returned are the images of the disks that
+/// are saved; input or output has failed if one of them is not attached.
+#[tactic(auto, using(crate::proofs::Living::tells_end))]
 pub fn run<
     H: Threads + Clock + Sync,
     T: Completes + Drop + Copy + Send,
@@ -73,22 +75,24 @@ pub fn run<
     rt: &H,
     alloc: Global,
     order: LiveOrder,
-    script: &Script,
+    input: &Input,
     report: &mut Report,
     writer: &mut O,
     sent: T,
     sector: S,
     written: W,
-) -> Result<(), Failure>
+) -> Result<Vec<u8>, Failure>
     requires sent { Keeps (T.may sent) (T.gives sent) SENT }
     requires sector { Keeps (S.may sector) (S.gives sector) SECTOR }
     requires written { Keeps (W.may written) (W.gives written) WRITTEN }
-    ensures { PrintsLive script.now.setup (typed_in 0 script.now.lines.items) (typed_in 1 script.now.lines.items) order result
+    ensures { Tells input.now.script.setup input.now.sectors.items (typed_in 0 input.now.script.lines.items)
+        (typed_in 1 input.now.script.lines.items) order result
         (handed (O.contents writer.old) report.old) (handed (O.contents writer.new) report.new) }
 {
-    let end = match live(rt, alloc, order, script, sent, sector, written) {
-        Ok(end) => end,
+    let (end, images) = match live(rt, alloc, order, input, sent, sector, written) {
+        Ok(ended) => ended,
         Err(Fault::Stalled) => return Err(Failure::Stalled),
+        Err(Fault::Unknown) => return Err(Failure::InputOrOutput),
         Err(_) => return Err(Failure::OutOfMemory),
     };
     let (first, second) = both(&end.accepted);
@@ -97,7 +101,8 @@ pub fn run<
         second,
         winner: end.winner,
     };
-    report.line(writer, &text)
+    report.line(writer, &text)?;
+    Ok(images)
 }
 
 // What each of two terminals has accepted.
@@ -108,7 +113,7 @@ fn both(accepted: &[Vec<u8>; 2]) -> (&[u8], &[u8])
     (first, second)
 }
 
-// The pair at its end.
+// The pair at its end, and the images of the disks that are saved.
 #[tactic(auto, using(crate::proofs::Living::ends_of))]
 fn live<
     H: Threads + Clock + Sync,
@@ -119,26 +124,26 @@ fn live<
     rt: &H,
     alloc: Global,
     order: LiveOrder,
-    script: &Script,
+    input: &Input,
     sent: T,
     sector: S,
     written: W,
-) -> R<GenerationEnd<Board<T, S, W>, MemoryStore>>
+) -> R<(GenerationEnd<Board<T, S, W>, MemoryStore>, Vec<u8>)>
     requires sent { Keeps (T.may sent) (T.gives sent) SENT }
     requires sector { Keeps (S.may sector) (S.gives sector) SECTOR }
     requires written { Keeps (W.may written) (W.gives written) WRITTEN }
-    ensures ends { IfOk result (λ end. EndsOf script.now.setup (typed_in 0 script.now.lines.items)
-        (typed_in 1 script.now.lines.items) end.winner (map (λ v. v.items) end.accepted)) }
-    ensures won { IfOk result (λ end. WonBy order.primary_asks order.backup_asks end.winner) }
+    ensures ends { IfOk result (λ ended. EndsOf input.now.script.setup input.now.sectors.items
+        (typed_in 0 input.now.script.lines.items) (typed_in 1 input.now.script.lines.items) order.saved.items
+        ended.0.winner (map (λ v. v.items) ended.0.accepted) ended.1.items) }
+    ensures won { IfOk result (λ ended. WonBy order.primary_asks order.backup_asks ended.0.winner) }
 {
     altairs_are_lawful();
-    let setup = &script.setup;
-    let sectors = writes_of(alloc, &setup.sectors)?;
-    let store = MemoryStore::at_boot(alloc, setup.guest.drives, &sectors)?;
+    let Script { setup, lines } = &input.script;
+    let store = MemoryStore::at_boot(alloc, setup.guest.drives, &input.sectors)?;
     let primary = board(alloc, &setup.guest, Callbacks::of(sent, sector, written))?;
     let backup = board(alloc, &setup.guest, Callbacks::of(sent, sector, written))?;
-    let typed0 = typed_at(alloc, &script.lines, 0)?;
-    let typed1 = typed_at(alloc, &script.lines, 1)?;
+    let typed0 = typed_at(alloc, lines, 0)?;
+    let typed1 = typed_at(alloc, lines, 1)?;
     let workers = Workers {
         primary,
         backup,
@@ -150,8 +155,9 @@ fn live<
         backup_contests: order.backup_asks,
         steps: STEPS,
     };
-    let end = run_generation(rt, alloc, workers, &OpenGate, order.turns)?;
-    Ok(end)
+    let mut end = run_generation(rt, alloc, workers, &OpenGate, order.turns)?;
+    let images = images_of(alloc, &mut end.disk, &order.saved)?;
+    Ok((end, images))
 }
 
 // The guest of a node at boot.

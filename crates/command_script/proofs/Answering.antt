@@ -4,6 +4,7 @@ use Rattle.std.specs.Prelude.{◌⊎◌, IfErr, take}
 use Rattle.std.specs.Result.{IsErrAnd}
 use Rattle.std.specs.Io.KnownBytes.{Appends, Keeps, append_known}
 use Rattle.altair_copies.specs.Copies.{image_copy}
+use Rattle.disk_dcdd.specs.declared.sector.SectorWrite.{SectorWrite}
 use Rattle.guest_board.specs.Guest.{altair}
 use Rattle.guest_lockstep.specs.Machine.{Machine}
 use Rattle.pair_protocol.specs.Copying.{Copying}
@@ -134,19 +135,20 @@ module _ (a b c : Option (List ℕ)) (first rest : List ℕ) (none : first ≡ [
   settled_but holds failure.Stalled h = h
   settled_but holds failure.Differs h = (h.0, settled_line a b c first rest none q _ h.1)
 
-  pub settled_prints : (order : Order) (setup : ScriptSetup) (lines : List Line) (result : Result (Unit {0}) Failure)
-      → Prints order setup lines result (append_known a first) (append_known b rest) → Prints order setup lines result a c
-  settled_prints Script setup lines (Ok done) h = (
+  pub settled_prints : (order : Order) (setup : ScriptSetup) (sectors : List SectorWrite) (lines : List Line) (result : Result (Unit {0}) Failure)
+      → Prints order setup sectors lines result (append_known a first) (append_known b rest)
+      → Prints order setup sectors lines result a c
+  settled_prints Script setup sectors lines (Ok done) h = (
     h.0,
     (
       h.1.0,
       settled_lines (altair setup.guest h.0.start) (image_copy setup.guest.drives) h.0.world h.1.0 lines h.1.1,
     ),
   )
-  settled_prints Script setup lines (Err e) h =
+  settled_prints Script setup sectors lines (Err e) h =
       (h.0, settled_answers_but (altair setup.guest h.0.start) (image_copy setup.guest.drives) h.0.world lines e h.1)
-  settled_prints Check setup lines (Ok done) h = (h.0, (h.1.0, h.1.1, settled_line a b c first rest none q _ h.1.2))
-  settled_prints Check setup lines (Err e) h = (h.0, settled_but (IsSameAfter setup h.0 lines) e h.1)
+  settled_prints Check setup sectors lines (Ok done) h = (h.0, (h.1.0, h.1.1, settled_line a b c first rest none q _ h.1.2))
+  settled_prints Check setup sectors lines (Err e) h = (h.0, settled_but (IsSameAfter setup sectors h.0 lines) e h.1)
 
 -- a failure of a call that also ends this one
 pub answers_residual : {S : Type 0} (M : Machine S) (C : Copying S) (w : World S) (lines : List Line)
@@ -156,17 +158,18 @@ answers_residual M C w lines (Ok done) e old new is h = absurd is
 answers_residual M C w lines (Err k) e old new is h = subst (λ f. AnswersBut M C w lines f old new) (sym is) h
 
 -- a run that prints nothing because it is out of memory
-pub prints_nothing : (order : Order) (setup : ScriptSetup) (lines : List Line) (booted : Booted setup)
+pub prints_nothing : (order : Order) (setup : ScriptSetup) (sectors : List SectorWrite) (lines : List Line)
+    (booted : Booted setup sectors)
     (result : Result (Unit {0}) Failure) (old new : Option (List ℕ)) → IsErrAnd result (λ e. e ≡ failure.OutOfMemory)
-    → Keeps old new → Prints order setup lines result old new
-prints_nothing order setup lines booted (Ok done) old new is k = absurd is
-prints_nothing Script setup lines booted (Err e) old new is k = (
+    → Keeps old new → Prints order setup sectors lines result old new
+prints_nothing order setup sectors lines booted (Ok done) old new is k = absurd is
+prints_nothing Script setup sectors lines booted (Err e) old new is k = (
   booted,
   subst (λ f. AnswersBut (altair setup.guest booted.start) (image_copy setup.guest.drives) booted.world lines f old new)
       (sym is) (0, booted.world, adds_none (altair setup.guest booted.start) (image_copy setup.guest.drives) booted.world old new k),
 )
-prints_nothing Check setup lines booted (Err e) old new is k =
-    (booted, subst (λ f. PrintsBut (IsSameAfter setup booted lines) f old new) (sym is) k)
+prints_nothing Check setup sectors lines booted (Err e) old new is k =
+    (booted, subst (λ f. PrintsBut (IsSameAfter setup sectors booted lines) f old new) (sym is) k)
 
 -- what is printed of one verdict is printed of another that says more
 says-but : (P Q : Verdict → Type 0) → ((v : Verdict) → P v → Q v) → (e : Failure) (old new : Option (List ℕ))

@@ -1,6 +1,6 @@
 -- The world that a script begins in: what a pair that has booted shows; there is one for each setup.
 use Rattle.std.proofs.Common.{◌≡◌, ℕ, zero, suc, ◌+◌, ◌-◌, List, [], ◌∷◌, Option, Some, ap, arith, refl, subst, sym, ◌∙◌}
-use Rattle.std.specs.Prelude.{map, replicate, if◌then◌else◌, None}
+use Rattle.std.specs.Prelude.{replicate, if◌then◌else◌, None}
 use Rattle.std.specs.Option.{option_map_or}
 use Rattle.altair_copies.specs.Copies.{image_copy}
 use Rattle.disk_dcdd.specs.Address.{address_of, same_address}
@@ -33,7 +33,6 @@ use Rattle.pair_protocol.specs.World.{World, opening, with_host}
 use Rattle.command_script.specs.Answering.{Booted}
 use Rattle.pair_setup.specs.Booting.{HostsCome, IsBooted, Pair, Spare}
 use Rattle.plain_single.specs.Image.{boot_sectors, bytes_with_all, zero_sector}
-use Rattle.script_language.specs.Scripts.{boot_write}
 use Rattle.script_language.specs.declared.setup.ScriptSetup.{ScriptSetup}
 use Rattle.shared_disk.specs.Records.{IsAtBoot, boot_record, bytes_after}
 use Rattle.shared_disk.specs.declared.store.Record.{Record}
@@ -61,13 +60,13 @@ begins store drives sectors at_boot address on =
     ∙ ap (λ bytes. bytes_with_all sectors address bytes) (sym zeros_are)
 
 -- a pair that has booted
-pub booted_as : {B H : Type 0} (state : B → Guest) (setup : ScriptSetup) (sectors : List SectorWrite) (v : Running B H Disk)
-    → sectors ≡ map boot_write setup.sectors.items
+pub booted_as : {B H : Type 0} (state : B → Guest) (setup : ScriptSetup) (wanted sectors : List SectorWrite)
+    (v : Running B H Disk) → sectors ≡ wanted
     → IsBooted state state some_altair (image_copy setup.guest.drives) setup.guest.reads (guest_at_boot setup.guest)
-    setup.guest.drives setup.hosts sectors v → Booted setup
-booted_as state setup sectors v are b = record {
+    setup.guest.drives setup.hosts sectors v → Booted setup wanted
+booted_as state setup wanted sectors v are b = record {
   start = bytes_in b.store;
-  sectors = subst (λ l. BeginAlike setup.guest.drives (bytes_in b.store) (boot_sectors l)) are
+  has_sectors = subst (λ l. BeginAlike setup.guest.drives (bytes_in b.store) (boot_sectors l)) are
       (begins b.store setup.guest.drives sectors b.at_boot);
   world = b.world;
   come = b.come;
@@ -78,14 +77,14 @@ come : {S : Type 0} (M : Machine S) (w : World S) (more : ℕ) → (v : World S)
 come M w zero = (w, Pair)
 come M w (suc more) = let r = come M w more in (with_host M r.0, subst (λ n. HostsCome M w n (with_host M r.0)) (omega arith) (Spare r.1))
 
-pub some_booted : (setup : ScriptSetup) → Booted setup
-some_booted setup =
-    let start = boot_sectors (map boot_write setup.sectors.items) in
+pub some_booted : (setup : ScriptSetup) (sectors : List SectorWrite) → Booted setup sectors
+some_booted setup sectors =
+    let start = boot_sectors sectors in
     let w = opening (altair setup.guest start) setup.guest.reads in
     let r = come (altair setup.guest start) w (setup.hosts - 2) in
     record {
       start = start;
-      sectors = λ address on. refl;
+      has_sectors = λ address on. refl;
       world = r.0;
       come = subst (λ n. HostsCome (altair setup.guest start) w n r.0) (let two = setup.pair in omega arith) r.1;
     }
@@ -93,7 +92,7 @@ some_booted setup =
 -- ---- what a pair that has booted prints
 
 module _ {B H : Type 0} (state : B → Guest) (setup : ScriptSetup) (lines given : List Line) (same : given ≡ lines)
-    (sectors : List SectorWrite) (are : sectors ≡ map boot_write setup.sectors.items) (v : Running B H Disk)
+    (wanted sectors : List SectorWrite) (are : sectors ≡ wanted) (v : Running B H Disk)
     (b : IsBooted state state some_altair (image_copy setup.guest.drives) setup.guest.reads (guest_at_boot setup.guest)
     setup.guest.drives setup.hosts sectors v) where
   first : Course Guest
@@ -101,14 +100,14 @@ module _ {B H : Type 0} (state : B → Guest) (setup : ScriptSetup) (lines given
     world = b.world;
   }
 
-  booted : Booted setup
-  booted = booted_as state setup sectors v are b
+  booted : Booted setup wanted
+  booted = booted_as state setup wanted sectors v are b
 
   -- by a script
   pub prints_answers : (result : Result (Unit {0}) Failure) (old new : Option (List ℕ))
       → ((c : Course Guest) → Shows state state some_altair records_in v c
       → AnswersLines (machine_of some_altair c) c.copying c.world given result old new)
-      → Prints Script setup lines result old new
+      → Prints Script setup wanted lines result old new
   unfolding first booted booted_as
   prints_answers result old new answers = (
     booted,
@@ -117,14 +116,14 @@ module _ {B H : Type 0} (state : B → Guest) (setup : ScriptSetup) (lines given
   )
 
   -- by a check
-  pub prints_verdict : ShownIsSame B H → (checked : List SectorWrite) → checked ≡ map boot_write setup.sectors.items
+  pub prints_verdict : ShownIsSame B H → (checked : List SectorWrite) → checked ≡ wanted
       → (after : Running B H Disk) (result : Result (Unit {0}) Failure) (old new : Option (List ℕ))
       → ((c : Course Guest) → Shows state state some_altair records_in v c
       → HaveHappened state state some_altair c given after)
       → ((c : Course Guest) → Shows state state some_altair records_in after c
       → PrintsVerdict (IsVerdictOn (altair setup.guest (boot_sectors checked)) setup.guest.drives (machine_of some_altair c)
       c.world after.disk.store) result old new)
-      → Prints Check setup lines result old new
+      → Prints Check setup wanted lines result old new
   unfolding first booted booted_as
   prints_verdict law checked checked_are after result old new happened verdict =
       let h = happened first b.shows in (
@@ -132,13 +131,13 @@ module _ {B H : Type 0} (state : B → Guest) (setup : ScriptSetup) (lines given
         says_more
             (IsVerdictOn (altair setup.guest (boot_sectors checked)) setup.guest.drives (altair setup.guest (bytes_in b.store))
             h.after after.disk.store)
-            (IsSameAfter setup booted lines)
+            (IsSameAfter setup wanted booted lines)
             (λ found on. record {
               after = h.after;
               happen = subst (λ l. Happen (altair setup.guest (bytes_in b.store)) (image_copy setup.guest.drives) b.world l h.after)
                   same h.happen;
               same = law state state setup.guest checked (bytes_in b.store) h.after after found
-                  (subst (λ l. BeginAlike setup.guest.drives (bytes_in b.store) (boot_sectors l)) (sym checked_are) booted.sectors)
+                  (subst (λ l. BeginAlike setup.guest.drives (bytes_in b.store) (boot_sectors l)) (sym checked_are) booted.has_sectors)
                   h.shows on;
             })
             result old new (verdict (record first { world = h.after }) h.shows),
@@ -148,7 +147,7 @@ module _ {B H : Type 0} (state : B → Guest) (setup : ScriptSetup) (lines given
   pub told_of : (moments : List Moment) (after : Running B H Disk)
       → ((c : Course Guest) → Shows state state some_altair records_in v c
       → HaveTold state state some_altair c given moments after)
-      → IsToldOf setup lines moments
+      → IsToldOf setup wanted lines moments
   unfolding first booted booted_as
   told_of moments after told =
       let t = told first b.shows in record {

@@ -1,7 +1,8 @@
 -- What the lines of a script do, one after another, in a world of the protocol; and the world that they begin in.
-use Rattle.std.specs.Prelude.{ℕ, List, [], ◌∷◌, ◌++◌, Option, Result, map}
+use Rattle.std.specs.Prelude.{ℕ, List, [], ◌∷◌, ◌++◌, Option, Result}
 use Rattle.std.specs.Io.KnownBytes.{Appends}
 use Rattle.disk_dcdd.specs.declared.address.SectorAddress.{SectorAddress}
+use Rattle.disk_dcdd.specs.declared.sector.SectorWrite.{SectorWrite}
 use Rattle.ft_world.specs.Words.{answer_of, event_of}
 use Rattle.guest_parts.specs.Guest.{Guest}
 use Rattle.guest_board.specs.Guest.{altair}
@@ -18,16 +19,15 @@ use Rattle.pair_protocol.specs.World.{World, opening}
 use Rattle.pair_setup.specs.Booting.{HostsCome}
 use Rattle.pair_setup.specs.Queries.{Finds}
 use Rattle.plain_single.specs.Image.{boot_sectors}
-use Rattle.script_language.specs.Scripts.{boot_write}
 use Rattle.script_language.specs.declared.line.Line.{Line}
 use Rattle.script_language.specs.declared.line.Line.TheVariants as line
 use Rattle.script_language.specs.declared.line.Query.{Query}
 use Rattle.script_language.specs.declared.setup.ScriptSetup.{ScriptSetup}
 
--- the world that a script begins in: the pair of Altairs of its setup, its disk as the setup says, and as many hosts
-pub record Booted (setup : ScriptSetup) : Type 0 where
+-- the world that a script begins in: the pair of Altairs of its setup, a disk with these sectors, and as many hosts
+pub record Booted (setup : ScriptSetup) (sectors : List SectorWrite) : Type 0 where
   pub start : SectorAddress → List ℕ
-  pub sectors : BeginAlike setup.guest.drives start (boot_sectors (map boot_write setup.sectors.items))
+  pub has_sectors : BeginAlike setup.guest.drives start (boot_sectors sectors)
   pub world : World Guest
   pub come : HostsCome (altair setup.guest start) (opening (altair setup.guest start) setup.guest.reads) setup.hosts world
 

@@ -2,6 +2,7 @@
 use Rattle.std.specs.Prelude.{ℕ, Option, Some, List, Result, MatchResult, take}
 use Rattle.std.specs.Io.KnownBytes.{Keeps}
 use Rattle.altair_copies.specs.Copies.{image_copy}
+use Rattle.disk_dcdd.specs.declared.sector.SectorWrite.{SectorWrite}
 use Rattle.guest_parts.specs.Guest.{Guest}
 use Rattle.guest_board.specs.Guest.{altair}
 use Rattle.guest_lockstep.specs.Machine.{Machine}
@@ -51,14 +52,16 @@ HandsNone InputOrOutput old new = Unit {0}
 HandsNone _ old new = ⊥
 
 -- a verdict on a world that all events of the lines have led to: the pair has done the same, up to what is settled there
-pub record IsSameAfter (setup : ScriptSetup) (booted : Booted setup) (lines : List Line) (verdict : Verdict) : Type 0 where
+pub record IsSameAfter (setup : ScriptSetup) (sectors : List SectorWrite) (booted : Booted setup sectors) (lines : List Line)
+    (verdict : Verdict) : Type 0 where
   pub after : World Guest
   pub happen : Happen (altair setup.guest booted.start) (image_copy setup.guest.drives) booted.world lines after
   pub same : IsSameAtSettled (altair setup.guest booted.start) after verdict
 
--- a run of a script with this setup and these lines
-abbrev pub Prints : Order → ScriptSetup → List Line → Result (Unit {0}) Failure → Option (List ℕ) → Option (List ℕ) → Type 0
-Prints Script setup lines result old new = (b : Booted setup)
+-- a run of a script with this setup, these sectors at boot and these lines
+abbrev pub Prints : Order → ScriptSetup → List SectorWrite → List Line → Result (Unit {0}) Failure → Option (List ℕ)
+    → Option (List ℕ) → Type 0
+Prints Script setup sectors lines result old new = (b : Booted setup sectors)
     × AnswersLines (altair setup.guest b.start) (image_copy setup.guest.drives) b.world lines result old new
-Prints Check setup lines result old new =
-    (b : Booted setup) × PrintsVerdict (IsSameAfter setup b lines) result old new
+Prints Check setup sectors lines result old new =
+    (b : Booted setup sectors) × PrintsVerdict (IsSameAfter setup sectors b lines) result old new

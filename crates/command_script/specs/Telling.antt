@@ -2,6 +2,7 @@
 use Rattle.std.specs.Prelude.{◌≡◌, List, [], ◌∷◌, ◌++◌}
 use Rattle.altair_copies.specs.Copies.{image_copy}
 use Rattle.command_script.specs.Answering.{Booted}
+use Rattle.disk_dcdd.specs.declared.sector.SectorWrite.{SectorWrite}
 use Rattle.ft_world.specs.Applies.{Shows}
 use Rattle.ft_world.specs.Running.{Running}
 use Rattle.ft_world.specs.Standing.{Course, machine_of}
@@ -28,9 +29,9 @@ pub data Told {S : Type 0} (M : Machine S) (C : Copying S) : World S → List Li
   QueryPassed : {w new : World S} {q : Query} {lines : List Line} {moments : List Moment}
       → Told M C w lines moments new → Told M C w (line.Query q ∷ lines) moments new
 
--- these moments are what is told of a run of a script with this setup and these lines
-pub record IsToldOf (setup : ScriptSetup) (lines : List Line) (moments : List Moment) : Type 0 where
-  pub booted : Booted setup
+-- these moments are what is told of a run of a script with this setup, these sectors at boot and these lines
+pub record IsToldOf (setup : ScriptSetup) (sectors : List SectorWrite) (lines : List Line) (moments : List Moment) : Type 0 where
+  pub booted : Booted setup sectors
   pub after : World Guest
   pub told : Told (altair setup.guest booted.start) (image_copy setup.guest.drives) booted.world lines moments after
 

@@ -7,6 +7,6 @@ mod order;
 mod picture;
 mod session;
 
-pub use command::{run_script, script_of};
+pub use command::run_script;
 pub use order::Order;
 pub use picture::run_picture;

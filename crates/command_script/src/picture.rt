@@ -11,10 +11,11 @@ ghost use Rattle.shared_disk.specs.Failing.{records_in};
 
 use clone_state::Copies;
 use command_ending::Failure;
+use command_input::Input;
 use event_callbacks::{Completes, plain_completions};
 use ft_world::World;
 use pair_moments::moment_of;
-use pair_setup::{boot, writes_of};
+use pair_setup::boot;
 use script_language::{Line, Script};
 use sequence_diagram::{Moment, draw};
 use shared_disk::Disk;
@@ -24,14 +25,14 @@ use std::io::Write;
 /// Runs a script, and writes a picture of what happened in it.
 pub fn run_picture<W: Write + Drop>(
     alloc: Global,
-    script: &Script,
+    input: &Input,
     writer: &mut W,
 ) -> Result<(), Failure>
     ensures { Draws result (W.contents writer.old) (W.contents writer.new) }
 {
     let moments = run(
         alloc,
-        script,
+        input,
         plain_completions::sent,
         plain_completions::sector,
         plain_completions::written,
@@ -45,7 +46,7 @@ pub fn run_picture<W: Write + Drop>(
 // Boots a pair whose completions are these closures, makes the events of a script happen, and tells of each.
 fn run<T: Completes + Drop + Copy, S: Completes + Drop + Copy, W: Completes + Drop + Copy>(
     alloc: Global,
-    script: &Script,
+    input: &Input,
     sent: T,
     sector: S,
     written: W,
@@ -53,13 +54,13 @@ fn run<T: Completes + Drop + Copy, S: Completes + Drop + Copy, W: Completes + Dr
     requires sent { Keeps (T.may sent) (T.gives sent) SENT }
     requires sector { Keeps (S.may sector) (S.gives sector) SECTOR }
     requires written { Keeps (W.may written) (W.gives written) WRITTEN }
-    ensures told { IfOk result (λ moments. IsToldOf script.now.setup script.now.lines.items moments.items) }
+    ensures told { IfOk result (λ moments. IsToldOf input.now.script.setup input.now.sectors.items
+        input.now.script.lines.items moments.items) }
     ensures refused { IfErr result (λ e. e ≡ failure.OutOfMemory) }
 {
-    let setup = &script.setup;
-    let sectors = writes_of(alloc, &setup.sectors)?;
-    let mut world = boot(alloc, setup, &sectors, sent, sector, written)?;
-    let moments = tell_each(alloc, &mut world, &script.lines)?;
+    let Script { setup, lines } = &input.script;
+    let mut world = boot(alloc, setup, &input.sectors, sent, sector, written)?;
+    let moments = tell_each(alloc, &mut world, lines)?;
     Ok(moments)
 }
 

@@ -18,13 +18,14 @@ use crate::order::Order;
 use board_image::DraftedBoard;
 use clone_state::Copies;
 use command_ending::{Failure, Report};
+use command_input::Input;
 use disk_dcdd::SectorWrite;
 use event_callbacks::{Callbacks, Completes};
 use ft_world::World;
 use guest_board::Setup;
 use pair_check::{Verdict, compare, faithful_pairs_are_alike};
 use pair_events::{Answer, Event};
-use pair_setup::{boot, find, writes_of};
+use pair_setup::{boot, find};
 use script_language::{Line, Script};
 use shared_disk::Disk;
 use std::alloc::Global;
@@ -40,7 +41,7 @@ pub fn run<
 >(
     alloc: Global,
     order: Order,
-    script: &Script,
+    input: &Input,
     report: &mut Report,
     writer: &mut O,
     sent: T,
@@ -50,18 +51,18 @@ pub fn run<
     requires sent { Keeps (T.may sent) (T.gives sent) SENT }
     requires sector { Keeps (S.may sector) (S.gives sector) SECTOR }
     requires written { Keeps (W.may written) (W.gives written) WRITTEN }
-    ensures { Prints order script.now.setup script.now.lines.items result
+    ensures { Prints order input.now.script.setup input.now.sectors.items input.now.script.lines.items result
         (handed (O.contents writer.old) report.old) (handed (O.contents writer.new) report.new) }
 {
     faithful_pairs_are_alike::<DraftedBoard<T, S, W>, Callbacks<T, S, W>>();
-    let setup = &script.setup;
-    let sectors = writes_of(alloc, &setup.sectors)?;
-    let mut world = boot(alloc, setup, &sectors, sent, sector, written)?;
+    let Script { setup, lines } = &input.script;
+    let sectors = &input.sectors;
+    let mut world = boot(alloc, setup, sectors, sent, sector, written)?;
     match order {
-        Order::Script => answer_each(alloc, &mut world, &script.lines, report, writer),
+        Order::Script => answer_each(alloc, &mut world, lines, report, writer),
         Order::Check => {
-            run_silently(alloc, &mut world, &script.lines);
-            check(alloc, &mut world, &setup.guest, &sectors, report, writer)
+            run_silently(alloc, &mut world, lines);
+            check(alloc, &mut world, &setup.guest, sectors, report, writer)
         }
     }
 }

@@ -3,10 +3,11 @@ ghost use Rattle.std.specs.Prelude.{string_bytes};
 ghost use Rattle.pair_program.specs.Runs.{IsEnding, IsRun, Writes};
 
 use command_ending::Failure;
+use command_input::{Language, read_input};
 use command_line::{Request, request_of};
 use command_lint::run_lint;
-use command_live::{live_script_of, run_live};
-use command_script::{Order, run_picture, run_script, script_of};
+use command_live::run_live;
+use command_script::{Order, run_picture, run_script};
 use command_shell::run_shell;
 use event_callbacks::plain_completions;
 use std::alloc::Global;
@@ -16,7 +17,7 @@ use std::thread::Threads;
 use std::time::Clock;
 
 /// Runs the program on these words, the first of which is its name, and returns its exit status and its text for
-/// standard error. The whole script is read and parsed before anything of it is run.
+/// standard error. All images and the whole script are read, and the script is parsed, before anything of it is run.
 pub fn run_program<H: Threads + Clock + Sync, R: Read + Drop, W: Write + Drop>(
     rt: &H,
     alloc: Global,
@@ -43,16 +44,16 @@ fn run<H: Threads + Clock + Sync, R: Read + Drop, W: Write + Drop>(
     ensures { IsRun R.remaining W.contents reader.old reader.new writer.old writer.new result }
 {
     match request_of(alloc, arguments)? {
-        Request::Script => run_order(alloc, Order::Script, reader, writer),
-        Request::Check => run_order(alloc, Order::Check, reader, writer),
-        Request::Picture => {
-            let script = script_of(alloc, reader)?;
-            run_picture(alloc, &script, writer)
+        Request::Script(images) => run_order(alloc, Order::Script, images, reader, writer),
+        Request::Check(images) => run_order(alloc, Order::Check, images, reader, writer),
+        Request::Picture(images) => {
+            let input = read_input(alloc, Language::Any, &images, reader)?;
+            run_picture(alloc, &input, writer)
         }
         Request::Lint => run_lint(alloc, reader, writer),
         Request::Live(order) => {
-            let script = live_script_of(alloc, reader)?;
-            run_live(rt, alloc, order, &script, writer)
+            let input = read_input(alloc, Language::Threads, &order.images, reader)?;
+            run_live(rt, alloc, order, &input, writer)
         }
         Request::Shell => run_shell(
             alloc,
@@ -75,16 +76,17 @@ fn print_help<W: Write + Drop>(text: &String, writer: &mut W) -> Result<(), Fail
     Ok(())
 }
 
-// Reads a script, and does this with it.
+// Reads a script and the images before it, and does this with it.
 #[tactic(auto, using(crate::proofs::Runs::refuses_script, crate::proofs::Runs::is_run))]
 fn run_order<R: Read + Drop, W: Write + Drop>(
     alloc: Global,
     order: Order,
+    images: Vec<u8>,
     reader: &mut R,
     writer: &mut W,
 ) -> Result<(), Failure>
     ensures { IsRun R.remaining W.contents reader.old reader.new writer.old writer.new result }
 {
-    let script = script_of(alloc, reader)?;
-    run_script(alloc, order, &script, writer)
+    let input = read_input(alloc, Language::Any, &images, reader)?;
+    run_script(alloc, order, &input, writer)
 }

@@ -1,0 +1,66 @@
+-- Images of disks, sector after sector and drive after drive; the disk stays as it is.
+use Rattle.std.proofs.Common.{◌≡◌, ℕ, ◌+◌, ◌<◌, List, [], ◌∷◌, ◌++◌, append-nil, append_assoc, length, take, get_or, map-id, refl, sym, ap, ◌∙◌, arith}
+use Rattle.std.specs.List.{flat_map, range_with_len}
+use Rattle.std.proofs.lemmas.Grind.{flat_map-append}
+use Rattle.std.proofs.lemmas.List.{flat_map_more, take_more}
+use Rattle.std.proofs.lemmas.List.FromFn.{map-range_with_len_more}
+use Rattle.command_live.specs.Saving.{address_at, image_of, image_to}
+use Rattle.disk_dcdd.specs.declared.address.SectorAddress.{SectorAddress}
+use Rattle.pair_threads.specs.Stores.{bytes_in}
+use Rattle.shared_disk.specs.declared.store.Record.{Record}
+
+-- these images are what was wanted, and the disk is as it was first
+pub record AreSaved (images wanted : List ℕ) (records first : List Record) : Type 0 where
+  pub are : images ≡ wanted
+  pub same : records ≡ first
+
+range_more : (n : ℕ) → range_with_len 0 (n + 1) ≡ range_with_len 0 n ++ n ∷ []
+range_more n =
+    sym (map-id (range_with_len 0 (n + 1))) ∙ map-range_with_len_more (λ m. m) 0 n n (omega arith)
+    ∙ ap (λ l. l ++ n ∷ []) (map-id (range_with_len 0 n))
+
+-- one sector more
+image_more : (records : List Record) (drive place : ℕ)
+    → image_to records drive (place + 1) ≡ image_to records drive place ++ bytes_in records (address_at drive place)
+unfolding image_to
+image_more records drive place =
+    ap (flat_map (λ n. bytes_in records (address_at drive n))) (range_more place)
+    ∙ flat_map-append (λ n. bytes_in records (address_at drive n)) (range_with_len 0 place) (place ∷ [])
+    ∙ ap (λ l. flat_map (λ n. bytes_in records (address_at drive n)) (range_with_len 0 place) ++ l)
+    (append-nil (bytes_in records (address_at drive place)))
+
+image_none : (records : List Record) (drive : ℕ) → image_to records drive 0 ≡ []
+unfolding image_to
+image_none records drive = refl
+
+pub no_place : (images : List ℕ) (records : List Record) (drive : ℕ)
+    → AreSaved images (images ++ image_to records drive 0) records records
+no_place images records drive = record {
+  are = sym (append-nil images) ∙ ap (λ l. images ++ l) (sym (image_none records drive));
+  same = refl;
+}
+
+pub place_more : (records mid new : List Record) (drive place : ℕ) (first before now : List ℕ) (address : SectorAddress)
+    → now ≡ before ++ bytes_in mid address → address ≡ address_at drive place → new ≡ mid
+    → AreSaved before (first ++ image_to records drive place) mid records
+    → AreSaved now (first ++ image_to records drive (place + 1)) new records
+place_more records mid new drive place first before now address more at stays so_far = record {
+  are = more ∙ ap (λ r. before ++ bytes_in r address) so_far.same ∙ ap (λ a. before ++ bytes_in records a) at
+      ∙ ap (λ l. l ++ bytes_in records (address_at drive place)) so_far.are
+      ∙ append_assoc first (image_to records drive place) (bytes_in records (address_at drive place))
+      ∙ ap (λ l. first ++ l) (sym (image_more records drive place));
+  same = stays ∙ so_far.same;
+}
+
+-- one drive more
+pub drive_more : (records mid new : List Record) (drives : List ℕ) (i d drive : ℕ) (before now : List ℕ)
+    → now ≡ before ++ image_of mid drive → drive ≡ get_or drives i d → new ≡ mid → i < length drives
+    → AreSaved before (flat_map (image_of records) (take i drives)) mid records
+    → AreSaved now (flat_map (image_of records) (take (i + 1) drives)) new records
+drive_more records mid new drives i d drive before now more at stays within so_far = record {
+  are = more ∙ ap (λ r. before ++ image_of r drive) so_far.same ∙ ap (λ n. before ++ image_of records n) at
+      ∙ ap (λ l. l ++ image_of records (get_or drives i d)) so_far.are
+      ∙ flat_map_more (image_of records) [] (take i drives) (get_or drives i d)
+      ∙ ap (flat_map (image_of records)) (sym (take_more drives i d within));
+  same = stays ∙ so_far.same;
+}

@@ -1,0 +1,22 @@
+-- The images of disks: 77 tracks of 32 sectors of 137 bytes each.
+use Rattle.std.specs.Prelude.{ℕ, ◌/◌, ◌%◌, List}
+use Rattle.std.specs.List.{flat_map, range_with_len}
+use Rattle.disk_dcdd.specs.declared.address.SectorAddress.{SectorAddress}
+use Rattle.pair_threads.specs.Stores.{bytes_in}
+use Rattle.shared_disk.specs.declared.store.Record.{Record}
+
+-- the sector at this place of a drive's image: sector s of track t is at place 32 t + s
+abbrev pub address_at : ℕ → ℕ → SectorAddress
+address_at drive place = record { drive = drive; track = place / 32; sector = place % 32 }
+
+-- the bytes of the first sectors of a drive, in the order of their places
+unfoldable pub image_to : List Record → ℕ → ℕ → List ℕ
+image_to records drive count = flat_map (λ place. bytes_in records (address_at drive place)) (range_with_len 0 count)
+
+-- those of all
+abbrev pub image_of : List Record → ℕ → List ℕ
+image_of records drive = image_to records drive 2464
+
+-- those of these drives, one image after another
+abbrev pub images_of : List Record → List ℕ → List ℕ
+images_of records drives = flat_map (image_of records) drives
