@@ -1,12 +1,12 @@
 #!/usr/bin/env python3
-"""Runs the program on files. It opens none itself: what they have comes to it as lines of its input.
+"""Runs the program on files. It opens none itself: what they have comes to it on its standard input.
 
 usage: tools/given.py PROGRAM COMMAND [WORD ..]
 
 Of the words after the command these are taken, each as often as it is given; all others are the program's own:
   --load FILE           a program in Intel HEX, as lines `mem` before the input
-  --disk D=FILE         for `shell`: the image of a disk in drive D, as lines `sector` before the input
-  --save-disk D=FILE    for `shell`: at the end of the input the disk of drive D is written to a file
+  --disk D=FILE         for `script`, `check`, `picture`, `live` and `shell`: the image of a disk in drive D, before the input
+  --save-disk D=FILE    for `live` and `shell`: at the end the disk of drive D is written to a file
   --type P=TEXT         for `live`: keys typed at port P, as lines `type` after the input; \\r, \\n, \\t, \\\\ and \\xHH are one key each
 
 If the input is a terminal, `shell` has a prompt there.
@@ -27,7 +27,13 @@ sys.path.insert(0, os.path.dirname(os.path.realpath(__file__)))
 import disks
 from sitting import Ended, Sitting
 
-OPTIONS = {"--load": None, "--disk": "shell", "--save-disk": "shell", "--type": "live"}
+# The commands that each option is for.
+OPTIONS = {
+    "--load": ("script", "check", "picture", "lint", "live", "shell"),
+    "--disk": ("script", "check", "picture", "live", "shell"),
+    "--save-disk": ("live", "shell"),
+    "--type": ("live",),
+}
 ESCAPES = {"r": b"\r", "n": b"\n", "t": b"\t", "\\": b"\\"}
 # No line of the shell begins with this word; what it answers to it comes between the session and the saved disks.
 MARK = f"end-{secrets.token_hex(8)}"
@@ -88,13 +94,19 @@ def numbered(option, word, most):
     return int(number), value
 
 
-def disk_lines(drive, path):
+def image_in(path):
+    """The image of a disk that a file has."""
     image = read(path)
     if len(image) != disks.IMAGE_BYTES:
         complain(
             f"{path}: a disk has {disks.IMAGE_BYTES:,} bytes, 77 tracks of 32 sectors of 137 bytes, and this file has {len(image):,}"
         )
-    return disks.setup_lines(drive, image)
+    return image
+
+
+def drives_in(images):
+    """The drives of some images, as the program's options name them."""
+    return ",".join(map(str, images))
 
 
 def key_lines(port, text):
@@ -111,10 +123,12 @@ def key_lines(port, text):
 
 
 class Given:
-    """What the words of a command line give beside the program's own: lines before and after its input, and disks to be saved."""
+    """What the words of a command line give beside the program's own: disks and lines before its input, lines after it, and disks to
+    be saved."""
 
     def __init__(self, command, words):
-        self.before, self.after, self.own, self.saves = [], [], [command], {}
+        self.command, self.own = command, [command]
+        self.images, self.before, self.after, self.saves = {}, [], [], {}
         words = iter(words)
         for word in words:
             option, equals, value = word.partition("=")
@@ -124,9 +138,15 @@ class Given:
             value = value if equals else next(words, None)
             if value is None:
                 complain(f"{option} lacks its value")
-            if OPTIONS[option] not in (None, command):
-                complain(f"{option} is for `pair {OPTIONS[option]}`")
+            if command not in OPTIONS[option]:
+                complain(f"{option} is for " + ", ".join(f"`pair {it}`" for it in OPTIONS[option]))
             self.take(option, value)
+        if command == "shell":
+            for drive, image in self.images.items():
+                self.before += disks.setup_lines(drive, image)
+        else:
+            self.own += ["--images", drives_in(self.images)] * bool(self.images)
+            self.own += ["--saved", drives_in(self.saves)] * bool(self.saves)
 
     def take(self, option, value):
         if option == "--load":
@@ -134,7 +154,8 @@ class Given:
         elif option == "--type":
             self.after += key_lines(*numbered(option, value, 1))
         elif option == "--disk":
-            self.before += disk_lines(*numbered(option, value, 3))
+            drive, path = numbered(option, value, 3)
+            self.images[drive] = image_in(path)
         else:
             drive, path = numbered(option, value, 3)
             if not os.access(os.path.dirname(os.path.abspath(path)), os.W_OK):
@@ -143,9 +164,9 @@ class Given:
 
     def input(self):
         """The standard input, as it comes. A script of files alone needs nobody who ends it; if a disk is to be saved, `quit` ends it."""
-        if os.isatty(0) and self.own[0] != "shell":
+        if os.isatty(0) and self.command != "shell":
             return
-        if not self.saves:
+        if not self.asks():
             while some := os.read(0, 65536):
                 yield some
             return
@@ -154,11 +175,20 @@ class Given:
                 return
             yield line
 
+    def asks(self):
+        """Whether a session is asked for the disks that are to be saved; any other command writes them after all that it prints."""
+        return self.command == "shell" and self.saves
+
+    def opening(self):
+        """What comes before the input."""
+        images = b"" if self.command == "shell" else b"".join(self.images.values())
+        return images + spelled(self.before)
+
     def feed(self, program):
         """Gives the program all its lines, and then the end of its input."""
         last = b"\n"
         try:
-            program.stdin.write(spelled(self.before))
+            program.stdin.write(self.opening())
             for some in self.input():
                 program.stdin.write(some)
                 program.stdin.flush()
@@ -170,17 +200,17 @@ class Given:
 
     def finish(self, program):
         """The lines after the input, and its end."""
-        queries = [line for drive in self.saves for line in disks.query_lines(drive)]
+        queries = [line for drive in self.saves for line in disks.query_lines(drive)] if self.asks() else []
         try:
             program.stdin.write(spelled(self.after + [MARK] * bool(queries) + queries))
             program.stdin.close()
         except BrokenPipeError:
             pass
 
-    def save(self, answers):
-        """Writes each disk that is to be saved."""
+    def save(self, images):
+        """Writes each disk that is to be saved, if its image has come."""
         for drive, path in self.saves.items():
-            image = disks.image_in(answers, drive)
+            image = images.get(drive)
             if image is None:
                 complain(f"{path} is not written: the session ended early, has no drive {drive}, or could not read its disk", 5)
             try:
@@ -204,6 +234,34 @@ def session(program):
     return [line.decode("latin-1").rstrip("\n") for line in lines]
 
 
+def run_to_end(given, program):
+    """Passes on what the program prints, and returns the images after it."""
+    printed, images = program.stdout.read(), {}
+    if program.wait():
+        for drive, path in given.saves.items():
+            print(f"pair: {path} is not written: the run did not end well, or has no drive {drive}", file=sys.stderr)
+    else:
+        for drive in reversed(given.saves):
+            printed, images[drive] = printed[: -disks.IMAGE_BYTES], printed[-disks.IMAGE_BYTES :]
+    sys.stdout.buffer.write(printed)
+    sys.stdout.buffer.flush()
+    return images
+
+
+def images_of(given, program):
+    """Passes on what the program prints, and returns the images of the disks that are to be saved."""
+    if not given.saves:
+        return {}
+    if not given.asks():
+        return run_to_end(given, program)
+    return images_in(given, session(program))
+
+
+def images_in(given, answers):
+    """The images that a session has shown."""
+    return {drive: disks.image_in(answers, drive) for drive in given.saves}
+
+
 def sit(given, program):
     """A session at a terminal; what the program answers to the last lines, those that ask for disks to be saved."""
     try:
@@ -225,13 +283,13 @@ def main(path, command, *words):
     how["stdout"] = subprocess.PIPE if given.saves or is_sitting else None
     with subprocess.Popen([path, *given.own], stdin=subprocess.PIPE, **how) as program:
         if is_sitting:
-            answers = sit(given, program)
+            images = images_in(given, sit(given, program))
         else:
             threading.Thread(target=given.feed, args=(program,), daemon=True).start()
-            answers = session(program) if given.saves else []
+            images = images_of(given, program)
         status = program.wait()
     if not status:
-        given.save(answers)
+        given.save(images)
     return status if status >= 0 else 128 - status
 
 
