@@ -212,7 +212,7 @@ fn lines_are_written_before_a_guest_runs_for_long(rt: HostRuntime) -> Result<(),
         }
         let mut reader = script.as_bytes();
         let mut writer = Flushed { count: 0 };
-        let (status, _) = run_on(&rt, &["script"], &mut reader, &mut writer)?;
+        let (status, _) = end_of(&rt, &["script"], &mut reader, &mut writer)?;
         assert_eq!(rt; (status, writer.count), (0, count), "{line}");
     }
     Ok(())

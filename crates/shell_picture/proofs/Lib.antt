@@ -1,5 +1,5 @@
 pub mod Drawing
-pub mod Listing
+pub mod HelpRows
 pub mod Screens
 pub mod Telling
 pub mod Looking

@@ -1,6 +1,6 @@
 -- One form more is printed; in the end all are.
 use Rattle.std.proofs.Common.{◌≤◌, length, arith}
-use Rattle.shell_picture.proofs.Listing.{tells_form_more, tells_forms}
+use Rattle.shell_picture.proofs.HelpRows.{tells_form_more, tells_forms}
 use Rattle.shell_picture.proofs.answers.print_help.Goals as goal
 
 pub loop-form-preserved : goal.loop-form-preserved

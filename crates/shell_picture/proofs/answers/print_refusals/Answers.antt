@@ -1,6 +1,6 @@
 -- One refusal more is printed; in the end all are.
 use Rattle.std.proofs.Common.{◌≤◌, length, arith}
-use Rattle.shell_picture.proofs.Listing.{tells_fault_more, tells_refusals}
+use Rattle.shell_picture.proofs.HelpRows.{tells_fault_more, tells_refusals}
 use Rattle.shell_picture.proofs.answers.print_refusals.Goals as goal
 
 pub loop-fault-preserved : goal.loop-fault-preserved
