@@ -67,7 +67,7 @@ last_line (byte ∷ line) = (byte ∷ line) ∷ []
 abbrev pub heard : List ℕ → List (List ℕ)
 heard input = heard_in [] input ++ (if ends_in [] input then [] else last_line (kept_in [] input))
 
--- each of these lines was answered, in their order, and nothing else was written
+-- as many answers as there are lines were written, one after another; which bytes are whose is not said
 pub record AnswersEach (lines : List (List ℕ)) (old new : Option (List ℕ)) : Type 0 where
   pub answers : List (List ℕ)
   pub each : length answers ≡ length lines
