@@ -1,4 +1,4 @@
-"""Edits of a crate: the texts that one makes, and a check of a copy of the crate with those in place of its own."""
+"""Edits of a crate: the texts that one makes, the functions that it is in, and a check of a copy of the crate with those texts."""
 
 import os
 import re
@@ -12,24 +12,102 @@ from crates import PARTS, toolchain
 UNREAD = re.compile(r"error\[[\w-]+\]|error: (`[^`]*`: )?.*(is not in scope|has no field|is no name|expected the end|cannot continue)")
 
 
-def edited(edit, folder):
-    """The files of a crate's folder that an edit changes, with the texts that it gives them."""
-    texts, path, old = {}, None, None
+def changes(edit, folder):
+    """The changes that an edit makes to the files of a crate's folder: the file, where the old text begins, that text and the new one."""
+    found, path, old = [], None, None
     with open(edit, encoding="utf-8") as file:
         for line in file.read().split("\n"):
             word, _, text = line.partition(": ")
             if word == "file":
                 path = text.strip()
-                if path not in texts:
-                    with open(f"{folder}/{path}", encoding="utf-8") as source:
-                        texts[path] = source.read()
             elif word == "old":
                 old = text
             elif line.startswith("new:"):
-                if texts[path].count(old) != 1:
-                    raise ValueError(f"its old text is not once in {path}: {old}")
-                texts[path] = texts[path].replace(old, text)
+                found.append((path, old, text))
+    return found
+
+
+def edited(edit, folder):
+    """The files of a crate's folder that an edit changes, with the texts that it gives them."""
+    return edited_by([edit], folder)
+
+
+def edited_by(edits, folder):
+    """The same of several edits, each of which changes other lines."""
+    texts = {}
+    for edit in edits:
+        for path, old, new in changes(edit, folder):
+            if path not in texts:
+                with open(f"{folder}/{path}", encoding="utf-8") as source:
+                    texts[path] = source.read()
+            if texts[path].count(old) != 1:
+                raise ValueError(f"its old text is not once in {path}: {old}")
+            texts[path] = texts[path].replace(old, new)
     return texts
+
+
+def function_at(text, at):
+    """The function in whose body this place is, as the end of the name by which the prover tells of it, if it is in one.
+
+    The sources are laid out by `rt fmt`: a function of a module begins at the margin, one of an impl four columns further on, and its
+    body begins with a line that is a bracket alone, or ends the head.
+    """
+    lines = text[:at].split("\n")
+    here = len(lines) - 1
+    is_body = False
+    for number in range(here, -1, -1):
+        head = re.match(r"( {0,4})(?:pub(?:\([\w: ]+\))? )?(?:const )?(?:unsafe )?fn (\w+)", lines[number])
+        if head:
+            is_body = is_body or number < here and lines[number].endswith("{")
+            name = head[2]
+            return is_body and (f"{impl_at(lines, number)}{name}" if head[1] else name) or None
+        is_body = is_body or number < here and re.fullmatch(r" {0,4}\{", lines[number]) is not None
+        if lines[number] and number < here and re.match(r"[}\w]", lines[number]) and not re.match(r"where\b|impl\b", lines[number]):
+            return None
+    return None
+
+
+def impl_at(lines, number):
+    """The type, and the trait if there is one, of the impl in which this line is, and the two colons after them."""
+    for at in range(number, -1, -1):
+        if re.match(r"(unsafe )?impl\b", lines[at]):
+            head = " ".join(lines[at : number + 1])
+            head = without_brackets(head.partition("impl")[2])
+            one, is_trait, other = head.partition(" for ")
+            words = re.findall(r"\w+", other if is_trait else one)
+            trait = re.findall(r"\w+", one.split("::")[-1])[-1:] if is_trait else []
+            return f"{words[0]}{''.join(trait)}::"
+    return ""
+
+
+def without_brackets(text):
+    """A text without all that is between angle brackets, up to its first brace."""
+    kept, depth = "", 0
+    for at, letter in enumerate(text):
+        if letter == "<":
+            depth += 1
+        elif letter == ">" and text[at - 1] != "-":
+            depth -= 1
+        elif letter == "{" and not depth:
+            break
+        elif not depth:
+            kept += letter
+    return kept.strip()
+
+
+def functions(edit, folder):
+    """The functions whose bodies an edit changes, each by the end of its name; None if it changes anything else."""
+    found = set()
+    for path, old, _ in changes(edit, folder):
+        if not path.startswith("src/"):
+            return None
+        with open(f"{folder}/{path}", encoding="utf-8") as source:
+            text = source.read()
+        name = function_at(text, text.index(old) + len(old) - len(old.lstrip()))
+        if name is None:
+            return None
+        found.add(name)
+    return frozenset(found)
 
 
 def write_texts(texts, folder):
