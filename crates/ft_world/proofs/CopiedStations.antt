@@ -17,7 +17,7 @@ use Rattle.ft_node.specs.Seats.{IsNode}
 use Rattle.ft_node.specs.declared.node.Node as code
 use Rattle.ft_node.specs.declared.ran.NextGeneration.{NextGeneration}
 use Rattle.ft_node.specs.declared.ran.PartCame.{PartCame}
-use Rattle.ft_world.specs.Opening.{Opens}
+use Rattle.ft_world.specs.Opening.{IsOpening, Opens}
 use Rattle.ft_world.specs.Shows.{IsStation}
 use Rattle.ft_world.specs.declared.opening.Opening.{Opening}
 use Rattle.ft_world.specs.declared.station.Station.{Station}
@@ -49,11 +49,10 @@ module _ {B H S : Type 0} (state : B → S) (M : Machine S) (C : Copying S) (dri
   pub begins_on : (h : Station B H) (node : code.Node B H) (opening : Opening) (next : NextGeneration) (generation : ℕ)
       (x : Node S) → IsStation state M C drives h x → calls.MayBegin drives x (Ok next)
       → calls.BeginsPair M x (Ok generation) (IsNode state M C drives node)
-      → opening.generation ≡ next.generation → opening.assembly.drives ≡ next.drives → opening.reads ≡ next.reads
-      → opening.inputs ≡ h.inputs → opening.count ≡ h.count
+      → IsOpening next h.inputs h.count opening
       → Call (refusals.begin_pair_refusal x) calls.Ever (λ opening. Opens M drives opening h.inputs h.count) x (Ok opening)
       (IsStation state M C drives (record h { node = node }))
-  begins_on h node opening next generation x is may begins same_generation same_drives same_reads same_inputs same_count =
+  begins_on h node opening next generation x is may begins given =
       let m = may_begin drives x next may in
       let b = call_done (refusals.begin_pair_refusal x) generation (IsNode state M C drives node x)
       (calls.Ever x × IsNode state M C drives node x) (λ v. calls.Makes x (calls.Begun M v) (IsNode state M C drives node))
@@ -66,11 +65,11 @@ module _ {B H S : Type 0} (state : B → S) (M : Machine S) (C : Copying S) (dri
       (record {
         y = begun M x;
         done = record {
-          generation = same_generation ∙ m.1.generation;
-          drives_are = same_drives ∙ m.1.drives_are;
-          reads_are = same_reads ∙ m.1.reads_are;
-          same_inputs = same_inputs;
-          same_count = same_count;
+          generation = given.generation ∙ m.1.generation;
+          drives_are = given.drives_are ∙ m.1.drives_are;
+          reads_are = given.reads_are ∙ m.1.reads_are;
+          same_inputs = given.same_inputs;
+          same_count = given.same_count;
           after = refl;
         };
         after = begun_station h node x (alone_role x m.0) is now;
