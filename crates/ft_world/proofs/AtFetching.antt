@@ -47,7 +47,7 @@ use Rattle.ft_node.specs.Roles.{IsFollower}
 use Rattle.ft_node.specs.Seats.{IsNode, MayFetch}
 use Rattle.ft_node.specs.declared.node.Node as code
 use Rattle.ft_node.specs.declared.node.Node.TheVariants as seat
-use Rattle.ft_world.specs.Applies.{Applies, Shows, ShowsSome}
+use Rattle.ft_world.specs.Applies.{Applies, Shows}
 use Rattle.ft_world.specs.Devices.{GetsSector}
 use Rattle.ft_world.specs.Messages.{sector_of}
 use Rattle.ft_world.specs.Running.{Running}

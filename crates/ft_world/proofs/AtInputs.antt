@@ -8,53 +8,54 @@ use Rattle.std.proofs.lemmas.List.{get_or_past}
 use Rattle.disk_dcdd.specs.Completion.{answered}
 use Rattle.event_callbacks.specs.declared.devices.TheConstants.{PORTS}
 use Rattle.guest_lockstep.specs.Machine.{Machine}
-use Rattle.guest_lockstep.specs.declared.input.Input.{Input}
-use Rattle.guest_lockstep.specs.declared.input.Input.TheVariants as input
 use Rattle.i8080_words.specs.declared.refusal.Fault.{Fault}
 use Rattle.i8080_words.specs.declared.refusal.Fault.TheVariants.{Unknown}
 use Rattle.shared_disk.specs.declared.store.Record.{Record}
 use Rattle.terminals.specs.Screen.{Screen, blank}
 use Rattle.pair_protocol.specs.Effects.{Took}
 use Rattle.pair_protocol.specs.Event as protocol
-use Rattle.pair_protocol.specs.Node.{Node}
 use Rattle.pair_protocol.specs.Refusals as refusals
 use Rattle.pair_protocol.specs.Refusals.{at_node, fault_if, not_accepted, not_typed, refusal}
-use Rattle.pair_protocol.specs.Rows.{Does, Takes}
 use Rattle.pair_protocol.specs.World as world
-use Rattle.pair_protocol.specs.World.{World, no_terminal, terminal_in}
+use Rattle.pair_protocol.specs.World.{no_terminal, terminal_in}
 use Rattle.pair_protocol.proofs.Booted.{Took-booted}
 use Rattle.ft_node.specs.Calls.{Ever}
 use Rattle.ft_world.specs.Applies.{Applies, Shows}
 use Rattle.ft_world.proofs.AtHosts.{AtHost}
 use Rattle.ft_world.specs.Devices as table
 use Rattle.ft_world.specs.Devices.{screen_in}
+use Rattle.ft_world.specs.Offers.{Offers, input_of, offer_refusal}
 use Rattle.ft_world.specs.Running.{Running}
 use Rattle.ft_world.specs.Shows.{AreTerminals}
 use Rattle.ft_world.specs.Standing.{Course, machine_of}
-use Rattle.ft_world.specs.Words.{event_of}
 use Rattle.pair_events.specs.declared.event.Event.{Event}
 use Rattle.pair_events.specs.declared.event.Event.TheVariants as event
 use Rattle.pair_events.specs.declared.reply.Reply.TheVariants as reply
 use Rattle.ft_world.specs.declared.host.Host.{Host}
+use Rattle.ft_world.specs.declared.offer.Offer.{Offer}
+use Rattle.ft_world.specs.declared.offer.Offer.TheVariants as offer
 use Rattle.ft_world.proofs.Applying.{refuses}
 use Rattle.ft_world.proofs.AtOneNode.{elsewhere, first_stands, node_applies, node_refused, second_of}
 use Rattle.ft_world.proofs.AtTerminals.{screen_is}
 use Rattle.ft_world.proofs.Keeping.{took_stays}
 use Rattle.ft_world.proofs.Reading.{accepted_is}
 
--- A node takes an input.
+-- A node takes an input that an event offers, or refuses it.
 
-pub input_applies : {B H D S : Type 0} (state : B → S) (copied : B → Guest) (M : Machine S) (records : D → List Record)
-    (old : Running B H D) (c : Course S) (e : Event) (n : ℕ) (part : Node S → Option Fault) (i : Input)
-    (hosts : List (Host B H)) → (h : Shows state copied M records old c) →
-    refusal (machine_of M c) c.copying c.world (event_of e) ≡ at_node (slice_get c.world.nodes n) part →
-    ((new : World S) → Takes (machine_of M c) c.world n i protocol.Taken new →
-    Does (machine_of M c) c.copying c.world (event_of e) protocol.Taken new) →
-    AtHost {A = Unit {0}} state M c.copying h.drives c.world n part Ever (λ done. Took M i) (Ok tt) hosts →
-    Applies state copied M records c e (Ok reply.Taken) (record old { hosts = hosts })
-input_applies state copied M records old c e n part i hosts h free row a =
-    node_applies h e reply.Taken hosts free (λ x y none t. took_stays t)
-    (λ new at. row new (record { at = elsewhere (λ x y t. Took-booted M c.boot c.sectors t) at; reply = refl })) a
+module _ {B H D S : Type 0} {state : B → S} {copied : B → Guest} {M : Machine S} {records : D → List Record} {old : Running B H D}
+    {c : Course S} (h : Shows state copied M records old c) {n : ℕ} {o : Offer} {e : Event} (hosts : List (Host B H))
+    (offers : Offers M c n o e) where
+  pub offer_applies :
+      AtHost {A = Unit {0}} state M c.copying h.drives c.world n (offer_refusal M o) Ever (λ done. Took M (input_of o)) (Ok tt) hosts →
+      Applies state copied M records c e (Ok reply.Taken) (record old { hosts = hosts })
+  offer_applies a =
+      node_applies h e reply.Taken hosts offers.refused (λ x y none t. took_stays t)
+      (λ new at. offers.does new (record { at = elsewhere (λ x y t. Took-booted M c.boot c.sectors t) at; reply = refl })) a
+
+  pub offer_refused : (fault : Fault) →
+      AtHost {A = Unit {0}} state M c.copying h.drives c.world n (offer_refusal M o) Ever (λ done. Took M (input_of o)) (Err fault) hosts →
+      Applies state copied M records c e (Err fault) (record old { hosts = hosts })
+  offer_refused fault a = node_refused h e fault hosts offers.refused (λ s. offers.memory) (offers.leaves fault) a
 
 -- A key that was typed at a terminal.
 
@@ -113,28 +114,18 @@ key_typed state copied M records old c n port index byte h e =
           (ap (λ o. fault_if (is_none o) Unknown) typed),
     )
 
-pub key_refused : {B H D S : Type 0} (state : B → S) (copied : B → Guest) (M : Machine S) (records : D → List Record)
-    (old : Running B H D) (c : Course S) (n port index byte : ℕ) (fault : Fault) (hosts : List (Host B H)) →
-    (h : Shows state copied M records old c) →
+pub key_offered : {B H D S : Type 0} (state : B → S) (copied : B → Guest) (M : Machine S) (records : D → List Record)
+    (old : Running B H D) (c : Course S) (n port index byte : ℕ) → Shows state copied M records old c →
     ◌≡◌ {A = Result ℕ Fault} (Ok byte) (ok_or (slice_get (screen_in old.terminals port).typed index) Unknown) →
-    AtHost {A = Unit {0}} state M c.copying h.drives c.world n (refusals.take_key_refusal M port index) Ever (λ done. Took M (input.Rx port byte)) (Err fault)
-    hosts →
-    Applies state copied M records c (event.TakeKey n port index) (Err fault) (record old { hosts = hosts })
-key_refused state copied M records old c n port index byte fault hosts h e a =
-    node_refused h (event.TakeKey n port index) fault hosts (key_typed state copied M records old c n port index byte h e).1
-    (λ s. tt) refl a
-
-pub key_applies : {B H D S : Type 0} (state : B → S) (copied : B → Guest) (M : Machine S) (records : D → List Record)
-    (old : Running B H D) (c : Course S) (n port index byte : ℕ) (hosts : List (Host B H)) →
-    (h : Shows state copied M records old c) →
-    ◌≡◌ {A = Result ℕ Fault} (Ok byte) (ok_or (slice_get (screen_in old.terminals port).typed index) Unknown) →
-    AtHost {A = Unit {0}} state M c.copying h.drives c.world n (refusals.take_key_refusal M port index) Ever (λ done. Took M (input.Rx port byte)) (Ok tt)
-    hosts →
-    Applies state copied M records c (event.TakeKey n port index) (Ok reply.Taken) (record old { hosts = hosts })
-key_applies state copied M records old c n port index byte hosts h e a =
+    Offers M c n (offer.Key port index byte) (event.TakeKey n port index)
+key_offered state copied M records old c n port index byte h e =
     let k = key_typed state copied M records old c n port index byte h e in
-    input_applies state copied M records old c (event.TakeKey n port index) n (refusals.take_key_refusal M port index)
-    (input.Rx port byte) hosts h k.1 (λ new takes. record { byte = byte; typed = k.0; input = takes }) a
+    record {
+      refused = k.1;
+      memory = tt;
+      leaves = (λ fault. refl);
+      does = (λ new takes. record { byte = byte; typed = k.0; input = takes });
+    }
 
 -- A byte that its terminal has accepted.
 
@@ -166,35 +157,16 @@ sent_unknown state copied M records old c n port number fault h e =
     ∙ is_refused (table.not_accepted old.terminals port number) fault e))
     refl
 
-sent_free : {B H D S : Type 0} (state : B → S) (copied : B → Guest) (M : Machine S) (records : D → List Record) (old : Running B H D)
-    (c : Course S) (n port number : ℕ) → Shows state copied M records old c →
+pub sent_offered : {B H D S : Type 0} (state : B → S) (copied : B → Guest) (M : Machine S) (records : D → List Record)
+    (old : Running B H D) (c : Course S) (n port number : ℕ) → Shows state copied M records old c →
     ◌≡◌ {A = Result (Unit {0}) Fault} (Ok tt) (answered (table.not_accepted old.terminals port number)) →
-    refusal (machine_of M c) c.copying c.world (protocol.TellSent n port number)
-    ≡ at_node (slice_get c.world.nodes n) (refusals.tell_sent_refusal M port number)
-sent_free state copied M records old c n port number h e =
-    second_of (not_accepted c.world port number)
-    (at_node (slice_get c.world.nodes n) (refusals.tell_sent_refusal (machine_of M c) port number))
-    (not_accepted_is state copied M records old c port number h
-    ∙ nothing_refused (table.not_accepted old.terminals port number) e)
-
-pub sent_refused : {B H D S : Type 0} (state : B → S) (copied : B → Guest) (M : Machine S) (records : D → List Record)
-    (old : Running B H D) (c : Course S) (n port number : ℕ) (fault : Fault) (hosts : List (Host B H)) →
-    (h : Shows state copied M records old c) →
-    ◌≡◌ {A = Result (Unit {0}) Fault} (Ok tt) (answered (table.not_accepted old.terminals port number)) →
-    AtHost {A = Unit {0}} state M c.copying h.drives c.world n (refusals.tell_sent_refusal M port number) Ever (λ done. Took M (input.Sent port)) (Err fault)
-    hosts →
-    Applies state copied M records c (event.TellSent n port number) (Err fault) (record old { hosts = hosts })
-sent_refused state copied M records old c n port number fault hosts h e a =
-    node_refused h (event.TellSent n port number) fault hosts (sent_free state copied M records old c n port number h e)
-    (λ s. tt) refl a
-
-pub sent_applies : {B H D S : Type 0} (state : B → S) (copied : B → Guest) (M : Machine S) (records : D → List Record)
-    (old : Running B H D) (c : Course S) (n port number : ℕ) (hosts : List (Host B H)) →
-    (h : Shows state copied M records old c) →
-    ◌≡◌ {A = Result (Unit {0}) Fault} (Ok tt) (answered (table.not_accepted old.terminals port number)) →
-    AtHost {A = Unit {0}} state M c.copying h.drives c.world n (refusals.tell_sent_refusal M port number) Ever (λ done. Took M (input.Sent port)) (Ok tt)
-    hosts →
-    Applies state copied M records c (event.TellSent n port number) (Ok reply.Taken) (record old { hosts = hosts })
-sent_applies state copied M records old c n port number hosts h e a =
-    input_applies state copied M records old c (event.TellSent n port number) n (refusals.tell_sent_refusal M port number)
-    (input.Sent port) hosts h (sent_free state copied M records old c n port number h e) (λ new takes. takes) a
+    Offers M c n (offer.Sent port number) (event.TellSent n port number)
+sent_offered state copied M records old c n port number h e = record {
+  refused = second_of (not_accepted c.world port number)
+      (at_node (slice_get c.world.nodes n) (refusals.tell_sent_refusal (machine_of M c) port number))
+      (not_accepted_is state copied M records old c port number h
+      ∙ nothing_refused (table.not_accepted old.terminals port number) e);
+  memory = tt;
+  leaves = (λ fault. refl);
+  does = (λ new takes. takes);
+}

@@ -2,7 +2,7 @@
 -- node does with it what the row says of the entry or the acknowledgement that was sent; a message of another kind brings
 -- neither, and is unknown.
 use Rattle.guest_parts.specs.Guest.{Guest}
-use Rattle.std.proofs.Common.{◌≡◌, Bool, Err, List, None, Ok, Some, ap, cond, false, refl, subst, true, ℕ}
+use Rattle.std.proofs.Common.{◌≡◌, ◌∙◌, Bool, Err, List, None, Ok, Some, ap, cond, false, refl, subst, true, ℕ}
 use Rattle.std.specs.Option.{option_and_then}
 use Rattle.std.specs.Prelude.{Option, Result, slice_get, unwrap_or}
 use Rattle.guest_lockstep.specs.Machine.{Machine}
@@ -27,6 +27,7 @@ use Rattle.ft_world.specs.Shows.{Agree}
 use Rattle.ft_world.specs.Standing.{Course}
 use Rattle.ft_world.specs.Words.{IsMessage, reply_of}
 use Rattle.pair_events.specs.declared.event.Event.TheVariants as event
+use Rattle.pair_events.specs.declared.reply.Reply.{Reply}
 use Rattle.pair_events.specs.declared.reply.Reply.TheVariants as reply
 use Rattle.ft_world.specs.declared.host.Host.{Host}
 use Rattle.ft_world.specs.declared.message.Message.{Message}
@@ -113,15 +114,16 @@ delivers_refused state copied M records old c m n bytes fault hosts brings h at 
     (at b.generation b.index b.e b.spelled)
 
 pub delivers_applies : {B H D S : Type 0} (state : B → S) (copied : B → Guest) (M : Machine S) (records : D → List Record)
-    (old : Running B H D) (c : Course S) (m n : ℕ) (bytes : List ℕ) (new : Bool) (hosts : List (Host B H)) →
-    option_and_then log_of (slice_get old.messages m) ≡ Some bytes → (h : Shows state copied M records old c) →
+    (old : Running B H D) (c : Course S) (m n : ℕ) (bytes : List ℕ) (new : Bool) (r : Reply) (hosts : List (Host B H)) →
+    r ≡ cond new reply.New reply.Old → option_and_then log_of (slice_get old.messages m) ≡ Some bytes →
+    (h : Shows state copied M records old c) →
     ((generation index : ℕ) (e : Entry) → packet_at bytes ≡ Some (packet.Log generation index e) →
     AtHost state M c.copying h.drives c.world n (deliver_log_refusal generation) (NeedsEntry index) (Held index e) (Ok new) hosts) →
-    Applies state copied M records c (event.DeliverLog m n) (Ok (cond new reply.New reply.Old)) (record old { hosts = hosts })
-delivers_applies state copied M records old c m n bytes new hosts brings h at =
+    Applies state copied M records c (event.DeliverLog m n) (Ok r) (record old { hosts = hosts })
+delivers_applies state copied M records old c m n bytes new r hosts says brings h at =
     let b = brings_entry (slice_get old.messages m) (slice_get c.world.messages m) bytes
     (h.parts.messages.each m) brings in
-    node_applies h (event.DeliverLog m n) (cond new reply.New reply.Old) hosts
+    node_applies h (event.DeliverLog m n) r hosts
     (ap (λ q. at_log_entry (slice_get c.world.nodes n) q) b.message)
     (λ x y free s. held_stays b.index b.e new x y s)
     (λ world at. record {
@@ -131,7 +133,7 @@ delivers_applies state copied M records old c m n bytes new hosts brings h at =
       message = b.message;
       next = new;
       at = at;
-      reply = new_or_old new;
+      reply = ap reply_of says ∙ new_or_old new;
     })
     (at b.generation b.index b.e b.spelled)
 

@@ -1,12 +1,10 @@
 -- A node begins the next generation with the copy of its machine, and another one is given the parts: their stations keep
 -- the inputs and the count by which they settle.
 use Rattle.pair_protocol.specs.Copying.{Copying}
-use Rattle.std.proofs.Common.{◌≡◌, ◌∙◌, ◌∷◌, [], ℕ, Err, List, None, Ok, Option, Result, Some, ap, refl, subst, sym}
-use Rattle.std.specs.Result.{IsErrAnd}
-use Rattle.clone_state.specs.Parts.{PartMessage, part_count}
+use Rattle.std.proofs.Common.{◌≡◌, ◌∙◌, ◌∷◌, [], ℕ, List, None, Ok, Option, Result, Some, ap, refl, subst, sym}
+use Rattle.clone_state.specs.Parts.{PartMessage}
 use Rattle.guest_lockstep.specs.Machine.{Machine}
 use Rattle.i8080_words.specs.declared.refusal.Fault.{Fault}
-use Rattle.i8080_words.specs.declared.refusal.Fault.TheVariants.{OutOfMemory}
 use Rattle.pair_protocol.specs.Effects.{GotPart, Again, Comes, Completes}
 use Rattle.pair_protocol.specs.Event as event
 use Rattle.pair_protocol.specs.Node.{Alone, Joining, Node, begun, gets_part}
@@ -14,12 +12,12 @@ use Rattle.pair_protocol.specs.Refusals as refusals
 use Rattle.pair_protocol.specs.Settled.{list_of, count_in}
 use Rattle.pair_protocol.proofs.Passed.{first-passed}
 use Rattle.ft_node.specs.Calls as calls
-use Rattle.ft_node.specs.Calls.{Call, Gives, Unless}
+use Rattle.ft_node.specs.Calls.{Call}
 use Rattle.ft_node.specs.Seats.{IsNode}
 use Rattle.ft_node.specs.declared.node.Node as code
 use Rattle.ft_node.specs.declared.ran.NextGeneration.{NextGeneration}
 use Rattle.ft_node.specs.declared.ran.PartCame.{PartCame}
-use Rattle.ft_world.specs.Opening.{IsJoined, Opens}
+use Rattle.ft_world.specs.Opening.{IsOpening, Opens}
 use Rattle.ft_world.specs.Shows.{IsStation}
 use Rattle.ft_world.specs.declared.opening.Opening.{Opening}
 use Rattle.ft_world.specs.declared.station.Station.{Station}
@@ -29,31 +27,6 @@ use Rattle.ft_world.proofs.Keeping.{Kept, acting_role, same_count}
 use Rattle.ft_world.proofs.Stations.{stays_on, unmoved}
 
 -- ---- a node begins
-
--- what refuses a node that asks to begin, or that begins, refuses the station's call
-pub refused_call : {A E S : Type 0} (o : Option Fault) (needs : Node S → Type 0) (does : A → Node S → Node S → Type 0)
-    (also : E → Node S → Node S → Type 0) (x : Node S) (P Q : Node S → Type 0) (r : Result E Fault) (fault : Fault)
-    → IsErrAnd r (λ k. k ≡ fault) → (P x → Q x) → Call o needs does x (Err fault) P → Call o needs also x r Q
-refused_call o needs does also x P Q (Ok v) fault is stays d = absurd is
-refused_call None needs does also x P Q (Err k) fault is stays d = (is ∙ d.0, (d.1.0, stays d.1.1))
-refused_call (Some m) needs does also x P Q (Err k) fault is stays d =
-    (let e = d.0 in let same : fault ≡ m = (cc) in ap Err (is ∙ same), stays d.1)
-
-pub refused_ask : {A E S : Type 0} (o : Option Fault) (says : A → Node S → Type 0) (needs : Node S → Type 0)
-    (also : E → Node S → Node S → Type 0) (x : Node S) (Q : Node S → Type 0) (r : Result E Fault) (fault : Fault)
-    → IsErrAnd r (λ k. k ≡ fault) → Q x → calls.Ask {A = A} o calls.Never says x (Err fault) → Call o needs also x r Q
-refused_ask o says needs also x Q (Ok v) fault is stays d = absurd is
-refused_ask None says needs also x Q (Err k) fault is stays d = absurd d.1
-refused_ask (Some m) says needs also x Q (Err k) fault is stays d =
-    (let e = d.0 in let same : fault ≡ m = (cc) in ap Err (is ∙ same), stays)
-
--- nothing refuses it, but there is no memory
-pub no_memory : {E S : Type 0} (o : Option Fault) (also : E → Node S → Node S → Type 0) (x : Node S) (Q : Node S → Type 0)
-    (r : Result E Fault) (fault : Fault) → o ≡ None → IsErrAnd r (λ k. k ≡ fault) → fault ≡ OutOfMemory → Q x
-    → Call o calls.Ever also x r Q
-no_memory o also x Q (Ok v) fault free is out stays = absurd is
-no_memory o also x Q (Err k) fault free is out stays =
-    subst (λ o. Call o calls.Ever also x (Err k) Q) (sym free) (is ∙ out, (tt, stays))
 
 pub alone_role : {S : Type 0} (x : Node S) → refusals.begin_pair_refusal x ≡ None → x.role ≡ Alone
 alone_role x free = acting_role x Alone (first-passed (refusals.role_refusal (Alone ∷ []) x) _ free).0
@@ -76,11 +49,10 @@ module _ {B H S : Type 0} (state : B → S) (M : Machine S) (C : Copying S) (dri
   pub begins_on : (h : Station B H) (node : code.Node B H) (opening : Opening) (next : NextGeneration) (generation : ℕ)
       (x : Node S) → IsStation state M C drives h x → calls.MayBegin drives x (Ok next)
       → calls.BeginsPair M x (Ok generation) (IsNode state M C drives node)
-      → opening.generation ≡ next.generation → opening.assembly.drives ≡ next.drives → opening.reads ≡ next.reads
-      → opening.inputs ≡ h.inputs → opening.count ≡ h.count
+      → IsOpening next h.inputs h.count opening
       → Call (refusals.begin_pair_refusal x) calls.Ever (λ opening. Opens M drives opening h.inputs h.count) x (Ok opening)
       (IsStation state M C drives (record h { node = node }))
-  begins_on h node opening next generation x is may begins same_generation same_drives same_reads same_inputs same_count =
+  begins_on h node opening next generation x is may begins given =
       let m = may_begin drives x next may in
       let b = call_done (refusals.begin_pair_refusal x) generation (IsNode state M C drives node x)
       (calls.Ever x × IsNode state M C drives node x) (λ v. calls.Makes x (calls.Begun M v) (IsNode state M C drives node))
@@ -93,32 +65,15 @@ module _ {B H S : Type 0} (state : B → S) (M : Machine S) (C : Copying S) (dri
       (record {
         y = begun M x;
         done = record {
-          generation = same_generation ∙ m.1.generation;
-          drives_are = same_drives ∙ m.1.drives_are;
-          reads_are = same_reads ∙ m.1.reads_are;
-          same_inputs = same_inputs;
-          same_count = same_count;
+          generation = given.generation ∙ m.1.generation;
+          drives_are = given.drives_are ∙ m.1.drives_are;
+          reads_are = given.reads_are ∙ m.1.reads_are;
+          same_inputs = given.same_inputs;
+          same_count = given.same_count;
           after = refl;
         };
         after = begun_station h node x (alone_role x m.0) is now;
       })
-
--- ---- a node joins
-
-pub joins_station : {B H S : Type 0} (state : B → S) (M : Machine S) (opening : Opening) (node : code.Node B H)
-    (station : Station B H) → station ≡ record { node = node; inputs = opening.inputs; count = opening.count }
-    → ((C : Copying S) (x : Node S) → C.part_count ≡ part_count opening.assembly.drives
-    → calls.Joins C opening.generation opening.count opening.reads x → IsNode state M C opening.assembly.drives node x)
-    → IsJoined state M opening station
-joins_station {B} {H} {S} state M opening node station made is = λ C drives x counted of_drives joins inputs.
-    subst (λ station. IsStation state M C drives station x) (sym made)
-    (record {
-      node = subst (λ d. IsNode state M C d node x) of_drives
-          (is C x (counted ∙ ap part_count (sym of_drives)) joins);
-      inputs = sym inputs ∙ ap (list_of x) (sym joins.role_is);
-      count = sym (ap (count_in M x) joins.role_is ∙ rw joins.no_held joins.start_is);
-      a_node = λ s. (let role = joins.role_is in (cc));
-    })
 
 -- ---- a part comes
 

@@ -1,37 +1,29 @@
 -- The disk's answers arrive at a node: a write is done, or a sector was read. The message brings the same as in the
 -- world that is shown, so the event is refused alike, as the node refuses the input.
 use Rattle.guest_parts.specs.Guest.{Guest}
-use Rattle.std.proofs.Common.{◌≡◌, ◌∙◌, Err, List, None, Ok, Some, ap, refl, ℕ}
+use Rattle.std.proofs.Common.{◌≡◌, ◌∙◌, Err, List, None, Some, ap, refl, ℕ}
 use Rattle.std.specs.Option.{option_and_then}
 use Rattle.std.specs.Prelude.{Option, slice_get}
 use Rattle.guest_lockstep.specs.Machine.{Machine}
-use Rattle.guest_lockstep.specs.declared.input.Input.TheVariants as input
-use Rattle.i8080_words.specs.declared.refusal.Fault.{Fault}
 use Rattle.i8080_words.specs.declared.refusal.Fault.TheVariants.{Unknown}
 use Rattle.shared_disk.specs.declared.disk.SectorRead.{SectorRead}
 use Rattle.shared_disk.specs.declared.store.Record.{Record}
-use Rattle.pair_protocol.specs.Event as protocol
 use Rattle.pair_protocol.specs.Node.{Node}
-use Rattle.pair_protocol.specs.Refusals.{at_write_done, at_fetched, at_node, at_sector_read, put_reply_refusal, refusal, get_reply_refusal}
+use Rattle.pair_protocol.specs.Refusals.{at_fetched, at_sector_read, at_write_done}
 use Rattle.pair_protocol.specs.World as world
 use Rattle.pair_protocol.proofs.Traces.Lists.{same_some}
 use Rattle.ft_world.specs.Applies.{Applies, Shows}
-use Rattle.ft_world.proofs.AtHosts.{AtHost}
-use Rattle.ft_node.specs.Calls.{Ever}
-use Rattle.pair_protocol.specs.Effects.{Took}
 use Rattle.ft_world.specs.Messages.{sector_of, written_of}
+use Rattle.ft_world.specs.Offers.{Offers}
 use Rattle.ft_world.specs.Running.{Running}
 use Rattle.ft_world.specs.Shows.{Agree}
 use Rattle.ft_world.specs.Standing.{Course, machine_of}
 use Rattle.ft_world.specs.Words.{IsMessage, read_address}
 use Rattle.pair_events.specs.declared.event.Event.TheVariants as event
-use Rattle.pair_events.specs.declared.reply.Reply.TheVariants as reply
-use Rattle.ft_world.specs.declared.host.Host.{Host}
 use Rattle.ft_world.specs.declared.message.Message.{Message}
 use Rattle.ft_world.specs.declared.message.Message.TheVariants as message
+use Rattle.ft_world.specs.declared.offer.Offer.TheVariants as offer
 use Rattle.ft_world.proofs.Applying.{refuses}
-use Rattle.ft_world.proofs.AtInputs.{input_applies}
-use Rattle.ft_world.proofs.AtOneNode.{node_refused}
 
 -- A write is done.
 
@@ -82,31 +74,17 @@ done_there : {B H D S : Type 0} (state : B → S) (copied : B → Guest) (M : Ma
 done_there state copied M records old c m number brings h =
     brings_done (slice_get old.messages m) (slice_get c.world.messages m) number (h.parts.messages.each m) brings
 
-done_free : {S : Type 0} (M : Machine S) (c : Course S) (m n number : ℕ) →
-    slice_get c.world.messages m ≡ Some (world.WriteDone number) →
-    refusal (machine_of M c) c.copying c.world (protocol.PutReply m n)
-    ≡ at_node (slice_get c.world.nodes n) (put_reply_refusal M number)
-done_free M c m n number there = ap (λ q. at_write_done (machine_of M c) (slice_get c.world.nodes n) q) there
-
-pub done_refused : {B H D S : Type 0} (state : B → S) (copied : B → Guest) (M : Machine S) (records : D → List Record)
-    (old : Running B H D) (c : Course S) (m n number : ℕ) (fault : Fault) (hosts : List (Host B H)) →
-    option_and_then written_of (slice_get old.messages m) ≡ Some number → (h : Shows state copied M records old c) →
-    AtHost {A = Unit {0}} state M c.copying h.drives c.world n (put_reply_refusal M number) Ever (λ done. Took M (input.Written number)) (Err fault) hosts →
-    Applies state copied M records c (event.PutReply m n) (Err fault) (record old { hosts = hosts })
-done_refused state copied M records old c m n number fault hosts brings h a =
-    node_refused h (event.PutReply m n) fault hosts
-    (done_free M c m n number (done_there state copied M records old c m number brings h)) (λ s. tt) refl a
-
-pub done_applies : {B H D S : Type 0} (state : B → S) (copied : B → Guest) (M : Machine S) (records : D → List Record)
-    (old : Running B H D) (c : Course S) (m n number : ℕ) (hosts : List (Host B H)) →
-    option_and_then written_of (slice_get old.messages m) ≡ Some number → (h : Shows state copied M records old c) →
-    AtHost {A = Unit {0}} state M c.copying h.drives c.world n (put_reply_refusal M number) Ever (λ done. Took M (input.Written number)) (Ok tt) hosts →
-    Applies state copied M records c (event.PutReply m n) (Ok reply.Taken) (record old { hosts = hosts })
-done_applies state copied M records old c m n number hosts brings h a =
+pub done_offered : {B H D S : Type 0} (state : B → S) (copied : B → Guest) (M : Machine S) (records : D → List Record)
+    (old : Running B H D) (c : Course S) (m n number : ℕ) → option_and_then written_of (slice_get old.messages m) ≡ Some number →
+    Shows state copied M records old c → Offers M c n (offer.Written number) (event.PutReply m n)
+done_offered state copied M records old c m n number brings h =
     let there = done_there state copied M records old c m number brings h in
-    input_applies state copied M records old c (event.PutReply m n) n (put_reply_refusal M number) (input.Written number) hosts h
-    (done_free M c m n number there)
-    (λ new takes. record { number = number; message = there; input = takes }) a
+    record {
+      refused = ap (λ q. at_write_done (machine_of M c) (slice_get c.world.nodes n) q) there;
+      memory = tt;
+      leaves = (λ fault. refl);
+      does = (λ new takes. record { number = number; message = there; input = takes });
+    }
 
 -- A sector was read.
 
@@ -162,37 +140,21 @@ pub read_there : {B H D S : Type 0} (state : B → S) (copied : B → Guest) (M 
 read_there state copied M records old c m read brings h =
     brings_read (slice_get old.messages m) (slice_get c.world.messages m) read (h.parts.messages.each m) brings
 
-read_free : {S : Type 0} (M : Machine S) (c : Course S) (m n : ℕ) (read : SectorRead) →
-    slice_get c.world.messages m ≡ Some (world.SectorRead (read_address read) read.number read.bytes) →
-    refusal (machine_of M c) c.copying c.world (protocol.GetReply m n)
-    ≡ at_node (slice_get c.world.nodes n) (get_reply_refusal M (read_address read) read.number read.bytes)
-read_free M c m n read there = ap (λ q. at_sector_read (machine_of M c) (slice_get c.world.nodes n) q) there
-
-pub read_refused : {B H D S : Type 0} (state : B → S) (copied : B → Guest) (M : Machine S) (records : D → List Record)
-    (old : Running B H D) (c : Course S) (m n : ℕ) (read : SectorRead) (fault : Fault) (hosts : List (Host B H)) →
-    option_and_then sector_of (slice_get old.messages m) ≡ Some read → (h : Shows state copied M records old c) →
-    AtHost {A = Unit {0}} state M c.copying h.drives c.world n (get_reply_refusal M (read_address read) read.number read.bytes) Ever
-    (λ done. Took M (input.Sector read.drive read.sector read.number read.bytes)) (Err fault) hosts →
-    Applies state copied M records c (event.GetReply m n) (Err fault) (record old { hosts = hosts })
-read_refused state copied M records old c m n read fault hosts brings h a =
-    node_refused h (event.GetReply m n) fault hosts
-    (read_free M c m n read (read_there state copied M records old c m read brings h)) (λ s. tt) refl a
-
-pub read_applies : {B H D S : Type 0} (state : B → S) (copied : B → Guest) (M : Machine S) (records : D → List Record)
-    (old : Running B H D) (c : Course S) (m n : ℕ) (read : SectorRead) (hosts : List (Host B H)) →
-    option_and_then sector_of (slice_get old.messages m) ≡ Some read → (h : Shows state copied M records old c) →
-    AtHost {A = Unit {0}} state M c.copying h.drives c.world n (get_reply_refusal M (read_address read) read.number read.bytes) Ever
-    (λ done. Took M (input.Sector read.drive read.sector read.number read.bytes)) (Ok tt) hosts →
-    Applies state copied M records c (event.GetReply m n) (Ok reply.Taken) (record old { hosts = hosts })
-read_applies state copied M records old c m n read hosts brings h a =
+pub read_offered : {B H D S : Type 0} (state : B → S) (copied : B → Guest) (M : Machine S) (records : D → List Record)
+    (old : Running B H D) (c : Course S) (m n : ℕ) (read : SectorRead) →
+    option_and_then sector_of (slice_get old.messages m) ≡ Some read → Shows state copied M records old c →
+    Offers M c n (offer.Sector read) (event.GetReply m n)
+read_offered state copied M records old c m n read brings h =
     let there = read_there state copied M records old c m read brings h in
-    input_applies state copied M records old c (event.GetReply m n) n
-    (get_reply_refusal M (read_address read) read.number read.bytes)
-    (input.Sector read.drive read.sector read.number read.bytes) hosts h (read_free M c m n read there)
-    (λ new takes. record {
-      address = read_address read;
-      number = read.number;
-      bytes = read.bytes;
-      message = there;
-      input = takes;
-    }) a
+    record {
+      refused = ap (λ q. at_sector_read (machine_of M c) (slice_get c.world.nodes n) q) there;
+      memory = tt;
+      leaves = (λ fault. refl);
+      does = (λ new takes. record {
+        address = read_address read;
+        number = read.number;
+        bytes = read.bytes;
+        message = there;
+        input = takes;
+      });
+    }

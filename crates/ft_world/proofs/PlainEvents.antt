@@ -1,10 +1,20 @@
 -- An event that leaves the disk as it was, and that changes nothing if it is refused.
-use Rattle.std.proofs.Common.{◌≡◌, ℕ, ◌+◌, Err, Ok, Result, ap, arith, ◌∙◌}
+use Rattle.guest_parts.specs.Guest.{Guest}
+use Rattle.std.proofs.Common.{◌≡◌, ℕ, ◌+◌, Bool, Err, List, Ok, Result, ap, arith, ◌∙◌, sym}
 use Rattle.std.specs.Prelude.{IfErr, OnErr}
+use Rattle.guest_lockstep.specs.Machine.{Machine}
 use Rattle.i8080_words.specs.declared.refusal.Fault.{Fault}
+use Rattle.pair_events.specs.declared.event.Event.{Event}
+use Rattle.pair_events.specs.declared.reply.Reply.{Reply}
+use Rattle.shared_disk.specs.declared.store.Record.{Record}
+use Rattle.ft_world.specs.Applies.{Happens, failures_told}
+use Rattle.ft_world.specs.Chaining.{HasApplied}
+use Rattle.ft_world.specs.Freshened.{PagesAfter, TellsStale}
+use Rattle.ft_world.specs.Running.{Running}
+use Rattle.ft_world.specs.Staying.{SparesAfter, Stays}
 
 -- no failure is counted
-pub not_counted : {D : Type 0} (failures : D → ℕ) (old new : D) → new ≡ old → failures new ≡ failures old + 0
+not_counted : {D : Type 0} (failures : D → ℕ) (old new : D) → new ≡ old → failures new ≡ failures old + 0
 not_counted failures old new same =
     let e = ap failures same in
     let n = failures old in
@@ -14,3 +24,20 @@ not_counted failures old new same =
 pub refused_so : {A : Type 0} (r : Result A Fault) (T : Type 0) → OnErr r T → IfErr r (λ fault. T)
 refused_so (Ok value) T so = tt
 refused_so (Err fault) T so = so
+
+-- the event has happened, and the disk has told of no failure
+pub with_the_disk : {B H D S : Type 0} {state : B → S} {copied : B → Guest} {M : Machine S} {records : D → List Record}
+    {failures : D → ℕ} {writes : S → ℕ → Bool} {stale : B → ℕ → Bool} {old new : Running B H D} {e : Event}
+    {answer : Result Reply Fault} → Happens state copied M records old e answer new → new.disk ≡ old.disk
+    → failures_told e answer ≡ 0 → IfErr answer (λ fault. Stays records e fault old new)
+    → SparesAfter e answer old.hosts new.hosts → TellsStale stale e answer old.hosts new.hosts
+    → PagesAfter state M writes stale e answer old.hosts new.hosts
+    → HasApplied state copied M records failures writes stale old e answer new
+with_the_disk {failures = failures} {writes} {stale} {old} {new} row disk none unchanged spares told pages = record {
+  row = row;
+  counted = not_counted failures old.disk new.disk disk ∙ ap (λ n. failures old.disk + n) (sym none);
+  unchanged = unchanged;
+  spares = spares;
+  told_stale = told;
+  pages = pages;
+}

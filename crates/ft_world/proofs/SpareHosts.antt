@@ -8,7 +8,7 @@ use Rattle.i8080_words.specs.declared.refusal.Fault.{Fault}
 use Rattle.i8080_words.specs.declared.refusal.Fault.TheVariants.{Unknown, WrongRole}
 use Rattle.disk_dcdd.specs.Completion.{answered}
 use Rattle.guest_lockstep.specs.Machine.{Machine}
-use Rattle.ft_world.specs.Lending.{IsSpare, WithStation}
+use Rattle.ft_world.specs.Lending.{WithStation}
 use Rattle.ft_world.specs.Opening.{HasJoined, HasSpare, JoinsHosts, host_refusal}
 use Rattle.ft_world.specs.declared.opening.Opening.{Opening}
 use Rattle.pair_protocol.proofs.Traces.Lists.{get_set_other}
@@ -20,13 +20,6 @@ use Rattle.ft_world.specs.declared.host.Host.{Host}
 use Rattle.ft_world.specs.declared.host.Host.TheVariants as host
 use Rattle.ft_world.specs.declared.station.Station.{Station}
 use Rattle.ft_world.proofs.AtNodes.{set_cases}
-
--- no node has the number of the one that is to begin
-pub no_beginner : {B H : Type 0} (there : Host B H) (here : Option (Host B H))
-    → ((station : Station B H) → here ≡ Some (host.Node station) → ⊥) → host_refusal (Some there) here ≡ Some Unknown
-no_beginner there None none = refl
-no_beginner there (Some (host.Spare resources)) none = refl
-no_beginner there (Some (host.Node station)) none = absurd (none station refl)
 
 -- a place that has something is within the list
 pub within : {A : Type 0} (xs : List A) (n : ℕ) (x : A) → slice_get xs n ≡ Some x → n < length xs
@@ -40,12 +33,6 @@ pub put_in_place : {A : Type 0} (xs : List A) (n : ℕ) (y : A) → n < length x
 put_in_place [] n y e = absurd (omega (arith, e))
 put_in_place (x ∷ xs) zero y e = refl
 put_in_place (x ∷ xs) (suc n) y e = ap (λ rest. x ∷ rest) (put_in_place xs n y (omega (arith, e)))
-
--- the host that is taken out is the spare one
-pub is_spare : {B H : Type 0} (hosts : List (Host B H)) (n : ℕ) (taken : Host B H) (resources : H)
-    → slice_get hosts n ≡ Some (host.Spare resources) → slice_get hosts n ≡ Some taken → IsSpare taken
-is_spare hosts n (host.Spare other) resources spare is = tt
-is_spare hosts n (host.Node station) resources spare is = (cc)
 
 -- only that host is no longer spare
 pub spares_less : {B H : Type 0} (hosts : List (Host B H)) (n : ℕ) (station : Station B H)

@@ -13,5 +13,6 @@ pub mod Opening
 pub mod Applies
 pub mod Surviving
 pub mod Beginning
+pub mod Offers
 pub mod Chaining
 pub mod Choices

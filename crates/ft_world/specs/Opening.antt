@@ -10,11 +10,20 @@ use Rattle.pair_protocol.specs.Node.{Joining, Node, begun}
 use Rattle.pair_protocol.specs.Settled.{list_of}
 use Rattle.ft_node.specs.Calls.{Joins}
 use Rattle.ft_node.specs.Seats.{alone_board}
+use Rattle.ft_node.specs.declared.ran.NextGeneration.{NextGeneration}
 use Rattle.ft_world.specs.declared.host.Host.{Host}
 use Rattle.ft_world.specs.declared.host.Host.TheVariants as host
 use Rattle.ft_world.specs.declared.opening.Opening.{Opening}
 use Rattle.ft_world.specs.declared.station.Station.{Station}
 use Rattle.ft_world.specs.Shows.{IsStation}
+
+-- what the host is given that joins this generation: these inputs, and the count up to which they settle the machine
+pub record IsOpening (next : NextGeneration) (inputs : List Timed) (count : ℕ) (opening : Opening) : Type 0 where
+  pub generation : opening.generation ≡ next.generation
+  pub drives_are : opening.assembly.drives ≡ next.drives
+  pub reads_are : opening.reads ≡ next.reads
+  pub same_inputs : opening.inputs ≡ inputs
+  pub same_count : opening.count ≡ count
 
 -- a node is the primary of the next generation; the host that joins it is given the inputs and the count of the machine,
 -- for a machine of this many drives, and how the log carries sectors

@@ -7,10 +7,11 @@ ghost use Rattle.ft_world.specs.Pairs.{running_of};
 ghost use Rattle.ft_world.specs.Staying.{SpareHostsStay, Stays};
 ghost use Rattle.pair_events.specs.declared.event.Event.TheVariants as happens;
 
+use crate::offer::Offer;
 use crate::pair::Pair;
 use crate::{devices, hosts, messages};
 use clone_state::Copies;
-use disk_dcdd::{SECTORS, SectorAddress};
+use disk_dcdd::SECTORS;
 use event_callbacks::{OpId, PORTS};
 use i8080_words::{Fault, R};
 use pair_events::Reply;
@@ -74,9 +75,7 @@ impl<B: Copies<H> + Drop, D: SectorStore, H: Drop> Pair<B, D, H> {
         ensures spares { SpareHostsStay self.old.hosts.items self.new.hosts.items }
     {
         devices::check_accepted(&self.terminals, port, number)?;
-        let station = hosts::station_mut(&mut self.hosts, node)?;
-        station.tell_sent(port, number)?;
-        Ok(Reply::Taken)
+        self.take(node, &Offer::Sent { port, number })
     }
 
     /// The terminal of a port is told how many of its keys a node has covered.
@@ -129,9 +128,7 @@ impl<B: Copies<H> + Drop, D: SectorStore, H: Drop> Pair<B, D, H> {
         let Some(number) = messages::written_in(&self.messages, message) else {
             return Err(Fault::Unknown);
         };
-        let station = hosts::station_mut(&mut self.hosts, node)?;
-        station.put_reply(number)?;
-        Ok(Reply::Taken)
+        self.take(node, &Offer::Written { number })
     }
 
     /// A node reads a sector of its selected drive.
@@ -167,13 +164,6 @@ impl<B: Copies<H> + Drop, D: SectorStore, H: Drop> Pair<B, D, H> {
         let Some(read) = messages::sector_in(&self.messages, message) else {
             return Err(Fault::Unknown);
         };
-        let address = SectorAddress {
-            drive: read.drive,
-            track: read.track,
-            sector: read.sector,
-        };
-        let station = hosts::station_mut(&mut self.hosts, node)?;
-        station.get_reply(address, read.number, read.bytes)?;
-        Ok(Reply::Taken)
+        self.take(node, &Offer::Sector { read })
     }
 }

@@ -21,7 +21,7 @@ use i8080_words::{Fault, R};
 use pair_events::Role;
 
 /// What a node shows of itself.
-#[derive(Clone, Copy, PartialEq, Eq)]
+#[derive(Clone, Copy)]
 pub struct NodeStatus {
     pub role: Role,
     /// From 1.

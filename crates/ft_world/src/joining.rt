@@ -1,15 +1,18 @@
 //! What happens at a station when a generation begins with a copied machine: a node begins it, another joins it.
-ghost use Rattle.std.specs.Prelude.{◌≡◌, ℕ, None, length, OnErr, OnOk};
+ghost use Rattle.std.specs.Prelude.{◌≡◌, ◌<◌, ◌≤◌, ℕ, None, length, IfErr, IfOk, OnErr, OnOk};
 ghost use Rattle.clone_state.specs.Copies.{CopiesAs};
 ghost use Rattle.clone_state.specs.Parts.{message_at};
+ghost use Rattle.disk_dcdd.specs.declared.controller.TheConstants.{DRIVES};
+ghost use Rattle.i8080_words.specs.declared.refusal.Fault.TheVariants.{OutOfMemory};
 ghost use Rattle.pair_protocol.specs.Copying.{Copying};
 ghost use Rattle.pair_protocol.specs.Node as protocol;
 ghost use Rattle.pair_protocol.specs.Refusals as refusals;
 ghost use Rattle.ft_node.specs.Calls as calls;
 ghost use Rattle.ft_node.specs.Seats.{PagesStay, alone_board};
-ghost use Rattle.ft_world.specs.Opening.{IsJoined, Opens};
+ghost use Rattle.ft_world.specs.Opening.{IsJoined, IsOpening, Opens};
 ghost use Rattle.ft_world.specs.Shows.{IsStation};
 
+use crate::input_list::Inputs;
 use crate::opening::Opening;
 use crate::station::Station;
 use clone_state::{Assembly, Copies};
@@ -31,21 +34,10 @@ impl<B: Copies<H> + Drop, H: Drop> Station<B, H> {
         ensures pages { OnOk result (PagesStay B.stale self.old.node self.new.node) }
         ensures unchanged { OnErr result (self.new ≡ self.old) }
     {
-        let NextGeneration {
-            generation,
-            drives,
-            reads,
-        } = self.node.next_generation()?;
-        let assembly = Assembly::new(alloc, generation, drives)?;
-        let inputs = self.inputs.copy(alloc)?;
+        let next = self.node.next_generation()?;
+        let opening = opened(alloc, next, &self.inputs, self.count)?;
         self.node.begin(alloc)?;
-        Ok(Opening {
-            generation,
-            assembly,
-            inputs,
-            count: self.count,
-            reads,
-        })
+        Ok(opening)
     }
 
     /// The station of a node that joins a generation, with no part of the image yet.
@@ -78,4 +70,23 @@ impl<B: Copies<H> + Drop, H: Drop> Station<B, H> {
     {
         self.node.part(alloc, bytes)
     }
+}
+
+// What a host is given that joins this generation: an assembly, and a copy of these inputs.
+fn opened(alloc: Global, next: NextGeneration, inputs: &Inputs, count: u64) -> R<Opening>
+    requires first { 0 < next.generation }
+    requires some { 1 ≤ next.drives }
+    requires few { next.drives ≤ DRIVES }
+    ensures ok { IfOk result (IsOpening next inputs.now count) }
+    ensures full { IfErr result (λ fault. fault ≡ OutOfMemory) }
+{
+    let assembly = Assembly::new(alloc, next.generation, next.drives)?;
+    let inputs = inputs.copy(alloc)?;
+    Ok(Opening {
+        generation: next.generation,
+        assembly,
+        inputs,
+        count,
+        reads: next.reads,
+    })
 }

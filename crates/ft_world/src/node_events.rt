@@ -1,15 +1,20 @@
 //! The events at a node itself.
-ghost use Rattle.std.specs.Prelude.{◌≡◌, IfErr, IfOk, OnErr, OnOk};
+ghost use Rattle.std.specs.Prelude.{◌≡◌, if◌then◌else◌, IfErr, IfOk, OnErr, OnOk};
 ghost use Rattle.ft_node.specs.Pages.{StepsWrite};
-ghost use Rattle.ft_world.specs.Applies.{Happens, ShowsSome};
+ghost use Rattle.ft_world.specs.Applies.{Applies, Happens, Shows, ShowsSome};
 ghost use Rattle.ft_world.specs.Freshened.{PagesChange, PagesKeep, steps_in};
+ghost use Rattle.ft_world.specs.Offers.{IsOffer, Offers};
 ghost use Rattle.ft_world.specs.Pairs.{running_of};
+ghost use Rattle.ft_world.specs.Standing.{Course};
 ghost use Rattle.ft_world.specs.Staying.{SpareHostsStay, Stays};
 ghost use Rattle.ft_world.specs.Words.{reply_of};
 ghost use Rattle.pair_protocol.specs.Rows.{drain_reply};
+ghost use Rattle.pair_events.specs.declared.event.Event.{Event};
 ghost use Rattle.pair_events.specs.declared.event.Event.TheVariants as happens;
+ghost use Rattle.pair_events.specs.declared.reply.Reply.TheVariants as reply;
 
 use crate::message::Message;
+use crate::offer::Offer;
 use crate::pair::Pair;
 use crate::{devices, hosts, messages};
 use clone_state::Copies;
@@ -52,8 +57,22 @@ impl<B: Copies<H> + Drop, D: SectorStore, H: Drop> Pair<B, D, H> {
         ensures spares { SpareHostsStay self.old.hosts.items self.new.hosts.items }
     {
         let byte = devices::key_at(&self.terminals, port, index)?;
+        self.take(node, &Offer::Key { port, index, byte })
+    }
+
+    // A node takes an input, whichever event offers it.
+    pub(crate) fn take(&mut self, node: u64, offer: &Offer) -> R<Reply>
+        requires { IsOffer offer.now }
+        ensures row { (c : Course B.State) (e : Event) → Offers B.machine c node offer.now e
+            → Shows B.state B.copied B.machine D.records (running_of self.old) c
+            → Applies B.state B.copied B.machine D.records c e result (running_of self.new) }
+        ensures disk { self.new.disk ≡ self.old.disk }
+        ensures unchanged { OnErr result (running_of self.new ≡ running_of self.old) }
+        ensures pages { OnOk result (PagesKeep B.stale self.old.hosts.items self.new.hosts.items) }
+        ensures spares { SpareHostsStay self.old.hosts.items self.new.hosts.items }
+    {
         let station = hosts::station_mut(&mut self.hosts, node)?;
-        station.take_key(port, index, byte)?;
+        station.take(offer)?;
         Ok(Reply::Taken)
     }
 
@@ -85,11 +104,8 @@ impl<B: Copies<H> + Drop, D: SectorStore, H: Drop> Pair<B, D, H> {
             return Err(Fault::Unknown);
         };
         let station = hosts::station_mut(&mut self.hosts, node)?;
-        if station.deliver_log(packet)? {
-            Ok(Reply::New)
-        } else {
-            Ok(Reply::Old)
-        }
+        let new = station.deliver_log(packet)?;
+        Ok(new_or_old(new))
     }
 
     /// A backup sends an acknowledgement of all that it holds.
@@ -186,6 +202,13 @@ impl<B: Copies<H> + Drop, D: SectorStore, H: Drop> Pair<B, D, H> {
         station.stop()?;
         Ok(Reply::Stopped)
     }
+}
+
+// The reply to a packet of the log, by whether it brought the next entry.
+fn new_or_old(new: bool) -> Reply
+    ensures { result ≡ (if new then reply.New else reply.Old) }
+{
+    if new { Reply::New } else { Reply::Old }
 }
 
 // The reply to a drain: with nothing left the node is alone.

@@ -4,14 +4,13 @@ ghost use Rattle.i8080_words.specs.declared.refusal.Fault.TheVariants.{OutOfMemo
 ghost use Rattle.pair_protocol.specs.Copying.{Copying};
 ghost use Rattle.pair_protocol.specs.Grows.{Grows};
 ghost use Rattle.pair_protocol.specs.World.{with_host};
-ghost use Rattle.ft_world.specs.Applies.{Happens, IsFaithful, Runs, Shows, ShowsSome};
-ghost use Rattle.ft_world.specs.Applies.{failures_over, failures_told};
+ghost use Rattle.shared_disk.specs.Records.{faults_in, refusal_at};
+ghost use Rattle.ft_world.specs.Applies.{IsFaithful, IsSectorOf, Runs, Shows, ShowsSome, failures_over};
 ghost use Rattle.ft_world.specs.Beginning.{MayBegin, MayBeginSome, beginning};
-ghost use Rattle.ft_world.specs.Chaining.{HaveApplied};
+ghost use Rattle.ft_world.specs.Chaining.{HasApplied, HaveApplied};
 ghost use Rattle.ft_world.specs.Standing.{Course, machine_of};
-ghost use Rattle.ft_world.specs.Freshened.{PagesAfter, TellsStale};
 ghost use Rattle.ft_world.specs.Pairs.{running_of};
-ghost use Rattle.ft_world.specs.Staying.{SparesAfter, SparesLeft, Stays};
+ghost use Rattle.ft_world.specs.Staying.{SparesLeft};
 ghost use Rattle.ft_world.specs.declared.host.Host.TheVariants as host;
 
 use crate::host::Host;
@@ -19,11 +18,12 @@ use crate::message::Message;
 use crate::room::Room;
 use arbiter_core::Arbiter;
 use clone_state::Copies;
+use disk_dcdd::SectorAddress;
 use event_callbacks::PORTS;
 use guest_lockstep::Reads;
 use i8080_words::{Fault, R};
 use pair_events::{Event, Reply};
-use shared_disk::{SectorStore, SharedDisk};
+use shared_disk::{SectorRead, SectorStore, SharedDisk};
 use std::alloc::Global;
 use terminals::Terminal;
 
@@ -69,13 +69,8 @@ impl<B: Copies<H> + Drop, D: SectorStore, H: Drop> Pair<B, D, H> {
     /// An event happens.
     pub(crate) fn apply(&mut self, alloc: Global, event: Event) -> R<Reply>
         requires shown { ShowsSome B.state B.copied B.machine D.records (running_of self.old) }
-        ensures row { Happens B.state B.copied B.machine D.records (running_of self.old) event result (running_of self.new) }
-        ensures counted { D.failures self.new.disk ≡ D.failures self.old.disk + failures_told event result }
-        ensures unchanged { IfErr result (λ fault. Stays D.records event fault (running_of self.old)
-            (running_of self.new)) }
-        ensures spares { SparesAfter event result self.old.hosts.items self.new.hosts.items }
-        ensures stale { TellsStale B.stale event result self.old.hosts.items self.new.hosts.items }
-        ensures pages { PagesAfter B.state B.machine B.writes B.stale event result self.old.hosts.items self.new.hosts.items }
+        ensures { HasApplied B.state B.copied B.machine D.records D.failures B.writes B.stale (running_of self.old) event result
+            (running_of self.new) }
     {
         match event {
             Event::Step { node, turns } => self.step(node, turns),
@@ -131,6 +126,19 @@ impl<B: Copies<H> + Drop, D: SectorStore, H: Drop> Pair<B, D, H> {
             }
         }
         Ok(answers)
+    }
+
+    /// What a sector of the disk has.
+    pub(crate) fn sector(&mut self, address: SectorAddress) -> R<SectorRead>
+        ensures ok { IfOk result (λ read. (c : Course B.State)
+            → Shows B.state B.copied B.machine D.records (running_of self.old) c
+            → IsSectorOf (machine_of B.machine c) c.world address read) }
+        ensures refused { IfErr result (λ fault. fault ≡ refusal_at (D.records self.old.disk) address) }
+        ensures kept { D.records self.new.disk ≡ D.records self.old.disk }
+        ensures counted { D.failures self.new.disk ≡ D.failures self.old.disk + faults_in result }
+        ensures others { running_of self.new ≡ record (running_of self.old) { disk = self.new.disk } }
+    {
+        self.disk.get(address)
     }
 
     /// Adds a host without a role, and returns its number. `OutOfMemory` hands its resources back.

@@ -1,25 +1,23 @@
 //! A node with its list of inputs, and what an event does there.
 ghost use Rattle.pair_protocol.specs.Copying.{Copying};
-ghost use Rattle.std.specs.Prelude.{◌≡◌, ℕ, ◌≢◌, ◌<◌, [], None, IfErr, IfOk, OnErr, OnOk};
-ghost use Rattle.disk_dcdd.specs.declared.controller.TheConstants.{DRIVES};
-ghost use Rattle.disk_dcdd.specs.declared.sector.TheConstants.{SECTORS};
-ghost use Rattle.event_callbacks.specs.declared.devices.TheConstants.{PORTS};
-ghost use Rattle.guest_lockstep.specs.declared.input.Input.TheVariants as input;
+ghost use Rattle.std.specs.Prelude.{◌≡◌, ℕ, ◌≢◌, [], None, IfErr, IfOk, OnErr, OnOk};
+ghost use Rattle.disk_dcdd.specs.Completion.{answered};
 ghost use Rattle.i8080_words.specs.declared.refusal.Fault.TheVariants.{Lost};
 ghost use Rattle.log_channel.specs.Packet.{packet_at};
 ghost use Rattle.pair_protocol.specs.Effects.{Took, NeedsEntry};
 ghost use Rattle.pair_protocol.specs.Node as protocol;
-ghost use Rattle.pair_protocol.specs.Refusals as refusals;
 ghost use Rattle.ft_node.specs.Calls as calls;
 ghost use Rattle.ft_node.specs.Roles.{count_of};
 ghost use Rattle.ft_node.specs.Pages.{PagesGoOn, StepsWrite};
 ghost use Rattle.ft_node.specs.Seats.{IsNode, MayAccept, MayReplay, MayRun, PagesStay, alone_board};
+ghost use Rattle.ft_world.specs.Offers.{IsOffer, input_of, offer_refusal};
 ghost use Rattle.ft_world.specs.Shows.{IsStation, drained_count};
 
 use crate::input_list::Inputs;
+use crate::offer::Offer;
 use arbiter_core::{Arbiter, Won};
 use clone_state::Copies;
-use disk_dcdd::{SECTOR_BYTES, SectorAddress};
+use disk_dcdd::SectorAddress;
 use ft_node::{Drained, Node, Ran};
 use guest_lockstep::{Input, ReplayEnd};
 use i8080_words::R;
@@ -90,67 +88,39 @@ impl<B: Copies<H> + Drop, H: Drop> Station<B, H> {
         Ok(())
     }
 
-    /// A node takes the key that was typed at an index, from 0.
-    pub(crate) fn take_key(&mut self, port: u8, index: u64, byte: u8) -> R<()>
-        requires port { port < PORTS }
-        ensures answer { (C : Copying B.State) (drives : ℕ) (x : protocol.Node B.State) → IsStation B.state B.machine C drives self.old x
-            → calls.Call (refusals.take_key_refusal B.machine port index x) calls.Ever
-            (λ done. Took B.machine (input.Rx port byte)) x result (IsStation B.state B.machine C drives self.new) }
-        ensures pages { OnOk result (PagesStay B.stale self.old.node self.new.node) }
-        ensures unchanged { OnErr result (self.new ≡ self.old) }
+    // Whether a node takes an input that is offered: returns its refusal, and changes nothing.
+    fn check(&self, offer: &Offer) -> R<()>
+        requires { IsOffer offer.now }
+        ensures answer { (C : Copying B.State) (drives : ℕ) (x : protocol.Node B.State) → IsNode B.state B.machine C drives self.now.node x
+            → result ≡ answered (offer_refusal B.machine offer.now x) }
+        ensures may { OnOk result (MayAccept B.state B.machine self.now.node (input_of offer.now)) }
     {
-        self.node.check_key(port, index)?;
-        self.accept(Input::Rx(port, byte))
+        match *offer {
+            Offer::Key { port, index, .. } => self.node.check_key(port, index),
+            Offer::Sent { port, number } => self.node.check_sent(port, number),
+            Offer::Written { number } => self.node.check_done(number),
+            Offer::Sector { read } => {
+                let address = SectorAddress {
+                    drive: read.drive,
+                    track: read.track,
+                    sector: read.sector,
+                };
+                self.node.check_under(address, read.number, read.bytes)
+            }
+        }
     }
 
-    /// A node takes the acceptance of the byte with a number, from 1.
-    pub(crate) fn tell_sent(&mut self, port: u8, number: u64) -> R<()>
-        requires port { port < PORTS }
+    /// A node takes an input that an event offers.
+    pub(crate) fn take(&mut self, offer: &Offer) -> R<()>
+        requires { IsOffer offer.now }
         ensures answer { (C : Copying B.State) (drives : ℕ) (x : protocol.Node B.State) → IsStation B.state B.machine C drives self.old x
-            → calls.Call (refusals.tell_sent_refusal B.machine port number x) calls.Ever
-            (λ done. Took B.machine (input.Sent port)) x result (IsStation B.state B.machine C drives self.new) }
-        ensures pages { OnOk result (PagesStay B.stale self.old.node self.new.node) }
-        ensures unchanged { OnErr result (self.new ≡ self.old) }
-    {
-        self.node.check_sent(port, number)?;
-        self.accept(Input::Sent(port))
-    }
-
-    /// A node takes the completion of the write with a number.
-    pub(crate) fn put_reply(&mut self, number: u64) -> R<()>
-        ensures answer { (C : Copying B.State) (drives : ℕ) (x : protocol.Node B.State) → IsStation B.state B.machine C drives self.old x
-            → calls.Call (refusals.put_reply_refusal B.machine number x) calls.Ever
-            (λ done. Took B.machine (input.Written number)) x result (IsStation B.state B.machine C drives self.new) }
-        ensures pages { OnOk result (PagesStay B.stale self.old.node self.new.node) }
-        ensures unchanged { OnErr result (self.new ≡ self.old) }
-    {
-        self.node.check_done(number)?;
-        self.accept(Input::Written(number))
-    }
-
-    /// A node takes a sector that was read, with the number of the write that brought its bytes.
-    pub(crate) fn get_reply(
-        &mut self,
-        address: SectorAddress,
-        number: u64,
-        bytes: [u8; SECTOR_BYTES],
-    ) -> R<()>
-        requires drive { address.drive < DRIVES }
-        requires sector { address.sector < SECTORS }
-        ensures answer { (C : Copying B.State) (drives : ℕ) (x : protocol.Node B.State) → IsStation B.state B.machine C drives self.old x
-            → calls.Call (refusals.get_reply_refusal B.machine address number bytes x) calls.Ever
-            (λ done. Took B.machine (input.Sector address.drive address.sector number bytes)) x result
+            → calls.Call (offer_refusal B.machine offer.now x) calls.Ever (λ done. Took B.machine (input_of offer.now)) x result
             (IsStation B.state B.machine C drives self.new) }
         ensures pages { OnOk result (PagesStay B.stale self.old.node self.new.node) }
         ensures unchanged { OnErr result (self.new ≡ self.old) }
     {
-        self.node.check_under(address, number, bytes)?;
-        self.accept(Input::Sector {
-            drive: address.drive,
-            sector: address.sector,
-            number,
-            bytes,
-        })
+        self.check(offer)?;
+        self.accept(offer.input())
     }
 
     /// A node takes a packet of the log: true if its entry is the next one, and is now held; a repeat, or one past a

@@ -4,6 +4,7 @@ use crate::hosts::NodeStatus;
 use crate::message::Message;
 use crate::pair::Pair;
 use crate::room::Room;
+use crate::{devices, hosts};
 use clone_state::Copies;
 use disk_dcdd::SectorAddress;
 use guest_lockstep::Reads;
@@ -156,7 +157,7 @@ impl<B: Copies<H> + Drop, D: SectorStore, H: Drop> World<B, D, H> {
     pub fn accepted(&self, port: u8) -> &[u8]
         ensures { (c : Course B.State) → Shows B.state B.copied B.machine D.records self.now c → result.now ≡ accepted c.world port }
     {
-        self.pair.accepted(port)
+        devices::accepted(&self.pair.terminals, port)
     }
 
     /// How many of its keys the terminal of a port was told are covered; 0 if there is no such port.
@@ -164,7 +165,7 @@ impl<B: Copies<H> + Drop, D: SectorStore, H: Drop> World<B, D, H> {
         ensures { (c : Course B.State) → Shows B.state B.copied B.machine D.records self.now c
             → result ≡ (terminal c.world port).told }
     {
-        self.pair.told(port)
+        devices::told(&self.pair.terminals, port)
     }
 
     /// What a sector of the disk has. `Unknown` if no drive has it; `DeviceFault` if the device failed.
@@ -184,7 +185,7 @@ impl<B: Copies<H> + Drop, D: SectorStore, H: Drop> World<B, D, H> {
         ensures { (c : Course B.State) → Shows B.state B.copied B.machine D.records self.now c
             → IsStatusAt B.machine (slice_get c.world.nodes node) result }
     {
-        self.pair.node(node)
+        hosts::status(&self.pair.hosts, node)
     }
 
     /// The guest of a node, with the machine that the world shows there; `None` if no node has this number, if it has
@@ -193,7 +194,7 @@ impl<B: Copies<H> + Drop, D: SectorStore, H: Drop> World<B, D, H> {
         ensures { (c : Course B.State) → Shows B.state B.copied B.machine D.records self.now c
             → option_map (λ guest. B.state guest.now) result ≡ machine_at c.world.nodes node }
     {
-        self.pair.guest(node)
+        hosts::guest(&self.pair.hosts, node)
     }
 
     /// The message of this number, if it was sent.
@@ -201,7 +202,7 @@ impl<B: Copies<H> + Drop, D: SectorStore, H: Drop> World<B, D, H> {
         ensures { (c : Course B.State) → Shows B.state B.copied B.machine D.records self.now c
             → Agree IsMessage (option_map (λ found. found.now) result) (slice_get c.world.messages message) }
     {
-        self.pair.message(message)
+        self.pair.messages.get(message as usize)
     }
 
     /// The node that has won a generation, if one has.
@@ -209,7 +210,7 @@ impl<B: Copies<H> + Drop, D: SectorStore, H: Drop> World<B, D, H> {
         ensures { (c : Course B.State) → Shows B.state B.copied B.machine D.records self.now c
             → result ≡ winner_in c.world.winners generation }
     {
-        self.pair.winner(generation)
+        self.pair.arbiter.winner(generation)
     }
 
     /// The inputs that are settled, and the count up to which they are settled: those of the winner of the highest
@@ -218,7 +219,9 @@ impl<B: Copies<H> + Drop, D: SectorStore, H: Drop> World<B, D, H> {
         ensures { (c : Course B.State) → Shows B.state B.copied B.machine D.records self.now c
             → Settled (machine_of B.machine c) c.world result.0.now result.1 }
     {
-        self.pair.settled()
+        let winner = self.pair.arbiter.winner(self.pair.generation);
+        let node = winner.unwrap_or(self.pair.backup as u64);
+        hosts::settled(&self.pair.hosts, node)
     }
 
     /// The highest generation, at least 1.

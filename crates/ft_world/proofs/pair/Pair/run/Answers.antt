@@ -48,14 +48,7 @@ loop-event-preserved g c = record {
       g.D.SectorStore.failures g.B.Lockstep.writes g.B.Lockstep.stale (running_of c.args.self.now) (running_of c.loop-event.self)
       (running_of c.apply-answer.new.self) c.args.events.now c.loop-event.event-index (event.Step 0 0)
       c.loop-event.answers.items c.push.new.self.items c.apply-answer.result c.loop-event-test.true c.in-Ok.ensures.items
-      c.loop-event.invariant.each (record {
-        row = c.apply-answer.ensures.row;
-        counted = c.apply-answer.ensures.counted;
-        unchanged = c.apply-answer.ensures.unchanged;
-        spares = c.apply-answer.ensures.spares;
-        told_stale = c.apply-answer.ensures.stale;
-        pages = c.apply-answer.ensures.pages;
-      });
+      c.loop-event.invariant.each c.apply-answer.ensures;
   counted = counts_on c.args.events.now c.loop-event.event-index (event.Step 0 0) c.loop-event.answers.items
       c.push.new.self.items c.apply-answer.result (g.D.SectorStore.failures c.args.self.now.disk)
       (g.D.SectorStore.failures c.loop-event.self.disk) (g.D.SectorStore.failures c.apply-answer.new.self.disk)
