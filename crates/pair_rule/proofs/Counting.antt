@@ -1,5 +1,5 @@
 -- Each swap at the boxes between primary and disk is counted in what the seat knows.
-use Rattle.std.proofs.Common.{◌≡◌, ◌≢◌, ℕ, ◌+◌, ◌<◌, List, [], ◌∷◌, length, set, sym, ap, ◌∙◌, arith, length-append}
+use Rattle.std.proofs.Common.{◌≡◌, ◌≢◌, ℕ, ◌+◌, ◌<◌, List, [], ◌∷◌, length, set, ap, ◌∙◌, arith, length-append}
 use Rattle.atomic_table.proofs.Lists.{set_here, set_else}
 use Rattle.event_callbacks.specs.declared.operations.Operation.TheVariants.{Byte, Write}
 use Rattle.pair_rule.specs.declared.mailbox.Mailbox.{Mailbox}
@@ -23,14 +23,18 @@ module _ (fills empties : List Side) (k : Knowledge) (z : CountedBy fills emptie
   -- a side of another box
   fill_else : (i : ℕ) (y : Side) → 4 ≢ i → 5 ≢ i → CountedBy (set fills i y) empties k
   fill_else i y four five = record {
-    asked_is = ap (λ (x : Side). x.number) (elsewhere fills i 4 y four) ∙ z.asked_is;
+    asked_before = z.asked_before;
+    given_before = z.given_before;
+    asked_is = ap (λ (x : Side). z.asked_before + x.number) (elsewhere fills i 4 y four) ∙ z.asked_is;
     taken = z.taken;
-    given_is = ap (λ (x : Side). x.number) (elsewhere fills i 5 y five) ∙ z.given_is;
+    given_is = ap (λ (x : Side). z.given_before + x.number) (elsewhere fills i 5 y five) ∙ z.given_is;
     came = z.came;
   }
 
   empty_else : (i : ℕ) (y : Side) → 4 ≢ i → 5 ≢ i → CountedBy fills (set empties i y) k
   empty_else i y four five = record {
+    asked_before = z.asked_before;
+    given_before = z.given_before;
     asked_is = z.asked_is;
     taken = (let e = ap (λ (x : Side). x.met) (elsewhere empties i 4 y four) in let a = z.taken in omega (arith, e, a));
     given_is = z.given_is;
@@ -56,19 +60,24 @@ module _ (fills empties : List Side) (k : Knowledge) (z : CountedBy fills emptie
   fill_counted six Bytes1 (Request r) y more fit = absurd fit
   fill_counted six Bytes1 (Answer a) y more fit = absurd fit
   fill_counted six Requests (Request r) y more fit = record {
-    asked_is = ap (λ (x : Side). x.number) (here fills 4 y (omega (arith, six))) ∙ more ∙ ap (λ n. n + 1) z.asked_is;
+    asked_before = z.asked_before;
+    given_before = z.given_before;
+    asked_is = (let h = ap (λ (x : Side). x.number) (here fills 4 y (omega (arith, six))) in let a = z.asked_is in
+        omega (arith, h, a, more));
     taken = z.taken;
-    given_is = ap (λ (x : Side). x.number) (elsewhere fills 4 5 y (λ e. omega (arith, e))) ∙ z.given_is;
+    given_is = ap (λ (x : Side). z.given_before + x.number) (elsewhere fills 4 5 y (λ e. omega (arith, e))) ∙ z.given_is;
     came = z.came;
   }
   fill_counted six Requests (Log p) y more fit = absurd fit
   fill_counted six Requests (Out o) y more fit = absurd fit
   fill_counted six Requests (Answer a) y more fit = absurd fit
   fill_counted six Answers (Answer a) y more fit = record {
-    asked_is = ap (λ (x : Side). x.number) (elsewhere fills 5 4 y (λ e. omega (arith, e))) ∙ z.asked_is;
+    asked_before = z.asked_before;
+    given_before = z.given_before;
+    asked_is = ap (λ (x : Side). z.asked_before + x.number) (elsewhere fills 5 4 y (λ e. omega (arith, e))) ∙ z.asked_is;
     taken = z.taken;
-    given_is = ap (λ (x : Side). x.number) (here fills 5 y (omega (arith, six))) ∙ more ∙ ap (λ n. n + 1) z.given_is
-        ∙ sym (length-append k.disk.given (a ∷ []));
+    given_is = (let h = ap (λ (x : Side). x.number) (here fills 5 y (omega (arith, six))) in let g = z.given_is in
+        let l = length-append k.disk.given (a ∷ []) in omega (arith, h, g, l, more));
     came = z.came;
   }
   fill_counted six Answers (Log p) y more fit = absurd fit
@@ -96,6 +105,8 @@ module _ (fills empties : List Side) (k : Knowledge) (z : CountedBy fills emptie
   empty_counted six Bytes1 (Request r) y more fit = absurd fit
   empty_counted six Bytes1 (Answer a) y more fit = absurd fit
   empty_counted six Requests (Request r) y more fit = record {
+    asked_before = z.asked_before;
+    given_before = z.given_before;
     asked_is = z.asked_is;
     taken = (let e = ap (λ (x : Side). x.met) (here empties 4 y (omega (arith, six))) in let a = z.taken in
         omega (arith, e, a, more));
@@ -107,6 +118,8 @@ module _ (fills empties : List Side) (k : Knowledge) (z : CountedBy fills emptie
   empty_counted six Requests (Out o) y more fit = absurd fit
   empty_counted six Requests (Answer a) y more fit = absurd fit
   empty_counted six Answers (Answer a) y more fit = record {
+    asked_before = z.asked_before;
+    given_before = z.given_before;
     asked_is = z.asked_is;
     taken = (let e = ap (λ (x : Side). x.met) (elsewhere empties 5 4 y (λ e. omega (arith, e))) in let t = z.taken in
         omega (arith, e, t));
@@ -126,6 +139,8 @@ module _ (fills empties : List Side) (k : Knowledge) (z : CountedBy fills emptie
   found_counted six Bytes0 y same = empty_else 2 y (λ e. omega (arith, e)) (λ e. omega (arith, e))
   found_counted six Bytes1 y same = empty_else 3 y (λ e. omega (arith, e)) (λ e. omega (arith, e))
   found_counted six Requests y same = record {
+    asked_before = z.asked_before;
+    given_before = z.given_before;
     asked_is = z.asked_is;
     taken = (let e = ap (λ (x : Side). x.met) (here empties 4 y (omega (arith, six))) in let a = z.taken in
         omega (arith, e, a, same));
@@ -134,6 +149,8 @@ module _ (fills empties : List Side) (k : Knowledge) (z : CountedBy fills emptie
         omega (arith, e, a));
   }
   found_counted six Answers y same = record {
+    asked_before = z.asked_before;
+    given_before = z.given_before;
     asked_is = z.asked_is;
     taken = (let e = ap (λ (x : Side). x.met) (elsewhere empties 5 4 y (λ e. omega (arith, e))) in let a = z.taken in
         omega (arith, e, a));

@@ -1,5 +1,5 @@
 -- The table at the start meets the rule.
-use Rattle.std.proofs.Common.{◌≡◌, ℕ, zero, suc, ◌+◌, ◌<◌, List, [], ◌∷◌, sym, refl, ◌∙◌, subst, inl, le_refl, arith, None, replicate}
+use Rattle.std.proofs.Common.{◌≡◌, ℕ, zero, suc, ◌+◌, ◌<◌, ◌≤◌, List, [], ◌∷◌, length, sym, refl, ◌∙◌, subst, inl, le_refl, arith, None, replicate}
 use mathlib.Core.Option.{some, some-injective, some-ne-none}
 use lib.ListN.{get_elem?}
 use Rattle.atomic_table.specs.Table.{opening}
@@ -9,9 +9,9 @@ use Rattle.pair_rule.specs.declared.view.Side.{Side}
 use Rattle.pair_rule.specs.declared.view.Knowledge.{Knowledge}
 use Rattle.pair_rule.specs.declared.view.SeatView.{SeatView}
 use Rattle.pair_rule.specs.Boxes.{slot_of, is_full, Boxed, Homes, box_index, Who, Primary, Link, Backup, Terminal, Disk}
-use Rattle.pair_rule.specs.Knowledge.{Fits, Stands, WhereSome}
+use Rattle.pair_rule.specs.Knowledge.{Fits, Stands, WhereSome, winner_of}
 use Rattle.pair_rule.specs.Histories.{Opens}
-use Rattle.pair_rule.specs.Rules.{SamePart, Sized, Same, has, Rule, first_known, first_core, first_view, new_side}
+use Rattle.pair_rule.specs.Rules.{SamePart, Sized, Same, has, IsStart, Rule, first_known, core_of, view_of, new_side}
 
 abbrev homes0 : Homes
 homes0 = some None ∷ some None ∷ some None ∷ some None ∷ some None ∷ some None ∷ some None ∷ some None ∷ some None ∷ some None
@@ -52,7 +52,7 @@ hand0 (suc (suc (suc (suc zero)))) h e =
 hand0 (suc (suc (suc (suc (suc s))))) h e = absurd (some-ne-none h (sym e))
 
 box0 : (b : Mailbox) → (get_elem? boxes0 (box_index b) ≡ some (box_index b)) ×
-    (get_elem? (first_core 0).fills (box_index b) ≡ some new_side) × Boxed (box_index b) homes0 new_side new_side
+    (get_elem? (core_of (first_known 0)).fills (box_index b) ≡ some new_side) × Boxed (box_index b) homes0 new_side new_side
     (is_full (box_index b))
 box0 Outbox = (refl, refl, (refl, refl, (None, refl)))
 box0 Inbox = (refl, refl, (refl, refl, (None, refl)))
@@ -61,12 +61,12 @@ box0 Bytes1 = (refl, refl, (refl, refl, (None, refl)))
 box0 Requests = (refl, refl, (refl, refl, (None, refl)))
 box0 Answers = (refl, refl, (refl, refl, (None, refl)))
 
-first_has : (g : ℕ) (n : Who) → has (first_view g) n
-first_has g Primary = refl
-first_has g Link = refl
-first_has g Backup = refl
-first_has g Terminal = refl
-first_has g Disk = refl
+first_has : (k : Knowledge) (n : Who) → has (view_of k) n
+first_has k Primary = refl
+first_has k Link = refl
+first_has k Backup = refl
+first_has k Terminal = refl
+first_has k Disk = refl
 
 same_all : (n : Who) (k : Knowledge) → SamePart n k k
 same_all Primary k = refl
@@ -75,12 +75,19 @@ same_all Backup k = refl
 same_all Terminal k = refl
 same_all Disk k = refl
 
-first_sized : (g : ℕ) → Sized (first_core g)
-first_sized g = record { hands = refl; has_slot = refl; fills = refl; empties = refl }
+first_sized : (k : Knowledge) → Sized (core_of k)
+first_sized k = record { hands = refl; has_slot = refl; fills = refl; empties = refl }
 
 alone : (v w : SeatView) (j : ℕ) → get_elem? (v ∷ []) j ≡ some w → (j ≡ 0) × (v ≡ w)
 alone v w zero e = (refl, some-injective v w e)
 alone v w (suc j) e = absurd (some-ne-none w (sym e))
+
+-- no swap yet
+none_more : (n : ℕ) → n + 0 ≡ n
+none_more n = omega arith
+
+most_before : (m n : ℕ) → m ≤ n → m ≤ n + 0
+most_before m n le = omega (arith, le)
 
 pub first_stands : (g : ℕ) → Stands (first_known g)
 first_stands g = record {
@@ -96,30 +103,32 @@ first_stands g = record {
   disk = record { taken = tt; puts = tt; answers = tt; replies = tt };
 }
 
-pub opens : (g : ℕ) → Rule g (opening (0 ∷ 0 ∷ 0 ∷ 0 ∷ 0 ∷ 0 ∷ 1 ∷ 2 ∷ 3 ∷ 4 ∷ 5 ∷ []) (replicate 11 None) (first_view g))
-opens g = let v : SeatView = first_view g in record {
-  core = first_core g;
+pub opens : (g n a0 a1 : ℕ) (k : Knowledge) → IsStart g n a0 a1 k
+    → Rule g (opening (n ∷ n ∷ 0 ∷ a0 ∷ a1 ∷ 0 ∷ 1 ∷ 2 ∷ 3 ∷ 4 ∷ 5 ∷ []) (replicate 11 None) (view_of k))
+opens g n a0 a1 k start = let v : SeatView = view_of k in record {
+  core = core_of k;
   boxes = boxes0;
-  words = refl;
+  words = λ i. start.list i ∷ start.held i ∷ winner_of (start.primary_waits i) (start.backup_waits i) ∷ start.arrived0 i
+      ∷ start.arrived1 i ∷ boxes0;
   at = λ n. 0;
   seats = λ n. record {
-    here = (v, refl, first_has g n);
+    here = (v, refl, first_has k n);
     only = λ j w e hw. let a = alone v w j e in (
       a.0,
-      subst (λ (z : SeatView). Same n z.core (first_core g)) a.1 record {
-        sized = first_sized g;
+      subst (λ (z : SeatView). Same n z.core (core_of k)) a.1 record {
+        sized = first_sized k;
         generation = refl;
         hand = refl;
         has_slot = refl;
         fills = λ b e. refl;
         empties = λ b e. refl;
-        known = same_all n (first_known g);
+        known = same_all n k;
       },
     );
   };
   facts = record {
-    generation = refl;
-    sized = first_sized g;
+    generation = sym start.generation_is;
+    sized = first_sized k;
     six = refl;
     laid = record {
       owner = λ slot. slot;
@@ -137,10 +146,46 @@ opens g = let v : SeatView = first_view g in record {
           some-injective new_side f (sym z.1 ∙ af) i,
           some-injective new_side e (sym z.1 ∙ ae) i,
         )) z.2;
-    fitting = λ b f e. let z = box0 b in subst (λ (x : Side). WhereSome x.last (Fits b (first_known g)))
+    fitting = λ b f e. let z = box0 b in subst (λ (x : Side). WhereSome x.last (Fits b k))
         (some-injective new_side f (sym z.1 ∙ e)) tt;
-    counted = record { asked_is = refl; taken = le_refl 0; given_is = refl; came = le_refl 0 };
-    stands = first_stands g;
-    ran = Opens g;
+    counted = record {
+      asked_before = k.primary.asked;
+      given_before = length k.disk.given;
+      asked_is = none_more k.primary.asked;
+      taken = most_before k.disk.takes k.primary.asked start.taken;
+      given_is = none_more (length k.disk.given);
+      came = most_before (length k.primary.answers) (length k.disk.given) start.came;
+    };
+    stands = start.stands;
+    ran = start.ran;
   };
 }
+
+-- the first start of all
+at_first : (g : ℕ) → IsStart g 0 0 0 (first_known g)
+at_first g = record {
+  generation_is = refl;
+  stands = first_stands g;
+  ran = Opens g;
+  list = refl;
+  seen = refl;
+  copy = refl;
+  held = refl;
+  primary_waits = refl;
+  backup_waits = refl;
+  arrived0 = refl;
+  arrived1 = refl;
+  hand0 = refl;
+  hand1 = refl;
+  taken = le_refl 0;
+  came = le_refl 0;
+  few = omega arith;
+}
+
+pub first_start : (g g' n a0 a1 : ℕ) (k : Knowledge) → g' ≡ g → n ≡ 0 → a0 ≡ 0 → a1 ≡ 0 → k ≡ first_known g
+    → IsStart g' n a0 a1 k
+first_start g g' n a0 a1 k same none no0 no1 is =
+    subst (λ x. IsStart x n a0 a1 k) (sym same)
+    (subst (λ x. IsStart g x a0 a1 k) (sym none)
+    (subst (λ x. IsStart g 0 x a1 k) (sym no0)
+    (subst (λ x. IsStart g 0 0 x k) (sym no1) (subst (IsStart g 0 0 0) (sym is) (at_first g)))))

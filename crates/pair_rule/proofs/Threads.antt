@@ -79,7 +79,7 @@ happens_more M C a b c _ fs _ qs (First {mid = mid} {events = es} {replies = rs}
     First row (happens_more M C mid b c es fs rs qs rest then)
 
 -- a step of the table leads from what is shown to what is shown
-next_shown : {S : Type 0} → RowIsChanges S → ChangesReach S → ReachedIsFaithful S → ReachedGrows S
+pub next_shown : {S : Type 0} → RowIsChanges S → ChangesReach S → ReachedIsFaithful S → ReachedGrows S
     → (M : Machine S) (C : Copying S) → Runnable M → IsCopying M C → (typed0 typed1 : List ℕ) (k new : Knowledge)
     → IsShown M C typed0 typed1 k → IsStep M typed0 typed1 k new → IsShown M C typed0 typed1 new
 next_shown rows changes faithful grow M C may copies typed0 typed1 k new s is = elim is.step [

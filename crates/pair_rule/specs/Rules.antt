@@ -1,11 +1,13 @@
 -- The rule of the table.
-use Rattle.std.specs.Prelude.{◌≡◌, ℕ, ◌≤◌, true, false, List, [], ◌∷◌, ◌++◌, length, slice_index_or, Option, None}
+use Rattle.std.specs.Prelude.{◌≡◌, ℕ, ◌+◌, ◌≤◌, ◌^◌, true, false, List, [], ◌∷◌, ◌++◌, length, slice_index_or, Option, None}
 use mathlib.Core.Option.{some}
 use lib.ListN.{get_elem?}
 use Rattle.atomic_table.specs.Table.{State}
+use Rattle.event_callbacks.specs.declared.operations.Operation.{Operation}
 use Rattle.pair_rule.specs.declared.mailbox.Mailbox.{Mailbox}
 use Rattle.pair_rule.specs.declared.mailbox.Mailbox.TheVariants.{Requests, Answers}
 use Rattle.pair_rule.specs.declared.payload.Payload.{Payload}
+use Rattle.pair_rule.specs.declared.view.Arrived.{Arrived}
 use Rattle.pair_rule.specs.declared.view.Side.{Side}
 use Rattle.pair_rule.specs.declared.view.Knowledge.{Knowledge}
 use Rattle.pair_rule.specs.declared.view.Core.{Core}
@@ -13,7 +15,7 @@ use Rattle.pair_rule.specs.declared.view.SeatView.{SeatView}
 use Rattle.pair_rule.specs.Boxes.{Homes, box_index, Who, Primary, Link, Backup, Terminal, Disk, seat_index, filler, emptier, side, Laid, Boxes}
 pub use Rattle.pair_rule.specs.Histories.{first_known}
 use Rattle.pair_rule.specs.Histories.{PlainRun}
-use Rattle.pair_rule.specs.Knowledge.{words_of, Fits, WhereSome, Stands}
+use Rattle.pair_rule.specs.Knowledge.{words_of, Fits, WhereSome, Stands, accepted_after, arrives, last_or}
 
 -- a seat knows the same
 abbrev pub SamePart : Who → Knowledge → Knowledge → Type 0
@@ -63,13 +65,15 @@ new_side = side 0 0 None
 abbrev pub side_at : List Side → ℕ → Side
 side_at sides b = slice_index_or sides b new_side
 
--- the primary has swapped once for each request, and the disk once for each answer; who takes them has met no fewer swaps
--- than it has taken
+-- since the table began the primary has swapped once for each request, and the disk once for each answer; who takes them
+-- has met no fewer swaps than it has taken since then
 pub record Counted (fills empties : List Side) (asked takes given answers : ℕ) : Type 0 where
-  pub asked_is : (side_at fills (box_index Requests)).number ≡ asked
-  pub taken : takes ≤ (side_at empties (box_index Requests)).met
-  pub given_is : (side_at fills (box_index Answers)).number ≡ given
-  pub came : answers ≤ (side_at empties (box_index Answers)).met
+  pub asked_before : ℕ
+  pub given_before : ℕ
+  pub asked_is : asked_before + (side_at fills (box_index Requests)).number ≡ asked
+  pub taken : takes ≤ asked_before + (side_at empties (box_index Requests)).met
+  pub given_is : given_before + (side_at fills (box_index Answers)).number ≡ given
+  pub came : answers ≤ given_before + (side_at empties (box_index Answers)).met
 
 -- so it is by what is known
 abbrev pub CountedBy : List Side → List Side → Knowledge → Type 0
@@ -97,15 +101,47 @@ pub record Rule (g : ℕ) (s : State (Option Payload) SeatView) : Type 0 where
   pub seats : (n : Who) → Has s.views core n (at n)
   pub facts : Facts g boxes s.homes core
 
--- the core at the start, and the view that has all of it
-abbrev pub first_core : ℕ → Core
-first_core g = record {
+-- the core of a new table if this is known, and the view that has all of it
+abbrev pub core_of : Knowledge → Core
+core_of k = record {
   hands = 6 ∷ 7 ∷ 8 ∷ 9 ∷ 10 ∷ [];
   has_slot = false ∷ false ∷ false ∷ false ∷ false ∷ [];
   fills = new_side ∷ new_side ∷ new_side ∷ new_side ∷ new_side ∷ new_side ∷ [];
   empties = new_side ∷ new_side ∷ new_side ∷ new_side ∷ new_side ∷ new_side ∷ [];
-  known = first_known g;
+  known = k;
 }
 
+abbrev pub view_of : Knowledge → SeatView
+view_of k = record { mine = true ∷ true ∷ true ∷ true ∷ true ∷ []; core = core_of k }
+
+-- the same if nothing is known yet
+abbrev pub first_core : ℕ → Core
+first_core g = core_of (first_known g)
+
 abbrev pub first_view : ℕ → SeatView
-first_view g = record { mine = true ∷ true ∷ true ∷ true ∷ true ∷ []; core = first_core g }
+first_view g = view_of (first_known g)
+
+-- as many bytes are accepted after this one arrives, if there is one, as after that one
+abbrev pub CountsAs : List Arrived → Option Operation → Option Operation → Type 0
+CountsAs arrivals kept hand = accepted_after 0 (arrives kept arrivals) ≡ accepted_after 0 (arrives hand arrivals)
+
+-- what may be known when a table begins: steps of a table led to it, and it stands; both lists have this many entries, all
+-- of them held and seen; this many bytes of each port are accepted, and none in a hand is still to be; nobody has asked to
+-- go on alone; and no more requests were taken, and no more answers came, than there were
+pub record IsStart (generation entries accepted0 accepted1 : ℕ) (k : Knowledge) : Type 0 where
+  pub generation_is : generation ≡ k.generation
+  pub stands : Stands k
+  pub ran : PlainRun k
+  pub list : entries ≡ length k.primary.list
+  pub seen : entries ≡ k.primary.seen
+  pub copy : entries ≡ length k.backup.list
+  pub held : entries ≡ last_or 0 k.backup.held_values
+  pub primary_waits : 0 ≡ k.primary.winner
+  pub backup_waits : 0 ≡ k.backup.winner
+  pub arrived0 : accepted0 ≡ accepted_after 0 k.terminal.arrivals0
+  pub arrived1 : accepted1 ≡ accepted_after 0 k.terminal.arrivals1
+  pub hand0 : CountsAs k.terminal.arrivals0 None k.terminal.hand0
+  pub hand1 : CountsAs k.terminal.arrivals1 None k.terminal.hand1
+  pub taken : k.disk.takes ≤ k.primary.asked
+  pub came : length k.primary.answers ≤ length k.disk.given
+  pub few : entries ≤ 2 ^ 62

@@ -28,7 +28,7 @@ use Rattle.pair_rule.specs.Histories.{PlainRun}
 pub use Rattle.pair_rule.specs.Knowledge.{Replies}
 use Rattle.pair_rule.specs.Knowledge.{grown, accepted_after, last_or, winner_of, Stands}
 use Rattle.atomic_table.specs.Seated.{TableId}
-use Rattle.pair_rule.specs.Rules.{has, Sized, first_core}
+use Rattle.pair_rule.specs.Rules.{CountsAs, has, Sized, core_of}
 use Rattle.pair_rule.specs.Kinds.{Mine, WasIn, with_slot, nobody, side_at, filled, emptied, found_empty}
 
 -- a seat has its part, its slot, and one value in it
@@ -55,20 +55,20 @@ pub record Keeps (s : Who) (me : Mine) (slot : ℕ) (fills empties : List ℕ) :
 abbrev pub zeros : List ℕ
 zeros = 0 ∷ 0 ∷ 0 ∷ 0 ∷ 0 ∷ 0 ∷ []
 
--- a seat of a new table: it knows the first core, and has no slot yet
-pub record IsNew (s : Who) (g : ℕ) (table id : TableId) (me : Mine) : Type 0 where
+-- a seat of a new table: it knows what is known when the table begins, and has no slot yet
+pub record IsNew (s : Who) (k : Knowledge) (table id : TableId) (me : Mine) : Type 0 where
   pub same : id ≡ table
   pub view : SeatView
   pub is : me ≡ (view, [])
   pub mine : has view s
   pub single : view.mine ≡ slice_set nobody (seat_index s) true
-  pub core : view.core ≡ first_core g
+  pub core : view.core ≡ core_of k
 
--- a seat at the start: it holds its slot, and knows what the first core knows
-pub record Opened (s : Who) (g : ℕ) (table id : TableId) (me : Mine) (slot : ℕ) (fills empties : List ℕ) : Type 0 where
+-- a seat at the start: it holds its slot, and knows what is known then
+pub record Opened (s : Who) (k : Knowledge) (table id : TableId) (me : Mine) (slot : ℕ) (fills empties : List ℕ) : Type 0 where
   pub same : id ≡ table
   pub keeps : Keeps s me slot fills empties
-  pub core : me.0.core ≡ with_slot s true (first_core g)
+  pub core : me.0.core ≡ with_slot s true (core_of k)
 
 -- how often a seat may swap at one box
 abbrev pub most_swaps : ℕ
@@ -114,18 +114,18 @@ pub record IsLink (me : Mine) (slot : ℕ) (fills empties : List ℕ) (hand : Op
   pub keeps : Keeps Link me slot fills empties
   pub hand_is : (p : Packet) → hand ≡ Some p → me.0.core.known.link ≡ Some p
 
--- each taking adds one entry to the list at most
+-- since the table began each taking has added one entry to the list at most
 pub record IsBackup (me : Mine) (slot : ℕ) (fills empties : List ℕ) (count : ℕ) : Type 0 where
   pub keeps : Keeps Backup me slot fills empties
   pub count_is : count ≡ length me.0.core.known.backup.list
-  pub count_low : count ≤ (side_at me.0.core.empties (box_index Inbox)).number
+  pub count_low : count ≤ 2 ^ 62 + (side_at me.0.core.empties (box_index Inbox)).number
 
--- what the terminals keep themselves is what their view says
+-- what the terminals keep themselves is what their view says; a byte that came before the table is kept no longer
 pub record IsTerminal (me : Mine) (slot : ℕ) (fills empties : List ℕ) (hand0 : Option Operation) (accepted0 : ℕ)
     (hand1 : Option Operation) (accepted1 : ℕ) : Type 0 where
   pub keeps : Keeps Terminal me slot fills empties
-  pub hand0_is : hand0 ≡ me.0.core.known.terminal.hand0
-  pub hand1_is : hand1 ≡ me.0.core.known.terminal.hand1
+  pub hand0_is : CountsAs me.0.core.known.terminal.arrivals0 hand0 me.0.core.known.terminal.hand0
+  pub hand1_is : CountsAs me.0.core.known.terminal.arrivals1 hand1 me.0.core.known.terminal.hand1
   pub accepted0_is : accepted0 ≡ accepted_after 0 me.0.core.known.terminal.arrivals0
   pub accepted1_is : accepted1 ≡ accepted_after 0 me.0.core.known.terminal.arrivals1
 

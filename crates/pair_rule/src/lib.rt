@@ -6,6 +6,7 @@ mod close;
 mod disk;
 mod fabric;
 mod kinds;
+mod known;
 mod laws;
 mod link;
 mod mailbox;
@@ -13,6 +14,7 @@ mod open;
 mod payload;
 mod primary;
 mod seat;
+mod start;
 mod terminal;
 mod view;
 
@@ -20,6 +22,7 @@ pub use backup::BackupSeat;
 pub use close::Closed;
 pub use disk::DiskSeat;
 pub use fabric::Fabric;
+pub use known::Known;
 pub use laws::{
     altair_threads_are_faithful, kept_steps_are_threads, silent_steps_are_shown, starts_are_shown,
     steps_are_events, steps_are_faithful, table_steps_are_steps, threads_are_faithful,
@@ -29,4 +32,5 @@ pub use open::FiveSeats;
 pub use payload::{DiskAnswer, DiskRequest, Packet, Payload, PortByte};
 pub use primary::PrimarySeat;
 pub use seat::MOST_SWAPS;
+pub use start::Start;
 pub use terminal::TerminalSeat;

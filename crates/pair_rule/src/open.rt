@@ -1,7 +1,7 @@
 //! How a generation's table begins.
 ghost use Rattle.std.specs.Prelude.{◌≡◌, true, None, IfOk, IfErr};
 ghost use Rattle.pair_rule.specs.Boxes.{Primary, Link, Backup, Terminal, Disk};
-ghost use Rattle.pair_rule.specs.Rules.{first_core};
+ghost use Rattle.pair_rule.specs.Rules.{IsStart, core_of, first_core};
 ghost use Rattle.pair_rule.specs.Kinds.{with_slot};
 ghost use Rattle.pair_rule.specs.Seats.{IsNew, Opened};
 ghost use Rattle.i8080_words.specs.declared.refusal.Fault.TheVariants.{OutOfMemory};
@@ -16,6 +16,7 @@ use crate::kinds::{
 use crate::link::LinkSeat;
 use crate::primary::PrimarySeat;
 use crate::seat::SeatState;
+use crate::start::Start;
 use crate::terminal::{Line, TerminalSeat};
 use atomic_table::Table;
 use i8080_words::Fault;
@@ -42,21 +43,26 @@ struct NewSeats {
     disk: TableSeat,
 }
 
-// A table for one generation, whose first seat is split into five.
-fn new_seats(alloc: Global, generation: u64) -> Result<NewSeats, AllocError>
+// A new table at which this is known, whose first seat is split into five.
+fn new_seats(alloc: Global, start: &Start) -> Result<NewSeats, AllocError>
+    requires { IsStart start.now.generation start.now.entries start.now.accepted0 start.now.accepted1 start.now.known.known }
     ensures words { IfOk result (λ t. t.table.shared.table_id.words ≡ 11) }
     ensures slots { IfOk result (λ t. t.table.shared.table_id.slots ≡ 11) }
-    ensures primary { IfOk result (λ t. IsNew Primary generation t.table.shared.table_id t.primary.table_id t.primary.me) }
-    ensures link { IfOk result (λ t. IsNew Link generation t.table.shared.table_id t.link.table_id t.link.me) }
-    ensures backup { IfOk result (λ t. IsNew Backup generation t.table.shared.table_id t.backup.table_id t.backup.me) }
-    ensures terminal { IfOk result (λ t. IsNew Terminal generation t.table.shared.table_id t.terminal.table_id t.terminal.me) }
-    ensures disk { IfOk result (λ t. IsNew Disk generation t.table.shared.table_id t.disk.table_id t.disk.me) }
+    ensures primary { IfOk result (λ t. IsNew Primary start.now.known.known t.table.shared.table_id t.primary.table_id t.primary.me) }
+    ensures link { IfOk result (λ t. IsNew Link start.now.known.known t.table.shared.table_id t.link.table_id t.link.me) }
+    ensures backup { IfOk result (λ t. IsNew Backup start.now.known.known t.table.shared.table_id t.backup.table_id t.backup.me) }
+    ensures terminal { IfOk result (λ t. IsNew Terminal start.now.known.known t.table.shared.table_id t.terminal.table_id t.terminal.me) }
+    ensures disk { IfOk result (λ t. IsNew Disk start.now.known.known t.table.shared.table_id t.disk.table_id t.disk.me) }
 {
+    let tail = start.entries;
+    let held = start.entries;
+    let counted0 = start.accepted0;
+    let counted1 = start.accepted1;
     let made: (PairTable, TableSeat) = Table::vacant(
         alloc,
-        &[0, 0, 0, 0, 0, 0, 1, 2, 3, 4, 5],
+        &[tail, held, 0, counted0, counted1, 0, 1, 2, 3, 4, 5],
         11,
-        &generation,
+        start,
     )?;
     let (table, mut primary) = made;
     let link = table.shared.split_seat::<SplitLink>(&mut primary);
@@ -73,14 +79,15 @@ fn new_seats(alloc: Global, generation: u64) -> Result<NewSeats, AllocError>
     })
 }
 
-pub(crate) fn open(alloc: Global, generation: u64) -> Result<(Fabric, SeatStates), AllocError>
-    ensures primary { IfOk result (λ t. Opened Primary generation t.0 t.1.primary.seat.table_id t.1.primary.seat.me t.1.primary.slot t.1.primary.fills t.1.primary.empties) }
-    ensures link { IfOk result (λ t. Opened Link generation t.0 t.1.link.seat.table_id t.1.link.seat.me t.1.link.slot t.1.link.fills t.1.link.empties) }
-    ensures backup { IfOk result (λ t. Opened Backup generation t.0 t.1.backup.seat.table_id t.1.backup.seat.me t.1.backup.slot t.1.backup.fills t.1.backup.empties) }
-    ensures terminal { IfOk result (λ t. Opened Terminal generation t.0 t.1.terminal.seat.table_id t.1.terminal.seat.me t.1.terminal.slot t.1.terminal.fills t.1.terminal.empties) }
-    ensures disk { IfOk result (λ t. Opened Disk generation t.0 t.1.disk.seat.table_id t.1.disk.seat.me t.1.disk.slot t.1.disk.fills t.1.disk.empties) }
+pub(crate) fn open(alloc: Global, start: &Start) -> Result<(Fabric, SeatStates), AllocError>
+    requires { IsStart start.now.generation start.now.entries start.now.accepted0 start.now.accepted1 start.now.known.known }
+    ensures primary { IfOk result (λ t. Opened Primary start.now.known.known t.0 t.1.primary.seat.table_id t.1.primary.seat.me t.1.primary.slot t.1.primary.fills t.1.primary.empties) }
+    ensures link { IfOk result (λ t. Opened Link start.now.known.known t.0 t.1.link.seat.table_id t.1.link.seat.me t.1.link.slot t.1.link.fills t.1.link.empties) }
+    ensures backup { IfOk result (λ t. Opened Backup start.now.known.known t.0 t.1.backup.seat.table_id t.1.backup.seat.me t.1.backup.slot t.1.backup.fills t.1.backup.empties) }
+    ensures terminal { IfOk result (λ t. Opened Terminal start.now.known.known t.0 t.1.terminal.seat.table_id t.1.terminal.seat.me t.1.terminal.slot t.1.terminal.fills t.1.terminal.empties) }
+    ensures disk { IfOk result (λ t. Opened Disk start.now.known.known t.0 t.1.disk.seat.table_id t.1.disk.seat.me t.1.disk.slot t.1.disk.fills t.1.disk.empties) }
 {
-    let seats = new_seats(alloc, generation)?;
+    let seats = new_seats(alloc, start)?;
     let NewSeats {
         table,
         mut primary,
@@ -141,7 +148,7 @@ pub struct FiveSeats {
 }
 
 impl Fabric {
-    /// A table for one generation, and its seats. `OutOfMemory` is its only refusal.
+    /// A table for one generation, and its seats, which know nothing yet. `OutOfMemory` is its only refusal.
     pub fn open(alloc: Global, generation: u64) -> Result<(Fabric, FiveSeats), Fault>
         ensures refused { IfErr result (λ fault. fault ≡ OutOfMemory) }
         ensures one { IfOk result (λ t. (t.1.primary.table ≡ t.0) × (t.1.link.table ≡ t.0) × (t.1.backup.table ≡ t.0) × (t.1.terminal.table ≡ t.0) × (t.1.disk.table ≡ t.0)) }
@@ -151,7 +158,21 @@ impl Fabric {
         ensures terminal { IfOk result (λ t. t.1.terminal.core ≡ with_slot Terminal true (first_core generation)) }
         ensures disk { IfOk result (λ t. t.1.disk.core ≡ with_slot Disk true (first_core generation)) }
     {
-        let (fabric, states) = open(alloc, generation)?;
+        Fabric::open_at(alloc, &Start::first(generation))
+    }
+
+    /// A table for one generation, and its seats, which begin with what is known. `OutOfMemory` is its only refusal.
+    pub fn open_at(alloc: Global, start: &Start) -> Result<(Fabric, FiveSeats), Fault>
+        requires start { IsStart start.now.generation start.now.entries start.now.accepted0 start.now.accepted1 start.now.known.known }
+        ensures refused { IfErr result (λ fault. fault ≡ OutOfMemory) }
+        ensures one { IfOk result (λ t. (t.1.primary.table ≡ t.0) × (t.1.link.table ≡ t.0) × (t.1.backup.table ≡ t.0) × (t.1.terminal.table ≡ t.0) × (t.1.disk.table ≡ t.0)) }
+        ensures primary { IfOk result (λ t. t.1.primary.core ≡ with_slot Primary true (core_of start.now.known.known)) }
+        ensures link { IfOk result (λ t. (t.1.link.core ≡ with_slot Link true (core_of start.now.known.known)) × (t.1.link.hand ≡ None)) }
+        ensures backup { IfOk result (λ t. t.1.backup.core ≡ with_slot Backup true (core_of start.now.known.known)) }
+        ensures terminal { IfOk result (λ t. t.1.terminal.core ≡ with_slot Terminal true (core_of start.now.known.known)) }
+        ensures disk { IfOk result (λ t. t.1.disk.core ≡ with_slot Disk true (core_of start.now.known.known)) }
+    {
+        let (fabric, states) = open(alloc, start)?;
         let SeatStates {
             primary,
             link,
@@ -159,16 +180,12 @@ impl Fabric {
             terminal,
             disk,
         } = states;
-        let line = Line {
-            hand: None,
-            accepted: 0,
-        };
         let seats = FiveSeats {
             primary: PrimarySeat {
                 state: primary,
-                generation,
-                length: 0,
-                seen: 0,
+                generation: start.generation,
+                length: start.entries,
+                seen: start.entries,
             },
             link: LinkSeat {
                 state: link,
@@ -176,12 +193,18 @@ impl Fabric {
             },
             backup: BackupSeat {
                 state: backup,
-                length: 0,
+                length: start.entries,
             },
             terminal: TerminalSeat {
                 state: terminal,
-                line0: line,
-                line1: line,
+                line0: Line {
+                    hand: None,
+                    accepted: start.accepted0,
+                },
+                line1: Line {
+                    hand: None,
+                    accepted: start.accepted1,
+                },
             },
             disk: DiskSeat { state: disk },
         };

@@ -51,7 +51,7 @@ waits_none : (o : Operation) (log : List Entry) → NoReads log → waits_for o 
 waits_none (Write w) log none = no_reads log none
 waits_none (Byte port number byte) log none = refl
 
-notes_covered : (n : ℕ) (ms : List Move) (c : ℕ) (log : List Entry) (ns : List Note) → NoReads log
+pub notes_covered : (n : ℕ) (ms : List Move) (c : ℕ) (log : List Entry) (ns : List Note) → NoReads log
     → AllAre ns (Covered n) → length log + length (entries Logged c ms) ≤ n → AllAre (notes_from c log ns ms) (Covered n)
 notes_covered n [] c log ns none all le = all
 notes_covered n (Do None ∷ ms) c log ns none all le =
@@ -70,7 +70,7 @@ notes_covered n (Take i ∷ ms) c log ns none all le =
 is_covered : (n index after : ℕ) → index < n → after ≡ 0 → (nat_lt index n && nat_le after 0) ≡ true
 is_covered n index after lt none = grind arith
 
-covered_by : (n : ℕ) (ns : List Note) (name : OpId) → AllAre ns (Covered n) → covers n 0 (note_of ns name) ≡ true
+pub covered_by : (n : ℕ) (ns : List Note) (name : OpId) → AllAre ns (Covered n) → covers n 0 (note_of ns name) ≡ true
 covered_by n [] name all = refl
 covered_by n (note ∷ ns) name all = go (same_name name note.name) (covered_by n ns name all.1)
   where

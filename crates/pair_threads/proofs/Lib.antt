@@ -17,3 +17,4 @@ pub mod Ends
 pub mod Ending
 pub mod Beginning
 pub mod Shown
+pub mod Resuming

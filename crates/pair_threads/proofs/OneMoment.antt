@@ -29,7 +29,7 @@ pub record StandsOf (p : PrimaryView) (b : BackupView) (t : TerminalView) (d : D
   pub replies : AllAre d.given (IsReplied d.puts)
 
 -- as many bytes are accepted as the count says
-as_many : (n : ℕ) (xs : List Arrived) → length (accepted_after n (map arrival_of xs)) + n ≡ how_many n xs
+pub as_many : (n : ℕ) (xs : List Arrived) → length (accepted_after n (map arrival_of xs)) + n ≡ how_many n xs
 as_many n [] = (let e : 0 + n ≡ n = omega arith in e)
 as_many n (a ∷ xs) = go (a.number == n + 1) (as_many (n + 1) xs) (as_many n xs)
   where

@@ -301,10 +301,11 @@ module _ {B S : Type 0} (state : B → S) (M : Machine S) (counts : Counts M) (l
 -- ---- what a worker is to the one that began
 
 abbrev pub Came : {B S : Type 0} → (B → S) → Machine S → PrimaryWorker B → PrimaryWorker B → Type 0
-Came state M first w =
+Came {B} {S} state M first w =
     (w.plan ≡ first.plan) × (w.port0.typed ≡ first.port0.typed) × (w.port1.typed ≡ first.port1.typed)
     × HasAsked w.plan.contests_at w.seat.core.known.primary.winner
-    × WorkerLeads state M (state first.guest.board) w × WorkerKeeps M (state first.guest.board) w
+    × ((boot : S) → WorkerLeads state M boot first → WorkerLeads state M boot w)
+    × ((boot : S) → WorkerLeads state M boot first → WorkerKeeps M boot first → WorkerKeeps M boot w)
 
 pub came_on : {B S : Type 0} (state : B → S) (M : Machine S) (first old new : PrimaryWorker B) → Came state M first old
     → Works state M old new → Came state M first new
@@ -314,8 +315,8 @@ came_on state M first old new came works = (
   works.4 ∙ came.2,
   subst (λ (p : Plan). HasAsked p.contests_at new.seat.core.known.primary.winner) (sym works.2)
       (subst (HasAsked old.plan.contests_at) (sym works.1) came.3),
-  works.5 (state first.guest.board) came.4,
-  works.6 (state first.guest.board) came.4 came.5,
+  λ boot leads. works.5 boot (came.4 boot leads),
+  λ boot leads kept. works.6 boot (came.4 boot leads) (came.5 boot leads kept),
 )
 
 -- a turn at which it is to ask

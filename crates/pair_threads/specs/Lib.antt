@@ -10,4 +10,5 @@ pub mod Repeating
 pub mod Leading
 pub mod Ending
 pub mod Primary
+pub mod Resuming
 pub mod Shown

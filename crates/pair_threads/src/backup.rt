@@ -7,7 +7,7 @@ ghost use Rattle.pair_rule.specs.declared.view.Core.{Core};
 ghost use Rattle.pair_rule.specs.Seats.{Empties};
 ghost use Rattle.pair_threads.specs.BackupTurns.{IsTurnOf, next_chore, turn_of_asking, turn_of_draining, turn_of_take};
 ghost use Rattle.pair_threads.specs.Ending.{IsEnding};
-ghost use Rattle.pair_threads.specs.Repeating.{FollowsFor, GoesOn, IsAt, has_all};
+ghost use Rattle.pair_threads.specs.Repeating.{FollowsFor, GoesOn, IsAt, Repeats, has_all};
 ghost use Rattle.pair_threads.specs.Turns.{Leaves};
 ghost use Rattle.pair_threads.specs.declared.backup.Chore.TheVariants as task;
 ghost use Rattle.pair_threads.specs.declared.worker.Turn.TheVariants as turn;
@@ -18,6 +18,7 @@ use crate::signals::Told;
 use crate::worker::{Turn, Worker};
 use guest_lockstep::Lockstep;
 use i8080_words::{Fault, R};
+use log_entry::Entry;
 use pair_rule::{BackupSeat, Fabric};
 use std::alloc::Global;
 
@@ -74,6 +75,32 @@ impl<B: Lockstep> BackupWorker<B> {
             seat,
             guest: Repeater::new(alloc, board),
             held: 0,
+            won: false,
+            chore: Chore::Take,
+            stride: STEPS,
+            plan,
+        }
+    }
+
+    /// A backup that goes on where its guest has repeated this list.
+    pub(crate) fn resume(
+        seat: BackupSeat,
+        list: Vec<Entry>,
+        board: B,
+        plan: Plan,
+    ) -> BackupWorker<B>
+        requires { list.items ≡ seat.core.known.backup.list }
+        ensures seat { result.seat ≡ seat }
+        ensures board { result.guest.board ≡ board }
+        ensures plan { (result.plan ≡ plan) × (result.won ≡ false) }
+        ensures at { (boot : B.State) → Repeats B.machine boot list.items false (B.state board)
+            → IsAt B.state B.machine boot result.guest }
+    {
+        let held = list.len() as u64;
+        BackupWorker {
+            seat,
+            guest: Repeater::resume(list, board),
+            held,
             won: false,
             chore: Chore::Take,
             stride: STEPS,
@@ -213,7 +240,7 @@ impl<B: Lockstep> BackupWorker<B> {
 impl<B: Lockstep> Worker for BackupWorker<B> {
     ghost use Rattle.std.specs.Prelude.{◌≡◌, ◌⊎◌, ◌&&◌, ◌||◌, not, cond, false, vec_len};
     ghost use Rattle.pair_threads.specs.Ending.{HasAsked};
-    ghost use Rattle.pair_threads.specs.Repeating.{IsAt, has_all};
+    ghost use Rattle.pair_threads.specs.Repeating.{GoesOn, has_all};
     ghost use Rattle.pair_threads.specs.BackupTurns.{IsTurn, IsTurnOf};
     ghost use Rattle.pair_threads.specs.Turns.{AsksAt};
 
@@ -222,7 +249,7 @@ impl<B: Lockstep> Worker for BackupWorker<B> {
     ghost ready = { λ w. w.seat.core.known.backup.winner ≡ cond w.won 2 0 };
 
     ghost came = { λ first w. (w.plan ≡ first.plan) × HasAsked w.plan.contests_at w.seat.core.known.backup.winner
-        × IsAt B.state B.machine (B.state first.guest.board) w.guest };
+        × GoesOn B.state B.machine first.guest w.guest };
 
     ghost ended = { λ w. (w.plan.contested ≡ false) ⊎ (w.seat.core.known.backup.winner ≡ 2)
         → w.guest.replayed ≡ vec_len w.guest.list };

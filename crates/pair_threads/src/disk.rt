@@ -1,5 +1,5 @@
 //! The disk's worker: it serves one request after another.
-ghost use Rattle.std.specs.Prelude.{◌≡◌, ◌+◌, ◌≤◌, ℕ, List, cond, [], length, false, is_some, None, Some, true, IsTrue, IfOk, OnErr, OnOk};
+ghost use Rattle.std.specs.Prelude.{◌≡◌, ◌+◌, ◌≤◌, ℕ, List, cond, length, false, is_some, None, Some, true, IsTrue, IfOk, OnErr, OnOk};
 ghost use Rattle.pair_rule.specs.declared.payload.DiskRequest.{DiskRequest};
 ghost use Rattle.disk_dcdd.specs.declared.address.SectorAddress.{SectorAddress};
 ghost use Rattle.pair_rule.specs.Seats.{HasSwapsLeft};
@@ -24,9 +24,9 @@ pub(crate) struct DiskWorker<D: SectorStore> {
 }
 
 impl<D: SectorStore> DiskWorker<D> {
-    /// A disk that was asked for nothing yet.
+    /// A disk that has given no more answers than it has taken requests, and has none to serve.
     pub(crate) fn new(seat: DiskSeat, disk: SharedDisk<D>) -> DiskWorker<D>
-        requires { seat.core.known.disk.given ≡ [] }
+        requires { length seat.core.known.disk.given ≤ seat.core.known.disk.takes }
         ensures seat { result.seat ≡ seat }
         ensures disk { result.disk ≡ disk }
     {
@@ -94,14 +94,16 @@ fn answer<D: SectorStore>(disk: &mut SharedDisk<D>, request: &DiskRequest) -> R<
 impl<D: SectorStore> Worker for DiskWorker<D> {
     ghost use Rattle.std.specs.Prelude.{ℕ, List, ◌≡◌, ◌&&◌, is_some, false};
     ghost use Rattle.disk_dcdd.specs.declared.address.SectorAddress.{SectorAddress};
-    ghost use Rattle.pair_threads.specs.Stores.{IsStore, bytes_in};
+    ghost use Rattle.pair_threads.specs.Stores.{IsStore};
     ghost use Rattle.pair_threads.specs.Turns.{disk_turn};
 
     ghost table = { λ w. w.seat.table };
 
     ghost ready = { λ w. (boots : SectorAddress → List ℕ) × IsStore boots (D.records w.disk) w.seat.core.known.disk };
 
-    ghost came = { λ first w. IsStore (bytes_in (D.records first.disk)) (D.records w.disk) w.seat.core.known.disk };
+    ghost came = { λ first w. (boots : SectorAddress → List ℕ)
+        → IsStore boots (D.records first.disk) first.seat.core.known.disk
+        → IsStore boots (D.records w.disk) w.seat.core.known.disk };
 
     ghost ended = { λ w. Unit {0} };
 

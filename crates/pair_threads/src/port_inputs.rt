@@ -22,6 +22,18 @@ impl PortInputs {
         }
     }
 
+    /// So many of them are taken, and so many acceptances.
+    pub(crate) fn after(typed: Vec<u8>, taken: usize, accepted: u64) -> PortInputs
+        requires { taken ≤ vec_len typed }
+        ensures { (result.typed ≡ typed) × (result.taken ≡ taken) × (result.accepted ≡ accepted) }
+    {
+        PortInputs {
+            typed,
+            taken,
+            accepted,
+        }
+    }
+
     /// The next byte to take.
     pub(crate) fn next(&self) -> Option<u8>
         ensures { result ≡ slice_get self.now.typed.items self.now.taken }

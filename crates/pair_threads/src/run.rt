@@ -138,7 +138,7 @@ fn take_apart<B: Lockstep + Drop, D: SectorStore>(
 }
 
 // The workers of a generation after their turns.
-type AllServed<B, D> = Five<
+pub(crate) type AllServed<B, D> = Five<
     Served<PrimaryWorker<B>>,
     Served<LinkWorker>,
     Served<BackupWorker<B>>,
@@ -217,7 +217,7 @@ fn conclude<B: Lockstep + Drop, D: SectorStore>(
 }
 
 // What workers leave, if all of them are at their ends.
-fn finish<B: Lockstep + Drop, D: SectorStore>(
+pub(crate) fn finish<B: Lockstep + Drop, D: SectorStore>(
     fabric: Fabric,
     five: AllServed<B, D>,
     contested: bool,

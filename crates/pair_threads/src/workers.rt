@@ -3,6 +3,7 @@
 use crate::gate::Who;
 use crate::link::Fate;
 use log_entry::Entry;
+use pair_rule::Start;
 use shared_disk::{SectorStore, SharedDisk};
 
 /// What a generation on threads begins with.
@@ -40,4 +41,19 @@ pub struct GenerationEnd<B: Drop, D: SectorStore> {
     /// What the terminal of each port has accepted.
     pub accepted: [Vec<u8>; 2],
     pub disk: SharedDisk<D>,
+}
+
+/// What a generation on threads begins with that goes on where a run was settled.
+#[derive(Drop)]
+pub struct Resumed<B: Drop, D: SectorStore> {
+    pub workers: Workers<B, D>,
+    /// What is known.
+    pub start: Start,
+    /// The lists of entries.
+    pub primary_list: Vec<Entry>,
+    pub backup_list: Vec<Entry>,
+    /// How many of the bytes that are typed at each port were taken.
+    pub taken: (usize, usize),
+    /// What the terminal of each port has accepted.
+    pub accepted: (Vec<u8>, Vec<u8>),
 }

@@ -1,10 +1,11 @@
 //! The turns of a primary's worker: it appends the entry that waits, and otherwise does its chores in rotation.
-ghost use Rattle.std.specs.Prelude.{◌≡◌, ◌⊎◌, ◌↔◌, [], length, None, Some, IfErr, IfOk, IfSome, IsTrue, OnOk};
+ghost use Rattle.std.specs.Prelude.{◌≡◌, ◌≤◌, ◌⊎◌, ◌↔◌, [], length, vec_len, None, Some, IfErr, IfOk, IfSome, IsTrue, OnOk};
 ghost use Rattle.event_callbacks.specs.declared.operations.OpId.{OpId};
 ghost use Rattle.pair_rule.specs.Seats.{HasSwapsLeft};
 ghost use Rattle.pair_threads.specs.Choosing.{fruitless_after, is_covered, to_append, turn_after};
 ghost use Rattle.pair_threads.specs.Ending.{IsEnding};
-ghost use Rattle.pair_threads.specs.Primary.{HasAppended, HasDone, IsAtRest, WorkerKeeps, WorkerLeads, Works};
+ghost use Rattle.pair_threads.specs.Leading.{Leads, Says, by_port};
+ghost use Rattle.pair_threads.specs.Primary.{HasAppended, HasDone, IsAtRest, WorkerKeeps, WorkerLeads, Works, keys_taken};
 ghost use Rattle.pair_threads.specs.Turns.{Leaves};
 
 use super::PrimaryWorker;
@@ -57,6 +58,58 @@ impl<B: Lockstep> PrimaryWorker<B> {
             answer: None,
             sector: 0,
             key_count: 0,
+            chore: Chore::Post,
+            second: false,
+            fruitless: 0,
+            held_up: false,
+            plan,
+        }
+    }
+
+    /// A primary that goes on where a run of its list was settled: all of it is acknowledged, and nothing is outstanding.
+    pub(crate) fn resume(
+        alloc: Global,
+        seat: PrimarySeat,
+        list: Vec<Entry>,
+        board: B,
+        ports: (PortInputs, PortInputs),
+        plan: Plan,
+    ) -> PrimaryWorker<B>
+        requires list { list.items ≡ seat.core.known.primary.list }
+        requires seen { vec_len list ≡ seat.core.known.primary.seen }
+        requires counted { (ports.0.accepted ≡ seat.core.known.primary.counted0)
+            × (ports.1.accepted ≡ seat.core.known.primary.counted1) }
+        requires answered { seat.core.known.primary.asked ≤ length seat.core.known.primary.answers }
+        ensures seat { result.seat ≡ seat }
+        ensures board { result.guest.board ≡ board }
+        ensures plan { (result.plan ≡ plan) × (result.port0 ≡ ports.0) × (result.port1 ≡ ports.1) }
+        ensures leads { (boot : B.State)
+            → Leads B.machine boot seat.core.known.primary.list [] seat.core.known.primary (B.state board)
+            → Says seat.core.known.primary.list (by_port (keys_taken ports.0) (keys_taken ports.1) [])
+            (by_port ports.0.accepted ports.1.accepted 0) → WorkerLeads B.state B.machine boot result }
+    {
+        let (port0, port1) = ports;
+        let length = list.len() as u64;
+        let counted0 = port0.accepted;
+        let counted1 = port1.accepted;
+        let key_count = board.count();
+        PrimaryWorker {
+            seat,
+            list,
+            guest: Recording::new(alloc, board),
+            port0,
+            port1,
+            seen: length,
+            counted0,
+            counted1,
+            next: length,
+            full: false,
+            posted: length,
+            emitted: [counted0, counted1],
+            asked: false,
+            answer: None,
+            sector: 0,
+            key_count,
             chore: Chore::Post,
             second: false,
             fruitless: 0,
@@ -211,8 +264,9 @@ impl<B: Lockstep> Worker for PrimaryWorker<B> {
 
     ghost came = { λ first w. (w.plan ≡ first.plan) × (w.port0.typed ≡ first.port0.typed)
         × (w.port1.typed ≡ first.port1.typed) × HasAsked w.plan.contests_at w.seat.core.known.primary.winner
-        × WorkerLeads B.state B.machine (B.state first.guest.board) w
-        × WorkerKeeps B.machine (B.state first.guest.board) w };
+        × ((boot : B.State) → WorkerLeads B.state B.machine boot first → WorkerLeads B.state B.machine boot w)
+        × ((boot : B.State) → WorkerLeads B.state B.machine boot first → WorkerKeeps B.machine boot first
+        → WorkerKeeps B.machine boot w) };
 
     ghost ended = { λ w. w.plan.contested ≡ false → IsAtRest B.state B.machine w };
 

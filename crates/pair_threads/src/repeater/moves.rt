@@ -1,7 +1,7 @@
 //! How a backup's guest repeats the entries of its list.
-ghost use Rattle.std.specs.Prelude.{◌≡◌, ◌⊎◌, ◌<◌, ◌↔◌, ◌++◌, [], ◌∷◌, vec_len, vec_capacity, IfErr, IsTrue, OnOk};
+ghost use Rattle.std.specs.Prelude.{◌≡◌, ◌⊎◌, ◌<◌, ◌↔◌, ◌++◌, [], ◌∷◌, false, vec_len, vec_capacity, IfErr, IsTrue, OnOk};
 ghost use Rattle.i8080_words.specs.declared.refusal.Fault.TheVariants.{OutOfMemory, Stalled};
-ghost use Rattle.pair_threads.specs.Repeating.{FollowsFor, GoesOn, IsAt, IsStuck, has_all};
+ghost use Rattle.pair_threads.specs.Repeating.{FollowsFor, GoesOn, IsAt, IsStuck, Repeats, has_all};
 
 use super::Repeater;
 use guest_lockstep::Lockstep;
@@ -21,6 +21,22 @@ impl<B: Lockstep> Repeater<B> {
             list: Vec::new(alloc),
             board,
             replayed: 0,
+            between: false,
+        }
+    }
+
+    /// A guest that has repeated this list.
+    pub(crate) fn resume(list: Vec<Entry>, board: B) -> Repeater<B>
+        ensures board { result.board ≡ board }
+        ensures list { result.list ≡ list }
+        ensures at { (boot : B.State) → Repeats B.machine boot list.items false (B.state board)
+            → IsAt B.state B.machine boot result }
+    {
+        let replayed = list.len();
+        Repeater {
+            list,
+            board,
+            replayed,
             between: false,
         }
     }

@@ -3,7 +3,6 @@ use Rattle.std.proofs.Common.{ap, sym, subst, ◌∙◌, Vec, Global, ℕ}
 use Rattle.pair_rule.specs.Seats.{Seat}
 use Rattle.pair_threads.specs.declared.plan.Plan.{Plan}
 use Rattle.pair_rule.specs.declared.view.Core.{Core}
-use Rattle.pair_threads.specs.Primary.{WorkerKeeps, WorkerLeads}
 use Rattle.pair_threads.specs.Repeating.{IsAt}
 use Rattle.pair_threads.specs.Stores.{IsStore, bytes_in}
 use Rattle.shared_disk.specs.Records.{IsUnwritten}
@@ -21,7 +20,7 @@ work-served-requires-clause-disk g c κs within =
     (subst IsUnwritten (sym (ap g.D.SectorStore.records made.disk)) c.requires.unwritten) in (
       ap (λ (x : Seat). x.table) made.seat ∙ opened.one.4,
       (bytes_in (g.D.SectorStore.records c.new-5.result.disk), store),
-      store,
+      λ boots same. same,
     )
 
 pub returns-clause-ends : goal.returns-clause-ends
@@ -29,19 +28,26 @@ returns-clause-ends g c =
     let served = c.work-served in
     let state = g.B.Lockstep.state in
     let records = g.D.SectorStore.records in
+    let made = c.new-5.ensures in
+    let opened = c.in_ok-fabric.ensures in
+    let store = first_disk (records c.new-5.result.disk) c.new-5.result.seat.core.known.disk
+    (ap (λ (x : Seat). x.core.known.disk.puts) made.seat ∙ ap (λ (x : Core). x.known.disk.puts) opened.disk)
+    (ap (λ (x : Seat). x.core.known.disk.given) made.seat ∙ ap (λ (x : Core). x.known.disk.given) opened.disk)
+    (subst IsUnwritten (sym (ap records made.disk)) c.requires.unwritten) in
     c.finish.ensures.ends (state c.args.workers.primary) (records c.args.workers.disk) c.args.workers.typed0.items
     c.args.workers.typed1.items c.requires.lawful
     (on_ok served.result.primary.1 (λ end. (
       ap (λ (v : Vec ℕ Global). v.items) (end.0.1 ∙ c.new.ensures.plan.1),
       ap (λ (v : Vec ℕ Global). v.items) (end.0.2 ∙ c.new.ensures.plan.2),
-      subst (λ b. WorkerLeads state g.B.Lockstep.machine b served.result.primary.0) (ap state c.new.ensures.board) end.0.4,
+      end.0.4 (state c.args.workers.primary) c.new.ensures.leads,
     )) served.ensures.primary.1)
     (on_ok served.result.backup.1
-    (λ end. subst (λ b. IsAt state g.B.Lockstep.machine b served.result.backup.0.guest)
-    (ap state c.new-3.ensures.board ∙ c.requires.alike) end.0.2) served.ensures.backup.1)
+    (λ end. end.0.2 (state c.args.workers.primary)
+    (subst (λ b. IsAt state g.B.Lockstep.machine b c.new-3.result.guest) c.requires.alike c.new-3.ensures.at))
+    served.ensures.backup.1)
     (on_ok served.result.disk.1
     (λ end. subst (λ r. IsStore (bytes_in r) (records served.result.disk.0.disk) served.result.disk.0.seat.core.known.disk)
-    (ap records c.new-5.ensures.disk) end.0) served.ensures.disk.1)
+    (ap records c.new-5.ensures.disk) (end.0 (bytes_in (records c.new-5.result.disk)) store)) served.ensures.disk.1)
 
 pub returns-clause-decided : goal.returns-clause-decided
 returns-clause-decided g c =
@@ -57,18 +63,25 @@ returns-clause-ran g c =
     let served = c.work-served in
     let state = g.B.Lockstep.state in
     let records = g.D.SectorStore.records in
+    let made = c.new-5.ensures in
+    let opened = c.in_ok-fabric.ensures in
+    let store = first_disk (records c.new-5.result.disk) c.new-5.result.seat.core.known.disk
+    (ap (λ (x : Seat). x.core.known.disk.puts) made.seat ∙ ap (λ (x : Core). x.known.disk.puts) opened.disk)
+    (ap (λ (x : Seat). x.core.known.disk.given) made.seat ∙ ap (λ (x : Core). x.known.disk.given) opened.disk)
+    (subst IsUnwritten (sym (ap records made.disk)) c.requires.unwritten) in
     c.finish.ensures.ran (state c.args.workers.primary) (records c.args.workers.disk) c.args.workers.typed0.items
     c.args.workers.typed1.items c.requires.lawful
     (on_ok served.result.primary.1 (λ end. (
       ap (λ (v : Vec ℕ Global). v.items) (end.0.1 ∙ c.new.ensures.plan.1),
       ap (λ (v : Vec ℕ Global). v.items) (end.0.2 ∙ c.new.ensures.plan.2),
-      subst (λ b. WorkerLeads state g.B.Lockstep.machine b served.result.primary.0) (ap state c.new.ensures.board) end.0.4,
+      end.0.4 (state c.args.workers.primary) c.new.ensures.leads,
     )) served.ensures.primary.1)
-    (on_ok served.result.primary.1 (λ end. subst (λ b. WorkerKeeps g.B.Lockstep.machine b served.result.primary.0)
-    (ap state c.new.ensures.board) end.0.5) served.ensures.primary.1)
+    (on_ok served.result.primary.1
+    (λ end. end.0.5 (state c.args.workers.primary) c.new.ensures.leads c.new.ensures.keeps) served.ensures.primary.1)
     (on_ok served.result.backup.1
-    (λ end. subst (λ b. IsAt state g.B.Lockstep.machine b served.result.backup.0.guest)
-    (ap state c.new-3.ensures.board ∙ c.requires.alike) end.0.2) served.ensures.backup.1)
+    (λ end. end.0.2 (state c.args.workers.primary)
+    (subst (λ b. IsAt state g.B.Lockstep.machine b c.new-3.result.guest) c.requires.alike c.new-3.ensures.at))
+    served.ensures.backup.1)
     (on_ok served.result.disk.1
     (λ end. subst (λ r. IsStore (bytes_in r) (records served.result.disk.0.disk) served.result.disk.0.seat.core.known.disk)
-    (ap records c.new-5.ensures.disk) end.0) served.ensures.disk.1)
+    (ap records c.new-5.ensures.disk) (end.0 (bytes_in (records c.new-5.result.disk)) store)) served.ensures.disk.1)

@@ -3,10 +3,10 @@ use Rattle.pair_threads.proofs.Serving.{goes_on}
 use Rattle.pair_threads.proofs.disk.DiskWorkerWorker.turn.Goals as goal
 
 pub returns-in-Some-clause-came : goal.returns-in-Some-clause-came
-returns-in-Some-clause-came g c = λ first store. c.serve.ensures.store _ store
+returns-in-Some-clause-came g c = λ first came boots store. c.serve.ensures.store boots (came boots store)
 
 pub returns-in-None-clause-came : goal.returns-in-None-clause-came
-returns-in-None-clause-came g c = λ first store. c.take.ensures.store _ store
+returns-in-None-clause-came g c = λ first came boots store. c.take.ensures.store boots (came boots store)
 
 pub returns-in-Some-clause-leaves : goal.returns-in-Some-clause-leaves
 returns-in-Some-clause-leaves g c = goes_on c.serve.result _ _

@@ -19,14 +19,13 @@ pub returns-then-asks_at-clause-came : goal.returns-then-asks_at-clause-came
 returns-then-asks_at-clause-came g c = λ first came.
     let old = c.args.self.now in
     let is = ap (λ (k : Core). k.known.primary) c.contest.ensures.view.3 in
-    let boot = g.B.Lockstep.state first.guest.board in
     let some = some_at old.plan.contests_at c.args.number (c.asks_at.ensures.0 c.if-asks_at.true) in (
       came.0,
       came.1,
       came.2,
       inr some,
-      leads_alone g.B.Lockstep.state g.B.Lockstep.machine g.met.B.Lockstep.counts g.met.B.Lockstep.operations old
-          c.contest.new.self _ boot is came.4,
-      keeps_alone g.B.Lockstep.state g.B.Lockstep.machine g.met.B.Lockstep.counts g.met.B.Lockstep.operations old
-          c.contest.new.self _ boot is came.5,
+      λ boot leads. leads_alone g.B.Lockstep.state g.B.Lockstep.machine g.met.B.Lockstep.counts
+          g.met.B.Lockstep.operations old c.contest.new.self _ boot is (came.4 boot leads),
+      λ boot leads kept. keeps_alone g.B.Lockstep.state g.B.Lockstep.machine g.met.B.Lockstep.counts
+          g.met.B.Lockstep.operations old c.contest.new.self _ boot is (came.5 boot leads kept),
     )
