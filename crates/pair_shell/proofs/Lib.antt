@@ -1,4 +1,5 @@
 pub mod Looking
 pub mod Backups
+pub mod Days
 pub mod Playing
 pub mod Tracing

@@ -7,9 +7,10 @@ use Rattle.pair_events.specs.declared.event.Event.{Event}
 use Rattle.pair_events.specs.declared.reply.Reply.{Reply}
 use Rattle.shell_language.specs.declared.line.ShellLine.{ShellLine}
 use Rattle.shell_opening.specs.Openings.{SetsUp, SetsUpSaid}
-use Rattle.pair_shell.specs.Sessions.{HeedsSaid, IsHeeded, is_quit, trace_after}
+use Rattle.pair_shell.specs.Sessions.{HeedsSaid, IsHeeded, is_quit, is_setup, trace_after}
 use Rattle.shell_book.specs.Outcomes.{is_ended}
 use Rattle.shell_book.specs.declared.outcome.Outcome.{Outcome}
+use Rattle.shell_book.specs.declared.outcome.Outcome.TheVariants as outcome
 use Rattle.shell_book.specs.Tapes.{Begins, IsAnswered, Traces, event_lines, played, told_text, trace_text}
 use Rattle.shell_book.specs.Texts.{AddsLine, AddsSome, mark}
 use Rattle.shell_opening.specs.declared.opening.Opening.{Opening}
@@ -110,3 +111,10 @@ switches line said old new is switched = switched ∙ ap (λ s. trace_after s ol
 
 pub switches_not : (said : Option ShellLine) (old new : Bool) → None ≡ said → new ≡ old → new ≡ trace_after said old
 switches_not said old new is same = same ∙ ap (λ s. trace_after s old) is
+
+-- and that it comes too late
+pub late_said : (line : ShellLine) (said : Option ShellLine) (has_booted : Bool) (told : Outcome) → Some line ≡ said
+    → (is_setup (Some line) ≡ true → has_booted ≡ true → told ≡ outcome.Refused)
+    → is_setup said ≡ true → has_booted ≡ true → told ≡ outcome.Refused
+late_said line said has_booted told is late =
+    subst (λ s. is_setup s ≡ true → has_booted ≡ true → told ≡ outcome.Refused) is late

@@ -1,4 +1,6 @@
+pub mod Asked
 pub mod Backups
+pub mod Days
 pub mod Looking
 pub mod Playing
 pub mod Sessions

@@ -57,6 +57,13 @@ abbrev pub is_quit : Option ShellLine → Bool
 is_quit (Some shell.Quit) = true
 is_quit _ = false
 
+-- a line is one of the setup
+abbrev pub is_setup : Option ShellLine → Bool
+is_setup (Some (shell.Setup word words)) = true
+is_setup (Some (shell.SetSector place bytes)) = true
+is_setup (Some (shell.Load loaded)) = true
+is_setup _ = false
+
 -- so many bytes of a terminal were shown
 abbrev pub shown_at : List ℕ → ℕ → ℕ → List ℕ
 shown_at shown zero count = slice_set shown 0 count

@@ -1,38 +1,26 @@
 //! The lines after the pair has booted: events and queries.
-ghost use Rattle.std.specs.Prelude.{◌≡◌, ◌==◌, ◌&&◌, [], true, IfOk, length, slice_get, string_bytes, unwrap_or};
-ghost use Rattle.ft_world.specs.Applies.{Shows};
-ghost use Rattle.ft_world.specs.Standing.{Course};
-ghost use Rattle.shared_disk.specs.Failing.{records_in};
+ghost use Rattle.std.specs.Prelude.{◌≡◌, [], true, IfOk, length, slice_get, string_bytes, unwrap_or};
 ghost use Rattle.pair_check.specs.Disks.{over_records};
-ghost use Rattle.pair_shell.specs.Backups.{FindsBackup, IsFirstBackup};
 ghost use Rattle.pair_shell.specs.Playing.{Plays};
 ghost use Rattle.pair_shell.specs.Sessions.{IsHeeded, shown_at};
-ghost use Rattle.clone_state.specs.Parts.{part_count};
 ghost use Rattle.shell_book.specs.Texts.{AddsSome};
 ghost use Rattle.shell_book.specs.Tapes.{Begins, IsAnswered, Traces, trace_text};
 
+use crate::asked::{keys_of, left};
 use crate::play::{play, play_one};
+use crate::showing::{check, show_sector};
 use clone_state::Copies;
-use disk_dcdd::SectorAddress;
 use event_callbacks::PORTS;
-use ft_world::{NodeStatus, World};
-use guest_trace::Timed;
-use i8080_words::Fault;
-use pair_check::{compare, sector_of};
-use pair_events::{Event, Role};
+use ft_world::World;
+use pair_events::Event;
 use pair_setup::find;
 use sequence_diagram::Moment;
 use shared_disk::Disk;
 use shell_book::{Book, Played, Printed};
-use shell_day::{
-    Day, Plan, bytes_to_arrive, entries_to_deliver, entries_to_send, parts_to_deliver,
-    parts_to_send,
-};
-use shell_language::{Quoted, ShellLine, Turns};
+use shell_day::Plan;
+use shell_language::{Quoted, ShellLine};
 use shell_opening::Opening;
-use shell_picture::{
-    print_held_up, print_last, print_picture, print_refusal, print_screen, print_sector, print_sum,
-};
+use shell_picture::{print_last, print_picture, print_screen, print_sum};
 use std::alloc::{AllocError, Global};
 
 /// What was noted since the pair has booted: the book, the events of the last line, and all events with what was seen of them.
@@ -57,7 +45,6 @@ impl Notes {
     }
 
     /// Does what a line says, other than one of the setup. The tape has the events that it made.
-    #[tactic(auto, using(crate::proofs::Playing::plays_nothing, crate::proofs::Tracing::begins_nothing, crate::proofs::Tracing::begins_trace, crate::proofs::Tracing::begins_more))]
     pub fn take<B: Copies<H> + Drop, H: Drop>(
         &mut self,
         alloc: Global,
@@ -75,18 +62,10 @@ impl Notes {
     {
         match line {
             ShellLine::Event(event) => self.happen(alloc, world, event, printed),
-            ShellLine::Query(query) => printed.line(&find(world, query)),
             ShellLine::Run(turns) => self.run(alloc, opening, world, turns, printed),
             ShellLine::TypeText { port, text } => {
                 self.type_text(alloc, world, port, text, printed)
             }
-            ShellLine::Screen { port, is_new } => {
-                self.show_screen(port, is_new, world.accepted(port), printed)
-            }
-            ShellLine::Sector(address) => show_sector(world, address, printed),
-            ShellLine::Last => print_last(&self.book, printed),
-            ShellLine::Check => check(alloc, opening, world, printed),
-            ShellLine::Picture(stretch) => print_picture(alloc, &self.past, stretch, printed),
             line => self.take_all(alloc, opening, world, line, printed),
         }
     }
@@ -106,18 +85,42 @@ impl Notes {
         ensures traced { IfOk result (λ _. printed.old.is_traced ≡ true → string_bytes printed.old.text ≡ []
             → Begins (trace_text self.new.tape.items) (string_bytes printed.new.text)) }
     {
-        let events = match line {
-            ShellLine::SendAll { node } => entries_to_send(alloc, &self.book, node)?,
-            ShellLine::LogAll { node } => entries_to_deliver(alloc, &self.book, node)?,
-            ShellLine::SendPartAll { node } => {
-                let parts = parts_of(opening.setup.guest.drives);
-                parts_to_send(alloc, &self.book, node, parts)?
+        match line {
+            ShellLine::SendAll { .. }
+            | ShellLine::LogAll { .. }
+            | ShellLine::SendPartAll { .. }
+            | ShellLine::PartAll { .. }
+            | ShellLine::ArriveAll => {
+                let events = left(alloc, opening, &self.book, line)?;
+                self.happen_all(alloc, world, events, printed)
             }
-            ShellLine::PartAll { node } => parts_to_deliver(alloc, &self.book, node)?,
-            ShellLine::ArriveAll => bytes_to_arrive(alloc, &self.book)?,
-            _ => return Ok(()),
-        };
-        self.happen_all(alloc, world, events, printed)
+            line => self.show(alloc, opening, world, line, printed),
+        }
+    }
+
+    // Shows what a line asks for, and makes nothing happen.
+    fn show<B: Copies<H> + Drop, H: Drop>(
+        &mut self,
+        alloc: Global,
+        opening: &Opening,
+        world: &mut World<B, Disk, H>,
+        line: ShellLine<'_>,
+        printed: &mut Printed,
+    ) -> Result<(), AllocError>
+        ensures unchanged { over_records world.new ≡ over_records world.old }
+        ensures tape { self.new.tape ≡ self.old.tape }
+    {
+        match line {
+            ShellLine::Query(query) => printed.line(&find(world, query)),
+            ShellLine::Screen { port, is_new } => {
+                self.show_screen(port, is_new, world.accepted(port), printed)
+            }
+            ShellLine::Sector(address) => show_sector(world, address, printed),
+            ShellLine::Last => print_last(&self.book, printed),
+            ShellLine::Check => check(alloc, opening, world, printed),
+            ShellLine::Picture(stretch) => print_picture(alloc, &self.past, stretch, printed),
+            _ => Ok(()),
+        }
     }
 
     // Types a text at a port.
@@ -217,50 +220,8 @@ impl Notes {
         print_sum(&self.tape, printed)
     }
 
-    // The ordinary day of a pair.
-    #[tactic(auto, using(crate::proofs::Playing::plays_nothing, crate::proofs::Tracing::begins_nothing, crate::proofs::Tracing::begins_trace, crate::proofs::Tracing::begins_more))]
-    fn run<B: Copies<H> + Drop, H: Drop>(
-        &mut self,
-        alloc: Global,
-        opening: &Opening,
-        world: &mut World<B, Disk, H>,
-        turns: Turns,
-        printed: &mut Printed,
-    ) -> Result<(), AllocError>
-        requires { self.old.tape.items ≡ [] }
-        ensures played { Plays B.state B.copied B.machine world.old self.new.tape.items world.new }
-        ensures traced { IfOk result (λ _. printed.old.is_traced ≡ true → string_bytes printed.old.text ≡ []
-            → Begins (trace_text self.new.tape.items) (string_bytes printed.new.text)) }
-    {
-        let backup = match world.node(turns.node) {
-            None => return print_refusal(Fault::Unknown, printed),
-            Some(
-                NodeStatus {
-                    role: Role::Primary,
-                    generation,
-                    ..
-                },
-            ) => backup_of(world, opening.setup.hosts, generation),
-            Some(
-                NodeStatus {
-                    role: Role::Alone,
-                    ..
-                },
-            ) => {
-                let (inputs, _) = world.settled();
-                self.book.begin_again(alloc, inputs)?;
-                None
-            }
-            Some(_) => return print_refusal(Fault::WrongRole, printed),
-        };
-        let mut plan = Plan::day(alloc, Day::new(alloc, turns, backup));
-        self.play(alloc, world, &mut plan, printed)?;
-        let count = world.node(turns.node).map_or(0, |status| status.count);
-        print_day(&plan, count, &self.tape, &self.book, printed)
-    }
-
     // Makes the events of a plan happen, and traces them.
-    fn play<B: Copies<H> + Drop, H: Drop>(
+    pub(crate) fn play<B: Copies<H> + Drop, H: Drop>(
         &mut self,
         alloc: Global,
         world: &mut World<B, Disk, H>,
@@ -281,127 +242,6 @@ impl Notes {
         )?;
         printed.trace(&self.tape)
     }
-}
-
-// How a day has gone, and what is held up after it.
-#[tactic(auto, using(shell_book::proofs::Adding::adds_more))]
-fn print_day(
-    plan: &Plan,
-    count: u64,
-    tape: &[Played],
-    book: &Book,
-    printed: &mut Printed,
-) -> Result<(), AllocError>
-    ensures { IfOk result (λ _. AddsSome printed.old printed.new) }
-{
-    print_ran(plan, count, printed)?;
-    print_held_up(tape, book, printed)
-}
-
-// How many steps a day has made, and why it ended.
-#[tactic(auto, using(shell_book::proofs::Adding::adds_none))]
-fn print_ran(plan: &Plan, count: u64, printed: &mut Printed) -> Result<(), AllocError>
-    ensures { IfOk result (λ _. AddsSome printed.old printed.new) }
-{
-    match plan.as_day() {
-        Some(day) => {
-            printed.line(&format_args!("ran {} count {count} {}", day.made(), day.ending()))
-        }
-        None => Ok(()),
-    }
-}
-
-// The bytes of a text, each typed at a port.
-fn keys_of(alloc: Global, port: u8, text: Quoted<'_>) -> Result<Vec<Event>, AllocError> {
-    let mut events = Vec::new(alloc);
-    for byte in &text.bytes(alloc)? {
-        events.push(Event::TypeByte { port, byte: *byte })?;
-    }
-    Ok(events)
-}
-
-// The backup of a generation, if it has one: the first of the hosts that is one.
-fn backup_of<B: Copies<H> + Drop, H: Drop>(
-    world: &World<B, Disk, H>,
-    hosts: u8,
-    generation: u32,
-) -> Option<u64>
-    ensures { (c : Course B.State) → Shows B.state B.copied B.machine records_in world.now c
-        → IsFirstBackup B.machine c.world.nodes generation hosts result }
-{
-    for node in 0..u64::from(hosts) {
-        if is_backup(world, node, generation) {
-            return Some(node);
-        }
-    }
-    None
-}
-
-// Whether a node is a backup of this generation.
-#[tactic(auto, using(crate::proofs::Backups::finds))]
-fn is_backup<B: Copies<H> + Drop, H: Drop>(
-    world: &World<B, Disk, H>,
-    node: u64,
-    generation: u32,
-) -> bool
-    ensures { (c : Course B.State) → Shows B.state B.copied B.machine records_in world.now c
-        → FindsBackup B.machine c.world.nodes generation node result }
-{
-    match world.node(node) {
-        Some(
-            NodeStatus {
-                role: Role::Backup,
-                generation: its,
-                ..
-            },
-        ) => its == generation,
-        _ => false,
-    }
-}
-
-// What the disk has in a sector.
-fn show_sector<B: Copies<H> + Drop, H: Drop>(
-    world: &mut World<B, Disk, H>,
-    address: SectorAddress,
-    printed: &mut Printed,
-) -> Result<(), AllocError>
-    ensures { over_records world.new ≡ over_records world.old }
-{
-    print_sector(address, sector_of(world, address), printed)
-}
-
-// Compares what is settled with the single machine.
-fn check<B: Copies<H> + Drop, H: Drop>(
-    alloc: Global,
-    opening: &Opening,
-    world: &mut World<B, Disk, H>,
-    printed: &mut Printed,
-) -> Result<(), AllocError>
-    ensures { over_records world.new ≡ over_records world.old }
-{
-    match compare(alloc, world, &opening.setup.guest, &opening.sectors) {
-        Ok(verdict) => printed.line(&verdict)?,
-        Err(fault) => return print_refusal(fault, printed),
-    }
-    let (inputs, count) = world.settled();
-    if is_unsettled(inputs, count) {
-        return printed.line(&"  nothing is settled so far: no input and no output");
-    }
-    Ok(())
-}
-
-// Whether nothing is settled: no input, and no step that may have given an output.
-fn is_unsettled(inputs: &[Timed], count: u64) -> bool
-    ensures { result ≡ ((count == 0) && (length inputs.now == 0)) }
-{
-    count == 0 && inputs.is_empty()
-}
-
-// How many parts the image of a machine with so many drives has.
-fn parts_of(drives: u8) -> u64
-    ensures { result ≡ part_count drives }
-{
-    257 + 77 * u64::from(drives)
 }
 
 // Says that keys may get lost, if the guest has not run so far and so has not set up its port.

@@ -2,15 +2,15 @@
 ghost use Rattle.event_callbacks.specs.declared.devices.TheConstants.{SENT, SECTOR, WRITTEN};
 ghost use Rattle.event_callbacks.specs.Keeping.{Keeps};
 
+use crate::booting::booted;
+use crate::lists::{list_forms, list_refusals};
 use crate::machine::take_line;
 use crate::notes::Notes;
 use event_callbacks::Completes;
-use i8080_words::Fault;
-use pair_setup::{Altairs, boot};
+use pair_setup::Altairs;
 use shell_book::{Outcome, Printed, refuse};
 use shell_language::{Mistake, ShellLine, read_line};
 use shell_opening::Opening;
-use shell_picture::{print_help, print_refusals};
 use std::alloc::{AllocError, Global};
 
 /// The shell with its pair.
@@ -35,6 +35,8 @@ impl<T: Completes + Drop + Copy, S: Completes + Drop + Copy, W: Completes + Drop
     ghost use Rattle.shell_book.specs.Outcomes.{is_ended};
     ghost use Rattle.shell_book.specs.Tapes.{Begins, trace_text};
     ghost use Rattle.shell_book.specs.declared.outcome.Outcome.TheVariants as outcome;
+    ghost use Rattle.std.specs.Prelude.{is_some};
+    ghost use Rattle.pair_shell.specs.Sessions.{BootsBy, is_setup};
 
     /// A session before its first line.
     pub fn new(alloc: Global) -> Result<Self, AllocError> {
@@ -49,7 +51,7 @@ impl<T: Completes + Drop + Copy, S: Completes + Drop + Copy, W: Completes + Drop
     /// Answers a line, which is without its LF and a CR before that. What it makes happen is on the tape, event by event,
     /// each with its answer; a trace says it line by line. A line that is wrong changes nothing. One that is an event of the
     /// script language makes that event alone, and is answered as a script is.
-    #[tactic(auto, using(crate::proofs::Playing::line_plays, crate::proofs::Playing::line_boots, crate::proofs::Playing::line_plays_nothing, crate::proofs::Tracing::begins_nothing, crate::proofs::Tracing::heeds_said, crate::proofs::Looking::seen_said, crate::proofs::Tracing::ends_said, crate::proofs::Tracing::ends_not, crate::proofs::Tracing::sets_up_said, crate::proofs::Tracing::switches, crate::proofs::Tracing::switches_not))]
+    #[tactic(auto, using(crate::proofs::Playing::line_plays_nothing, crate::proofs::Tracing::begins_nothing, crate::proofs::Tracing::heeds_said, crate::proofs::Looking::seen_said, crate::proofs::Tracing::ends_said, crate::proofs::Tracing::ends_not, crate::proofs::Tracing::sets_up_said, crate::proofs::Tracing::switches, crate::proofs::Tracing::switches_not, crate::proofs::Tracing::late_said))]
     pub fn answer(
         &mut self,
         alloc: Global,
@@ -76,6 +78,8 @@ impl<T: Completes + Drop + Copy, S: Completes + Drop + Copy, W: Completes + Drop
         ensures refused { IfOk result (λ told. told.0 ≡ outcome.Refused → IsAsBefore self.old.opening self.new.opening
             self.old.world self.new.world self.old.notes self.new.notes self.old.is_traced self.new.is_traced) }
         ensures ended { IfOk result (λ told. is_ended told.0 ≡ is_quit (said text.now)) }
+        ensures late { is_setup (said text.now) ≡ true → is_some self.old.world ≡ true
+            → IfOk result (λ told. told.0 ≡ outcome.Refused) }
     {
         self.notes.tape.clear();
         let mut printed = Printed::new(alloc, self.is_traced);
@@ -87,7 +91,7 @@ impl<T: Completes + Drop + Copy, S: Completes + Drop + Copy, W: Completes + Drop
     }
 
     // Does what a line says.
-    #[tactic(auto, using(crate::proofs::Playing::line_plays, crate::proofs::Playing::line_boots, crate::proofs::Playing::line_plays_nothing, crate::proofs::Tracing::begins_nothing))]
+    #[tactic(auto, using(crate::proofs::Playing::line_plays_nothing, crate::proofs::Tracing::begins_nothing))]
     fn take(
         &mut self,
         alloc: Global,
@@ -117,6 +121,8 @@ impl<T: Completes + Drop + Copy, S: Completes + Drop + Copy, W: Completes + Drop
         ensures refused { IfOk result (λ told. told ≡ outcome.Refused → IsAsBefore self.old.opening self.new.opening
             self.old.world self.new.world self.old.notes self.new.notes self.old.is_traced self.new.is_traced) }
         ensures ended { IfOk result (λ told. is_ended told ≡ is_quit (Some line.entry)) }
+        ensures late { is_setup (Some line.entry) ≡ true → is_some self.old.world ≡ true
+            → IfOk result (λ told. told ≡ outcome.Refused) }
     {
         match line {
             ShellLine::Empty => Ok(Outcome::Done),
@@ -124,27 +130,41 @@ impl<T: Completes + Drop + Copy, S: Completes + Drop + Copy, W: Completes + Drop
                 self.is_traced = is_traced;
                 Ok(Outcome::Done)
             }
-            ShellLine::Help => {
-                print_help(printed)?;
-                Ok(Outcome::Done)
-            }
-            ShellLine::Refusals => {
-                print_refusals(printed)?;
-                Ok(Outcome::Done)
-            }
+            ShellLine::Help => list_forms(printed),
+            ShellLine::Refusals => list_refusals(printed),
             ShellLine::Quit => Ok(Outcome::Ended),
             ShellLine::Setup { .. } | ShellLine::SetSector { .. } | ShellLine::Load(_) => {
-                if self.world.is_some() {
-                    return refuse(Mistake::Late { line: text }, printed);
-                }
-                self.opening.take(alloc, text, line, printed)
+                self.take_setup(alloc, text, line, printed)
             }
             line => self.take_event(alloc, sent, sector, written, line, printed),
         }
     }
 
+    // Does what a line of the setup says, unless the pair has booted.
+    fn take_setup(
+        &mut self,
+        alloc: Global,
+        text: &[u8],
+        line: ShellLine<'_>,
+        printed: &mut Printed,
+    ) -> Result<Outcome, AllocError>
+        ensures set { IfOk result (λ told. told ≡ outcome.Done
+            → SetsUp line.entry self.old.opening self.new.opening) }
+        ensures refused { IfOk result (λ told. told ≡ outcome.Refused → IsSame self.old.opening self.new.opening) }
+        ensures late { is_some self.old.world ≡ true → IfOk result (λ told. told ≡ outcome.Refused) }
+        ensures world { self.new.world ≡ self.old.world }
+        ensures notes { self.new.notes ≡ self.old.notes }
+        ensures switched { self.new.is_traced ≡ self.old.is_traced }
+        ensures goes_on { IfOk result (λ told. is_ended told ≡ false) }
+    {
+        if self.world.is_some() {
+            return refuse(Mistake::Late { line: text }, printed);
+        }
+        self.opening.take(alloc, text, line, printed)
+    }
+
     // Does what a line says, other than one of the setup; the pair boots if it has not yet.
-    #[tactic(auto, using(crate::proofs::Playing::line_plays, crate::proofs::Playing::line_boots, crate::proofs::Playing::line_plays_nothing, crate::proofs::Tracing::begins_nothing, crate::proofs::Looking::looked_in))]
+    #[tactic(auto, using(crate::proofs::Playing::line_plays, crate::proofs::Looking::looked_in))]
     fn take_event(
         &mut self,
         alloc: Global,
@@ -177,13 +197,71 @@ impl<T: Completes + Drop + Copy, S: Completes + Drop + Copy, W: Completes + Drop
             take_line(alloc, &mut self.notes, &self.opening, world, line, printed)?;
             return Ok(Outcome::Done);
         }
-        let setup = &self.opening.setup;
-        let sectors = &self.opening.sectors;
-        let mut world = match boot(alloc, setup, sectors, sent, sector, written) {
-            Ok(world) => world,
-            Err(Fault::OutOfMemory) => return Err(AllocError),
-            Err(_) => return refuse(self.opening.detached(), printed),
-        };
+        self.take_first(alloc, sent, sector, written, line, printed)
+    }
+
+    // The same of a pair that has not booted yet.
+    #[tactic(auto, using(crate::proofs::Playing::line_plays_nothing, crate::proofs::Tracing::begins_nothing))]
+    fn take_first(
+        &mut self,
+        alloc: Global,
+        sent: T,
+        sector: S,
+        written: W,
+        line: ShellLine<'_>,
+        printed: &mut Printed,
+    ) -> Result<Outcome, AllocError>
+        requires sent { Keeps (T.may sent) (T.gives sent) SENT }
+        requires sector { Keeps (S.may sector) (S.gives sector) SECTOR }
+        requires written { Keeps (W.may written) (W.gives written) WRITTEN }
+        requires empty { self.old.notes.tape.items ≡ [] }
+        requires blank { string_bytes printed.old.text ≡ [] }
+        requires none { self.old.world ≡ None }
+        ensures played { AltairsPlay (λ d. d.board.guest) self.old.opening self.old.world self.new.notes.tape.items
+            self.new.world }
+        ensures traced { IfOk result (λ _. printed.old.is_traced ≡ true
+            → Begins (trace_text self.new.notes.tape.items) (string_bytes printed.new.text)) }
+        ensures heeded { IfOk result (λ told. told ≡ outcome.Done → IsHeeded line.entry self.new.notes.tape.items
+            printed.old.is_traced (string_bytes printed.old.text) (string_bytes printed.new.text)) }
+        ensures looked { IfOk result (λ told. told ≡ outcome.Done → IsLooked (λ d. d.board.guest) line.entry
+            self.new.notes.tape.items self.new.world printed.old printed.new) }
+        ensures opening { self.new.opening ≡ self.old.opening }
+        ensures goes_on { IfOk result (λ told. is_ended told ≡ false) }
+        ensures switched { self.new.is_traced ≡ self.old.is_traced }
+        ensures refused { IfOk result (λ told. told ≡ outcome.Refused → IsAsBefore self.old.opening self.new.opening
+            self.old.world self.new.world self.old.notes self.new.notes self.old.is_traced self.new.is_traced) }
+    {
+        match booted(alloc, &self.opening, sent, sector, written)? {
+            Some(world) => self.begin(alloc, world, line, printed),
+            None => refuse(self.opening.detached(), printed),
+        }
+    }
+
+    // Does what a line says in a pair that has just booted.
+    #[tactic(auto, using(crate::proofs::Playing::line_boots, crate::proofs::Looking::looked_in))]
+    fn begin(
+        &mut self,
+        alloc: Global,
+        mut world: Altairs<T, S, W>,
+        line: ShellLine<'_>,
+        printed: &mut Printed,
+    ) -> Result<Outcome, AllocError>
+        requires empty { self.old.notes.tape.items ≡ [] }
+        requires blank { string_bytes printed.old.text ≡ [] }
+        requires none { self.old.world ≡ None }
+        requires boots { BootsBy (λ d. d.board.guest) self.old.opening world }
+        ensures played { AltairsPlay (λ d. d.board.guest) self.old.opening self.old.world self.new.notes.tape.items
+            self.new.world }
+        ensures traced { IfOk result (λ _. printed.old.is_traced ≡ true
+            → Begins (trace_text self.new.notes.tape.items) (string_bytes printed.new.text)) }
+        ensures heeded { IfOk result (λ _. IsHeeded line.entry self.new.notes.tape.items printed.old.is_traced
+            (string_bytes printed.old.text) (string_bytes printed.new.text)) }
+        ensures looked { IfOk result (λ _. IsLooked (λ d. d.board.guest) line.entry self.new.notes.tape.items
+            self.new.world printed.old printed.new) }
+        ensures opening { self.new.opening ≡ self.old.opening }
+        ensures switched { self.new.is_traced ≡ self.old.is_traced }
+        ensures done { IfOk result (λ told. told ≡ outcome.Done) }
+    {
         let taken = take_line(
             alloc,
             &mut self.notes,

@@ -1,2 +1,4 @@
 pub mod Searching
 pub mod Flying
+pub mod Joining
+pub mod Waiting

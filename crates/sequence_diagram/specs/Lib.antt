@@ -1,4 +1,6 @@
 pub mod Arrows
+pub mod Columns
 pub mod Geometry
 pub mod Messages
 pub mod Places
+pub mod Waits

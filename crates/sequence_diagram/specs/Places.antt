@@ -1,5 +1,6 @@
 -- Where things happen: the places of an event, of an exchange, and of a message on its way.
-use Rattle.std.specs.Prelude.{◌≡◌, ℕ, ◌+◌, ◌==◌, zero, suc, Bool, true, false, not, if◌then◌else◌, List, [], ◌∷◌, Option, Some, None, MatchOption, Result, Ok, Err, slice_get}
+use Rattle.std.specs.Prelude.{◌≡◌, ℕ, ◌+◌, ◌==◌, zero, suc, Bool, true, false, not, if◌then◌else◌, List, [], ◌∷◌, ◌++◌, Option, Some, None, MatchOption, Result, Ok, Err, slice_get, codes}
+use Rattle.std.specs.Fmt.{decimal}
 use Rattle.i8080_words.specs.declared.refusal.Fault.{Fault}
 use Rattle.i8080_words.specs.declared.refusal.Fault.TheVariants.{Lost}
 use Rattle.pair_events.specs.declared.event.Event.{Event}
@@ -21,6 +22,13 @@ use Rattle.sequence_diagram.specs.declared.place.Place.{Place}
 use Rattle.sequence_diagram.specs.declared.place.Place.TheVariants.{Terminal, Node, Arbiter, Disk}
 
 -- ---- columns
+
+-- the name of a place
+abbrev pub place_text : Place → List ℕ
+place_text (Terminal port) = codes "terminal " ++ decimal port
+place_text (Node node) = codes "node " ++ decimal node
+place_text Arbiter = codes "arbiter"
+place_text Disk = codes "disk"
 
 abbrev pub is_place : Place → Place → Bool
 is_place (Terminal port) (Terminal other) = port == other

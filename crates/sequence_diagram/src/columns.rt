@@ -1,11 +1,15 @@
 //! The columns of a diagram, from left to right: terminals, nodes, the arbiter and the disk, those that take part.
-ghost use Rattle.std.specs.Prelude.{◌≡◌};
+ghost use Rattle.std.specs.Prelude.{◌≡◌, ◌++◌, IfOk};
+ghost use Rattle.std.specs.List.{list_any};
+ghost use Rattle.sequence_diagram.specs.Columns.{answer_port, columns_of, event_port, host_in, hosts_in, is_port, nodes_in, takes_part, used, uses_disk};
 ghost use Rattle.sequence_diagram.specs.Places.{column_of, is_place};
+ghost use Rattle.sequence_diagram.specs.declared.place.Place.TheVariants.{Terminal, Arbiter, Disk};
 
 use crate::moment::Moment;
 use crate::place::Place;
-use event_callbacks::{OpId, PORTS};
+use event_callbacks::OpId;
 use guest_lockstep::StopReason;
+use i8080_words::R;
 use pair_events::{Event, Reply};
 use std::alloc::{AllocError, Global};
 
@@ -15,45 +19,13 @@ pub struct Columns {
     pub places: Vec<Place>,
 }
 
-// Which places take part.
-#[derive(Drop)]
-struct Parts {
-    ports: [bool; PORTS],
-    arbiter: bool,
-    disk: bool,
-}
-
 impl Columns {
     /// The places that take part in a run.
-    pub fn of(alloc: Global, moments: &[Moment]) -> Result<Columns, AllocError> {
-        let mut parts = Parts {
-            ports: [false; PORTS],
-            arbiter: false,
-            disk: false,
-        };
-        let mut nodes = vec![in alloc; Place::Node(0), Place::Node(1)]?;
-        for moment in moments {
-            parts.note(moment);
-            if let (Event::BeginPair { host, .. }, Ok(Reply::Generation { .. })) = (
-                moment.event,
-                moment.answer,
-            ) {
-                nodes.push(Place::Node(host))?;
-            }
-        }
+    pub fn of(alloc: Global, moments: &[Moment]) -> Result<Columns, AllocError>
+        ensures { IfOk result (λ columns. columns.places.items ≡ columns_of moments.now) }
+    {
         let mut places = Vec::new(alloc);
-        for (port, takes_part) in [(0u8, parts.ports[0]), (1u8, parts.ports[1])] {
-            if takes_part {
-                places.push(Place::Terminal(port))?;
-            }
-        }
-        places.extend_from_slice(&nodes)?;
-        if parts.arbiter {
-            places.push(Place::Arbiter)?;
-        }
-        if parts.disk {
-            places.push(Place::Disk)?;
-        }
+        add_all(moments, &mut places)?;
         Ok(Columns { places })
     }
 
@@ -86,41 +58,144 @@ fn is_place(place: Place, other: Place) -> bool
     }
 }
 
-impl Parts {
-    // Notes what takes part in an event.
-    fn note(&mut self, moment: &Moment) {
-        match moment.event {
-            Event::TypeByte { port, .. }
-            | Event::TakeKey { port, .. }
-            | Event::TellSent { port, .. }
-            | Event::Told { port, .. }
-            | Event::Release {
-                id: OpId::Byte(port, _),
-                ..
-            } => self.note_port(port),
-            Event::Arrive { .. } => self.note_port(0),
-            Event::Suspect { .. } => self.arbiter = true,
-            Event::Put { .. } | Event::Get { .. } | Event::Fetch { .. } => self.disk = true,
-            Event::Release {
-                id: OpId::Write(_),
-                ..
-            } => self.disk = true,
-            _ => {}
+// Adds the places of a run to others.
+fn add_all(moments: &[Moment], places: &mut Vec<Place>) -> Result<(), AllocError>
+    ensures { IfOk result (λ _. places.new.items ≡ places.old.items ++ used (Terminal 0) moments.now
+        ++ used (Terminal 1) moments.now ++ nodes_in moments.now ++ used Arbiter moments.now ++ used Disk moments.now) }
+{
+    add_if_used(Place::Terminal(0), moments, places)?;
+    add_if_used(Place::Terminal(1), moments, places)?;
+    add_nodes(moments, places)?;
+    add_if_used(Place::Arbiter, moments, places)?;
+    add_if_used(Place::Disk, moments, places)
+}
+
+// Adds a place, if it takes part.
+fn add_if_used(place: Place, moments: &[Moment], places: &mut Vec<Place>) -> Result<(), AllocError>
+    ensures { IfOk result (λ _. places.new.items ≡ places.old.items ++ used place moments.now) }
+{
+    if is_used(place, moments) {
+        places.push(place)?;
+    }
+    Ok(())
+}
+
+// Whether a place takes part in an event of a run.
+fn is_used(place: Place, moments: &[Moment]) -> bool
+    ensures { result ≡ list_any (takes_part place) moments.now }
+{
+    let mut rest = moments;
+    'moments: while let [moment, after @ ..] = rest {
+        if takes_part(place, moment) {
+            return true;
         }
-        if let Ok(
+        rest = after;
+    }
+    false
+}
+
+// Adds nodes 0 and 1, and the hosts with which pairs have begun.
+#[tactic(auto, using(crate::proofs::Joining::nodes_added))]
+fn add_nodes(moments: &[Moment], places: &mut Vec<Place>) -> Result<(), AllocError>
+    ensures { IfOk result (λ _. places.new.items ≡ places.old.items ++ nodes_in moments.now) }
+{
+    places.push(Place::Node(0))?;
+    places.push(Place::Node(1))?;
+    add_hosts(moments, places)
+}
+
+#[tactic(auto, using(crate::proofs::Joining::host_added, crate::proofs::Joining::hosts_added))]
+fn add_hosts(moments: &[Moment], places: &mut Vec<Place>) -> Result<(), AllocError>
+    ensures { IfOk result (λ _. places.new.items ≡ places.old.items ++ hosts_in moments.now) }
+{
+    let mut rest = moments;
+    'moments: while let [moment, after @ ..] = rest {
+        add_host(moment, places)?;
+        rest = after;
+    }
+    Ok(())
+}
+
+// Adds the host with which a pair has begun at an event, if one has.
+fn add_host(moment: &Moment, places: &mut Vec<Place>) -> Result<(), AllocError>
+    ensures { IfOk result (λ _. places.new.items ≡ places.old.items ++ host_in moment.now) }
+{
+    if let (Event::BeginPair { host, .. }, Ok(Reply::Generation { .. })) = (
+        moment.event,
+        moment.answer,
+    ) {
+        places.push(Place::Node(host))?;
+    }
+    Ok(())
+}
+
+// Whether a place other than a node takes part in an event.
+fn takes_part(place: Place, moment: &Moment) -> bool
+    ensures { result ≡ takes_part place moment.now }
+{
+    match place {
+        Place::Terminal(port) => {
+            is_port(port, event_port(moment.event)) || is_port(port, answer_port(moment.answer))
+        }
+        Place::Node(_) => false,
+        Place::Arbiter => matches!(moment.event, Event::Suspect { .. }),
+        Place::Disk => uses_disk(moment.event),
+    }
+}
+
+fn is_port(port: u8, found: Option<u8>) -> bool
+    ensures { result ≡ is_port port found }
+{
+    match found {
+        Some(other) => other == port,
+        None => false,
+    }
+}
+
+// The port of an event, if it is one of a terminal; where a byte arrives is not known here.
+fn event_port(event: Event) -> Option<u8>
+    ensures { result ≡ event_port event }
+{
+    match event {
+        Event::TypeByte { port, .. }
+        | Event::TakeKey { port, .. }
+        | Event::TellSent { port, .. }
+        | Event::Told { port, .. }
+        | Event::Release {
+            id: OpId::Byte(port, _),
+            ..
+        } => Some(port),
+        Event::Arrive { .. } => Some(0),
+        _ => None,
+    }
+}
+
+// The port of a byte that a guest has given.
+fn answer_port(answer: R<Reply>) -> Option<u8>
+    ensures { result ≡ answer_port answer }
+{
+    match answer {
+        Ok(
             Reply::Ran {
                 why: StopReason::Operation(OpId::Byte(port, _)),
                 ..
             },
-        ) = moment.answer
-        {
-            self.note_port(port);
-        }
+        ) => Some(port),
+        _ => None,
     }
+}
 
-    fn note_port(&mut self, port: u8) {
-        if let Some(takes_part) = self.ports.get_mut(usize::from(port)) {
-            *takes_part = true;
-        }
-    }
+fn uses_disk(event: Event) -> bool
+    ensures { result ≡ uses_disk event }
+{
+    matches!(
+        event,
+        Event::Put { .. }
+            | Event::Get { .. }
+            | Event::Fetch { .. }
+            | Event::Release {
+                id: OpId::Write(_),
+                ..
+            }
+    )
 }

@@ -1,6 +1,6 @@
 //! Where things happen: at a terminal, at a node, at the arbiter or at the disk.
-ghost use Rattle.std.specs.Prelude.{◌≡◌};
-ghost use Rattle.sequence_diagram.specs.Places.{change_node_of, later_node_of, node_of, node_or_terminal, place_of, receiver_by, sender_of};
+ghost use Rattle.std.specs.Prelude.{◌≡◌, Some};
+ghost use Rattle.sequence_diagram.specs.Places.{change_node_of, later_node_of, node_of, node_or_terminal, place_of, place_text, receiver_by, sender_of};
 
 use crate::arrows::arrow_to;
 use crate::moment::{Cargo, Moment};
@@ -18,6 +18,8 @@ pub enum Place {
 }
 
 impl fmt::Display for Place {
+    ghost output = { λ place. Some (place_text place) };
+
     fn fmt<W: fmt::Write>(&self, f: &mut fmt::Formatter<W>) -> fmt::Result {
         match self {
             Place::Terminal(port) => write!(f, "terminal {port}"),

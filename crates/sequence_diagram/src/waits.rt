@@ -1,4 +1,6 @@
 //! What the output rule holds back: what a primary has given and its backup has not acknowledged.
+ghost use Rattle.std.specs.Prelude.{◌≡◌, ◌<◌, [], IfOk, length};
+ghost use Rattle.sequence_diagram.specs.Waits.{AreWaits, HasCargo, StandsThen, acknowledged, after_reads, arrived_by, begun, given, logged_by, noted, noted_by, standing_of, taken};
 
 use crate::arrows::arrow_to;
 use crate::moment::{Cargo, Look, Moment};
@@ -33,64 +35,119 @@ struct Tally {
 }
 
 /// What waits after each event of a run.
-pub fn waits_of(alloc: Global, moments: &[Moment]) -> Result<Vec<Wait>, AllocError> {
-    let mut tally = Tally {
-        node: 0,
-        logged: 0,
-        last_read: 0,
-        held: 0,
-        replayed: 0,
-        waiting: Vec::new(alloc),
-    };
+pub fn waits_of(alloc: Global, moments: &[Moment]) -> Result<Vec<Wait>, AllocError>
+    ensures { IfOk result (λ waits. AreWaits moments.now waits.items) }
+{
+    let mut tally = Tally::new(alloc);
     let mut waits = Vec::new(alloc);
-    for (place, moment) in moments.iter().enumerate() {
-        tally.note(moment)?;
-        if let Some(arrow) = arrow_to(moments, place) {
-            let cargo = match moments.get(arrow.sent) {
-                Some(sent) => sent.cargo,
-                None => None,
-            };
-            tally.note_arrival(moment, cargo);
-        }
-        waits.push(Wait {
-            node: tally.node,
-            operations: tally.waiting.len(),
-        })?;
-    }
+    tally.note_all(moments, &mut waits)?;
     Ok(waits)
 }
 
+// What the message carries that an event has brought.
+#[tactic(auto, using(crate::proofs::Waiting::brings_nothing, crate::proofs::Waiting::brings_lost, crate::proofs::Waiting::brings_cargo))]
+fn cargo_to(moments: &[Moment], place: usize) -> Option<Cargo>
+    ensures { HasCargo moments.now place result }
+{
+    let arrow = arrow_to(moments, place)?;
+    let sent = moments.get(arrow.sent)?;
+    sent.cargo
+}
+
 impl Tally {
-    // Notes what an event has put into the log.
-    fn note(&mut self, moment: &Moment) -> Result<(), AllocError> {
-        let Some(Look { node, role, .. }) = moment.look else {
-            return Ok(());
-        };
-        match moment.answer {
-            Ok(Reply::Generation { .. } | Reply::Won) => self.begin(node),
-            Ok(Reply::Stopped) if node == self.node => self.begin(node),
-            Ok(
-                Reply::Ran {
-                    why: StopReason::Operation(id),
-                    ..
-                },
-            ) if is_primary(role) => {
-                self.node = node;
-                self.give(id)?;
-            }
-            Ok(Reply::Taken) if is_primary(role) => {
-                self.logged = self.logged.saturating_add(1);
-                if matches!(moment.event, Event::GetReply { .. }) {
-                    self.last_read = self.logged;
-                }
-            }
-            _ => {}
+    fn new(alloc: Global) -> Tally
+        ensures { standing_of result ≡ begun 0 }
+    {
+        Tally {
+            node: 0,
+            logged: 0,
+            last_read: 0,
+            held: 0,
+            replayed: 0,
+            waiting: Vec::new(alloc),
+        }
+    }
+
+    // Notes each event of a run, and appends what waits after it.
+    #[tactic(auto, using(crate::proofs::Waiting::waits_all))]
+    fn note_all(&mut self, moments: &[Moment], waits: &mut Vec<Wait>) -> Result<(), AllocError>
+        requires begins { standing_of self.old ≡ begun 0 }
+        requires none { waits.old.items ≡ [] }
+        ensures { IfOk result (λ _. AreWaits moments.now waits.new.items) }
+    {
+        for place in 0..moments.len() {
+            self.note_at(moments, place)?;
+            waits.push(Wait {
+                node: self.node,
+                operations: self.waiting.len(),
+            })?;
         }
         Ok(())
     }
 
+    // Notes the event at a place.
+    #[tactic(auto, using(crate::proofs::Waiting::stands_then))]
+    fn note_at(&mut self, moments: &[Moment], place: usize) -> Result<(), AllocError>
+        requires { place < length moments.now }
+        ensures { IfOk result (λ _. StandsThen moments.now place (standing_of self.old) (standing_of self.new)) }
+    {
+        let moment = &moments[place];
+        self.note(moment)?;
+        self.note_arrival(moment, cargo_to(moments, place));
+        Ok(())
+    }
+
+    // Notes what an event has put into the log.
+    fn note(&mut self, moment: &Moment) -> Result<(), AllocError>
+        ensures { IfOk result (λ _. standing_of self.new ≡ noted moment.now (standing_of self.old)) }
+    {
+        match (moment.look, moment.answer) {
+            (Some(look), Ok(reply)) => self.note_reply(moment.event, reply, look),
+            _ => Ok(()),
+        }
+    }
+
+    // The same, of an event at a node that was not refused.
+    fn note_reply(&mut self, event: Event, reply: Reply, look: Look) -> Result<(), AllocError>
+        ensures { IfOk result (λ _. standing_of self.new
+            ≡ noted_by event reply look.node look.role (standing_of self.old)) }
+    {
+        match reply {
+            Reply::Generation { .. } | Reply::Won => self.begin(look.node),
+            Reply::Stopped if look.node == self.node => self.begin(look.node),
+            other => return self.note_log(event, other, look),
+        }
+        Ok(())
+    }
+
+    // What a primary has put into its log.
+    fn note_log(&mut self, event: Event, reply: Reply, look: Look) -> Result<(), AllocError>
+        ensures { IfOk result (λ _. standing_of self.new
+            ≡ logged_by look.role event reply look.node (standing_of self.old)) }
+    {
+        match (look.role, reply) {
+            (
+                Role::Primary,
+                Reply::Ran {
+                    why: StopReason::Operation(id),
+                    ..
+                },
+            ) => {
+                self.node = look.node;
+                self.give(id)
+            }
+            (Role::Primary, Reply::Taken) => {
+                self.take(event);
+                Ok(())
+            }
+            _ => Ok(()),
+        }
+    }
+
     // A generation begins or ends: nothing waits.
-    fn begin(&mut self, node: u64) {
+    fn begin(&mut self, node: u64)
+        ensures { standing_of self.new ≡ begun node }
+    {
         self.node = node;
         self.logged = 0;
         self.last_read = 0;
@@ -100,35 +157,57 @@ impl Tally {
     }
 
     // An operation is given, and logged. A write waits for the reads before it too.
-    fn give(&mut self, id: OpId) -> Result<(), AllocError> {
-        let after = match id {
-            OpId::Byte(..) => 0,
-            OpId::Write(_) => self.last_read,
-        };
+    fn give(&mut self, id: OpId) -> Result<(), AllocError>
+        ensures { IfOk result (λ _. standing_of self.new ≡ given id (standing_of self.old)) }
+    {
         self.waiting.push(Operation {
             index: self.logged,
-            after,
+            after: after_reads(id, self.last_read),
         })?;
         self.logged = self.logged.saturating_add(1);
         Ok(())
     }
 
-    // An acknowledgement has arrived. One without a report is of a log with all bytes.
-    fn note_arrival(&mut self, moment: &Moment, cargo: Option<Cargo>) {
-        let Some(Cargo::Acknowledgement { held, replayed }) = cargo else {
-            return;
-        };
-        if !matches!(moment.answer, Ok(Reply::Held { .. })) {
-            return;
+    // An input is taken, and logged.
+    fn take(&mut self, event: Event)
+        ensures { standing_of self.new ≡ taken event (standing_of self.old) }
+    {
+        self.logged = self.logged.saturating_add(1);
+        if let Event::GetReply { .. } = event {
+            self.last_read = self.logged;
         }
-        self.held = self.held.max(held);
-        self.replayed = self.replayed.max(replayed.unwrap_or(u64::MAX));
-        let held = self.held;
-        let replayed = self.replayed;
+    }
+
+    // An acknowledgement has arrived. One without a report is of a log with all bytes.
+    fn note_arrival(&mut self, moment: &Moment, cargo: Option<Cargo>)
+        ensures { standing_of self.new ≡ arrived_by moment.now.answer cargo (standing_of self.old) }
+    {
+        if let (Ok(Reply::Held { .. }), Some(Cargo::Acknowledgement { held, replayed })) = (
+            moment.answer,
+            cargo,
+        ) {
+            let held = self.held.max(held);
+            let replayed = self.replayed.max(replayed.unwrap_or(u64::MAX));
+            self.cover(held, replayed);
+        }
+    }
+
+    // What is acknowledged waits no longer.
+    fn cover(&mut self, held: u64, replayed: u64)
+        ensures { standing_of self.new ≡ acknowledged held replayed (standing_of self.old) }
+    {
+        self.held = held;
+        self.replayed = replayed;
         self.waiting.retain(|operation| operation.index >= held || operation.after > replayed);
     }
 }
 
-fn is_primary(role: Role) -> bool {
-    matches!(role, Role::Primary)
+// How many entries must be replayed before an operation is released.
+fn after_reads(id: OpId, reads: u64) -> u64
+    ensures { result ≡ after_reads id reads }
+{
+    match id {
+        OpId::Byte(..) => 0,
+        OpId::Write(_) => reads,
+    }
 }

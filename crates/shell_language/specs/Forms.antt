@@ -14,7 +14,7 @@ pub data Word : Type 0 where
   Exactly : List ℕ → Word
   Quoted : Word
   Record : Word
-  Bytes : Word
+  Bytes : ℕ → Word
 
 -- a form: its first word, the words after that, how it is written, and what it does
 pub record Shape : Type 0 where
@@ -29,7 +29,7 @@ row word words usage meaning = record { word = word; words = words; usage = usag
 -- all forms
 unfoldable pub shapes : List Shape
 shapes =
-    row (codes "mem") (Address ∷ Bytes ∷ []) (codes "mem AAAA HH ..")
+    row (codes "mem") (Address ∷ Bytes 65536 ∷ []) (codes "mem AAAA HH ..")
     (codes "setup: these bytes from this address on")
     ∷ row (codes "load") (Record ∷ []) (codes "load :LLAAAATTDD..CC")
     (codes "setup: a record of Intel HEX; the word load may be left out")
@@ -43,7 +43,7 @@ shapes =
     (codes "setup: 2 to 64 hosts")
     ∷ row (codes "reads") (Exactly (codes "shared") ∷ []) (codes "reads shared")
     (codes "setup: the backup reads sectors from the shared disk itself")
-    ∷ row (codes "sector") (Within 0 3 ∷ Within 0 76 ∷ Within 0 31 ∷ Bytes ∷ []) (codes "sector D T S HH ..")
+    ∷ row (codes "sector") (Within 0 3 ∷ Within 0 76 ∷ Within 0 31 ∷ Bytes 137 ∷ []) (codes "sector D T S HH ..")
     (codes "setup: 137 times one byte, or up to 137 bytes and zeros")
     ∷ row (codes "fail") (Number ∷ []) (codes "fail K")
     (codes "setup: the K-th access of the disk fails")
@@ -166,7 +166,7 @@ word_of kind.Address = Address
 word_of (kind.Exactly text) = Exactly text.now
 word_of kind.Text = Quoted
 word_of kind.Record = Record
-word_of kind.Bytes = Bytes
+word_of (kind.Bytes most) = Bytes most
 
 abbrev pub shape_of : Form → Shape
 shape_of form = record {

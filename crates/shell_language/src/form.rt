@@ -1,10 +1,10 @@
 //! The forms of lines: a table of what the shell takes, which `help` prints.
 
-ghost use Rattle.std.specs.Prelude.{◌≡◌, bytes_eq, if◌then◌else◌, map};
+ghost use Rattle.std.specs.Prelude.{◌≡◌, ◌-◌, bytes_eq, if◌then◌else◌, map};
 ghost use Rattle.std.specs.Option.{option_map};
 ghost use Rattle.script_language.specs.Words.{words_of};
 ghost use Rattle.shell_language.specs.Forms.{shape_of, shapes, word_of};
-ghost use Rattle.shell_language.specs.Mistakes.{after_last, at, flaw_among, flaw_in, flaw_of, further, last_word, misfit, placed, wrong_byte};
+ghost use Rattle.shell_language.specs.Mistakes.{after_last, at, flaw_among, flaw_in, flaw_of, further, is_told, last_word, misfit, placed, wrong_byte};
 
 use crate::kind::Kind;
 use crate::kind::Kind::{Address, Byte, Bytes, Exactly, Number, Record, Text, Within};
@@ -30,14 +30,14 @@ macro_rules! forms {
 // All forms.
 #[rattlefmt::skip]
 static FORMS: [Form; 63] = forms![
-    ["mem", [Address, Bytes], "mem AAAA HH ..", "setup: these bytes from this address on"],
+    ["mem", [Address, Bytes(65_536)], "mem AAAA HH ..", "setup: these bytes from this address on"],
     ["load", [Record], "load :LLAAAATTDD..CC", "setup: a record of Intel HEX; the word load may be left out"],
     ["drives", [Within(1, 4)], "drives N", "setup: 1 to 4 drives"],
     ["levels", [Within(0, 7), Within(0, 7), Within(0, 7)], "levels P Q D", "setup: the levels of port 0, port 1 and the disk, 0 to 7"],
     ["sense", [Byte], "sense HH", "setup: the sense switches"],
     ["hosts", [Within(2, 64)], "hosts N", "setup: 2 to 64 hosts"],
     ["reads", [Exactly("shared")], "reads shared", "setup: the backup reads sectors from the shared disk itself"],
-    ["sector", [Within(0, 3), Within(0, 76), Within(0, 31), Bytes], "sector D T S HH ..", "setup: 137 times one byte, or up to 137 bytes and zeros"],
+    ["sector", [Within(0, 3), Within(0, 76), Within(0, 31), Bytes(137)], "sector D T S HH ..", "setup: 137 times one byte, or up to 137 bytes and zeros"],
     ["fail", [Number], "fail K", "setup: the K-th access of the disk fails"],
     ["step", [Number, Number], "step N K", "node N makes at most K steps"],
     ["type", [Number, Byte], "type P HH", "a byte is typed at port P"],
@@ -104,8 +104,8 @@ pub fn forms() -> &'static [Form]
 }
 
 impl Form {
-    // Of two mistakes the one at the later place: this one, and that of the words after the first for this form, if the first
-    // is its own.
+    // Of two mistakes the one that is told: this one, or that of the words after the first for this form, if the first is
+    // its own.
     fn further<'a>(
         &'static self,
         first: &[u8],
@@ -120,7 +120,7 @@ impl Form {
             return furthest;
         }
         match self.first_wrong(&mut words.again()) {
-            Some(found) if furthest.0 < found.0 => found,
+            Some(found) if is_told(found, furthest) => found,
             Some(_) => furthest,
             None if furthest.0 == 0 => (0, Mistake::Range { form: self }),
             None => furthest,
@@ -163,7 +163,7 @@ impl Form {
         ensures { placed result ≡ after_last (shape_of self.now) (last_word (shape_of self.now)) place words.old }
     {
         match self.last_kind() {
-            Some(Kind::Bytes) => self.wrong_byte(words, place),
+            Some(Kind::Bytes(most)) => self.wrong_byte(words, place, most),
             Some(Kind::Text) => Some((place, Mistake::Text { form: self })),
             _ => {
                 let form = self;
@@ -181,18 +181,29 @@ impl Form {
         self.kinds.last().copied()
     }
 
-    // The first of the words that are left that is no byte.
+    // The first of the words that are left, after one byte, that is no byte, or that is one byte too many.
     fn wrong_byte<'a>(
         &'static self,
         words: &mut Words<'a>,
         first: usize,
+        most: u32,
     ) -> Option<(usize, Mistake<'a>)>
-        ensures { placed result ≡ wrong_byte (shape_of self.now) first words.old }
+        ensures { placed result ≡ wrong_byte (shape_of self.now) most (most - 1) first words.old }
     {
         let form = self;
         let kind = Kind::Byte;
         let mut place = first;
+        let mut left = most.saturating_sub(1);
         'bytes: while let Some(word) = words.next() {
+            if left == 0 {
+                let mistake = Mistake::Surplus {
+                    place,
+                    word,
+                    form,
+                    most,
+                };
+                return Some((place, mistake));
+            }
             if !kind.fits(word) {
                 let mistake = Mistake::Wrong {
                     place,
@@ -202,10 +213,19 @@ impl Form {
                 };
                 return Some((place, mistake));
             }
+            left -= 1;
             place = place.saturating_add(1);
         }
         None
     }
+}
+
+// Whether the first of two mistakes is told: if it is at the later place; or at the same place, if the other is that there is a
+// word too many, where this form expects a number of its range.
+fn is_told<'a>(found: (usize, Mistake<'a>), furthest: (usize, Mistake<'a>)) -> bool
+    ensures { result ≡ is_told (at found.entry) (at furthest.entry) }
+{
+    furthest.0 < found.0 || furthest.0 == found.0 && furthest.1.gives_way(found.1)
 }
 
 /// What is wrong with a line that has no meaning: its first word is none of the forms', or a word does not fit the form

@@ -2,7 +2,7 @@
 
 ghost use Rattle.std.specs.Prelude.{◌≡◌, Some};
 ghost use Rattle.shell_language.specs.Forms.{word_of};
-ghost use Rattle.shell_language.specs.Mistakes.{fits, word_text};
+ghost use Rattle.shell_language.specs.Mistakes.{fits, is_range, word_text};
 
 use script_language::Words;
 use std::fmt;
@@ -24,8 +24,8 @@ pub enum Kind {
     Text,
     /// A record of Intel HEX, which begins with a colon.
     Record,
-    /// Bytes, at least one; they end the line.
-    Bytes,
+    /// Bytes, at least one and at most so many; they end the line.
+    Bytes(u32),
 }
 
 impl Kind {
@@ -40,12 +40,19 @@ impl Kind {
                 Some(number) => u64::from(least) <= number && number <= u64::from(greatest),
                 None => false,
             },
-            Kind::Byte | Kind::Bytes => one.byte().is_some(),
+            Kind::Byte | Kind::Bytes(_) => one.byte().is_some(),
             Kind::Address => one.address().is_some(),
             Kind::Exactly(text) => word == text.as_bytes(),
             Kind::Text => matches!(word, [b'"', ..]),
             Kind::Record => matches!(word, [b':', ..]),
         }
+    }
+
+    /// Whether a number from one to another is expected.
+    pub(crate) fn is_range(self) -> bool
+        ensures { result ≡ is_range (word_of self) }
+    {
+        matches!(self, Kind::Within(..))
     }
 }
 
@@ -56,7 +63,7 @@ impl fmt::Display for Kind {
         match self {
             Kind::Number => f.write_str("a number below 18446744073709551616"),
             Kind::Within(least, greatest) => write!(f, "a number from {least} to {greatest}"),
-            Kind::Byte | Kind::Bytes => f.write_str("a byte of two hexadecimal digits"),
+            Kind::Byte | Kind::Bytes(_) => f.write_str("a byte of two hexadecimal digits"),
             Kind::Address => f.write_str("an address of four hexadecimal digits"),
             Kind::Exactly(text) => write!(f, "the word {text}"),
             Kind::Text => f.write_str("text in double quotes"),

@@ -1,9 +1,9 @@
 //! What is wrong with a line, in the words that the shell prints after `? `.
 
-ghost use Rattle.std.specs.Prelude.{◌++◌, Some};
+ghost use Rattle.std.specs.Prelude.{◌≡◌, ◌++◌, Some};
 ghost use Rattle.std.specs.Fmt.{WritesOnOk};
 ghost use Rattle.shell_language.specs.Forms.{shape_of, word_of};
-ghost use Rattle.shell_language.specs.Mistakes.{Detached, Late, Misfit, Missing, OneTooMany, Unprintable, flaw_of, flaw_text, usage_text};
+ghost use Rattle.shell_language.specs.Mistakes.{Detached, Late, Misfit, Missing, OneTooMany, Surplus, Unprintable, flaw_of, flaw_text, gives_way, is_one_too_many, is_out_of_range, more_text, usage_text};
 
 use crate::form::Form;
 use crate::kind::Kind;
@@ -56,6 +56,13 @@ pub enum Mistake<'a> {
         word: &'a [u8],
         form: &'static Form,
     },
+    /// There is a byte after so many.
+    Surplus {
+        place: usize,
+        word: &'a [u8],
+        form: &'static Form,
+        most: u32,
+    },
     /// The text does not end with a quote, or has a backslash before another character.
     Text {
         form: &'static Form,
@@ -78,6 +85,30 @@ pub enum Mistake<'a> {
     },
 }
 
+impl Mistake<'_> {
+    // Whether this is that there is a word too many, and the other that it is out of a number's range.
+    pub(crate) fn gives_way(self, other: Mistake<'_>) -> bool
+        ensures { result ≡ gives_way (flaw_of self.entry) (flaw_of other.entry) }
+    {
+        self.is_one_too_many() && other.is_out_of_range()
+    }
+
+    fn is_one_too_many(self) -> bool
+        ensures { result ≡ is_one_too_many (flaw_of self.entry) }
+    {
+        matches!(self, Mistake::OneTooMany { .. })
+    }
+
+    fn is_out_of_range(self) -> bool
+        ensures { result ≡ is_out_of_range (flaw_of self.entry) }
+    {
+        match self {
+            Mistake::Wrong { kind, .. } => kind.is_range(),
+            _ => false,
+        }
+    }
+}
+
 impl fmt::Display for Mistake<'_> {
     ghost output = { λ mistake. Some (flaw_text (flaw_of mistake)) };
 
@@ -96,17 +127,33 @@ impl fmt::Display for Mistake<'_> {
                 form,
                 kind,
             } => write_wrong(f, place, word, form, kind),
-            Mistake::OneTooMany { place, word, form } => write_too_many(f, place, word, form),
-            Mistake::Text { form } => write_words(f, TEXT, form),
-            Mistake::Range { form } => write_words(f, RANGE, form),
-            Mistake::Record(mistake) => write!(f, "{mistake}"),
-            Mistake::Late { line } => write_late(f, line),
-            Mistake::Detached {
-                drive,
-                track,
-                sector,
-            } => write_detached(f, drive, track, sector),
+            other => write_more(f, other),
         }
+    }
+}
+
+// A line in which there is too much, or that is not what its words say.
+fn write_more<W: fmt::Write>(f: &mut fmt::Formatter<W>, mistake: Mistake<'_>) -> fmt::Result
+    ensures { WritesOnOk W.write_str_gives f.old result (more_text (flaw_of mistake.entry)) f.new }
+{
+    match mistake {
+        Mistake::OneTooMany { place, word, form } => write_too_many(f, place, word, form),
+        Mistake::Surplus {
+            place,
+            word,
+            form,
+            most,
+        } => write_surplus(f, place, word, form, most),
+        Mistake::Text { form } => write_words(f, TEXT, form),
+        Mistake::Range { form } => write_words(f, RANGE, form),
+        Mistake::Record(mistake) => write!(f, "{mistake}"),
+        Mistake::Late { line } => write_late(f, line),
+        Mistake::Detached {
+            drive,
+            track,
+            sector,
+        } => write_detached(f, drive, track, sector),
+        _ => Ok(()),
     }
 }
 
@@ -163,6 +210,24 @@ fn write_too_many<W: fmt::Write>(
 {
     let word = Shown(word);
     write!(f, "word {place}, {word}, is one too many")?;
+    write_usage(f, form)
+}
+
+fn write_surplus<W: fmt::Write>(
+    f: &mut fmt::Formatter<W>,
+    place: usize,
+    word: &[u8],
+    form: &Form,
+    most: u32,
+) -> fmt::Result
+    ensures { WritesOnOk W.write_str_gives f.old result
+        (flaw_text (Surplus place word.now (shape_of form.now) most)) f.new }
+{
+    let word = Shown(word);
+    write!(
+        f,
+        "word {place}, {word}, is one too many: at most {most} bytes are expected"
+    )?;
     write_usage(f, form)
 }
 

@@ -4,7 +4,7 @@ use Rattle.ft_world.specs.Applies.{Shows}
 use Rattle.ft_world.specs.Standing.{Course}
 use Rattle.shared_disk.specs.Failing.{records_in}
 use Rattle.pair_shell.specs.Backups.{FindsBackup}
-use Rattle.pair_shell.proofs.notes.backup_of.Given as goal
+use Rattle.pair_shell.proofs.running.backup_of.Given as goal
 
 abbrev pub invariant-loop-node : goal.invariant-loop-node
 invariant-loop-node g l =

@@ -1,0 +1,23 @@
+//! The lists that a session prints.
+ghost use Rattle.std.specs.Prelude.{◌≡◌, IfOk};
+ghost use Rattle.shell_book.specs.declared.outcome.Outcome.TheVariants as outcome;
+
+use shell_book::{Outcome, Printed};
+use shell_picture::{print_help, print_refusals};
+use std::alloc::AllocError;
+
+/// All forms of lines.
+pub fn list_forms(printed: &mut Printed) -> Result<Outcome, AllocError>
+    ensures { IfOk result (λ told. told ≡ outcome.Done) }
+{
+    print_help(printed)?;
+    Ok(Outcome::Done)
+}
+
+/// All refusals of events.
+pub fn list_refusals(printed: &mut Printed) -> Result<Outcome, AllocError>
+    ensures { IfOk result (λ told. told ≡ outcome.Done) }
+{
+    print_refusals(printed)?;
+    Ok(Outcome::Done)
+}

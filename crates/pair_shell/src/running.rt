@@ -1,0 +1,170 @@
+//! The ordinary day of a pair.
+ghost use Rattle.std.specs.Prelude.{◌≡◌, ◌++◌, [], true, IfOk, string_bytes};
+ghost use Rattle.ft_world.specs.Applies.{Shows};
+ghost use Rattle.ft_world.specs.Standing.{Course};
+ghost use Rattle.shared_disk.specs.Failing.{records_in};
+ghost use Rattle.pair_shell.specs.Backups.{FindsBackup, HasDay, IsFirstBackup};
+ghost use Rattle.pair_shell.specs.Days.{ran_rows};
+ghost use Rattle.pair_shell.specs.Playing.{Plays};
+ghost use Rattle.shell_book.specs.Texts.{AddsSome, Prints};
+ghost use Rattle.shell_book.specs.Tapes.{Begins, trace_text};
+ghost use Rattle.shell_picture.specs.HeldUp.{held_rows};
+
+use crate::notes::Notes;
+use clone_state::Copies;
+use ft_world::{NodeStatus, World};
+use i8080_words::{Fault, R};
+use pair_events::Role;
+use shared_disk::Disk;
+use shell_book::{Book, Played, Printed};
+use shell_day::{Day, Plan};
+use shell_language::Turns;
+use shell_opening::Opening;
+use shell_picture::{print_held_up, print_refusal};
+use std::alloc::{AllocError, Global};
+
+impl Notes {
+    /// The ordinary day of a pair.
+    #[tactic(auto, using(crate::proofs::Playing::plays_nothing, crate::proofs::Tracing::begins_nothing))]
+    pub(crate) fn run<B: Copies<H> + Drop, H: Drop>(
+        &mut self,
+        alloc: Global,
+        opening: &Opening,
+        world: &mut World<B, Disk, H>,
+        turns: Turns,
+        printed: &mut Printed,
+    ) -> Result<(), AllocError>
+        requires { self.old.tape.items ≡ [] }
+        ensures played { Plays B.state B.copied B.machine world.old self.new.tape.items world.new }
+        ensures traced { IfOk result (λ _. printed.old.is_traced ≡ true → string_bytes printed.old.text ≡ []
+            → Begins (trace_text self.new.tape.items) (string_bytes printed.new.text)) }
+    {
+        match self.backup_for(alloc, opening, world, turns.node)? {
+            Ok(backup) => self.play_day(alloc, world, turns, backup, printed),
+            Err(fault) => print_refusal(fault, printed),
+        }
+    }
+
+    // The backup of a node's day, if it has one; or why the node has no day. One that is alone begins again.
+    #[tactic(auto, using(crate::proofs::Backups::day_of_none, crate::proofs::Backups::day_of_primary, crate::proofs::Backups::day_of_alone, crate::proofs::Backups::day_of_other))]
+    fn backup_for<B: Copies<H> + Drop, H: Drop>(
+        &mut self,
+        alloc: Global,
+        opening: &Opening,
+        world: &World<B, Disk, H>,
+        node: u64,
+    ) -> Result<R<Option<u64>>, AllocError>
+        ensures tape { self.new.tape ≡ self.old.tape }
+        ensures found { IfOk result (λ found. (c : Course B.State) → Shows B.state B.copied B.machine records_in world.now c
+            → HasDay B.machine c.world.nodes opening.now.setup.hosts node found) }
+    {
+        let Some(status) = world.node(node) else {
+            return Ok(Err(Fault::Unknown));
+        };
+        match status.role {
+            Role::Primary => Ok(Ok(backup_of(world, opening.setup.hosts, status.generation))),
+            Role::Alone => {
+                let (inputs, _) = world.settled();
+                self.book.begin_again(alloc, inputs)?;
+                Ok(Ok(None))
+            }
+            _ => Ok(Err(Fault::WrongRole)),
+        }
+    }
+
+    // A day of so many turns, and how it has gone.
+    fn play_day<B: Copies<H> + Drop, H: Drop>(
+        &mut self,
+        alloc: Global,
+        world: &mut World<B, Disk, H>,
+        turns: Turns,
+        backup: Option<u64>,
+        printed: &mut Printed,
+    ) -> Result<(), AllocError>
+        ensures played { Plays B.state B.copied B.machine world.old self.new.tape.items world.new }
+        ensures traced { IfOk result (λ _. printed.old.is_traced ≡ true → string_bytes printed.old.text ≡ []
+            → Begins (trace_text self.new.tape.items) (string_bytes printed.new.text)) }
+    {
+        let mut plan = Plan::day(alloc, Day::new(alloc, turns, backup));
+        self.play(alloc, world, &mut plan, printed)?;
+        let count = count_of(world, turns.node);
+        print_day(&plan, count, &self.tape, &self.book, printed)
+    }
+}
+
+// How many steps a node shows that it has made.
+fn count_of<B: Copies<H> + Drop, H: Drop>(world: &World<B, Disk, H>, node: u64) -> u64 {
+    match world.node(node) {
+        Some(status) => status.count,
+        None => 0,
+    }
+}
+
+// How a day has gone, and what is held up after it.
+#[tactic(auto, using(shell_book::proofs::Adding::adds_more, shell_book::proofs::Adding::prints_then))]
+fn print_day(
+    plan: &Plan,
+    count: u64,
+    tape: &[Played],
+    book: &Book,
+    printed: &mut Printed,
+) -> Result<(), AllocError>
+    ensures some { IfOk result (λ _. AddsSome printed.old printed.new) }
+    ensures told { IfOk result (λ _. Prints (ran_rows plan.now.day count ++ held_rows tape.now book.now) printed.old printed.new) }
+{
+    print_ran(plan, count, printed)?;
+    print_held_up(tape, book, printed)
+}
+
+// How many steps a day has made, and why it ended.
+#[tactic(auto, using(shell_book::proofs::Adding::adds_none, crate::proofs::Days::tells_ran, crate::proofs::Days::tells_no_day))]
+fn print_ran(plan: &Plan, count: u64, printed: &mut Printed) -> Result<(), AllocError>
+    ensures some { IfOk result (λ _. AddsSome printed.old printed.new) }
+    ensures told { IfOk result (λ _. Prints (ran_rows plan.now.day count) printed.old printed.new) }
+{
+    match plan.as_day() {
+        Some(day) => {
+            printed.line(&format_args!("ran {} count {count} {}", day.made(), day.ending()))
+        }
+        None => Ok(()),
+    }
+}
+
+// The backup of a generation, if it has one: the first of the hosts that is one.
+fn backup_of<B: Copies<H> + Drop, H: Drop>(
+    world: &World<B, Disk, H>,
+    hosts: u8,
+    generation: u32,
+) -> Option<u64>
+    ensures { (c : Course B.State) → Shows B.state B.copied B.machine records_in world.now c
+        → IsFirstBackup B.machine c.world.nodes generation hosts result }
+{
+    for node in 0..u64::from(hosts) {
+        if is_backup(world, node, generation) {
+            return Some(node);
+        }
+    }
+    None
+}
+
+// Whether a node is a backup of this generation.
+#[tactic(auto, using(crate::proofs::Backups::finds))]
+fn is_backup<B: Copies<H> + Drop, H: Drop>(
+    world: &World<B, Disk, H>,
+    node: u64,
+    generation: u32,
+) -> bool
+    ensures { (c : Course B.State) → Shows B.state B.copied B.machine records_in world.now c
+        → FindsBackup B.machine c.world.nodes generation node result }
+{
+    match world.node(node) {
+        Some(
+            NodeStatus {
+                role: Role::Backup,
+                generation: its,
+                ..
+            },
+        ) => its == generation,
+        _ => false,
+    }
+}
