@@ -15,8 +15,8 @@ pub struct Columns {
     pub places: Vec<Place>,
 }
 
-// Which places take part.
-#[derive(Drop)]
+// Which places take part, besides nodes.
+#[derive(Clone, Copy)]
 struct Parts {
     ports: [bool; PORTS],
     arbiter: bool,
@@ -26,34 +26,11 @@ struct Parts {
 impl Columns {
     /// The places that take part in a run.
     pub fn of(alloc: Global, moments: &[Moment]) -> Result<Columns, AllocError> {
-        let mut parts = Parts {
-            ports: [false; PORTS],
-            arbiter: false,
-            disk: false,
-        };
-        let mut nodes = vec![in alloc; Place::Node(0), Place::Node(1)]?;
-        for moment in moments {
-            parts.note(moment);
-            if let (Event::BeginPair { host, .. }, Ok(Reply::Generation { .. })) = (
-                moment.event,
-                moment.answer,
-            ) {
-                nodes.push(Place::Node(host))?;
-            }
-        }
+        let parts = Parts::of(moments);
         let mut places = Vec::new(alloc);
-        for (port, takes_part) in [(0u8, parts.ports[0]), (1u8, parts.ports[1])] {
-            if takes_part {
-                places.push(Place::Terminal(port))?;
-            }
-        }
-        places.extend_from_slice(&nodes)?;
-        if parts.arbiter {
-            places.push(Place::Arbiter)?;
-        }
-        if parts.disk {
-            places.push(Place::Disk)?;
-        }
+        push_terminals(&mut places, parts)?;
+        push_nodes(&mut places, moments)?;
+        push_devices(&mut places, parts)?;
         Ok(Columns { places })
     }
 
@@ -74,6 +51,42 @@ impl Columns {
     }
 }
 
+// Appends the terminals that take part.
+fn push_terminals(places: &mut Vec<Place>, parts: Parts) -> Result<(), AllocError> {
+    for (port, takes_part) in [(0u8, parts.ports[0]), (1u8, parts.ports[1])] {
+        if takes_part {
+            places.push(Place::Terminal(port))?;
+        }
+    }
+    Ok(())
+}
+
+// Appends the nodes: the first pair, and each host with which a new pair began.
+fn push_nodes(places: &mut Vec<Place>, moments: &[Moment]) -> Result<(), AllocError> {
+    places.push(Place::Node(0))?;
+    places.push(Place::Node(1))?;
+    for moment in moments {
+        if let (Event::BeginPair { host, .. }, Ok(Reply::Generation { .. })) = (
+            moment.event,
+            moment.answer,
+        ) {
+            places.push(Place::Node(host))?;
+        }
+    }
+    Ok(())
+}
+
+// Appends the arbiter and the disk, if they take part.
+fn push_devices(places: &mut Vec<Place>, parts: Parts) -> Result<(), AllocError> {
+    if parts.arbiter {
+        places.push(Place::Arbiter)?;
+    }
+    if parts.disk {
+        places.push(Place::Disk)?;
+    }
+    Ok(())
+}
+
 // Whether two places are the same.
 fn is_place(place: Place, other: Place) -> bool
     ensures { result ≡ is_place place other }
@@ -87,6 +100,19 @@ fn is_place(place: Place, other: Place) -> bool
 }
 
 impl Parts {
+    // What takes part in a run.
+    fn of(moments: &[Moment]) -> Parts {
+        let mut parts = Parts {
+            ports: [false; PORTS],
+            arbiter: false,
+            disk: false,
+        };
+        for moment in moments {
+            parts.note(moment);
+        }
+        parts
+    }
+
     // Notes what takes part in an event.
     fn note(&mut self, moment: &Moment) {
         match moment.event {

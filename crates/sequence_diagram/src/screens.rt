@@ -1,7 +1,7 @@
 //! What a terminal has accepted in the end.
 
 use crate::arrows::arrow_to;
-use crate::cargo::write_byte;
+use crate::cargo::Byte;
 use crate::moment::{Cargo, Moment};
 use pair_events::Reply;
 use std::fmt;
@@ -30,33 +30,41 @@ impl Accepted<'_> {
             _ => None,
         }
     }
-}
 
-impl fmt::Display for Accepted<'_> {
-    fn fmt<W: fmt::Write>(&self, f: &mut fmt::Formatter<W>) -> fmt::Result {
+    // How many bytes were accepted.
+    fn count(&self) -> usize {
         let mut count = 0usize;
         for place in 0..self.moments.len() {
             if self.byte(place).is_some() {
                 count = count.saturating_add(1);
             }
         }
-        if count == 0 {
-            return write!(f, "terminal {} has accepted nothing", self.port);
-        }
-        write!(f, "terminal {} has accepted", self.port)?;
-        if count > SHOWN {
-            f.write_str(" ..")?;
-        }
+        count
+    }
+
+    // Writes the last bytes that were accepted, of so many.
+    fn write_last<W: fmt::Write>(&self, f: &mut fmt::Formatter<W>, count: usize) -> fmt::Result {
         let mut index = 0usize;
         for place in 0..self.moments.len() {
             if let Some(byte) = self.byte(place) {
                 index = index.saturating_add(1);
                 if index.saturating_add(SHOWN) > count {
-                    f.write_str(" ")?;
-                    write_byte(f, byte)?;
+                    write!(f, " {}", Byte(byte))?;
                 }
             }
         }
         Ok(())
+    }
+}
+
+impl fmt::Display for Accepted<'_> {
+    fn fmt<W: fmt::Write>(&self, f: &mut fmt::Formatter<W>) -> fmt::Result {
+        let count = self.count();
+        if count == 0 {
+            return write!(f, "terminal {} has accepted nothing", self.port);
+        }
+        let before = if count > SHOWN { " .." } else { "" };
+        write!(f, "terminal {} has accepted{before}", self.port)?;
+        self.write_last(f, count)
     }
 }

@@ -34,33 +34,43 @@ struct Tally {
 
 /// What waits after each event of a run.
 pub fn waits_of(alloc: Global, moments: &[Moment]) -> Result<Vec<Wait>, AllocError> {
-    let mut tally = Tally {
-        node: 0,
-        logged: 0,
-        last_read: 0,
-        held: 0,
-        replayed: 0,
-        waiting: Vec::new(alloc),
-    };
+    let mut tally = Tally::new(alloc);
     let mut waits = Vec::new(alloc);
-    for (place, moment) in moments.iter().enumerate() {
-        tally.note(moment)?;
-        if let Some(arrow) = arrow_to(moments, place) {
-            let cargo = match moments.get(arrow.sent) {
-                Some(sent) => sent.cargo,
-                None => None,
-            };
-            tally.note_arrival(moment, cargo);
-        }
-        waits.push(Wait {
-            node: tally.node,
-            operations: tally.waiting.len(),
-        })?;
-    }
+    tally.note_all(moments, &mut waits)?;
     Ok(waits)
 }
 
+// What the message carries that an event has brought.
+fn cargo_to(moments: &[Moment], place: usize) -> Option<Cargo> {
+    let arrow = arrow_to(moments, place)?;
+    moments.get(arrow.sent)?.cargo
+}
+
 impl Tally {
+    fn new(alloc: Global) -> Tally {
+        Tally {
+            node: 0,
+            logged: 0,
+            last_read: 0,
+            held: 0,
+            replayed: 0,
+            waiting: Vec::new(alloc),
+        }
+    }
+
+    // Notes each event of a run, and appends what waits after it.
+    fn note_all(&mut self, moments: &[Moment], waits: &mut Vec<Wait>) -> Result<(), AllocError> {
+        for (place, moment) in moments.iter().enumerate() {
+            self.note(moment)?;
+            self.note_arrival(moment, cargo_to(moments, place));
+            waits.push(Wait {
+                node: self.node,
+                operations: self.waiting.len(),
+            })?;
+        }
+        Ok(())
+    }
+
     // Notes what an event has put into the log.
     fn note(&mut self, moment: &Moment) -> Result<(), AllocError> {
         let Some(Look { node, role, .. }) = moment.look else {
