@@ -4,8 +4,9 @@ ghost use Rattle.sequence_diagram.specs.Places.{column_of, is_place};
 
 use crate::moment::Moment;
 use crate::place::Place;
-use event_callbacks::{OpId, PORTS};
+use event_callbacks::OpId;
 use guest_lockstep::StopReason;
+use i8080_words::R;
 use pair_events::{Event, Reply};
 use std::alloc::{AllocError, Global};
 
@@ -18,7 +19,8 @@ pub struct Columns {
 // Which places take part, besides nodes.
 #[derive(Clone, Copy)]
 struct Parts {
-    ports: [bool; PORTS],
+    terminal_0: bool,
+    terminal_1: bool,
     arbiter: bool,
     disk: bool,
 }
@@ -53,10 +55,11 @@ impl Columns {
 
 // Appends the terminals that take part.
 fn push_terminals(places: &mut Vec<Place>, parts: Parts) -> Result<(), AllocError> {
-    for (port, takes_part) in [(0u8, parts.ports[0]), (1u8, parts.ports[1])] {
-        if takes_part {
-            places.push(Place::Terminal(port))?;
-        }
+    if parts.terminal_0 {
+        places.push(Place::Terminal(0))?;
+    }
+    if parts.terminal_1 {
+        places.push(Place::Terminal(1))?;
     }
     Ok(())
 }
@@ -103,7 +106,8 @@ impl Parts {
     // What takes part in a run.
     fn of(moments: &[Moment]) -> Parts {
         let mut parts = Parts {
-            ports: [false; PORTS],
+            terminal_0: false,
+            terminal_1: false,
             arbiter: false,
             disk: false,
         };
@@ -119,34 +123,42 @@ impl Parts {
             Event::TypeByte { port, .. }
             | Event::TakeKey { port, .. }
             | Event::TellSent { port, .. }
-            | Event::Told { port, .. }
-            | Event::Release {
-                id: OpId::Byte(port, _),
-                ..
-            } => self.note_port(port),
+            | Event::Told { port, .. } => self.note_port(port),
             Event::Arrive { .. } => self.note_port(0),
             Event::Suspect { .. } => self.arbiter = true,
             Event::Put { .. } | Event::Get { .. } | Event::Fetch { .. } => self.disk = true,
-            Event::Release {
-                id: OpId::Write(_),
-                ..
-            } => self.disk = true,
+            Event::Release { id, .. } => self.note_device(id),
             _ => {}
         }
+        self.note_given(moment.answer);
+    }
+
+    // Notes the device of an operation that is sent.
+    fn note_device(&mut self, id: OpId) {
+        match id {
+            OpId::Byte(port, _) => self.note_port(port),
+            OpId::Write(_) => self.disk = true,
+        }
+    }
+
+    // Notes the terminal of a byte that a machine has given.
+    fn note_given(&mut self, answer: R<Reply>) {
         if let Ok(
             Reply::Ran {
                 why: StopReason::Operation(OpId::Byte(port, _)),
                 ..
             },
-        ) = moment.answer
+        ) = answer
         {
             self.note_port(port);
         }
     }
 
     fn note_port(&mut self, port: u8) {
-        if let Some(takes_part) = self.ports.get_mut(usize::from(port)) {
-            *takes_part = true;
+        match port {
+            0 => self.terminal_0 = true,
+            1 => self.terminal_1 = true,
+            _ => {}
         }
     }
 }

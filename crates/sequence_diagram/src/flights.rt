@@ -1,9 +1,9 @@
-//! The way of a message from place to place.
+//! The way of a message from place to place, and what it carries.
 ghost use Rattle.std.specs.Prelude.{◌≡◌};
 ghost use Rattle.sequence_diagram.specs.Places.{HasFlight, is_other};
 
 use crate::arrows::{arrow_to, departure_from};
-use crate::moment::Moment;
+use crate::moment::{Cargo, Moment};
 use crate::place::{Place, receiver_of, sender_of};
 
 /// The way of a message that arrived: from where to where, the place in the run of the event that sent it, and whether it
@@ -41,4 +41,10 @@ fn is_other(came: Option<usize>, place: usize) -> bool
         Some(came) => came != place,
         None => true,
     }
+}
+
+/// What the message carries that an event has brought.
+pub fn cargo_to(moments: &[Moment], place: usize) -> Option<Cargo> {
+    let arrow = arrow_to(moments, place)?;
+    moments.get(arrow.sent)?.cargo
 }

@@ -107,7 +107,8 @@ fn write_operation<W: fmt::Write>(f: &mut fmt::Formatter<W>, words: &str, id: Op
 
 // A byte of a port that is named, since it is not port 0.
 fn write_byte_of<W: fmt::Write>(f: &mut fmt::Formatter<W>, port: u8, number: u64) -> fmt::Result {
-    write!(f, " byte {number} of port {port}")
+    write_number(f, " byte", number)?;
+    write_number(f, " of port", u64::from(port))
 }
 
 // An event by itself: what it would do, or has done.

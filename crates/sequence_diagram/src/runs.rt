@@ -86,11 +86,10 @@ fn taker_of(moments: &[Moment], first: usize, port: u8) -> Option<u64> {
 
 /// Whether an event has sent or brought a part of a copy.
 pub fn is_part(moment: &Moment) -> bool {
-    moment.answer.is_ok()
-        && matches!(
-            moment.event,
-            Event::SendPart { .. } | Event::PartComes { .. }
-        )
+    match (moment.event, moment.answer) {
+        (Event::SendPart { .. } | Event::PartComes { .. }, Ok(_)) => true,
+        _ => false,
+    }
 }
 
 /// The port at which an event has typed a key or taken one.

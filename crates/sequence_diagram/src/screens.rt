@@ -1,7 +1,7 @@
 //! What a terminal has accepted in the end.
 
-use crate::arrows::arrow_to;
 use crate::cargo::Byte;
+use crate::flights::cargo_to;
 use crate::moment::{Cargo, Moment};
 use pair_events::Reply;
 use std::fmt;
@@ -19,14 +19,18 @@ pub struct Accepted<'a> {
 impl Accepted<'_> {
     // The byte that was accepted at a place of the run.
     fn byte(&self, place: usize) -> Option<u8> {
-        let moment = self.moments.get(place)?;
-        if !matches!(moment.answer, Ok(Reply::Accepted)) {
-            return None;
+        match self.moments.get(place)?.answer {
+            Ok(Reply::Accepted) => self.carried(place),
+            _ => None,
         }
-        let arrow = arrow_to(self.moments, place)?;
-        let sent = self.moments.get(arrow.sent)?;
-        match sent.cargo {
-            Some(Cargo::Byte { port, byte, .. }) if port == self.port => Some(byte),
+    }
+
+    // The byte for this terminal that the event at a place of the run brought.
+    fn carried(&self, place: usize) -> Option<u8> {
+        match cargo_to(self.moments, place) {
+            Some(Cargo::Byte { port, byte, .. }) => {
+                if port == self.port { Some(byte) } else { None }
+            }
             _ => None,
         }
     }

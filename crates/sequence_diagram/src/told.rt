@@ -1,7 +1,8 @@
 //! What is said of an event that takes what happened before it into account: which byte a key is, and what the disk had already.
 
-use crate::arrows::{arrow_to, sent_before};
+use crate::arrows::sent_before;
 use crate::cargo::{write_key, write_number, write_number_and};
+use crate::flights::cargo_to;
 use crate::moment::{Cargo, Moment, delivered};
 use crate::notes::{Note, write_reason};
 use disk_dcdd::SectorAddress;
@@ -64,10 +65,14 @@ fn write_stray<W: fmt::Write>(f: &mut fmt::Formatter<W>, message: u64) -> fmt::R
 
 // The byte of the key that an event takes, or would take; none if no key of that index was typed before.
 fn byte_at(moments: &[Moment], place: usize) -> Option<u8> {
-    let moment = moments.get(place)?;
-    let Event::TakeKey { port, index, .. } = moment.event else {
-        return None;
-    };
+    match moments.get(place)?.event {
+        Event::TakeKey { port, index, .. } => byte_before(moments, place, port, index),
+        _ => None,
+    }
+}
+
+// The byte that was typed before a place of a run as the key of this index of a terminal.
+fn byte_before(moments: &[Moment], place: usize, port: u8, index: u64) -> Option<u8> {
     for before in 0..place {
         if let Some(byte) = typed_at(moments, before, port, index) {
             return Some(byte);
@@ -76,12 +81,17 @@ fn byte_at(moments: &[Moment], place: usize) -> Option<u8> {
     None
 }
 
-// The byte that was typed at a place of a run, if it is the key of this index of that terminal.
+// The byte that was typed at a place of a run, if it is that key.
 fn typed_at(moments: &[Moment], place: usize, port: u8, index: u64) -> Option<u8> {
     let moment = moments.get(place)?;
     match (moment.event, moment.answer) {
-        (Event::TypeByte { port: other, byte }, Ok(Reply::Typed { index: typed }))
-            if other == port && typed == index => { Some(byte) }
+        (Event::TypeByte { port: other, byte }, Ok(Reply::Typed { index: typed })) => {
+            if other == port && typed == index {
+                Some(byte)
+            } else {
+                None
+            }
+        }
         _ => None,
     }
 }
@@ -119,12 +129,15 @@ impl fmt::Display for Kept<'_> {
 // The write that the event at a place of a run brought to the disk, if the disk has answered it.
 fn arrival_at(moments: &[Moment], place: usize) -> Option<Arrival> {
     let moment = moments.get(place)?;
-    let (Event::Put { .. }, Ok(_)) = (moment.event, moment.answer) else {
-        return None;
-    };
-    let arrow = arrow_to(moments, place)?;
-    let sent = moments.get(arrow.sent)?;
-    match sent.cargo {
+    match (moment.event, moment.answer) {
+        (Event::Put { .. }, Ok(_)) => write_to(moments, place),
+        _ => None,
+    }
+}
+
+// The write that an event has brought.
+fn write_to(moments: &[Moment], place: usize) -> Option<Arrival> {
+    match cargo_to(moments, place) {
         Some(Cargo::Write { number, address }) => Some(Arrival { number, address }),
         _ => None,
     }

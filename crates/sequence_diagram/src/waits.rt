@@ -1,6 +1,6 @@
 //! What the output rule holds back: what a primary has given and its backup has not acknowledged.
 
-use crate::arrows::arrow_to;
+use crate::flights::cargo_to;
 use crate::moment::{Cargo, Look, Moment};
 use event_callbacks::OpId;
 use guest_lockstep::StopReason;
@@ -38,12 +38,6 @@ pub fn waits_of(alloc: Global, moments: &[Moment]) -> Result<Vec<Wait>, AllocErr
     let mut waits = Vec::new(alloc);
     tally.note_all(moments, &mut waits)?;
     Ok(waits)
-}
-
-// What the message carries that an event has brought.
-fn cargo_to(moments: &[Moment], place: usize) -> Option<Cargo> {
-    let arrow = arrow_to(moments, place)?;
-    moments.get(arrow.sent)?.cargo
 }
 
 impl Tally {
