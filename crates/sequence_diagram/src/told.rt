@@ -1,4 +1,6 @@
 //! What is said of an event that takes what happened before it into account: which byte a key is, and what the disk had already.
+ghost use Rattle.std.specs.Prelude.{◌≡◌};
+ghost use Rattle.sequence_diagram.specs.Keys.{HasByte, typed_at};
 
 use crate::arrows::sent_before;
 use crate::cargo::{write_key, write_number, write_number_and};
@@ -72,8 +74,10 @@ fn byte_at(moments: &[Moment], place: usize) -> Option<u8> {
 }
 
 // The byte that was typed before a place of a run as the key of this index of a terminal.
-fn byte_before(moments: &[Moment], place: usize, port: u8, index: u64) -> Option<u8> {
-    for before in 0..place {
+fn byte_before(moments: &[Moment], place: usize, port: u8, index: u64) -> Option<u8>
+    ensures { HasByte moments.now place port index result }
+{
+    'places: for before in 0..place {
         if let Some(byte) = typed_at(moments, before, port, index) {
             return Some(byte);
         }
@@ -82,7 +86,9 @@ fn byte_before(moments: &[Moment], place: usize, port: u8, index: u64) -> Option
 }
 
 // The byte that was typed at a place of a run, if it is that key.
-fn typed_at(moments: &[Moment], place: usize, port: u8, index: u64) -> Option<u8> {
+fn typed_at(moments: &[Moment], place: usize, port: u8, index: u64) -> Option<u8>
+    ensures { result ≡ typed_at moments.now place port index }
+{
     let moment = moments.get(place)?;
     match (moment.event, moment.answer) {
         (Event::TypeByte { port: other, byte }, Ok(Reply::Typed { index: typed })) => {
