@@ -1,6 +1,7 @@
 pub mod Arrows
 pub mod Columns
 pub mod Geometry
+pub mod Keys
 pub mod Messages
 pub mod Places
 pub mod Waits

@@ -67,8 +67,8 @@ fn is_message(found: Option<u64>, message: u64) -> bool
     }
 }
 
-// The last event before a place that sent a message.
-fn sent_before(moments: &[Moment], place: usize, message: u64) -> Option<usize>
+/// The last event before a place that sent a message.
+pub fn sent_before(moments: &[Moment], place: usize, message: u64) -> Option<usize>
     ensures { MatchOption result (SentNowhere moments.now 0 place message) (λ k. (k < place)
         × (sent_at moments.now k ≡ Some message) × SentNowhere moments.now (k + 1) place message) }
 {

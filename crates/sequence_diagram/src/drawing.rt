@@ -37,16 +37,22 @@ impl Drawing {
             text: String::new(alloc),
             words: String::new(alloc),
         };
+        drawing.begin(width, height, style)?;
+        Ok(drawing)
+    }
+
+    // Begins the text of a picture: its size, its style and its page.
+    fn begin(&mut self, width: u64, height: u64, style: &str) -> Result<(), AllocError> {
         writeln!(
-            drawing.text,
+            self.text,
             "<svg xmlns=\"http://www.w3.org/2000/svg\" viewBox=\"0 0 {width} {height}\" width=\"{width}\" height=\"{height}\">"
         )?;
-        drawing.text.push_str(style)?;
-        writeln!(
-            drawing.text,
-            "<rect class=\"page\" x=\"0\" y=\"0\" width=\"{width}\" height=\"{height}\"/>"
-        )?;
-        Ok(drawing)
+        self.text.push_str(style)?;
+        let end = Point {
+            x: width,
+            y: height,
+        };
+        self.rect("page", Point { x: 0, y: 0 }, end)
     }
 
     /// The whole picture, as the text of an SVG file.
@@ -88,32 +94,42 @@ impl Drawing {
         )
     }
 
-    /// Words beside a point, or none. Returns how many bytes they have.
+    /// Words beside a point, or none.
     pub fn words<D: fmt::Display>(
         &mut self,
         class: &str,
         at: Point,
         side: Side,
         words: &D,
-    ) -> Result<usize, AllocError> {
+    ) -> Result<(), AllocError> {
         self.words.clear();
         write!(self.words, "{words}")?;
         if self.words.is_empty() {
-            return Ok(0);
+            return Ok(());
         }
+        self.tag(class, at, side)?;
+        escape_all(&mut self.text, self.words.as_str())?;
+        self.text.push_str("</text>\n")
+    }
+
+    // The tag before words.
+    fn tag(&mut self, class: &str, at: Point, side: Side) -> Result<(), AllocError> {
         write!(
             self.text,
             "<text class=\"{class}\" x=\"{}\" y=\"{}\" text-anchor=\"{}\">",
             at.x,
             at.y,
             side.anchor()
-        )?;
-        for letter in self.words.chars() {
-            escape(&mut self.text, letter)?;
-        }
-        self.text.push_str("</text>\n")?;
-        Ok(self.words.len())
+        )
     }
+}
+
+// Appends letters as they are written between two tags.
+fn escape_all(text: &mut String, words: &str) -> Result<(), AllocError> {
+    for letter in words.chars() {
+        escape(text, letter)?;
+    }
+    Ok(())
 }
 
 // Appends a letter as it is written between two tags.

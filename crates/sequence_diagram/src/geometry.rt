@@ -2,7 +2,7 @@
 ghost use Rattle.std.specs.Prelude.{◌≡◌, ◌+◌, ◌*◌, ◌<◌, ◌≤◌};
 ghost use Rattle.sequence_diagram.specs.Geometry.{gap_of, width_of, x_of, y_of};
 
-/// The width of a picture of at most five columns, and the margins left of the first column and right of the last.
+/// The width of a picture of at most four columns, and the margins left of the first column and right of the last.
 pub const WIDTH: u64 = 1200;
 
 pub const LEFT: u64 = 210;
@@ -10,7 +10,7 @@ pub const LEFT: u64 = 210;
 pub const RIGHT: u64 = 170;
 
 /// How far two columns are apart, at least and at most.
-pub const LEAST_GAP: u64 = 205;
+pub const LEAST_GAP: u64 = 250;
 
 pub const MOST_GAP: u64 = 300;
 

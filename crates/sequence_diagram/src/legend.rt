@@ -63,43 +63,61 @@ static MEANINGS: [(&str, &str); 5] = [
 
 /// Draws the legend, from this height on.
 pub fn draw_legend(drawing: &mut Drawing, top: u64) -> Result<(), AllocError> {
+    draw_role_row(drawing, top.saturating_add(14))?;
+    draw_line_row(drawing, top.saturating_add(54))
+}
+
+// Draws what the bars mean.
+fn draw_role_row(drawing: &mut Drawing, y: u64) -> Result<(), AllocError> {
     let mut x = 40u64;
-    let y = top.saturating_add(14);
     for role in &ROLES {
-        let begin = match role {
-            Role::Halted => y.saturating_add(9),
-            _ => y,
-        };
-        draw_band(
-            drawing,
-            Some(*role),
-            Point { x, y: begin },
-            y.saturating_add(18),
-        )?;
-        let at = Point {
-            x: x.saturating_add(12),
-            y: y.saturating_add(14),
-        };
-        drawing.words("role", at, Side::Right, role)?;
+        draw_role(drawing, *role, Point { x, y })?;
         x = x.saturating_add(110);
     }
-    x = 40;
-    let y = top.saturating_add(54);
+    Ok(())
+}
+
+fn draw_role(drawing: &mut Drawing, role: Role, at: Point) -> Result<(), AllocError> {
+    let begin = match role {
+        Role::Halted => at.y.saturating_add(9),
+        _ => at.y,
+    };
+    let from = Point { x: at.x, y: begin };
+    draw_band(drawing, Some(role), from, at.y.saturating_add(18))?;
+    let beside = Point {
+        x: at.x.saturating_add(12),
+        y: at.y.saturating_add(14),
+    };
+    drawing.words("role", beside, Side::Right, &role)
+}
+
+// Draws what the lines mean.
+fn draw_line_row(drawing: &mut Drawing, y: u64) -> Result<(), AllocError> {
+    let mut x = 40u64;
     for (class, meaning) in &MEANINGS {
-        let end = Point {
-            x: x.saturating_add(40),
-            y,
-        };
-        drawing.line(class, Point { x, y }, end)?;
-        if *class == "lost" {
-            drawing.cross(end)?;
-        }
-        let at = Point {
-            x: x.saturating_add(54),
-            y: y.saturating_add(4),
-        };
-        drawing.words("role", at, Side::Right, meaning)?;
+        draw_line(drawing, class, meaning, Point { x, y })?;
         x = x.saturating_add(160);
     }
     Ok(())
+}
+
+fn draw_line(
+    drawing: &mut Drawing,
+    class: &str,
+    meaning: &str,
+    at: Point,
+) -> Result<(), AllocError> {
+    let end = Point {
+        x: at.x.saturating_add(40),
+        y: at.y,
+    };
+    drawing.line(class, at, end)?;
+    if class == "lost" {
+        drawing.cross(end)?;
+    }
+    let beside = Point {
+        x: at.x.saturating_add(54),
+        y: at.y.saturating_add(4),
+    };
+    drawing.words("role", beside, Side::Right, &meaning)
 }

@@ -2,7 +2,6 @@
 ghost use Rattle.std.specs.Prelude.{◌≡◌};
 ghost use Rattle.sequence_diagram.specs.Places.{first_role};
 
-use crate::columns::Columns;
 use crate::drawing::{Drawing, Side};
 use crate::geometry::Point;
 use crate::moment::Moment;
@@ -29,19 +28,23 @@ pub fn first_role(node: u64) -> Option<Role>
 pub fn draw_columns(
     drawing: &mut Drawing,
     plan: &Plan,
-    columns: &Columns,
     moments: &[Moment],
 ) -> Result<(), AllocError> {
-    for place in columns.places.as_slice() {
-        let x = plan.x(*place);
-        drawing.words("head", Point { x, y: 32 }, Side::Middle, place)?;
-        let from = Point { x, y: HEAD };
-        drawing.line("rest", from, Point { x, y: plan.bottom })?;
+    for place in plan.columns.places.as_slice() {
+        draw_column(drawing, plan, *place)?;
         if let Place::Node(node) = *place {
             draw_roles(drawing, plan, node, moments)?;
         }
     }
     Ok(())
+}
+
+// Draws the head and the line of a column.
+fn draw_column(drawing: &mut Drawing, plan: &Plan, place: Place) -> Result<(), AllocError> {
+    let x = plan.x(place);
+    drawing.words("head", Point { x, y: 32 }, Side::Middle, &place)?;
+    let end = Point { x, y: plan.bottom };
+    drawing.line("rest", Point { x, y: HEAD }, end)
 }
 
 // Draws the line of a node, role by role.
@@ -54,23 +57,26 @@ fn draw_roles(
     let x = plan.x(Place::Node(node));
     let mut role = first_role(node);
     let mut begun = HEAD;
-    match &role {
-        Some(role) => drawing.words("role", Point { x, y: 50 }, Side::Middle, role)?,
-        None => drawing.words("role", Point { x, y: 50 }, Side::Middle, &"spare host")?,
-    };
+    draw_first_role(drawing, role, x)?;
     for (place, moment) in moments.iter().enumerate() {
-        let Some(next) = moment.role_of(node) else {
-            continue;
-        };
-        if role == Some(next) {
-            continue;
+        let next = moment.role_of(node);
+        if next.is_some() && next != role {
+            let y = plan.y(place);
+            draw_band(drawing, role, Point { x, y: begun }, y)?;
+            role = next;
+            begun = y;
         }
-        let y = plan.y(place);
-        draw_band(drawing, role, Point { x, y: begun }, y)?;
-        role = Some(next);
-        begun = y;
     }
     draw_band(drawing, role, Point { x, y: begun }, plan.bottom)
+}
+
+// Says what a node is at first.
+fn draw_first_role(drawing: &mut Drawing, role: Option<Role>, x: u64) -> Result<(), AllocError> {
+    let at = Point { x, y: 50 };
+    match &role {
+        Some(role) => drawing.words("role", at, Side::Middle, role),
+        None => drawing.words("role", at, Side::Middle, &"spare host"),
+    }
 }
 
 /// Draws the line of a node in one role, down from a point.
@@ -80,15 +86,31 @@ pub fn draw_band(
     from: Point,
     bottom: u64,
 ) -> Result<(), AllocError> {
-    let class = match role {
-        Some(Role::Primary) => "primary",
-        Some(Role::Backup) => "backup",
-        Some(Role::Joining) => "joining",
-        Some(Role::Draining) => "draining",
-        Some(Role::Alone) => "alone",
-        Some(Role::Halted) => return drawing.cross(from),
-        None => return Ok(()),
-    };
+    match role {
+        None => Ok(()),
+        Some(Role::Halted) => drawing.cross(from),
+        Some(Role::Alone) => draw_alone(drawing, from, bottom),
+        Some(role) => draw_bar(drawing, class_of(role), from, bottom),
+    }
+}
+
+// The class of a bar, by the role of its node.
+fn class_of(role: Role) -> &'static str {
+    match role {
+        Role::Primary => "primary",
+        Role::Backup => "backup",
+        Role::Joining => "joining",
+        Role::Draining => "draining",
+        _ => "alone",
+    }
+}
+
+fn draw_bar(
+    drawing: &mut Drawing,
+    class: &str,
+    from: Point,
+    bottom: u64,
+) -> Result<(), AllocError> {
     let corner = Point {
         x: from.x.saturating_sub(5),
         y: from.y,
@@ -97,13 +119,15 @@ pub fn draw_band(
         x: from.x.saturating_add(5),
         y: bottom,
     };
-    drawing.rect(class, corner, end)?;
-    if matches!(role, Some(Role::Alone)) {
-        let below = Point {
-            x: from.x,
-            y: bottom,
-        };
-        drawing.line("inside", from, below)?;
-    }
-    Ok(())
+    drawing.rect(class, corner, end)
+}
+
+// The bar of a node that is alone has a stripe.
+fn draw_alone(drawing: &mut Drawing, from: Point, bottom: u64) -> Result<(), AllocError> {
+    draw_bar(drawing, "alone", from, bottom)?;
+    let below = Point {
+        x: from.x,
+        y: bottom,
+    };
+    drawing.line("inside", from, below)
 }

@@ -1,6 +1,8 @@
 //! What happens to a message where it arrives, and what the arbiter answers, in words.
 
+use crate::cargo::write_number_and;
 use crate::moment::{Look, Moment};
+use crate::notes::write_fault;
 use i8080_words::Fault;
 use pair_events::{Event, Reply};
 use std::fmt;
@@ -12,11 +14,10 @@ pub struct Outcome(pub Moment);
 impl Outcome {
     /// Whether there is nothing to say.
     pub fn is_plain(&self) -> bool {
-        match (self.0.event, self.0.answer) {
-            (Event::Put { .. }, Ok(_)) => false,
-            (_, Ok(Reply::Taken | Reply::Told { .. } | Reply::Held { .. })) => true,
-            _ => false,
-        }
+        matches!(
+            self.0.answer,
+            Ok(Reply::Taken | Reply::Told { .. } | Reply::Held { .. } | Reply::Message { .. })
+        )
     }
 }
 
@@ -24,9 +25,8 @@ impl fmt::Display for Outcome {
     fn fmt<W: fmt::Write>(&self, f: &mut fmt::Formatter<W>) -> fmt::Result {
         match (self.0.event, self.0.answer) {
             (Event::Suspect { .. }, Err(Fault::Lost)) => f.write_str("refuses: the other won"),
-            (_, Err(fault)) => write!(f, "refused, {fault}"),
+            (_, Err(fault)) => write_fault(f, "refused,", fault),
             (Event::Suspect { .. }, Ok(_)) => write_winner(f, self.0.look),
-            (Event::Put { .. }, Ok(_)) => f.write_str("stored"),
             (_, Ok(reply)) => write_reply(f, reply),
         }
     }
@@ -34,7 +34,7 @@ impl fmt::Display for Outcome {
 
 fn write_winner<W: fmt::Write>(f: &mut fmt::Formatter<W>, look: Option<Look>) -> fmt::Result {
     match look {
-        Some(Look { node, .. }) => write!(f, "node {node} has won"),
+        Some(Look { node, .. }) => write_number_and(f, "node", node, " has won"),
         None => Ok(()),
     }
 }

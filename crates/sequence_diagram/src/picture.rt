@@ -8,8 +8,9 @@ use crate::moment::Moment;
 use crate::place::Place;
 use crate::plan::Plan;
 use crate::screens::Accepted;
-use crate::strokes::{draw_strokes, draw_waits};
+use crate::strokes::{draw_loss, draw_stroke, draw_waits};
 use crate::texts::draw_texts;
+use crate::ways::{Way, ways_of};
 use std::alloc::{AllocError, Global};
 
 // How high a line below the columns is.
@@ -18,22 +19,74 @@ const FOOT: u64 = 22;
 /// The run as the text of an SVG file.
 pub fn draw(alloc: Global, moments: &[Moment]) -> Result<String, AllocError> {
     let plan = Plan::of(alloc, moments)?;
-    let width = picture_width(plan.width());
-    let foot = plan.bottom.saturating_add(FOOT);
-    let top = foot.saturating_add(FOOT);
-    let height = top.saturating_add(LEGEND);
-    let mut drawing = Drawing::new(alloc, width, height, STYLE)?;
-    draw_columns(&mut drawing, &plan, &plan.columns, moments)?;
-    draw_waits(&mut drawing, &plan)?;
-    for place in 0..moments.len() {
-        draw_strokes(&mut drawing, &plan, moments, place)?;
-    }
-    for place in 0..moments.len() {
-        draw_texts(&mut drawing, &plan, moments, place)?;
-    }
-    draw_screens(&mut drawing, &plan, moments, foot)?;
-    draw_legend(&mut drawing, top)?;
+    draw_plan(alloc, &plan, moments)
+}
+
+fn draw_plan(alloc: Global, plan: &Plan, moments: &[Moment]) -> Result<String, AllocError> {
+    let height = plan.bottom.saturating_add(FOOT * 2 + LEGEND);
+    let mut drawing = Drawing::new(alloc, picture_width(plan.width()), height, STYLE)?;
+    draw_run(alloc, &mut drawing, plan, moments)?;
     drawing.finish()
+}
+
+// Draws all of it.
+fn draw_run(
+    alloc: Global,
+    drawing: &mut Drawing,
+    plan: &Plan,
+    moments: &[Moment],
+) -> Result<(), AllocError> {
+    draw_columns(drawing, plan, moments)?;
+    draw_waits(drawing, plan)?;
+    draw_strokes(drawing, plan, moments)?;
+    draw_losses(alloc, drawing, plan, moments)?;
+    draw_words(drawing, plan, moments)?;
+    draw_foot(drawing, plan, moments)
+}
+
+// Draws what has arrived.
+fn draw_strokes(drawing: &mut Drawing, plan: &Plan, moments: &[Moment]) -> Result<(), AllocError> {
+    for place in 0..moments.len() {
+        draw_stroke(drawing, plan, moments, place)?;
+    }
+    Ok(())
+}
+
+// Draws what is lost, beside what has arrived.
+fn draw_losses(
+    alloc: Global,
+    drawing: &mut Drawing,
+    plan: &Plan,
+    moments: &[Moment],
+) -> Result<(), AllocError> {
+    let ways = ways_of(alloc, plan, moments)?;
+    draw_lost(drawing, plan, moments, &ways)
+}
+
+fn draw_lost(
+    drawing: &mut Drawing,
+    plan: &Plan,
+    moments: &[Moment],
+    ways: &[Way],
+) -> Result<(), AllocError> {
+    for place in 0..moments.len() {
+        draw_loss(drawing, plan, moments, ways, place)?;
+    }
+    Ok(())
+}
+
+fn draw_words(drawing: &mut Drawing, plan: &Plan, moments: &[Moment]) -> Result<(), AllocError> {
+    for place in 0..moments.len() {
+        draw_texts(drawing, plan, moments, place)?;
+    }
+    Ok(())
+}
+
+// Draws what is below the columns.
+fn draw_foot(drawing: &mut Drawing, plan: &Plan, moments: &[Moment]) -> Result<(), AllocError> {
+    let y = plan.bottom.saturating_add(FOOT);
+    draw_screens(drawing, plan, moments, y)?;
+    draw_legend(drawing, y.saturating_add(FOOT))
 }
 
 // Says what the terminals have accepted.
@@ -46,8 +99,12 @@ fn draw_screens(
     let mut x = 40u64;
     for place in plan.columns.places.as_slice() {
         if let Place::Terminal(port) = *place {
-            let accepted = Accepted { moments, port };
-            drawing.words("screen", Point { x, y }, Side::Right, &accepted)?;
+            drawing.words(
+                "screen",
+                Point { x, y },
+                Side::Right,
+                &Accepted { moments, port },
+            )?;
             x = x.saturating_add(WIDTH / 2);
         }
     }

@@ -46,21 +46,13 @@ impl Plan {
         column_x(self.width(), column.min(MOST))
     }
 
+    /// Whether the column of a place is the last one.
+    pub fn is_last(&self, place: Place) -> bool {
+        self.columns.column(place).saturating_add(1) == self.columns.places.len()
+    }
+
     /// Where the line of an event is, by its place in the run.
     pub fn y(&self, place: usize) -> u64 {
         line_y((self.lines.line(place) as u64).min(MOST))
-    }
-
-    /// Whether two events are on one line.
-    pub fn are_beside(&self, place: usize, other: usize) -> bool {
-        self.lines.line(place) == self.lines.line(other)
-    }
-
-    /// Whether an event is the first on its line.
-    pub fn begins_line(&self, place: usize) -> bool {
-        match place.checked_sub(1) {
-            Some(before) => !self.are_beside(before, place),
-            None => true,
-        }
     }
 }

@@ -1,7 +1,7 @@
 //! What a terminal has accepted in the end.
 
-use crate::arrows::arrow_to;
-use crate::cargo::write_byte;
+use crate::cargo::Byte;
+use crate::flights::cargo_to;
 use crate::moment::{Cargo, Moment};
 use pair_events::Reply;
 use std::fmt;
@@ -19,44 +19,56 @@ pub struct Accepted<'a> {
 impl Accepted<'_> {
     // The byte that was accepted at a place of the run.
     fn byte(&self, place: usize) -> Option<u8> {
-        let moment = self.moments.get(place)?;
-        if !matches!(moment.answer, Ok(Reply::Accepted)) {
-            return None;
-        }
-        let arrow = arrow_to(self.moments, place)?;
-        let sent = self.moments.get(arrow.sent)?;
-        match sent.cargo {
-            Some(Cargo::Byte { port, byte, .. }) if port == self.port => Some(byte),
+        match self.moments.get(place)?.answer {
+            Ok(Reply::Accepted) => self.carried(place),
             _ => None,
         }
     }
-}
 
-impl fmt::Display for Accepted<'_> {
-    fn fmt<W: fmt::Write>(&self, f: &mut fmt::Formatter<W>) -> fmt::Result {
+    // The byte for this terminal that the event at a place of the run brought.
+    fn carried(&self, place: usize) -> Option<u8> {
+        match cargo_to(self.moments, place) {
+            Some(Cargo::Byte { port, byte, .. }) => {
+                if port == self.port { Some(byte) } else { None }
+            }
+            _ => None,
+        }
+    }
+
+    // How many bytes were accepted.
+    fn count(&self) -> usize {
         let mut count = 0usize;
         for place in 0..self.moments.len() {
             if self.byte(place).is_some() {
                 count = count.saturating_add(1);
             }
         }
-        if count == 0 {
-            return write!(f, "terminal {} has accepted nothing", self.port);
-        }
-        write!(f, "terminal {} has accepted", self.port)?;
-        if count > SHOWN {
-            f.write_str(" ..")?;
-        }
+        count
+    }
+
+    // Writes the last bytes that were accepted, of so many.
+    fn write_last<W: fmt::Write>(&self, f: &mut fmt::Formatter<W>, count: usize) -> fmt::Result {
         let mut index = 0usize;
         for place in 0..self.moments.len() {
             if let Some(byte) = self.byte(place) {
                 index = index.saturating_add(1);
                 if index.saturating_add(SHOWN) > count {
-                    f.write_str(" ")?;
-                    write_byte(f, byte)?;
+                    write!(f, " {}", Byte(byte))?;
                 }
             }
         }
         Ok(())
+    }
+}
+
+impl fmt::Display for Accepted<'_> {
+    fn fmt<W: fmt::Write>(&self, f: &mut fmt::Formatter<W>) -> fmt::Result {
+        let count = self.count();
+        if count == 0 {
+            return write!(f, "terminal {} has accepted nothing", self.port);
+        }
+        let before = if count > SHOWN { " .." } else { "" };
+        write!(f, "terminal {} has accepted{before}", self.port)?;
+        self.write_last(f, count)
     }
 }

@@ -2,13 +2,15 @@
 
 use crate::arrows::departure_from;
 use crate::drawing::Drawing;
-use crate::exchanges::exchange_of;
-use crate::flights::{flight_to, parts_from};
+use crate::exchanges::{Exchange, exchange_of};
+use crate::flights::{Flight, flight_to};
+use crate::folds::{keys_from, parts_from};
 use crate::geometry::Point;
-use crate::lines::is_part;
 use crate::moment::Moment;
 use crate::place::{Place, aim_of, sender_of};
 use crate::plan::Plan;
+use crate::runs::is_part;
+use crate::ways::{Way, end_of_loss};
 use std::alloc::AllocError;
 
 // How far from the middle of its column an arrow begins and ends, and how far from it the mark of what waits is.
@@ -16,74 +18,94 @@ const EDGE: u64 = 7;
 
 const WAITS: u64 = 11;
 
-/// Draws the arrow that ends at an event, and the message that leaves there, if it is lost. The parts of a copy that are on
-/// one line have one arrow.
-pub fn draw_strokes(
+/// Draws the arrow of an exchange, or that of the message which an event has brought. Parts of a copy that are on one line have one
+/// arrow, and so have keys.
+pub fn draw_stroke(
     drawing: &mut Drawing,
     plan: &Plan,
     moments: &[Moment],
     place: usize,
 ) -> Result<(), AllocError> {
+    let y = plan.y(place);
+    if let Some(exchange) = exchange_at(plan, moments, place) {
+        let from = (plan.x(exchange.from), y);
+        return draw_arrow(drawing, "exchange", from, (plan.x(exchange.to), y));
+    }
+    if let Some(flight) = flight_at(plan, moments, place) {
+        let class = if flight.is_again { "again" } else { "arrow" };
+        let from = (plan.x(flight.from), plan.y(flight.sent));
+        return draw_arrow(drawing, class, from, (plan.x(flight.to), y));
+    }
+    Ok(())
+}
+
+// The exchange that is drawn at an event.
+fn exchange_at(plan: &Plan, moments: &[Moment], place: usize) -> Option<Exchange> {
+    if !plan.lines.is_among_keys(moments, place) {
+        return exchange_of(moments.get(place)?);
+    }
+    if plan.lines.begins(place) {
+        return keys_from(moments, &plan.lines, place).exchange;
+    }
+    None
+}
+
+// The message whose arrow is drawn at an event.
+fn flight_at(plan: &Plan, moments: &[Moment], place: usize) -> Option<Flight> {
+    if !is_part(moments.get(place)?) {
+        return flight_to(moments, place);
+    }
+    if plan.lines.begins(place) {
+        return parts_from(moments, &plan.lines, place).flight;
+    }
+    None
+}
+
+/// Draws the beginning of the way of the message that an event has sent, if it is lost. Parts of a copy that are on one line have one
+/// such, if none of them arrived.
+pub fn draw_loss(
+    drawing: &mut Drawing,
+    plan: &Plan,
+    moments: &[Moment],
+    ways: &[Way],
+    place: usize,
+) -> Result<(), AllocError> {
+    if !is_lost(plan, moments, place) {
+        return Ok(());
+    }
     let Some(moment) = moments.get(place) else {
         return Ok(());
     };
-    let y = plan.y(place);
-    if let Some(exchange) = exchange_of(moment) {
-        draw_arrow(
-            drawing,
-            "exchange",
-            (plan.x(exchange.from), y),
-            (plan.x(exchange.to), y),
-        )?;
-    }
-    let is_fold = is_part(moment);
-    if is_fold && !plan.begins_line(place) {
-        return Ok(());
-    }
-    let flight = if is_fold {
-        parts_from(moments, &plan.lines, place).flight
-    } else {
-        flight_to(moments, place)
+    let aim = aim_of(moments, place).unwrap_or(Place::Arbiter);
+    let from = Point {
+        x: plan.x(sender_of(moment.event)),
+        y: plan.y(place),
     };
-    if let Some(flight) = flight {
-        let class = if flight.is_again { "again" } else { "arrow" };
-        let from = (plan.x(flight.from), plan.y(flight.sent));
-        draw_arrow(drawing, class, from, (plan.x(flight.to), y))?;
-        if is_fold {
-            return Ok(());
-        }
-    }
-    draw_loss(drawing, plan, moments, place)
+    let end = Point {
+        x: end_of_loss(plan, ways, from, plan.x(aim)),
+        y: from.y,
+    };
+    let begin = Point {
+        x: beside(from.x, end.x, EDGE),
+        y: from.y,
+    };
+    drawing.line("lost", begin, end)?;
+    drawing.cross(end)
 }
 
-// The beginning of a message's way, if it is lost.
-fn draw_loss(
-    drawing: &mut Drawing,
-    plan: &Plan,
-    moments: &[Moment],
-    place: usize,
-) -> Result<(), AllocError> {
+// Whether an event has sent a message that never came, and that is drawn.
+fn is_lost(plan: &Plan, moments: &[Moment], place: usize) -> bool {
     let (Some(moment), Some(departure)) = (moments.get(place), departure_from(moments, place))
     else {
-        return Ok(());
+        return false;
     };
     if departure.came.is_some() {
-        return Ok(());
+        return false;
     }
-    let from = sender_of(moment.event);
-    let aim = aim_of(moments, place).unwrap_or(Place::Arbiter);
-    let y = plan.y(place);
-    let begin = plan.x(from);
-    let end = plan.x(aim);
-    let reach = begin.abs_diff(end) / 5 * 4;
-    let end = if begin < end {
-        begin.saturating_add(reach)
-    } else {
-        begin.saturating_sub(reach)
-    };
-    let begin = beside(begin, end, EDGE);
-    drawing.line("lost", Point { x: begin, y }, Point { x: end, y })?;
-    drawing.cross(Point { x: end, y })
+    if !is_part(moment) {
+        return true;
+    }
+    plan.lines.begins(place) && parts_from(moments, &plan.lines, place).flight.is_none()
 }
 
 // An arrow between two columns, each with its height.
@@ -124,7 +146,7 @@ pub fn draw_waits(drawing: &mut Drawing, plan: &Plan) -> Result<(), AllocError> 
         };
         match begun {
             Some(from) if wait.operations == 0 => {
-                drawing.line("waits", from, Point { x: from.x, y: at.y })?;
+                draw_wait(drawing, from, at.y)?;
                 begun = None;
             }
             None if wait.operations > 0 => begun = Some(at),
@@ -132,14 +154,12 @@ pub fn draw_waits(drawing: &mut Drawing, plan: &Plan) -> Result<(), AllocError> 
         }
     }
     match begun {
-        Some(from) => drawing.line(
-            "waits",
-            from,
-            Point {
-                x: from.x,
-                y: plan.bottom,
-            },
-        ),
+        Some(from) => draw_wait(drawing, from, plan.bottom),
         None => Ok(()),
     }
+}
+
+// Marks that output waits, down from a point.
+fn draw_wait(drawing: &mut Drawing, from: Point, y: u64) -> Result<(), AllocError> {
+    drawing.line("waits", from, Point { x: from.x, y })
 }

@@ -3,17 +3,19 @@
 use crate::arrows::departure_from;
 use crate::cargo::Carried;
 use crate::drawing::{Drawing, Side};
-use crate::exchanges::exchange_of;
-use crate::flights::{Parts, flight_to, parts_from};
+use crate::exchanges::{Exchange, exchange_of};
+use crate::flights::flight_to;
+use crate::folds::{keys_from, parts_from};
 use crate::geometry::Point;
-use crate::lines::is_part;
-use crate::moment::{Look, Moment};
-use crate::notes::Note;
+use crate::marks::{count_width, draw_count, draw_waiting};
+use crate::moment::Moment;
 use crate::outcomes::Outcome;
 use crate::place::{Place, aim_of, place_of, sender_of};
 use crate::plan::Plan;
+use crate::runs::is_part;
 use crate::strokes::beside;
-use pair_events::{Event, Reply};
+use crate::told::{Kept, Told};
+use pair_events::Event;
 use std::alloc::AllocError;
 use std::fmt;
 
@@ -25,10 +27,10 @@ const FAR: u64 = 18;
 // How much lower a label is that would be on the arrow that ends there.
 const BELOW: u64 = 19;
 
-// How wide a digit is in a count.
-const DIGIT: u64 = 8;
+// How much lower than an arrow what came of it is said, so that a long label of that arrow ends above it.
+const UNDER: u64 = 7;
 
-/// Says what an event does, what it carries and what it results in.
+/// Says what an event does, what it carries and what it results in. Events that share one arrow share the words.
 pub fn draw_texts(
     drawing: &mut Drawing,
     plan: &Plan,
@@ -38,33 +40,74 @@ pub fn draw_texts(
     let Some(moment) = moments.get(place) else {
         return Ok(());
     };
-    if is_part(moment) {
-        if plan.begins_line(place) {
-            return draw_parts(drawing, plan, moments, place);
+    let is_copied = is_part(moment);
+    if is_copied || plan.lines.is_among_keys(moments, place) {
+        if !plan.lines.begins(place) {
+            return Ok(());
         }
+        return if is_copied {
+            draw_parts(drawing, plan, moments, place)
+        } else {
+            draw_keys(drawing, plan, moments, place)
+        };
+    }
+    draw_waiting(drawing, plan, moments, place)?;
+    match exchange_of(moment) {
+        Some(exchange) => draw_exchange(drawing, plan, moments, place, exchange),
+        None => draw_message(drawing, plan, moments, place),
+    }
+}
+
+// What passes at once, and the result.
+fn draw_exchange(
+    drawing: &mut Drawing,
+    plan: &Plan,
+    moments: &[Moment],
+    place: usize,
+    exchange: Exchange,
+) -> Result<(), AllocError> {
+    let way = (plan.x(exchange.from), plan.x(exchange.to));
+    draw_label(drawing, way, plan.y(place), &Told { moments, place })?;
+    draw_outcome(drawing, way, plan.y(place), moments, place)
+}
+
+// What the message that an event has brought results in, and what the one carries that it has sent; of another event what happens.
+fn draw_message(
+    drawing: &mut Drawing,
+    plan: &Plan,
+    moments: &[Moment],
+    place: usize,
+) -> Result<(), AllocError> {
+    let sends = departure_from(moments, place).is_some();
+    let Some(flight) = flight_to(moments, place) else {
+        if sends {
+            return draw_cargo(drawing, plan, moments, place, 0);
+        }
+        return draw_note(drawing, plan, moments, place);
+    };
+    let way = (plan.x(flight.from), plan.x(flight.to));
+    draw_outcome(drawing, way, plan.y(place), moments, place)?;
+    if sends {
+        return draw_cargo(drawing, plan, moments, place, BELOW);
+    }
+    Ok(())
+}
+
+// What the message carries that an event has sent, so much lower.
+fn draw_cargo(
+    drawing: &mut Drawing,
+    plan: &Plan,
+    moments: &[Moment],
+    place: usize,
+    lower: u64,
+) -> Result<(), AllocError> {
+    let Some(moment) = moments.get(place) else {
         return Ok(());
-    }
-    let y = plan.y(place);
-    if let Some(exchange) = exchange_of(moment) {
-        let way = (plan.x(exchange.from), plan.x(exchange.to));
-        draw_label(drawing, way, y, &Note(*moment))?;
-        return draw_outcome(drawing, way, y, moment);
-    }
-    let flight = flight_to(moments, place);
-    if let Some(flight) = flight {
-        draw_outcome(drawing, (plan.x(flight.from), plan.x(flight.to)), y, moment)?;
-    }
-    if departure_from(moments, place).is_some() {
-        let from = sender_of(moment.event);
-        let aim = aim_of(moments, place).unwrap_or(Place::Arbiter);
-        let lower = if flight.is_some() { BELOW } else { 0 };
-        let way = (plan.x(from), plan.x(aim));
-        return draw_label(drawing, way, y.saturating_add(lower), &Carried(*moment));
-    }
-    if flight.is_some() {
-        return Ok(());
-    }
-    draw_note(drawing, plan, place, moment)
+    };
+    let aim = aim_of(moments, place).unwrap_or(Place::Arbiter);
+    let way = (plan.x(sender_of(moment.event)), plan.x(aim));
+    let y = plan.y(place).saturating_add(lower);
+    draw_label(drawing, way, y, &Carried(*moment))
 }
 
 // What passes from one column to another, above the beginning of its arrow.
@@ -80,8 +123,7 @@ fn draw_label<D: fmt::Display>(
         x: beside(from, to, FAR),
         y: y.saturating_sub(5),
     };
-    drawing.words("label", at, side, words)?;
-    Ok(())
+    drawing.words("label", at, side, words)
 }
 
 // The result, beyond the end of its arrow.
@@ -89,122 +131,112 @@ fn draw_outcome(
     drawing: &mut Drawing,
     way: (u64, u64),
     y: u64,
-    moment: &Moment,
+    moments: &[Moment],
+    place: usize,
 ) -> Result<(), AllocError> {
-    let (from, to) = way;
-    let (x, side) = if from < to {
-        (to.saturating_add(NEAR), Side::Right)
+    let Some(moment) = moments.get(place) else {
+        return Ok(());
+    };
+    let at = Point {
+        x: beyond(way),
+        y: y.saturating_add(UNDER),
+    };
+    let side = if way.0 < way.1 {
+        Side::Right
     } else {
-        (to.saturating_sub(FAR), Side::Left)
+        Side::Left
     };
     let class = if moment.answer.is_ok() {
         "outcome"
     } else {
         "refused"
     };
-    let at = Point {
-        x,
-        y: y.saturating_add(4),
-    };
-    drawing.words(class, at, side, &Outcome(*moment))?;
-    Ok(())
+    match (moment.event, moment.answer) {
+        (Event::Put { .. }, Ok(_)) => drawing.words(class, at, side, &Kept { moments, place }),
+        _ => drawing.words(class, at, side, &Outcome(*moment)),
+    }
 }
 
-// What happens at one place, with the count of its machine, and how much waits.
+// Beyond the end of a way from one column to another.
+fn beyond(way: (u64, u64)) -> u64 {
+    let (from, to) = way;
+    if from < to {
+        to.saturating_add(NEAR)
+    } else {
+        to.saturating_sub(FAR)
+    }
+}
+
+// What happens at one place, or is refused there.
 fn draw_note(
     drawing: &mut Drawing,
     plan: &Plan,
+    moments: &[Moment],
     place: usize,
-    moment: &Moment,
 ) -> Result<(), AllocError> {
-    let x = plan.x(place_of(moment.event));
-    let y = plan.y(place);
-    let class = if moment.answer.is_ok() {
-        "note"
-    } else {
-        "refused"
+    let Some(moment) = moments.get(place) else {
+        return Ok(());
     };
-    let below = y.saturating_add(4);
-    let mut beside = NEAR;
-    if let (Some(look), true) = (moment.look, is_run(moment)) {
-        beside = draw_count(drawing, Point { x, y }, look)?.saturating_add(6);
-        draw_waiting(
-            drawing,
-            plan,
-            place,
-            Point {
-                x: x.saturating_sub(beside),
-                y: below,
-            },
-        )?;
-    }
+    let here = place_of(moment.event);
     let at = Point {
-        x: x.saturating_add(beside),
-        y: below,
+        x: plan.x(here),
+        y: plan.y(place),
     };
-    drawing.words(class, at, Side::Right, &Note(*moment))?;
-    Ok(())
-}
-
-// Whether a machine has run.
-fn is_run(moment: &Moment) -> bool {
-    matches!(
-        moment.answer,
-        Ok(Reply::Ran { .. } | Reply::Moved { .. } | Reply::MovedAlone { .. })
-    )
-}
-
-// The count of a machine, in a frame on the line of its node; how far the frame goes to each side.
-fn draw_count(drawing: &mut Drawing, at: Point, look: Look) -> Result<u64, AllocError> {
-    let mut digits = 1u64;
-    let mut rest = look.count / 10;
-    for _ in 0..20 {
-        if rest > 0 {
-            rest /= 10;
-            digits = digits.saturating_add(1);
-        }
+    let told = Told { moments, place };
+    if moment.answer.is_ok() {
+        return draw_done(drawing, moment, at, told);
     }
-    let half = digits.saturating_mul(DIGIT) / 2 + 5;
-    let from = Point {
-        x: at.x.saturating_sub(half),
-        y: at.y.saturating_sub(9),
-    };
-    let to = Point {
-        x: at.x.saturating_add(half),
-        y: at.y.saturating_add(9),
-    };
-    drawing.rect("number", from, to)?;
-    let below = Point {
-        x: at.x,
+    draw_refused(drawing, plan.is_last(here), at, told)
+}
+
+// What has happened, with the count of the machine, if it has run.
+fn draw_done(
+    drawing: &mut Drawing,
+    moment: &Moment,
+    at: Point,
+    told: Told<'_>,
+) -> Result<(), AllocError> {
+    draw_count(drawing, moment, at)?;
+    let aside = count_width(moment).unwrap_or(NEAR);
+    let beside = Point {
+        x: at.x.saturating_add(aside),
         y: at.y.saturating_add(4),
     };
-    drawing.words("count", below, Side::Middle, &look.count)?;
-    Ok(half)
+    drawing.words("note", beside, Side::Right, &told)
 }
 
-// How many operations wait, once the machine has given one more.
-fn draw_waiting(
+// What is refused. It is left of the last column, since there is more room than right of it.
+fn draw_refused(
+    drawing: &mut Drawing,
+    is_last: bool,
+    at: Point,
+    told: Told<'_>,
+) -> Result<(), AllocError> {
+    let y = at.y.saturating_add(4);
+    if is_last {
+        let x = at.x.saturating_sub(FAR);
+        return drawing.words("refused", Point { x, y }, Side::Left, &told);
+    }
+    let x = at.x.saturating_add(NEAR);
+    drawing.words("refused", Point { x, y }, Side::Right, &told)
+}
+
+// Keys that share a line.
+fn draw_keys(
     drawing: &mut Drawing,
     plan: &Plan,
+    moments: &[Moment],
     place: usize,
-    at: Point,
 ) -> Result<(), AllocError> {
-    let before = match place.checked_sub(1) {
-        Some(before) => operations(plan, before),
-        None => 0,
+    let keys = keys_from(moments, &plan.lines, place);
+    let way = match keys.exchange {
+        Some(exchange) => (plan.x(exchange.from), plan.x(exchange.to)),
+        None => way_from(plan, moments, place),
     };
-    let now = operations(plan, place);
-    if now > before {
-        drawing.words("waiting", at, Side::Left, &format_args!("waits: {now}"))?;
-    }
-    Ok(())
+    draw_label(drawing, way, plan.y(place), &keys)
 }
 
-fn operations(plan: &Plan, place: usize) -> usize {
-    plan.waits.get(place).map_or(0, |wait| wait.operations)
-}
-
-// Parts of a copy that are on one line.
+// Parts of a copy that share a line.
 fn draw_parts(
     drawing: &mut Drawing,
     plan: &Plan,
@@ -212,51 +244,27 @@ fn draw_parts(
     place: usize,
 ) -> Result<(), AllocError> {
     let parts = parts_from(moments, &plan.lines, place);
-    let y = plan.y(place);
-    let Some(flight) = parts.flight else {
-        return draw_sent(drawing, plan, moments, place, parts);
+    let way = match parts.flight {
+        Some(flight) => (plan.x(flight.from), plan.x(flight.to)),
+        None => way_from(plan, moments, place),
     };
-    let way = (plan.x(flight.from), plan.x(flight.to));
-    draw_label(
-        drawing,
-        way,
-        y,
-        &format_args!("{} parts of the copy", parts.came),
-    )?;
-    if parts.is_whole {
-        let at = Point {
-            x: way.1.saturating_add(NEAR),
-            y: y.saturating_add(4),
-        };
-        drawing.words("outcome", at, Side::Right, &"whole: the backup")?;
+    let y = plan.y(place);
+    draw_label(drawing, way, y, &parts)?;
+    if !parts.is_whole {
+        return Ok(());
     }
-    Ok(())
+    let at = Point {
+        x: beyond(way),
+        y: y.saturating_add(UNDER),
+    };
+    drawing.words("outcome", at, Side::Right, &"whole: the backup")
 }
 
-// Parts of which none arrived.
-fn draw_sent(
-    drawing: &mut Drawing,
-    plan: &Plan,
-    moments: &[Moment],
-    place: usize,
-    parts: Parts,
-) -> Result<(), AllocError> {
+// From where an event happens to where what it sends should arrive.
+fn way_from(plan: &Plan, moments: &[Moment], place: usize) -> (u64, u64) {
     let Some(moment) = moments.get(place) else {
-        return Ok(());
-    };
-    let Event::SendPart { node, index } = moment.event else {
-        return Ok(());
+        return (0, 0);
     };
     let aim = aim_of(moments, place).unwrap_or(Place::Arbiter);
-    let way = (plan.x(Place::Node(node)), plan.x(aim));
-    let y = plan.y(place);
-    if parts.sent == 1 {
-        return draw_label(drawing, way, y, &format_args!("part {index} of the copy"));
-    }
-    draw_label(
-        drawing,
-        way,
-        y,
-        &format_args!("{} parts of the copy", parts.sent),
-    )
+    (plan.x(place_of(moment.event)), plan.x(aim))
 }

@@ -1,8 +1,8 @@
 //! What the output rule holds back: what a primary has given and its backup has not acknowledged.
 ghost use Rattle.std.specs.Prelude.{◌≡◌, ◌<◌, [], IfOk, length};
-ghost use Rattle.sequence_diagram.specs.Waits.{AreWaits, HasCargo, StandsThen, acknowledged, after_reads, arrived_by, begun, given, logged_by, noted, noted_by, standing_of, taken};
+ghost use Rattle.sequence_diagram.specs.Waits.{AreWaits, StandsThen, acknowledged, after_reads, arrived_by, begun, given, logged_by, noted, noted_by, standing_of, taken};
 
-use crate::arrows::arrow_to;
+use crate::flights::cargo_to;
 use crate::moment::{Cargo, Look, Moment};
 use event_callbacks::OpId;
 use guest_lockstep::StopReason;
@@ -42,16 +42,6 @@ pub fn waits_of(alloc: Global, moments: &[Moment]) -> Result<Vec<Wait>, AllocErr
     let mut waits = Vec::new(alloc);
     tally.note_all(moments, &mut waits)?;
     Ok(waits)
-}
-
-// What the message carries that an event has brought.
-#[tactic(auto, using(crate::proofs::Waiting::brings_nothing, crate::proofs::Waiting::brings_lost, crate::proofs::Waiting::brings_cargo))]
-fn cargo_to(moments: &[Moment], place: usize) -> Option<Cargo>
-    ensures { HasCargo moments.now place result }
-{
-    let arrow = arrow_to(moments, place)?;
-    let sent = moments.get(arrow.sent)?;
-    sent.cargo
 }
 
 impl Tally {

@@ -1,0 +1,109 @@
+//! The count of a machine on the line of its node, and how much of its output waits beside it.
+
+use crate::drawing::{Drawing, Side};
+use crate::geometry::Point;
+use crate::moment::{Look, Moment};
+use crate::place::Place;
+use crate::plan::Plan;
+use pair_events::Reply;
+use std::alloc::AllocError;
+
+// How far from the middle of its column the number is that waits, if there is no count.
+const BESIDE: u64 = 18;
+
+// How wide a digit is in a count, and how far words are from its frame.
+const DIGIT: u64 = 8;
+
+const APART: u64 = 6;
+
+/// How far words are from the middle of the column of a node, because of the count of its machine; none if it has not run.
+pub fn count_width(moment: &Moment) -> Option<u64> {
+    let look = look_after(moment)?;
+    Some(half_of(look.count).saturating_add(APART))
+}
+
+// What a node shows whose machine has run.
+fn look_after(moment: &Moment) -> Option<Look> {
+    match moment.answer {
+        Ok(Reply::Ran { .. } | Reply::Moved { .. } | Reply::MovedAlone { .. }) => moment.look,
+        _ => None,
+    }
+}
+
+// How far the frame of a count goes to each side.
+fn half_of(count: u64) -> u64 {
+    let mut digits = 1u64;
+    let mut rest = count / 10;
+    for _ in 0..20 {
+        if rest > 0 {
+            rest /= 10;
+            digits = digits.saturating_add(1);
+        }
+    }
+    digits.saturating_mul(DIGIT) / 2 + 5
+}
+
+/// Draws the count of a machine that has run, in a frame on the line of its node.
+pub fn draw_count(drawing: &mut Drawing, moment: &Moment, at: Point) -> Result<(), AllocError> {
+    let Some(look) = look_after(moment) else {
+        return Ok(());
+    };
+    let half = half_of(look.count);
+    let from = Point {
+        x: at.x.saturating_sub(half),
+        y: at.y.saturating_sub(9),
+    };
+    let to = Point {
+        x: at.x.saturating_add(half),
+        y: at.y.saturating_add(9),
+    };
+    drawing.rect("number", from, to)?;
+    let below = Point {
+        x: at.x,
+        y: at.y.saturating_add(4),
+    };
+    drawing.words("count", below, Side::Middle, &look.count)
+}
+
+/// Says how many operations of a primary wait, if it has given one more, or an acknowledgement has covered some.
+pub fn draw_waiting(
+    drawing: &mut Drawing,
+    plan: &Plan,
+    moments: &[Moment],
+    place: usize,
+) -> Result<(), AllocError> {
+    let Some(moment) = moments.get(place) else {
+        return Ok(());
+    };
+    let Some(wait) = plan.waits.get(place) else {
+        return Ok(());
+    };
+    if !is_news(moment) || operations_before(plan, place) == wait.operations {
+        return Ok(());
+    }
+    let aside = count_width(moment).unwrap_or(BESIDE);
+    let at = Point {
+        x: plan.x(Place::Node(wait.node)).saturating_sub(aside),
+        y: plan.y(place).saturating_add(4),
+    };
+    let operations = wait.operations;
+    drawing.words(
+        "waiting",
+        at,
+        Side::Left,
+        &format_args!("waits: {operations}"),
+    )
+}
+
+// Whether an event may give an operation, or may cover some. At the others all is given up that waits.
+fn is_news(moment: &Moment) -> bool {
+    matches!(moment.answer, Ok(Reply::Ran { .. } | Reply::Held { .. }))
+}
+
+// How many operations wait before an event.
+fn operations_before(plan: &Plan, place: usize) -> usize {
+    match place.checked_sub(1) {
+        Some(before) => plan.waits.get(before).map_or(0, |wait| wait.operations),
+        None => 0,
+    }
+}
