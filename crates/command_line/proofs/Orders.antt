@@ -1,8 +1,12 @@
--- From what an option was given to the number that it says.
-use Rattle.std.proofs.Common.{◌≡◌, ℕ, List, Option, Some, None, Result, Ok, Err, refl, unwrap_or}
+-- From what an option was given to the number that it says, and from what was found to what is asked for.
+use Rattle.std.proofs.Common.{◌≡◌, ℕ, List, Option, Some, None, Result, Ok, Err, inl, inr, refl, subst, unwrap_or}
+use Rattle.std.specs.Prelude.{IfOk}
 use Rattle.std.specs.Str.Parse.{ParsesUnsigned}
 use Rattle.clap.specs.Words.{ReadsOne}
-use Rattle.command_line.specs.Orders.{IsGiven, IsGivenOr, IsNumber}
+use Rattle.clap.specs.declared.parser.matches.ArgMatches.{ArgMatches}
+use Rattle.clap.specs.declared.parser.matches.Found.{Found}
+use Rattle.command_line.specs.Orders.{Asks, AsksHelp, AsksIn, HasFound, IsAfter, IsAsked, IsGiven, IsGivenOr, IsNumber, command_word}
+use Rattle.command_line.specs.declared.options.Request.{Request}
 
 is_number : {E : Type 0} (gives : List ℕ → Result ℕ E → Type 0) (text : List ℕ) (given : Option ℕ) → ReadsOne gives text given
     → ((t : List ℕ) (r : Result ℕ E) → gives t r → ParsesUnsigned 64 10 t r) → IsNumber text given
@@ -19,3 +23,27 @@ is_given gives (Some text) given none some parses = is_number gives text given (
 pub given_or : (default : ℕ) (text : Option (List ℕ)) (given : Option ℕ) (number : ℕ) → IsGiven text given
     → number ≡ unwrap_or given default → IsGivenOr default text number
 given_or default text given number is same = (given, (is, same))
+
+-- ---- what is asked for
+
+module _ {E : Type 0} where
+  -- what was found after the name of a command is of what was found in the words
+  pub asks_in : (word : List ℕ) (matches : ArgMatches) (found : Found) (result : Result Request E) → IsAfter matches found
+      → IfOk result (Asks word found) → IfOk result (λ asked. AsksIn word matches asked)
+  asks_in word matches found (Ok asked) after h = record { found = found; after = after; asks = h }
+  asks_in word matches found (Err refused) after h = tt
+
+  pub has_found : (word : List ℕ) (matches : ArgMatches) (result : Result Request E)
+      → IfOk result (λ asked. AsksIn word matches asked) → IfOk result (HasFound word)
+  has_found word matches (Ok asked) h = (matches, h)
+  has_found word matches (Err refused) h = tt
+
+  -- a command, or help
+  pub asked_by_help : (words : List (List ℕ)) (word : List ℕ) (result : Result Request E) → word ≡ command_word words
+      → IfOk result (AsksHelp word) → IfOk result (IsAsked words)
+  asked_by_help words word (Ok asked) is h = inr (subst (λ w. AsksHelp w asked) is h)
+  asked_by_help words word (Err refused) is h = tt
+
+pub asked_by_found : (words : List (List ℕ)) (word : List ℕ) (asked : Request) → word ≡ command_word words
+    → HasFound word asked → IsAsked words asked
+asked_by_found words word asked is h = inl (subst (λ w. HasFound w asked) is h)

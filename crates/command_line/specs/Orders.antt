@@ -1,8 +1,8 @@
--- What a command line asks for, by what clap has found in its words.
-use Rattle.std.specs.Prelude.{◌≡◌, ◌≢◌, ◌⊎◌, ℕ, ◌^◌, ◌<◌, if◌then◌else◌, List, [], Option, Some, None, bytes_eq, codes, map, unwrap_or}
+-- What a command line asks for: the command that its second word names, with the options that clap has found after it.
+use Rattle.std.specs.Prelude.{◌≡◌, ◌≢◌, ◌⊎◌, ℕ, ◌^◌, ◌<◌, if◌then◌else◌, List, [], ◌∷◌, Option, Some, None, bytes_eq, codes, map, unwrap_or}
 use Rattle.std.specs.Option.{option_map, option_map_or}
 use Rattle.std.specs.Str.Parse.{IsNumeral, digits_value, without_leading_plus}
-use Rattle.clap.specs.Words.{matched_of, one_text, raw_values, rows_of, subcommand_name_of, subcommand_rows_of}
+use Rattle.clap.specs.Words.{found_of, matched_of, one_text, raw_values, rows_of, subcommand_name_of, subcommand_rows_of}
 use Rattle.clap.specs.declared.parser.matches.ArgMatches.{ArgMatches}
 use Rattle.clap.specs.declared.parser.matches.Found.{Found}
 use Rattle.command_line.specs.declared.live_order.LiveOrder.{LiveOrder}
@@ -53,40 +53,52 @@ pub record IsOrdered (found : Found) (images : List ℕ) (order : LiveOrder) : T
   pub images_are : order.images.items ≡ images
   pub saved : order.saved.items ≡ drives_in found (codes "saved")
 
--- what clap has found after the name of a command, if there is one, has images of these drives
-pub record HasImages (matches : ArgMatches) (found : Found) (images : List ℕ) : Type 0 where
-  pub after : option_map (λ p. p.1) (subcommand_rows_of matches) ≡ Some (rows_of found)
-  pub are : images ≡ drives_in found (codes "images")
+-- the word that names the command: the one after the program's name; [] if there is none
+abbrev pub command_word : List (List ℕ) → List ℕ
+command_word (program ∷ (word ∷ words)) = word
+command_word words = []
 
--- the command of this name, with the images of these drives
-pub record IsCommand (matches : ArgMatches) (name images : List ℕ) : Type 0 where
+-- the images come first of the drives that this option names
+abbrev pub HasImages : Found → List ℕ → Type 0
+HasImages found images = images ≡ drives_in found (codes "images")
+
+-- it is `script`, which is the command of every word that is no other's
+pub record IsOfScript (word : List ℕ) : Type 0 where
+  pub check : word ≢ codes "check"
+  pub picture : word ≢ codes "picture"
+  pub lint : word ≢ codes "lint"
+  pub shell : word ≢ codes "shell"
+  pub live : word ≢ codes "live"
+
+-- the command of this word is asked for, with the options that clap has found after it
+abbrev pub Asks : List ℕ → Found → Request → Type 0
+Asks word found (request.Script images) = IsOfScript word × HasImages found images.items
+Asks word found (request.Check images) = (word ≡ codes "check") × HasImages found images.items
+Asks word found (request.Picture images) = (word ≡ codes "picture") × HasImages found images.items
+Asks word found request.Lint = word ≡ codes "lint"
+Asks word found (request.Live order) = (word ≡ codes "live") × IsOrdered found (drives_in found (codes "images")) order
+Asks word found request.Shell = word ≡ codes "shell"
+Asks word found (request.Help text) = ⊥
+
+-- what clap has found after the name of a command; all that it has found, if that is no command
+abbrev pub IsAfter : ArgMatches → Found → Type 0
+IsAfter matches found = (option_map (λ p. p.1) (subcommand_rows_of matches) ≡ Some (rows_of found))
+    ⊎ ((subcommand_name_of matches ≡ None) × (rows_of found ≡ rows_of (found_of matches)))
+
+-- the same of all that clap has found in the words
+pub record AsksIn (word : List ℕ) (matches : ArgMatches) (asked : Request) : Type 0 where
   pub found : Found
-  pub named : subcommand_name_of matches ≡ Some name
-  pub has : HasImages matches found images
+  pub after : IsAfter matches found
+  pub asks : Asks word found asked
 
--- what clap has found after the word `live` is so much
-pub record IsLive (matches : ArgMatches) (order : LiveOrder) : Type 0 where
-  pub found : Found
-  pub images : List ℕ
-  pub named : subcommand_name_of matches ≡ Some (codes "live")
-  pub has : HasImages matches found images
-  pub ordered : IsOrdered found images order
+abbrev pub HasFound : List ℕ → Request → Type 0
+HasFound word asked = (matches : ArgMatches) × AsksIn word matches asked
 
--- the command that is no other one, with the images of these drives; none if no command has a name
-pub record IsScript (matches : ArgMatches) (images : List ℕ) : Type 0 where
-  pub has : ((found : Found) × HasImages matches found images) ⊎ ((subcommand_name_of matches ≡ None) × (images ≡ []))
-  pub check : subcommand_name_of matches ≢ Some (codes "check")
-  pub picture : subcommand_name_of matches ≢ Some (codes "picture")
-  pub lint : subcommand_name_of matches ≢ Some (codes "lint")
-  pub shell : subcommand_name_of matches ≢ Some (codes "shell")
-  pub live : subcommand_name_of matches ≢ Some (codes "live")
+-- help is asked for, by a command of its own
+abbrev pub AsksHelp : List ℕ → Request → Type 0
+AsksHelp word (request.Help text) = word ≡ codes "help"
+AsksHelp word asked = ⊥
 
--- what is asked for is what the command's name says
-abbrev pub Asks : ArgMatches → Request → Type 0
-Asks matches (request.Check images) = IsCommand matches (codes "check") images.items
-Asks matches (request.Picture images) = IsCommand matches (codes "picture") images.items
-Asks matches request.Lint = subcommand_name_of matches ≡ Some (codes "lint")
-Asks matches request.Shell = subcommand_name_of matches ≡ Some (codes "shell")
-Asks matches (request.Live order) = IsLive matches order
-Asks matches (request.Script images) = IsScript matches images.items
-Asks matches (request.Help text) = ⊥
+-- what the words of a command line ask for
+abbrev pub IsAsked : List (List ℕ) → Request → Type 0
+IsAsked words asked = HasFound (command_word words) asked ⊎ AsksHelp (command_word words) asked

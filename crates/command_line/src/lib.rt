@@ -1,6 +1,7 @@
 //! The command line: what its words ask for, or the text that refuses them.
 #![tactic(auto)]
 
+mod commands;
 mod live_order;
 mod options;
 

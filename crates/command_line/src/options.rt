@@ -1,13 +1,13 @@
 //! The command line.
-ghost use Rattle.std.specs.Prelude.{◌≡◌, IfErr, IfOk, codes, map, true};
+ghost use Rattle.std.specs.Prelude.{◌≡◌, IfErr, IfOk, codes, map, string_bytes, true};
 ghost use Rattle.clap.specs.Words.{found_of, one_text};
 ghost use Rattle.command_ending.specs.Statuses.{is_of_command_line};
-ghost use Rattle.command_line.specs.Orders.{Asks, IsGiven, IsOrdered, drive_of, drives_in, fate_of, values_of};
+ghost use Rattle.command_line.specs.Orders.{Asks, AsksHelp, AsksIn, HasFound, IsAsked, IsGiven, IsOrdered, command_word, drive_of, drives_in, fate_of, values_of};
 
+use crate::commands::pair_command;
 use crate::live_order::LiveOrder;
-use clap::builder::ValueParser;
 use clap::error::ErrorKind;
-use clap::{Arg, ArgMatches, Command, Error};
+use clap::{ArgMatches, Error};
 use command_ending::Failure;
 use pair_threads::Fate;
 use std::alloc::{AllocError, Global};
@@ -31,128 +31,98 @@ pub enum Request {
     Help(String),
 }
 
-const EXAMPLE: &str = "\
-The script comes from standard input: a setup, and then one event or query a line.
-Here the guest sends the byte 48 and halts, the backup acknowledges it, and the
-terminal of port 0 accepts it:
-
-./pair script << END
-mem 0000 3E 03 D3 10 3E 15 D3 10 3E 48 D3 11 76
-step 0 10
-send 0 0
-log 0 1
-ack 1
-acked 1 0
-release 0 byte 0 1
-arrive 2
-show 0
-END
-
-Exit status: 0 the run ended; 2 this text, or a command line that is none; 3 a bad
-script; 4 out of memory; 5 input or output failed; 6 a pair on threads stalled; 7
-`check` found a difference.";
-
-const LIVE_USAGE: &str =
-    "pair live [OPTIONS] < FILE (setup and `type` lines come from standard input)";
-
-// The names of the fates of a packet: it is brought, it is lost, it is brought twice.
-static FATES: &[&str] = &["pass", "drop", "twice"];
-
-static DRIVES: &[&str] = &["0", "1", "2", "3"];
-
-const IMAGES: &str =
-    "The drives whose disks come before the script, each as an image of 337568 bytes; ./pair sends them for --disk";
-
-const SAVED: &str =
-    "The drives whose disks are written as images at the end; ./pair keeps them for --save-disk";
-
-// How many turns there are at most, and how many if the command line does not say.
-const MOST_TURNS: u64 = 1_000_000_000;
-
+// How many turns there are if the command line does not say.
 const TURNS: u64 = 1_000_000;
 
 /// What the words of a command line ask for; the first word is the program's name.
+#[tactic(auto, using(crate::proofs::Orders::asked_by_found, crate::proofs::Orders::asked_by_help))]
 pub fn request_of(alloc: Global, arguments: &[String]) -> Result<Request, Failure>
-    ensures { IfErr result (λ e. is_of_command_line e ≡ true) }
+    ensures asked { IfOk result (IsAsked (map (λ word. string_bytes word) arguments.now)) }
+    ensures refused { IfErr result (λ e. is_of_command_line e ≡ true) }
 {
-    let error = match parse(alloc, arguments) {
-        Ok(request) => return Ok(request),
-        Err(error) => error,
-    };
-    if asks_for_help(arguments) && matches!(error.kind(), ErrorKind::DisplayHelp) {
-        let text = format!(in alloc; "{error}")?;
-        return Ok(Request::Help(text));
+    let word = command_word(arguments);
+    match parse(alloc, word, arguments) {
+        Ok(request) => Ok(request),
+        Err(error) => help_in(alloc, word, &error),
     }
-    Err(refusal(alloc, &error))
+}
+
+// The word that names the command: the one after the program's name.
+fn command_word(arguments: &[String]) -> &str
+    ensures { result.now ≡ command_word (map (λ word. string_bytes word) arguments.now) }
+{
+    match arguments {
+        [_, word, ..] => word.as_str(),
+        _ => "",
+    }
+}
+
+// What a command line asks for in which clap has found no command: help, or it is refused.
+fn help_in(alloc: Global, word: &str, error: &Error) -> Result<Request, Failure>
+    ensures asked { IfOk result (AsksHelp word.now) }
+    ensures refused { IfErr result (λ e. is_of_command_line e ≡ true) }
+{
+    if !asks_for_help(word, error) {
+        return Err(refusal(alloc, error));
+    }
+    let text = format!(in alloc; "{error}")?;
+    Ok(Request::Help(text))
 }
 
 // Whether the command is `help`, and not an option `--help`.
-fn asks_for_help(arguments: &[String]) -> bool {
-    match arguments {
-        [_, word, ..] => word.as_str() == "help",
-        _ => false,
+fn asks_for_help(word: &str, error: &Error) -> bool
+    ensures { result ≡ true → word.now ≡ codes "help" }
+{
+    if word != "help" {
+        return false;
+    }
+    matches!(error.kind(), ErrorKind::DisplayHelp)
+}
+
+// What the command of this word asks for.
+#[tactic(auto, using(crate::proofs::Orders::has_found))]
+fn parse(alloc: Global, word: &str, arguments: &[String]) -> Result<Request, Error>
+    ensures { IfOk result (HasFound word.now) }
+{
+    let matches = found_in(alloc, arguments)?;
+    request_in(alloc, word, &matches)
+}
+
+// What clap finds in the words.
+fn found_in(alloc: Global, arguments: &[String]) -> Result<ArgMatches<'_>, Error> {
+    pair_command(alloc)?.try_get_matches_from(arguments)
+}
+
+// What the command of this word asks for, by what was found in the words; what was found after its name is what counts.
+#[tactic(auto, using(crate::proofs::Orders::asks_in))]
+fn request_in(alloc: Global, word: &str, matches: &ArgMatches<'_>) -> Result<Request, Error>
+    ensures { IfOk result (λ request. AsksIn word.now matches.now request) }
+{
+    match matches.subcommand() {
+        Some((_, found)) => request_after(alloc, word, found),
+        None => request_after(alloc, word, matches),
     }
 }
 
-// The commands that run a script: their names, what they do, and how they are called.
-static SCRIPT_COMMANDS: [(&str, &str, &str); 3] = [
-    (
-        "script",
-        "Runs a script, and prints a line for each event and query",
-        "pair script [OPTIONS] < FILE (the script comes from standard input)",
-    ),
-    (
-        "check",
-        "Runs a script silently, and compares the pair with a single machine",
-        "pair check [OPTIONS] < FILE (the script comes from standard input)",
-    ),
-    (
-        "picture",
-        "Runs a script silently, and draws what happened in it as an SVG picture",
-        "pair picture [OPTIONS] < FILE > PICTURE.svg (the script comes from standard input)",
-    ),
-];
-
-// The commands without options.
-static PLAIN_COMMANDS: [(&str, &str, &str); 2] = [
-    (
-        "lint",
-        "Names every bad line of a script, and what was expected there; it runs nothing",
-        "pair lint < FILE (the script comes from standard input)",
-    ),
-    (
-        "shell",
-        "Answers lines as they come; the line `help` lists them all",
-        "pair shell (lines come from standard input)",
-    ),
-];
-
-// The options of `live` that say when somebody asks.
-static ASKS: [(&str, &str); 2] = [
-    (
-        "primary-asks",
-        "The turn at which the primary asks to go on alone",
-    ),
-    (
-        "backup-asks",
-        "The turn at which the backup asks to go on alone",
-    ),
-];
-
-fn parse(alloc: Global, arguments: &[String]) -> Result<Request, Error> {
-    let matches = pair_command(alloc)?.try_get_matches_from(arguments)?;
-    request_in(alloc, &matches)
+// The same by what was found after the name of the command.
+fn request_after(alloc: Global, word: &str, found: &ArgMatches<'_>) -> Result<Request, Error>
+    ensures { IfOk result (Asks word.now (found_of found.now)) }
+{
+    let images = images_in(alloc, found)?;
+    request_named(alloc, word, found, images)
 }
 
-// What is asked for by what was found in the words.
-fn request_in(alloc: Global, matches: &ArgMatches<'_>) -> Result<Request, Error>
-    ensures { IfOk result (λ request. Asks matches.now request) }
+// The request of the command of this word, with these images, by what was found after it.
+fn request_named(
+    alloc: Global,
+    word: &str,
+    found: &ArgMatches<'_>,
+    images: Vec<u8>,
+) -> Result<Request, Error>
+    requires { images.items ≡ drives_in (found_of found.now) (codes "images") }
+    ensures { IfOk result (Asks word.now (found_of found.now)) }
 {
-    let Some((name, found)) = matches.subcommand() else {
-        return Ok(Request::Script(Vec::new(alloc)));
-    };
-    let images = images_in(alloc, found)?;
-    match name {
+    match word {
         "check" => Ok(Request::Check(images)),
         "picture" => Ok(Request::Picture(images)),
         "lint" => Ok(Request::Lint),
@@ -167,98 +137,6 @@ fn images_in(alloc: Global, found: &ArgMatches<'_>) -> Result<Vec<u8>, AllocErro
     ensures { IfOk result (λ drives. drives.items ≡ drives_in (found_of found.now) (codes "images")) }
 {
     drives_of(alloc, found.get_strs("images").unwrap_or(&[]))
-}
-
-// The program with all its commands.
-fn pair_command<'a>(alloc: Global) -> Result<Command<'a>, AllocError> {
-    let pair = Command::new(alloc, "pair")
-        .bin_name("pair")?
-        .version("0.1.0")
-        .about("A fault-tolerant pair of Altair 8800s")
-        .after_help(EXAMPLE)
-        .subcommand_required(true);
-    let pair = with_script_commands(alloc, pair)?;
-    let pair = with_plain_commands(alloc, pair)?;
-    pair.subcommand(live_command(alloc)?)
-}
-
-// The program with its commands that run a script.
-fn with_script_commands<'a>(
-    alloc: Global,
-    program: Command<'a>,
-) -> Result<Command<'a>, AllocError> {
-    let mut pair = program;
-    for (name, about, usage) in SCRIPT_COMMANDS {
-        let command = Command::new(alloc, name).about(about).override_usage(usage);
-        pair = pair.subcommand(command.arg(images(alloc))?)?;
-    }
-    Ok(pair)
-}
-
-// The program with its commands without options.
-fn with_plain_commands<'a>(alloc: Global, program: Command<'a>) -> Result<Command<'a>, AllocError> {
-    let mut pair = program;
-    for (name, about, usage) in PLAIN_COMMANDS {
-        let command = Command::new(alloc, name).about(about).override_usage(usage);
-        pair = pair.subcommand(command)?;
-    }
-    Ok(pair)
-}
-
-// The command that runs a pair on threads.
-fn live_command<'a>(alloc: Global) -> Result<Command<'a>, AllocError> {
-    let turns = turn(alloc, "turns", 1)
-        .help(
-            "In how many turns the primary, and the backup, may make progress; one that finds nothing to do is none of them",
-        )
-        .default_value("1000000");
-    let mut command = Command::new(alloc, "live")
-        .about("Runs a pair on threads, and prints what its terminals have accepted")
-        .override_usage(LIVE_USAGE)
-        .arg(turns)?;
-    for (name, help) in ASKS {
-        command = command.arg(turn(alloc, name, 0).help(help))?;
-    }
-    command
-        .arg(link(alloc))?
-        .arg(images(alloc))?
-        .arg(saved(alloc))
-}
-
-fn link<'a>(alloc: Global) -> Arg<'a> {
-    words(alloc, "link", "FATES", FATES).help(
-        "The fates of the packets, in order; the last is that of all others",
-    )
-}
-
-fn images<'a>(alloc: Global) -> Arg<'a> {
-    words(alloc, "images", "DRIVES", DRIVES).help(IMAGES)
-}
-
-fn saved<'a>(alloc: Global) -> Arg<'a> {
-    words(alloc, "saved", "DRIVES", DRIVES).help(SAVED)
-}
-
-// An option whose values are words of a list, with commas between them.
-fn words<'a>(
-    alloc: Global,
-    name: &'a str,
-    values: &'a str,
-    list: &'static [&'static str],
-) -> Arg<'a> {
-    Arg::new(alloc, name)
-        .long(name)
-        .value_name(values)
-        .value_delimiter(',')
-        .value_parser(ValueParser::Names(list))
-}
-
-// An option whose value is a number of turns, at least this many.
-fn turn<'a>(alloc: Global, name: &'a str, least: u64) -> Arg<'a> {
-    Arg::new(alloc, name)
-        .long(name)
-        .value_name("N")
-        .value_parser(ValueParser::unsigned(least, MOST_TURNS))
 }
 
 // What the words after `live` say.

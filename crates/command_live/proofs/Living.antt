@@ -1,6 +1,6 @@
 -- What a pair on threads prints is an end of its generation; what is typed at it, line by line.
 use Rattle.std.proofs.Common.{◌≡◌, ℕ, ◌+◌, ◌<◌, zero, suc, Option, Some, None, List, [], ◌∷◌, ◌++◌, Result, Ok, Err, inl, inr, refl, subst, sym, ap, ◌∙◌, length, replicate, take, get_or, if◌then◌else◌, append-nil, arith}
-use Rattle.std.specs.Prelude.{◌⊎◌, IfErr, OnOk}
+use Rattle.std.specs.Prelude.{◌⊎◌, IfErr, IfOk, OnOk}
 use Rattle.std.specs.Global.{Vec}
 use Rattle.std.specs.Result.{IsErrAnd}
 use Rattle.std.specs.Io.KnownBytes.{Appends, Keeps, append_known}
@@ -12,7 +12,7 @@ use Rattle.guest_board.specs.Guest.{guest_at_boot}
 use Rattle.guest_board.specs.Inputs.{some_altair}
 use Rattle.guest_lockstep.specs.Machine.{booted_from}
 use Rattle.log_entry.specs.declared.entry.Entry.{Entry}
-use Rattle.command_live.specs.Living.{AreBooted, EndsOf, PrintsLive, PrintsNone, Tells, TellsEnd, end_text, typed_by, typed_in, with_byte}
+use Rattle.command_live.specs.Living.{AreBooted, AreTyped, BeginsAs, EndsOf, HasEnded, PrintsLive, PrintsNone, Tells, TellsEnd, end_text, typed_by, typed_in, with_byte}
 use Rattle.command_live.specs.Saving.{images_of}
 use Rattle.command_ending.specs.Reports.{AddsLine}
 use Rattle.command_ending.specs.declared.failure.Failure.{Failure}
@@ -22,7 +22,7 @@ use Rattle.command_line.specs.declared.live_order.LiveOrder.{LiveOrder}
 use Rattle.pair_threads.specs.Ending.{EndsBy, WonBy}
 use Rattle.pair_threads.specs.Stores.{bytes_in}
 use Rattle.pair_threads.specs.declared.gate.Who.{Who}
-use Rattle.shared_disk.specs.Records.{IsAtBoot, boot_record, bytes_after}
+use Rattle.shared_disk.specs.Records.{IsAtBoot, IsUnwritten, boot_record, bytes_after}
 use Rattle.shared_disk.specs.declared.store.Record.{Record}
 use Rattle.script_language.specs.declared.line.Line.{Line}
 use Rattle.script_language.specs.declared.setup.ScriptSetup.{ScriptSetup}
@@ -129,39 +129,68 @@ module _ (port : ℕ) (lines : List Line) (i : ℕ) (other : Line) (found : Opti
 -- ---- how it ends
 
 -- a store at boot has in each sector what the setup says
-are_booted : (setup : ScriptSetup) (given writes : List SectorWrite) (records : List Record)
-    → writes ≡ given → IsAtBoot records setup.guest.drives writes
-    → AreBooted setup given (bytes_in records)
-are_booted setup given writes records are at address there =
+are_booted : (setup : ScriptSetup) (given : List SectorWrite) (records : List Record)
+    → IsAtBoot records setup.guest.drives given → AreBooted setup given (bytes_in records)
+are_booted setup given records at address there =
     ap (λ (r : Option Record). option_map_or (λ (r : Record). r.bytes) r [])
-    (at address ∙ ap (λ b. if b then Some (boot_record (bytes_after writes address (replicate SECTOR_BYTES 0))) else None) there)
-    ∙ ap (λ l. bytes_after l address (replicate SECTOR_BYTES 0)) are
+    (at address ∙ ap (λ b. if b then Some (boot_record (bytes_after given address (replicate SECTOR_BYTES 0))) else None) there)
 
-pub ends_of : (setup : ScriptSetup) (given : List SectorWrite) (lines : List Line) (saved : List ℕ) (boot : Guest)
-    (writes : List SectorWrite) (booted : List Record)
-    (typed0 typed1 : List ℕ) (winner : Option Who) (primary backup : List Entry) (held : ℕ) (screens : List (List ℕ))
-    (records : List Record) (s t : Guest) (images : List ℕ) → boot ≡ guest_at_boot setup.guest
-    → writes ≡ given → IsAtBoot booted setup.guest.drives writes
-    → typed0 ≡ typed_in 0 lines → typed1 ≡ typed_in 1 lines
+-- what its parts give
+pub begins_as : (setup : ScriptSetup) (given : List SectorWrite) (lines typed : List Line) (primary backup : Guest)
+    (records : List Record) (typed0 typed1 : List ℕ) → typed ≡ lines → primary ≡ guest_at_boot setup.guest
+    → backup ≡ guest_at_boot setup.guest → IsAtBoot records setup.guest.drives given → IsUnwritten records
+    → AreTyped typed typed0 typed1 → BeginsAs setup given lines primary backup records typed0 typed1
+begins_as setup given lines typed primary backup records typed0 typed1 same is0 is1 at_boot unwritten are = record {
+  primary_is = is0;
+  backup_is = is1;
+  at_boot = at_boot;
+  unwritten = unwritten;
+  typed = subst (λ ls. AreTyped ls typed0 typed1) same are;
+}
+
+-- a generation that has begun like this and has ended is one of the script
+pub has_ended : (setup : ScriptSetup) (given : List SectorWrite) (lines : List Line) (boot backup_boot : Guest)
+    (booted : List Record) (typed0 typed1 : List ℕ) (winner : Option Who) (primary backup : List Entry) (held : ℕ)
+    (screens : List (List ℕ)) (records : List Record) (s t : Guest)
+    → BeginsAs setup given lines boot backup_boot booted typed0 typed1
     → EndsBy (booted_from some_altair boot (bytes_in booted)) typed0 typed1 winner primary backup held screens records s t
-    → images ≡ images_of records saved
-    → EndsOf setup given (typed_in 0 lines) (typed_in 1 lines) saved winner screens images
-ends_of setup given lines saved boot writes booted typed0 typed1 winner primary backup held screens records s t images at are there
-    is0 is1 ends all =
+    → HasEnded setup given lines winner screens records
+has_ended setup given lines boot backup_boot booted typed0 typed1 winner primary backup held screens records s t begins ends =
     record {
       sectors = bytes_in booted;
-      booted = are_booted setup given writes booted are there;
-      images_are = all;
+      booted = are_booted setup given booted begins.at_boot;
       primary = primary;
       backup = backup;
       held = held;
-      records = records;
       s = s;
       t = t;
       ends = subst (λ g. EndsBy (booted_from some_altair g (bytes_in booted)) (typed_in 0 lines) (typed_in 1 lines) winner primary
-          backup held screens records s t) at
+          backup held screens records s t) begins.primary_is
           (subst (λ l. EndsBy (booted_from some_altair boot (bytes_in booted)) l (typed_in 1 lines) winner primary backup held screens
-          records s t) is0
+          records s t) begins.typed.0
           (subst (λ l. EndsBy (booted_from some_altair boot (bytes_in booted)) typed0 l winner primary backup held screens records s
-          t) is1 ends));
+          t) begins.typed.1 ends));
     }
+
+-- what is said of a value, if there is one, is said of what it implies
+pub if_ok : {A E : Type 0} (result : Result A E) (P Q : A → Type 0) → ((a : A) → P a → Q a) → IfOk result P → IfOk result Q
+if_ok (Ok a) P Q more h = more a h
+if_ok (Err e) P Q more h = tt
+
+-- and the images of its disk
+pub ends_of : (setup : ScriptSetup) (given : List SectorWrite) (lines : List Line) (saved drives : List ℕ) (winner : Option Who)
+    (screens : List (List ℕ)) (records : List Record) (images : List ℕ) → HasEnded setup given lines winner screens records
+    → drives ≡ saved → images ≡ images_of records drives
+    → EndsOf setup given (typed_in 0 lines) (typed_in 1 lines) saved winner screens images
+ends_of setup given lines saved drives winner screens records images h are all = record {
+  sectors = h.sectors;
+  booted = h.booted;
+  primary = h.primary;
+  backup = h.backup;
+  held = h.held;
+  records = records;
+  s = h.s;
+  t = h.t;
+  ends = h.ends;
+  images_are = all ∙ ap (images_of records) are;
+}

@@ -7,7 +7,7 @@ use Rattle.disk_dcdd.specs.declared.address.SectorAddress.{SectorAddress}
 use Rattle.disk_dcdd.specs.declared.sector.SectorWrite.{SectorWrite}
 use Rattle.disk_dcdd.specs.declared.sector.TheConstants.{SECTOR_BYTES}
 use Rattle.guest_parts.specs.Guest.{Guest}
-use Rattle.guest_board.specs.Guest.{altair}
+use Rattle.guest_board.specs.Guest.{altair, guest_at_boot}
 use Rattle.log_entry.specs.declared.entry.Entry.{Entry}
 use Rattle.pair_events.specs.Printed.{accepted_text}
 use Rattle.pair_events.specs.declared.event.Event.TheVariants.{TypeByte}
@@ -22,7 +22,7 @@ use Rattle.pair_threads.specs.declared.gate.Who.TheVariants.{Primary}
 use Rattle.script_language.specs.declared.line.Line.{Line}
 use Rattle.script_language.specs.declared.line.Line.TheVariants.{Event}
 use Rattle.script_language.specs.declared.setup.ScriptSetup.{ScriptSetup}
-use Rattle.shared_disk.specs.Records.{bytes_after}
+use Rattle.shared_disk.specs.Records.{IsAtBoot, IsUnwritten, bytes_after}
 use Rattle.shared_disk.specs.declared.store.Record.{Record}
 
 -- the byte that a line types at a port, and the bytes that lines do
@@ -67,6 +67,33 @@ pub record EndsOf (setup : ScriptSetup) (given : List SectorWrite) (typed0 typed
   pub t : Guest
   pub ends : EndsBy (altair setup.guest sectors) typed0 typed1 winner primary backup held screens records s t
   pub images_are : images ≡ images_of records saved
+
+-- these bytes are what lines type at each port
+abbrev pub AreTyped : List Line → List ℕ → List ℕ → Type 0
+AreTyped lines typed0 typed1 = (typed0 ≡ typed_in 0 lines) × (typed1 ≡ typed_in 1 lines)
+
+-- a generation begins as a script says: both guests at boot, the sectors of its setup on the disk, nothing written on it, and
+-- what its lines type
+pub record BeginsAs (setup : ScriptSetup) (given : List SectorWrite) (lines : List Line) (primary backup : Guest)
+    (records : List Record) (typed0 typed1 : List ℕ) : Type 0 where
+  pub primary_is : primary ≡ guest_at_boot setup.guest
+  pub backup_is : backup ≡ guest_at_boot setup.guest
+  pub at_boot : IsAtBoot records setup.guest.drives given
+  pub unwritten : IsUnwritten records
+  pub typed : AreTyped lines typed0 typed1
+
+-- it has ended, with these records on its disk
+pub record HasEnded (setup : ScriptSetup) (given : List SectorWrite) (lines : List Line) (winner : Option Who)
+    (screens : List (List ℕ)) (records : List Record) : Type 0 where
+  pub sectors : SectorAddress → List ℕ
+  pub booted : AreBooted setup given sectors
+  pub primary : List Entry
+  pub backup : List Entry
+  pub held : ℕ
+  pub s : Guest
+  pub t : Guest
+  pub ends : EndsBy (altair setup.guest sectors) (typed_in 0 lines) (typed_in 1 lines) winner primary backup held screens
+      records s t
 
 -- such an end is printed; whoever goes on alone in it was to ask, and if nobody does, nobody was
 pub record TellsEnd (setup : ScriptSetup) (given : List SectorWrite) (typed0 typed1 : List ℕ) (order : LiveOrder)

@@ -1,6 +1,7 @@
 //! The command `live`: a pair on threads, from its boot to its end, and what is printed of it.
 #![tactic(auto)]
 
+mod beginning;
 mod command;
 mod live;
 mod saving;

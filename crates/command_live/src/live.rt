@@ -1,33 +1,28 @@
 //! A pair on threads, from its boot to its end.
-ghost use Rattle.std.specs.Prelude.{◌≡◌, ◌∷◌, [], IfErr, IfOk, Some, map};
+ghost use Rattle.std.specs.Prelude.{◌≡◌, ◌∷◌, [], IfOk, map};
 ghost use Rattle.event_callbacks.specs.declared.devices.TheConstants.{SENT, SECTOR, WRITTEN};
 ghost use Rattle.event_callbacks.specs.Keeping.{Keeps};
-ghost use Rattle.guest_board.specs.Guest.{guest_at_boot};
 ghost use Rattle.command_ending.specs.Reports.{handed};
-ghost use Rattle.command_live.specs.Living.{EndsOf, Tells, end_text, typed_by, typed_in};
-ghost use Rattle.command_ending.specs.declared.failure.Failure.TheVariants as failure;
+ghost use Rattle.command_live.specs.Living.{EndsOf, HasEnded, Tells, end_text, typed_in};
 ghost use Rattle.pair_threads.specs.Ending.{WonBy};
 
+use crate::beginning::{Asked, workers_of};
 use crate::saving::images_of;
 use altair_laws::altairs_are_lawful;
 use command_ending::{Failure, Report};
 use command_input::Input;
 use command_line::LiveOrder;
-use event_callbacks::{Callbacks, Completes};
-use guest_board::{Board, Setup};
+use event_callbacks::Completes;
+use guest_board::Board;
 use i8080_words::{Fault, R};
-use pair_events::{Answer, Event};
-use pair_threads::{GenerationEnd, OpenGate, Who, Workers, run_generation};
-use script_language::{Line, Script};
-use shared_disk::{MemoryStore, SharedDisk};
+use pair_events::Answer;
+use pair_threads::{Fate, GenerationEnd, OpenGate, Who, run_generation};
+use shared_disk::MemoryStore;
 use std::alloc::Global;
 use std::fmt;
 use std::io::Write;
 use std::thread::Threads;
 use std::time::Clock;
-
-/// How many instructions a guest executes in one turn, at most.
-const STEPS: u64 = 10_000;
 
 // What a pair on threads prints: what each terminal has accepted, and who goes on alone, if anybody asked to.
 #[derive(Clone, Copy)]
@@ -137,66 +132,41 @@ fn live<
         ended.0.winner (map (λ v. v.items) ended.0.accepted) ended.1.items) }
     ensures won { IfOk result (λ ended. WonBy order.primary_asks order.backup_asks ended.0.winner) }
 {
-    altairs_are_lawful();
-    let Script { setup, lines } = &input.script;
-    let store = MemoryStore::at_boot(alloc, setup.guest.drives, &input.sectors)?;
-    let primary = board(alloc, &setup.guest, Callbacks::of(sent, sector, written))?;
-    let backup = board(alloc, &setup.guest, Callbacks::of(sent, sector, written))?;
-    let typed0 = typed_at(alloc, lines, 0)?;
-    let typed1 = typed_at(alloc, lines, 1)?;
-    let workers = Workers {
-        primary,
-        backup,
-        disk: SharedDisk::new(store),
-        typed0,
-        typed1,
-        fates: order.link,
-        primary_contests: order.primary_asks,
-        backup_contests: order.backup_asks,
-        steps: STEPS,
+    let asked = Asked {
+        turns: order.turns,
+        primary: order.primary_asks,
+        backup: order.backup_asks,
     };
-    let mut end = run_generation(rt, alloc, workers, &OpenGate, order.turns)?;
+    let mut end = generation(rt, alloc, asked, order.link, input, sent, sector, written)?;
     let images = images_of(alloc, &mut end.disk, &order.saved)?;
     Ok((end, images))
 }
 
-// The guest of a node at boot.
-fn board<T: Completes + Drop, S: Completes + Drop, W: Completes + Drop>(
+// The pair at its end.
+#[tactic(auto, using(crate::proofs::Living::has_ended))]
+fn generation<
+    H: Threads + Clock + Sync,
+    T: Completes + Drop + Copy + Send,
+    S: Completes + Drop + Copy + Send,
+    W: Completes + Drop + Copy + Send,
+>(
+    rt: &H,
     alloc: Global,
-    setup: &Setup,
-    callbacks: Callbacks<T, S, W>,
-) -> R<Board<T, S, W>>
-    ensures { IfOk result (λ board. board.guest ≡ guest_at_boot setup.now) }
+    asked: Asked,
+    link: Vec<Fate>,
+    input: &Input,
+    sent: T,
+    sector: S,
+    written: W,
+) -> R<GenerationEnd<Board<T, S, W>, MemoryStore>>
+    requires sent { Keeps (T.may sent) (T.gives sent) SENT }
+    requires sector { Keeps (S.may sector) (S.gives sector) SECTOR }
+    requires written { Keeps (W.may written) (W.gives written) WRITTEN }
+    ensures ended { IfOk result (λ end. HasEnded input.now.script.setup input.now.sectors.items
+        input.now.script.lines.items end.winner (map (λ v. v.items) end.accepted) end.disk) }
+    ensures won { IfOk result (λ end. WonBy asked.primary asked.backup end.winner) }
 {
-    match Board::boot(alloc, setup, callbacks) {
-        Ok(board) => Ok(board),
-        Err((_, fault)) => Err(fault),
-    }
-}
-
-// The bytes that lines type at a port.
-fn typed_at(alloc: Global, lines: &[Line], port: u8) -> R<Vec<u8>>
-    ensures { IfOk result (λ typed. typed.items ≡ typed_in port lines.now) }
-{
-    let mut typed = Vec::new(alloc);
-    for line in lines {
-        match typed_by(*line, port) {
-            Some(byte) => {
-                typed.reserve(1)?;
-                typed.push_reserved(byte);
-            }
-            None => {}
-        }
-    }
-    Ok(typed)
-}
-
-// The byte that a line types at a port.
-fn typed_by(line: Line, port: u8) -> Option<u8>
-    ensures { result ≡ typed_by port line }
-{
-    match line {
-        Line::Event(Event::TypeByte { port: at, byte }) if at == port => Some(byte),
-        _ => None,
-    }
+    altairs_are_lawful();
+    let workers = workers_of(alloc, asked, link, input, sent, sector, written)?;
+    run_generation(rt, alloc, workers, &OpenGate, asked.turns)
 }

@@ -1,1 +1,4 @@
+pub mod Answering
+pub mod Lines
+pub mod Running
 pub mod Sessions

@@ -1,22 +1,27 @@
--- One run of the program: what it has read and printed, and how it ends.
-use Rattle.std.specs.Prelude.{◌≡◌, ◌⊎◌, ℕ, Option, List, Result, Ok, Err, string_bytes}
+-- One run of the program: what its words ask for, what it has read and printed, and how it ends.
+use Rattle.std.specs.Prelude.{◌≡◌, ◌⊎◌, ℕ, Option, List, Result, Ok, Err, string_bytes, true}
 use Rattle.std.specs.Io.KnownBytes.{Appends}
+use Rattle.std.specs.Global.{Vec}
+use Rattle.std.specs.Result.{IsErrAnd}
 use Rattle.std.specs.declared.borrow.CowStr.{CowStr}
 use Rattle.command_lint.specs.Linting.{Lints}
 use Rattle.command_live.specs.Living.{PrintsLive, typed_in}
 use Rattle.command_script.specs.Drawing.{Draws}
-use Rattle.command_script.specs.Printing.{Prints}
+use Rattle.command_script.specs.Printing as script
 use Rattle.command_shell.specs.Sessions.{Hears}
 use Rattle.command_ending.specs.Inputs.{Meaning}
-use Rattle.command_ending.specs.Statuses.{EndsAs}
+use Rattle.command_ending.specs.Statuses.{EndsAs, is_of_command_line}
 use Rattle.command_ending.specs.declared.failure.Failure.{Failure}
 use Rattle.command_ending.specs.declared.failure.Failure.TheVariants.{CommandLine, BadScript}
 use Rattle.command_ending.specs.declared.failure.Failure.TheVariants.{OutOfMemory, InputOrOutput, Stalled, Differs}
 use Rattle.command_input.specs.Inputs.{ReadsInput, meaning_of}
 use Rattle.command_input.specs.declared.input.Input.{Input}
 use Rattle.command_input.specs.declared.input.Language.{Language}
+use Rattle.command_input.specs.declared.input.Language.TheVariants.{Any, Threads}
+use Rattle.command_line.specs.Orders.{IsAsked}
 use Rattle.command_line.specs.declared.options.Request.{Request}
 use Rattle.command_line.specs.declared.options.Request.TheVariants as request
+use Rattle.command_script.specs.declared.order.Order.{Order}
 use Rattle.command_script.specs.declared.order.Order.TheVariants as order
 use Rattle.script_language.specs.Live.{live_script_of}
 use Rattle.script_language.specs.Meaning.{script_of}
@@ -37,9 +42,9 @@ pub record IsOfReader (meaning : Meaning) (images : List ℕ) (remaining : Optio
 -- bad lines are named; a pair runs on threads, lines are answered as they come, or it is said what there is to ask for
 abbrev pub Obeys : Request → Option (List ℕ) → Result (Unit {0}) Failure → Option (List ℕ) → Option (List ℕ) → Type 0
 Obeys (request.Script images) remaining result old new = IsOfReader script_of images.items remaining (λ input.
-    Prints order.Script input.script.setup input.sectors.items input.script.lines.items result old new)
+    script.Prints order.Script input.script.setup input.sectors.items input.script.lines.items result old new)
 Obeys (request.Check images) remaining result old new = IsOfReader script_of images.items remaining (λ input.
-    Prints order.Check input.script.setup input.sectors.items input.script.lines.items result old new)
+    script.Prints order.Check input.script.setup input.sectors.items input.script.lines.items result old new)
 Obeys (request.Picture images) remaining result old new =
     IsOfReader script_of images.items remaining (λ input. Draws result old new)
 Obeys request.Lint remaining result old new = Lints remaining result old new
@@ -49,36 +54,67 @@ Obeys (request.Live how) remaining result old new = IsOfReader live_script_of ho
 Obeys request.Shell remaining result old new = Hears remaining result old new
 Obeys (request.Help text) remaining result old new = Writes (string_bytes text) result old new
 
--- some command was obeyed
-pub record IsObeyed (remaining : Option (List ℕ)) (result : Result (Unit {0}) Failure) (old new : Option (List ℕ)) : Type 0 where
-  pub request : Request
-  pub obeys : Obeys request remaining result old new
+-- the request of an order
+abbrev pub asked_by : Order → Vec ℕ → Request
+asked_by order.Script images = request.Script images
+asked_by order.Check images = request.Check images
+
+-- the drives whose images a request has before its script, and the language of that script; the others have no script
+abbrev pub IsScriptOf : Request → List ℕ → Language → Type 0
+IsScriptOf (request.Script images) drives language = (drives ≡ images.items) × (language ≡ Any)
+IsScriptOf (request.Check images) drives language = (drives ≡ images.items) × (language ≡ Any)
+IsScriptOf (request.Picture images) drives language = (drives ≡ images.items) × (language ≡ Any)
+IsScriptOf (request.Live how) drives language = (drives ≡ how.images.items) × (language ≡ Threads)
+IsScriptOf other drives language = ⊥
 
 module _ {R W : Type 0} (remaining : R → Option (List ℕ)) (contents : W → Option (List ℕ)) (reader reader' : R)
     (writer writer' : W) where
-  -- a script that is refused for a line that is bad prints nothing
-  pub record Refuses (line : ℕ) : Type 0 where
+  -- the script of a request is refused for a line that is bad, and nothing is printed
+  pub record Refuses (asked : Request) (line : ℕ) : Type 0 where
     pub prints_nothing : writer' ≡ writer
-    pub images : List ℕ
+    pub drives : List ℕ
     pub language : Language
-    pub refused : ReadsInput (meaning_of language) images (remaining reader) (Err (BadScript line))
+    pub of_request : IsScriptOf asked drives language
+    pub refused : ReadsInput (meaning_of language) drives (remaining reader) (Err (BadScript line))
 
-  -- what a failure leaves: a refused command line reads nothing, and a script with a bad line is refused, or its bad lines are named
-  abbrev pub Leaves : Failure → Type 0
-  Leaves (CommandLine text) = (reader' ≡ reader) × (writer' ≡ writer)
-  Leaves (BadScript line) = Refuses line ⊎ IsObeyed (remaining reader) (Err (BadScript line)) (contents writer) (contents writer')
-  Leaves OutOfMemory = IsObeyed (remaining reader) (Err OutOfMemory) (contents writer) (contents writer')
-  Leaves InputOrOutput = IsObeyed (remaining reader) (Err InputOrOutput) (contents writer) (contents writer')
-  Leaves Stalled = IsObeyed (remaining reader) (Err Stalled) (contents writer) (contents writer')
-  Leaves Differs = IsObeyed (remaining reader) (Err Differs) (contents writer) (contents writer')
+  -- what a command prints that ends like this
+  abbrev pub Prints : Request → Result (Unit {0}) Failure → Type 0
+  Prints asked result = Obeys asked (remaining reader) result (contents writer) (contents writer')
 
-  abbrev pub IsRun : Result (Unit {0}) Failure → Type 0
-  IsRun (Ok done) = IsObeyed (remaining reader) (Ok done) (contents writer) (contents writer')
-  IsRun (Err failure) = Leaves failure
+  -- What a failure leaves of a request. A script with a bad line is refused, or its bad lines are named. If memory is refused or
+  -- input fails before all of it was read, nothing is printed.
+  abbrev pub Leaves : Request → Failure → Type 0
+  Leaves asked (CommandLine text) = ⊥
+  Leaves asked (BadScript line) = Refuses asked line ⊎ Prints asked (Err (BadScript line))
+  Leaves asked OutOfMemory = (writer' ≡ writer) ⊎ Prints asked (Err OutOfMemory)
+  Leaves asked InputOrOutput = (writer' ≡ writer) ⊎ Prints asked (Err InputOrOutput)
+  Leaves asked Stalled = Prints asked (Err Stalled)
+  Leaves asked Differs = Prints asked (Err Differs)
 
--- some run ends with this status and this text
+  -- a request was obeyed, with this end
+  abbrev pub IsObeyed : Request → Result (Unit {0}) Failure → Type 0
+  IsObeyed asked (Ok done) = Prints asked (Ok done)
+  IsObeyed asked (Err failure) = Leaves asked failure
+
+  -- the words ask for this request, and it was obeyed
+  pub record Obeyed (words : List (List ℕ)) (result : Result (Unit {0}) Failure) : Type 0 where
+    pub asked : Request
+    pub by_words : IsAsked words asked
+    pub obeyed : IsObeyed asked result
+
+  -- the words ask for nothing, or memory is refused for reading them: nothing is read or printed
+  pub record RefusesWords (result : Result (Unit {0}) Failure) : Type 0 where
+    pub failed : IsErrAnd result (λ failure. is_of_command_line failure ≡ true)
+    pub reads_nothing : reader' ≡ reader
+    pub prints_nothing : writer' ≡ writer
+
+  -- one run of the program on these words
+  abbrev pub IsRun : List (List ℕ) → Result (Unit {0}) Failure → Type 0
+  IsRun words result = Obeyed words result ⊎ RefusesWords result
+
+-- some run on these words ends with this status and this text
 pub record IsEnding {R W Z : Type 0} (remaining : R → Option (List ℕ)) (contents : W → Option (List ℕ)) (reader reader' : R)
-    (writer writer' : W) (ending : ℕ × CowStr Z) : Type 0 where
+    (writer writer' : W) (words : List (List ℕ)) (ending : ℕ × CowStr Z) : Type 0 where
   pub result : Result (Unit {0}) Failure
-  pub run : IsRun remaining contents reader reader' writer writer' result
+  pub run : IsRun remaining contents reader reader' writer writer' words result
   pub ends : EndsAs result ending

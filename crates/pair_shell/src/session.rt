@@ -29,7 +29,7 @@ impl<T: Completes + Drop + Copy, S: Completes + Drop + Copy, W: Completes + Drop
 > {
     ghost use Rattle.std.specs.Prelude.{◌≡◌, [], true, false, IfOk, None, Some, string_bytes};
     ghost use Rattle.shell_language.specs.Saying.{said};
-    ghost use Rattle.shell_opening.specs.Openings.{IsSame, SetsUp, SetsUpSaid};
+    ghost use Rattle.shell_opening.specs.Openings.{IsDefault, IsSame, SetsUp, SetsUpSaid};
     ghost use Rattle.pair_shell.specs.Sessions.{AltairsPlay, HeedsSaid, IsAsBefore, IsHeeded, is_quit, trace_after};
     ghost use Rattle.pair_shell.specs.Looking.{IsLooked, IsSeenSaid};
     ghost use Rattle.shell_book.specs.Outcomes.{is_ended};
@@ -39,7 +39,11 @@ impl<T: Completes + Drop + Copy, S: Completes + Drop + Copy, W: Completes + Drop
     ghost use Rattle.pair_shell.specs.Sessions.{BootsBy, is_setup};
 
     /// A session before its first line.
-    pub fn new(alloc: Global) -> Result<Self, AllocError> {
+    pub fn new(alloc: Global) -> Result<Self, AllocError>
+        ensures set { IfOk result (λ session. IsDefault session.opening) }
+        ensures none { IfOk result (λ session. session.world ≡ None) }
+        ensures untraced { IfOk result (λ session. session.is_traced ≡ false) }
+    {
         Ok(Session {
             opening: Opening::new(alloc)?,
             world: None,

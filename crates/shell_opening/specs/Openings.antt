@@ -2,11 +2,16 @@
 use Rattle.std.specs.Prelude.{◌≡◌, ℕ, ◌-◌, List, [], ◌∷◌, ◌++◌, Option, Some, None, length, replicate, take}
 use Rattle.disk_dcdd.specs.declared.address.SectorAddress.{SectorAddress}
 use Rattle.disk_dcdd.specs.declared.sector.SectorWrite.{SectorWrite}
-use Rattle.script_language.specs.Booting.{Boot, boot_after, boot_of, memory_from}
+use Rattle.script_language.specs.Booting.{Boot, boot_after, boot_of, default_boot, memory_from}
 use Rattle.script_language.specs.Words.{bytes_of}
 use Rattle.shell_language.specs.declared.line.ShellLine.{ShellLine}
 use Rattle.shell_language.specs.declared.line.ShellLine.TheVariants as shell
 use Rattle.shell_opening.specs.declared.opening.Opening.{Opening}
+
+-- the setup before the first line: what a script boots that has no setup line
+pub record IsDefault (opening : Opening) : Type 0 where
+  pub boot : boot_of opening.setup ≡ default_boot
+  pub sectors : opening.sectors.items ≡ []
 
 -- the machines boot in the same way, from the same sectors
 pub record IsSame (old new : Opening) : Type 0 where

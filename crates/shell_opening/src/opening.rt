@@ -23,10 +23,12 @@ impl Opening {
     ghost use Rattle.script_language.specs.Booting.{boot_of, memory_from};
     ghost use Rattle.std.specs.Prelude.{false};
     ghost use Rattle.shell_book.specs.Outcomes.{is_ended};
-    ghost use Rattle.shell_opening.specs.Openings.{IsSame, SetsUp};
+    ghost use Rattle.shell_opening.specs.Openings.{IsDefault, IsSame, SetsUp};
 
     /// The setup if no line says otherwise.
-    pub fn new(alloc: Global) -> Result<Opening, AllocError> {
+    pub fn new(alloc: Global) -> Result<Opening, AllocError>
+        ensures { IfOk result IsDefault }
+    {
         Ok(Opening {
             setup: ScriptSetup::new(alloc)?,
             sectors: Vec::new(alloc),

@@ -3,8 +3,8 @@ use Rattle.std.proofs.Common.{ℕ, [], ◌∷◌, ◌++◌, Vec, Global, ap, ◌
 use Rattle.pair_events.specs.declared.event.Event.TheVariants.{Step}
 use Rattle.script_language.specs.declared.line.Line.TheVariants.{Event}
 use Rattle.command_live.proofs.Living.{as_many, byte_more}
-use Rattle.command_live.proofs.live.typed_at.Goals as goal
-use Rattle.command_live.proofs.live.typed_at.Goals.{in-Some+in_ok-reserve-in-Some, in-None}
+use Rattle.command_live.proofs.beginning.typed_at.Goals as goal
+use Rattle.command_live.proofs.beginning.typed_at.Goals.{in-Some+in_ok-reserve-in-Some, in-None}
 
 pub loop-line-preserved : goal.loop-line-preserved
 loop-line-preserved c = elim c.match-typed_by.branch [

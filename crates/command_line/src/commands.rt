@@ -1,0 +1,198 @@
+//! The program's commands and their options, as clap takes them.
+
+use clap::builder::ValueParser;
+use clap::{Arg, Command};
+use std::alloc::{AllocError, Global};
+
+const EXAMPLE: &str = "\
+The script comes from standard input: a setup, and then one event or query a line.
+Here the guest sends the byte 48 and halts, the backup acknowledges it, and the
+terminal of port 0 accepts it:
+
+./pair script << END
+mem 0000 3E 03 D3 10 3E 15 D3 10 3E 48 D3 11 76
+step 0 10
+send 0 0
+log 0 1
+ack 1
+acked 1 0
+release 0 byte 0 1
+arrive 2
+show 0
+END
+
+Exit status: 0 the run ended; 2 this text, or a command line that is none; 3 a bad
+script; 4 out of memory; 5 input or output failed; 6 a pair on threads stalled; 7
+`check` found a difference.";
+
+const LIVE_USAGE: &str =
+    "pair live [OPTIONS] < FILE (setup and `type` lines come from standard input)";
+
+// The names of the fates of a packet: it is brought, it is lost, it is brought twice.
+static FATES: &[&str] = &["pass", "drop", "twice"];
+
+static DRIVES: &[&str] = &["0", "1", "2", "3"];
+
+const IMAGES: &str =
+    "The drives whose disks come before the script, each as an image of 337568 bytes; ./pair sends them for --disk";
+
+const SAVED: &str =
+    "The drives whose disks are written as images at the end; ./pair keeps them for --save-disk";
+
+// How many turns there are at most.
+const MOST_TURNS: u64 = 1_000_000_000;
+
+const TURNS_HELP: &str =
+    "In how many turns the primary, and the backup, may make progress; one that finds nothing to do is none of them";
+
+// The commands that run a script: their names, what they do, and how they are called.
+static SCRIPT_COMMANDS: [(&str, &str, &str); 3] = [
+    (
+        "script",
+        "Runs a script, and prints a line for each event and query",
+        "pair script [OPTIONS] < FILE (the script comes from standard input)",
+    ),
+    (
+        "check",
+        "Runs a script silently, and compares the pair with a single machine",
+        "pair check [OPTIONS] < FILE (the script comes from standard input)",
+    ),
+    (
+        "picture",
+        "Runs a script silently, and draws what happened in it as an SVG picture",
+        "pair picture [OPTIONS] < FILE > PICTURE.svg (the script comes from standard input)",
+    ),
+];
+
+// The commands without options.
+static PLAIN_COMMANDS: [(&str, &str, &str); 2] = [
+    (
+        "lint",
+        "Names every bad line of a script, and what was expected there; it runs nothing",
+        "pair lint < FILE (the script comes from standard input)",
+    ),
+    (
+        "shell",
+        "Answers lines as they come; the line `help` lists them all",
+        "pair shell (lines come from standard input)",
+    ),
+];
+
+// The options of `live` that say when somebody asks.
+static ASKS: [(&str, &str); 2] = [
+    (
+        "primary-asks",
+        "The turn at which the primary asks to go on alone",
+    ),
+    (
+        "backup-asks",
+        "The turn at which the backup asks to go on alone",
+    ),
+];
+
+/// The program with all its commands.
+pub(crate) fn pair_command<'a>(alloc: Global) -> Result<Command<'a>, AllocError> {
+    let pair = with_script_commands(alloc, program(alloc)?)?;
+    with_live_command(alloc, with_plain_commands(alloc, pair)?)
+}
+
+// The program without its commands.
+fn program<'a>(alloc: Global) -> Result<Command<'a>, AllocError> {
+    let pair = Command::new(alloc, "pair").bin_name("pair")?;
+    Ok(
+        pair.version("0.1.0")
+            .about("A fault-tolerant pair of Altair 8800s")
+            .after_help(EXAMPLE)
+            .subcommand_required(true),
+    )
+}
+
+// The program with its command that runs a pair on threads.
+fn with_live_command<'a>(alloc: Global, program: Command<'a>) -> Result<Command<'a>, AllocError> {
+    program.subcommand(live_command(alloc)?)
+}
+
+// The program with its commands that run a script.
+fn with_script_commands<'a>(
+    alloc: Global,
+    program: Command<'a>,
+) -> Result<Command<'a>, AllocError> {
+    let mut pair = program;
+    for (name, about, usage) in SCRIPT_COMMANDS {
+        let command = Command::new(alloc, name).about(about).override_usage(usage);
+        pair = pair.subcommand(command.arg(images(alloc))?)?;
+    }
+    Ok(pair)
+}
+
+// The program with its commands without options.
+fn with_plain_commands<'a>(alloc: Global, program: Command<'a>) -> Result<Command<'a>, AllocError> {
+    let mut pair = program;
+    for (name, about, usage) in PLAIN_COMMANDS {
+        let command = Command::new(alloc, name).about(about).override_usage(usage);
+        pair = pair.subcommand(command)?;
+    }
+    Ok(pair)
+}
+
+// The command that runs a pair on threads.
+fn live_command<'a>(alloc: Global) -> Result<Command<'a>, AllocError> {
+    let live = Command::new(alloc, "live")
+        .about("Runs a pair on threads, and prints what its terminals have accepted")
+        .override_usage(LIVE_USAGE);
+    with_words(alloc, with_turns(alloc, live)?)
+}
+
+// The command with its options that say for how many turns, and when somebody asks.
+fn with_turns<'a>(alloc: Global, live: Command<'a>) -> Result<Command<'a>, AllocError> {
+    let turns = turn(alloc, "turns", 1)
+        .help(TURNS_HELP)
+        .default_value("1000000");
+    let mut command = live.arg(turns)?;
+    for (name, help) in ASKS {
+        command = command.arg(turn(alloc, name, 0).help(help))?;
+    }
+    Ok(command)
+}
+
+// The command with its options whose values are words.
+fn with_words<'a>(alloc: Global, live: Command<'a>) -> Result<Command<'a>, AllocError> {
+    let command = live.arg(link(alloc))?;
+    command.arg(images(alloc))?.arg(saved(alloc))
+}
+
+fn link<'a>(alloc: Global) -> Arg<'a> {
+    words(alloc, "link", "FATES", FATES).help(
+        "The fates of the packets, in order; the last is that of all others",
+    )
+}
+
+fn images<'a>(alloc: Global) -> Arg<'a> {
+    words(alloc, "images", "DRIVES", DRIVES).help(IMAGES)
+}
+
+fn saved<'a>(alloc: Global) -> Arg<'a> {
+    words(alloc, "saved", "DRIVES", DRIVES).help(SAVED)
+}
+
+// An option whose values are words of a list, with commas between them.
+fn words<'a>(
+    alloc: Global,
+    name: &'a str,
+    values: &'a str,
+    list: &'static [&'static str],
+) -> Arg<'a> {
+    Arg::new(alloc, name)
+        .long(name)
+        .value_name(values)
+        .value_delimiter(',')
+        .value_parser(ValueParser::Names(list))
+}
+
+// An option whose value is a number of turns, at least this many.
+fn turn<'a>(alloc: Global, name: &'a str, least: u64) -> Arg<'a> {
+    Arg::new(alloc, name)
+        .long(name)
+        .value_name("N")
+        .value_parser(ValueParser::unsigned(least, MOST_TURNS))
+}
