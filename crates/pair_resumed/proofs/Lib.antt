@@ -1,0 +1,14 @@
+pub mod Logging
+pub mod Following
+pub mod Giving
+pub mod OnDisk
+pub mod Taking
+pub mod Completing
+pub mod Reading
+pub mod KeptRuns
+pub mod Given
+pub mod Settling
+pub mod Altair
+pub mod GoingOn
+pub mod Growing
+pub mod Begins

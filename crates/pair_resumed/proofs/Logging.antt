@@ -1,0 +1,89 @@
+-- An entry is appended, taken by the backup, held and seen; and what is outstanding then may be released.
+use Rattle.std.proofs.Common.{◌≡◌, ℕ, ◌+◌, ◌<◌, cond, List, [], ◌∷◌, ◌++◌, length, Some, refl, sym, ap, ◌∙◌, arith, eq-eqb}
+use mathlib.Core.Option.{some}
+use lib.ListN.{get_elem?}
+use Rattle.event_callbacks.specs.Operations.{id_of}
+use Rattle.event_callbacks.specs.declared.operations.Operation.{Operation}
+use Rattle.guest_lockstep.specs.Machine.{Machine, Move}
+use Rattle.guest_lockstep.specs.Recorded.{Recorded}
+use Rattle.guest_lockstep.specs.declared.reads.Reads.TheVariants.{Logged}
+use Rattle.log_entry.specs.Entries.{entries}
+use Rattle.log_entry.specs.declared.entry.Entry.{Entry}
+use Rattle.pair_protocol.specs.Lawful.{top}
+use Rattle.pair_rule.specs.declared.mailbox.Mailbox.TheVariants.{Inbox}
+use Rattle.pair_rule.specs.declared.payload.Packet.{Packet}
+use Rattle.pair_rule.specs.declared.payload.Payload.TheVariants.{Log}
+use Rattle.pair_rule.specs.declared.view.Knowledge.{Knowledge}
+use Rattle.pair_rule.specs.Knowledge.{after_empty, appended, held, last_or, saw}
+use Rattle.pair_rule.specs.Law.{HasLonger, IsTold}
+use Rattle.pair_rule.specs.Shown.{notes_from}
+use Rattle.pair_rule.specs.Steps.{Appends, Empties, Holds, MayRelease, Sees}
+use Rattle.pair_rule.specs.Threads.{Goes, ThreadRun}
+use Rattle.pair_rule.proofs.ListsThatGrow.{last_more}
+use Rattle.pair_threads.proofs.KeptCalls.{covered_by, notes_covered}
+
+abbrev packet : Knowledge → Entry → Packet
+packet k e = record { generation = k.generation; index = length k.primary.list; entry = e }
+
+abbrev taken : Entry → Knowledge → Knowledge
+taken e k = after_empty Inbox (Log (packet k e)) (appended e k)
+
+abbrev pub logged : Entry → Knowledge → Knowledge
+logged e k = saw (last_or 0 (held (taken e k)).backup.held_values) (held (taken e k))
+
+-- both lists are this one, all of it is held and seen, and nobody has asked to go on alone
+pub record IsAt (list : List Entry) (k : Knowledge) : Type 0 where
+  pub primary : k.primary.list ≡ list
+  pub backup : k.backup.list ≡ list
+  pub seen : k.primary.seen ≡ length list
+  pub held : last_or 0 k.backup.held_values ≡ length list
+  pub primary_waits : k.primary.winner ≡ 0
+  pub backup_waits : k.backup.winner ≡ 0
+
+get_end : (xs : List Entry) (x : Entry) → get_elem? (xs ++ x ∷ []) (length xs) ≡ some x
+get_end [] x = refl
+get_end (y ∷ xs) x = get_end xs x
+
+room : (n seen : ℕ) → seen ≡ n → n < seen + 256
+room n seen is = omega (arith, is)
+
+module _ {S : Type 0} (M : Machine S) (typed0 typed1 : List ℕ) (k : Knowledge) (list : List Entry) (at : IsAt list k)
+    (e : Entry) where
+  pub log_runs : ThreadRun M typed0 typed1 k → (run : HasLonger M k.primary.list e) → length k.primary.list < top
+      → IsTold M typed0 typed1 k run.before e → ThreadRun M typed0 typed1 (logged e k)
+  log_runs before run few told =
+      Goes (Goes (Goes (Goes before
+      (Appends e run record {
+        asks_not = at.primary_waits;
+        few = few;
+        room = room (length k.primary.list) k.primary.seen (at.seen ∙ sym (ap length at.primary));
+      } told))
+      (Empties Inbox (Log (packet k e)) at.backup_waits (refl, get_end k.primary.list e)))
+      (Holds at.backup_waits)) (Sees at.primary_waits)
+
+  copy_is : (taken e k).backup.list ≡ list ++ e ∷ []
+  copy_is = ap (λ b. cond b (k.backup.list ++ e ∷ []) k.backup.list)
+      (eq-eqb (length k.primary.list) (length k.backup.list) (ap length (at.primary ∙ sym at.backup)))
+      ∙ ap (λ l. l ++ e ∷ []) at.backup
+
+  pub log_at : IsAt (list ++ e ∷ []) (logged e k)
+  log_at = let last = last_more 0 (length (taken e k).backup.list) k.backup.held_values ∙ ap length copy_is in record {
+    primary = ap (λ l. l ++ e ∷ []) at.primary;
+    backup = copy_is;
+    seen = last;
+    held = last;
+    primary_waits = at.primary_waits;
+    backup_waits = at.backup_waits;
+  }
+
+-- no note of a single operation is kept: the mark of each is seen
+pub may_release : {S : Type 0} (M : Machine S) (moves : List Move) (s : S) → Recorded M M.boot moves s → (k : Knowledge)
+    → IsAt (entries Logged 0 moves) k → (o : Operation) → M.find s (id_of o) ≡ Some o → MayRelease M k o
+may_release M moves s made k at o found = (
+  record { moves = moves; last = s; recorded = made; entries_are = sym at.primary },
+  (
+    found,
+    covered_by k.primary.seen (notes_from 0 [] [] moves) (id_of o)
+        (notes_covered k.primary.seen moves 0 [] [] tt tt (let e = at.seen in omega (arith, e))),
+  ),
+)
