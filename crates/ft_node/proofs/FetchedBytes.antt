@@ -1,10 +1,9 @@
--- What a follower waits for, and the bytes that arrive for it: its replayer's read is the node's, and so are the refusals
+-- The bytes that arrive for the read that a follower waits for: its replayer's read is the node's, and so are the refusals
 -- of bytes that are not wanted.
-use Rattle.std.proofs.Common.{◌≡◌, ℕ, Bool, true, false, cond, not, ◌==◌, Option, Some, None, List, [], ◌∷◌, Result, Ok, Err, refl, sym, ap, subst, ◌∙◌}
-use Rattle.std.specs.Prelude.{OnOk, OnErr, is_none}
+use Rattle.std.proofs.Common.{◌≡◌, ℕ, Bool, true, false, cond, not, ◌==◌, Option, Some, None, List, [], ◌∷◌, Result, Ok, Err, refl, sym, ap, ◌∙◌}
+use Rattle.std.specs.Prelude.{OnOk, OnErr}
 use Rattle.disk_dcdd.specs.Address.{same_address}
 use Rattle.disk_dcdd.specs.Completion.{answered}
-use Rattle.disk_dcdd.specs.declared.address.SectorAddress.{SectorAddress}
 use Rattle.guest_lockstep.specs.Machine.{Machine}
 use Rattle.guest_lockstep.specs.declared.reads.Reads.{Reads}
 use Rattle.i8080_words.specs.declared.refusal.Fault.{Fault}
@@ -52,42 +51,6 @@ module _ {S : Type 0} (M : Machine S) (role : Role) (reads : Reads) (x : Node S)
       ap (λ s. replaying.wanted M s r.entries come) (sym f.machine)
       ∙ ap (replaying.wanted M x.machine r.entries) (sym f.come)
       ∙ wanted_is M x x.machine x.replayed r.entries x.fetched (sym f.left)
-
-  -- ---- what it waits for
-
-  -- it waits for none
-  pub waits_for_none : replaying.wanted M s r.entries come ≡ None → calls.Wanted M x (Err NotDue)
-  waits_for_none none =
-      let refused : refusals.fetch_refusal M x ≡ Some NotDue =
-      ap (λ role. first_of (role ∷ fault_if (is_none (effect.wanted M x)) NotDue ∷ [])) allowed
-      ∙ ap (λ (next : Option (ℕ × ℕ × ℕ)). first_of (fault_if (is_none next) NotDue ∷ [])) (sym same_wanted ∙ none) in
-      subst
-      (λ o. calls.Unless {A = SectorAddress} o (Err NotDue) (Unit {0})
-      (calls.Gives {A = SectorAddress} (Err NotDue) ⊥ (λ address. effect.Wants M address x)))
-      (sym refused) (refl, tt)
-
-  -- or for this one
-  pub waits_for : (drive sector number : ℕ) (address : SectorAddress)
-      → replaying.wanted M s r.entries come ≡ Some (drive, sector, number) → address ≡ M.address s drive sector
-      → calls.Wanted M x (Ok address)
-  waits_for drive sector number address next is =
-      let here : effect.wanted M x ≡ Some (drive, sector, number) = sym same_wanted ∙ next in
-      let passed : refusals.fetch_refusal M x ≡ None =
-      ap (λ role. first_of (role ∷ fault_if (is_none (effect.wanted M x)) NotDue ∷ [])) allowed
-      ∙ ap (λ (next : Option (ℕ × ℕ × ℕ)). first_of (fault_if (is_none next) NotDue ∷ [])) here in
-      subst
-      (λ o. calls.Unless {A = SectorAddress} o (Ok address) (Unit {0})
-      (calls.Gives {A = SectorAddress} (Ok address) ⊥ (λ address. effect.Wants M address x)))
-      (sym passed)
-      (record {
-        drive = drive;
-        sector = sector;
-        number = number;
-        read = here;
-        address_is = is ∙ ap (λ s. M.address s drive sector) (sym f.machine);
-      })
-
-  -- ---- the bytes
 
   refusal_is : (read : SectorRead)
       → replaying.bytes_refusal M s r.entries come read

@@ -11,7 +11,7 @@ pub struct Ran {
 }
 
 /// How many moves were made, and why no more were: if nothing is left, the node is alone now.
-#[derive(Clone, Copy, PartialEq, Eq)]
+#[derive(Clone, Copy)]
 pub struct Drained {
     pub moves: u64,
     pub why: ReplayEnd,
@@ -26,7 +26,7 @@ pub struct NextGeneration {
 }
 
 /// What a part of an image was to a joining node: a new one, one that had arrived before, or the last one that was missing.
-#[derive(Clone, Copy, PartialEq, Eq)]
+#[derive(Clone, Copy)]
 pub enum PartCame {
     New,
     Old,
