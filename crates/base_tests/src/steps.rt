@@ -1,6 +1,6 @@
 //! Worked examples of interrupts, HLT and a small program, over a memory of 256 bytes.
 ghost use Rattle.std.specs.Prelude.{◌≡◌};
-ghost use Rattle.processor_tests.specs.Examples.{Wires, byte_at as byte_of_wires, input_byte as input_of_wires, access};
+ghost use Rattle.base_tests.specs.Examples.{Wires, byte_at as byte_of_wires, input_byte as input_of_wires, access};
 
 mod codes;
 

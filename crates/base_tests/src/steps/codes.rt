@@ -8,7 +8,7 @@
 //! exclusive-ored with the byte and multiplied by 16777619 modulo 2^32. A round folds the registers, the interrupts (0
 //! off, 1 soon, 2 on), whether the processor is halted, each port access (49 and the port; 4F, the port and the byte),
 //! and the sum over the bytes written of (address * 256 + byte) * 2654435761 modulo 2^32, highest byte first.
-ghost use Rattle.processor_tests.specs.Examples.{byte_in, input_at, access_of};
+ghost use Rattle.base_tests.specs.Examples.{byte_in, input_at, access_of};
 
 use i8080_core::{Bus, Cpu};
 use i8080_words::{AddressRegister, Interrupts, Processor, Regs, of_psw, psw};
