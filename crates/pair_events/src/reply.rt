@@ -28,7 +28,7 @@ pub enum Role {
 }
 
 /// The answer to an event that was not refused.
-#[derive(Clone, Copy, PartialEq, Eq)]
+#[derive(Clone, Copy)]
 pub enum Reply {
     /// The steps executed, the instruction count after them, and why no more were executed.
     Ran {
