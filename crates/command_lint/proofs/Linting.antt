@@ -131,12 +131,13 @@ module _ (drives room number : ℕ) (all : List (List ℕ)) (said : Said) where
     unfolding bad_from
     from_on h = rw is (rw (lt_false room (length line) h) refl)
 
--- before the first line
-pub begins : (text : List ℕ) (drives : ℕ) (said : Said) (old : Option (List ℕ)) → drives ≡ (said_in text).boot.drives
-    → said ≡ nothing_said → NamesOn (bad_lines text) (bad_from drives 1048576 1 (lines_of text) said) old old
-begins text drives said old is none = on_none (bad_lines text) (bad_from drives 1048576 1 (lines_of text) said) old
-    (ap (λ (d : ℕ). bad_from d 1048576 1 (lines_of text) nothing_said) (sym is)
-    ∙ ap (λ (s : Said). bad_from drives 1048576 1 (lines_of text) s) (sym none))
+-- the bad lines of a text are those from its first line on
+pub names_lines : (text : List ℕ) (drives : ℕ) (said : Said) (result : Result (Unit {0}) Failure) (old new : Option (List ℕ))
+    → drives ≡ (said_in text).boot.drives → said ≡ nothing_said
+    → NamesUntil (bad_from drives 1048576 1 (lines_of text) said) result old new → NamesUntil (bad_lines text) result old new
+names_lines text drives said result old new is none h =
+    subst (λ (d : ℕ). NamesUntil (bad_from d 1048576 1 (lines_of text) nothing_said) result old new) is
+    (subst (λ (s : Said). NamesUntil (bad_from drives 1048576 1 (lines_of text) s) result old new) none h)
 
 module _ (all : List Bad) (drives room number : ℕ) (rest : List ℕ) (said : Said) (old mid new : Option (List ℕ))
     (h : NamesOn all (bad_from drives room number (lines_of rest) said) old mid) where

@@ -2,7 +2,7 @@
 ghost use Rattle.std.specs.Prelude.{◌≡◌, ◌≤◌, ◌∷◌, [], IfErr, IfOk, length};
 ghost use Rattle.command_ending.specs.Reports.{handed};
 ghost use Rattle.command_ending.specs.declared.failure.Failure.TheVariants as failure;
-ghost use Rattle.command_lint.specs.Linting.{IsFirstBad, Lints, LintsText, NamesUntil, bad_at, bad_lines, is_bad, line_after, named};
+ghost use Rattle.command_lint.specs.Linting.{IsFirstBad, Lints, LintsText, NamesUntil, bad_at, bad_from, bad_lines, is_bad, line_after, named};
 ghost use Rattle.script_language.specs.Meaning as meaning;
 ghost use Rattle.script_language.specs.Text.{lines_of};
 
@@ -75,8 +75,8 @@ fn line_count(text: &[u8]) -> usize
     count
 }
 
-// Names each bad line. The first without room is the last that is looked at.
-#[tactic(auto, using(crate::proofs::Linting::names_until, crate::proofs::Linting::some_none))]
+// Names each bad line.
+#[tactic(auto, using(crate::proofs::Linting::names_until, crate::proofs::Linting::names_lines, crate::proofs::Linting::some_none))]
 fn name_all<W: Write + Drop>(
     alloc: Global,
     bytes: &[u8],
@@ -88,6 +88,22 @@ fn name_all<W: Write + Drop>(
 {
     let drives = drives_of(alloc, bytes)?;
     let mut draft = Draft::new(alloc)?;
+    name_each(alloc, bytes, drives, &mut draft, report, writer)
+}
+
+// Names each bad line after what was said before it. The first without room is the last that is looked at.
+#[tactic(auto, using(crate::proofs::Linting::names_until, crate::proofs::Linting::some_none))]
+fn name_each<W: Write + Drop>(
+    alloc: Global,
+    bytes: &[u8],
+    drives: u8,
+    draft: &mut Draft,
+    report: &mut Report,
+    writer: &mut W,
+) -> Result<(), Failure>
+    ensures { NamesUntil (bad_from drives 1048576 1 (lines_of bytes.now) (meaning.said_by draft.old)) result
+        (handed (W.contents writer.old) report.old) (handed (W.contents writer.new) report.new) }
+{
     let mut rest = bytes;
     let mut room = SCRIPT_BYTES;
     let mut number = 1u64;
@@ -96,8 +112,7 @@ fn name_all<W: Write + Drop>(
         if line.len() > room {
             return name(number, Reason::Size, report, writer);
         }
-        let text = text_of(line);
-        name_if_bad(alloc, &mut draft, number, text, drives, report, writer)?;
+        name_if_bad(alloc, draft, number, text_of(line), drives, report, writer)?;
         rest = after;
         room -= line.len();
         number += 1;
