@@ -29,7 +29,7 @@ PairShows guest (Some world) (Some pair) = Shows guest guest some_altair records
 PairShows guest None None = Unit {0}
 PairShows guest _ _ = ⊥
 
--- it is this session of the protocol
+-- it is this session, with its pair as the protocol has it
 abbrev pub sitting : {B H : Type 0} → Desk B H → Option (Course Guest) → Sitting
 sitting d pair = record { opening = d.opening; pair = pair; is_traced = d.is_traced }
 
