@@ -95,16 +95,16 @@ pub fn xor8(a: u8, b: u8) -> (u8, Flags)
 pub fn inr(value: u8, carry: bool) -> (u8, Flags)
     ensures { result ≡ incremented value carry }
 {
-    let (sum, flags) = add8(value, 1, false);
-    (sum, Flags { cy: carry, ..flags })
+    let sum = value.wrapping_add(1);
+    (sum, flags_of_result(sum, value & 0x0f == 0x0f, carry))
 }
 
 /// A byte minus 1, modulo 256; the carry is unchanged (DCR).
 pub fn dcr(value: u8, carry: bool) -> (u8, Flags)
     ensures { result ≡ decremented value carry }
 {
-    let (sum, flags) = add8(value, 0xff, false);
-    (sum, Flags { cy: carry, ..flags })
+    let sum = value.wrapping_sub(1);
+    (sum, flags_of_result(sum, value & 0x0f != 0, carry))
 }
 
 /// The accumulator adjusted to two decimal digits, given its auxiliary carry and its carry (DAA).
