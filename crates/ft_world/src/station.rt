@@ -6,10 +6,11 @@ ghost use Rattle.i8080_words.specs.declared.refusal.Fault.TheVariants.{Lost};
 ghost use Rattle.log_channel.specs.Packet.{packet_at};
 ghost use Rattle.pair_protocol.specs.Effects.{Took, NeedsEntry};
 ghost use Rattle.pair_protocol.specs.Node as protocol;
+ghost use Rattle.pair_protocol.specs.Node.{holds};
 ghost use Rattle.ft_node.specs.Calls as calls;
 ghost use Rattle.ft_node.specs.Roles.{count_of};
 ghost use Rattle.ft_node.specs.Pages.{PagesGoOn, StepsWrite};
-ghost use Rattle.ft_node.specs.Seats.{IsNode, MayAccept, MayReplay, MayRun, PagesStay, alone_board};
+ghost use Rattle.ft_node.specs.Seats.{IsNode, MayAccept, MayHold, MayReplay, MayRun, PagesStay, alone_board};
 ghost use Rattle.ft_world.specs.Offers.{IsOffer, input_of, offer_refusal};
 ghost use Rattle.ft_world.specs.Shows.{IsStation, drained_count};
 
@@ -21,6 +22,7 @@ use disk_dcdd::SectorAddress;
 use ft_node::{Drained, Node, Ran};
 use guest_lockstep::{Input, ReplayEnd};
 use i8080_words::R;
+use log_entry::Entry;
 use replayer::Replayed;
 use std::alloc::Global;
 
@@ -134,12 +136,25 @@ impl<B: Copies<H> + Drop, H: Drop> Station<B, H> {
         let Some(entry) = self.node.next_entry(bytes)? else {
             return Ok(false);
         };
+        self.hold(entry)?;
+        Ok(true)
+    }
+
+    // A backup holds the next entry of its log, and the input of the entry is appended to the inputs. `OutOfMemory` if
+    // there is no room for either.
+    fn hold(&mut self, entry: Entry) -> R<()>
+        requires { MayHold self.old.node entry }
+        ensures answer { (C : Copying B.State) (drives : ℕ) (x : protocol.Node B.State) → IsStation B.state B.machine C drives self.old x
+            → calls.Call None calls.Ever (λ done x y. y ≡ holds x entry) x result (IsStation B.state B.machine C drives self.new) }
+        ensures pages { OnOk result (PagesStay B.stale self.old.node self.new.node) }
+        ensures unchanged { OnErr result (self.new ≡ self.old) }
+    {
         let before = self.inputs.len();
         self.inputs.hold(&entry)?;
         match self.node.hold(entry) {
             Ok(()) => {
                 self.count = entry.count();
-                Ok(true)
+                Ok(())
             }
             Err(fault) => {
                 self.inputs.truncate(before);
