@@ -1,5 +1,5 @@
 -- What progress is, who can make none alone, how long a worker waits for it, and when it gives up.
-use Rattle.std.specs.Prelude.{◌≡◌, ◌⊎◌, ◌↔◌, ℕ, ◌-◌, ◌%◌, ◌<◌, ◌==◌, ◌||◌, not, nat_lt, Bool, true, false, if◌then◌else◌, Option, Some, None, is_some, length, vec_len}
+use Rattle.std.specs.Prelude.{◌≡◌, ◌⊎◌, ◌↔◌, ℕ, ◌+◌, ◌-◌, ◌*◌, ◌/◌, ◌%◌, ◌^◌, ◌<◌, ◌==◌, ◌||◌, ◌&&◌, not, nat_lt, min, Bool, true, false, if◌then◌else◌, Option, Some, None, is_some, unwrap_or, length, vec_len}
 use Rattle.std.specs.Time.{instant_nanos}
 use Rattle.std.specs.declared.time.Instant.{Instant}
 use Rattle.pair_threads.specs.declared.gate.Who.{Who}
@@ -8,8 +8,12 @@ use Rattle.pair_threads.specs.declared.pace.Pace.{Pace}
 use Rattle.pair_threads.specs.declared.port_inputs.PortInputs.{PortInputs}
 use Rattle.pair_threads.specs.declared.primary.PrimaryWorker.{PrimaryWorker}
 use Rattle.pair_threads.specs.declared.recording.Recording.{Recording}
+use Rattle.pair_threads.specs.declared.rest.Rest.{Rest}
+use Rattle.pair_threads.specs.declared.rest.Rest.TheVariants.{Yield, Sleep}
 use Rattle.pair_threads.specs.declared.worker.Turn.{Turn}
 use Rattle.pair_threads.specs.declared.worker.Turn.TheVariants.{Moved, Looks, Waits, Ends}
+use Rattle.pair_threads.specs.declared.yields.LongYield.{LongYield}
+use Rattle.pair_threads.specs.declared.yields.Yields.{Yields}
 use Rattle.pair_threads.specs.Choosing.{left_after_waiting}
 
 -- a primary's guest is held up if it idles, has just given an operation, or has several outstanding
@@ -42,10 +46,65 @@ abbrev pub quiet_for : Instant → Option Instant → ℕ
 quiet_for now None = 0
 quiet_for now (Some since) = instant_nanos now - instant_nanos since
 
--- a worker that waits at this moment sees how much progress there was by now; if the clock cannot be read, it sees nothing
-abbrev pub HasSeen : Option Instant → Pace → Pace → Type 0
-HasSeen None old new = (new.quiet ≡ old.quiet) × (new.moves ≡ old.moves)
-HasSeen (Some now) old new = new.quiet ≡ quiet_since now new.moves old.quiet old.moves
+-- how many microseconds are between two moments
+abbrev pub micros_between : Instant → Instant → ℕ
+micros_between began ended = (instant_nanos ended - instant_nanos began) / 1000
+
+-- for how many microseconds a worker that finds nothing yields, by whether a guest is held up
+abbrev pub yields_for : Bool → ℕ
+yields_for held_up = if held_up then 600 else 10
+
+-- how a worker waits that has found nothing for so many microseconds, and has slept so often since: at first it yields, unless
+-- a yield took long a short while ago; then it sleeps, five microseconds longer each time, up to 500
+abbrev pub rest_after : ℕ → ℕ → Bool → Bool → Rest
+rest_after micros sleeps held_up busy =
+    if not busy && nat_lt micros (yields_for held_up) then Yield else Sleep (5 * (1 + min sleeps 99))
+
+-- a yield took long if more than a millisecond passed
+abbrev pub takes_long : Instant → Instant → Bool
+takes_long began ended = nat_lt 1000 (micros_between began ended)
+
+-- none is tried at this moment if the time since the last one that took long is less than so many times as long as it took
+abbrev pub is_busy_after : Instant → Option LongYield → ℕ → Bool
+is_busy_after now None shunned = false
+is_busy_after now (Some long) shunned =
+    not (shunned == 0) && nat_lt (micros_between long.ended now / shunned) (micros_between long.began long.ended)
+
+abbrev pub is_busy : Instant → Yields → Bool
+is_busy now y = is_busy_after now y.long y.shunned
+
+-- what is noted of a yield between these moments: if it took long, none is tried for twice as many times as long and one more
+-- than after the one before, 63 at most; otherwise for one time fewer. Nothing is noted of a sleep.
+abbrev pub yields_after : Rest → Instant → Option Instant → Yields → Yields
+yields_after Yield began (Some ended) before =
+    if takes_long began ended
+    then record { long = Some (record { began = began; ended = ended }); shunned = 2 * min before.shunned 31 + 1 }
+    else record before { shunned = before.shunned - 1 }
+yields_after Yield began None before = before
+yields_after (Sleep micros) began ended before = before
+
+-- how often it has slept then
+abbrev pub sleeps_after : Rest → ℕ → ℕ
+sleeps_after Yield sleeps = sleeps
+sleeps_after (Sleep micros) sleeps = min (sleeps + 1) (2 ^ 32 - 1)
+
+-- how a worker waits at this moment
+abbrev pub rest_at : Instant → Bool → Pace → Rest
+rest_at now held_up p =
+    rest_after (micros_between (unwrap_or p.waiting now) now) p.sleeps held_up (is_busy now p.yields)
+
+-- what is left after it has waited: at this moment it saw whether a guest is held up, and how much progress there was; and
+-- a yield ended at that one. If the clock cannot be read, it has neither waited nor seen anything.
+abbrev pub after_wait : Bool → Option Instant → Option Instant → Bool → ℕ → Pace → Pace
+after_wait contested None ended held_up moves old = record old { left = left_after_waiting contested old.left }
+after_wait contested (Some now) ended held_up moves old = record old {
+  left = left_after_waiting contested old.left;
+  waiting = Some (unwrap_or old.waiting now);
+  sleeps = sleeps_after (rest_at now held_up old) old.sleeps;
+  yields = yields_after (rest_at now held_up old) now ended old.yields;
+  quiet = quiet_since now moves old.quiet old.moves;
+  moves = moves;
+}
 
 -- it waits on until it has seen no progress for ten seconds, and without an end if somebody is planned to ask at a turn
 abbrev pub WaitsOn : Bool → Option Instant → Option Instant → Bool → Type 0
@@ -62,6 +121,6 @@ PacedBy Moved contested old new goes_on =
 PacedBy Looks contested old new goes_on =
     (new ≡ record old { left = left_after_waiting contested old.left }) × (goes_on ≡ true)
 PacedBy Waits contested old new goes_on =
-    (new.left ≡ left_after_waiting contested old.left)
-    × ((now : Option Instant) × HasSeen now old new × WaitsOn contested now new.quiet goes_on)
+    (now ended : Option Instant) × (held_up : Bool) × (moves : ℕ) × (new ≡ after_wait contested now ended held_up moves old)
+    × WaitsOn contested now new.quiet goes_on
 PacedBy Ends contested old new goes_on = (new ≡ old) × (goes_on ≡ false)

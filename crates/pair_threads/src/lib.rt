@@ -20,6 +20,7 @@ mod signals;
 mod terminal;
 mod worker;
 mod workers;
+mod yields;
 
 pub use chore::Chore;
 pub use gate::{Gate, OpenGate, Who};

@@ -1,12 +1,14 @@
 //! How a worker makes progress: the turns that it has left, how it waits, and when it gives up.
-ghost use Rattle.std.specs.Prelude.{◌≡◌, ◌↔◌, ◌<◌, ◌-◌, is_some, unwrap_or, IsTrue, None, Some};
+ghost use Rattle.std.specs.Prelude.{◌≡◌, ◌↔◌, ◌<◌, ◌-◌, is_some, unwrap_or, Option, IsTrue, None, Some};
+ghost use Rattle.std.specs.declared.time.Instant.{Instant};
 ghost use Rattle.pair_threads.specs.Choosing.{left_after_waiting};
-ghost use Rattle.pair_threads.specs.Patience.{HasSeen, PacedBy, WaitsOn, is_noted, quiet_for, quiet_since};
+ghost use Rattle.pair_threads.specs.Patience.{PacedBy, WaitsOn, after_wait, is_noted, quiet_for, quiet_since, rest_at, sleeps_after};
 
 use crate::gate::Who;
 use crate::rest::Rest;
 use crate::signals::Signals;
 use crate::worker::Turn;
+use crate::yields::{Yields, micros_between};
 use std::time::{Clock, Instant};
 
 // A run is given up after this many seconds without progress of any worker.
@@ -23,6 +25,8 @@ pub(crate) struct Pace {
     // Since when it has found nothing, and how often it has slept since.
     waiting: Option<Instant>,
     sleeps: u32,
+    // How long its yields took.
+    yields: Yields,
     // Since when no worker has made progress, as last seen, and how often workers had said so by then.
     quiet: Option<Instant>,
     moves: u64,
@@ -31,12 +35,20 @@ pub(crate) struct Pace {
 impl Pace {
     /// A worker that begins with this many turns.
     pub(crate) fn new(turns: u64) -> Pace
-        ensures { result ≡ record { left = turns; waiting = None; sleeps = 0; quiet = None; moves = 0 } }
+        ensures { result ≡ record {
+          left = turns;
+          waiting = None;
+          sleeps = 0;
+          yields = record { long = None; shunned = 0 };
+          quiet = None;
+          moves = 0;
+        } }
     {
         Pace {
             left: turns,
             waiting: None,
             sleeps: 0,
+            yields: Yields::new(),
             quiet: None,
             moves: 0,
         }
@@ -65,7 +77,7 @@ impl Pace {
             }
             Turn::Waits => {
                 let now = Instant::now(clock).ok();
-                self.waits(clock, now, signals, contested)
+                self.waits(clock, now, signals.is_held_up(), signals.moved(), contested)
             }
             Turn::Ends => false,
         }
@@ -100,36 +112,42 @@ impl Pace {
         }
     }
 
-    /// It has found nothing in a whole rotation, and lets the others run. False if the run is given up: after ten seconds
-    /// without progress of any worker, though never if somebody is planned to ask at a turn; and if there is no time.
+    /// It has found nothing in a whole rotation, and lets the others run, of whom it has seen whether a guest is held up, and
+    /// how often they made progress. False if the run is given up: after ten seconds without progress of any worker, though
+    /// never if somebody is planned to ask at a turn; and if there is no time.
     pub(crate) fn waits<C: Clock>(
         &mut self,
         clock: &C,
         now: Option<Instant>,
-        signals: &Signals,
+        held_up: bool,
+        moves: u64,
         contested: bool,
     ) -> bool
-        ensures left { self.new.left ≡ left_after_waiting contested self.old.left }
-        ensures seen { HasSeen now self.old self.new }
+        ensures waits { (ended : Option Instant) × (self.new ≡ after_wait contested now ended held_up moves self.old) }
         ensures goes_on { WaitsOn contested now self.new.quiet result }
     {
         self.looks(contested);
         let Some(now) = now else {
             return false;
         };
-        self.rest_at(now, signals.is_held_up()).take(clock);
-        self.is_patient(now, signals.moved()) || contested
+        let rest = self.rest_at(now, held_up);
+        let ended = rest.take(clock);
+        self.yields.note(rest, now, ended);
+        self.is_patient(now, moves) || contested
     }
 
     // How it waits at this moment.
     fn rest_at(&mut self, now: Instant, held_up: bool) -> Rest
-        ensures since { self.new.waiting ≡ Some (unwrap_or self.old.waiting now) }
-        ensures same { (self.new.left ≡ self.old.left) × (self.new.quiet ≡ self.old.quiet) × (self.new.moves ≡ self.old.moves) }
+        ensures rest { result ≡ rest_at now held_up self.old }
+        ensures waits { self.new ≡ record self.old {
+          waiting = Some (unwrap_or self.old.waiting now);
+          sleeps = sleeps_after result self.old.sleeps;
+        } }
     {
         let began = self.waiting.unwrap_or(now);
         self.waiting = Some(began);
-        let micros = u64::try_from(now.duration_since(began).as_micros()).unwrap_or(u64::MAX);
-        let rest = Rest::after(micros, self.sleeps, held_up);
+        let micros = micros_between(began, now);
+        let rest = Rest::after(micros, self.sleeps, held_up, self.yields.is_busy(now));
         if rest != Rest::Yield {
             self.sleeps = self.sleeps.saturating_add(1);
         }

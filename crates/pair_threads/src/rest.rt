@@ -1,14 +1,14 @@
 //! How a worker that finds nothing to do waits.
-ghost use Rattle.std.specs.Prelude.{◌≡◌, ◌<◌, ◌≤◌, ◌+◌, ◌*◌, cond, min};
-ghost use Rattle.pair_threads.specs.declared.rest.Rest.TheVariants.{Yield, Sleep};
+ghost use Rattle.std.specs.Prelude.{◌≡◌};
+ghost use Rattle.pair_threads.specs.Patience.{rest_after};
 
 use std::thread;
-use std::time::{Clock, Duration};
+use std::time::{Clock, Duration, Instant};
 
 // For how many microseconds a worker that finds nothing yields before it sleeps: while a guest is held up, and while none is.
-const LONG_YIELDS: u64 = 600;
+const LONG_YIELDS: u128 = 600;
 
-const SHORT_YIELDS: u64 = 10;
+const SHORT_YIELDS: u128 = 10;
 
 // The first sleep takes this many microseconds, and each of this many further ones in a row takes as much more: 500 at most.
 const SHORTEST_SLEEP: u32 = 5;
@@ -25,26 +25,32 @@ pub enum Rest {
 }
 
 impl Rest {
-    /// What a worker does that has found nothing for this many microseconds, and has slept this often since. A sleep takes
-    /// some 55 microseconds more than it should, and a guest that is held up would wait for that at each hop of a key or a
-    /// byte. Yields keep a processor busy, which a guest that computes may need. On a busy machine one yield may take
-    /// longer than all of them should; so a time bounds them, and not their number.
-    pub fn after(micros: u64, sleeps: u32, held_up: bool) -> Rest
-        ensures yields { micros < cond held_up 600 10 → result ≡ Yield }
-        ensures sleeps { cond held_up 600 10 ≤ micros → result ≡ Sleep (5 * (1 + min sleeps 99)) }
+    /// What a worker does that has found nothing for this many microseconds, and has slept this often since; `busy` says
+    /// that a yield took long a short while ago. A sleep takes some 55 microseconds more than it should, and a guest that is
+    /// held up would wait for that at each hop of a key or a byte. Yields keep a processor busy, which a guest that computes
+    /// may need. Beside other work a yield gives the worker's whole share of the processor away, and takes milliseconds; who
+    /// sleeps keeps its share, and has the processor soon after it wakes.
+    pub fn after(micros: u128, sleeps: u32, held_up: bool, busy: bool) -> Rest
+        ensures { result ≡ rest_after micros sleeps held_up busy }
     {
         let yields = if held_up { LONG_YIELDS } else { SHORT_YIELDS };
-        if micros < yields {
+        if !busy && micros < yields {
             return Rest::Yield;
         }
         Rest::Sleep(SHORTEST_SLEEP * (1 + sleeps.min(LONGER_SLEEPS)))
     }
 
-    /// Lets the other threads run.
-    pub(crate) fn take<C: Clock>(self, clock: &C) {
+    /// Lets the other threads run. Returns when a yield ended, if the clock can be read.
+    pub(crate) fn take<C: Clock>(self, clock: &C) -> Option<Instant> {
         match self {
-            Rest::Yield => thread::yield_now(),
-            Rest::Sleep(micros) => thread::sleep(clock, Duration::from_micros(u64::from(micros))),
+            Rest::Yield => {
+                thread::yield_now();
+                Instant::now(clock).ok()
+            }
+            Rest::Sleep(micros) => {
+                thread::sleep(clock, Duration::from_micros(u64::from(micros)));
+                None
+            }
         }
     }
 }

@@ -87,7 +87,7 @@ fn all_begin<C: Clock>(clock: &C, signals: &Signals) -> bool {
             return true;
         }
         let now = Instant::now(clock).ok();
-        if !pace.waits(clock, now, signals, false) {
+        if !pace.waits(clock, now, signals.is_held_up(), signals.moved(), false) {
             return false;
         }
     }
