@@ -15,14 +15,6 @@ use std::sync::Wait;
 use std::thread::Threads;
 use std::time::Clock;
 
-// The number that a word is, if there is one.
-fn number_of(word: Option<&String>) -> Result<Option<u64>> {
-    match word {
-        Some(word) => Ok(Some(word.as_str().parse::<u64>()?)),
-        None => Ok(None),
-    }
-}
-
 // Carries out a command: its subject, what is measured, how often, and words that depend on it.
 fn carry_out<H: Threads + Wait + Sync + Clock + Print>(
     rt: &H,
@@ -35,10 +27,22 @@ fn carry_out<H: Threads + Wait + Sync + Clock + Print>(
         );
     };
     let number = number.as_str().parse::<u64>()?;
-    match subject.as_str() {
-        "guest" => guest::run(rt, alloc, what.as_str(), number, words),
-        "seat" => seat::run(rt, alloc, what.as_str(), number),
-        "live" => live::run(rt, alloc, what.as_str(), number, number_of(words.first())?),
+    measure(rt, alloc, subject.as_str(), what.as_str(), number, words)
+}
+
+// Measures this of a subject, so often.
+fn measure<H: Threads + Wait + Sync + Clock + Print>(
+    rt: &H,
+    alloc: Global,
+    subject: &str,
+    what: &str,
+    number: u64,
+    words: &[String],
+) -> Result<()> {
+    match subject {
+        "guest" => guest::run(rt, alloc, what, number, words),
+        "seat" => seat::run(rt, alloc, what, number),
+        "live" => live::run(rt, alloc, what, number, words),
         other => bail!("the laboratory has no {other}"),
     }
 }

@@ -7,7 +7,7 @@ mod threads;
 
 use anyhow::{Result, bail};
 use pair_rule::Fabric;
-use std::alloc::Global;
+use std::alloc::{AllocError, Global};
 use std::sync::Wait;
 use std::thread::Threads;
 use steps::Work;
@@ -36,13 +36,28 @@ fn last_of<H: Threads + Wait + Sync>(
     if let Some(work) = Work::of(what) {
         return run_steps(alloc, work, rounds);
     }
+    if what == "threads" {
+        return run_threads(rt, alloc, rounds);
+    }
+    match last_index(rt, alloc, what, rounds) {
+        Some(last) => Ok(last?),
+        None => bail!("no seats work at {what}"),
+    }
+}
+
+// The index of the packet that was acknowledged last over channels or rings.
+fn last_index<H: Threads + Wait + Sync>(
+    rt: &H,
+    alloc: Global,
+    what: &str,
+    rounds: u64,
+) -> Option<Result<u64, AllocError>> {
     match what {
-        "threads" => run_threads(rt, alloc, rounds),
-        "channel" => Ok(channels::run(rt, alloc, rounds)?),
-        "channel_threads" => Ok(channels::run_threads(rt, alloc, rounds)?),
-        "ring" => Ok(rings::run(alloc, rounds)?),
-        "ring_threads" => Ok(rings::run_threads(rt, alloc, rounds)?),
-        _ => bail!("no seats work at {what}"),
+        "channel" => Some(channels::run(rt, alloc, rounds)),
+        "channel_threads" => Some(channels::run_threads(rt, alloc, rounds)),
+        "ring" => Some(rings::run(alloc, rounds)),
+        "ring_threads" => Some(rings::run_threads(rt, alloc, rounds)),
+        _ => None,
     }
 }
 

@@ -30,20 +30,26 @@ pub enum Made {
     Copy,
 }
 
+static MADE: [(&str, Made); 8] = [
+    ("draft-0", Made::Draft(0)),
+    ("draft-16", Made::Draft(16)),
+    ("draft-256", Made::Draft(256)),
+    ("drafted-0", Made::Drafted(0)),
+    ("drafted-16", Made::Drafted(16)),
+    ("drafted-256", Made::Drafted(256)),
+    ("image", Made::Image),
+    ("copy", Made::Copy),
+];
+
 impl Made {
     /// What a word names.
     pub fn of(word: &str) -> Option<Made> {
-        match word {
-            "draft-0" => Some(Made::Draft(0)),
-            "draft-16" => Some(Made::Draft(16)),
-            "draft-256" => Some(Made::Draft(256)),
-            "drafted-0" => Some(Made::Drafted(0)),
-            "drafted-16" => Some(Made::Drafted(16)),
-            "drafted-256" => Some(Made::Drafted(256)),
-            "image" => Some(Made::Image),
-            "copy" => Some(Made::Copy),
-            _ => None,
+        for (name, made) in MADE {
+            if name == word {
+                return Some(made);
+            }
         }
+        None
     }
 }
 

@@ -9,22 +9,50 @@ use i8080_words::R;
 use pair_threads::{Fate, Who};
 use std::alloc::Global;
 
-/// How many steps a guest has in a turn, unless a case has fewer.
-pub const STEPS: u64 = 10_000;
+// How many steps a guest has in a turn, unless a case has fewer.
+const STEPS: u64 = 10_000;
 
-/// How many turns primary and backup have, unless a case has fewer: more than any run takes.
-pub const TURNS: u64 = 1 << 40;
+// How many turns primary and backup have, unless a case has fewer: more than any run takes.
+const TURNS: u64 = 1 << 40;
 
-/// What a pair runs, and how.
+/// What a pair runs: a guest with its inputs.
 #[derive(Drop)]
-pub struct Case {
+pub struct Given {
     pub setup: Setup,
     /// What is on the disk at boot.
     pub sectors: Vec<SectorWrite>,
     /// What is typed at each port.
     pub typed: [Vec<u8>; 2],
-    /// The fates of the packets.
-    pub fates: Vec<Fate>,
+}
+
+impl Given {
+    /// A program without inputs.
+    pub fn quiet(alloc: Global, program: &[u8]) -> R<Given> {
+        Given::typed(alloc, program, [Vec::new(alloc), Vec::new(alloc)])
+    }
+
+    /// A program at whose ports this is typed.
+    pub fn typed(alloc: Global, program: &[u8], typed: [Vec<u8>; 2]) -> R<Given> {
+        Ok(Given {
+            setup: setup_of(alloc, program)?,
+            sectors: Vec::new(alloc),
+            typed,
+        })
+    }
+
+    /// A program with this on its disk.
+    pub fn stored(alloc: Global, program: &[u8], sectors: Vec<SectorWrite>) -> R<Given> {
+        Ok(Given {
+            setup: setup_of(alloc, program)?,
+            sectors,
+            typed: [Vec::new(alloc), Vec::new(alloc)],
+        })
+    }
+}
+
+/// How a pair runs.
+#[derive(Clone, Copy)]
+pub struct How {
     /// The turn at which the primary, or the backup, asks to go on alone.
     pub primary_contests: Option<u64>,
     pub backup_contests: Option<u64>,
@@ -35,14 +63,10 @@ pub struct Case {
     pub stalls: bool,
 }
 
-impl Case {
-    /// A program without inputs, which nobody leaves and nothing delays.
-    pub fn quiet(alloc: Global, program: &[u8]) -> R<Case> {
-        Ok(Case {
-            setup: setup_of(alloc, program)?,
-            sectors: Vec::new(alloc),
-            typed: [Vec::new(alloc), Vec::new(alloc)],
-            fates: Vec::new(alloc),
+impl How {
+    /// Nobody leaves, and nothing delays anybody.
+    pub fn quiet() -> How {
+        How {
             primary_contests: None,
             backup_contests: None,
             steps: STEPS,
@@ -54,29 +78,7 @@ impl Case {
                 yields: 0,
             },
             stalls: false,
-        })
-    }
-
-    /// What is timed under this name: a guest that computes for about `number` steps, alone or in a pair, and prints a byte about
-    /// every 100,000; one that prints so many bytes; one that echoes so many keys, each when its port takes it; or one that waits
-    /// for keys, whose backup asks to go on alone at that turn.
-    pub fn timed(alloc: Global, name: &str, number: u64) -> R<Option<Case>> {
-        let mut case = match name {
-            "alone" | "pair" => Case::quiet(alloc, &computer(word(number / ROUND_STEPS)))?,
-            "bytes" => Case::quiet(alloc, &many_bytes(word(number)))?,
-            "keys" => Case::quiet(alloc, &KEEPER)?,
-            "idle" => Case::quiet(alloc, &ECHO)?,
-            _ => return Ok(None),
-        };
-        if name == "keys" {
-            let mut typed = Vec::new(alloc);
-            typed.resize(usize::from(word(number)), 0x41)?;
-            case.typed = [typed, Vec::new(alloc)];
         }
-        if name == "idle" {
-            case.backup_contests = Some(number);
-        }
-        Ok(Some(case))
     }
 
     /// Whether anybody asks to go on alone.
@@ -92,6 +94,53 @@ impl Case {
             Who::Link | Who::Terminal | Who::Disk => false,
         }
     }
+}
+
+/// What a pair runs, and how.
+#[derive(Drop)]
+pub struct Case {
+    pub given: Given,
+    /// The fates of the packets.
+    pub fates: Vec<Fate>,
+    pub how: How,
+}
+
+impl Case {
+    /// What is timed under this name: a guest that computes for about `number` steps, alone or in a pair, and prints a byte about
+    /// every 100,000; one that prints so many bytes; one that echoes so many keys, each when its port takes it; or one that waits
+    /// for keys, whose backup asks to go on alone at that turn.
+    pub fn timed(alloc: Global, name: &str, number: u64) -> Option<R<Case>> {
+        let mut how = How::quiet();
+        if name == "idle" {
+            how.backup_contests = Some(number);
+        }
+        match given_by(alloc, name, number)? {
+            Ok(given) => Some(Ok(Case {
+                given,
+                fates: Vec::new(alloc),
+                how,
+            })),
+            Err(fault) => Some(Err(fault)),
+        }
+    }
+}
+
+// The guest that is timed under this name, with its inputs.
+fn given_by(alloc: Global, name: &str, number: u64) -> Option<R<Given>> {
+    match name {
+        "alone" | "pair" => Some(Given::quiet(alloc, &computer(word(number / ROUND_STEPS)))),
+        "bytes" => Some(Given::quiet(alloc, &many_bytes(word(number)))),
+        "keys" => Some(keys(alloc, usize::from(word(number)))),
+        "idle" => Some(Given::quiet(alloc, &ECHO)),
+        _ => None,
+    }
+}
+
+// A guest that echoes so many keys.
+fn keys(alloc: Global, number: usize) -> R<Given> {
+    let mut typed = Vec::new(alloc);
+    typed.resize(number, 0x41)?;
+    Given::typed(alloc, &KEEPER, [typed, Vec::new(alloc)])
 }
 
 // A number of two bytes from 1 up, the nearest to this one.

@@ -1,6 +1,6 @@
 //! Cases that are chosen at random.
 
-use super::case::Case;
+use super::case::{Case, Given, How};
 use super::chance::Chance;
 use super::guests::{ECHO, printer, storer};
 use super::slow_gate::SlowGate;
@@ -11,34 +11,45 @@ use std::alloc::Global;
 
 /// A case of a run.
 pub fn case_of(alloc: Global, chance: &mut Chance) -> R<Case> {
-    let mut case = begin(alloc, chance)?;
-    case.steps = steps_of(chance);
-    case.gate = gate_of(chance);
-    if chance.below(16) == 0 {
-        case.stalls = true;
-        case.turns = u64::from(chance.below(2));
-    } else {
-        contest(chance, &mut case);
-    }
-    case.fates = fates_of(alloc, chance, case.is_contested())?;
-    Ok(case)
+    let given = given_of(alloc, chance)?;
+    let how = how_of(chance);
+    let fates = fates_of(alloc, chance, how.is_contested())?;
+    Ok(Case { given, fates, how })
 }
 
 // A guest with its inputs: one that prints, echoes the keys of each port, or reads sectors and writes others.
-fn begin(alloc: Global, chance: &mut Chance) -> R<Case> {
+fn given_of(alloc: Global, chance: &mut Chance) -> R<Given> {
     match chance.below(3) {
-        0 => Case::quiet(alloc, &printer(chance.byte() % 60 + 1)),
-        1 => {
-            let mut case = Case::quiet(alloc, &ECHO)?;
-            case.typed = [chance.bytes(alloc, 30)?, chance.bytes(alloc, 30)?];
-            Ok(case)
-        }
-        _ => {
-            let mut case = Case::quiet(alloc, &storer(chance.byte() % 6 + 1))?;
-            case.sectors = sectors_of(alloc, chance)?;
-            Ok(case)
-        }
+        0 => Given::quiet(alloc, &printer(chance.byte() % 60 + 1)),
+        1 => echoing(alloc, chance),
+        _ => storing(alloc, chance),
     }
+}
+
+fn echoing(alloc: Global, chance: &mut Chance) -> R<Given> {
+    let first = chance.bytes(alloc, 30)?;
+    let second = chance.bytes(alloc, 30)?;
+    Given::typed(alloc, &ECHO, [first, second])
+}
+
+fn storing(alloc: Global, chance: &mut Chance) -> R<Given> {
+    let program = storer(chance.byte() % 6 + 1);
+    let sectors = sectors_of(alloc, chance)?;
+    Given::stored(alloc, &program, sectors)
+}
+
+// How a pair runs: its turns are too few, or somebody may ask to go on alone.
+fn how_of(chance: &mut Chance) -> How {
+    let mut how = How::quiet();
+    how.steps = steps_of(chance);
+    how.gate = gate_of(chance);
+    if chance.below(16) == 0 {
+        how.stalls = true;
+        how.turns = u64::from(chance.below(2));
+    } else {
+        contest(chance, &mut how);
+    }
+    how
 }
 
 // What the first tracks have at boot.
@@ -91,13 +102,13 @@ fn gate_of(chance: &mut Chance) -> SlowGate {
 }
 
 // Nobody asks to go on alone, one of both, or both.
-fn contest(chance: &mut Chance, case: &mut Case) {
+fn contest(chance: &mut Chance, how: &mut How) {
     match chance.below(6) {
-        0 => case.primary_contests = Some(turn_of(chance)),
-        1 => case.backup_contests = Some(turn_of(chance)),
+        0 => how.primary_contests = Some(turn_of(chance)),
+        1 => how.backup_contests = Some(turn_of(chance)),
         2 => {
-            case.primary_contests = Some(turn_of(chance));
-            case.backup_contests = Some(turn_of(chance));
+            how.primary_contests = Some(turn_of(chance));
+            how.backup_contests = Some(turn_of(chance));
         }
         _ => {}
     }

@@ -28,7 +28,7 @@ pub fn compare(alloc: Global, case: &Case, end: &mut PairEnd) -> Result<(), Diff
         Reached::All => end.steps,
         Reached::Last => list.last().map_or(0, |entry| entry.count()),
     };
-    let [first, second] = &case.typed;
+    let [first, second] = &case.given.typed;
     has_keys(alloc, list, 0, first, reached)?;
     has_keys(alloc, list, 1, second, reached)?;
     let machine = Machine::follow(alloc, case, list, count)?;
@@ -40,12 +40,12 @@ fn is_as_asked(case: &Case, end: &PairEnd) -> Result<(), Difference> {
     let entries = end.primary.len() as u64;
     let (asked, lists, held) = match end.winner {
         None => (
-            !case.is_contested(),
+            !case.how.is_contested(),
             end.primary == end.backup,
             end.held == entries,
         ),
         Some(winner) => (
-            case.is_asked_by(winner),
+            case.how.is_asked_by(winner),
             end.primary.starts_with(&end.backup),
             end.held <= end.backup.len() as u64,
         ),

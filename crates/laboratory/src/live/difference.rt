@@ -29,13 +29,12 @@ impl From<Fault> for Difference {
 impl fmt::Display for Difference {
     fn fmt<W: fmt::Write>(&self, f: &mut fmt::Formatter<W>) -> fmt::Result {
         match self {
-            Difference::Failed(fault) => write!(f, "the run failed: {fault}"),
-            Difference::Refused(fault) => write!(
-                f,
-                "the machine does not run on the list: {fault}"
-            ),
-            Difference::Keys(port) => write!(f, "the keys of port {port} are not those typed"),
-            Difference::Output(port) => write!(f, "the output of port {port} is another"),
+            Difference::Failed(fault) => write_fault("the run failed", *fault, f),
+            Difference::Refused(fault) => {
+                write_fault("the machine does not run on the list", *fault, f)
+            }
+            Difference::Keys(port) => write_port("keys", *port, "are not those typed", f),
+            Difference::Output(port) => write_port("output", *port, "is another", f),
             Difference::Sector(track, sector) => write!(
                 f,
                 "sector {sector} of track {track} is another"
@@ -43,4 +42,17 @@ impl fmt::Display for Difference {
             Difference::Said(what) => f.write_str(what),
         }
     }
+}
+
+fn write_fault<W: fmt::Write>(what: &str, fault: Fault, f: &mut fmt::Formatter<W>) -> fmt::Result {
+    write!(f, "{what}: {fault}")
+}
+
+fn write_port<W: fmt::Write>(
+    what: &str,
+    port: u8,
+    differs: &str,
+    f: &mut fmt::Formatter<W>,
+) -> fmt::Result {
+    write!(f, "the {what} of port {port} {differs}")
 }

@@ -94,7 +94,7 @@ impl Machine {
         if !never_fall(&inputs) {
             return Err(Difference::Said("the counts of the list fall"));
         }
-        let boot = Single::boot(alloc, &case.setup, &case.sectors)?;
+        let boot = Single::boot(alloc, &case.given.setup, &case.given.sectors)?;
         match boot.run(alloc, &inputs, count) {
             Ok(single) => Ok(Machine { single, inputs }),
             Err(Fault::OutOfMemory) => Err(Difference::Failed(Fault::OutOfMemory)),

@@ -2,6 +2,7 @@
 ghost use Rattle.std.specs.Prelude.{◌≡◌, IfOk};
 ghost use Rattle.event_callbacks.specs.declared.devices.TheConstants.{SENT, SECTOR, WRITTEN};
 ghost use Rattle.event_callbacks.specs.Keeping.{Keeps};
+ghost use Rattle.guest_board.specs.Guest.{guest_at_boot};
 ghost use Rattle.shared_disk.specs.Records.{IsUnwritten};
 
 use super::case::Case;
@@ -9,6 +10,7 @@ use crate::boards::boot;
 use altair_laws::altairs_are_lawful;
 use disk_dcdd::SectorWrite;
 use event_callbacks::{Callbacks, Completes, plain_completions};
+use guest_board::{Board, Setup};
 use guest_lockstep::Lockstep;
 use i8080_words::R;
 use log_entry::Entry;
@@ -66,38 +68,60 @@ fn run_with<
     requires written { Keeps (W.may written) (W.gives written) WRITTEN }
 {
     altairs_are_lawful();
-    let primary = boot(alloc, &case.setup, Callbacks::of(sent, sector, written))?;
-    let backup = boot(alloc, &case.setup, Callbacks::of(sent, sector, written))?;
+    let (primary, backup) = boards(alloc, &case.given.setup, sent, sector, written)?;
     let workers = workers_of(alloc, case, primary, backup)?;
-    match run_generation(rt, alloc, workers, gate, case.turns) {
+    match run_generation(rt, alloc, workers, gate, case.how.turns) {
         Ok(end) => Ok(without_boards(end)),
         Err(fault) => Err(fault),
     }
 }
 
+// The guests of both nodes at boot.
+fn boards<T: Completes + Drop + Copy, S: Completes + Drop + Copy, W: Completes + Drop + Copy>(
+    alloc: Global,
+    setup: &Setup,
+    sent: T,
+    sector: S,
+    written: W,
+) -> R<(Board<T, S, W>, Board<T, S, W>)>
+    requires sent { Keeps (T.may sent) (T.gives sent) SENT }
+    requires sector { Keeps (S.may sector) (S.gives sector) SECTOR }
+    requires written { Keeps (W.may written) (W.gives written) WRITTEN }
+    ensures { IfOk result (λ boards. (boards.0.guest ≡ guest_at_boot setup.now) × (boards.1.guest ≡ guest_at_boot setup.now)) }
+{
+    let primary = boot(alloc, setup, Callbacks::of(sent, sector, written))?;
+    let backup = boot(alloc, setup, Callbacks::of(sent, sector, written))?;
+    Ok((primary, backup))
+}
+
 // What a pair begins with besides its guests.
 #[derive(Drop)]
-struct Given {
+struct Begin {
     disk: SharedDisk<MemoryStore>,
     typed0: Vec<u8>,
     typed1: Vec<u8>,
     fates: Vec<Fate>,
 }
 
-fn given_of(alloc: Global, case: &Case) -> R<Given>
-    ensures { IfOk result (λ given. IsUnwritten given.disk) }
+fn begin_of(alloc: Global, case: &Case) -> R<Begin>
+    ensures { IfOk result (λ begin. IsUnwritten begin.disk) }
 {
-    let [first, second] = &case.typed;
-    let typed0 = Vec::from_slice(alloc, first)?;
-    let typed1 = Vec::from_slice(alloc, second)?;
+    let (typed0, typed1) = copies_of(alloc, &case.given.typed)?;
     let fates = Vec::from_slice(alloc, &case.fates)?;
-    let disk = disk_of(alloc, case.setup.drives, &case.sectors)?;
-    Ok(Given {
+    let disk = disk_of(alloc, case.given.setup.drives, &case.given.sectors)?;
+    Ok(Begin {
         disk,
         typed0,
         typed1,
         fates,
     })
+}
+
+fn copies_of(alloc: Global, typed: &[Vec<u8>; 2]) -> R<(Vec<u8>, Vec<u8>)> {
+    let [first, second] = typed;
+    let typed0 = Vec::from_slice(alloc, first)?;
+    let typed1 = Vec::from_slice(alloc, second)?;
+    Ok((typed0, typed1))
 }
 
 // The workers of these guests.
@@ -110,17 +134,17 @@ fn workers_of<B: Lockstep + Drop>(
     ensures guests { IfOk result (λ workers. (workers.primary ≡ primary) × (workers.backup ≡ backup)) }
     ensures unwritten { IfOk result (λ workers. IsUnwritten workers.disk) }
 {
-    let given = given_of(alloc, case)?;
+    let begin = begin_of(alloc, case)?;
     Ok(Workers {
         primary,
         backup,
-        disk: given.disk,
-        typed0: given.typed0,
-        typed1: given.typed1,
-        fates: given.fates,
-        primary_contests: case.primary_contests,
-        backup_contests: case.backup_contests,
-        steps: case.steps,
+        disk: begin.disk,
+        typed0: begin.typed0,
+        typed1: begin.typed1,
+        fates: begin.fates,
+        primary_contests: case.how.primary_contests,
+        backup_contests: case.how.backup_contests,
+        steps: case.how.steps,
     })
 }
 

@@ -7,31 +7,41 @@ ghost use Rattle.log_entry.specs.declared.entry.Entry.TheVariants.{Mark};
 use log_entry::Entry;
 use pair_rule::{BackupSeat, Fabric, FiveSeats, LinkSeat, PrimarySeat};
 
-/// What a round does: a packet goes so far, or one call is made by itself, or all calls are made, one after another.
-#[derive(Clone, Copy, PartialEq, Eq, PartialOrd, Ord)]
-pub enum Work {
-    Post,
-    CarryOut,
-    CarryIn,
-    Take,
-    All,
-    Hold,
-    See,
+/// What a round does.
+#[derive(Clone, Copy)]
+pub struct Work {
+    // How many of the calls are made that bring a packet to the backup: a post, a carry out, a carry in, a take.
+    reach: u8,
+    // Whether the backup says what it holds, and whether the primary looks.
+    holds: bool,
+    sees: bool,
 }
+
+// The works by their names: one call by itself, a packet that goes so far, or all calls, one after another.
+static WORKS: [(&str, u8, bool, bool); 7] = [
+    ("post", 1, false, false),
+    ("carry_out", 2, false, false),
+    ("carry_in", 3, false, false),
+    ("take", 4, false, false),
+    ("hold", 0, true, false),
+    ("see", 0, false, true),
+    ("all", 4, true, true),
+];
 
 impl Work {
     /// The work of this name.
     pub fn of(name: &str) -> Option<Work> {
-        match name {
-            "post" => Some(Work::Post),
-            "carry_out" => Some(Work::CarryOut),
-            "carry_in" => Some(Work::CarryIn),
-            "take" => Some(Work::Take),
-            "all" => Some(Work::All),
-            "hold" => Some(Work::Hold),
-            "see" => Some(Work::See),
-            _ => None,
+        for (word, reach, holds, sees) in WORKS {
+            if word == name {
+                return Some(Work { reach, holds, sees });
+            }
         }
+        None
+    }
+
+    // Whether all calls are made.
+    fn is_all(self) -> bool {
+        self.reach > 0 && self.sees
     }
 }
 
@@ -109,16 +119,16 @@ fn follow(fabric: &Fabric, link: &mut LinkSeat, backup: &mut BackupSeat, work: W
     ensures link { link.new.table ≡ fabric.now }
     ensures backup { (backup.new.table ≡ fabric.now) × (backup.new.core.known.backup.winner ≡ 0) }
 {
-    if work < Work::CarryOut {
+    if work.reach < 2 {
         return;
     }
     carry_out(fabric, link);
-    if work < Work::CarryIn {
+    if work.reach < 3 {
         link.discard(fabric);
         return;
     }
     carry_in(fabric, link);
-    if work >= Work::Take {
+    if work.reach > 3 {
         take(fabric, backup);
     }
 }
@@ -135,14 +145,14 @@ fn round(fabric: &Fabric, seats: &mut FiveSeats, work: Work, index: u64)
     ensures backup { (seats.new.backup.table ≡ fabric.now) × (seats.new.backup.core.known.backup.winner ≡ 0) }
     ensures others { (seats.new.terminal ≡ seats.old.terminal) × (seats.new.disk ≡ seats.old.disk) }
 {
-    if work < Work::Hold {
+    if work.reach > 0 {
         post(fabric, &mut seats.primary, index);
         follow(fabric, &mut seats.link, &mut seats.backup, work);
     }
-    if matches!(work, Work::All | Work::Hold) {
+    if work.holds {
         seats.backup.hold(fabric);
     }
-    if matches!(work, Work::All | Work::See) {
+    if work.sees {
         see(fabric, &mut seats.primary, index);
     }
 }
@@ -162,7 +172,7 @@ pub fn run(fabric: &Fabric, seats: &mut FiveSeats, work: Work, rounds: u64)
     };
     for _ in 0..rounds {
         round(fabric, seats, work, index);
-        if work != Work::All {
+        if !work.is_all() {
             continue;
         }
         match append(fabric, &mut seats.primary) {
