@@ -28,11 +28,12 @@ use Rattle.pair_threads.specs.declared.gate.Who.TheVariants as who
 use Rattle.pair_threads.specs.declared.primary.PrimaryWorker.{PrimaryWorker}
 use Rattle.pair_threads.specs.Ending.{EndsAlone, EndsBy, EndsWell, IsWhereItLeads, winner_named}
 use Rattle.pair_threads.specs.Leading.{AreAnswers, Leads, with_waiting}
+use Rattle.pair_threads.specs.Left.{Leaves, LeavesBy}
 use Rattle.pair_threads.specs.Primary.{IsAtRest, WorkerLeads}
 use Rattle.pair_threads.specs.Repeating.{IsAt, Repeats}
 use Rattle.pair_threads.specs.Stores.{IsStore, bytes_in}
 use Rattle.pair_threads.proofs.Views.{leads_there}
-use Rattle.pair_threads.proofs.Ends.{backup_alone, backup_where, primary_alone, well}
+use Rattle.pair_threads.proofs.Ends.{backup_alone, backup_leaves, backup_where, primary_alone, primary_leaves, well}
 use Rattle.disk_dcdd.specs.declared.address.SectorAddress.{SectorAddress}
 use Rattle.shared_disk.specs.declared.store.Record.{Record}
 
@@ -187,6 +188,21 @@ module _ {B S : Type 0} (state : B → S) (N : Machine S) (counts : Counts N) (l
       p.port0.taken p.port1.taken p.port0.accepted p.port1.accepted leads.2 less0 less1 records store
       (state b.guest.board) (repeats all)
 
+  first_left : Leaves M p.port0.typed.items p.port1.typed.items (with_waiting primary.list p.guest.waiting) screens records
+      (state p.guest.board)
+  first_left = primary_leaves M lawful (Counts-booted N boot (bytes_in first) counts)
+      (ComesAndGoes-booted N boot (bytes_in first) laws) primary backup terminal disk tail held winner settled
+      p.guest.waiting p.guest.given.items (state p.guest.board) known p.port0.typed.items p.port1.typed.items
+      p.port0.taken p.port1.taken p.port0.accepted p.port1.accepted leads.2 less0 less1 records store
+
+  second_left : b.guest.replayed ≡ vec_len b.guest.list
+      → Leaves M p.port0.typed.items p.port1.typed.items backup.list screens records (state b.guest.board)
+  second_left all = backup_leaves M lawful (Counts-booted N boot (bytes_in first) counts)
+      (ComesAndGoes-booted N boot (bytes_in first) laws) primary backup terminal disk tail held winner settled
+      p.guest.waiting p.guest.given.items (state p.guest.board) known p.port0.typed.items p.port1.typed.items
+      p.port0.taken p.port1.taken p.port0.accepted p.port1.accepted leads.2 less0 less1 records store
+      (state b.guest.board) (repeats all).ran
+
   -- nobody is
   both_well : IsAtRest state N p → b.guest.replayed ≡ vec_len b.guest.list
       → EndsWell M p.port0.typed.items p.port1.typed.items primary.list screens records (state p.guest.board)
@@ -228,6 +244,23 @@ module _ {B S : Type 0} (state : B → S) (N : Machine S) (counts : Counts N) (l
       go (inl e) = absurd cc
       go (inr e) = absurd cc
 
+  -- what is left to whoever goes on
+  left_by : (goes : Option Who) → goes ≡ winner_named winner → (goes ≡ None → contested ≡ false)
+      → LeavesBy M p.port0.typed.items p.port1.typed.items goes primary.list backup.list p.guest.waiting screens records
+      (state p.guest.board) (state b.guest.board)
+  left_by None is quiet =
+      let none : p.guest.waiting ≡ None = (rests (quiet refl)).none_waits in (
+        none,
+        subst (λ w. Leaves M p.port0.typed.items p.port1.typed.items (with_waiting primary.list w) screens records
+            (state p.guest.board)) none first_left,
+      )
+  left_by (Some who.Primary) is quiet = first_left
+  left_by (Some who.Backup) is quiet =
+      second_left (repeated (inr (backup_won primary backup terminal disk tail held winner settled (sym is))))
+  left_by (Some who.Link) is quiet = by_winner (Some who.Link) is quiet
+  left_by (Some who.Terminal) is quiet = by_winner (Some who.Terminal) is quiet
+  left_by (Some who.Disk) is quiet = by_winner (Some who.Disk) is quiet
+
   -- so with the lists that the workers keep
   pub ends : (goes : Option Who) → goes ≡ winner_named winner → (goes ≡ None → contested ≡ false)
       → EndsBy M p.port0.typed.items p.port1.typed.items goes p.list.items b.guest.list.items held screens records
@@ -237,6 +270,18 @@ module _ {B S : Type 0} (state : B → S) (N : Machine S) (counts : Counts N) (l
       (state p.guest.board) (state b.guest.board)) (sym p.same)
       (subst (λ l. EndsBy M p.port0.typed.items p.port1.typed.items goes primary.list l held screens records
       (state p.guest.board) (state b.guest.board)) (sym b.same) (by_winner goes is quiet))
+
+  pub left : (goes : Option Who) → goes ≡ winner_named winner → (goes ≡ None → contested ≡ false) → (waiting : Option Entry)
+      → waiting ≡ p.guest.waiting
+      → LeavesBy M p.port0.typed.items p.port1.typed.items goes p.list.items b.guest.list.items waiting screens records
+      (state p.guest.board) (state b.guest.board)
+  left goes is quiet waiting waits =
+      subst (λ w. LeavesBy M p.port0.typed.items p.port1.typed.items goes p.list.items b.guest.list.items w screens records
+      (state p.guest.board) (state b.guest.board)) (sym waits)
+      (subst (λ l. LeavesBy M p.port0.typed.items p.port1.typed.items goes l b.guest.list.items p.guest.waiting screens
+      records (state p.guest.board) (state b.guest.board)) (sym p.same)
+      (subst (λ l. LeavesBy M p.port0.typed.items p.port1.typed.items goes primary.list l p.guest.waiting screens records
+      (state p.guest.board) (state b.guest.board)) (sym b.same) (left_by goes is quiet)))
 
 -- ---- what was asked of the disk
 

@@ -1,7 +1,7 @@
 -- How a generation ends. The primary's guest has made a run of its list, in which each sector carried what the machine's
 -- own disk had. What terminals and disk have was given in the moves up to any list that has all entries seen: the
 -- primary's, or the backup's. If nothing is outstanding, and all is seen, they have what the whole run gave.
-use Rattle.std.proofs.Common.{◌≡◌, ℕ, ◌≤◌, ◌⊎◌, inl, inr, false, List, [], ◌∷◌, ◌++◌, length, map, take, drop, Option, Some, None, refl, sym, ap, subst, ◌∙◌, arith, length-append, append-nil, append_assoc}
+use Rattle.std.proofs.Common.{◌≡◌, ℕ, zero, suc, ◌+◌, ◌<◌, ◌≤◌, ◌⊎◌, inl, inr, false, List, [], ◌∷◌, ◌++◌, length, map, take, drop, Option, Some, None, refl, sym, ap, subst, ◌∙◌, arith, length-append, append-nil, append_assoc}
 use Rattle.std.proofs.Math.Seq.{take-length}
 use Rattle.std.proofs.lemmas.List.{take-append-drop}
 use Rattle.std.specs.Prelude.{Contains}
@@ -10,13 +10,15 @@ use Rattle.disk_dcdd.specs.declared.address.SectorAddress.{SectorAddress}
 use Rattle.disk_dcdd.specs.declared.sector.SectorWrite.{SectorWrite}
 use Rattle.event_callbacks.specs.declared.operations.OpId.{OpId}
 use Rattle.event_callbacks.specs.declared.operations.Operation.{Operation}
-use Rattle.event_callbacks.specs.declared.operations.Operation.TheVariants.{Write}
+use Rattle.event_callbacks.specs.declared.operations.Operation.TheVariants.{Byte, Write}
 use Rattle.guest_lockstep.specs.Lockstep.{step_refusal}
-use Rattle.guest_lockstep.specs.Machine.{Machine, Move, Runs}
+use Rattle.guest_lockstep.specs.Machine.{Machine, Move, Do, Take, Runs}
 use Rattle.guest_lockstep.specs.Outstanding.{ComesAndGoes}
-use Rattle.guest_lockstep.specs.Recorded.{Counts}
+use Rattle.guest_lockstep.specs.Recorded.{Counts, Recorded}
 use Rattle.guest_lockstep.specs.declared.reads.Reads.TheVariants.{Logged}
-use Rattle.guest_trace.specs.Reach.{Owns, acceptances, inputs, keys, operations, output}
+use Rattle.guest_trace.specs.Reach.{Owns, acceptances, inputs, keys, operations, output, steps}
+use Rattle.guest_trace.specs.declared.timed.Bare.TheVariants.{Written}
+use Rattle.guest_trace.specs.declared.timed.Timed.{Timed}
 use Rattle.i8080_words.specs.declared.refusal.Fault.TheVariants.{Idle}
 use Rattle.log_entry.specs.Entries.{entries, inputs_of, last_count}
 use Rattle.log_entry.specs.declared.entry.Entry.{Entry}
@@ -25,19 +27,25 @@ use Rattle.pair_protocol.specs.Lawful.{Among, IsDone, Lawful}
 use Rattle.pair_protocol.specs.Traces.{cut}
 use Rattle.pair_protocol.specs.World.{accepted_after, sector_record}
 use Rattle.pair_protocol.proofs.Traces.Cuts.{cut-prefix}
-use Rattle.pair_protocol.proofs.Traces.Moves.{acceptances-append, inputs_of-append, inputs_of-entries, keys-append}
-use Rattle.pair_protocol.proofs.Traces.Recorded.{recorded-runs}
+use Rattle.pair_protocol.proofs.Traces.Lists.{among-prefix}
+use Rattle.pair_protocol.proofs.Traces.Moves.{acceptances-append, inputs_of-append, inputs_of-entries, keys-append, operations-prefix, owns-append, owns-prefix}
+use Rattle.pair_protocol.proofs.Traces.Recorded.{recorded-prefix, recorded-runs}
 use Rattle.pair_rule.specs.declared.payload.DiskAnswer.TheVariants as answer
 use Rattle.pair_rule.specs.declared.view.PrimaryView.{PrimaryView}
 use Rattle.pair_rule.specs.declared.view.BackupView.{BackupView}
 use Rattle.pair_rule.specs.declared.view.TerminalView.{TerminalView}
 use Rattle.pair_rule.specs.declared.view.DiskView.{DiskView}
-use Rattle.pair_rule.specs.Knowledge.{HasWrite, IsReplied, StartsWith, read_at}
+use Rattle.pair_rule.specs.Knowledge.{AllAre, HasWrite, IsReplied, StartsWith, read_at}
+use Rattle.pair_rule.specs.Law.{typed_at}
 use Rattle.pair_rule.specs.Seats.{Settled}
 use Rattle.pair_rule.specs.Shown.{arrival_of}
+use Rattle.pair_rule.specs.declared.view.Arrived.{Arrived}
+use Rattle.pair_rule.proofs.Filled.{all_map}
+use Rattle.pair_rule.proofs.LongerRuns.{GoesOn, run_goes_on}
 use Rattle.pair_rule.proofs.ShownGuards.{all_in}
-use Rattle.pair_threads.specs.Ending.{EndsAlone, EndsWell, IsTraceOf, IsWhereItLeads, NoSectorIsDue}
+use Rattle.pair_threads.specs.Ending.{EachScreen, EndsAlone, EndsWell, IsTraceOf, IsWhereItLeads, NoSectorIsDue}
 use Rattle.pair_threads.specs.Leading.{Leads, Says, by_port, with_waiting}
+use Rattle.pair_threads.specs.Left.{IsScreenOf, IsStoreOf, Leaves}
 use Rattle.pair_threads.specs.Repeating.{Repeats}
 use Rattle.pair_threads.specs.Stores.{IsFirst, IsStore}
 use Rattle.pair_threads.proofs.AtRest.{all_accepted}
@@ -45,6 +53,7 @@ use Rattle.pair_threads.proofs.Delivered.{at_rest, in_sector, on_screen, whole_s
 use Rattle.pair_threads.proofs.FirstEntries.{all_of_it, first_part, given_at_all, given_first, repeated}
 use Rattle.pair_threads.proofs.OneMoment.{StandsOf, stands_of}
 use Rattle.pair_threads.proofs.OwnDisk.{IsReadOf, answered, answers_prefix, owns}
+use Rattle.replayer.specs.Following.{Ran}
 use Rattle.shared_disk.specs.Records.{record_at}
 use Rattle.shared_disk.specs.declared.disk.SectorRead.{SectorRead}
 use Rattle.shared_disk.specs.declared.store.Record.{Record}
@@ -111,6 +120,14 @@ nothing_out M list names view s leads none name = go (M.find s name) refl
 all_on_screen : (given accepted a counted most : ℕ) → given ≤ accepted → accepted ≡ a → a ≤ counted → counted ≤ most
     → given ≤ most
 all_on_screen given accepted a counted most few is less le = omega (arith, few, is, less, le)
+
+-- quiet steps bring no sector
+owns-quiet : {S : Type 0} (M : Machine S) (c : ℕ) (before : List Move) (s : S) (moves : List Move)
+    → entries Logged c moves ≡ [] → Owns M before s moves
+owns-quiet M c before s [] none = tt
+owns-quiet M c before s (Do None ∷ moves) none = λ u e. owns-quiet M (suc c) (before ++ Do None ∷ []) u moves none
+owns-quiet M c before s (Do (Some o) ∷ moves) none = absurd cc
+owns-quiet M c before s (Take i ∷ moves) none = absurd cc
 
 module _ {S : Type 0} (M : Machine S) (lawful : Lawful M) (counts : Counts M) (laws : ComesAndGoes M)
     (primary : PrimaryView) (backup : BackupView) (terminal : TerminalView) (disk : DiskView) (tail held winner : ℕ)
@@ -238,6 +255,123 @@ module _ {S : Type 0} (M : Machine S) (lawful : Lawful M) (counts : Counts M) (l
 
   pub backup_where : (t : S) → Repeats M M.boot backup.list false t → IsWhereItLeads M backup.list t
   backup_where t r = repeated M lawful leads.moves s runs owned backup.list starts.0 (are ∙ starts.1) counts t r
+
+  -- ---- what is left
+
+  -- of moves in which all that was released was given, and that were told of no more than the primary's guest was
+  module _ (moves : List Move) (u : S) (made : Runs M M.boot moves u)
+      (given : (o : Operation) → Among o primary.released → Among o (operations moves)) where
+    screens_left : ((port a counted most : ℕ) → acceptances port (inputs_of all) ≡ a → a ≤ counted → counted ≤ most
+        → acceptances port (inputs 0 moves) ≤ most) → EachScreen (IsScreenOf moves) 0 screens
+    screens_left accepts = (
+      screen_left 0 terminal.arrivals0 stands.arrived0
+          (accepts 0 a0 primary.counted0 (length screen0) (says.accepted_are 0) less0 stands.counted0),
+      (
+        screen_left 1 terminal.arrivals1 stands.arrived1
+            (accepts 1 a1 primary.counted1 (length screen1) (says.accepted_are 1) less1 stands.counted1),
+        tt,
+      ),
+    )
+      where
+        screen_left : (port : ℕ) (arrivals : List Arrived)
+            → AllAre arrivals (λ a. Among (Byte port a.number a.byte) primary.released)
+            → acceptances port (inputs 0 moves) ≤ length (accepted_after 0 (map arrival_of arrivals))
+            → IsScreenOf moves port (accepted_after 0 (map arrival_of arrivals))
+        screen_left port arrivals arrived told =
+            let there = on_screen M lawful moves u made primary.released given port arrivals arrived told in
+            record { front = (there.0, there.1); told = told }
+
+    store_left : ((n : ℕ) → IsDone n moves → HasWrite disk.puts n) → IsStoreOf M moves records
+    store_left done = record {
+      puts = disk.puts;
+      kept = store.kept;
+      given = all_map disk.puts (λ w. Among (Write w) primary.released) (λ w. Among (Write w) (operations moves))
+          (λ w at. given (Write w) at) stands.puts;
+      done = done;
+    }
+
+  keys_left : (list : List Entry) → StartsWith all list → (moves : List Move) → entries Logged 0 moves ≡ list
+      → (port : ℕ) → port < 2 → IsPrefix (keys port (inputs 0 moves)) (typed_at port typed0 typed1)
+  keys_left list start moves is zero few =
+      subst (λ l. IsPrefix (keys 0 l) typed0) (ap inputs_of (sym is) ∙ inputs_of-entries Logged 0 moves)
+      (some_keys 0 n0 typed0 all list start (says.keys_are 0))
+  keys_left list start moves is (suc zero) few =
+      subst (λ l. IsPrefix (keys 1 l) typed1) (ap inputs_of (sym is) ∙ inputs_of-entries Logged 0 moves)
+      (some_keys 1 n1 typed1 all list start (says.keys_are 1))
+  keys_left list start moves is (suc (suc n)) few = absurd (omega (arith, few))
+
+  told_of : (list : List Entry) → StartsWith all list → (moves : List Move) → entries Logged 0 moves ≡ list
+      → (port a counted most : ℕ) → acceptances port (inputs_of all) ≡ a → a ≤ counted → counted ≤ most
+      → acceptances port (inputs 0 moves) ≤ most
+  told_of list start moves is port a counted most said less le =
+      subst (λ l. acceptances port l ≤ most) (ap inputs_of (sym is) ∙ inputs_of-entries Logged 0 moves)
+      (few port all list a counted most start said less le)
+
+  -- the primary's guest
+  pub primary_leaves : Leaves M typed0 typed1 all screens records s
+  primary_leaves = record {
+    moves = leads.moves;
+    recorded = leads.runs;
+    owns = owned;
+    entries_are = are;
+    keys_kept = keys_left all ([], sym (append-nil all)) leads.moves are;
+    screens_are = screens_left leads.moves s runs issued (told_of all ([], sym (append-nil all)) leads.moves are);
+    store = store_left leads.moves s runs issued (came leads.moves s ([], append-nil leads.moves) runs);
+  }
+
+  -- and that of a backup which has repeated its list: it is at the last entry, or has gone on quietly from there
+  pub backup_leaves : (t : S) → Ran M M.boot backup.list t → Leaves M typed0 typed1 backup.list screens records t
+  backup_leaves t r = record {
+    moves = r.moves;
+    recorded = r.runs;
+    owns = subst (Owns M [] M.boot) (sym goes.all)
+        (owns-append M [] M.boot there.0 trace goes.rest there_runs
+        (owns-prefix M M.boot trace leads.moves below owned)
+        (owns-quiet M (0 + steps trace) trace there.0 goes.rest goes.none));
+    entries_are = is;
+    keys_kept = keys_left backup.list starts r.moves is;
+    screens_are = screens_left r.moves t made given (told_of backup.list starts r.moves is);
+    store = store_left r.moves t made given (λ n d. came trace there.0 below there_runs n
+        (subst (λ l. Among (Written n) (map (λ (x : Timed). x.input) l)) same_inputs d));
+  }
+    where
+      trace : List Move
+      trace = cut (length backup.list) leads.moves
+
+      below : IsPrefix trace leads.moves
+      below = cut-prefix (length backup.list) leads.moves
+
+      part : (u : S) × IsTraceOf M backup.list (last_count 0 backup.list) trace u
+      part = first_part M lawful leads.moves s runs owned backup.list starts.0 (are ∙ starts.1)
+
+      there : (u : S) × Recorded M M.boot trace u
+      there = recorded-prefix M M.boot s trace leads.moves below leads.runs
+
+      there_runs : Runs M M.boot trace there.0
+      there_runs = recorded-runs M M.boot there.0 trace there.1
+
+      zero_at : M.count M.boot ≡ 0
+      zero_at = lawful.counts [] M.boot refl
+
+      is : entries Logged 0 r.moves ≡ backup.list
+      is = ap (λ c. entries Logged c r.moves) (sym zero_at) ∙ r.entries_are
+
+      made : Runs M M.boot r.moves t
+      made = recorded-runs M M.boot t r.moves r.runs
+
+      goes : GoesOn M trace r.moves there.0 t
+      goes = run_goes_on M counts zero_at backup.list trace there.0 there.1 part.1.entries_are
+          (lawful.counts trace there.0 there_runs ∙ part.1.reach.count_is) r.moves t r.runs is
+
+      same_inputs : inputs 0 r.moves ≡ inputs 0 trace
+      same_inputs = sym (inputs_of-entries Logged 0 r.moves) ∙ ap inputs_of (is ∙ sym part.1.entries_are)
+          ∙ inputs_of-entries Logged 0 trace
+
+      given : (o : Operation) → Among o primary.released → Among o (operations r.moves)
+      given o at =
+          among-prefix o (operations trace) (operations r.moves)
+          (operations-prefix trace r.moves (goes.rest, sym goes.all))
+          (given_first (length backup.list) primary.seen leads.moves o stands.seen (leads.covered o at))
 
   -- ---- at rest
 

@@ -78,14 +78,14 @@ module _ (boots : SectorAddress → List ℕ) (rs : List Record) (puts : List Se
       subst (λ b. Has r (cond b (brought write) (kept a))) (ap (λ n. nat_lt n write.number) has.0)
       (own_after rs write met r (kept a) (nat_lt met.number write.number) has at own)
 
-  after_write : (met : Record) → record_at rs (address_of write) ≡ Some met
+  pub after_write : (met : Record) → record_at rs (address_of write) ≡ Some met
       → IsDiskOf boots (after_put rs write) (puts ++ write ∷ [])
   after_write met at a r e =
       subst (Has r) (sym (latest-one (at_boot (boots a)) puts write a))
       (sector_after met a r (same_address (address_of write) a) at refl
       (subst (λ found. record_at (option_map_or (after_meeting rs write) found rs) a ≡ Some r) at e))
 
-is_there : (o : Option Record) → IsSome o → (met : Record) × (o ≡ Some met)
+pub is_there : (o : Option Record) → IsSome o → (met : Record) × (o ≡ Some met)
 is_there None t = absurd cc
 is_there (Some met) t = (met, refl)
 

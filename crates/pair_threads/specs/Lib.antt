@@ -9,6 +9,7 @@ pub mod Stores
 pub mod Repeating
 pub mod Leading
 pub mod Ending
+pub mod Left
 pub mod Primary
 pub mod Resuming
 pub mod Shown

@@ -8,6 +8,7 @@ ghost use Rattle.pair_rule.specs.Rules.{IsStart};
 ghost use Rattle.pair_rule.specs.Threads.{bytes_accepted};
 ghost use Rattle.pair_threads.specs.Ending.{EndsBy, IsEnding, NoneUnderWay, WonBy};
 ghost use Rattle.pair_threads.specs.Leading.{by_port};
+ghost use Rattle.pair_threads.specs.Left.{LeavesBy};
 ghost use Rattle.pair_threads.specs.Resuming.{BeginsAt};
 ghost use Rattle.pair_threads.specs.Shown.{IsOfRun};
 ghost use Rattle.pair_threads.specs.Stores.{IsStore, bytes_in};
@@ -64,6 +65,17 @@ pub fn run_generation_at<
         (B.state resumed.workers.backup) (D.records resumed.workers.disk)
         → IfOk result (λ e. EndsBy (booted_from B.machine boot (bytes_in first)) resumed.workers.typed0.items
         resumed.workers.typed1.items e.winner e.primary.items e.backup.items e.held (map (λ v. v.items) e.accepted)
+        (D.records e.disk) (B.state e.primary_board) (B.state e.backup_board)) }
+    ensures typed { IfOk result (λ e. (e.typed0.items ≡ resumed.workers.typed0.items)
+        × (e.typed1.items ≡ resumed.workers.typed1.items)) }
+    ensures left { (boot : B.State) (first : List Record) → Lawful (booted_from B.machine boot (bytes_in first))
+        → BeginsAt B.machine boot (bytes_in first) resumed.workers.typed0.items resumed.workers.typed1.items
+        resumed.start.known.known
+        (by_port (take resumed.taken.0 resumed.workers.typed0.items) (take resumed.taken.1 resumed.workers.typed1.items) [])
+        (by_port resumed.start.accepted0 resumed.start.accepted1 0) (B.state resumed.workers.primary)
+        (B.state resumed.workers.backup) (D.records resumed.workers.disk)
+        → IfOk result (λ e. LeavesBy (booted_from B.machine boot (bytes_in first)) resumed.workers.typed0.items
+        resumed.workers.typed1.items e.winner e.primary.items e.backup.items e.waiting (map (λ v. v.items) e.accepted)
         (D.records e.disk) (B.state e.primary_board) (B.state e.backup_board)) }
     ensures ran { (boot : B.State) (first : List Record) → Lawful (booted_from B.machine boot (bytes_in first))
         → BeginsAt B.machine boot (bytes_in first) resumed.workers.typed0.items resumed.workers.typed1.items

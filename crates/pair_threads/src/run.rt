@@ -6,6 +6,7 @@ ghost use Rattle.pair_rule.specs.Knowledge.{StartsWith, last_or};
 ghost use Rattle.pair_rule.specs.Threads.{bytes_accepted};
 ghost use Rattle.pair_threads.specs.Choosing.{together};
 ghost use Rattle.pair_threads.specs.Ending.{EndsBy, HasAsked, IsEnding, WonBy, winner_named};
+ghost use Rattle.pair_threads.specs.Left.{LeavesBy};
 ghost use Rattle.pair_threads.specs.Primary.{IsAtRest, WorkerKeeps, WorkerLeads};
 ghost use Rattle.pair_threads.specs.Repeating.{IsAt};
 ghost use Rattle.pair_threads.specs.Shown.{IsOfRun};
@@ -19,6 +20,7 @@ use crate::gate::{Gate, Who};
 use crate::join::{Five, Served, work};
 use crate::link::LinkWorker;
 use crate::plan::Plan;
+use crate::port_inputs::PortInputs;
 use crate::primary::PrimaryWorker;
 use crate::recording::Recording;
 use crate::repeater::Repeater;
@@ -65,6 +67,9 @@ struct Parts<B, D: SectorStore> {
     backup_list: Vec<Entry>,
     primary_board: B,
     backup_board: B,
+    waiting: Option<Entry>,
+    typed0: Vec<u8>,
+    typed1: Vec<u8>,
     accepted: [Vec<u8>; 2],
     disk: SharedDisk<D>,
 }
@@ -81,6 +86,8 @@ fn take_apart<B: Lockstep + Drop, D: SectorStore>(
         × (result.seats.terminal ≡ terminal.seat) × (result.seats.disk ≡ disk.seat) }
     ensures lists { (result.primary_list ≡ primary.list) × (result.backup_list ≡ backup.guest.list) }
     ensures boards { (result.primary_board ≡ primary.guest.board) × (result.backup_board ≡ backup.guest.board) }
+    ensures waiting { result.waiting ≡ primary.guest.waiting }
+    ensures typed { (result.typed0 ≡ primary.port0.typed) × (result.typed1 ≡ primary.port1.typed) }
     ensures disk { result.disk ≡ disk.disk }
     ensures screens { map (λ v. v.items) result.accepted
         ≡ bytes_accepted 0 terminal.seat.core.known ∷ bytes_accepted 1 terminal.seat.core.known ∷ [] }
@@ -89,8 +96,12 @@ fn take_apart<B: Lockstep + Drop, D: SectorStore>(
         seat: primary_seat,
         list: primary_list,
         guest: primary_guest,
+        port0,
+        port1,
         ..
     } = primary;
+    let PortInputs { typed: typed0, .. } = port0;
+    let PortInputs { typed: typed1, .. } = port1;
     let BackupWorker {
         seat: backup_seat,
         guest: backup_guest,
@@ -113,6 +124,7 @@ fn take_apart<B: Lockstep + Drop, D: SectorStore>(
     } = link;
     let Recording {
         board: primary_board,
+        waiting,
         ..
     } = primary_guest;
     let Repeater {
@@ -132,6 +144,9 @@ fn take_apart<B: Lockstep + Drop, D: SectorStore>(
         backup_list,
         primary_board,
         backup_board,
+        waiting,
+        typed0,
+        typed1,
         accepted: [accepted0, accepted1],
         disk,
     }
@@ -170,6 +185,8 @@ fn conclude<B: Lockstep + Drop, D: SectorStore>(
     ensures lists { IfOk result (λ e. (e.primary ≡ primary.list) × (e.backup ≡ backup.guest.list)
         × (e.held ≡ last_or 0 backup.seat.core.known.backup.held_values)) }
     ensures boards { IfOk result (λ e. (e.primary_board ≡ primary.guest.board) × (e.backup_board ≡ backup.guest.board)) }
+    ensures typed { IfOk result (λ e. (e.typed0.items ≡ primary.port0.typed.items)
+        × (e.typed1.items ≡ primary.port1.typed.items)) }
     ensures prefix { IfOk result (λ e. StartsWith e.primary.items e.backup.items) }
     ensures ends { (boot : B.State) (first : List Record) (typed0 typed1 : List ℕ)
         → Lawful (booted_from B.machine boot (bytes_in first))
@@ -178,6 +195,14 @@ fn conclude<B: Lockstep + Drop, D: SectorStore>(
         → IsStore (bytes_in first) (D.records disk.disk) disk.seat.core.known.disk
         → IfOk result (λ e. EndsBy (booted_from B.machine boot (bytes_in first)) typed0 typed1 e.winner e.primary.items
         e.backup.items e.held (map (λ v. v.items) e.accepted) (D.records e.disk) (B.state e.primary_board)
+        (B.state e.backup_board)) }
+    ensures left { (boot : B.State) (first : List Record) (typed0 typed1 : List ℕ)
+        → Lawful (booted_from B.machine boot (bytes_in first))
+        → (primary.port0.typed.items ≡ typed0) × (primary.port1.typed.items ≡ typed1)
+        × WorkerLeads B.state B.machine boot primary → IsAt B.state B.machine boot backup.guest
+        → IsStore (bytes_in first) (D.records disk.disk) disk.seat.core.known.disk
+        → IfOk result (λ e. LeavesBy (booted_from B.machine boot (bytes_in first)) typed0 typed1 e.winner e.primary.items
+        e.backup.items e.waiting (map (λ v. v.items) e.accepted) (D.records e.disk) (B.state e.primary_board)
         (B.state e.backup_board)) }
     ensures ran { (boot : B.State) (first : List Record) (typed0 typed1 : List ℕ)
         → Lawful (booted_from B.machine boot (bytes_in first))
@@ -196,6 +221,9 @@ fn conclude<B: Lockstep + Drop, D: SectorStore>(
         backup_list,
         primary_board,
         backup_board,
+        waiting,
+        typed0,
+        typed1,
         accepted,
         disk,
     } = parts;
@@ -209,6 +237,9 @@ fn conclude<B: Lockstep + Drop, D: SectorStore>(
         backup: backup_list,
         primary_board,
         backup_board,
+        waiting,
+        typed0,
+        typed1,
         held: closed.held,
         winner,
         accepted,
@@ -246,6 +277,18 @@ pub(crate) fn finish<B: Lockstep + Drop, D: SectorStore>(
         → OnOk five.disk.1 (IsStore (bytes_in first) (D.records five.disk.0.disk) five.disk.0.seat.core.known.disk)
         → IfOk result (λ e. EndsBy (booted_from B.machine boot (bytes_in first)) typed0 typed1 e.winner e.primary.items
         e.backup.items e.held (map (λ v. v.items) e.accepted) (D.records e.disk) (B.state e.primary_board)
+        (B.state e.backup_board)) }
+    ensures typed { (typed0 typed1 : List ℕ)
+        → OnOk five.primary.1 ((five.primary.0.port0.typed.items ≡ typed0) × (five.primary.0.port1.typed.items ≡ typed1))
+        → IfOk result (λ e. (e.typed0.items ≡ typed0) × (e.typed1.items ≡ typed1)) }
+    ensures left { (boot : B.State) (first : List Record) (typed0 typed1 : List ℕ)
+        → Lawful (booted_from B.machine boot (bytes_in first))
+        → OnOk five.primary.1 ((five.primary.0.port0.typed.items ≡ typed0) × (five.primary.0.port1.typed.items ≡ typed1)
+        × WorkerLeads B.state B.machine boot five.primary.0)
+        → OnOk five.backup.1 (IsAt B.state B.machine boot five.backup.0.guest)
+        → OnOk five.disk.1 (IsStore (bytes_in first) (D.records five.disk.0.disk) five.disk.0.seat.core.known.disk)
+        → IfOk result (λ e. LeavesBy (booted_from B.machine boot (bytes_in first)) typed0 typed1 e.winner e.primary.items
+        e.backup.items e.waiting (map (λ v. v.items) e.accepted) (D.records e.disk) (B.state e.primary_board)
         (B.state e.backup_board)) }
     ensures ran { (boot : B.State) (first : List Record) (typed0 typed1 : List ℕ)
         → Lawful (booted_from B.machine boot (bytes_in first))
@@ -291,6 +334,10 @@ pub fn run_generation<
     ensures prefix { IfOk result (λ e. StartsWith e.primary.items e.backup.items) }
     ensures ends { IfOk result (λ e. EndsBy (booted_from B.machine (B.state workers.primary) (bytes_in (D.records workers.disk)))
         workers.typed0.items workers.typed1.items e.winner e.primary.items e.backup.items e.held
+        (map (λ v. v.items) e.accepted) (D.records e.disk) (B.state e.primary_board) (B.state e.backup_board)) }
+    ensures typed { IfOk result (λ e. (e.typed0.items ≡ workers.typed0.items) × (e.typed1.items ≡ workers.typed1.items)) }
+    ensures left { IfOk result (λ e. LeavesBy (booted_from B.machine (B.state workers.primary) (bytes_in (D.records workers.disk)))
+        workers.typed0.items workers.typed1.items e.winner e.primary.items e.backup.items e.waiting
         (map (λ v. v.items) e.accepted) (D.records e.disk) (B.state e.primary_board) (B.state e.backup_board)) }
     ensures ran { IfOk result (λ e. IsOfRun (booted_from B.machine (B.state workers.primary) (bytes_in (D.records workers.disk)))
         workers.typed0.items workers.typed1.items e.winner e.primary.items e.backup.items e.held

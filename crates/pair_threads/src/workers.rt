@@ -34,6 +34,11 @@ pub struct GenerationEnd<B: Drop, D: SectorStore> {
     pub backup: Vec<Entry>,
     pub primary_board: B,
     pub backup_board: B,
+    /// The entry of the last move of the primary's guest, if it is not in the list yet.
+    pub waiting: Option<Entry>,
+    /// What was typed at each port.
+    pub typed0: Vec<u8>,
+    pub typed1: Vec<u8>,
     /// How many entries are acknowledged.
     pub held: u64,
     /// Who goes on alone, if anybody asked to.

@@ -1,5 +1,5 @@
 -- All workers are at their ends.
-use Rattle.std.proofs.Common.{subst}
+use Rattle.std.proofs.Common.{◌≡◌, subst}
 use Rattle.std.specs.Prelude.{IfOk}
 use Rattle.pair_threads.specs.Ending.{WonBy}
 use Rattle.pair_threads.proofs.Ending.{came}
@@ -13,6 +13,24 @@ returns-clause-ends g c = λ boot first typed0 typed1 lawful leads at store.
     let last = came c.failure_of-2.result others.1 c.failure_of-2.ensures.both in
     c.conclude.ensures.ends boot first typed0 typed1 lawful (came c.args.five.primary.1 guests.0 leads)
     (came c.args.five.backup.1 guests.1 at) (came c.args.five.disk.1 last.1 store)
+
+pub returns-clause-left : goal.returns-clause-left
+returns-clause-left g c = λ boot first typed0 typed1 lawful leads at store.
+    let all = c.in_ok-failure_of.ensures.both in
+    let guests = came c.failure_of.result all.0 c.failure_of.ensures.both in
+    let others = came c.failure_of-3.result all.1 c.failure_of-3.ensures.both in
+    let last = came c.failure_of-2.result others.1 c.failure_of-2.ensures.both in
+    c.conclude.ensures.left boot first typed0 typed1 lawful (came c.args.five.primary.1 guests.0 leads)
+    (came c.args.five.backup.1 guests.1 at) (came c.args.five.disk.1 last.1 store)
+
+pub returns-clause-typed : goal.returns-clause-typed
+returns-clause-typed g c = λ typed0 typed1 leads.
+    let all = c.in_ok-failure_of.ensures.both in
+    let guests = came c.failure_of.result all.0 c.failure_of.ensures.both in
+    let both = came c.args.five.primary.1 guests.0 leads in
+    subst (λ x. IfOk c.conclude.result (λ e. (e.typed0.items ≡ x) × (e.typed1.items ≡ typed1))) both.0
+    (subst (λ x. IfOk c.conclude.result (λ e. (e.typed0.items ≡ c.args.five.primary.0.port0.typed.items)
+    × (e.typed1.items ≡ x))) both.1 c.conclude.ensures.typed)
 
 pub returns-clause-decided : goal.returns-clause-decided
 returns-clause-decided g c = λ first second p b.

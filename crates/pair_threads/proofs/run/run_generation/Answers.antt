@@ -49,6 +49,41 @@ returns-clause-ends g c =
     (λ end. subst (λ r. IsStore (bytes_in r) (records served.result.disk.0.disk) served.result.disk.0.seat.core.known.disk)
     (ap records c.new-5.ensures.disk) (end.0 (bytes_in (records c.new-5.result.disk)) store)) served.ensures.disk.1)
 
+pub returns-clause-left : goal.returns-clause-left
+returns-clause-left g c =
+    let served = c.work-served in
+    let state = g.B.Lockstep.state in
+    let records = g.D.SectorStore.records in
+    let made = c.new-5.ensures in
+    let opened = c.in_ok-fabric.ensures in
+    let store = first_disk (records c.new-5.result.disk) c.new-5.result.seat.core.known.disk
+    (ap (λ (x : Seat). x.core.known.disk.puts) made.seat ∙ ap (λ (x : Core). x.known.disk.puts) opened.disk)
+    (ap (λ (x : Seat). x.core.known.disk.given) made.seat ∙ ap (λ (x : Core). x.known.disk.given) opened.disk)
+    (subst IsUnwritten (sym (ap records made.disk)) c.requires.unwritten) in
+    c.finish.ensures.left (state c.args.workers.primary) (records c.args.workers.disk) c.args.workers.typed0.items
+    c.args.workers.typed1.items c.requires.lawful
+    (on_ok served.result.primary.1 (λ end. (
+      ap (λ (v : Vec ℕ Global). v.items) (end.0.1 ∙ c.new.ensures.plan.1),
+      ap (λ (v : Vec ℕ Global). v.items) (end.0.2 ∙ c.new.ensures.plan.2),
+      end.0.4 (state c.args.workers.primary) c.new.ensures.leads,
+    )) served.ensures.primary.1)
+    (on_ok served.result.backup.1
+    (λ end. end.0.2 (state c.args.workers.primary)
+    (subst (λ b. IsAt state g.B.Lockstep.machine b c.new-3.result.guest) c.requires.alike c.new-3.ensures.at))
+    served.ensures.backup.1)
+    (on_ok served.result.disk.1
+    (λ end. subst (λ r. IsStore (bytes_in r) (records served.result.disk.0.disk) served.result.disk.0.seat.core.known.disk)
+    (ap records c.new-5.ensures.disk) (end.0 (bytes_in (records c.new-5.result.disk)) store)) served.ensures.disk.1)
+
+pub returns-clause-typed : goal.returns-clause-typed
+returns-clause-typed g c =
+    let served = c.work-served in
+    c.finish.ensures.typed c.args.workers.typed0.items c.args.workers.typed1.items
+    (on_ok served.result.primary.1 (λ end. (
+      ap (λ (v : Vec ℕ Global). v.items) (end.0.1 ∙ c.new.ensures.plan.1),
+      ap (λ (v : Vec ℕ Global). v.items) (end.0.2 ∙ c.new.ensures.plan.2),
+    )) served.ensures.primary.1)
+
 pub returns-clause-decided : goal.returns-clause-decided
 returns-clause-decided g c =
     let served = c.work-served in
