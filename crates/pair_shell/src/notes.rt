@@ -7,7 +7,7 @@ ghost use Rattle.shell_book.specs.Texts.{AddsSome};
 ghost use Rattle.shell_book.specs.Tapes.{Begins, IsAnswered, Traces, trace_text};
 
 use crate::asked::{keys_of, left};
-use crate::play::{play, play_one};
+use crate::play::{KEPT, play, play_one};
 use crate::showing::{check, show_sector};
 use clone_state::Copies;
 use event_callbacks::PORTS;
@@ -18,7 +18,7 @@ use sequence_diagram::Moment;
 use shared_disk::Disk;
 use shell_book::{Book, Played, Printed};
 use shell_day::Plan;
-use shell_language::{Quoted, ShellLine};
+use shell_language::{Quoted, ShellLine, Stretch};
 use shell_opening::Opening;
 use shell_picture::{print_last, print_picture, print_screen, print_sum};
 use std::alloc::{AllocError, Global};
@@ -118,9 +118,25 @@ impl Notes {
             ShellLine::Sector(address) => show_sector(world, address, printed),
             ShellLine::Last => print_last(&self.book, printed),
             ShellLine::Check => check(alloc, opening, world, printed),
-            ShellLine::Picture(stretch) => print_picture(alloc, &self.past, stretch, printed),
+            ShellLine::Picture(stretch) => self.show_picture(alloc, stretch, printed),
             _ => Ok(()),
         }
+    }
+
+    // A stretch of what has happened as a picture, and whether more has happened than is kept for one.
+    fn show_picture(
+        &self,
+        alloc: Global,
+        stretch: Option<Stretch>,
+        printed: &mut Printed,
+    ) -> Result<(), AllocError> {
+        print_picture(alloc, &self.past, stretch, printed)?;
+        if self.past.len() < KEPT {
+            return Ok(());
+        }
+        printed.line(&format_args!(
+            "  the first {KEPT} events are kept for pictures; later ones are in none"
+        ))
     }
 
     // Types a text at a port.

@@ -1,5 +1,5 @@
 //! Events that happen in a pair, one after another, and what was answered to each.
-ghost use Rattle.std.specs.Prelude.{◌≡◌, ◌<◌, [], ◌∷◌, ◌++◌, IfOk, vec_capacity, vec_len};
+ghost use Rattle.std.specs.Prelude.{◌≡◌, ◌<◌, [], ◌∷◌, ◌++◌, IfOk, cond, nat_lt, vec_capacity, vec_len};
 ghost use Rattle.ft_world.specs.Applies.{Happens};
 ghost use Rattle.shared_disk.specs.Failing.{records_in};
 ghost use Rattle.pair_shell.specs.Playing.{Lengthens, Plays};
@@ -15,6 +15,10 @@ use shared_disk::Disk;
 use shell_book::{Book, Brings, Played};
 use shell_day::Plan;
 use std::alloc::{AllocError, Global};
+
+/// How many events of a session are kept for pictures, from its first one on. With each of them a session that prints would
+/// keep two thousand bytes for each byte that it prints.
+pub const KEPT: usize = 262_144;
 
 /// Makes the events of a plan happen, one after another, each chosen when the one before it was answered. The tape has
 /// exactly these afterwards, with their answers; also if memory for the next one is refused.
@@ -75,8 +79,18 @@ fn play_next<B: Copies<H> + Drop, H: Drop>(
     past.reserve(1)?;
     let answer = make(alloc, world, event, tape);
     book.note(event, answer, sent_by(world, answer));
-    let _ = past.push(moment_of(world, event, answer));
+    keep(past, moment_of(world, event, answer));
     Ok(answer)
+}
+
+// Keeps an event for pictures, if it is among the first ones.
+fn keep(past: &mut Vec<Moment>, moment: Moment)
+    requires room { vec_len past.old < vec_capacity past.old }
+    ensures { past.new.items ≡ cond (nat_lt (vec_len past.old) 262_144) (past.old.items ++ moment ∷ []) past.old.items }
+{
+    if past.len() < KEPT {
+        past.push_reserved(moment);
+    }
 }
 
 // What the message brings that an event has sent, if it has sent one.

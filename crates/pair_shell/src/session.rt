@@ -85,7 +85,7 @@ impl<T: Completes + Drop + Copy, S: Completes + Drop + Copy, W: Completes + Drop
         ensures late { is_setup (said text.now) ≡ true → is_some self.old.world ≡ true
             → IfOk result (λ told. told.0 ≡ outcome.Refused) }
     {
-        self.notes.tape.clear();
+        self.notes.tape = Vec::new(alloc);
         let mut printed = Printed::new(alloc, self.is_traced);
         let outcome = match read_line(text) {
             Ok(line) => self.take(alloc, sent, sector, written, text, line, &mut printed)?,
