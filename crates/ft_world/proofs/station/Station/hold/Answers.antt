@@ -18,9 +18,9 @@ returns-in_err-hold-clause-pages g c = IfOk-from_err c.from_residual.result _ c.
 pub returns-in-Ok-clause-answer : goal.returns-in-Ok-clause-answer
 returns-in-Ok-clause-answer g c = λ C drives x is.
     let new : Station g.row.B.Denot g.row.H.Denot =
-    record { node = c.hold-2.new.self; inputs = c.hold.new.self; count = c.count-self.result } in
+    record { node = c.hold-2.new.self; inputs = c.hold.new.self; count = c.count-count.result } in
     holds_on g.B.Lockstep.state g.B.Lockstep.machine C drives c.args.self.now new c.args.entry x c.requires is
-    (c.in-Ok.ensures.answer C drives x is.node) c.in_ok-hold.ensures.ok c.count-self.ensures
+    (c.in-Ok.ensures.answer C drives x is.node) c.in_ok-hold.ensures.ok c.count-count.ensures
 
 pub returns-in-Ok-clause-pages : goal.returns-in-Ok-clause-pages
 returns-in-Ok-clause-pages g c = c.in-Ok.ensures.pages
