@@ -5,3 +5,4 @@ pub mod Keys
 pub mod Messages
 pub mod Places
 pub mod Waits
+pub mod Words

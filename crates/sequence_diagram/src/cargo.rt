@@ -1,4 +1,8 @@
 //! What a message carries, in words.
+ghost use Rattle.std.specs.Prelude.{◌<◌, ◌++◌, Some, codes};
+ghost use Rattle.std.specs.Fmt.{WritesOnOk, decimal};
+ghost use Rattle.pair_events.specs.Printed.{byte_text, ◌␣◌};
+ghost use Rattle.sequence_diagram.specs.Words.{cargo_text, carried_text, counted_text, entry_text, held_text, input_text, key_text, letter_text, named_byte, part_text, sector_text};
 
 use crate::moment::{Cargo, Moment};
 use guest_trace::Bare;
@@ -13,22 +17,40 @@ pub struct Carried(pub Moment);
 #[derive(Clone, Copy)]
 pub struct Byte(pub u8);
 
+// A byte as two hexadecimal digits.
+#[derive(Clone, Copy)]
+struct Hexadecimal(u8);
+
 // The input of an entry of the log; none if it is a mark.
 #[derive(Clone, Copy)]
 struct Input(Option<Bare>);
 
 impl fmt::Display for Carried {
+    ghost output = { λ carried. Some (carried_text carried.0) };
+
     fn fmt<W: fmt::Write>(&self, f: &mut fmt::Formatter<W>) -> fmt::Result {
-        match (self.0.cargo, self.0.event) {
-            (Some(Cargo::Part), Event::SendPart { index, .. }) => write_number(f, "part", index),
-            (Some(cargo), _) => write_cargo(f, cargo),
-            (None, _) => Ok(()),
+        match self.0.cargo {
+            None => Ok(()),
+            Some(Cargo::Part) => write_part(f, self.0.event),
+            Some(cargo) => write_cargo(f, cargo),
         }
     }
 }
 
+// A part of a copy, by the event that sends it.
+fn write_part<W: fmt::Write>(f: &mut fmt::Formatter<W>, event: Event) -> fmt::Result
+    ensures { WritesOnOk W.write_str_gives f.old result (part_text event) f.new }
+{
+    match event {
+        Event::SendPart { index, .. } => write_number(f, "part", index),
+        _ => Ok(()),
+    }
+}
+
 // What a message between two nodes carries, or one of a device.
-fn write_cargo<W: fmt::Write>(f: &mut fmt::Formatter<W>, cargo: Cargo) -> fmt::Result {
+fn write_cargo<W: fmt::Write>(f: &mut fmt::Formatter<W>, cargo: Cargo) -> fmt::Result
+    ensures { WritesOnOk W.write_str_gives f.old result (cargo_text cargo) f.new }
+{
     match cargo {
         Cargo::Entry {
             index,
@@ -36,7 +58,11 @@ fn write_cargo<W: fmt::Write>(f: &mut fmt::Formatter<W>, cargo: Cargo) -> fmt::R
             input,
         } => write_entry(f, index, count, input),
         Cargo::Acknowledgement { held, replayed } => write_held(f, held, replayed),
-        other => write_effect(f, other),
+        Cargo::Part => Ok(()),
+        Cargo::Byte { number, byte, .. } => write_named_byte(f, number, byte),
+        Cargo::Write { number, address } => write_write(f, number, address.sector),
+        Cargo::Written { number } => write_number_and(f, "write", number, " is done"),
+        Cargo::Sector { number, address } => write_sector(f, number, address.sector),
     }
 }
 
@@ -46,7 +72,9 @@ fn write_entry<W: fmt::Write>(
     index: u64,
     count: u64,
     input: Option<Bare>,
-) -> fmt::Result {
+) -> fmt::Result
+    ensures { WritesOnOk W.write_str_gives f.old result (entry_text index count input) f.new }
+{
     write!(f, "entry {index}: {} at count {count}", Input(input))
 }
 
@@ -55,7 +83,9 @@ fn write_held<W: fmt::Write>(
     f: &mut fmt::Formatter<W>,
     held: u64,
     replayed: Option<u64>,
-) -> fmt::Result {
+) -> fmt::Result
+    ensures { WritesOnOk W.write_str_gives f.old result (held_text held replayed) f.new }
+{
     write_count(f, "holds", held, "entry", "entries")?;
     match replayed {
         Some(replayed) => write_number(f, ", replayed", replayed),
@@ -63,40 +93,34 @@ fn write_held<W: fmt::Write>(
     }
 }
 
-// What is sent to a device, or by it.
-fn write_effect<W: fmt::Write>(f: &mut fmt::Formatter<W>, cargo: Cargo) -> fmt::Result {
-    match cargo {
-        Cargo::Byte { number, byte, .. } => write_named_byte(f, number, byte),
-        Cargo::Write { number, address } => write_write(f, number, address.sector),
-        Cargo::Written { number } => write_number_and(f, "write", number, " is done"),
-        Cargo::Sector { number, address } => write_sector(f, number, address.sector),
-        _ => Ok(()),
-    }
-}
-
 // A byte for a terminal, by its number.
-fn write_named_byte<W: fmt::Write>(
-    f: &mut fmt::Formatter<W>,
-    number: u64,
-    byte: u8,
-) -> fmt::Result {
+fn write_named_byte<W: fmt::Write>(f: &mut fmt::Formatter<W>, number: u64, byte: u8) -> fmt::Result
+    ensures { WritesOnOk W.write_str_gives f.old result (codes "byte " ++ (decimal number ++ (codes ": " ++ named_byte byte))) f.new }
+{
     write!(f, "byte {number}: {}", Byte(byte))
 }
 
 // A write, by its number and that of its sector on its track.
-fn write_write<W: fmt::Write>(f: &mut fmt::Formatter<W>, number: u64, sector: u8) -> fmt::Result {
+fn write_write<W: fmt::Write>(f: &mut fmt::Formatter<W>, number: u64, sector: u8) -> fmt::Result
+    ensures { WritesOnOk W.write_str_gives f.old result
+        (codes "write " ++ (decimal number ++ (codes " of sector " ++ decimal sector))) f.new }
+{
     write!(f, "write {number} of sector {sector}")
 }
 
 // What was read of a sector: the bytes of the write of this number.
-fn write_sector<W: fmt::Write>(f: &mut fmt::Formatter<W>, number: u64, sector: u8) -> fmt::Result {
-    if number == 0 {
-        return write_number_and(f, "sector", u64::from(sector), ", as at boot");
+fn write_sector<W: fmt::Write>(f: &mut fmt::Formatter<W>, number: u64, sector: u8) -> fmt::Result
+    ensures { WritesOnOk W.write_str_gives f.old result (sector_text number sector) f.new }
+{
+    match number {
+        0 => write_number_and(f, "sector", u64::from(sector), ", as at boot"),
+        number => write!(f, "sector {sector}, as write {number} left it"),
     }
-    write!(f, "sector {sector}, as write {number} left it")
 }
 
 impl fmt::Display for Input {
+    ghost output = { λ input. Some (input_text input.0) };
+
     fn fmt<W: fmt::Write>(&self, f: &mut fmt::Formatter<W>) -> fmt::Result {
         match self.0 {
             None => f.write_str("output"),
@@ -109,19 +133,43 @@ impl fmt::Display for Input {
 }
 
 /// A key, by its byte.
-pub fn write_key<W: fmt::Write>(f: &mut fmt::Formatter<W>, byte: u8) -> fmt::Result {
+pub fn write_key<W: fmt::Write>(f: &mut fmt::Formatter<W>, byte: u8) -> fmt::Result
+    ensures { WritesOnOk W.write_str_gives f.old result (key_text byte) f.new }
+{
     write!(f, "key {}", Byte(byte))
 }
 
 impl fmt::Display for Byte {
+    ghost output = { λ byte. Some (named_byte byte.0) };
+
     fn fmt<W: fmt::Write>(&self, f: &mut fmt::Formatter<W>) -> fmt::Result {
-        let byte = self.0;
-        if byte.is_ascii_alphanumeric() {
-            let letter = char::from(byte);
-            return write!(f, "{byte:02X} ({letter})");
+        if self.0.is_ascii_alphanumeric() {
+            return write_letter(f, self.0);
         }
-        write!(f, "{byte:02X}")
+        write_byte(f, self.0)
     }
+}
+
+// A byte that is a letter or a digit.
+fn write_letter<W: fmt::Write>(f: &mut fmt::Formatter<W>, byte: u8) -> fmt::Result
+    requires { byte < 128 }
+    ensures { WritesOnOk W.write_str_gives f.old result (letter_text byte) f.new }
+{
+    write!(f, "{} ({})", Hexadecimal(byte), char::from(byte))
+}
+
+impl fmt::Display for Hexadecimal {
+    ghost output = { λ byte. Some (byte_text byte.0) };
+
+    fn fmt<W: fmt::Write>(&self, f: &mut fmt::Formatter<W>) -> fmt::Result {
+        write_byte(f, self.0)
+    }
+}
+
+fn write_byte<W: fmt::Write>(f: &mut fmt::Formatter<W>, byte: u8) -> fmt::Result
+    ensures { WritesOnOk W.write_str_gives f.old result (byte_text byte) f.new }
+{
+    write!(f, "{byte:02X}")
 }
 
 /// Words, a space and a number.
@@ -129,7 +177,9 @@ pub fn write_number<W: fmt::Write>(
     f: &mut fmt::Formatter<W>,
     words: &str,
     number: u64,
-) -> fmt::Result {
+) -> fmt::Result
+    ensures { WritesOnOk W.write_str_gives f.old result (words.now ␣ decimal number) f.new }
+{
     write!(f, "{words} {number}")
 }
 
@@ -139,7 +189,9 @@ pub fn write_number_and<W: fmt::Write>(
     words: &str,
     number: u64,
     after: &str,
-) -> fmt::Result {
+) -> fmt::Result
+    ensures { WritesOnOk W.write_str_gives f.old result (words.now ␣ (decimal number ++ after.now)) f.new }
+{
     write!(f, "{words} {number}{after}")
 }
 
@@ -150,7 +202,9 @@ pub fn write_count<W: fmt::Write>(
     count: u64,
     one: &str,
     more: &str,
-) -> fmt::Result {
+) -> fmt::Result
+    ensures { WritesOnOk W.write_str_gives f.old result (counted_text words.now count one.now more.now) f.new }
+{
     let things = if count == 1 { one } else { more };
     write!(f, "{words} {count} {things}")
 }

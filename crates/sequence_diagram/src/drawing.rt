@@ -94,6 +94,13 @@ impl Drawing {
         )
     }
 
+    /// How many letters words have.
+    pub fn length<D: fmt::Display>(&mut self, words: &D) -> Result<usize, AllocError> {
+        self.words.clear();
+        write!(self.words, "{words}")?;
+        Ok(self.words.len())
+    }
+
     /// Words beside a point, or none.
     pub fn words<D: fmt::Display>(
         &mut self,

@@ -1,4 +1,8 @@
 //! What happens at one place, in words.
+ghost use Rattle.std.specs.Prelude.{◌≡◌, Some};
+ghost use Rattle.std.specs.Fmt.{WritesOnOk};
+ghost use Rattle.pair_events.specs.Printed.{◌␣◌};
+ghost use Rattle.sequence_diagram.specs.Words.{after_moves, attempt_text, because_text, done_text, event_text, fault_text, late_attempt, lost_text, moves_text, named_text, note_text, operation_text, reason_text, refused_text, run_text, stopped_text};
 
 use crate::cargo::{Byte, write_count, write_number, write_number_and};
 use crate::moment::{Moment, delivered};
@@ -12,51 +16,117 @@ use std::fmt;
 #[derive(Clone, Copy)]
 pub struct Note(pub Moment);
 
+/// An event by itself: what it does, or was to do. One that is to bring a message is named by that.
+#[derive(Clone, Copy)]
+pub struct Named(pub Event);
+
+/// That something is refused, and why.
+#[derive(Clone, Copy)]
+pub struct Reason(pub Fault);
+
+// An operation; port 0 goes without saying.
+#[derive(Clone, Copy)]
+struct Operation(OpId);
+
 impl fmt::Display for Note {
+    ghost output = { λ note. Some (note_text note.0) };
+
     fn fmt<W: fmt::Write>(&self, f: &mut fmt::Formatter<W>) -> fmt::Result {
-        match (self.0.event, self.0.answer) {
-            (Event::Suspect { .. }, Err(Fault::Lost)) => f.write_str("suspects its peer"),
-            (event, Err(fault)) => write_refused(f, event, fault),
-            (event, Ok(reply)) => write_done(f, event, reply),
+        match self.0.answer {
+            Err(fault) => write_refused(f, self.0.event, fault),
+            Ok(reply) => write_done(f, self.0.event, reply),
         }
     }
 }
 
-// An event that was refused, and why. One that was to bring a message is named by that.
+// An event that was refused, and why.
 fn write_refused<W: fmt::Write>(
     f: &mut fmt::Formatter<W>,
     event: Event,
     fault: Fault,
-) -> fmt::Result {
-    match delivered(event) {
-        Some(message) => write_number(f, "message", message)?,
-        None => write_event(f, event)?,
-    }
-    write_reason(f, fault)
-}
-
-/// Why what was named is refused.
-pub fn write_reason<W: fmt::Write>(f: &mut fmt::Formatter<W>, fault: Fault) -> fmt::Result {
+) -> fmt::Result
+    ensures { WritesOnOk W.write_str_gives f.old result (refused_text event fault) f.new }
+{
     match fault {
-        Fault::Unknown => f.write_str(": refused, there is none"),
-        other => write_fault(f, ": refused,", other),
+        Fault::Lost => write_lost(f, event),
+        other => write_because(f, event, other),
     }
 }
 
-/// Words, a space and a refusal.
-pub fn write_fault<W: fmt::Write>(
+// A question to the arbiter was asked even if the other node had won.
+fn write_lost<W: fmt::Write>(f: &mut fmt::Formatter<W>, event: Event) -> fmt::Result
+    ensures { WritesOnOk W.write_str_gives f.old result (lost_text event) f.new }
+{
+    match event {
+        Event::Suspect { .. } => f.write_str("suspects its peer"),
+        other => write_because(f, other, Fault::Lost),
+    }
+}
+
+fn write_because<W: fmt::Write>(
     f: &mut fmt::Formatter<W>,
-    words: &str,
+    event: Event,
     fault: Fault,
-) -> fmt::Result {
-    write!(f, "{words} {fault}")
+) -> fmt::Result
+    ensures { WritesOnOk W.write_str_gives f.old result (because_text event fault) f.new }
+{
+    write!(f, "{}: {}", Named(event), Reason(fault))
+}
+
+impl fmt::Display for Named {
+    ghost output = { λ named. Some (named_text named.0) };
+
+    fn fmt<W: fmt::Write>(&self, f: &mut fmt::Formatter<W>) -> fmt::Result {
+        match delivered(self.0) {
+            Some(message) => write_number(f, "message", message),
+            None => write_event(f, self.0),
+        }
+    }
+}
+
+impl fmt::Display for Reason {
+    ghost output = { λ reason. Some (reason_text reason.0) };
+
+    fn fmt<W: fmt::Write>(&self, f: &mut fmt::Formatter<W>) -> fmt::Result {
+        f.write_str("refused, ")?;
+        f.write_str(fault_text(self.0))
+    }
+}
+
+// Why something is refused, in words for which there is room between two columns.
+fn fault_text(fault: Fault) -> &'static str
+    ensures { result.now ≡ fault_text fault }
+{
+    match fault {
+        Fault::OutOfMemory => "out of memory",
+        Fault::Spent => "numbers are spent",
+        Fault::LogFull => "the log is full",
+        Fault::NotDue => "not due",
+        Fault::WrongNumber => "wrong number",
+        Fault::StaleRead => "stale read",
+        Fault::SectorBusy => "the sector is busy",
+        Fault::WrongRole => "wrong role",
+        Fault::WrongGeneration => "wrong generation",
+        Fault::Malformed => "malformed",
+        Fault::NotWhole => "not whole",
+        Fault::NotCovered => "not covered",
+        Fault::DeviceFault => "device fault",
+        Fault::Lost => "lost",
+        Fault::Unknown => "there is none",
+        Fault::BadAck => "bad acknowledgement",
+        Fault::Stalled => "stalled",
+        Fault::Idle => "idle",
+        Fault::BadScript(_) => "bad script",
+    }
 }
 
 // What an event has done.
-fn write_done<W: fmt::Write>(f: &mut fmt::Formatter<W>, event: Event, reply: Reply) -> fmt::Result {
+fn write_done<W: fmt::Write>(f: &mut fmt::Formatter<W>, event: Event, reply: Reply) -> fmt::Result
+    ensures { WritesOnOk W.write_str_gives f.old result (done_text event reply) f.new }
+{
     match reply {
         Reply::Ran { steps, why, .. } => write_run(f, steps, why),
-        Reply::Moved { moves, why } => write_moved(f, moves, why),
+        Reply::Moved { moves, why } => write_moves(f, moves, after_moves(why)),
         Reply::MovedAlone { moves } => write_moves(f, moves, ", then is alone"),
         Reply::Told { keys } => write_number(f, "covered keys:", keys),
         Reply::Stale { pages } => write_number(f, "copies pages early, stale:", pages),
@@ -67,54 +137,69 @@ fn write_done<W: fmt::Write>(f: &mut fmt::Formatter<W>, event: Event, reply: Rep
     }
 }
 
-// Moves that were made, and whether no more were for want of a sector.
-fn write_moved<W: fmt::Write>(
-    f: &mut fmt::Formatter<W>,
-    moves: u64,
-    why: ReplayEnd,
-) -> fmt::Result {
-    let after = match why {
-        ReplayEnd::Wait => ", waits for a sector",
-        _ => "",
-    };
-    write_moves(f, moves, after)
-}
-
-fn write_moves<W: fmt::Write>(f: &mut fmt::Formatter<W>, moves: u64, after: &str) -> fmt::Result {
+// Moves that were made, and what came after them.
+fn write_moves<W: fmt::Write>(f: &mut fmt::Formatter<W>, moves: u64, after: &str) -> fmt::Result
+    ensures { WritesOnOk W.write_str_gives f.old result (moves_text moves after.now) f.new }
+{
     write_count(f, "replays", moves, "move", "moves")?;
     f.write_str(after)
 }
 
-// Steps that were executed, and what ended them.
-fn write_run<W: fmt::Write>(f: &mut fmt::Formatter<W>, steps: u64, why: StopReason) -> fmt::Result {
+// Whether no more moves were made for want of a sector.
+fn after_moves(why: ReplayEnd) -> &'static str
+    ensures { result.now ≡ after_moves why }
+{
     match why {
-        StopReason::Operation(id) => write_operation(f, "gives", id),
-        StopReason::Refused(Fault::Idle) => f.write_str("waits for an interrupt"),
-        StopReason::Refused(fault) => write_fault(f, "runs until", fault),
+        ReplayEnd::Wait => ", waits for a sector",
+        _ => "",
+    }
+}
+
+// Steps that were executed, and what ended them.
+fn write_run<W: fmt::Write>(f: &mut fmt::Formatter<W>, steps: u64, why: StopReason) -> fmt::Result
+    ensures { WritesOnOk W.write_str_gives f.old result (run_text steps why) f.new }
+{
+    match why {
         StopReason::Turns => write_count(f, "runs", steps, "step", "steps"),
+        StopReason::Operation(id) => write_operation(f, "gives", id),
+        StopReason::Refused(fault) => write_stopped(f, fault),
+    }
+}
+
+fn write_stopped<W: fmt::Write>(f: &mut fmt::Formatter<W>, fault: Fault) -> fmt::Result
+    ensures { WritesOnOk W.write_str_gives f.old result (stopped_text fault) f.new }
+{
+    match fault {
+        Fault::Idle => f.write_str("waits for an interrupt"),
+        other => write!(f, "runs until {}", fault_text(other)),
     }
 }
 
 // Words and an operation.
-fn write_operation<W: fmt::Write>(f: &mut fmt::Formatter<W>, words: &str, id: OpId) -> fmt::Result {
-    f.write_str(words)?;
-    match id {
-        OpId::Byte(0, number) => write_number(f, " byte", number),
-        OpId::Byte(port, number) => write_byte_of(f, port, number),
-        OpId::Write(number) => write_number(f, " write", number),
+fn write_operation<W: fmt::Write>(f: &mut fmt::Formatter<W>, words: &str, id: OpId) -> fmt::Result
+    ensures { WritesOnOk W.write_str_gives f.old result (words.now ␣ operation_text id) f.new }
+{
+    write!(f, "{words} {}", Operation(id))
+}
+
+impl fmt::Display for Operation {
+    ghost output = { λ operation. Some (operation_text operation.0) };
+
+    fn fmt<W: fmt::Write>(&self, f: &mut fmt::Formatter<W>) -> fmt::Result {
+        match self.0 {
+            OpId::Byte(0, number) => write_number(f, "byte", number),
+            OpId::Byte(port, number) => write!(f, "byte {number} of port {port}"),
+            OpId::Write(number) => write_number(f, "write", number),
+        }
     }
 }
 
-// A byte of a port that is named, since it is not port 0.
-fn write_byte_of<W: fmt::Write>(f: &mut fmt::Formatter<W>, port: u8, number: u64) -> fmt::Result {
-    write_number(f, " byte", number)?;
-    write_number(f, " of port", u64::from(port))
-}
-
 // An event by itself: what it would do, or has done.
-fn write_event<W: fmt::Write>(f: &mut fmt::Formatter<W>, event: Event) -> fmt::Result {
+fn write_event<W: fmt::Write>(f: &mut fmt::Formatter<W>, event: Event) -> fmt::Result
+    ensures { WritesOnOk W.write_str_gives f.old result (event_text event) f.new }
+{
     match event {
-        Event::TypeByte { byte, .. } => write_typed(f, byte),
+        Event::TypeByte { byte, .. } => write!(f, "types {}", Byte(byte)),
         Event::TakeKey { index, .. } => write_number(f, "key", index),
         Event::TellSent { number, .. } => write_number_and(f, "byte", number, " was accepted"),
         Event::Release { id, .. } => write_operation(f, "release of", id),
@@ -124,12 +209,10 @@ fn write_event<W: fmt::Write>(f: &mut fmt::Formatter<W>, event: Event) -> fmt::R
     }
 }
 
-fn write_typed<W: fmt::Write>(f: &mut fmt::Formatter<W>, byte: u8) -> fmt::Result {
-    write!(f, "types {}", Byte(byte))
-}
-
 // An event that is named only if it was refused.
-fn write_attempt<W: fmt::Write>(f: &mut fmt::Formatter<W>, event: Event) -> fmt::Result {
+fn write_attempt<W: fmt::Write>(f: &mut fmt::Formatter<W>, event: Event) -> fmt::Result
+    ensures { WritesOnOk W.write_str_gives f.old result (attempt_text event) f.new }
+{
     match event {
         Event::Send { index, .. } => write_number(f, "send entry", index),
         Event::SendPart { index, .. } => write_number(f, "send part", index),
@@ -137,16 +220,18 @@ fn write_attempt<W: fmt::Write>(f: &mut fmt::Formatter<W>, event: Event) -> fmt:
         Event::BeginPair { host, .. } => write_number(f, "pair with host", host),
         Event::Step { .. } => f.write_str("step"),
         Event::Acknowledge { .. } => f.write_str("acknowledge"),
-        other => write_late_attempt(f, other),
+        other => f.write_str(late_attempt(other)),
     }
 }
 
-fn write_late_attempt<W: fmt::Write>(f: &mut fmt::Formatter<W>, event: Event) -> fmt::Result {
-    f.write_str(match event {
+fn late_attempt(event: Event) -> &'static str
+    ensures { result.now ≡ late_attempt event }
+{
+    match event {
         Event::Replay { .. } | Event::Drain { .. } => "replay",
         Event::Told { .. } => "tell the terminal",
         Event::Fetch { .. } => "read a sector",
         Event::Freshen { .. } => "copy pages early",
         _ => "a message",
-    })
+    }
 }

@@ -1,11 +1,14 @@
 //! What happens to a message where it arrives, and what the arbiter answers, in words.
+ghost use Rattle.std.specs.Prelude.{◌≡◌, Some};
+ghost use Rattle.std.specs.Fmt.{WritesOnOk};
+ghost use Rattle.sequence_diagram.specs.Words.{arbiter_text, came_text, is_plain, outcome_text, result_text, winner_text};
 
 use crate::cargo::write_number_and;
 use crate::moment::{Look, Moment};
-use crate::notes::write_fault;
+use crate::notes::Reason;
 use i8080_words::Fault;
 use pair_events::{Event, Reply};
-use std::fmt;
+use std::fmt::{self, Display};
 
 /// What an event did with the message that it brought, or the result of an exchange; nothing if that is plain.
 #[derive(Clone, Copy)]
@@ -13,7 +16,9 @@ pub struct Outcome(pub Moment);
 
 impl Outcome {
     /// Whether there is nothing to say.
-    pub fn is_plain(&self) -> bool {
+    pub fn is_plain(&self) -> bool
+        ensures { result ≡ is_plain self.now.0.answer }
+    {
         matches!(
             self.0.answer,
             Ok(Reply::Taken | Reply::Told { .. } | Reply::Held { .. } | Reply::Message { .. })
@@ -21,31 +26,68 @@ impl Outcome {
     }
 }
 
-impl fmt::Display for Outcome {
+impl Display for Outcome {
+    ghost output = { λ outcome. Some (outcome_text outcome.0) };
+
     fn fmt<W: fmt::Write>(&self, f: &mut fmt::Formatter<W>) -> fmt::Result {
-        match (self.0.event, self.0.answer) {
-            (Event::Suspect { .. }, Err(Fault::Lost)) => f.write_str("refuses: the other won"),
-            (_, Err(fault)) => write_fault(f, "refused,", fault),
-            (Event::Suspect { .. }, Ok(_)) => write_winner(f, self.0.look),
-            (_, Ok(reply)) => write_reply(f, reply),
+        let Moment {
+            event,
+            answer,
+            look,
+            ..
+        } = self.0;
+        match answer {
+            Err(Fault::Lost) => write_lost(f, event),
+            Err(fault) => Reason(fault).fmt(f),
+            Ok(reply) => write_came(f, event, reply, look),
         }
     }
 }
 
-fn write_winner<W: fmt::Write>(f: &mut fmt::Formatter<W>, look: Option<Look>) -> fmt::Result {
+// What was refused since the other node has won.
+fn write_lost<W: fmt::Write>(f: &mut fmt::Formatter<W>, event: Event) -> fmt::Result
+    ensures { WritesOnOk W.write_str_gives f.old result (arbiter_text event) f.new }
+{
+    match event {
+        Event::Suspect { .. } => f.write_str("refuses: the other won"),
+        _ => Reason(Fault::Lost).fmt(f),
+    }
+}
+
+// What came of an event.
+fn write_came<W: fmt::Write>(
+    f: &mut fmt::Formatter<W>,
+    event: Event,
+    reply: Reply,
+    look: Option<Look>,
+) -> fmt::Result
+    ensures { WritesOnOk W.write_str_gives f.old result (came_text event reply look) f.new }
+{
+    match event {
+        Event::Suspect { .. } => write_winner(f, look),
+        _ => f.write_str(result_text(reply)),
+    }
+}
+
+fn write_winner<W: fmt::Write>(f: &mut fmt::Formatter<W>, look: Option<Look>) -> fmt::Result
+    ensures { WritesOnOk W.write_str_gives f.old result (winner_text look) f.new }
+{
     match look {
         Some(Look { node, .. }) => write_number_and(f, "node", node, " has won"),
         None => Ok(()),
     }
 }
 
-fn write_reply<W: fmt::Write>(f: &mut fmt::Formatter<W>, reply: Reply) -> fmt::Result {
+// What an answer says of a message; nothing if that is plain.
+fn result_text(reply: Reply) -> &'static str
+    ensures { result.now ≡ result_text reply }
+{
     match reply {
-        Reply::New => f.write_str("held"),
-        Reply::Old => f.write_str("nothing new"),
-        Reply::Accepted => f.write_str("accepted"),
-        Reply::Dropped => f.write_str("dropped"),
-        Reply::Whole => f.write_str("the copy is whole"),
-        _ => Ok(()),
+        Reply::New => "held",
+        Reply::Old => "nothing new",
+        Reply::Accepted => "accepted",
+        Reply::Dropped => "dropped",
+        Reply::Whole => "the copy is whole",
+        _ => "",
     }
 }

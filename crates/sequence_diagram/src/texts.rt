@@ -14,7 +14,7 @@ use crate::place::{Place, aim_of, place_of, sender_of};
 use crate::plan::Plan;
 use crate::runs::is_part;
 use crate::strokes::beside;
-use crate::told::{Kept, Told};
+use crate::told::{Kept, Refused, Told, Why};
 use pair_events::Event;
 use std::alloc::AllocError;
 use std::fmt;
@@ -29,6 +29,9 @@ const BELOW: u64 = 19;
 
 // How much lower than an arrow what came of it is said, so that a long label of that arrow ends above it.
 const UNDER: u64 = 7;
+
+// How many letters of a refusal there is room for between two columns.
+const ROOM: usize = 33;
 
 /// Says what an event does, what it carries and what it results in. Events that share one arrow share the words.
 pub fn draw_texts(
@@ -182,11 +185,10 @@ fn draw_note(
         x: plan.x(here),
         y: plan.y(place),
     };
-    let told = Told { moments, place };
     if moment.answer.is_ok() {
-        return draw_done(drawing, moment, at, told);
+        return draw_done(drawing, moment, at, Told { moments, place });
     }
-    draw_refused(drawing, plan.is_last(here), at, told)
+    draw_refused(drawing, plan.is_last(here), at, Refused { moments, place })
 }
 
 // What has happened, with the count of the machine, if it has run.
@@ -205,20 +207,43 @@ fn draw_done(
     drawing.words("note", beside, Side::Right, &told)
 }
 
-// What is refused. It is left of the last column, since there is more room than right of it.
+// What is refused, and why. It is left of the last column, since there is more room than right of it.
 fn draw_refused(
     drawing: &mut Drawing,
     is_last: bool,
     at: Point,
-    told: Told<'_>,
+    refused: Refused<'_>,
 ) -> Result<(), AllocError> {
-    let y = at.y.saturating_add(4);
-    if is_last {
-        let x = at.x.saturating_sub(FAR);
-        return drawing.words("refused", Point { x, y }, Side::Left, &told);
+    let (x, side) = if is_last {
+        (at.x.saturating_sub(FAR), Side::Left)
+    } else {
+        (at.x.saturating_add(NEAR), Side::Right)
+    };
+    if drawing.length(&refused)? > ROOM {
+        return draw_rows(drawing, Point { x, y: at.y }, side, refused);
     }
-    let x = at.x.saturating_add(NEAR);
-    drawing.words("refused", Point { x, y }, Side::Right, &told)
+    let y = at.y.saturating_add(4);
+    drawing.words("refused", Point { x, y }, side, &refused)
+}
+
+// The same in two rows, since it is too long for one.
+fn draw_rows(
+    drawing: &mut Drawing,
+    at: Point,
+    side: Side,
+    refused: Refused<'_>,
+) -> Result<(), AllocError> {
+    let Refused { moments, place } = refused;
+    let above = Point {
+        x: at.x,
+        y: at.y.saturating_sub(4),
+    };
+    let below = Point {
+        x: at.x,
+        y: at.y.saturating_add(8),
+    };
+    drawing.words("refused", below, side, &Why { moments, place })?;
+    drawing.words("refused", above, side, &Told { moments, place })
 }
 
 // Keys that share a line.

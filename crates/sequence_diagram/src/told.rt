@@ -1,4 +1,5 @@
-//! What is said of an event that takes what happened before it into account: which byte a key is, and what the disk had already.
+//! What is said of an event that takes what happened before it into account: which byte a key is, whether a message was sent, and what the
+//! disk had already.
 ghost use Rattle.std.specs.Prelude.{◌≡◌};
 ghost use Rattle.sequence_diagram.specs.Keys.{HasByte, typed_at};
 
@@ -6,15 +7,29 @@ use crate::arrows::sent_before;
 use crate::cargo::{write_key, write_number, write_number_and};
 use crate::flights::cargo_to;
 use crate::moment::{Cargo, Moment, delivered};
-use crate::notes::{Note, write_reason};
+use crate::notes::{Named, Note, Reason};
 use disk_dcdd::SectorAddress;
-use i8080_words::{Fault, R};
+use i8080_words::Fault;
 use pair_events::{Event, Reply};
-use std::fmt;
+use std::fmt::{self, Display};
 
-/// What the event at a place of a run does, or what was refused there.
+/// What the event at a place of a run does, or was to do.
 #[derive(Clone, Copy)]
 pub struct Told<'a> {
+    pub moments: &'a [Moment],
+    pub place: usize,
+}
+
+/// Why the event at a place of a run is refused; nothing if it is not.
+#[derive(Clone, Copy)]
+pub struct Why<'a> {
+    pub moments: &'a [Moment],
+    pub place: usize,
+}
+
+/// What is refused at a place of a run, and why.
+#[derive(Clone, Copy)]
+pub struct Refused<'a> {
     pub moments: &'a [Moment],
     pub place: usize,
 }
@@ -33,36 +48,41 @@ struct Arrival {
     address: SectorAddress,
 }
 
-impl fmt::Display for Told<'_> {
+impl Display for Told<'_> {
     fn fmt<W: fmt::Write>(&self, f: &mut fmt::Formatter<W>) -> fmt::Result {
         let Some(moment) = self.moments.get(self.place) else {
             return Ok(());
         };
-        if let Some(byte) = byte_at(self.moments, self.place) {
-            return write_taken(f, byte, moment.answer);
-        }
-        match stray_at(self.moments, self.place) {
-            Some(message) => write_stray(f, message),
-            None => write!(f, "{}", Note(*moment)),
+        match (byte_at(self.moments, self.place), moment.answer) {
+            (Some(byte), _) => write_key(f, byte),
+            (None, Ok(_)) => Note(*moment).fmt(f),
+            (None, Err(_)) => Named(moment.event).fmt(f),
         }
     }
 }
 
-// A key that was taken or refused, by its byte.
-fn write_taken<W: fmt::Write>(
-    f: &mut fmt::Formatter<W>,
-    byte: u8,
-    answer: R<Reply>,
-) -> fmt::Result {
-    write_key(f, byte)?;
-    match answer {
-        Ok(_) => Ok(()),
-        Err(fault) => write_reason(f, fault),
+impl Display for Why<'_> {
+    fn fmt<W: fmt::Write>(&self, f: &mut fmt::Formatter<W>) -> fmt::Result {
+        if is_stray(self.moments, self.place) {
+            return f.write_str("refused, not one for this");
+        }
+        match self.moments.get(self.place) {
+            Some(
+                Moment {
+                    answer: Err(fault),
+                    ..
+                },
+            ) => Reason(*fault).fmt(f),
+            _ => Ok(()),
+        }
     }
 }
 
-fn write_stray<W: fmt::Write>(f: &mut fmt::Formatter<W>, message: u64) -> fmt::Result {
-    write_number_and(f, "message", message, ": refused, not one for this")
+impl Display for Refused<'_> {
+    fn fmt<W: fmt::Write>(&self, f: &mut fmt::Formatter<W>) -> fmt::Result {
+        let Refused { moments, place } = *self;
+        write!(f, "{}: {}", Told { moments, place }, Why { moments, place })
+    }
 }
 
 // The byte of the key that an event takes, or would take; none if no key of that index was typed before.
@@ -102,21 +122,24 @@ fn typed_at(moments: &[Moment], place: usize, port: u8, index: u64) -> Option<u8
     }
 }
 
-// The message that an event was to bring, if it was sent before, but there is nobody who takes it: it is of another kind, or its
-// node is not there.
-fn stray_at(moments: &[Moment], place: usize) -> Option<u64> {
-    let moment = moments.get(place)?;
-    let Err(Fault::Unknown) = moment.answer else {
-        return None;
-    };
-    let message = delivered(moment.event)?;
-    match sent_before(moments, place, message) {
-        Some(_) => Some(message),
-        None => None,
+// Whether an event was to bring a message that was sent before, but that nobody takes: it is of another kind, or its node is not there.
+fn is_stray(moments: &[Moment], place: usize) -> bool {
+    match unknown_at(moments, place) {
+        Some(message) => sent_before(moments, place, message).is_some(),
+        None => false,
     }
 }
 
-impl fmt::Display for Kept<'_> {
+// The message that an event was to bring, if it is unknown.
+fn unknown_at(moments: &[Moment], place: usize) -> Option<u64> {
+    let moment = moments.get(place)?;
+    match moment.answer {
+        Err(Fault::Unknown) => delivered(moment.event),
+        _ => None,
+    }
+}
+
+impl Display for Kept<'_> {
     fn fmt<W: fmt::Write>(&self, f: &mut fmt::Formatter<W>) -> fmt::Result {
         let Some(arrival) = arrival_at(self.moments, self.place) else {
             return Ok(());

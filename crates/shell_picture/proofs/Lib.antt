@@ -1,5 +1,9 @@
 pub mod Drawing
 pub mod HelpRows
+pub mod Rows
+pub mod Saying
 pub mod Screens
+pub mod Sectors
 pub mod Telling
 pub mod Looking
+pub mod Numbers

@@ -5,3 +5,5 @@ pub mod Listings
 pub mod Machines
 pub mod Pictures
 pub mod Screens
+pub mod Sectors
+pub mod Words

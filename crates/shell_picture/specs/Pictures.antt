@@ -1,21 +1,28 @@
 -- A picture: a column for each place, and a line for each event.
 use Rattle.std.specs.Prelude.{◌≡◌, ℕ, zero, suc, ◌+◌, ◌-◌, ◌^◌, ◌==◌, ◌&&◌, nat_lt, nat_le, min, max, Bool, true, false, if◌then◌else◌, List, [], ◌∷◌, ◌++◌, length, slice_get, Option, Some, None, codes}
-use Rattle.std.specs.Option.{option_map_or}
+use Rattle.std.specs.Fmt.{decimal}
+use Rattle.std.specs.List.{repeat}
 use Rattle.pair_events.specs.declared.event.Event.{Event}
 use Rattle.pair_events.specs.declared.reply.Role.{Role}
 use Rattle.pair_events.specs.declared.reply.Role.TheVariants.{Primary, Backup, Joining, Halted}
 use Rattle.sequence_diagram.specs.Arrows.{HasDeparture}
-use Rattle.sequence_diagram.specs.Places.{HasFlight, column_of, exchange_of, place_of, sender_of}
+use Rattle.sequence_diagram.specs.Columns.{columns_of}
+use Rattle.sequence_diagram.specs.Places.{HasFlight, column_of, exchange_of, first_role, place_of, place_text, role_told, sender_of}
+use Rattle.sequence_diagram.specs.Waits.{AreWaits}
 use Rattle.sequence_diagram.specs.declared.arrows.Departure.{Departure}
 use Rattle.sequence_diagram.specs.declared.exchanges.Exchange.{Exchange}
 use Rattle.sequence_diagram.specs.declared.flights.Flight.{Flight}
 use Rattle.sequence_diagram.specs.declared.moment.Moment.{Moment}
 use Rattle.sequence_diagram.specs.declared.place.Place.{Place}
-use Rattle.sequence_diagram.specs.declared.place.Place.TheVariants.{Node}
+use Rattle.sequence_diagram.specs.declared.place.Place.TheVariants.{Terminal, Node, Arbiter, Disk}
 use Rattle.sequence_diagram.specs.declared.waits.Wait.{Wait}
+use Rattle.shell_book.specs.Texts.{Prints, Row, Text}
+use Rattle.shell_book.specs.declared.printing.Printed.{Printed}
 use Rattle.shell_language.specs.declared.line.Stretch.{Stretch}
+use Rattle.shell_picture.specs.Words.{IsSaid, said_text}
 use Rattle.shell_picture.specs.declared.lanes.Stroke.{Stroke}
 use Rattle.shell_picture.specs.declared.lanes.Stroke.TheVariants.{Arrow, Leaves, Happens}
+use Rattle.shell_picture.specs.declared.words.Said.{Said}
 
 -- ---- what is drawn of an event
 
@@ -49,6 +56,29 @@ module _ (moments : List Moment) (places : List Place) (event : ℕ) where
   abbrev pub IsDrawn : Option Stroke → Type 0
   IsDrawn drawn = DrawsMoment (slice_get moments event) drawn
 
+-- ---- roles
+
+-- the role of a node after so many events: what the last of them tells, or what it was before that one
+abbrev pub told_of : ℕ → Option Moment → Option Role
+told_of node (Some moment) = role_told node moment
+told_of node None = None
+
+abbrev pub told_at : List Moment → ℕ → ℕ → Option Role
+told_at moments node event = told_of node (slice_get moments event)
+
+abbrev pub told_or : Option Role → Option Role → Option Role
+told_or (Some role) before = Some role
+told_or None before = before
+
+abbrev pub node_role : List Moment → ℕ → ℕ → Option Role
+node_role moments node zero = first_role node
+node_role moments node (suc event) = told_or (told_at moments node event) (node_role moments node event)
+
+-- other places have none
+abbrev pub role_after : List Moment → ℕ → Place → Option Role
+role_after moments count (Node node) = node_role moments node count
+role_after moments count other = None
+
 -- ---- the columns beside it
 
 -- the line of a column where nothing is drawn: of a node by its role, and of a primary by whether its output waits
@@ -59,10 +89,6 @@ rest_mark (Some Backup) waits = codes ":"
 rest_mark (Some Joining) waits = codes "."
 rest_mark (Some Primary) true = codes "#"
 rest_mark (Some role) waits = codes "|"
-
--- the role of a column; other places than nodes have none
-abbrev pub role_in : List (Option Role) → ℕ → Option Role
-role_in roles column = option_map_or (λ (role : Option Role). role) (slice_get roles column) None
 
 -- output of the node of this column waits
 abbrev pub is_waiting : List Place → Option Wait → ℕ → Bool
@@ -92,6 +118,110 @@ abbrev pub goes_right : Option Stroke → ℕ → Bool
 goes_right (Some (Arrow from to)) column = nat_le (min from to) column && nat_lt column (max from to)
 goes_right stroke column = false
 
+-- the role of the place of a column after an event
+abbrev pub place_role : List Moment → ℕ → Option Place → Option Role
+place_role moments event (Some place) = role_after moments (min (event + 1) (2 ^ 64 - 1)) place
+place_role moments event None = None
+
+abbrev pub column_role : List Moment → List Place → ℕ → ℕ → Option Role
+column_role moments places event column = place_role moments event (slice_get places column)
+
+abbrev pub column_rest : List Moment → List Place → ℕ → Option Wait → ℕ → List ℕ
+column_rest moments places event wait column = rest_mark (column_role moments places event column) (is_waiting places wait column)
+
+-- a column is twelve characters wide: three before its mark, and eight after it
+abbrev pub left_text : Bool → List ℕ
+left_text true = codes "---"
+left_text false = codes "   "
+
+abbrev pub right_text : Bool → List ℕ
+right_text true = codes "--------"
+right_text false = codes "        "
+
+abbrev pub column_text : Option Stroke → ℕ → List ℕ → List ℕ
+column_text stroke column rest =
+    left_text (comes_from_left stroke column) ++ (mark_text stroke column rest ++ right_text (goes_right stroke column))
+
+-- the first so many columns, from left to right
+module _ (moments : List Moment) (places : List Place) (event : ℕ) (stroke : Option Stroke) (wait : Option Wait) where
+  abbrev pub columns_text : ℕ → List ℕ
+  columns_text zero = []
+  columns_text (suc column) = columns_text column ++ column_text stroke column (column_rest moments places event wait column)
+
+  abbrev pub lanes_text : List ℕ
+  lanes_text = columns_text (length places)
+
+-- ---- the names of the columns
+
+-- what is between a name and the next column, which begins twelve characters after it; there are at most 2 terminals and 64 nodes
+abbrev pub gap_text : Place → List ℕ
+gap_text (Terminal port) = codes "  "
+gap_text (Node node) = if nat_lt node 10 then codes "      " else codes "     "
+gap_text Arbiter = codes "     "
+gap_text Disk = codes "        "
+
+abbrev pub gap_of : Option Place → List ℕ
+gap_of (Some place) = gap_text place
+gap_of None = []
+
+abbrev pub name_of : Option Place → List ℕ
+name_of (Some place) = place_text place
+name_of None = []
+
+module _ (places : List Place) where
+  abbrev pub gap_at : ℕ → List ℕ
+  gap_at column = gap_of (slice_get places column)
+
+  -- what is before the name of a column: what the name before it leaves of that column
+  abbrev pub gap_before : ℕ → List ℕ
+  gap_before zero = []
+  gap_before (suc column) = gap_at column
+
+  abbrev pub name_at : ℕ → List ℕ
+  name_at column = gap_before column ++ name_of (slice_get places column)
+
+  -- the names of the first so many columns, from left to right
+  abbrev pub names_to : ℕ → List ℕ
+  names_to zero = []
+  names_to (suc column) = names_to column ++ name_at column
+
+  abbrev pub names_text : List ℕ
+  names_text = names_to (length places)
+
+abbrev pub head_text : List Place → List ℕ
+head_text places = codes " event " ++ names_text places
+
+-- ---- the line of an event
+
+-- its number in six characters, or as many as it needs
+abbrev pub number_text : ℕ → List ℕ
+number_text event = repeat (6 - length (decimal event)) (codes " ") ++ decimal event
+
+abbrev pub event_text : List Moment → List Place → ℕ → Option Stroke → Option Wait → Said → List ℕ
+event_text moments places event stroke wait said =
+    number_text event ++ (codes " " ++ (lanes_text moments places event stroke wait ++ said_text said))
+
+module _ (moments : List Moment) (places : List Place) (waits : List Wait) where
+  pub record IsEvent (event : ℕ) (row : Row) : Type 0 where
+    pub stroke : Option Stroke
+    pub drawn : IsDrawn moments places event stroke
+    pub said : Said
+    pub says : IsSaid moments waits event said
+    pub are : row ≡ Text (event_text moments places event stroke (slice_get waits event) said)
+
+  -- the lines of so many events, from one on
+  abbrev pub AreEvents : ℕ → ℕ → List Row → Type 0
+  AreEvents first zero rows = rows ≡ []
+  AreEvents first (suc count) rows = (before : List Row) × ((row : Row)
+      × (AreEvents first count before × (IsEvent (first + count) row × (rows ≡ before ++ row ∷ []))))
+
+  -- the line of one event is printed, or those of so many
+  abbrev pub PrintsEvent : ℕ → Printed → Printed → Type 0
+  PrintsEvent event old new = (row : Row) × (IsEvent event row × Prints (row ∷ []) old new)
+
+  abbrev pub PrintsEvents : ℕ → ℕ → Printed → Printed → Type 0
+  PrintsEvents first count old new = (rows : List Row) × (AreEvents first count rows × Prints rows old new)
+
 -- ---- the whole picture
 
 -- the first event that is shown, and the one after the last: those of the stretch that is asked for, or the last 24
@@ -102,3 +232,12 @@ first_shown None count = count - 24
 abbrev pub end_shown : Option Stretch → ℕ → ℕ
 end_shown (Some stretch) count = min (min (stretch.last + 1) (2 ^ 64 - 1)) count
 end_shown None count = count
+
+-- the names of the columns, and a line for each event that is shown
+pub record DrawsPicture (moments : List Moment) (stretch : Option Stretch) (old new : Printed) : Type 0 where
+  pub waits : List Wait
+  pub are_waits : AreWaits moments waits
+  pub rows : List Row
+  pub are_rows : AreEvents moments (columns_of moments) waits (first_shown stretch (length moments))
+      (end_shown stretch (length moments) - first_shown stretch (length moments)) rows
+  pub printed : Prints (Text (head_text (columns_of moments)) ∷ rows) old new

@@ -5,13 +5,11 @@ ghost use Rattle.shell_picture.specs.Screens.{line_rows, screen_rows};
 ghost use Rattle.shell_picture.specs.Answers.{counted, help_rows, message_text, others_text, refusal_rows, refused, sum_of, sum_row};
 
 use crate::lists::{FormLine, RefusalLine};
-use crate::screen::{Dump, ScreenHead, ScreenLine};
-use disk_dcdd::SectorAddress;
+use crate::screen::{ScreenHead, ScreenLine};
 use event_callbacks::PORTS;
 use i8080_words::{Fault, R};
 use pair_events::Reply;
 use script_language::first_line;
-use shared_disk::SectorRead;
 use shell_book::{Book, Played, Printed};
 use shell_language::{forms, refusals};
 use std::alloc::AllocError;
@@ -71,30 +69,6 @@ pub(crate) fn after(bytes: &[u8], seen: usize) -> &[u8]
     } else {
         &[]
     }
-}
-
-/// What was read of a sector.
-pub fn print_sector(
-    address: SectorAddress,
-    read: R<SectorRead>,
-    printed: &mut Printed,
-) -> Result<(), AllocError> {
-    let read = match read {
-        Ok(read) => read,
-        Err(fault) => return print_refusal(fault, printed),
-    };
-    let SectorAddress {
-        drive,
-        track,
-        sector,
-    } = address;
-    printed.line(&format_args!("sector {drive} {track} {sector}: write {}", read.number))?;
-    let mut place = 0usize;
-    for bytes in read.bytes.chunks(16) {
-        printed.line(&Dump { place, bytes })?;
-        place = place.saturating_add(16);
-    }
-    Ok(())
 }
 
 /// The number of the last message.

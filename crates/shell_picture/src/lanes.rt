@@ -1,36 +1,14 @@
 //! The columns of a picture in text.
-ghost use Rattle.std.specs.Prelude.{◌≡◌};
-ghost use Rattle.shell_picture.specs.Pictures.{IsDrawn, arrow_between, arrow_mark, comes_from_left, goes_right, is_waiting, mark_text, rest_mark, role_in};
+ghost use Rattle.std.specs.Prelude.{◌≡◌, Some};
+ghost use Rattle.std.specs.Fmt.{WritesOnOk};
+ghost use Rattle.shell_picture.specs.Pictures.{IsDrawn, arrow_between, arrow_mark, column_rest, column_role, column_text, comes_from_left, goes_right, is_waiting, lanes_text, left_text, mark_text, rest_mark, right_text};
 
+use crate::roles::role_after;
 use pair_events::Role;
 use sequence_diagram::{
     Columns, Moment, Place, Wait, departure_from, exchange_of, flight_to, place_of, sender_of,
 };
 use std::fmt;
-
-/// The names of the columns.
-#[derive(Clone, Copy)]
-pub struct Head<'a> {
-    pub columns: &'a Columns,
-}
-
-impl fmt::Display for Head<'_> {
-    fn fmt<W: fmt::Write>(&self, f: &mut fmt::Formatter<W>) -> fmt::Result {
-        f.write_str(" event ")?;
-        let mut after = "";
-        for place in self.columns.places.as_slice() {
-            f.write_str(after)?;
-            write!(f, "{place}")?;
-            after = match place {
-                Place::Terminal(_) => "  ",
-                Place::Node(0..=9) => "      ",
-                Place::Node(_) | Place::Arbiter => "     ",
-                Place::Disk => "        ",
-            };
-        }
-        Ok(())
-    }
-}
 
 /// What is drawn in the columns: an arrow from one to another; or a mark in one, where a message leaves, or where
 /// something happens that neither sends nor brings one.
@@ -70,40 +48,73 @@ fn arrow(columns: &Columns, from: Place, to: Place) -> Stroke
     }
 }
 
-/// The columns beside an event.
+/// The columns beside an event, of all that have happened.
 #[derive(Clone, Copy)]
 pub struct Lanes<'a> {
     pub stroke: Option<Stroke>,
     pub columns: &'a Columns,
-    pub roles: &'a [Option<Role>],
+    pub moments: &'a [Moment],
     pub wait: Option<Wait>,
+    pub event: usize,
 }
 
 impl fmt::Display for Lanes<'_> {
+    ghost output = { λ lanes. Some (lanes_text lanes.moments.now lanes.columns.now.places.items lanes.event lanes.stroke lanes.wait) };
+
     fn fmt<W: fmt::Write>(&self, f: &mut fmt::Formatter<W>) -> fmt::Result {
         for column in 0..self.columns.places.len() {
-            let before = comes_from_left(self.stroke, column);
-            f.write_str(if before { "---" } else { "   " })?;
-            let rest = rest_mark(
-                role_in(self.roles, column),
-                is_waiting(self.columns, self.wait, column),
-            );
-            f.write_str(mark_text(self.stroke, column, rest))?;
-            let after = goes_right(self.stroke, column);
-            f.write_str(if after { "--------" } else { "        " })?;
+            write_column(f, self.stroke, column, self.rest(column))?;
         }
         Ok(())
     }
 }
 
-// The role of a column; other places than nodes have none.
-fn role_in(roles: &[Option<Role>], column: usize) -> Option<Role>
-    ensures { result ≡ role_in roles.now column }
-{
-    match roles.get(column) {
-        Some(role) => *role,
-        None => None,
+impl Lanes<'_> {
+    // The mark of a column at which nothing is drawn.
+    fn rest(&self, column: usize) -> &'static str
+        ensures { result.now ≡ column_rest self.now.moments.now self.now.columns.now.places.items self.now.event self.now.wait column }
+    {
+        rest_mark(
+            self.role(column),
+            is_waiting(self.columns, self.wait, column),
+        )
     }
+
+    // The role of a column after the event.
+    fn role(&self, column: usize) -> Option<Role>
+        ensures { result ≡ column_role self.now.moments.now self.now.columns.now.places.items self.now.event column }
+    {
+        match self.columns.places.get(column) {
+            Some(place) => role_after(self.moments, self.event.saturating_add(1), *place),
+            None => None,
+        }
+    }
+}
+
+// A column: what comes from its left, its mark, and what goes on to its right.
+fn write_column<W: fmt::Write>(
+    f: &mut fmt::Formatter<W>,
+    stroke: Option<Stroke>,
+    column: usize,
+    rest: &'static str,
+) -> fmt::Result
+    ensures { WritesOnOk W.write_str_gives f.old result (column_text stroke column rest.now) f.new }
+{
+    f.write_str(left_text(comes_from_left(stroke, column)))?;
+    f.write_str(mark_text(stroke, column, rest))?;
+    f.write_str(right_text(goes_right(stroke, column)))
+}
+
+fn left_text(is_drawn: bool) -> &'static str
+    ensures { result.now ≡ left_text is_drawn }
+{
+    if is_drawn { "---" } else { "   " }
+}
+
+fn right_text(is_drawn: bool) -> &'static str
+    ensures { result.now ≡ right_text is_drawn }
+{
+    if is_drawn { "--------" } else { "        " }
 }
 
 // The line of a column where nothing is drawn: of a node by its role, and of a primary by whether its output waits.

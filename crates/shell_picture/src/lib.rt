@@ -4,19 +4,21 @@
 mod answers;
 mod assembly;
 mod digits;
+mod head;
 mod held_up;
 mod lanes;
 mod listing;
 mod lists;
 mod machine;
 mod picture;
+mod roles;
 mod screen;
+mod sector;
 mod words;
 
-pub use answers::{
-    print_help, print_last, print_refusal, print_refusals, print_screen, print_sector, print_sum,
-};
+pub use answers::{print_help, print_last, print_refusal, print_refusals, print_screen, print_sum};
 pub use held_up::print_held_up;
 pub use listing::print_listing;
 pub use machine::{print_memory, print_registers};
 pub use picture::print_picture;
+pub use sector::print_sector;

@@ -10,8 +10,8 @@ use shell_book::Printed;
 use std::alloc::AllocError;
 use std::fmt;
 
-// How many bytes a line has.
-const LINE: usize = 16;
+/// How many bytes a line has.
+pub(crate) const LINE: usize = 16;
 
 /// The registers of a processor, its flags and its interrupts, and how many steps it has executed.
 pub fn print_registers(
@@ -41,8 +41,8 @@ pub fn print_memory(from: u16, bytes: &[u8], printed: &mut Printed) -> Result<()
     Ok(())
 }
 
-// The first of some bytes, at most so many.
-fn before(bytes: &[u8], count: usize) -> &[u8]
+/// The first of some bytes, at most so many.
+pub(crate) fn before(bytes: &[u8], count: usize) -> &[u8]
     ensures { result.now ≡ take count bytes.now }
 {
     if count < bytes.len() {

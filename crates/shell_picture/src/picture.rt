@@ -1,14 +1,16 @@
 //! Events as a diagram in text: a column for each place that takes part, a line for each event, and its words after that.
-ghost use Rattle.std.specs.Prelude.{◌≡◌};
-ghost use Rattle.shell_picture.specs.Pictures.{end_shown, first_shown};
+ghost use Rattle.std.specs.Prelude.{◌≡◌, ◌-◌, IfOk, Some, slice_get};
+ghost use Rattle.std.specs.Fmt.{WritesOnOk};
+ghost use Rattle.shell_picture.specs.Pictures.{DrawsPicture, PrintsEvent, PrintsEvents, end_shown, event_text, first_shown, number_text};
 
-use crate::lanes::{Head, Lanes, stroke_of};
-use crate::words::Words;
-use pair_events::Role;
-use sequence_diagram::{Columns, Moment, Place, Wait, first_role, waits_of};
+use crate::head::Head;
+use crate::lanes::{Lanes, stroke_of};
+use crate::words::{Said, said_of};
+use sequence_diagram::{Columns, Moment, Wait, waits_of};
 use shell_book::Printed;
 use shell_language::Stretch;
 use std::alloc::{AllocError, Global};
+use std::fmt;
 
 // How many events are shown if a line does not say which.
 const EVENTS: usize = 24;
@@ -19,21 +21,15 @@ pub fn print_picture(
     past: &[Moment],
     stretch: Option<Stretch>,
     printed: &mut Printed,
-) -> Result<(), AllocError> {
+) -> Result<(), AllocError>
+    ensures { IfOk result (λ _. DrawsPicture past.now stretch printed.old printed.new) }
+{
     let columns = Columns::of(alloc, past)?;
     let waits = waits_of(alloc, past)?;
     let first = first_shown(stretch, past.len());
     let end = end_shown(stretch, past.len());
-    let mut roles = Vec::new(alloc);
-    for place in columns.places.as_slice() {
-        roles.push(role_before(past, *place, first))?;
-    }
     printed.line(&Head { columns: &columns })?;
-    for event in first..end {
-        update(&mut roles, &columns, past, event);
-        print_event(past, &columns, &roles, &waits, event, printed)?;
-    }
-    Ok(())
+    print_events(past, &columns, &waits, first, end, printed)
 }
 
 // The first event that is shown.
@@ -56,55 +52,73 @@ fn end_shown(stretch: Option<Stretch>, count: usize) -> usize
     }
 }
 
-// Prints an event, of all that have happened.
-fn print_event<'a>(
-    moments: &'a [Moment],
-    columns: &'a Columns,
-    roles: &'a [Option<Role>],
-    waits: &'a [Wait],
+// Prints events, of all that have happened.
+#[tactic(auto, using(crate::proofs::Rows::no_events))]
+fn print_events(
+    moments: &[Moment],
+    columns: &Columns,
+    waits: &[Wait],
+    first: usize,
+    end: usize,
+    printed: &mut Printed,
+) -> Result<(), AllocError>
+    ensures { IfOk result (λ _. PrintsEvents moments.now columns.now.places.items waits.now first (end - first) printed.old printed.new) }
+{
+    for event in first..end {
+        print_event(moments, columns, waits, event, printed)?;
+    }
+    Ok(())
+}
+
+// Prints one.
+fn print_event(
+    moments: &[Moment],
+    columns: &Columns,
+    waits: &[Wait],
     event: usize,
     printed: &mut Printed,
-) -> Result<(), AllocError> {
-    let stroke = stroke_of(moments, columns, event);
-    let wait = waits.get(event).copied();
+) -> Result<(), AllocError>
+    ensures { IfOk result (λ _. PrintsEvent moments.now columns.now.places.items waits.now event printed.old printed.new) }
+{
+    let said = said_of(moments, waits, event);
     let lanes = Lanes {
-        stroke,
+        stroke: stroke_of(moments, columns, event),
         columns,
-        roles,
-        wait,
-    };
-    let words = Words {
         moments,
-        waits,
+        wait: wait_at(waits, event),
         event,
     };
-    printed.line(&format_args!("{event:>6} {lanes}{words}"))
+    printed.line(&Line { lanes, said })?;
+    Ok(())
 }
 
-// The role of a node before an event; other places have none.
-fn role_before(past: &[Moment], place: Place, event: usize) -> Option<Role> {
-    let Place::Node(node) = place else {
-        return None;
-    };
-    let before = past.get(..event).unwrap_or(past);
-    for moment in before.iter().rev() {
-        if let Some(role) = moment.role_of(node) {
-            return Some(role);
-        }
-    }
-    first_role(node)
+// What waits after an event.
+fn wait_at(waits: &[Wait], event: usize) -> Option<Wait>
+    ensures { result ≡ slice_get waits.now event }
+{
+    waits.get(event).copied()
 }
 
-// The roles of all nodes after an event.
-fn update(roles: &mut [Option<Role>], columns: &Columns, past: &[Moment], event: usize) {
-    let Some(moment) = past.get(event) else {
-        return;
-    };
-    for (place, role) in columns.places.iter().zip(roles.iter_mut()) {
-        if let Place::Node(node) = *place {
-            if let Some(next) = moment.role_of(node) {
-                *role = Some(next);
-            }
-        }
+// The line of an event: its number, the columns beside it, and what is said of it.
+#[derive(Clone, Copy)]
+struct Line<'a> {
+    lanes: Lanes<'a>,
+    said: Said,
+}
+
+impl fmt::Display for Line<'_> {
+    ghost output = { λ line. Some (event_text line.lanes.moments.now line.lanes.columns.now.places.items line.lanes.event
+        line.lanes.stroke line.lanes.wait line.said) };
+
+    fn fmt<W: fmt::Write>(&self, f: &mut fmt::Formatter<W>) -> fmt::Result {
+        write_number(f, self.lanes.event)?;
+        write!(f, " {}{}", self.lanes, self.said)
     }
+}
+
+// The number of an event, in six characters at least.
+fn write_number<W: fmt::Write>(f: &mut fmt::Formatter<W>, event: usize) -> fmt::Result
+    ensures { WritesOnOk W.write_str_gives f.old result (number_text event) f.new }
+{
+    write!(f, "{event:>6}")
 }

@@ -1,4 +1,4 @@
-//! What a terminal shows, and what a sector has, as text.
+//! What a terminal shows, as text.
 ghost use Rattle.std.specs.Prelude.{◌≡◌, Some};
 ghost use Rattle.std.specs.Fmt.{WritesOnOk};
 ghost use Rattle.shell_picture.specs.Screens.{escaped_byte, escaped_text, head_text, screen_text, without};
@@ -79,30 +79,4 @@ fn write_escaped<W: fmt::Write>(f: &mut fmt::Formatter<W>, byte: u8) -> fmt::Res
     }
     let byte = Hexadecimal(byte);
     write!(f, "\\x{byte}")
-}
-
-/// Sixteen bytes from a place on, in hexadecimal, and as text between two bars.
-#[derive(Clone, Copy)]
-pub struct Dump<'a> {
-    pub place: usize,
-    pub bytes: &'a [u8],
-}
-
-impl fmt::Display for Dump<'_> {
-    fn fmt<W: fmt::Write>(&self, f: &mut fmt::Formatter<W>) -> fmt::Result {
-        write!(f, "{:02X} ", self.place)?;
-        for byte in self.bytes {
-            write!(f, " {byte:02X}")?;
-        }
-        write!(f, "  |")?;
-        for byte in self.bytes {
-            let shown = if (0x20..0x7f).contains(byte) {
-                *byte
-            } else {
-                b'.'
-            };
-            write!(f, "{}", char::from(shown))?;
-        }
-        write!(f, "|")
-    }
 }
